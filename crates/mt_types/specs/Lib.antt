@@ -1,0 +1,5 @@
+pub mod Keys
+pub mod Limits
+pub mod RefusalNumbers
+pub mod Rows
+pub mod Views

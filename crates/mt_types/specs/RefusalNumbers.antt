@@ -1,0 +1,27 @@
+-- The numbers of refusals, as texts and frames give them.
+use Rattle.std.specs.Prelude.{ℕ, Option, Some, None}
+use Rattle.mt_types.specs.declared.refusal.Refusal.{Refusal}
+use Rattle.mt_types.specs.declared.refusal.Refusal.TheVariants.{NoMemory, KeyTooLong, BadColumn, ColumnTooLong, BadLimit, ArenaFull, FeedFull, TooManyCalls, NoSuchCall, TooManyViews, NoSuchView, Behind, BadRange, Spent, WrongPass}
+
+abbrev pub refusal_number : Refusal → ℕ
+refusal_number NoMemory = 1
+refusal_number KeyTooLong = 2
+refusal_number BadColumn = 3
+refusal_number ColumnTooLong = 4
+refusal_number BadLimit = 5
+refusal_number ArenaFull = 6
+refusal_number (FeedFull held_from) = 7
+refusal_number TooManyCalls = 8
+refusal_number NoSuchCall = 9
+refusal_number TooManyViews = 10
+refusal_number NoSuchView = 11
+refusal_number (Behind at) = 12
+refusal_number BadRange = 13
+refusal_number Spent = 14
+refusal_number WrongPass = 15
+
+-- the number of commits that goes with a refusal
+abbrev pub refusal_detail : Refusal → Option ℕ
+refusal_detail (FeedFull held_from) = Some held_from
+refusal_detail (Behind at) = Some at
+refusal_detail _ = None

@@ -1,0 +1,120 @@
+//! Keys: bytes, not too many, in lexicographic order.
+
+ghost use Rattle.std.specs.Prelude.{◌≡◌, ◌<◌, ◌≤◌, ◌↔◌, length, IfOk, IfErr, IsErrOf};
+
+use crate::copying::TryCopy;
+use crate::limits::MAX_KEY_BYTES;
+use crate::refusal::{NoMemory, Refusal};
+use bytes::Bytes;
+use std::alloc::Global;
+use std::cmp::Ordering;
+use std::marker::Model;
+
+/// A key: up to 255 bytes. Keys are ordered by their bytes from the first on, a proper prefix first.
+#[derive(Debug, Drop)]
+pub struct Key {
+    bytes: Bytes,
+}
+
+impl Model for Key {
+    ghost use Rattle.std.specs.Prelude.{ℕ, List, length, ◌≤◌};
+    ghost use Rattle.mt_types.specs.declared.limits.TheConstants.{MAX_KEY_BYTES};
+
+    ghost Value = { List ℕ };
+
+    ghost view = { λ k. k.bytes };
+
+    ghost invariant = { λ k. length k.bytes ≤ MAX_KEY_BYTES };
+}
+
+impl Key {
+    /// The key of these bytes. Refused `KeyTooLong` where there are more than 255. Takes no memory.
+    pub fn new(bytes: Bytes) -> Result<Key, Refusal>
+        ensures kept { IfOk result (λ key. key ≡ bytes) }
+        ensures refused { IsErrOf result Refusal.KeyTooLong ↔ (MAX_KEY_BYTES < length bytes) }
+        ensures only { IfErr result (λ refusal. refusal ≡ Refusal.KeyTooLong) }
+    {
+        if bytes.len() > MAX_KEY_BYTES {
+            return Err(Refusal::KeyTooLong);
+        }
+        Ok(Key { bytes })
+    }
+
+    /// The bytes, to be read.
+    pub fn as_slice(&self) -> &[u8]
+        ensures value { result.now ≡ self.now }
+        ensures fits { length self.now ≤ MAX_KEY_BYTES }
+    {
+        self.bytes.as_slice()
+    }
+
+    /// The bytes of this key.
+    pub fn into_bytes(self) -> Bytes
+        ensures value { result ≡ self }
+        ensures fits { length self ≤ MAX_KEY_BYTES }
+    {
+        let Key { bytes } = self;
+        bytes
+    }
+}
+
+impl TryCopy for Key {
+    /// Shares the bytes: costs no copy of them.
+    fn copy(&self, alloc: Global) -> Result<Key, NoMemory> {
+        Ok(Key {
+            bytes: self.bytes.copy(alloc)?,
+        })
+    }
+}
+
+impl PartialEq for Key {
+    ghost use Rattle.std.specs.Prelude.{nat_eq};
+    ghost use Rattle.std.specs.Cmp.{partial_equiv_from_equiv};
+    ghost use Rattle.std.specs.Cmp.Lexicographic.{pointwise, nat_list_eq_equiv};
+
+    ghost eq = { pointwise nat_eq };
+
+    ghost laws = { partial_equiv_from_equiv nat_list_eq_equiv };
+
+    fn eq(&self, other: &Key) -> bool {
+        self.bytes == other.bytes
+    }
+}
+
+impl Eq for Key {
+    ghost use Rattle.std.specs.Cmp.Lexicographic.{nat_list_eq_equiv};
+
+    ghost laws = { nat_list_eq_equiv };
+}
+
+impl PartialOrd for Key {
+    ghost use Rattle.std.specs.Prelude.{Some};
+    ghost use Rattle.std.specs.Cmp.Lexicographic.{texts_po};
+    ghost use Rattle.mt_types.specs.Keys.{key_cmp};
+
+    ghost partial_cmp = { λ x y. Some (key_cmp x y) };
+
+    ghost laws = { texts_po };
+
+    fn partial_cmp(&self, other: &Key) -> Option<Ordering> {
+        Some(self.cmp(other))
+    }
+}
+
+impl Ord for Key {
+    ghost use Rattle.std.specs.Prelude.{refl};
+    ghost use Rattle.std.specs.Cmp.Lexicographic.{nat_list_cmp_total, texts_ties};
+    ghost use Rattle.mt_types.specs.Keys.{key_cmp};
+
+    ghost cmp = { key_cmp };
+
+    ghost total = { nat_list_cmp_total };
+
+    ghost matches_partial_cmp = { λ x y. refl };
+
+    ghost matches_eq = { texts_ties };
+
+    fn cmp(&self, other: &Key) -> Ordering {
+        self.bytes.cmp(&other.bytes)
+    }
+}

@@ -1,0 +1,12 @@
+//! The values of the index: keys, rows, requests, events and their outcomes, with the definitions of what it promises.
+#![tactic(auto)]
+
+pub mod copying;
+pub mod event;
+pub mod items;
+pub mod key;
+pub mod limits;
+pub mod numbers;
+pub mod refusal;
+pub mod row;
+pub mod view;

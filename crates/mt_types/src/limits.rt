@@ -1,0 +1,228 @@
+//! The limits of an index, each with the refusal that guards it, and the tests that no later crate makes again.
+
+ghost use Rattle.std.specs.Prelude.{◌≡◌, ◌==◌, Some, nat_lt, length, map};
+ghost use Rattle.std.specs.List.{list_any};
+ghost use Rattle.mt_types.specs.Limits.{request_fault, page_fault, open_fault, passes_fault, limit_fault, key_fault, columns_fault, sets_fault, test_fault, end_fault, spec_fault, misnames};
+ghost use Rattle.mt_types.specs.declared.view.ViewSpec.TheVariants.{Range as RangeOf};
+
+use crate::event::Request;
+use crate::refusal::Refusal;
+use crate::row::Column;
+use crate::view::{RowTest, ViewSpec};
+use bytes::Bytes;
+
+/// The most bytes of a key. Guarded by `KeyTooLong`.
+pub const MAX_KEY_BYTES: usize = 255;
+
+/// The most columns of an index; the least is 1. Guarded by `BadColumn`.
+pub const MAX_COLUMNS: u64 = 16;
+
+/// The most bytes of a column. Guarded by `ColumnTooLong`.
+pub const MAX_COLUMN_BYTES: usize = 64;
+
+/// The most rows of a range or a page; the least is 1. Guarded by `BadLimit`.
+pub const MAX_RANGE: u16 = 1000;
+
+/// The most commits that the log may hold for the slowest that reads it; the least is 1. Guarded by `BadLimit`.
+pub const MAX_FEED: u64 = 65_536;
+
+/// The most commits that the log may be told to keep for nobody. Guarded by `BadLimit`.
+pub const MAX_KEEP: u64 = 65_536;
+
+/// The most passes of an index, and the most readers of a published view; the least is 1. Guarded by `BadLimit`.
+pub const MAX_PASSES: u64 = 255;
+
+/// The most calls that are open at once. Guarded by `TooManyCalls`.
+pub const MAX_OPEN_CALLS: usize = 1024;
+
+/// The most views that stand or are being built at once. Guarded by `TooManyViews`.
+pub const MAX_VIEWS: usize = 64;
+
+/// How many numbers of nodes there are, retired nodes counted. Guarded by `ArenaFull`.
+pub const MAX_NODES: u32 = 1_048_576;
+
+/// The highest level of an interior node; a border node has level 0. A node that would stand higher is not posted.
+pub const MAX_LEVEL: u8 = 15;
+
+/// The deepest layer: a key of 255 bytes has its last slice there. Guarded by `KeyTooLong`.
+pub const MAX_LAYER: usize = 31;
+
+/// The most queries of a frame; the least is 1. A frame outside is a bad frame.
+pub const MAX_QUERIES: usize = 64;
+
+/// The most bytes of the body of a frame of requests. A frame outside is a bad frame.
+pub const MAX_REQUEST_BODY: u32 = 262_144;
+
+fn key_fault(key: &[u8]) -> Option<Refusal>
+    ensures { result ≡ key_fault key.now }
+{
+    (key.len() > MAX_KEY_BYTES).then_some(Refusal::KeyTooLong)
+}
+
+// Whether a number of a column is not below the number of columns, or stands twice.
+fn misnames(columns: u8, names: &[u8]) -> bool
+    ensures { result ≡ misnames columns names.now }
+{
+    for (i, name) in names.iter().enumerate() {
+        if columns <= *name || names[i + 1..].contains(name) {
+            return true;
+        }
+    }
+    false
+}
+
+fn columns_fault(columns: u8, names: &[u8]) -> Option<Refusal>
+    ensures { result ≡ columns_fault columns names.now }
+{
+    misnames(columns, names).then_some(Refusal::BadColumn)
+}
+
+fn names(sets: &[(u8, Column)], name: u8) -> bool
+    ensures { result ≡ list_any (λ other. other == name) (map (λ set. set.0) sets.now) }
+{
+    for set in sets {
+        if set.0 == name {
+            return true;
+        }
+    }
+    false
+}
+
+// Whether sets name a column that is not below the number of columns, or one twice.
+fn sets_misname(columns: u8, sets: &[(u8, Column)]) -> bool
+    ensures { result ≡ misnames columns (map (λ set. set.0) sets.now) }
+{
+    for (i, set) in sets.iter().enumerate() {
+        if columns <= set.0 || names(&sets[i + 1..], set.0) {
+            return true;
+        }
+    }
+    false
+}
+
+fn has_long_column(sets: &[(u8, Column)]) -> bool
+    ensures { result ≡ list_any (λ set. nat_lt MAX_COLUMN_BYTES (length set.1)) sets.now }
+{
+    for set in sets {
+        if set.1.len() > MAX_COLUMN_BYTES {
+            return true;
+        }
+    }
+    false
+}
+
+fn sets_fault(columns: u8, sets: &[(u8, Column)]) -> Option<Refusal>
+    ensures { result ≡ sets_fault columns sets.now }
+{
+    if sets_misname(columns, sets) {
+        Some(Refusal::BadColumn)
+    } else {
+        has_long_column(sets).then_some(Refusal::ColumnTooLong)
+    }
+}
+
+/// Whether the limit of a range, a page or a feed is from 1 to 1000: else `BadLimit`. Constant cost.
+pub fn limit_fault(limit: u16) -> Option<Refusal>
+    ensures { result ≡ limit_fault limit }
+{
+    (limit < 1 || limit > MAX_RANGE).then_some(Refusal::BadLimit)
+}
+
+fn test_fault(columns: u8, test: &RowTest) -> Option<Refusal>
+    ensures { result ≡ test_fault columns test.now }
+{
+    match test {
+        RowTest::Any => None,
+        RowTest::Equals(column, bytes) => {
+            if columns <= *column {
+                Some(Refusal::BadColumn)
+            } else {
+                (bytes.len() > MAX_COLUMN_BYTES).then_some(Refusal::ColumnTooLong)
+            }
+        }
+        RowTest::AtLeast(column, _) => (columns <= *column).then_some(Refusal::BadColumn),
+    }
+}
+
+fn end_fault(lo: &Bytes, hi: &Bytes) -> Option<Refusal>
+    ensures { result ≡ end_fault lo.now (Some hi.now) }
+{
+    if lo < hi {
+        None
+    } else {
+        Some(Refusal::BadRange)
+    }
+}
+
+fn range_fault(columns: u8, lo: &Bytes, hi: &Bytes, test: &RowTest) -> Option<Refusal>
+    ensures { result ≡ spec_fault columns (RangeOf lo.now (Some hi.now) test.now) }
+{
+    key_fault(lo)
+        .or_else(|| key_fault(hi))
+        .or_else(|| test_fault(columns, test))
+        .or_else(|| end_fault(lo, hi))
+}
+
+fn spec_fault(columns: u8, spec: &ViewSpec) -> Option<Refusal>
+    ensures { result ≡ spec_fault columns spec.now }
+{
+    match spec {
+        ViewSpec::Range { lo, hi, test } => match hi {
+            Some(hi) => range_fault(columns, lo, hi, test),
+            None => key_fault(lo).or_else(|| test_fault(columns, test)),
+        },
+        ViewSpec::Prefix { key, test } => key_fault(key).or_else(|| test_fault(columns, test)),
+    }
+}
+
+/// The first limit that a request breaks on an index of so many columns: of keys, then of columns, then of numbers.
+///
+/// Costs a look at each column that is named, and at most sixteen times the rest of the list.
+pub fn request_fault(columns: u8, request: &Request) -> Option<Refusal>
+    ensures { result ≡ request_fault columns request.now }
+{
+    match request {
+        Request::Get {
+            key,
+            columns: asked,
+        } => key_fault(key).or_else(|| columns_fault(columns, asked.as_slice())),
+        Request::Put { key, sets } => {
+            key_fault(key).or_else(|| sets_fault(columns, sets.as_slice()))
+        }
+        Request::Range {
+            start,
+            limit,
+            columns: asked,
+        } => key_fault(start)
+            .or_else(|| columns_fault(columns, asked.as_slice()))
+            .or_else(|| limit_fault(*limit)),
+        Request::Remove { key } | Request::Tidy { key } => key_fault(key),
+        Request::Build { spec } => spec_fault(columns, spec),
+    }
+}
+
+/// The first limit that is broken where a page of a view is asked for. Constant cost.
+pub fn page_fault(start: &[u8], limit: u16) -> Option<Refusal>
+    ensures { result ≡ page_fault start.now limit }
+{
+    key_fault(start).or_else(|| limit_fault(limit))
+}
+
+/// The first limit that an index breaks which is to be opened with so many columns, a log that holds at most `feed`
+/// commits for the slowest that reads it, and keeps `keep` for nobody. Constant cost.
+pub fn open_fault(columns: u64, feed: u64, keep: u64) -> Option<Refusal>
+    ensures { result ≡ open_fault columns feed keep }
+{
+    if columns < 1 || columns > MAX_COLUMNS {
+        Some(Refusal::BadColumn)
+    } else {
+        (feed < 1 || feed > MAX_FEED || keep > MAX_KEEP).then_some(Refusal::BadLimit)
+    }
+}
+
+/// Whether an index may have so many passes, and a published view so many readers: else `BadLimit`. Constant cost.
+pub fn passes_fault(passes: u64) -> Option<Refusal>
+    ensures { result ≡ passes_fault passes }
+{
+    (passes < 1 || passes > MAX_PASSES).then_some(Refusal::BadLimit)
+}
