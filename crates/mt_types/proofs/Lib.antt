@@ -1,0 +1,10 @@
+pub mod CallLemmas
+pub mod ExampleLemmas
+pub mod FinishedLemmas
+pub mod GetLemmas
+pub mod HistoryLemmas
+pub mod NumberedLemmas
+pub mod PageLemmas
+pub mod RangeLemmas
+pub mod StandLemmas
+pub mod ViewLemmas

@@ -1,5 +1,10 @@
+pub mod Examples
+pub mod Headline
+pub mod History
 pub mod Keys
+pub mod Legal
 pub mod Limits
 pub mod RefusalNumbers
+pub mod RightAnswers
 pub mod Rows
 pub mod Views

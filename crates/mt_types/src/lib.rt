@@ -3,6 +3,8 @@
 
 pub mod copying;
 pub mod event;
+pub mod examples;
+pub mod headline;
 pub mod items;
 pub mod key;
 pub mod limits;
