@@ -1,0 +1,170 @@
+//! Rows in a sorted map, seen as the finite map from keys to rows in which the index's promises are stated.
+
+ghost use Rattle.std.specs.Prelude.{◌≡◌, ◌↔◌, IsTrue, IfOk, OnOk, OnErr, IfErr, filter};
+ghost use Rattle.std.specs.Option.{option_copied};
+ghost use Rattle.std.specs.Ordering.{is_ge};
+ghost use Rattle.std.specs.FinMap as map;
+ghost use Rattle.mt_types.specs.Keys.{key_cmp};
+ghost use Rattle.mt_types.specs.Rows.{after, after_change};
+ghost use Rattle.mt_types.specs.Views.{page_from};
+
+use crate::columns;
+use mt_types::copying::TryCopy;
+use mt_types::key::Key;
+use mt_types::refusal::{NoMemory, Refusal};
+use mt_types::row::{Change, Pairs, Row, Sets};
+use std::alloc::Global;
+use std::collections::BTreeMap;
+use std::collections::btree_map::Range;
+use std::marker::Model;
+
+/// Which row stands under which key, in a B-tree in the order of the keys.
+#[derive(Drop)]
+pub struct Rows {
+    rows: BTreeMap<Key, Row>,
+}
+
+impl Model for Rows {
+    ghost use Rattle.std.specs.FinMap as map;
+    ghost use Rattle.std.specs.BTreeMap.{IsOrdered};
+    ghost use Rattle.mt_types.specs.Keys.{key_cmp};
+    ghost use Rattle.mt_types.specs.declared.row.Row.{Row};
+    ghost use Rattle.mt_rows.specs.RowsCode.{rows_code};
+
+    ghost Value = { map.FinMap key_cmp Row };
+
+    ghost coded = { rows_code };
+
+    ghost view = { λ r. map.from_sorted r.rows.entries };
+
+    ghost invariant = { λ r. IsOrdered key_cmp r.rows };
+}
+
+impl Rows {
+    /// No rows. Takes no memory.
+    pub fn open(alloc: Global) -> Rows
+        ensures { result ≡ map.empty }
+    {
+        Rows {
+            rows: BTreeMap::new(alloc),
+        }
+    }
+
+    /// How many rows.
+    pub fn len(&self) -> usize
+        ensures { result ≡ map.len self.now }
+    {
+        self.rows.len()
+    }
+
+    /// Whether there are no rows.
+    pub fn is_empty(&self) -> bool
+        ensures { IsTrue result ↔ (self.now ≡ map.empty) }
+    {
+        self.rows.is_empty()
+    }
+
+    /// The row under a key, if there is one. Costs a comparison of keys for each doubling of the rows.
+    pub fn get(&self, key: &Key) -> Option<&Row>
+        ensures { option_copied result ≡ map.get self.now key.now }
+    {
+        self.rows.get(key)
+    }
+
+    /// The rows from a key on, each with its key, in the order of the keys. Takes no memory and copies nothing.
+    /// Costs as `get` does; then each row costs a step to its neighbour.
+    pub fn from_key(&self, start: &Key) -> Range<'_, Key, Row>
+        ensures { result ≡ filter (λ pair. is_ge (key_cmp pair.0 start.now)) (map.entries self.now) }
+    {
+        self.rows.range(start..)
+    }
+
+    /// A copy of the first rows from a key on, up to a limit, each with its key. Shares the bytes.
+    /// Costs as `get` does, and then an allocation for the columns of each row that it gives.
+    pub fn page(&self, alloc: Global, start: &Key, limit: usize) -> Result<Pairs, NoMemory>
+        ensures { IfOk result (λ pairs. pairs ≡ page_from start.now limit (map.entries self.now)) }
+    {
+        let mut pairs = Vec::new(alloc);
+        for (key, row) in self.from_key(start) {
+            if pairs.len() >= limit {
+                break;
+            }
+            pairs.push((key.copy(alloc)?, row.copy(alloc)?))?;
+        }
+        Ok(Pairs::from_vec(pairs))
+    }
+
+    /// Puts a row under a key, and gives the row that stood there. On an error nothing changes. Costs as `get` does,
+    /// and for a new key it may take memory.
+    pub fn set(&mut self, key: Key, row: Row) -> Result<Option<Row>, NoMemory>
+        ensures old { IfOk result (λ old. old ≡ map.get self.old key) }
+        ensures ok { OnOk result (self.new ≡ map.insert self.old key row) }
+        ensures err { OnErr result (self.new ≡ self.old) }
+    {
+        Ok(self.rows.insert(key, row)?)
+    }
+
+    /// Takes the row under a key away, and gives it, if there is one. Costs as `get` does.
+    pub fn remove(&mut self, key: &Key) -> Option<Row>
+        ensures old { result ≡ map.get self.old key.now }
+        ensures after { self.new ≡ map.remove self.old key.now }
+    {
+        self.rows.remove(key)
+    }
+
+    /// Does a change, as the commit of this number does it in an index of so many columns. On an error nothing changes.
+    /// Costs as `get` does. A put also copies its list of sets, with shared bytes, and writes a row that is there in
+    /// place: the columns that it does not name are not touched.
+    pub fn apply(
+        &mut self,
+        alloc: Global,
+        columns: u8,
+        number: u64,
+        change: &Change,
+    ) -> Result<(), NoMemory>
+        ensures ok { OnOk result (self.new ≡ after_change columns number change.now self.old) }
+        ensures err { OnErr result (self.new ≡ self.old) }
+    {
+        match change {
+            Change::Put(key, sets) => self.put(alloc, columns, number, key, sets),
+            Change::Drop(key) => {
+                let _ = self.remove(key);
+                Ok(())
+            }
+        }
+    }
+
+    fn put(
+        &mut self,
+        alloc: Global,
+        columns: u8,
+        number: u64,
+        key: &Key,
+        sets: &Sets,
+    ) -> Result<(), NoMemory>
+        ensures ok { OnOk result (self.new ≡ after_change columns number (Change.Put key.now sets.now) self.old) }
+        ensures err { OnErr result (self.new ≡ self.old) }
+    {
+        let sets = sets.copy(alloc)?;
+        if let Some(row) = self.rows.get_mut(key) {
+            columns::rewrite(alloc, row, number, sets);
+            return Ok(());
+        }
+        let row = columns::new_row(alloc, columns, number, sets)?;
+        self.set(key.copy(alloc)?, row)?;
+        Ok(())
+    }
+}
+
+/// The rows of an index of so many columns after these changes from none on: the i-th is made by the commit of number i,
+/// from 1 on. Refused `NoMemory` alone. Costs as `apply` does, for each change.
+pub fn after(alloc: Global, columns: u8, changes: &[Change]) -> Result<Rows, Refusal>
+    ensures ok { IfOk result (λ rows. rows ≡ after columns changes.now) }
+    ensures refused { IfErr result (λ refusal. refusal ≡ Refusal.NoMemory) }
+{
+    let mut rows = Rows::open(alloc);
+    for (index, change) in changes.iter().enumerate() {
+        rows.apply(alloc, columns, index as u64 + 1, change)?;
+    }
+    Ok(rows)
+}

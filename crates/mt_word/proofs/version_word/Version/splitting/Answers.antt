@@ -1,0 +1,7 @@
+use Rattle.std.proofs.Common.{ap, ◌∙◌}
+use Rattle.mt_word.specs.Version.{VersionView}
+use Rattle.mt_word.proofs.VersionLemmas.{flag_test}
+use Rattle.mt_word.proofs.version_word.Version.splitting.Goals as goal
+
+pub returns : goal.returns
+returns c = flag_test c.self.inside.word 2 ∙ ap (λ (v : VersionView). v.splitting) c.self.view_is

@@ -1,0 +1,6 @@
+-- What the contracts of this crate cite.
+pub mod Fields
+pub mod Slots
+pub mod Round
+pub mod Version
+pub mod VersionRound
