@@ -1,3 +1,5 @@
+pub mod ExactLists
+pub mod ExactValues
 pub mod Examples
 pub mod Headline
 pub mod History

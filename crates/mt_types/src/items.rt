@@ -33,10 +33,10 @@ impl<T> Items<T> {
     }
 
     /// The items of a vector, in its memory.
-    pub fn from_vec(items: Vec<T>) -> Items<T>
-        ensures { result ≡ items.items }
+    pub fn from_vec(vector: Vec<T>) -> Items<T>
+        ensures { result ≡ vector.items }
     {
-        Items { items }
+        Items { items: vector }
     }
 
     /// The vector of these items, in their memory.
@@ -83,7 +83,7 @@ impl<T: TryCopy + Drop> TryCopy for Items<T> {
     /// Costs one allocation and a copy of each item.
     fn copy(&self, alloc: Global) -> Result<Items<T>, NoMemory> {
         Ok(Items {
-            items: copy_items(alloc, self.items.as_slice())?,
+            items: copy_items(alloc, &self.items)?,
         })
     }
 }

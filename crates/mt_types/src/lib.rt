@@ -3,6 +3,7 @@
 
 pub mod copying;
 pub mod event;
+pub mod exact;
 pub mod examples;
 pub mod headline;
 pub mod items;
@@ -11,4 +12,6 @@ pub mod limits;
 pub mod numbers;
 pub mod refusal;
 pub mod row;
+#[cfg(test)]
+mod tests;
 pub mod view;

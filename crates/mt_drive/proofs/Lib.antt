@@ -1,0 +1,3 @@
+mod Examples
+pub mod JoinLemmas
+pub mod WordLemmas

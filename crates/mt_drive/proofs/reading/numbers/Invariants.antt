@@ -1,0 +1,10 @@
+use Rattle.std.proofs.Common.{◌≡◌, length}
+use Rattle.mt_drive.specs.Reading.{each, parts, number_of}
+use Rattle.mt_drive.proofs.WordLemmas.{with_front}
+use Rattle.mt_drive.proofs.reading.numbers.Given as goal
+
+abbrev pub invariant-loop-word : goal.invariant-loop-word
+invariant-loop-word l = each (number_of 255) (parts l.text) ≡ with_front l.numbers.items (each (number_of 255) (parts l.rest))
+
+abbrev pub decreases-loop-word : goal.decreases-loop-word
+decreases-loop-word l = length l.rest
