@@ -1,0 +1,20 @@
+-- The log of commits, read off its fields.
+use Rattle.std.specs.Prelude.{◌+◌, ◌≤◌}
+use Rattle.std.specs.VecDeque.{deque_items, deque_len, deque_capacity}
+use Rattle.mt_commit.specs.Log.{LogSeen, IsLog}
+use Rattle.mt_commit.specs.declared.log.Log.TheInside.{Inside}
+
+abbrev pub log_of : Inside → LogSeen
+log_of log = record {
+  held_after = log.held_after;
+  deltas = deque_items log.deltas;
+  reserved = log.reserved;
+  holders = log.holders;
+  feed = log.feed;
+  keep = log.keep;
+}
+
+-- the queue has the room that was reserved
+pub record IsKept (log : Inside) : Type 0 where
+  pub sound : IsLog (log_of log)
+  pub room : deque_len log.deltas + log.reserved ≤ deque_capacity log.deltas

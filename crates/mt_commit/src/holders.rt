@@ -1,0 +1,81 @@
+//! Who holds the log: numbers of commits, each as often as it is held.
+
+ghost use Rattle.std.specs.Prelude.{◌≡◌, ◌≤◌, [], All, OnOk, OnErr};
+ghost use Rattle.mt_types.specs.Legal.{least};
+ghost use Rattle.mt_commit.specs.Holders.{with_holder, without_holder};
+
+use mt_types::refusal::NoMemory;
+use std::alloc::Global;
+use std::collections::BTreeMap;
+use std::marker::Model;
+
+/// Numbers in ascending order, each as often as it was added and not taken away: a B-tree of their counts.
+#[derive(Drop)]
+pub(crate) struct Holders {
+    counts: BTreeMap<u64, u64>,
+}
+
+impl Model for Holders {
+    ghost use Rattle.std.specs.Prelude.{List, ℕ};
+    ghost use Rattle.std.specs.Ordering.{nat_cmp};
+    ghost use Rattle.std.specs.BTreeMap.{IsOrdered};
+    ghost use Rattle.mt_commit.specs.Holders.{each_held, AllHeld};
+
+    ghost Value = { List ℕ };
+
+    ghost view = { λ h. each_held h.counts.entries };
+
+    ghost invariant = { λ h. IsOrdered nat_cmp h.counts × AllHeld h.counts.entries };
+}
+
+impl Holders {
+    /// No numbers. Takes no memory.
+    pub(crate) fn new(alloc: Global) -> Holders
+        ensures { result ≡ [] }
+    {
+        Holders {
+            counts: BTreeMap::new(alloc),
+        }
+    }
+
+    /// The least of these numbers, or `most`, of which none is above. Costs a way down the tree.
+    pub(crate) fn least(&self, most: u64) -> u64
+        requires { All (λ holder. holder ≤ most) self.now }
+        ensures { result ≡ least most self.now }
+    {
+        match self.counts.first_key_value() {
+            Some((first, _)) => *first,
+            None => most,
+        }
+    }
+
+    /// Adds a number once more. On an error nothing changes: memory is wanting, or the number is there 2^64 - 1 times.
+    /// Costs a way down the tree.
+    pub(crate) fn add(&mut self, number: u64) -> Result<(), NoMemory>
+        ensures ok { OnOk result (self.new ≡ with_holder number self.old) }
+        ensures err { OnErr result (self.new ≡ self.old) }
+    {
+        match self.counts.get_mut(&number) {
+            Some(count) => {
+                *count = count.checked_add(1).ok_or(NoMemory)?;
+            }
+            None => {
+                self.counts.insert(number, 1)?;
+            }
+        }
+        Ok(())
+    }
+
+    /// Takes a number away once, if it is there. Costs a way down the tree.
+    pub(crate) fn remove(&mut self, number: u64)
+        ensures { self.new ≡ without_holder number self.old }
+    {
+        match self.counts.get_mut(&number) {
+            Some(count) if *count > 1 => *count -= 1,
+            Some(_) => {
+                let _ = self.counts.remove(&number);
+            }
+            None => {}
+        }
+    }
+}

@@ -1,0 +1,8 @@
+//! The log of commits: the deltas of the last commits, held for those that still read them.
+#![tactic(auto)]
+
+mod holders;
+pub mod laws;
+pub mod log;
+#[cfg(test)]
+mod tests;

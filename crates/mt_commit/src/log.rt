@@ -1,0 +1,180 @@
+//! The log of commits: a queue of deltas, the numbers from which it is held, and the room that was reserved.
+
+ghost use Rattle.std.specs.Prelude.{◌≡◌, ◌+◌, ◌-◌, ◌<◌, ◌≤◌, [], length, drop, IfErr, OnOk, OnErr, MatchOption, Contains, slice_get};
+ghost use Rattle.std.specs.VecDeque.{deque_capacity};
+
+use crate::holders::Holders;
+use mt_types::refusal::{NoMemory, Refusal};
+use mt_types::row::Delta;
+use std::alloc::Global;
+use std::collections::VecDeque;
+use std::marker::Model;
+
+/// The deltas of the last commits. Commits are numbered from 1 in the order in which they are appended, and what came
+/// before the deltas that are here was trimmed.
+#[derive(Drop)]
+pub struct Log {
+    deltas: VecDeque<Delta>,
+    holders: Holders,
+    held_after: u64,
+    reserved: u64,
+    feed: u64,
+    keep: u64,
+}
+
+impl Model for Log {
+    ghost use Rattle.mt_commit.specs.Log.{LogSeen};
+
+    ghost Value = { LogSeen };
+
+    ghost use Rattle.mt_commit.specs.LogFields.{log_of, IsKept};
+
+    ghost view = { log_of };
+
+    ghost invariant = { IsKept };
+}
+
+// Takes so many of the first deltas away.
+fn drop_front(deltas: &mut VecDeque<Delta>, count: u64)
+    requires { count ≤ length deltas.old.items }
+    ensures items { deltas.new.items ≡ drop count deltas.old.items }
+    ensures capacity { deque_capacity deltas.new ≡ deque_capacity deltas.old }
+{
+    for dropped in 0..count {
+        let _ = deltas.pop_front();
+    }
+}
+
+impl Log {
+    ghost use Rattle.mt_commit.specs.Log.{LogSeen, IsLog, newest, slowest, delta_of, reserve_fault, with_delta, trimmed};
+    ghost use Rattle.mt_commit.specs.Holders.{with_holder, without_holder};
+
+    /// The log before any commit. It is to hold at most `feed` deltas for the slowest that reads it, and to keep the
+    /// last `keep` for nobody. Takes no memory.
+    pub fn open(alloc: Global, feed: u64, keep: u64) -> Log
+        ensures empty { result ≡ record { held_after = 0; deltas = []; reserved = 0; holders = []; feed = feed; keep = keep } }
+        ensures sound { IsLog result }
+    {
+        Log {
+            deltas: VecDeque::new(alloc),
+            holders: Holders::new(alloc),
+            held_after: 0,
+            reserved: 0,
+            feed,
+            keep,
+        }
+    }
+
+    /// The number of the newest commit, or 0 before any.
+    pub fn number(&self) -> u64
+        ensures value { result ≡ newest self.now }
+        ensures sound { IsLog self.now }
+    {
+        self.held_after + self.deltas.len() as u64
+    }
+
+    /// The number after which the deltas are here: those up to it were trimmed.
+    pub fn held_after(&self) -> u64
+        ensures value { result ≡ self.now.held_after }
+        ensures sound { IsLog self.now }
+    {
+        self.held_after
+    }
+
+    /// The least number from which the log is held, or that of the newest commit where nobody holds it. Costs a way
+    /// down the tree of holders.
+    pub fn slowest(&self) -> u64
+        ensures value { result ≡ slowest self.now }
+        ensures here { self.now.held_after ≤ result }
+        ensures done { result ≤ newest self.now }
+        ensures sound { IsLog self.now }
+    {
+        self.holders.least(self.number())
+    }
+
+    /// Makes room for one delta more, or says why there is none: `Spent` where no number is left for it, else
+    /// `FeedFull` with the number of the slowest where the log would hold more for it than it may, else `NoMemory`.
+    /// On an error nothing changes. Amortized constant cost, and a way down the tree of holders.
+    pub fn reserve(&mut self) -> Result<(), Refusal>
+        ensures fault { MatchOption (reserve_fault self.old) (IfErr result (λ refusal. refusal ≡ Refusal.NoMemory)) (λ refusal. result ≡ Err refusal) }
+        ensures ok { OnOk result (self.new ≡ record self.old { reserved = self.old.reserved + 1 }) }
+        ensures err { OnErr result (self.new ≡ self.old) }
+        ensures sound { IsLog self.new }
+    {
+        let number = self.number();
+        let slowest = self.slowest();
+        if u64::MAX - number <= self.reserved {
+            return Err(Refusal::Spent);
+        }
+        if number - slowest + self.reserved >= self.feed {
+            return Err(Refusal::FeedFull(slowest));
+        }
+        self.deltas.reserve((self.reserved + 1) as usize)?;
+        self.reserved += 1;
+        Ok(())
+    }
+
+    /// Gives the room for one delta back.
+    pub fn unreserve(&mut self)
+        requires { 0 < self.old.reserved }
+        ensures after { self.new ≡ record self.old { reserved = self.old.reserved - 1 } }
+        ensures sound { IsLog self.new }
+    {
+        self.reserved -= 1; // given back
+    }
+
+    /// Appends the delta of the next commit, in room that was reserved. Takes no memory. Constant cost.
+    pub fn append(&mut self, delta: Delta)
+        requires reserved { 0 < self.old.reserved }
+        requires next { delta.number ≡ newest self.old + 1 }
+        ensures after { self.new ≡ with_delta self.old delta }
+        ensures sound { IsLog self.new }
+    {
+        self.deltas.push_back_reserved(delta);
+        self.reserved -= 1;
+    }
+
+    /// The delta of a commit that is here. Constant cost.
+    pub fn delta(&self, number: u64) -> &Delta
+        requires here { self.now.held_after < number }
+        requires done { number ≤ newest self.now }
+        ensures value { delta_of self.now number ≡ Some result.now }
+        ensures numbered { result.now.number ≡ number }
+    {
+        &self.deltas[(number - self.held_after - 1) as usize]
+    }
+
+    /// Holds the log from a number of commits on, once more. On an error nothing changes: memory is wanting, or the
+    /// number is held 2^64 - 1 times. Costs a way down the tree of holders.
+    pub fn pin(&mut self, number: u64) -> Result<(), NoMemory>
+        requires here { self.old.held_after ≤ number }
+        requires done { number ≤ newest self.old }
+        ensures ok { OnOk result (self.new ≡ record self.old { holders = with_holder number self.old.holders }) }
+        ensures err { OnErr result (self.new ≡ self.old) }
+        ensures sound { IsLog self.new }
+    {
+        self.holders.add(number)
+    }
+
+    /// Holds the log from a number of commits on once less. Costs a way down the tree of holders.
+    pub fn unpin(&mut self, number: u64)
+        requires { Contains self.old.holders number }
+        ensures after { self.new ≡ record self.old { holders = without_holder number self.old.holders } }
+        ensures sound { IsLog self.new }
+    {
+        self.holders.remove(number);
+    }
+
+    /// Drops the deltas that nobody holds, but for the last ones that are kept for nobody. The queue keeps its memory for
+    /// later deltas. Amortized constant cost, and a way down the tree of holders.
+    pub fn trim(&mut self)
+        ensures after { self.new ≡ trimmed self.old }
+        ensures newest_stays { newest self.new ≡ newest self.old }
+        ensures sound { IsLog self.new }
+    {
+        let number = self.number();
+        let bound = self.slowest().min(number.saturating_sub(self.keep));
+        drop_front(&mut self.deltas, bound - self.held_after);
+        self.held_after = bound;
+    }
+}

@@ -1,0 +1,2 @@
+-- What contracts see of the epochs.
+pub mod EpochsSeen
