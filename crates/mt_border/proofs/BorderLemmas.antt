@@ -1,0 +1,240 @@
+-- The invariant of a border through each change.
+use Rattle.std.proofs.Common.{◌≡◌, ℕ, zero, suc, ◌-◌, ◌^◌, ◌<◌, ◌≤◌, List, [], ◌∷◌, ◌++◌, length, take, drop, map, get_or, refl, sym, ap, ◌∙◌, arith, length-append, subst, Option, Some, None, IsSome, Bool, true, false, slice_get}
+use Rattle.std.specs.List.{All, AllPairs, remove}
+use Rattle.std.proofs.lemmas.Option.{get_or_from_slice_get}
+use Rattle.std.proofs.lemmas.List.{length-map, get_or-map, get_or-take, length-take-le, length-drop, map-append, take-map, drop-map}
+use Rattle.std.proofs.lemmas.List.Edits.{length-remove}
+use Rattle.std.proofs.lemmas.List.Elements.{All-take, All-drop, All-append, All-map}
+use Rattle.std.proofs.lemmas.List.Quantifiers.{all_pairs_remove}
+use Rattle.mt_types.specs.declared.row.Row.{Row}
+use Rattle.mt_types.specs.declared.numbers.NodeNo.{NodeNo}
+use Rattle.mt_word.specs.Version.{VersionView, IsVersion}
+use Rattle.mt_border.specs.Entry.{entry_rank, IsEntry, IsContent, with_row, with_link, content_with_row, content_class, entry_suffix}
+use Rattle.mt_border.specs.Table.{first_changed, changed_at}
+use Rattle.mt_border.specs.Border.{BorderView, entries_of, left_slot, left_slots, first_held, first_suffix, filled_version, with_filled, with_hidden, with_value, with_link_at, with_split}
+use Rattle.mt_border.specs.Order.{IsBorder, IsOrdered, AreEntries, HoldEntries, AreBelow, IsLeftOf, AllHeld}
+use Rattle.mt_border.specs.declared.entry.Entry.{Entry}
+use Rattle.mt_border.specs.declared.entry.Content.{Content}
+use Rattle.mt_border.specs.declared.entry.Content.TheVariants.{Short, Long, Link}
+use Rattle.mt_border.specs.declared.entry.RightLink.{RightLink}
+use Rattle.mt_border.specs.declared.slot_table.Slot.{Slot}
+
+pub entry_there : (slots : List Slot) (i : ℕ) (slot : Slot) → AreEntries (entries_of slots) → i < length (entries_of slots) → slice_get slots i ≡ Some slot → IsEntry slot.entry
+entry_there slots i slot h within e =
+    let inside : i < length slots = omega (arith, length-map slots (λ (s : Slot). s.entry)) in
+    let read : get_or (entries_of slots) i slot.entry ≡ slot.entry = get_or-map (λ (s : Slot). s.entry) slots i slot slot.entry inside ∙ ap (λ (s : Slot). s.entry) (get_or_from_slice_get slots i slot slot e) in
+    subst IsEntry read (h.each i slot.entry within)
+
+-- The slots that held a key.
+pub AllHeld-take : (i : ℕ) (xs : List Slot) → AllHeld xs → AllHeld (take i xs)
+AllHeld-take zero xs h = tt
+AllHeld-take (suc i) [] h = tt
+AllHeld-take (suc i) (x ∷ xs) h = (h.0, AllHeld-take i xs h.1)
+
+pub AllHeld-drop : (i : ℕ) (xs : List Slot) → AllHeld xs → AllHeld (drop i xs)
+AllHeld-drop zero xs h = h
+AllHeld-drop (suc i) [] h = tt
+AllHeld-drop (suc i) (x ∷ xs) h = AllHeld-drop i xs h.1
+
+pub AllHeld-append : (xs ys : List Slot) → AllHeld xs → AllHeld ys → AllHeld (xs ++ ys)
+AllHeld-append [] ys h k = k
+AllHeld-append (x ∷ xs) ys h k = (h.0, AllHeld-append xs ys h.1 k)
+
+pub left_slots-entries_of : (xs : List Slot) → AllHeld xs → left_slots (entries_of xs) ≡ xs
+left_slots-entries_of [] h = refl
+left_slots-entries_of (x ∷ xs) h =
+    ap (λ (b : Bool). record { entry = x.entry; held_key = b } ∷ left_slots (entries_of xs)) (sym h.0) ∙ ap (λ (t : List Slot). x ∷ t) (left_slots-entries_of xs h.1)
+
+AllHeld-first_changed : (g : Entry → Entry) (xs : List Slot) → AllHeld xs → AllHeld (first_changed (λ slot. record slot { entry = g slot.entry }) xs)
+AllHeld-first_changed g [] h = tt
+AllHeld-first_changed g (x ∷ xs) h = h
+
+pub AllHeld-changed_at : (i : ℕ) (g : Entry → Entry) (xs : List Slot) → AllHeld xs → AllHeld (changed_at i (λ slot. record slot { entry = g slot.entry }) xs)
+AllHeld-changed_at i g xs h =
+    AllHeld-append (take i xs) (first_changed (λ slot. record slot { entry = g slot.entry }) (drop i xs)) (AllHeld-take i xs h) (AllHeld-first_changed g (drop i xs) (AllHeld-drop i xs h))
+
+-- The entries of slots.
+entries_of-first_changed : (g : Entry → Entry) (xs : List Slot) → entries_of (first_changed (λ slot. record slot { entry = g slot.entry }) xs) ≡ first_changed g (entries_of xs)
+entries_of-first_changed g [] = refl
+entries_of-first_changed g (x ∷ xs) = refl
+
+pub entries_of-changed_at : (i : ℕ) (g : Entry → Entry) (xs : List Slot) → entries_of (changed_at i (λ slot. record slot { entry = g slot.entry }) xs) ≡ changed_at i g (entries_of xs)
+entries_of-changed_at i g xs =
+    let f : Slot → Slot = λ slot. record slot { entry = g slot.entry } in
+    let rest : entries_of (first_changed f (drop i xs)) ≡ first_changed g (drop i (entries_of xs)) = entries_of-first_changed g (drop i xs) ∙ ap (λ (t : List Entry). first_changed g t) (sym (drop-map (λ (slot : Slot). slot.entry) i xs)) in
+    rw (map-append (λ (slot : Slot). slot.entry) (take i xs) (first_changed f (drop i xs)), rest) (simp take-map)
+
+-- What holds of entries.
+pub ordered_take : (live : List Entry) (k : ℕ) → k ≤ length live → IsOrdered live → IsOrdered (take k live)
+ordered_take live k h o = record { pairs = taken_pairs live k h o }
+  where
+    taken_pairs : (live : List Entry) (k : ℕ) → k ≤ length live → IsOrdered live → AllPairs (λ entry later. entry_rank entry < entry_rank later) (take k live)
+    taken_pairs live k h o i j d before within =
+        let short = length-take-le k live h in
+        let below : j < k = omega arith in
+        let first : i < k = omega arith in
+        rw (get_or-take k live i d first, get_or-take k live j d below) (o.pairs i j d before (omega arith))
+
+pub ordered_remove : (live : List Entry) (k : ℕ) → k < length live → IsOrdered live → IsOrdered (remove live k)
+ordered_remove live k h o = record { pairs = all_pairs_remove (λ (entry later : Entry). entry_rank entry < entry_rank later) live k h o.pairs }
+
+ordered_by_ranks : (xs ys : List Entry) → map entry_rank xs ≡ map entry_rank ys → IsOrdered ys → IsOrdered xs
+ordered_by_ranks xs ys same o = record {
+  pairs = λ i j d before within.
+      let long : length xs ≡ length ys = sym (length-map xs entry_rank) ∙ (ap (λ (t : List ℕ). length t) same ∙ length-map ys entry_rank) in
+      let at : (k : ℕ) → k < length xs → entry_rank (get_or xs k d) ≡ entry_rank (get_or ys k d) = λ k h. sym (get_or-map entry_rank xs k d (entry_rank d) h) ∙ (ap (λ (t : List ℕ). get_or t k (entry_rank d)) same ∙ get_or-map entry_rank ys k d (entry_rank d) (omega arith)) in
+      rw (at i (omega arith), at j within) (o.pairs i j d before (omega arith));
+}
+
+content_class-with_row : (row : Row) (content : Content) → content_class (content_with_row row content) ≡ content_class content
+content_class-with_row row (Short bytes old) = refl
+content_class-with_row row (Long suffix old) = refl
+content_class-with_row row (Link head) = refl
+
+IsContent-with_row : (row : Row) (content : Content) → IsContent content → IsContent (content_with_row row content)
+IsContent-with_row row (Short bytes old) h = h
+IsContent-with_row row (Long suffix old) h = h
+IsContent-with_row row (Link head) h = h
+
+All-first_changed : (P : Entry → Type 0) (f : Entry → Entry) → ((e : Entry) → P e → P (f e)) → (xs : List Entry) → All P xs → All P (first_changed f xs)
+All-first_changed P f keeps [] h = h
+All-first_changed P f keeps (x ∷ xs) h = go
+  where
+    go : All P (f x ∷ xs)
+    go zero d within = keeps x (h zero d (omega arith))
+    go (suc k) d within = h (suc k) d (omega arith)
+
+All-changed_at : (P : Entry → Type 0) (f : Entry → Entry) → ((e : Entry) → P e → P (f e)) → (i : ℕ) (xs : List Entry) → All P xs → All P (changed_at i f xs)
+All-changed_at P f keeps i xs h =
+    All-append P (take i xs) (first_changed f (drop i xs)) (All-take P i xs h) (All-first_changed P f keeps (drop i xs) (All-drop P i xs h))
+
+length-changed_at : {X : Type 0} (i : ℕ) (f : X → X) (xs : List X) → length (changed_at i f xs) ≡ length xs
+length-changed_at zero f [] = refl
+length-changed_at zero f (x ∷ xs) = refl
+length-changed_at (suc i) f [] = refl
+length-changed_at (suc i) f (x ∷ xs) = ap suc (length-changed_at i f xs)
+
+-- a change that leaves each slice and rank as it was
+ranks-with_row : (row : Row) (i : ℕ) (xs : List Entry) → map entry_rank (changed_at i (with_row row) xs) ≡ map entry_rank xs
+ranks-with_row row zero [] = refl
+ranks-with_row row zero (x ∷ xs) = rw (content_class-with_row row x.content) refl
+ranks-with_row row (suc i) [] = refl
+ranks-with_row row (suc i) (x ∷ xs) = ap (λ (t : List ℕ). entry_rank x ∷ t) (ranks-with_row row i xs)
+
+rank-with_link : (head : NodeNo) (slice : ℕ) (content : Content) → IsSome (entry_suffix (record { slice = slice; content = content })) → entry_rank (record { slice = slice; content = Link head }) ≡ entry_rank (record { slice = slice; content = content })
+rank-with_link head slice (Short bytes row) h = cc
+rank-with_link head slice (Long suffix row) h = refl
+rank-with_link head slice (Link old) h = refl
+
+ranks-with_link : (head : NodeNo) (i : ℕ) (xs : List Entry) → IsSome (first_suffix (drop i xs)) → map entry_rank (changed_at i (with_link head) xs) ≡ map entry_rank xs
+ranks-with_link head zero [] h = refl
+ranks-with_link head zero (x ∷ xs) h = ap (λ (r : ℕ). r ∷ map entry_rank xs) (rank-with_link head x.slice x.content h)
+ranks-with_link head (suc i) [] h = refl
+ranks-with_link head (suc i) (x ∷ xs) h = ap (λ (t : List ℕ). entry_rank x ∷ t) (ranks-with_link head i xs h)
+
+-- a right link where the live entries change
+left_of_kept : (low : ℕ) (live new : List Entry) (right : Option RightLink) → ((bound : ℕ) → AreBelow bound live → AreBelow bound new) → IsLeftOf low live right → IsLeftOf low new right
+left_of_kept low live new None keeps h = tt
+left_of_kept low live new (Some link) keeps h = (h.0, keeps link.low h.1)
+
+nothing_deleted : {X : Type 0} (xs : List X) (i : ℕ) → i < length xs → xs ≡ [] → ⊥
+nothing_deleted xs i h e = omega (arith, ap (λ (t : List _). length t) e)
+
+-- The border after each call.
+pub border_changed : (b : BorderView) (i : ℕ) (f : Entry → Entry) → i < length b.live → ((e : Entry) → (f e).slice ≡ e.slice) → ((e : Entry) → IsEntry e → IsEntry (f e)) → map entry_rank (changed_at i f b.live) ≡ map entry_rank b.live → IsBorder b → IsBorder (record b { live = changed_at i f b.live })
+border_changed b i f within slices whole ranks h = record {
+  fifteen = rw (length-changed_at i f b.live) h.fifteen;
+  ordered = ordered_by_ranks _ b.live ranks h.ordered;
+  entries = record { each = All-changed_at IsEntry f whole i b.live h.entries.each };
+  held_back = h.held_back;
+  from_low = record { each = All-changed_at (λ e. b.low ≤ e.slice) f (λ e g. rw (slices e) g) i b.live h.from_low.each };
+  left_of = left_of_kept b.low b.live _ b.right (λ bound below. record { each = All-changed_at (λ e. e.slice < bound) f (λ e g. rw (slices e) g) i b.live below.each }) h.left_of;
+  deleted_empty = λ deleted. absurd (nothing_deleted b.live i within (h.deleted_empty deleted));
+  border = h.border;
+  counters = h.counters;
+}
+
+pub border_value : (b : BorderView) (i : ℕ) (row : Row) → i < length b.live → IsBorder b → IsBorder (with_value b i row)
+border_value b i row within h =
+    border_changed b i (with_row row) within (λ e. refl) (λ e g. record { slice_fits = g.slice_fits; content = IsContent-with_row row e.content g.content }) (ranks-with_row row i b.live) h
+
+pub border_link : (b : BorderView) (i : ℕ) (head : NodeNo) → i < length b.live → IsSome (first_suffix (drop i b.live)) → IsBorder b → IsBorder (with_link_at b i head)
+border_link b i head within long h =
+    border_changed b i (with_link head) within (λ e. refl) (λ e g. record { slice_fits = g.slice_fits; content = tt }) (ranks-with_link head i b.live long) h
+
+-- the entries that a hide leaves
+All-remove : (P : Entry → Type 0) (i : ℕ) (xs : List Entry) → All P xs → All P (remove xs i)
+All-remove P i xs h = All-append P (take i xs) (drop (suc i) xs) (All-take P i xs h) (All-drop P (suc i) xs h)
+
+-- slots of entries that were live hold entries
+pub hold_left : (xs : List Entry) (slots : List Slot) → AreEntries xs → HoldEntries slots → HoldEntries (left_slots xs ++ slots)
+hold_left xs slots h k = record { each = All-append (λ (slot : Slot). IsEntry slot.entry) (left_slots xs) slots (All-map (λ (slot : Slot). IsEntry slot.entry) left_slot xs h.each) k.each }
+
+length-first : {X : Type 0} (xs : List X) (i : ℕ) → i < length xs → length (take 1 (drop i xs)) ≡ 1
+length-first [] i h = absurd (omega arith)
+length-first (x ∷ xs) zero h = refl
+length-first (x ∷ xs) (suc i) h = length-first xs i (omega arith)
+
+pub border_hidden : (b : BorderView) (i : ℕ) → i < length b.live → IsBorder b → IsBorder (with_hidden b i)
+border_hidden b i within h = record {
+  fifteen = omega (arith, h.fifteen, length-remove b.live i within, length-append (left_slots (take 1 (drop i b.live))) b.unused, length-map (take 1 (drop i b.live)) left_slot, length-first b.live i within);
+  ordered = ordered_remove b.live i within h.ordered;
+  entries = record { each = All-remove IsEntry i b.live h.entries.each };
+  held_back = hold_left (take 1 (drop i b.live)) b.unused (record { each = All-take IsEntry 1 (drop i b.live) (All-drop IsEntry i b.live h.entries.each) }) h.held_back;
+  from_low = record { each = All-remove (λ e. b.low ≤ e.slice) i b.live h.from_low.each };
+  left_of = left_of_kept b.low b.live _ b.right (λ bound below. record { each = All-remove (λ e. e.slice < bound) i b.live below.each }) h.left_of;
+  deleted_empty = λ deleted. absurd (nothing_deleted b.live i within (h.deleted_empty deleted));
+  border = h.border;
+  counters = h.counters;
+}
+
+-- the version of a border after a filling
+pub filled_deleted : (held : Bool) (v : VersionView) → (filled_version held v).deleted ≡ v.deleted
+filled_deleted true v = refl
+filled_deleted false v = refl
+
+filled_border : (held : Bool) (v : VersionView) → (filled_version held v).border ≡ v.border
+filled_border true v = refl
+filled_border false v = refl
+
+hold_filled : (entry : Entry) (slots : List Slot) → IsEntry entry → HoldEntries slots → HoldEntries (first_changed (λ slot. record slot { entry = entry }) slots)
+hold_filled entry [] g h = h
+hold_filled entry (slot ∷ slots) g h = record { each = holds }
+  where
+    holds : All (λ (s : Slot). IsEntry s.entry) (record slot { entry = entry } ∷ slots)
+    holds zero d within = g
+    holds (suc k) d within = h.each (suc k) d within
+
+length-first_changed : {X : Type 0} (f : X → X) (xs : List X) → length (first_changed f xs) ≡ length xs
+length-first_changed f [] = refl
+length-first_changed f (x ∷ xs) = refl
+
+pub border_filled : (b : BorderView) (entry : Entry) → IsEntry entry → IsVersion (filled_version (first_held b.unused) b.version) → IsBorder b → IsBorder (with_filled b entry)
+border_filled b entry g counters h = record {
+  fifteen = rw (length-first_changed (λ (slot : Slot). record slot { entry = entry }) b.unused) h.fifteen;
+  ordered = h.ordered;
+  entries = h.entries;
+  held_back = hold_filled entry b.unused g h.held_back;
+  from_low = h.from_low;
+  left_of = h.left_of;
+  deleted_empty = λ deleted. h.deleted_empty (sym (filled_deleted (first_held b.unused) b.version) ∙ deleted);
+  border = filled_border (first_held b.unused) b.version ∙ h.border;
+  counters = counters;
+}
+
+take_none : (k : ℕ) (xs : List Entry) → xs ≡ [] → take k xs ≡ []
+take_none zero xs e = refl
+take_none (suc k) xs e = ap (λ (t : List Entry). take (suc k) t) e
+
+pub border_split : (b : BorderView) (keep : ℕ) (right : RightLink) → keep ≤ length b.live → b.low < right.low → AreBelow right.low (take keep b.live) → b.version.vsplit < 2 ^ 64 - 1 → IsBorder b → IsBorder (with_split b keep right)
+border_split b keep right within above below unspent h = record {
+  fifteen = omega (arith, h.fifteen, length-take-le keep b.live within, length-drop keep b.live, length-append (left_slots (drop keep b.live)) b.unused, length-map (drop keep b.live) left_slot);
+  ordered = ordered_take b.live keep within h.ordered;
+  entries = record { each = All-take IsEntry keep b.live h.entries.each };
+  held_back = hold_left (drop keep b.live) b.unused (record { each = All-drop IsEntry keep b.live h.entries.each }) h.held_back;
+  from_low = record { each = All-take (λ e. b.low ≤ e.slice) keep b.live h.from_low.each };
+  left_of = (above, below);
+  deleted_empty = λ deleted. take_none keep b.live (h.deleted_empty deleted);
+  border = h.border;
+  counters = record { vinsert_fits = h.counters.vinsert_fits; vsplit_fits = omega arith };
+}

@@ -1,0 +1,90 @@
+-- A full border may be cut, and the nearest cut is found by going out from the middle.
+use Rattle.std.proofs.Common.{◌≡◌, ℕ, zero, suc, ◌+◌, ◌-◌, ◌<◌, ◌≤◌, List, length, get_or, refl, sym, ◌∙◌, arith, inl, inr, slice_index}
+use Rattle.std.proofs.lemmas.Bool.{cases_eq}
+use Rattle.std.proofs.lemmas.List.{get_or-map}
+use Rattle.mt_slice.specs.Classes.{class_number}
+use Rattle.mt_border.specs.Entry.{entry_rank, content_class, IsContent}
+use Rattle.mt_border.specs.Table.{blank_slot}
+use Rattle.mt_border.specs.Order.{IsOrdered, AreEntries}
+use Rattle.mt_border.specs.Cut.{IsCut, IsBestCut, slices, distance}
+use Rattle.mt_border.specs.declared.entry.Entry.{Entry}
+use Rattle.mt_border.specs.declared.entry.Content.{Content}
+use Rattle.mt_border.specs.declared.entry.Content.TheVariants.{Short, Long, Link}
+
+-- no cut is nearer to the middle than this
+pub record NoneNearer (live : List Entry) (d : ℕ) : Type 0 where
+  pub each : (i : ℕ) → IsCut live i → d ≤ distance i 8
+
+pub none_nearer_yet : (live : List Entry) → NoneNearer live 0
+none_nearer_yet live = record { each = λ i h. omega arith }
+
+pub none_nearer_than : (live : List Entry) (d e : ℕ) → d ≤ e → NoneNearer live e → NoneNearer live d
+none_nearer_than live d e small h = record { each = λ i cut. omega (arith, h.each i cut) }
+
+pub none_nearer_still : (live : List Entry) (d : ℕ) → NoneNearer live d → (IsCut live (8 - d) → ⊥) → (IsCut live (8 + d) → ⊥) → NoneNearer live (d + 1)
+none_nearer_still live d h low high = record {
+  each = λ i cut.
+      let far : d ≤ distance i 8 = h.each i cut in
+      elim (cases_eq i (8 - d)) [
+        | inl e ↦ absurd (low (rw e at cut))
+        | inr off ↦ elim (cases_eq i (8 + d)) [
+          | inl e ↦ absurd (high (rw e at cut))
+          | inr up ↦ omega (arith, far, off, up)
+        ]
+      ];
+}
+
+pub best_below : (live : List Entry) (d : ℕ) → d < 8 → NoneNearer live d → IsCut live (8 - d) → IsBestCut live (8 - d)
+best_below live d small h cut = record {
+  lawful = cut;
+  nearest = λ j other. omega (arith, h.each j other);
+  smaller = λ j other same. omega (arith, same);
+}
+
+pub best_above : (live : List Entry) (d : ℕ) → d < 8 → NoneNearer live d → (IsCut live (8 - d) → ⊥) → IsCut live (8 + d) → IsBestCut live (8 + d)
+best_above live d small h low cut = record {
+  lawful = cut;
+  nearest = λ j other. omega (arith, h.each j other);
+  smaller = λ j other same.
+      elim (cases_eq j (8 - d)) [
+        | inl e ↦ absurd (low (rw e at other))
+        | inr off ↦ omega (arith, same, off)
+      ];
+}
+
+class_below : (content : Content) → IsContent content → class_number (content_class content) ≤ 9
+class_below (Short bytes row) h = omega arith
+class_below (Long suffix row) h = omega arith
+class_below (Link head) h = omega arith
+
+-- each rank is greater than the one before
+rank_climbs : (live : List Entry) (d : Entry) → IsOrdered live → (i : ℕ) → i < length live → entry_rank (get_or live 0 d) + i ≤ entry_rank (get_or live i d)
+rank_climbs live d o zero within = omega arith
+rank_climbs live d o (suc i) within =
+    let before = rank_climbs live d o i (omega arith) in
+    let step : entry_rank (get_or live i d) < entry_rank (get_or live (suc i) d) = o.pairs i (suc i) d (omega arith) within in
+    omega (arith, before, step)
+
+-- where no place is a cut, each slice is the first
+one_slice : (live : List Entry) → ((i : ℕ) → IsCut live i → ⊥) → (i : ℕ) → i ≤ 14 → slice_index (slices live) i ≡ slice_index (slices live) 0
+one_slice live none zero h = refl
+one_slice live none (suc i) h =
+    elim (cases_eq (slice_index (slices live) i) (slice_index (slices live) (suc i))) [
+      | inl same ↦ sym same ∙ one_slice live none i (omega arith)
+      | inr apart ↦ (let back : suc i - 1 ≡ i = omega arith in
+          absurd (none (suc i) (record { first = omega arith; last = h; apart = rw back apart })))
+    ]
+
+-- fifteen entries stand at two slices at least, for a slice has ten classes
+pub some_cut : (live : List Entry) → length live ≡ 15 → IsOrdered live → AreEntries live → NoneNearer live 8 → ⊥
+some_cut live full o whole h =
+    let none : (i : ℕ) → IsCut live i → ⊥ = λ i cut. omega (arith, cut.first, cut.last, h.each i cut) in
+    let d : Entry = blank_slot.entry in
+    let first : Entry = get_or live 0 d in
+    let last : Entry = get_or live 14 d in
+    let same : slice_index (slices live) 14 ≡ slice_index (slices live) 0 = one_slice live none 14 (omega arith) in
+    let read_first : slice_index (slices live) 0 ≡ first.slice = get_or-map (λ (e : Entry). e.slice) live 0 d 0 (omega arith) in
+    let read_last : slice_index (slices live) 14 ≡ last.slice = get_or-map (λ (e : Entry). e.slice) live 14 d 0 (omega arith) in
+    let climb : entry_rank first + 14 ≤ entry_rank last = rank_climbs live d o 14 (omega arith) in
+    let few : class_number (content_class last.content) ≤ 9 = class_below last.content (whole.each 14 d (omega arith)).content in
+    omega (arith, same, read_first, read_last, climb, few)

@@ -1,0 +1,7 @@
+-- Lemmas of this crate.
+pub mod TableLemmas
+pub mod FindLemmas
+pub mod BorderLemmas
+pub mod SeenLemmas
+pub mod CutLemmas
+pub mod ShowLemmas

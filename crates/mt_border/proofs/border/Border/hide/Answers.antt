@@ -1,0 +1,17 @@
+use Rattle.mt_border.proofs.SeenLemmas.{sound_hidden}
+use Rattle.mt_border.proofs.border.Border.hide.Goals as goal
+
+pub invariant_of-self : goal.invariant_of-self
+invariant_of-self c =
+    let made = sound_hidden c.self.inside.layer c.self.inside.low c.self.inside.right c.self.inside.version c.self.inside.table c.args.place (rw (← c.self.view_is) at c.requires) c.self.invariant in
+    rw c.remove_at.ensures made.1
+
+pub returns-clause-value : goal.returns-clause-value
+returns-clause-value c =
+    let made = sound_hidden c.self.inside.layer c.self.inside.low c.self.inside.right c.self.inside.version c.self.inside.table c.args.place (rw (← c.self.view_is) at c.requires) c.self.invariant in
+    rw (c.remove_at.ensures, ← c.self.view_is) made.0
+
+pub returns-clause-sound : goal.returns-clause-sound
+returns-clause-sound c =
+    let made = sound_hidden c.self.inside.layer c.self.inside.low c.self.inside.right c.self.inside.version c.self.inside.table c.args.place (rw (← c.self.view_is) at c.requires) c.self.invariant in
+    rw c.remove_at.ensures made.1.border

@@ -1,0 +1,159 @@
+-- What a contract sees of a `Border`, and what each call makes of it.
+use Rattle.std.specs.Prelude.{ℕ, ◌+◌, ◌-◌, ◌^◌, ◌==◌, nat_le, Bool, true, false, ◌&&◌, if◌then◌else◌, List, [], ◌∷◌, ◌++◌, length, map, take, drop, replicate}
+use Rattle.std.specs.Prelude.{Option, Some, None}
+use Rattle.std.specs.List.{remove}
+use Rattle.mt_types.specs.declared.row.Row.{Row}
+use Rattle.mt_types.specs.declared.numbers.NodeNo.{NodeNo}
+use Rattle.mt_word.specs.Version.{VersionView}
+use Rattle.mt_border.specs.Entry.{entry_row, entry_suffix, at_version, with_row, with_link}
+use Rattle.mt_border.specs.Table.{TableView, blank_slot, first_changed, changed_at}
+use Rattle.mt_border.specs.declared.entry.Entry.{Entry}
+use Rattle.mt_border.specs.declared.entry.RightLink.{RightLink}
+use Rattle.mt_border.specs.declared.slot_table.Slot.{Slot}
+
+-- a border of a layer: the least slice that may stand in it, the border to the right, the version,
+-- the live entries in key order, and what the unused slots hold in the order in which they are taken
+pub record BorderView : Type 0 where
+  pub layer : ℕ
+  pub low : ℕ
+  pub right : Option RightLink
+  pub version : VersionView
+  pub live : List Entry
+  pub unused : List Slot
+
+-- what slots hold, without whether they held a key
+abbrev pub entries_of : List Slot → List Entry
+entries_of slots = map (λ slot. slot.entry) slots
+
+-- what is seen of a border with these slots
+abbrev pub border_view : ℕ → ℕ → Option RightLink → VersionView → TableView → BorderView
+border_view layer low right version table = record {
+  layer = layer;
+  low = low;
+  right = right;
+  version = version;
+  live = entries_of table.live;
+  unused = table.unused;
+}
+
+-- the version of a new border, locked or not
+abbrev pub new_version : Bool → VersionView
+new_version locked = record {
+  locked = locked;
+  inserting = false;
+  splitting = false;
+  deleted = false;
+  border = true;
+  vinsert = 0;
+  vsplit = 0;
+}
+
+-- a border with no live entry, whose slots never held a key
+abbrev pub new_border : ℕ → ℕ → Bool → BorderView
+new_border layer low locked = record {
+  layer = layer;
+  low = low;
+  right = None;
+  version = new_version locked;
+  live = [];
+  unused = replicate 15 blank_slot;
+}
+
+-- the slot of an entry that was live
+abbrev pub left_slot : Entry → Slot
+left_slot entry = record { entry = entry; held_key = true }
+
+-- the slots of these entries, which were live
+abbrev pub left_slots : List Entry → List Slot
+left_slots entries = map left_slot entries
+
+-- whether the first of these slots held a key
+abbrev pub first_held : List Slot → Bool
+first_held [] = false
+first_held (slot ∷ slots) = slot.held_key
+
+-- the row that the first of these slots holds, if it holds one
+abbrev pub next_row : List Slot → Option Row
+next_row [] = None
+next_row (slot ∷ slots) = entry_row slot.entry
+
+-- the row of the entry at a place, if there is one
+abbrev pub first_row : List Entry → Option Row
+first_row [] = None
+first_row (entry ∷ entries) = entry_row entry
+
+abbrev pub row_at : ℕ → List Entry → Option Row
+row_at place live = first_row (drop place live)
+
+-- the suffix of the entry at a place, if there is one
+abbrev pub first_suffix : List Entry → Option (List ℕ)
+first_suffix [] = None
+first_suffix (entry ∷ entries) = entry_suffix entry
+
+abbrev pub suffix_at : ℕ → List Entry → Option (List ℕ)
+suffix_at place live = first_suffix (drop place live)
+
+-- a filling would raise a counter that is at its greatest value
+abbrev pub fill_is_spent : BorderView → Bool
+fill_is_spent b = first_held b.unused && (b.version.vinsert == 2 ^ 56 - 1)
+
+-- the version, after a slot was filled that held a key before, or did not
+abbrev pub filled_version : Bool → VersionView → VersionView
+filled_version true v = record v { vinsert = v.vinsert + 1 }
+filled_version false v = v
+
+-- the border once the first unused slot holds this entry
+abbrev pub with_filled : BorderView → Entry → BorderView
+with_filled b entry = record b {
+  version = filled_version (first_held b.unused) b.version;
+  unused = first_changed (λ slot. record slot { entry = entry }) b.unused;
+}
+
+-- the border once what the first unused slot holds is live at a place, its row made by the commit of this number
+abbrev pub with_shown : BorderView → ℕ → ℕ → BorderView
+with_shown b place version = record b {
+  live = take place b.live ++ (map (λ slot. at_version version slot.entry) (take 1 b.unused) ++ drop place b.live);
+  unused = drop 1 b.unused;
+}
+
+-- the border once the slot of the entry at a place is the first unused one
+abbrev pub with_hidden : BorderView → ℕ → BorderView
+with_hidden b place = record b {
+  live = remove b.live place;
+  unused = left_slots (take 1 (drop place b.live)) ++ b.unused;
+}
+
+-- the border once the entry at a place has another row
+abbrev pub with_value : BorderView → ℕ → Row → BorderView
+with_value b place row = record b { live = changed_at place (with_row row) b.live }
+
+-- the border once the entry at a place is a link
+abbrev pub with_link_at : BorderView → ℕ → NodeNo → BorderView
+with_link_at b place head = record b { live = changed_at place (with_link head) b.live }
+
+-- the border, which had no live entry, once these are live and this is to its right
+abbrev pub with_entries : BorderView → List Entry → Option RightLink → BorderView
+with_entries b entries right = record b { live = entries; unused = drop (length entries) b.unused; right = right }
+
+-- the border once only the first so many entries are live, and the others are to its right
+abbrev pub with_split : BorderView → ℕ → RightLink → BorderView
+with_split b keep right = record b {
+  live = take keep b.live;
+  unused = left_slots (drop keep b.live) ++ b.unused;
+  right = Some right;
+  version = record b.version { vsplit = b.version.vsplit + 1 };
+}
+
+abbrev pub with_right : BorderView → Option RightLink → BorderView
+with_right b right = record b { right = right }
+
+abbrev pub with_lock : BorderView → Bool → BorderView
+with_lock b locked = record b { version = record b.version { locked = locked } }
+
+abbrev pub with_deleted : BorderView → BorderView
+with_deleted b = record b { version = record b.version { deleted = true } }
+
+-- the border to the right, where a slice stands there or beyond
+abbrev pub right_for : Option RightLink → ℕ → Option NodeNo
+right_for None slice = None
+right_for (Some link) slice = if nat_le link.low slice then Some link.node else None

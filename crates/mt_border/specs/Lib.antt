@@ -1,0 +1,7 @@
+-- What the contracts of this crate cite.
+pub mod Entry
+pub mod Table
+pub mod Border
+pub mod Order
+pub mod Find
+pub mod Cut

@@ -1,0 +1,55 @@
+-- The invariant of a border.
+use Rattle.std.specs.Prelude.{◌≡◌, ℕ, ◌+◌, ◌<◌, ◌≤◌, List, [], ◌∷◌, length, true, Option, Some, None}
+use Rattle.std.specs.List.{All, AllPairs}
+use Rattle.mt_word.specs.Version.{IsVersion}
+use Rattle.mt_border.specs.Entry.{entry_rank, IsEntry}
+use Rattle.mt_border.specs.Border.{BorderView}
+use Rattle.mt_border.specs.Table.{TableView}
+use Rattle.mt_border.specs.declared.entry.Entry.{Entry}
+use Rattle.mt_border.specs.declared.entry.RightLink.{RightLink}
+use Rattle.mt_border.specs.declared.slot_table.Slot.{Slot}
+
+-- each entry comes before those after it
+pub record IsOrdered (live : List Entry) : Type 0 where
+  pub pairs : AllPairs (λ entry later. entry_rank entry < entry_rank later) live
+
+pub record AreEntries (entries : List Entry) : Type 0 where
+  pub each : All IsEntry entries
+
+pub record HoldEntries (slots : List Slot) : Type 0 where
+  pub each : All (λ slot. IsEntry slot.entry) slots
+
+-- each slice is at least this
+pub record AreFrom (low : ℕ) (live : List Entry) : Type 0 where
+  pub each : All (λ entry. low ≤ entry.slice) live
+
+-- each slice is below this
+pub record AreBelow (bound : ℕ) (live : List Entry) : Type 0 where
+  pub each : All (λ entry. entry.slice < bound) live
+
+-- what stands to the right is above the least slice and above each live entry
+abbrev pub IsLeftOf : ℕ → List Entry → Option RightLink → Type 0
+IsLeftOf low live None = Unit {0}
+IsLeftOf low live (Some link) = (low < link.low) × AreBelow link.low live
+
+-- what holds of every border
+pub record IsBorder (b : BorderView) : Type 0 where
+  pub fifteen : length b.live + length b.unused ≡ 15
+  pub ordered : IsOrdered b.live
+  pub entries : AreEntries b.live
+  pub held_back : HoldEntries b.unused
+  pub from_low : AreFrom b.low b.live
+  pub left_of : IsLeftOf b.low b.live b.right
+  pub deleted_empty : b.version.deleted ≡ true → b.live ≡ []
+  pub border : b.version.border ≡ true
+  pub counters : IsVersion b.version
+
+-- each of these slots held a key
+abbrev pub AllHeld : List Slot → Type 0
+AllHeld [] = Unit {0}
+AllHeld (slot ∷ slots) = (slot.held_key ≡ true) × AllHeld slots
+
+-- what holds of every border's fields
+pub record IsSound (b : BorderView) (table : TableView) : Type 0 where
+  pub held : AllHeld table.live
+  pub border : IsBorder b

@@ -1,0 +1,451 @@
+//! The border itself.
+
+ghost use Rattle.std.specs.Prelude.{◌≡◌, ℕ, ◌+◌, ◌-◌, ◌*◌, ◌^◌, ◌==◌, nat_lt, ◌<◌, ◌≤◌, ◌↔◌, ◌∷◌, ◌++◌, length, take, drop, slice_get, Some, None, IsSome, IsErr, IsTrue, OnOk, OnErr, IfOk, IfErr, true, false, []};
+ghost use Rattle.std.specs.List.{list_any, prefix_len};
+ghost use Rattle.std.specs.Bool.{IsFalse};
+ghost use Rattle.mt_word.specs.Version.{IsVersion};
+ghost use Rattle.mt_border.specs.Entry.{IsEntry, entry_rank};
+ghost use Rattle.mt_border.specs.Border.{new_border, with_filled, with_shown, with_hidden, with_value, with_link_at, with_entries, with_split, with_right, with_lock, with_deleted, right_for, row_at, suffix_at, fill_is_spent, filled_version, next_row};
+ghost use Rattle.mt_border.specs.Order.{IsBorder, IsLeftOf, AreBelow};
+ghost use Rattle.mt_border.specs.Find.{entries_before, found_in, found_content};
+ghost use Rattle.mt_border.specs.Cut.{IsBestCut, IsCut};
+
+use crate::entry::{Content, Entry, RightLink};
+use crate::found::Found;
+use crate::slot_table::SlotTable;
+use mt_slice::Class;
+use mt_types::copying::TryCopy;
+use mt_types::items::Items;
+use mt_types::numbers::NodeNo;
+use mt_types::refusal::{NoMemory, Refusal};
+use mt_types::row::Row;
+use mt_word::{SLOTS, Version};
+use std::alloc::Global;
+use std::cmp::Ordering;
+use std::marker::Model;
+
+// The place nearest to which a full border is cut in two.
+const MIDDLE: usize = 8;
+
+/// A border node: at most fifteen live entries of one layer, in the order of their slices and classes.
+///
+/// An entry is written into an unused slot, and becomes live or is hidden by the permutation alone
+/// (Masstree, EuroSys 2012, section 4.6.2). The slots lie in the border itself.
+#[derive(Drop)]
+pub struct Border {
+    layer: u8,
+    low: u64,
+    right: Option<RightLink>,
+    version: Version,
+    table: SlotTable,
+}
+
+impl Model for Border {
+    ghost use Rattle.mt_border.specs.Border.{BorderView, border_view};
+    ghost use Rattle.mt_border.specs.Order.{IsSound};
+
+    ghost Value = { BorderView };
+
+    ghost view = { λ b. border_view b.layer b.low b.right b.version b.table };
+
+    ghost invariant = { λ b. IsSound (border_view b.layer b.low b.right b.version b.table) b.table };
+}
+
+// The version after a slot was filled, which held a key before or did not.
+fn version_filled(version: Version, held_key: bool) -> Result<Version, Refusal>
+    ensures ok { IfOk result (λ raised. raised ≡ filled_version held_key version) }
+    ensures whole { IfOk result IsVersion }
+    ensures spent { IsErr result ↔ ((held_key ≡ true) × (version.vinsert ≡ 2 ^ 56 - 1)) }
+    ensures only { IfErr result (λ refusal. refusal ≡ Refusal.Spent) }
+{
+    let mut raised = version;
+    if held_key && raised.bump_insert().is_err() {
+        return Err(Refusal::Spent);
+    }
+    let _counters = raised.vinsert();
+    Ok(raised)
+}
+
+// The version after a split.
+fn version_split(version: Version) -> Version
+    requires { version.vsplit < 2 ^ 64 - 1 }
+    ensures { result ≡ record version { vsplit = version.vsplit + 1 } }
+{
+    let mut raised = version;
+    match raised.bump_split() {
+        Ok(()) => raised,
+        Err(_) => unreachable!(),
+    }
+}
+
+// Whether the entry stands before this slice and the class of this number.
+fn is_before(entry: &Entry, slice: u64, class: u8) -> bool
+    requires { class < 10 }
+    ensures { result ≡ nat_lt (entry_rank entry.now) (slice * 10 + class) }
+{
+    let own = entry.class().number();
+    entry.slice < slice || entry.slice == slice && own < class
+}
+
+// Whether the entry stands at this slice and the class of this number.
+fn stands_at(entry: &Entry, slice: u64, class: u8) -> bool
+    requires { class < 10 }
+    ensures { result ≡ (entry_rank entry.now == slice * 10 + class) }
+{
+    let own = entry.class().number();
+    entry.slice == slice && own == class
+}
+
+// What this content, at a place, is to a key with this suffix.
+fn found_content(content: &Content, place: usize, suffix: &[u8]) -> Found
+    ensures { result ≡ found_content suffix.now place content.now }
+{
+    match content {
+        Content::Short(_, _) => Found::Row(place),
+        Content::Long(held, _) => {
+            if held.as_slice() == suffix {
+                Found::Row(place)
+            } else {
+                Found::OtherSuffix(place)
+            }
+        }
+        Content::Link(head) => Found::Link(place, *head),
+    }
+}
+
+impl Border {
+    /// A border of a layer with no live entry, unlocked, with nothing to its right, for the slices from `low` on.
+    /// It allocates nothing.
+    pub fn new(alloc: Global, layer: u8, low: u64) -> Border
+        ensures value { result ≡ new_border layer low false }
+        ensures sound { IsBorder result }
+    {
+        Border {
+            layer,
+            low,
+            right: None,
+            version: Version::new_border(),
+            table: SlotTable::new(alloc),
+        }
+    }
+
+    /// A border as `new` makes it, but locked. It allocates nothing.
+    pub fn new_locked(alloc: Global, layer: u8, low: u64) -> Border
+        ensures value { result ≡ new_border layer low true }
+        ensures sound { IsBorder result }
+    {
+        let mut border = Border::new(alloc, layer, low);
+        border.lock();
+        border
+    }
+
+    /// The layer of the border. Constant cost.
+    pub fn layer(&self) -> u8
+        ensures value { result ≡ self.now.layer }
+        ensures sound { IsBorder self.now }
+    {
+        self.layer
+    }
+
+    /// The least slice that may stand here. Constant cost.
+    pub fn low(&self) -> u64
+        ensures value { result ≡ self.now.low }
+        ensures sound { IsBorder self.now }
+    {
+        self.low
+    }
+
+    /// The border to the right, if there is one, and the least slice that may stand there. Constant cost.
+    pub fn right(&self) -> Option<RightLink>
+        ensures value { result ≡ self.now.right }
+        ensures sound { IsBorder self.now }
+    {
+        let Border { right, .. } = self;
+        *right
+    }
+
+    /// How many entries are live. Constant cost.
+    #[inline]
+    pub fn len(&self) -> usize
+        ensures value { result ≡ length self.now.live }
+        ensures within { result ≤ 15 }
+        ensures sound { IsBorder self.now }
+    {
+        self.table.len()
+    }
+
+    /// Whether no slot is unused. Constant cost.
+    pub fn is_full(&self) -> bool
+        ensures full { IsTrue result ↔ (length self.now.live ≡ 15) }
+        ensures room { IsFalse result ↔ (length self.now.live < 15) }
+        ensures sound { IsBorder self.now }
+    {
+        self.len() == SLOTS
+    }
+
+    /// Whether the border is locked. Constant cost.
+    pub fn is_locked(&self) -> bool
+        ensures value { result ≡ self.now.version.locked }
+        ensures sound { IsBorder self.now }
+    {
+        self.version.is_locked()
+    }
+
+    /// Whether the border is deleted. Constant cost.
+    pub fn is_deleted(&self) -> bool
+        ensures value { result ≡ self.now.version.deleted }
+        ensures sound { IsBorder self.now }
+    {
+        self.version.deleted()
+    }
+
+    /// Whether the counter of splits is at its greatest value, 2^64 - 1. Constant cost.
+    pub fn is_split_spent(&self) -> bool
+        ensures spent { IsTrue result ↔ (self.now.version.vsplit ≡ 2 ^ 64 - 1) }
+        ensures left { IsFalse result ↔ (self.now.version.vsplit < 2 ^ 64 - 1) }
+        ensures sound { IsBorder self.now }
+    {
+        self.version.is_split_spent()
+    }
+
+    /// The live entry at a place. Constant cost.
+    #[inline]
+    pub fn entry(&self, place: usize) -> &Entry
+        requires { place < length self.now.live }
+        ensures value { slice_get self.now.live place ≡ Some result.now }
+        ensures whole { IsEntry result.now }
+        ensures sound { IsBorder self.now }
+    {
+        &self.table.live(place).entry
+    }
+
+    /// The border to the right, where this slice stands there or beyond. Constant cost.
+    pub fn right_for(&self, slice: u64) -> Option<NodeNo>
+        ensures value { result ≡ right_for self.now.right slice }
+        ensures sound { IsBorder self.now }
+    {
+        match self.right {
+            Some(link) if link.low <= slice => Some(link.node),
+            _ => None,
+        }
+    }
+
+    /// Locks the border. Constant cost.
+    pub fn lock(&mut self)
+        requires { self.old.version.locked ≡ false }
+        ensures value { self.new ≡ with_lock self.old true }
+        ensures sound { IsBorder self.new }
+    {
+        self.version.lock();
+    }
+
+    /// Unlocks the border. Constant cost.
+    pub fn unlock(&mut self)
+        requires { self.old.version.locked ≡ true }
+        ensures value { self.new ≡ with_lock self.old false }
+        ensures sound { IsBorder self.new }
+    {
+        self.version.unlock();
+    }
+
+    /// Marks the border as deleted, which has no live entry. Constant cost.
+    pub fn mark_deleted(&mut self)
+        requires { self.old.live ≡ [] }
+        ensures value { self.new ≡ with_deleted self.old }
+        ensures sound { IsBorder self.new }
+    {
+        self.version.mark_deleted();
+    }
+
+    // How many live entries come before this slice and the class of this number.
+    fn place_of(&self, slice: u64, class: u8) -> usize
+        requires { class < 10 }
+        ensures value { result ≡ prefix_len (λ entry. nat_lt (entry_rank entry) (slice * 10 + class)) self.now.live }
+        ensures within { result ≤ length self.now.live }
+    {
+        let count = self.len();
+        for place in 0..count {
+            if !is_before(self.entry(place), slice, class) {
+                return place;
+            }
+        }
+        count
+    }
+
+    /// Where an entry of this slice and class is or would be inserted, and what is there for a key with this suffix
+    /// after the slice, which counts for the class `Long` alone.
+    ///
+    /// Looks at each live entry up to that place, compares at most one suffix, and takes no memory (Masstree,
+    /// EuroSys 2012, section 4.6).
+    pub fn find(&self, slice: u64, class: Class, suffix: &[u8]) -> Found
+        ensures value { result ≡ found_in slice class suffix.now self.now.live }
+        ensures within { entries_before slice class self.now.live ≤ length self.now.live }
+        ensures sound { IsBorder self.now }
+    {
+        let number = class.number();
+        let place = self.place_of(slice, number);
+        if place < self.len() {
+            let entry = self.entry(place);
+            if stands_at(entry, slice, number) {
+                return found_content(&entry.content, place, suffix);
+            }
+        }
+        Found::Absent(place)
+    }
+
+    /// Writes an entry into the first unused slot, where it shows nothing. Where that slot held a key, the counter of
+    /// insertions rises by one. Constant cost.
+    ///
+    /// # Errors
+    ///
+    /// `Spent` where that counter would rise and is at its greatest value, 2^56 - 1. Nothing is then changed.
+    pub fn fill_slot(&mut self, entry: Entry) -> Result<(), Refusal>
+        requires { length self.old.live < 15 }
+        ensures filled { OnOk result (self.new ≡ with_filled self.old entry) }
+        ensures unchanged { OnErr result (self.new ≡ self.old) }
+        ensures spent { IsErr result ↔ IsTrue (fill_is_spent self.old) }
+        ensures only { IfErr result (λ refusal. refusal ≡ Refusal.Spent) }
+        ensures sound { IsBorder self.new }
+    {
+        let _class = entry.class();
+        let held_key = self.table.first_unused().held_key;
+        self.version = version_filled(self.version, held_key)?;
+        self.table.fill(entry);
+        Ok(())
+    }
+
+    /// Makes what the first unused slot holds live at this place, its row made by the commit of this number. It is
+    /// visible by the permutation alone. Constant cost.
+    pub fn show(&mut self, place: usize, version: u64)
+        requires room { length self.old.live < 15 }
+        requires within { place ≤ length self.old.live }
+        requires row { IsSome (next_row self.old.unused) }
+        requires sound { IsBorder (with_shown self.old place version) }
+        ensures value { self.new ≡ with_shown self.old place version }
+        ensures sound { IsBorder self.new }
+    {
+        self.table.stamp(version);
+        self.table.mark();
+        self.table.insert_at(place);
+    }
+
+    /// Hides the entry at this place, by the permutation alone. Its slot is then the first unused one, and one that
+    /// held a key. Constant cost.
+    pub fn hide(&mut self, place: usize)
+        requires { place < length self.old.live }
+        ensures value { self.new ≡ with_hidden self.old place }
+        ensures sound { IsBorder self.new }
+    {
+        self.table.remove_at(place);
+    }
+
+    /// Gives the entry at this place, which has a row, another one, and returns the old one. Constant cost.
+    pub fn set_value(&mut self, place: usize, row: Row) -> Row
+        requires within { place < length self.old.live }
+        requires row { IsSome (row_at place self.old.live) }
+        ensures value { self.new ≡ with_value self.old place row }
+        ensures replaced { row_at place self.old.live ≡ Some result }
+        ensures sound { IsBorder self.new }
+    {
+        self.table.set_row(place, row)
+    }
+
+    /// Makes the entry at this place, which is of a longer key, a link to the head of the next layer. Its suffix and
+    /// row are dropped. Constant cost.
+    pub fn make_link(&mut self, place: usize, head: NodeNo)
+        requires within { place < length self.old.live }
+        requires long { IsSome (suffix_at place self.old.live) }
+        ensures value { self.new ≡ with_link_at self.old place head }
+        ensures sound { IsBorder self.new }
+    {
+        self.table.set_link(place, head);
+    }
+
+    /// Copies of the live entries from this place on, which share their bytes. Costs an allocation for the list, and
+    /// at most one for each entry.
+    ///
+    /// # Errors
+    ///
+    /// `NoMemory` where an allocation is refused.
+    pub fn copy_upper(&self, alloc: Global, place: usize) -> Result<Items<Entry>, NoMemory>
+        requires { place ≤ length self.now.live }
+        ensures { IfOk result (λ entries. entries ≡ drop place self.now.live) }
+    {
+        let count = self.len();
+        let mut copies = Vec::with_capacity(alloc, count - place)?;
+        for at in place..count {
+            copies.push(self.entry(at).copy(alloc)?)?;
+        }
+        Ok(Items::from_vec(copies))
+    }
+
+    /// Makes these entries live in a border that never had one, and names what is to its right. Costs a move of each
+    /// entry.
+    pub fn fill(&mut self, entries: Items<Entry>, right: Option<RightLink>)
+        requires empty { self.old.live ≡ [] }
+        requires fresh { list_any (λ slot. slot.held_key) self.old.unused ≡ false }
+        requires sound { IsBorder (with_entries self.old entries right) }
+        ensures value { self.new ≡ with_entries self.old entries right }
+        ensures sound { IsBorder self.new }
+    {
+        self.table.extend(entries.into_vec());
+        self.right = right;
+    }
+
+    /// Keeps the first so many entries live, names the border to the right, where the others are, and raises the
+    /// counter of splits by one (Masstree, EuroSys 2012, section 4.6.4). Constant cost.
+    pub fn link_right(&mut self, keep: usize, right: RightLink)
+        requires within { keep ≤ length self.old.live }
+        requires above_low { self.old.low < right.low }
+        requires above_kept { AreBelow right.low (take keep self.old.live) }
+        requires unspent { self.old.version.vsplit < 2 ^ 64 - 1 }
+        ensures value { self.new ≡ with_split self.old keep right }
+        ensures sound { IsBorder self.new }
+    {
+        self.table.keep_first(keep);
+        self.version = version_split(self.version);
+        self.right = Some(right);
+    }
+
+    /// Names another border to the right, or none. Constant cost.
+    pub fn set_right(&mut self, link: Option<RightLink>)
+        requires { IsLeftOf self.old.low self.old.live link }
+        ensures value { self.new ≡ with_right self.old link }
+        ensures sound { IsBorder self.new }
+    {
+        self.right = link;
+    }
+
+    // Whether the entries of a full border may be cut in two before this place.
+    fn is_cut(&self, place: usize) -> bool
+        requires full { length self.now.live ≡ 15 }
+        requires first { 1 ≤ place }
+        ensures { IsTrue result ↔ IsCut self.now.live place }
+    {
+        place < SLOTS && self.entry(place - 1).slice != self.entry(place).slice
+    }
+
+    /// The place before which a full border is cut in two: from 1 to 14, where the slices on both sides differ, as near
+    /// to 8 as may be, and the smaller of two that are as near. There is one, since a slice has ten classes.
+    ///
+    /// Looks at each entry at most twice, and takes no memory.
+    pub fn cut_place(&self) -> usize
+        requires { length self.now.live ≡ 15 }
+        ensures { IsBestCut self.now.live result }
+    {
+        let is_full = self.is_full();
+        prove!(is_full);
+        for distance in 0..MIDDLE {
+            if self.is_cut(MIDDLE - distance) {
+                return MIDDLE - distance;
+            }
+            if self.is_cut(MIDDLE + distance) {
+                return MIDDLE + distance;
+            }
+        }
+        unreachable!()
+    }
+}
+
+#[cfg(test)]
+mod tests;

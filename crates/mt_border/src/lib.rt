@@ -1,0 +1,11 @@
+//! A border node: at most fifteen entries of one layer in key order, under a permutation.
+#![tactic(auto)]
+
+mod border;
+mod entry;
+mod found;
+mod slot_table;
+
+pub use border::Border;
+pub use entry::{Content, Entry, RightLink, Suffix};
+pub use found::Found;
