@@ -1,4 +1,4 @@
-use Rattle.std.proofs.Common.{◌≡◌, ◌≤◌, ◌<◌, ◌∙◌, sym, subst, length, rules, arith, Option}
+use Rattle.std.proofs.Common.{◌≤◌, ◌<◌, ◌∙◌, sym, subst, length, rules, arith, Option}
 use Rattle.mt_border.specs.Order.{IsBorder}
 use Rattle.mt_border.specs.declared.entry.RightLink.{RightLink}
 use Rattle.mt_border.proofs.ShowLemmas.{IsBeforeRight, filled_shown}
