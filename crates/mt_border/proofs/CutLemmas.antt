@@ -52,7 +52,7 @@ best_above live d small h low cut = record {
       ];
 }
 
-class_below : (content : Content) → IsContent content → class_number (content_class content) ≤ 9
+pub class_below : (content : Content) → IsContent content → class_number (content_class content) ≤ 9
 class_below (Short bytes row) h = omega arith
 class_below (Long suffix row) h = omega arith
 class_below (Link head) h = omega arith

@@ -5,3 +5,4 @@ pub mod BorderLemmas
 pub mod SeenLemmas
 pub mod CutLemmas
 pub mod ShowLemmas
+pub mod SplitLemmas

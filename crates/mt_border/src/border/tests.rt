@@ -1,6 +1,6 @@
-//! Borders by example: insertion orders, a cut, a hidden slot, and each allocating call once.
+//! Borders by example: insertion orders, a cut, a split, a hidden slot, and each allocating call once.
 
-ghost use Rattle.std.specs.Prelude.{◌≡◌};
+ghost use Rattle.std.specs.Prelude.{◌≡◌, ◌<◌, ◌-◌, ◌^◌, length};
 
 use super::*;
 use bytes::Bytes;
@@ -54,11 +54,10 @@ fn equal_padded_slices(rt: HostRuntime) -> Result<(), Fail> {
     Ok(())
 }
 
-#[test]
-fn ten_entries_of_one_slice(rt: HostRuntime) -> Result<(), Fail> {
-    let alloc = rt.alloc();
+// The border of the keys of no to nine zero bytes, and of 01 to 05.
+fn ten_and_five(alloc: Global) -> Result<Border, Fail> {
     let mut border = Border::new(alloc, 0, 0);
-    let zeros: [&'static [u8]; 10] = [
+    let keys: [&'static [u8]; 15] = [
         &[],
         &[0],
         &[0, 0],
@@ -69,20 +68,77 @@ fn ten_entries_of_one_slice(rt: HostRuntime) -> Result<(), Fail> {
         &[0, 0, 0, 0, 0, 0, 0],
         &[0, 0, 0, 0, 0, 0, 0, 0],
         &[0, 0, 0, 0, 0, 0, 0, 0, 0],
+        &[1],
+        &[2],
+        &[3],
+        &[4],
+        &[5],
     ];
-    for key in zeros {
+    for key in keys {
         put(alloc, &mut border, key)?;
     }
-    let ones: [&'static [u8]; 5] = [&[1], &[2], &[3], &[4], &[5]];
-    for key in ones {
-        put(alloc, &mut border, key)?;
-    }
+    Ok(border)
+}
+
+// Cuts a full border in two: fills a new one, of this number, with the upper entries, and links it.
+fn split(alloc: Global, border: &mut Border, node: NodeNo) -> Result<Border, Fail>
+    requires full { length border.old.live ≡ 15 }
+    requires unspent { border.old.version.vsplit < 2 ^ 64 - 1 }
+{
+    let cut = border.cut_place();
+    let low = border.entry(cut).slice;
+    let mut upper = Border::new_locked(alloc, border.layer(), low);
+    upper.fill(border.copy_upper(alloc, cut)?, border.right());
+    border.link_right(cut, RightLink { low, node });
+    Ok(upper)
+}
+
+#[test]
+fn ten_entries_of_one_slice(rt: HostRuntime) -> Result<(), Fail> {
+    let alloc = rt.alloc();
+    let border = ten_and_five(alloc)?;
     assert!(rt; border.is_full());
     assert_eq!(rt; border.cut_place(), 10);
     assert_eq!(rt; border.find(0, Class::Long, &[0]), Found::Row(9));
     assert_eq!(rt; border.find(0, Class::Long, &[1]), Found::OtherSuffix(9));
     let upper = border.copy_upper(alloc, 10)?;
     assert_eq!(rt; upper.as_slice().len(), 5);
+    Ok(())
+}
+
+#[test]
+fn split_of_ten_entries_of_one_slice(rt: HostRuntime) -> Result<(), Fail> {
+    let alloc = rt.alloc();
+    let mut lower = ten_and_five(alloc)?;
+    assert!(rt; lower.is_full());
+    assert!(rt; !lower.is_split_spent());
+    let upper = split(alloc, &mut lower, NodeNo(2))?;
+    assert_eq!(rt; upper.low(), 0x0100_0000_0000_0000);
+    assert_eq!(rt; upper.right(), None);
+    assert_eq!(rt; upper.table.word(), 0xedcb_a987_6543_2105);
+    assert_eq!(rt; lower.table.word(), 0xedcb_a987_6543_210a);
+    assert_eq!(rt; lower.version.vsplit(), 1);
+    assert_eq!(rt; lower.right_for(0x00ff_ffff_ffff_ffff), None);
+    assert_eq!(rt; lower.right_for(0x0100_0000_0000_0000), Some(NodeNo(2)));
+    lower.set_right(None);
+    assert_eq!(rt; lower.right(), None);
+    Ok(())
+}
+
+#[test]
+fn sixteenth_key_after_a_split(rt: HostRuntime) -> Result<(), Fail> {
+    let alloc = rt.alloc();
+    let mut lower = ten_and_five(alloc)?;
+    assert!(rt; lower.is_full());
+    assert!(rt; !lower.is_split_spent());
+    let mut upper = split(alloc, &mut lower, NodeNo(2))?;
+    put(alloc, &mut upper, &[6])?;
+    assert_eq!(rt; upper.table.word(), 0xedcb_a987_6543_2106);
+    let slices: [u64; 6] = [1 << 56, 2 << 56, 3 << 56, 4 << 56, 5 << 56, 6 << 56];
+    for (place, slice) in slices.iter().enumerate() {
+        let found = upper.find(*slice, Class::Len(Length::new(1)), &[]);
+        assert_eq!(rt; found, Found::Row(place));
+    }
     Ok(())
 }
 
