@@ -1,7 +1,7 @@
 //! The rows of an index as one sorted map: the plain reference by which the index is tested and checked.
 #![tactic(auto)]
 
-mod columns;
+pub mod columns;
 pub mod rows;
 #[cfg(test)]
 mod tests;

@@ -1,0 +1,12 @@
+//! The arena: each node of the tree under its number, and the numbers of those that are retired.
+#![tactic(auto)]
+
+mod arena;
+mod node;
+mod retired;
+#[cfg(test)]
+mod tests;
+
+pub use arena::Arena;
+pub use node::Node;
+pub use retired::Retired;

@@ -1,0 +1,12 @@
+-- Lemmas of the machine.
+pub mod NumberLemmas
+pub mod PairedLemmas
+pub mod SearchLemmas
+pub mod TableLemmas
+pub mod FillLemmas
+pub mod ContentLemmas
+pub mod StepLemmas
+pub mod EventLemmas
+pub mod GoLemmas
+pub mod WriteStands
+pub mod StepStands

@@ -1,0 +1,44 @@
+-- The state of a view as its contracts see it: what a delta makes of it, what it shows, and when it is afresh.
+use Rattle.std.specs.Prelude.{ℕ, ◌≡◌, if◌then◌else◌, List, length, Option, Some, None}
+use Rattle.std.specs.FinMap.{entries, insert, remove}
+use Rattle.mt_types.specs.Rows.{Rows}
+use Rattle.mt_types.specs.Views.{afresh, belongs, column_sums, page_from}
+use Rattle.mt_types.specs.declared.row.Row.{Row}
+use Rattle.mt_types.specs.declared.row.Delta.{Delta}
+use Rattle.mt_types.specs.declared.view.Page.{Page}
+use Rattle.mt_types.specs.declared.view.ViewSpec.{ViewSpec}
+
+pub record StateSeen : Type 0 where
+  pub spec : ViewSpec  -- which rows it is to hold
+  pub columns : ℕ  -- how many columns it sums
+  pub at : ℕ  -- the number of the commit at which it stands
+  pub rows : Rows  -- the rows that it holds
+
+-- the rows with this row under a key, or none
+abbrev pub with_row : List ℕ → Option Row → Rows → Rows
+with_row key None rows = remove rows key
+with_row key (Some row) rows = insert rows key row
+
+-- the rows after a delta, from those before it
+abbrev pub redo : Delta → Rows → Rows
+redo delta rows = with_row delta.key delta.after rows
+
+-- the row under a key, where it belongs to the view
+abbrev pub belonging : ViewSpec → List ℕ → Option Row → Option Row
+belonging spec key None = None
+belonging spec key (Some row) = if belongs spec (key, row) then Some row else None
+
+-- the state after a delta: its row after stands under its key where it belongs to the view, and else no row does
+abbrev pub applied : Delta → StateSeen → StateSeen
+applied delta state =
+    record state { at = delta.number; rows = with_row delta.key (belonging state.spec delta.key delta.after) state.rows }
+
+-- the state holds what its view shows of these rows
+abbrev pub IsAfresh : StateSeen → Rows → Type 0
+IsAfresh state rows = entries state.rows ≡ afresh state.spec rows
+
+-- the first rows of the state from a key on, up to a limit, with its number, its count and its sums
+abbrev pub page_of_state : StateSeen → List ℕ → ℕ → Page
+page_of_state state start limit =
+    let pairs = entries state.rows in
+    record { at = state.at; count = length pairs; sums = column_sums 0 state.columns pairs; rows = page_from start limit pairs }

@@ -1,0 +1,19 @@
+//! What holds of the states of views, as laws. Their bodies do nothing.
+
+ghost use Rattle.mt_view.specs.Laws.{AfreshByKey, AppliedIsAfresh, ShowsPage};
+
+/// A state is afresh for some rows exactly where it holds, under each key, the row that stands there, if that belongs to
+/// the view.
+pub fn afresh_is_told_by_key()
+    ensures { AfreshByKey }
+{}
+
+/// A state that is afresh for some rows is, after a delta, afresh for the rows with that delta.
+pub fn deltas_keep_afresh()
+    ensures { AppliedIsAfresh }
+{}
+
+/// The state of a standing view shows exactly the page of that view.
+pub fn states_show_pages()
+    ensures { ShowsPage }
+{}
