@@ -70,7 +70,7 @@ inserted_ranked rank r (suc i) (entry ∷ entries) x is none =
     ∙ swap_conds (r == rank) (entry_rank entry == rank) (entry_row x) (entry_row entry) (row_ranked rank entries)
     (λ same. eqb-ne _ _ (λ e. none.0 (e ∙ sym (eqb-true _ _ same))))
 
-next_one : (version : ℕ) (slots : List Slot) (entry : Entry) → next_entry slots ≡ Some entry → map (λ slot. at_version version slot.entry) (take 1 slots) ≡ at_version version entry ∷ []
+pub next_one : (version : ℕ) (slots : List Slot) (entry : Entry) → next_entry slots ≡ Some entry → map (λ slot. at_version version slot.entry) (take 1 slots) ≡ at_version version entry ∷ []
 next_one version [] entry e = absurd (cc)
 next_one version (slot ∷ slots) entry e = let same : slot.entry ≡ entry = cc in ap (λ (x : Entry). at_version version x ∷ []) same
 

@@ -1,5 +1,5 @@
 -- What an event leaves of where a machine stands, and the begins of calls.
-use Rattle.std.proofs.Common.{◌≡◌, ◌≢◌, ◌≤◌, ◌+◌, ℕ, cond, List, [], ◌∷◌, ◌++◌, length, reverse, Option, Some, None, sym, ◌∙◌, ap, subst, refl, arith, inl, inr, lit≤}
+use Rattle.std.proofs.Common.{◌≡◌, ◌≢◌, ◌≤◌, ◌+◌, ℕ, cond, List, [], ◌∷◌, ◌++◌, length, reverse, Option, Some, None, IsSome, sym, ◌∙◌, ap, subst, refl, arith, inl, inr, lit≤}
 use Rattle.std.specs.Option.{is_some}
 use Rattle.std.proofs.lemmas.Bool.Decides.{eqb_tells}
 use Rattle.std.specs.FinMap.{get, get-empty}
@@ -25,6 +25,8 @@ use Rattle.mt_machine.specs.declared.table.Writer.{Writer}
 use Rattle.mt_machine.specs.declared.table.Stage.{Stage}
 use Rattle.mt_machine.specs.Calls.{call_at}
 use Rattle.mt_machine.specs.Content.{row_of}
+use Rattle.mt_types.specs.declared.row.Row.{Row}
+use Rattle.mt_machine.specs.Scan.{AreKeyEntries}
 use Rattle.mt_machine.specs.Table.{TableSeen, new_table}
 use Rattle.mt_machine.specs.Seen.{Seen, IsServedRequest, Begins, request_of, with_call, fault_of}
 use Rattle.mt_machine.specs.Stands.{Stands, CallStands, Paired, WriterStands, IsWriting, commit_of, commit_at}
@@ -64,6 +66,8 @@ quiet s h x u entries st may commits begun live held deltas calls locked writer 
       commits = ap (λ (n : ℕ). n + length u.log.deltas) held ∙ ap (λ (ds : List Delta). s.table.log.held_after + length ds) deltas ∙ st.commits ∙ ap length (sym commits);
       begun = st.begun ∙ sym begun;
       content = λ key bytes. ap (λ (l : List Entry). row_of key l) live ∙ st.content key bytes ∙ ap (λ (rs : Rows). get rs key) (sym same_rows);
+      keys = subst AreKeyEntries (sym live) st.keys;
+      end_here = λ key some. st.end_here key (subst (λ (rs : Rows). IsSome (get rs key)) same_rows some);
       logged = subst (λ (ds : List Delta). FitsNewestFirst (reverse ds) (rows s.columns (moment (x ∷ h)))) (sym deltas) (subst (λ (rs : Rows). FitsNewestFirst (reverse s.table.log.deltas) rs) (sym same_rows) st.logged);
       calls = calls;
       locked = locked;
@@ -90,7 +94,8 @@ fault-same C b b' o o' places (PutRequest key sets) served e f =
     ap (λ x. begin_fault C x o 0 (PutRequest key sets)) e ∙ ap (λ x. begin_fault C b' x 0 (PutRequest key sets)) f
 fault-same C b b' o o' places (Remove key) served e f =
     ap (λ x. begin_fault C x o 0 (Remove key)) e ∙ ap (λ x. begin_fault C b' x 0 (Remove key)) f
-fault-same C b b' o o' places (Range start limit asked) served e f = absurd served
+fault-same C b b' o o' places (Range start limit asked) served e f =
+    ap (λ x. begin_fault C x o 0 (Range start limit asked)) e ∙ ap (λ x. begin_fault C b' x 0 (Range start limit asked)) f
 fault-same C b b' o o' places (Tidy key) served e f = absurd served
 fault-same C b b' o o' places (Build spec) served e f = absurd served
 
@@ -151,6 +156,8 @@ called s pass request task h served st none is =
       commits = st.commits;
       begun = ap (λ (n : ℕ). n + 1) st.begun;
       content = st.content;
+      keys = st.keys;
+      end_here = st.end_here;
       logged = st.logged;
       calls = paired-append (CallStands s.table.writer (x ∷ h)) 0 s.calls.begun s.calls.calls (moment h).calls _ _
           (paired-above 0 (CallStands s.table.writer h) (CallStands s.table.writer (x ∷ h)) (λ k c ne f. call-later s.table.writer s.table.writer x h k c refl f) 0 s.calls.begun s.calls.calls (moment h).calls (lit≤ tt) st.calls) refl refl
@@ -190,6 +197,10 @@ begins-stands s t pass request Dropped h served b st = absurd b
 begins-stands s t pass request (Epoch n) h served b st = absurd b
 begins-stands s t pass request (Freed n) h served b st = absurd b
 
+-- there is no row in no rows
+no-row : (key : List ℕ) → IsSome (get (rows 0 (moment [])) key) → ⊥
+no-row key some = (let none : (let nothing : Option Row = None in IsSome nothing) = subst (λ (r : Option Row). IsSome r) (get-empty key_cmp key) some in cc)
+
 -- an empty machine stands where nothing has happened
 pub opens-stands : (C : ℕ) → Stands (record { columns = C; table = new_table; calls = record { begun = 0; calls = [] } }) []
 opens-stands C = record {
@@ -197,6 +208,8 @@ opens-stands C = record {
   commits = refl;
   begun = refl;
   content = λ key bytes. sym (get-empty key_cmp key);
+  keys = tt;
+  end_here = λ key some. absurd (no-row key some);
   logged = tt;
   calls = omega arith;
   locked = refl;

@@ -9,7 +9,7 @@ use Rattle.mt_types.specs.declared.refusal.Refusal.{Refusal}
 use Rattle.mt_types.specs.declared.event.Event.{Event}
 use Rattle.mt_types.specs.declared.event.Event.TheVariants.{Step}
 use Rattle.mt_types.specs.declared.event.Request.{Request}
-use Rattle.mt_types.specs.declared.event.Request.TheVariants.{Get as GetRequest}
+use Rattle.mt_types.specs.declared.event.Request.TheVariants.{Get as GetRequest, Range as RangeRequest}
 use Rattle.mt_types.specs.declared.event.Answer.{Answer}
 use Rattle.mt_types.specs.declared.event.Outcome.{Outcome}
 use Rattle.mt_types.specs.declared.event.Outcome.TheVariants.{Moved, Refused}
@@ -19,18 +19,21 @@ use Rattle.mt_types.specs.RightAnswers.{RightAnswer, Lacks, Shows}
 use Rattle.mt_types.specs.Legal.{MayStepAt, MayStep, MayEnd}
 use Rattle.mt_types.proofs.HistoryLemmas.{Sometime-here}
 use Rattle.mt_machine.specs.declared.calls.Call.{Call}
-use Rattle.mt_machine.specs.declared.calls.Task.TheVariants.{Get, Write}
+use Rattle.mt_machine.specs.declared.calls.Task.{Task}
+use Rattle.mt_types.specs.declared.refusal.Refusal.TheVariants.{NoMemory}
+use Rattle.mt_machine.specs.declared.calls.Task.TheVariants.{Get, Write, Range}
 use Rattle.mt_machine.specs.declared.calls.Visit.TheVariants.{Head, Border}
 use Rattle.mt_machine.specs.declared.progress.Progress.{Progress}
 use Rattle.mt_machine.specs.declared.progress.Progress.TheVariants.{Moved as GoesOn, Waits, Committed, Answered, Refused as EndsRefused}
 use Rattle.mt_machine.specs.declared.table.Writer.{Writer}
 use Rattle.mt_machine.specs.Calls.{call_at, with_changed, without}
 use Rattle.mt_machine.specs.Table.{TableSeen}
-use Rattle.mt_machine.specs.Seen.{Seen, GetVisits, answer_of, outcome_of, after_visit, request_of, at_border, without_call as end_call}
+use Rattle.mt_machine.specs.Seen.{Seen, GetVisits, RangeVisits, answer_of, outcome_of, after_visit, request_of, at_border, without_call as end_call}
 use Rattle.mt_machine.specs.Stands.{Stands, CallStands, Paired, WriterStands, IsWriting, commit_of}
 use Rattle.mt_machine.proofs.NumberLemmas.{call_at-changed, call_at-without}
 use Rattle.mt_machine.proofs.PairedLemmas.{Found, paired-change, paired-without}
 use Rattle.mt_machine.proofs.EventLemmas.{commit_of-other, call-later, with_parts, quiet}
+use Rattle.mt_machine.proofs.RangeRight.{right_range}
 
 abbrev pub step_event : ℕ → Event
 step_event n = Step (record { 0 = n })
@@ -143,44 +146,75 @@ head-stands s n h kept st at f head =
     (head-may s h f.call (f.related.fresh head)) refl refl refl refl (λ same. absurd (cc)) refl refl refl (λ k. refl) st.locked
     (head-writer s n kept s.table.writer at head st.writer)
 
--- ---- a get at the border
-get-right : (C : ℕ) (h : History) (call : OpenCall) (key asked : List ℕ) (found : Option Row) → found ≡ get (rows C (moment h)) key → call.began ≤ length h
-    → RightAnswer C h call (GetRequest key asked) (answer_of (option_map (shown asked) found)) 0
-get-right C h call key asked None e b = Sometime-here call.began (Lacks C key) h b (sym e)
-get-right C h call key asked (Some row) e b = Sometime-here call.began (Shows C key asked (shown asked row)) h b (row, sym e, refl)
+-- ---- a call that only reads, at the border
+abbrev pub Reads : Task → Type 0
+Reads (Get key asked) = Unit {0}
+Reads (Write key edit) = ⊥
+Reads (Range start limit asked) = Unit {0}
 
-get-writer : (s : Seen) (n : ℕ) (kept : Call) (key asked : List ℕ) (writer : Option Writer) → call_at n s.calls.calls ≡ Some kept → kept.task ≡ Get key asked → WriterStands s writer
-    → WriterStands (end_call s n) writer
-get-writer s n kept key asked None at is w = tt
-get-writer s n kept key asked (Some writer) at is w =
-    writer-without s n writer (λ same. (let both : Write w.key w.edit ≡ Get key asked = sym w.writes ∙ ap (λ (c : Call). c.task) (same-call s n kept writer at same w) ∙ is in cc)) w
+-- it has not locked the border
+read-apart : (s : Seen) (n : ℕ) (kept : Call) (writer : Writer) → call_at n s.calls.calls ≡ Some kept → Reads kept.task → IsWriting s writer → writer.call ≢ n
+read-apart s n kept writer at reads w same =
+    subst Reads (sym (sym w.writes ∙ ap (λ (c : Call). c.task) (same-call s n kept writer at same w))) reads
 
-no-commit : (s : Seen) (n : ℕ) (kept : Call) (key asked : List ℕ) (writer : Option Writer) → call_at n s.calls.calls ≡ Some kept → kept.task ≡ Get key asked → WriterStands s writer
-    → commit_of n writer ≡ None
-no-commit s n kept key asked None at is w = refl
-no-commit s n kept key asked (Some writer) at is w =
-    commit_of-other n writer.call writer.stage (λ same. (let both : Write w.key w.edit ≡ Get key asked = sym w.writes ∙ ap (λ (c : Call). c.task) (same-call s n kept writer at (sym same) w) ∙ is in cc))
+read-writer : (s : Seen) (n : ℕ) (kept : Call) (writer : Option Writer) → call_at n s.calls.calls ≡ Some kept → Reads kept.task → WriterStands s writer → WriterStands (end_call s n) writer
+read-writer s n kept None at reads w = tt
+read-writer s n kept (Some writer) at reads w = writer-without s n writer (read-apart s n kept writer at reads w) w
 
-pub get-stands : (s : Seen) (n : ℕ) (h : History) (kept : Call) (key asked : List ℕ) (p : Progress) → Stands s h → call_at n s.calls.calls ≡ Some kept → OpenAt s h n kept
-    → kept.task ≡ Get key asked → GetVisits key asked s.table p
-    → Stands (after_visit s n p) (happening (step_event n) (outcome_of n kept s.table p) 0 ∷ h)
-get-stands s n h kept key asked (Answered answer) st at f is v =
+no-commit : (s : Seen) (n : ℕ) (kept : Call) (writer : Option Writer) → call_at n s.calls.calls ≡ Some kept → Reads kept.task → WriterStands s writer → commit_of n writer ≡ None
+no-commit s n kept None at reads w = refl
+no-commit s n kept (Some writer) at reads w = commit_of-other n writer.call writer.stage (λ same. read-apart s n kept writer at reads w (sym same))
+
+read-answers : (s : Seen) (n : ℕ) (h : History) (kept : Call) (answer : Answer) → Stands s h → call_at n s.calls.calls ≡ Some kept → (f : OpenAt s h n kept)
+    → Reads kept.task → RightAnswer s.columns h f.call (request_of kept.task) answer 0
+    → Stands (end_call s n) (happening (step_event n) (outcome_of n kept s.table (Answered answer)) 0 ∷ h)
+read-answers s n h kept answer st at f reads right =
     let r = f.related in
-    let request : f.call.request ≡ GetRequest key asked = r.request ∙ ap request_of is in
     ends s h n kept st at f (outcome_of n kept s.table (Answered answer)) s.table
     (record {
       pass = sym r.pass;
       number = sym f.numbered;
       from = sym r.from;
       to = st.commits;
-      answer = subst (λ (q : Request). RightAnswer s.columns h f.call q answer 0) (sym request)
-          (subst (λ (a : Answer). RightAnswer s.columns h f.call (GetRequest key asked) a 0) (sym v.1) (get-right s.columns h f.call key asked _ (st.content key v.0) r.began));
+      answer = subst (λ (q : Request). RightAnswer s.columns h f.call q answer 0) (sym r.request) right;
     })
-    refl refl refl refl refl refl (λ k ne. refl) st.locked (get-writer s n kept key asked s.table.writer at is st.writer)
-get-stands s n h kept key asked (EndsRefused refusal) st at f is v =
+    refl refl refl refl refl refl (λ k ne. refl) st.locked (read-writer s n kept s.table.writer at reads st.writer)
+
+read-fails : (s : Seen) (n : ℕ) (h : History) (kept : Call) (refusal : Refusal) → Stands s h → call_at n s.calls.calls ≡ Some kept → OpenAt s h n kept
+    → Reads kept.task → refusal ≡ NoMemory → Stands (end_call s n) (happening (step_event n) (Refused refusal) 0 ∷ h)
+read-fails s n h kept refusal st at f reads is =
     ends s h n kept st at f (Refused refusal) s.table
-    (f.related.committed ∙ no-commit s n kept key asked s.table.writer at is st.writer, subst (λ (z : Refusal). MayEnd h f.call.began f.call.request z) (sym v) tt)
-    refl refl refl refl refl refl (λ k ne. refl) st.locked (get-writer s n kept key asked s.table.writer at is st.writer)
+    (f.related.committed ∙ no-commit s n kept s.table.writer at reads st.writer, subst (λ (z : Refusal). MayEnd h f.call.began f.call.request z) (sym is) tt)
+    refl refl refl refl refl refl (λ k ne. refl) st.locked (read-writer s n kept s.table.writer at reads st.writer)
+
+-- ---- a get
+get-right : (C : ℕ) (h : History) (call : OpenCall) (key asked : List ℕ) (found : Option Row) → found ≡ get (rows C (moment h)) key → call.began ≤ length h
+    → RightAnswer C h call (GetRequest key asked) (answer_of (option_map (shown asked) found)) 0
+get-right C h call key asked None e b = Sometime-here call.began (Lacks C key) h b (sym e)
+get-right C h call key asked (Some row) e b = Sometime-here call.began (Shows C key asked (shown asked row)) h b (row, sym e, refl)
+
+pub get-stands : (s : Seen) (n : ℕ) (h : History) (kept : Call) (key asked : List ℕ) (p : Progress) → Stands s h → call_at n s.calls.calls ≡ Some kept → OpenAt s h n kept
+    → kept.task ≡ Get key asked → GetVisits key asked s.table p
+    → Stands (after_visit s n p) (happening (step_event n) (outcome_of n kept s.table p) 0 ∷ h)
+get-stands s n h kept key asked (Answered answer) st at f is v =
+    read-answers s n h kept answer st at f (subst Reads (sym is) tt)
+    (subst (λ (t : Task). RightAnswer s.columns h f.call (request_of t) answer 0) (sym is)
+    (subst (λ (a : Answer). RightAnswer s.columns h f.call (GetRequest key asked) a 0) (sym v.1) (get-right s.columns h f.call key asked _ (st.content key v.0) f.related.began)))
+get-stands s n h kept key asked (EndsRefused refusal) st at f is v = read-fails s n h kept refusal st at f (subst Reads (sym is) tt) v
 get-stands s n h kept key asked GoesOn st at f is v = absurd v
 get-stands s n h kept key asked Waits st at f is v = absurd v
 get-stands s n h kept key asked (Committed number) st at f is v = absurd v
+
+-- ---- a range
+pub range-stands : (s : Seen) (n : ℕ) (h : History) (kept : Call) (start : List ℕ) (limit : ℕ) (asked : List ℕ) (p : Progress) → Stands s h → call_at n s.calls.calls ≡ Some kept → OpenAt s h n kept
+    → kept.task ≡ Range start limit asked → RangeVisits start asked limit s.table p
+    → Stands (after_visit s n p) (happening (step_event n) (outcome_of n kept s.table p) 0 ∷ h)
+range-stands s n h kept start limit asked (Answered answer) st at f is v =
+    read-answers s n h kept answer st at f (subst Reads (sym is) tt)
+    (subst (λ (t : Task). RightAnswer s.columns h f.call (request_of t) answer 0) (sym is)
+    (subst (λ (a : Answer). RightAnswer s.columns h f.call (RangeRequest start limit asked) a 0) (sym v.3)
+    (right_range s.columns f.call.began h start asked limit s.table.border.live v.0 v.1 st.keys v.2.ordered.pairs st.content st.end_here f.related.began)))
+range-stands s n h kept start limit asked (EndsRefused refusal) st at f is v = read-fails s n h kept refusal st at f (subst Reads (sym is) tt) v
+range-stands s n h kept start limit asked GoesOn st at f is v = absurd v
+range-stands s n h kept start limit asked Waits st at f is v = absurd v
+range-stands s n h kept start limit asked (Committed number) st at f is v = absurd v

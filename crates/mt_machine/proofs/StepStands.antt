@@ -7,7 +7,7 @@ use Rattle.mt_types.specs.History.{History, happening, moment, after_call_step}
 use Rattle.mt_types.specs.Legal.{MayStepAt}
 use Rattle.mt_machine.specs.declared.calls.Call.{Call}
 use Rattle.mt_machine.specs.declared.calls.Task.{Task}
-use Rattle.mt_machine.specs.declared.calls.Task.TheVariants.{Get, Write}
+use Rattle.mt_machine.specs.declared.calls.Task.TheVariants.{Get, Write, Range}
 use Rattle.mt_machine.specs.declared.calls.Visit.{Visit}
 use Rattle.mt_machine.specs.declared.calls.Visit.TheVariants.{Head, Border}
 use Rattle.mt_machine.specs.declared.progress.Progress.{Progress}
@@ -17,7 +17,7 @@ use Rattle.mt_machine.specs.Seen.{Seen, Steps, StepsOf, StepsTo, Visits, outcome
 use Rattle.mt_machine.specs.Stands.{Stands, CallStands}
 use Rattle.mt_machine.proofs.PairedLemmas.{paired-none, paired-some}
 use Rattle.mt_machine.proofs.EventLemmas.{still}
-use Rattle.mt_machine.proofs.GoLemmas.{step_event, OpenAt, head-stands, get-stands}
+use Rattle.mt_machine.proofs.GoLemmas.{step_event, OpenAt, head-stands, get-stands, range-stands}
 use Rattle.mt_machine.proofs.WriteStands.{write-stands}
 
 -- ---- a step
@@ -27,6 +27,9 @@ visit-stands : (s : Seen) (n : ℕ) (h : History) (kept : Call) (task : Task) (p
 visit-stands s n h kept (Get key asked) p u st at f border is v =
     subst (λ (z : TableSeen). Stands (after_visit (record s { table = z }) n p) (happening (step_event n) (outcome_of n kept z p) 0 ∷ h)) (sym v.1)
     (get-stands s n h kept key asked p st at f is v.0)
+visit-stands s n h kept (Range start limit asked) p u st at f border is v =
+    subst (λ (z : TableSeen). Stands (after_visit (record s { table = z }) n p) (happening (step_event n) (outcome_of n kept z p) 0 ∷ h)) (sym v.1)
+    (range-stands s n h kept start limit asked p st at f is v.0)
 visit-stands s n h kept (Write key edit) p u st at f border is v = write-stands s h n kept key edit st at f border is s.table.writer p u refl v
 
 step-stands : (s t : Seen) (n : ℕ) (h : History) (kept : Call) (visit : Visit) (outcome : Outcome) → Stands s h → call_at n s.calls.calls ≡ Some kept → OpenAt s h n kept

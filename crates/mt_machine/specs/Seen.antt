@@ -5,11 +5,11 @@ use Rattle.mt_types.specs.declared.numbers.PassNo.{PassNo}
 use Rattle.mt_types.specs.declared.event.Event.{Event}
 use Rattle.mt_types.specs.declared.event.Event.TheVariants.{Begin, Step}
 use Rattle.mt_types.specs.declared.event.Request.{Request}
-use Rattle.mt_types.specs.declared.event.Request.TheVariants.{Get as GetRequest, Put as PutRequest, Remove as RemoveRequest}
+use Rattle.mt_types.specs.declared.event.Request.TheVariants.{Get as GetRequest, Put as PutRequest, Remove as RemoveRequest, Range as RangeRequest}
 use Rattle.mt_types.specs.declared.refusal.Refusal.{Refusal}
 use Rattle.mt_types.specs.declared.refusal.Refusal.TheVariants.{NoMemory, NoSuchCall}
 use Rattle.mt_types.specs.declared.event.Answer.{Answer}
-use Rattle.mt_types.specs.declared.event.Answer.TheVariants.{Absent, Found}
+use Rattle.mt_types.specs.declared.event.Answer.TheVariants.{Absent, Found, Rows as RowsAnswer}
 use Rattle.mt_types.specs.declared.event.Outcome.{Outcome}
 use Rattle.mt_types.specs.declared.event.Outcome.TheVariants.{Call as Called, Moved, Again, Commit, Done, Refused}
 use Rattle.mt_types.specs.Rows.{shown}
@@ -18,7 +18,7 @@ use Rattle.mt_slice.specs.Place.{AreBytes}
 use Rattle.mt_commit.specs.Log.{newest}
 use Rattle.mt_machine.specs.declared.short_key.TheConstants.{MAX_SERVED_KEY_BYTES}
 use Rattle.mt_machine.specs.declared.calls.Task.{Task}
-use Rattle.mt_machine.specs.declared.calls.Task.TheVariants.{Get, Write}
+use Rattle.mt_machine.specs.declared.calls.Task.TheVariants.{Get, Write, Range}
 use Rattle.mt_machine.specs.declared.calls.Edit.{Edit}
 use Rattle.mt_machine.specs.declared.calls.Edit.TheVariants.{Put, Remove}
 use Rattle.mt_machine.specs.declared.calls.Visit.{Visit}
@@ -28,7 +28,9 @@ use Rattle.mt_machine.specs.declared.table.Stage.{Stage}
 use Rattle.mt_machine.specs.declared.progress.Progress.{Progress}
 use Rattle.mt_machine.specs.declared.progress.Progress.TheVariants.{Moved as GoesOn, Waits, Committed, Answered, Refused as EndsRefused}
 use Rattle.mt_machine.specs.Calls.{CallsSeen, call_at, reached, without}
+use Rattle.mt_border.specs.Order.{IsBorder}
 use Rattle.mt_machine.specs.Content.{row_of}
+use Rattle.mt_machine.specs.Scan.{range_pairs}
 use Rattle.mt_machine.specs.Table.{TableSeen, Writes, locked_by, stage_of}
 
 pub record Seen : Type 0 where
@@ -36,11 +38,12 @@ pub record Seen : Type 0 where
   pub table : TableSeen  -- the border, its log and the call that has locked it
   pub calls : CallsSeen  -- the calls that are open, and how many have begun
 
--- the requests that the machine serves: gets, puts and removes, of keys that end in the first layer
+-- the requests that the machine serves: gets, puts, removes and ranges, of keys that end in the first layer
 abbrev pub IsServedRequest : Request → Type 0
 IsServedRequest (GetRequest key columns) = length key ≤ MAX_SERVED_KEY_BYTES
 IsServedRequest (PutRequest key sets) = length key ≤ MAX_SERVED_KEY_BYTES
 IsServedRequest (RemoveRequest key) = length key ≤ MAX_SERVED_KEY_BYTES
+IsServedRequest (RangeRequest start limit columns) = length start ≤ MAX_SERVED_KEY_BYTES
 IsServedRequest _ = ⊥
 
 -- the events that it serves: begins of such requests, and steps
@@ -54,6 +57,7 @@ abbrev pub request_of : Task → Request
 request_of (Get key columns) = GetRequest key columns
 request_of (Write key (Put sets)) = PutRequest key sets
 request_of (Write key Remove) = RemoveRequest key
+request_of (Range start limit columns) = RangeRequest start limit columns
 
 -- the calls once one more has begun
 abbrev pub with_call : Seen → PassNo → Task → Seen
@@ -83,6 +87,13 @@ GetVisits key asked t (Answered answer) = AreBytes key × (answer ≡ answer_of 
 GetVisits key asked t (EndsRefused refusal) = refusal ≡ NoMemory
 GetVisits key asked t _ = ⊥
 
+-- a range at the border
+abbrev pub RangeVisits : List ℕ → List ℕ → ℕ → TableSeen → Progress → Type 0
+RangeVisits start asked limit t (Answered answer) =
+    AreBytes start × (length start ≤ 8) × IsBorder t.border × (answer ≡ RowsAnswer (range_pairs start asked limit t.border.live))
+RangeVisits start asked limit t (EndsRefused refusal) = refusal ≡ NoMemory
+RangeVisits start asked limit t _ = ⊥
+
 -- a put or remove at the border that it has not locked: another has, or it does
 abbrev pub Locks : ℕ → TableSeen → Progress → TableSeen → Type 0
 Locks call t Waits u = (t.border.version.locked ≡ true) × (u ≡ t)
@@ -97,6 +108,7 @@ WriteVisits C call key edit t (Some stage) p u = Writes C key edit t t.writer p 
 abbrev pub Visits : ℕ → ℕ → Task → TableSeen → Progress → TableSeen → Type 0
 Visits C call (Get key asked) t p u = GetVisits key asked t p × (u ≡ t)
 Visits C call (Write key edit) t p u = WriteVisits C call key edit t (stage_of call t.writer) p u
+Visits C call (Range start limit asked) t p u = RangeVisits start asked limit t p × (u ≡ t)
 
 -- what the visit answers
 abbrev pub outcome_of : ℕ → Call → TableSeen → Progress → Outcome

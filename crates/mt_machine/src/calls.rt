@@ -32,6 +32,11 @@ pub(crate) enum Task {
         key: ShortKey,
         edit: Edit,
     },
+    Range {
+        start: ShortKey,
+        limit: u16,
+        columns: ColumnNumbers,
+    },
 }
 
 /// The node that a call visits next.

@@ -4,7 +4,7 @@ ghost use Rattle.std.specs.Prelude.{◌≡◌, [], ◌∷◌, length, IfOk, IfEr
 ghost use Rattle.mt_types.specs.History.{History, happening, moment};
 ghost use Rattle.mt_types.specs.Legal.{begin_fault};
 ghost use Rattle.mt_types.specs.Limits.{open_fault};
-ghost use Rattle.mt_machine.specs.Seen.{IsServed, IsServedRequest, request_of, GetVisits, Visits, WriteVisits, Begins, Steps, Happens};
+ghost use Rattle.mt_machine.specs.Seen.{IsServed, IsServedRequest, request_of, GetVisits, RangeVisits, Visits, WriteVisits, Begins, Steps, Happens};
 ghost use Rattle.mt_machine.specs.Stands.{Stands, IsRun};
 ghost use Rattle.mt_machine.specs.Causes.{IsCaused};
 ghost use Rattle.mt_machine.specs.Table.{stage_of};
@@ -74,6 +74,15 @@ fn task_of(alloc: Global, request: &Request) -> Result<Task, NoMemory>
             key: ShortKey::new(key)?,
             edit: Edit::Remove,
         }),
+        Request::Range {
+            start,
+            limit,
+            columns,
+        } => Ok(Task::Range {
+            start: ShortKey::new(start)?,
+            limit: *limit,
+            columns: columns.copy(alloc)?,
+        }),
         _ => unreachable!(),
     }
 }
@@ -99,6 +108,22 @@ fn get_visit(alloc: Global, table: &Table, key: &ShortKey, asked: &ColumnNumbers
 {
     match found(alloc, table, key, asked) {
         Ok(answer) => Progress::Answered(answer),
+        Err(_) => Progress::Refused(Refusal::NoMemory),
+    }
+}
+
+// A range at the border, which is the only one of its layer: all pairs are taken in one visit.
+fn range_visit(
+    alloc: Global,
+    table: &Table,
+    start: &ShortKey,
+    limit: u16,
+    asked: &ColumnNumbers,
+) -> Progress
+    ensures { RangeVisits start.now asked.now limit table.now result }
+{
+    match table.pairs(alloc, start, limit, asked) {
+        Ok(pairs) => Progress::Answered(Answer::Rows(pairs)),
         Err(_) => Progress::Refused(Refusal::NoMemory),
     }
 }
@@ -134,6 +159,11 @@ fn border_visit(alloc: Global, columns: u8, number: u64, table: &mut Table, task
             columns: asked,
         } => get_visit(alloc, table, key, asked),
         Task::Write { key, edit } => write_visit(alloc, columns, number, table, key, edit),
+        Task::Range {
+            start,
+            limit,
+            columns: asked,
+        } => range_visit(alloc, table, start, *limit, asked),
     }
 }
 

@@ -1,22 +1,25 @@
 //! The one border of the tree, the log of its commits, and the call that has locked it.
 
-ghost use Rattle.std.specs.Prelude.{◌≡◌, ◌+◌, ◌≤◌, length, IsSome, IsTrue, ◌↔◌, false, None};
+ghost use Rattle.std.specs.Prelude.{◌≡◌, ◌+◌, ◌≤◌, length, IfOk, IsSome, IsTrue, ◌↔◌, false, None};
 ghost use Rattle.std.specs.Option.{option_copied};
 ghost use Rattle.mt_slice.specs.Place.{AreBytes};
 ghost use Rattle.mt_commit.specs.Log.{newest};
+ghost use Rattle.mt_border.specs.Order.{IsBorder};
 ghost use Rattle.mt_machine.specs.Content.{row_of};
+ghost use Rattle.mt_machine.specs.Scan.{range_pairs};
 ghost use Rattle.mt_machine.specs.Table.{Writes, locked_by, stage_of, written_answer};
 
 use crate::calls::Edit;
 use crate::progress::Progress;
+use crate::scan::pairs_from;
 use crate::short_key::ShortKey;
 use crate::writing::{hide, prepare, row_of, show, write};
 use mt_border::Border;
 use mt_commit::log::Log;
 use mt_types::event::Answer;
 use mt_types::key::Key;
-use mt_types::refusal::Refusal;
-use mt_types::row::{Columns, Row};
+use mt_types::refusal::{NoMemory, Refusal};
+use mt_types::row::{ColumnNumbers, Columns, Pairs, Row};
 use std::alloc::Global;
 use std::marker::Model;
 
@@ -116,6 +119,22 @@ impl Table {
         ensures ends_here { length key.now ≤ 8 }
     {
         row_of(&self.border, key)
+    }
+
+    /// The pairs from a key on, up to a limit. Costs a search of one border, and two allocations for each pair.
+    pub(crate) fn pairs(
+        &self,
+        alloc: Global,
+        start: &ShortKey,
+        limit: u16,
+        asked: &ColumnNumbers,
+    ) -> Result<Pairs, NoMemory>
+        ensures value { IfOk result (λ pairs. pairs ≡ range_pairs start.now asked.now limit self.now.border.live) }
+        ensures bytes { AreBytes start.now }
+        ensures ends_here { length start.now ≤ 8 }
+        ensures sound { IsBorder self.now.border }
+    {
+        pairs_from(alloc, &self.border, start, limit, asked)
     }
 
     /// Whether some call has locked the border.
