@@ -1,9 +1,10 @@
 //! The one border of the tree, the log of its commits, and the call that has locked it.
 
-ghost use Rattle.std.specs.Prelude.{◌≡◌, ◌+◌, ◌≤◌, length, IfOk, IsSome, IsTrue, ◌↔◌, false, None};
+ghost use Rattle.std.specs.Prelude.{◌≡◌, ◌+◌, ◌≤◌, length, IfOk, IsSome, IsTrue, ◌↔◌, true, false, None};
 ghost use Rattle.std.specs.Option.{option_copied};
 ghost use Rattle.mt_slice.specs.Place.{AreBytes};
 ghost use Rattle.mt_commit.specs.Log.{newest};
+ghost use Rattle.mt_border.specs.Border.{with_lock};
 ghost use Rattle.mt_border.specs.Order.{IsBorder};
 ghost use Rattle.mt_machine.specs.Content.{row_of};
 ghost use Rattle.mt_machine.specs.Scan.{range_pairs};
@@ -71,6 +72,16 @@ fn answer(edit: &Edit, number: u64) -> Answer
         Edit::Put(_) => Answer::Stored(number),
         Edit::Remove => Answer::Removed(number),
     }
+}
+
+// Unlocks the border, at the end of a call.
+fn release(border: &mut Border, end: Progress) -> Progress
+    requires { border.old.version.locked ≡ true }
+    ensures unlocked { border.new ≡ with_lock border.old false }
+    ensures end { result ≡ end }
+{
+    border.unlock();
+    end
 }
 
 /// The border, the log and the writer.
@@ -185,10 +196,7 @@ impl Table {
             Stage::Locked => {
                 match prepare(alloc, &mut self.border, &mut self.log, columns, key, edit) {
                     Some(stage) => (stage, Progress::Moved),
-                    None => {
-                        self.border.unlock();
-                        return Progress::Answered(Answer::Absent);
-                    }
+                    None => return release(&mut self.border, Progress::Answered(Answer::Absent)),
                 }
             }
             Stage::Filled { place, key, logged } => {
@@ -209,12 +217,10 @@ impl Table {
                 (Stage::Stored(number), Progress::Committed(number))
             }
             Stage::Stored(number) => {
-                self.border.unlock();
-                return Progress::Answered(answer(edit, number));
+                return release(&mut self.border, Progress::Answered(answer(edit, number)));
             }
             Stage::Failed(refusal) => {
-                self.border.unlock();
-                return Progress::Refused(refusal);
+                return release(&mut self.border, Progress::Refused(refusal));
             }
         };
         self.writer = Some(Writer { call, stage });
