@@ -1,3 +1,6 @@
 mod Examples
+pub mod FinishLemmas
 pub mod JoinLemmas
+pub mod LineLemmas
+pub mod PlayLemmas
 pub mod WordLemmas

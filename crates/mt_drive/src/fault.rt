@@ -1,9 +1,11 @@
-//! Why a line could not be read.
+//! Why a line could not be read, and why a script ended early.
 
 ghost use Rattle.std.specs.Prelude.{◌≡◌};
 ghost use Rattle.mt_drive.specs.declared.fault.LineError.TheVariants.{Memory};
 
+use mt_types::refusal::Refusal;
 use std::alloc::{AllocError, AllocFailed};
+use thiserror::Error;
 
 /// Why a line gives nothing.
 #[derive(Clone, Copy, Debug, PartialEq, Eq)]
@@ -28,4 +30,21 @@ impl<T: Drop> From<AllocFailed<T>> for LineError {
     fn from(_e: AllocFailed<T>) -> LineError {
         LineError::Memory
     }
+}
+
+/// Why a script ended before its last line was answered.
+#[derive(Clone, Copy, Debug, PartialEq, Eq, Error)]
+pub enum ScriptFault {
+    /// A read failed, or more reads were wanted than may be made.
+    #[error("the script could not be read")]
+    Read,
+    /// A write failed, or took nothing.
+    #[error("a reply could not be written")]
+    Write,
+    /// There was no memory to read a line or to write its reply.
+    #[error("out of memory")]
+    NoMemory,
+    /// The index could not be opened.
+    #[error("the index could not be opened: {0}")]
+    Start(Refusal),
 }

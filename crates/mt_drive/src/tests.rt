@@ -1,49 +1,200 @@
-//! A line that reads and an outcome that is written.
+//! Scripts over bytes in memory: the worked rows, lines that say nothing, and readers and writers that fail.
 
-use crate::command::Command;
-use crate::reading::read_command;
-use crate::showing::push_outcome;
-use bytes::Bytes;
-use mt_types::event::{Answer, Event, Outcome, Reply, Request};
-use mt_types::items::Items;
-use mt_types::numbers::{CallNo, PassNo};
-use mt_types::row::Row;
-use std::alloc::Global;
-use std::test::Fail;
+use crate::fault::ScriptFault;
+use crate::script::script;
+use mt_machine::options::Options;
+use mt_types::refusal::Refusal;
+use std::io;
+use std::io::{ErrorKind, Read, Write};
 
-fn begun(alloc: Global) -> Command {
-    let request = Request::Get {
-        key: Bytes::new(),
-        columns: Items::new(alloc),
-    };
-    Command::Once(Event::Begin(PassNo(1), request))
+const ONE_COLUMN: Options = Options {
+    columns: 1,
+    feed: 4096,
+    keep: 0,
+};
+
+#[test]
+fn empty_index_empty_key(rt: HostRuntime) {
+    let input = b"begin 1 get - all\nstep 1\nstep 1\n".as_slice();
+    let mut out = Vec::new(rt.alloc());
+    let bad = script(rt.alloc(), ONE_COLUMN, input, &mut out);
+    assert!(rt; bad == Ok(0));
+    assert_eq!(rt;
+        out.as_slice(),
+        b"call 1\nmoved\ndone 0 0 absent\n".as_slice()
+    );
 }
 
-fn found(alloc: Global) -> Result<Outcome, Fail> {
-    let columns = vec![in alloc; Bytes::from_static(b"v")]?;
-    let row = Row {
-        version: 1,
-        columns: Items::from_vec(columns),
-    };
-    Ok(Outcome::Done(Reply {
-        pass: PassNo(2),
-        call: CallNo(3),
-        from: 1,
-        to: 1,
-        answer: Answer::Found(row),
-    }))
+const TWO_CALLS: &[u8] =
+    b"begin 1 put 61 0=76\nbegin 2 get 61 all\nstep 1\nstep 1\nstep 1\nstep 2\nstep 2\nstep 1\n\
+    begin 2 get 61 all\nstep 3\nstep 3\nstep 1\n";
+
+const TWO_CALLS_ANSWERED: &[u8] =
+    b"call 1\ncall 2\nmoved\nmoved\nmoved\nmoved\ndone 0 0 absent\ncommit 1\n\
+    call 3\nmoved\ndone 1 1 row 1 76\ndone 0 1 put 1\n";
+
+#[test]
+fn visible_by_permutation_alone(rt: HostRuntime) {
+    let mut out = Vec::new(rt.alloc());
+    let bad = script(rt.alloc(), ONE_COLUMN, TWO_CALLS, &mut out);
+    assert!(rt; bad == Ok(0));
+    assert_eq!(rt; out.as_slice(), TWO_CALLS_ANSWERED);
+}
+
+const SIXTEEN_PUTS: &[u8] = b"begin 1 put 01 0=01\nfinish 1\nbegin 1 put 02 0=02\nfinish 2\n\
+    begin 1 put 03 0=03\nfinish 3\nbegin 1 put 04 0=04\nfinish 4\n\
+    begin 1 put 05 0=05\nfinish 5\nbegin 1 put 06 0=06\nfinish 6\n\
+    begin 1 put 07 0=07\nfinish 7\nbegin 1 put 08 0=08\nfinish 8\n\
+    begin 1 put 09 0=09\nfinish 9\nbegin 1 put 0a 0=0a\nfinish 10\n\
+    begin 1 put 0b 0=0b\nfinish 11\nbegin 1 put 0c 0=0c\nfinish 12\n\
+    begin 1 put 0d 0=0d\nfinish 13\nbegin 1 put 0e 0=0e\nfinish 14\n\
+    begin 1 put 0f 0=0f\nfinish 15\nbegin 1 put 10 0=10\nfinish 16\n\
+    begin 1 get 01 all\nfinish 17\nbegin 1 get 313233343536373839 all\n";
+
+const SIXTEEN_PUTS_ANSWERED: &[u8] = b"call 1\ndone 0 1 put 1\ncall 2\ndone 1 2 put 2\n\
+    call 3\ndone 2 3 put 3\ncall 4\ndone 3 4 put 4\ncall 5\ndone 4 5 put 5\ncall 6\ndone 5 6 put 6\n\
+    call 7\ndone 6 7 put 7\ncall 8\ndone 7 8 put 8\ncall 9\ndone 8 9 put 9\ncall 10\ndone 9 10 put 10\n\
+    call 11\ndone 10 11 put 11\ncall 12\ndone 11 12 put 12\ncall 13\ndone 12 13 put 13\n\
+    call 14\ndone 13 14 put 14\ncall 15\ndone 14 15 put 15\ncall 16\nrefused 6\n\
+    call 17\ndone 15 15 row 1 01\nrefused 2\n";
+
+#[test]
+fn full_border(rt: HostRuntime) {
+    let mut out = Vec::new(rt.alloc());
+    let bad = script(rt.alloc(), ONE_COLUMN, SIXTEEN_PUTS, &mut out);
+    assert!(rt; bad == Ok(0));
+    assert_eq!(rt; out.as_slice(), SIXTEEN_PUTS_ANSWERED);
+}
+
+const TWO_COLUMNS: Options = Options {
+    columns: 2,
+    feed: 4096,
+    keep: 0,
+};
+
+const PUT_RANGE_REMOVE: &[u8] =
+    b"begin 1 put 61 0=01\nfinish 1\nbegin 1 put 61 1=02\nfinish 2\nbegin 1 range - 10 1\nfinish 3\n\
+    begin 1 remove 61\nfinish 4\nbegin 1 remove 61\nfinish 5\n";
+
+const PUT_RANGE_REMOVE_ANSWERED: &[u8] =
+    b"call 1\ndone 0 1 put 1\ncall 2\ndone 1 2 put 2\ncall 3\ndone 2 2 rows 1 61:2:02\n\
+    call 4\ndone 2 3 removed 3\ncall 5\ndone 3 3 absent\n";
+
+#[test]
+fn put_range_remove(rt: HostRuntime) {
+    let mut out = Vec::new(rt.alloc());
+    let bad = script(rt.alloc(), TWO_COLUMNS, PUT_RANGE_REMOVE, &mut out);
+    assert!(rt; bad == Ok(0));
+    assert_eq!(rt; out.as_slice(), PUT_RANGE_REMOVE_ANSWERED);
+}
+
+const THREE_COLUMNS: Options = Options {
+    columns: 3,
+    feed: 4096,
+    keep: 0,
+};
+
+const COLUMNS: &[u8] =
+    b"begin 1 put 61 0=01,2=03\nfinish 1\nbegin 1 put 61 1=02\nfinish 2\nbegin 1 get 61 2,0\n\
+    finish 3\nbegin 1 put 61 1=-,1=00\nbegin 1 put 61 3=00\nbegin 1 put 61 0=\
+    0000000000000000000000000000000000000000000000000000000000000000\
+    000000000000000000000000000000000000000000000000000000000000000000\n";
+
+const COLUMNS_ANSWERED: &[u8] =
+    b"call 1\ndone 0 1 put 1\ncall 2\ndone 1 2 put 2\ncall 3\ndone 2 2 row 2 03,01\n\
+    refused 3\nrefused 3\nrefused 4\n";
+
+#[test]
+fn columns(rt: HostRuntime) {
+    let mut out = Vec::new(rt.alloc());
+    let bad = script(rt.alloc(), THREE_COLUMNS, COLUMNS, &mut out);
+    assert!(rt; bad == Ok(0));
+    assert_eq!(rt; out.as_slice(), COLUMNS_ANSWERED);
+}
+
+// No text, an empty line, two spaces, what isn't served yet, and a last line without its line feed.
+#[test]
+fn bad_lines_go_on(rt: HostRuntime) {
+    let input =
+        b"st\xffp 1\n\nstep  1\nbegin 1 tidy 61\nstep 1\nbegin 1 get 61 1\nadvance".as_slice();
+    let mut out = Vec::new(rt.alloc());
+    let bad = script(rt.alloc(), ONE_COLUMN, input, &mut out);
+    assert!(rt; bad == Ok(5));
+    assert_eq!(rt;
+        out.as_slice(),
+        b"bad line\nbad line\nbad line\nbad line\nrefused 9\nrefused 3\nbad line\n".as_slice()
+    );
 }
 
 #[test]
-fn a_get_reads(rt: HostRuntime) {
-    let read = read_command(rt.alloc(), b"begin 1 get - all".as_slice());
-    assert_eq!(rt; read, Ok(begun(rt.alloc())));
+fn seventeen_columns(rt: HostRuntime) {
+    let options = Options {
+        columns: 17,
+        feed: 4096,
+        keep: 0,
+    };
+    let mut out = Vec::new(rt.alloc());
+    let bad = script(rt.alloc(), options, TWO_CALLS, &mut out);
+    assert!(rt; bad == Err(ScriptFault::Start(Refusal::BadColumn)));
+    assert_eq!(rt; out.len(), 0);
+}
+
+// Gives a byte in each call, and fails once all are given.
+#[derive(Drop)]
+struct Failing {
+    bytes: &'static [u8],
+}
+
+impl Read for Failing {
+    fn read(&mut self, buf: &mut [u8]) -> io::Result<usize> {
+        let Some((first, rest)) = self.bytes.split_first() else {
+            return Err(io::Error::from(ErrorKind::Other));
+        };
+        if buf.is_empty() {
+            return Ok(0);
+        }
+        buf[0] = *first;
+        self.bytes = rest;
+        Ok(1)
+    }
 }
 
 #[test]
-fn a_row_is_written(rt: HostRuntime) -> Result<(), Fail> {
-    let mut text = String::new(rt.alloc());
-    push_outcome(rt.alloc(), &mut text, &found(rt.alloc())?)?;
-    assert_eq!(rt; text.as_str(), "done 1 1 row 1 76");
-    Ok(())
+fn a_reader_that_fails(rt: HostRuntime) {
+    let reader = Failing {
+        bytes: b"begin 1 get - all\nstep 1\nste",
+    };
+    let mut out = Vec::new(rt.alloc());
+    let bad = script(rt.alloc(), ONE_COLUMN, reader, &mut out);
+    assert!(rt; bad == Err(ScriptFault::Read));
+    assert_eq!(rt; out.as_slice(), b"call 1\nmoved\n".as_slice());
+}
+
+// Takes at most five bytes at a time, and none after fifteen.
+#[derive(Drop)]
+struct Narrow {
+    taken: usize,
+}
+
+impl Write for Narrow {
+    fn write(&mut self, buf: &[u8]) -> io::Result<usize> {
+        if self.taken >= 15 {
+            return Ok(0);
+        }
+        let taken = buf.len().min(5);
+        self.taken = self.taken.wrapping_add(taken);
+        Ok(taken)
+    }
+
+    fn flush(&mut self) -> io::Result<()> {
+        Ok(())
+    }
+}
+
+#[test]
+fn a_writer_that_takes_no_more(rt: HostRuntime) {
+    let mut narrow = Narrow { taken: 0 };
+    let bad = script(rt.alloc(), ONE_COLUMN, TWO_CALLS, &mut narrow);
+    assert!(rt; bad == Err(ScriptFault::Write));
+    assert_eq!(rt; narrow.taken, 19);
 }

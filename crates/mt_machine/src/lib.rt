@@ -13,3 +13,5 @@ mod table;
 #[cfg(test)]
 mod tests;
 mod writing;
+
+pub use short_key::MAX_SERVED_KEY_BYTES;

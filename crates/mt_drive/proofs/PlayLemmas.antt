@@ -1,0 +1,210 @@
+-- A script that has been played so far.
+use Rattle.std.proofs.Common.{◌≡◌, ◌⊎◌, inl, inr, ℕ, ◌+◌, cond, List, [], ◌∷◌, ◌++◌, length, fold, take, drop, take_all, length-drop, take-append-drop, ◌-◌, refl, ap, subst, sym, ◌∙◌, arith, append_assoc, Option, None, Some, IfSome}
+use Rattle.std.specs.Io.KnownBytes.{Appends}
+use Rattle.mt_types.specs.History.{History}
+use Rattle.mt_types.specs.Legal.{Legal}
+use Rattle.mt_machine.specs.Seen.{Seen}
+use Rattle.mt_machine.specs.Stands.{Stands}
+use Rattle.mt_drive.specs.declared.fault.ScriptFault.{ScriptFault}
+use Rattle.mt_drive.specs.declared.fault.ScriptFault.TheVariants.{Read, Write, NoMemory}
+use Rattle.mt_drive.specs.Lines.{lines_of, LosesLine}
+use Rattle.mt_drive.specs.Reading.{command_of}
+use Rattle.mt_drive.specs.Machine.{Leads}
+use Rattle.mt_drive.specs.Script.{Reply, reply_line, output_of, is_bad, bad_lines, Answers, AnswersAll, Played, Broke}
+
+append_none : {A : Type 0} (xs : List A) → xs ++ [] ≡ xs
+append_none [] = refl
+append_none (x ∷ xs) = ap (λ l. x ∷ l) (append_none xs)
+
+pub Appends-none : (a : Option (List ℕ)) → Appends a a []
+Appends-none None = tt
+Appends-none (Some xs) = sym (append_none xs)
+
+pub Appends-both : (a b c : Option (List ℕ)) (x y : List ℕ) → Appends a b x → Appends b c y → Appends a c (x ++ y)
+Appends-both None b c x y p q = tt
+Appends-both (Some u) None c x y p q = absurd p
+Appends-both (Some u) (Some v) None x y p q = absurd q
+Appends-both (Some u) (Some v) (Some w) x y p q = q ∙ ap (λ l. l ++ y) p ∙ append_assoc u x y
+
+output-push : (replies : List Reply) (reply : Reply) → output_of (replies ++ reply ∷ []) ≡ output_of replies ++ reply_line reply
+output-push [] reply = append_none (reply_line reply)
+output-push (r ∷ rs) reply = ap (λ l. reply_line r ++ l) (output-push rs reply) ∙ sym (append_assoc (reply_line r) (output_of rs) (reply_line reply))
+
+bad-push_from : (n : ℕ) (replies : List Reply) (reply : Reply) → fold (λ a x. a + cond (is_bad x) 1 0) n (replies ++ reply ∷ []) ≡ fold (λ a x. a + cond (is_bad x) 1 0) n replies + cond (is_bad reply) 1 0
+bad-push_from n [] reply = refl
+bad-push_from n (r ∷ rs) reply = bad-push_from (n + cond (is_bad r) 1 0) rs reply
+
+bad-push : (replies : List Reply) (reply : Reply) → bad_lines (replies ++ reply ∷ []) ≡ bad_lines replies + bad_lines (reply ∷ [])
+bad-push replies reply = let e = bad-push_from 0 replies reply in omega (arith, e)
+
+-- one write of a front of the rest
+pub sent_more : (bytes rest sent : List ℕ) (n : ℕ) (a b c : Option (List ℕ)) → bytes ≡ sent ++ rest → Appends a b sent → Appends b c (take n rest)
+    → (x : List ℕ) × (bytes ≡ x ++ take (length rest - n) (drop n rest)) × Appends a c x
+sent_more bytes rest sent n a b c split sent_so went = (
+  sent ++ take n rest,
+  split ∙ ap (λ l. sent ++ l) (sym (take-append-drop n rest)) ∙ sym (append_assoc sent (take n rest) (drop n rest))
+      ∙ ap (λ l. (sent ++ take n rest) ++ l) (sym (take_all (length rest - n) (drop n rest) (omega (arith, length-drop n rest)))),
+  Appends-both a b c sent (take n rest) sent_so went,
+)
+
+pub went_whole : (line sent unsent : List ℕ) (a b : Option (List ℕ)) → line ≡ sent ++ unsent → Appends a b sent → unsent ≡ [] → Appends a b line
+went_whole line sent unsent a b split went none = subst (Appends a b) (sym (split ∙ ap (λ l. sent ++ l) none ∙ append_none sent)) went
+
+-- what the reader gave began with these lines, and what it still gives is the rest
+abbrev pub Goes : Option (List ℕ) → Option (List ℕ) → List (List ℕ) → Type 0
+Goes input now lines = IfSome input (λ xs. (rest : List ℕ) × (now ≡ Some rest) × (lines_of xs ≡ lines ++ lines_of rest))
+
+Goes-start : (input : Option (List ℕ)) → Goes input input []
+Goes-start None = tt
+Goes-start (Some xs) = (xs, refl, refl)
+
+Goes-more : (input now next : Option (List ℕ)) (lines : List (List ℕ)) (line : List ℕ) → Goes input now lines → IfSome now (λ xs. LosesLine xs next (Some line)) → Goes input next (lines ++ line ∷ [])
+Goes-more None now next lines line so_far lost = tt
+Goes-more (Some xs) None next lines line so_far lost = absurd (cc so_far.1)
+Goes-more (Some xs) (Some ys) next lines line so_far lost =
+    let same : ys ≡ so_far.0 = cc so_far.1 in
+    (lost.0, lost.1, so_far.2 ∙ ap (λ r. lines ++ lines_of r) (sym same) ∙ ap (λ l. lines ++ l) lost.2 ∙ sym (append_assoc lines (line ∷ []) (lines_of lost.0)))
+
+Goes-end : (input now next : Option (List ℕ)) (lines : List (List ℕ)) → Goes input now lines → IfSome now (λ xs. LosesLine xs next None) → IfSome input (λ xs. lines_of xs ≡ lines)
+Goes-end None now next lines so_far lost = tt
+Goes-end (Some xs) None next lines so_far lost = absurd (cc so_far.1)
+Goes-end (Some xs) (Some ys) next lines so_far lost =
+    let same : ys ≡ so_far.0 = cc so_far.1 in
+    so_far.2 ∙ ap (λ r. lines ++ lines_of r) (sym same) ∙ ap (λ l. lines ++ l) lost ∙ append_none lines
+
+Goes-front : (input now : Option (List ℕ)) (lines : List (List ℕ)) → Goes input now lines → (more : List (List ℕ)) × IfSome input (λ xs. lines_of xs ≡ lines ++ more)
+Goes-front None now lines so_far = ([], tt)
+Goes-front (Some xs) now lines so_far = (lines_of so_far.0, so_far.2)
+
+no_read : (fault : ScriptFault) → (fault ≡ Write) ⊎ (fault ≡ NoMemory) → fault ≡ Read → ⊥
+no_read fault (inl e) read = cc
+no_read fault (inr e) read = cc
+
+-- one line more
+AnswersAll-push : (past between h : History) (lines : List (List ℕ)) (replies : List Reply) (line : List ℕ) (reply : Reply)
+    → AnswersAll past lines replies between → Answers (command_of line) between reply h → AnswersAll past (lines ++ line ∷ []) (replies ++ reply ∷ []) h
+AnswersAll-push past between h [] [] line reply all one = (h, subst (λ (p : History). Answers (command_of line) p reply h) all one, refl)
+AnswersAll-push past between h [] (r ∷ rs) line reply all one = absurd all
+AnswersAll-push past between h (l ∷ ls) [] line reply all one = absurd all
+AnswersAll-push past between h (l ∷ ls) (r ∷ rs) line reply all one = (all.0, all.1, AnswersAll-push all.0 between h ls rs line reply all.2 one)
+
+-- lines that were answered so far on an empty index of C columns, which left the machine s
+pub record Playing (C : ℕ) (input old : Option (List ℕ)) (bad : ℕ) (s : Seen) (now new : Option (List ℕ)) : Type 0 where
+  pub lines : List (List ℕ)
+  pub replies : List Reply
+  pub h : History
+  pub read : Goes input now lines
+  pub answered : AnswersAll [] lines replies h
+  pub stands : Stands s h
+  pub columns : s.columns ≡ C
+  pub written : Appends old new (output_of replies)
+  pub counted : bad ≡ bad_lines replies
+
+legal_of : {C : ℕ} {input old : Option (List ℕ)} {bad : ℕ} {s : Seen} {now new : Option (List ℕ)} → (p : Playing C input old bad s now new) → Legal C p.h
+legal_of p = subst (λ n. Legal n p.h) p.columns p.stands.legal
+
+pub Playing-none : (s : Seen) (input old : Option (List ℕ)) → Stands s [] → Playing s.columns input old 0 s input old
+Playing-none s input old stands = record {
+  lines = [];
+  replies = [];
+  h = [];
+  read = Goes-start input;
+  answered = refl;
+  stands = stands;
+  columns = refl;
+  written = Appends-none old;
+  counted = refl;
+}
+
+-- a line more is read and answered
+answered_more : {C : ℕ} {input old : Option (List ℕ)} {bad : ℕ} {s : Seen} {now new : Option (List ℕ)} (t : Seen) (next : Option (List ℕ)) (line : List ℕ) (reply : Reply) → (p : Playing C input old bad s now new)
+    → Leads s (λ past h. Answers (command_of line) past reply h) t → t.columns ≡ s.columns
+    → (h : History) × AnswersAll [] (p.lines ++ line ∷ []) (p.replies ++ reply ∷ []) h × Stands t h × Legal C h
+answered_more t next line reply p leads columns =
+    let led = leads p.h p.stands in
+    (led.0, AnswersAll-push [] p.h led.0 p.lines p.replies line reply p.answered led.1, led.2, subst (λ n. Legal n led.0) (columns ∙ p.columns) led.2.legal)
+
+pub Playing-more : {C : ℕ} {input old : Option (List ℕ)} {bad : ℕ} {s : Seen} {now new : Option (List ℕ)} (t : Seen) (next out : Option (List ℕ)) (more : ℕ) (line : List ℕ) (reply : Reply) → (p : Playing C input old bad s now new)
+    → IfSome now (λ xs. LosesLine xs next (Some line)) → Leads s (λ past h. Answers (command_of line) past reply h) t → t.columns ≡ s.columns
+    → Appends new out (reply_line reply) → more ≡ bad + bad_lines (reply ∷ []) → Playing C input old more t next out
+Playing-more {C} {input} {old} {bad} {s} {now} {new} t next out more line reply p lost leads columns sent counted =
+    let one = answered_more t next line reply p leads columns in record {
+      lines = p.lines ++ line ∷ [];
+      replies = p.replies ++ reply ∷ [];
+      h = one.0;
+      read = Goes-more input now next p.lines line p.read lost;
+      answered = one.1;
+      stands = one.2;
+      columns = columns ∙ p.columns;
+      written = subst (Appends old out) (sym (output-push p.replies reply)) (Appends-both old new out (output_of p.replies) (reply_line reply) p.written sent);
+      counted = counted ∙ ap (λ n. n + bad_lines (reply ∷ [])) p.counted ∙ sym (bad-push p.replies reply);
+    }
+
+pub Played-end : {C : ℕ} {input old : Option (List ℕ)} {bad : ℕ} {s : Seen} {now new : Option (List ℕ)} (next : Option (List ℕ)) → Playing C input old bad s now new
+    → IfSome now (λ xs. LosesLine xs next None) → Played C input old bad new
+Played-end {C} {input} {old} {bad} {s} {now} {new} next p lost = record {
+  lines = p.lines;
+  replies = p.replies;
+  h = p.h;
+  read = Goes-end input now next p.lines p.read lost;
+  answered = p.answered;
+  legal = legal_of p;
+  written = p.written;
+  counted = p.counted;
+}
+
+pub Broke-between : (fault : ScriptFault) {C : ℕ} {input old : Option (List ℕ)} {bad : ℕ} {s : Seen} {now new : Option (List ℕ)} → Playing C input old bad s now new → Broke C fault input old new
+Broke-between fault {C} {input} {old} {bad} {s} {now} {new} p =
+    let front : (more : List (List ℕ)) × IfSome input (λ xs. lines_of xs ≡ p.lines ++ more) = Goes-front input now p.lines p.read in record {
+      lines = p.lines;
+      more = front.0;
+      replies = p.replies;
+      h = p.h;
+      read = front.1;
+      answered = p.answered;
+      legal = legal_of p;
+      sent = output_of p.replies;
+      unsent = [];
+      written = p.written;
+      front = sym (append_none (output_of p.replies));
+      whole = λ read. refl;
+    }
+
+pub Broke-sending : (fault : ScriptFault) {C : ℕ} {input old : Option (List ℕ)} {bad : ℕ} {s : Seen} {now new : Option (List ℕ)} (t : Seen) (next out : Option (List ℕ)) (line : List ℕ) (reply : Reply) (sent unsent : List ℕ)
+    → (p : Playing C input old bad s now new) → IfSome now (λ xs. LosesLine xs next (Some line)) → Leads s (λ past h. Answers (command_of line) past reply h) t → t.columns ≡ s.columns
+    → reply_line reply ≡ sent ++ unsent → Appends new out sent → (fault ≡ Write) ⊎ (fault ≡ NoMemory) → Broke C fault input old out
+Broke-sending fault {C} {input} {old} {bad} {s} {now} {new} t next out line reply sent unsent p lost leads columns split went cause =
+    let one = answered_more t next line reply p leads columns in
+    let front : (more : List (List ℕ)) × IfSome input (λ xs. lines_of xs ≡ (p.lines ++ line ∷ []) ++ more) =
+    Goes-front input next (p.lines ++ line ∷ []) (Goes-more input now next p.lines line p.read lost) in record {
+      lines = p.lines ++ line ∷ [];
+      more = front.0;
+      replies = p.replies ++ reply ∷ [];
+      h = one.0;
+      read = front.1;
+      answered = one.1;
+      legal = one.3;
+      sent = output_of p.replies ++ sent;
+      unsent = unsent;
+      written = Appends-both old new out (output_of p.replies) sent p.written went;
+      front = output-push p.replies reply ∙ ap (λ l. output_of p.replies ++ l) split ∙ sym (append_assoc (output_of p.replies) sent unsent);
+      whole = λ read. absurd (no_read fault cause read);
+    }
+
+-- nothing was read or written
+pub Broke-none : (fault : ScriptFault) (C : ℕ) (input old : Option (List ℕ)) → Broke C fault input old old
+Broke-none fault C input old =
+    let front : (more : List (List ℕ)) × IfSome input (λ xs. lines_of xs ≡ [] ++ more) = Goes-front input input [] (Goes-start input) in record {
+      lines = [];
+      more = front.0;
+      replies = [];
+      h = [];
+      read = front.1;
+      answered = refl;
+      legal = tt;
+      sent = [];
+      unsent = [];
+      written = Appends-none old;
+      front = refl;
+      whole = λ read. refl;
+    }

@@ -1,0 +1,180 @@
+//! The run of a script on an index.
+
+ghost use Rattle.std.specs.Prelude.{◌≡◌, ◌≢◌, ◌+◌, ◌-◌, ◌^◌, ◌<◌, ◌≤◌, [], ◌∷◌, IfOk, IfErr, IfSome, Err};
+ghost use Rattle.mt_types.specs.Limits.{open_fault};
+ghost use Rattle.mt_types.specs.declared.refusal.Refusal.{Refusal};
+ghost use Rattle.mt_machine.specs.Stands.{Stands};
+ghost use Rattle.mt_drive.specs.Reading.{command_of};
+ghost use Rattle.mt_drive.specs.Service.{event_service};
+ghost use Rattle.mt_drive.specs.Machine.{Leads};
+ghost use Rattle.mt_drive.specs.Script.{goes_on, bad_lines, Happens, Finishes, Asks, Answers, Played, Broke};
+ghost use Rattle.mt_types.specs.declared.event.Event.TheVariants.{Step};
+ghost use Rattle.mt_drive.specs.declared.fault.ScriptFault.TheVariants.{Start, NoMemory};
+
+use crate::command::Command;
+use crate::counted::Counted;
+use crate::fault::{LineError, ScriptFault};
+use crate::lines::next_line;
+use crate::reading::read_command;
+use crate::sending::send;
+use crate::service::{Service, event_service};
+use mt_machine::machine::Machine;
+use mt_machine::options::Options;
+use mt_types::event::{Event, Outcome};
+use mt_types::numbers::CallNo;
+use mt_types::refusal::Refusal;
+use std::alloc::Global;
+use std::io;
+use std::io::{BufRead, BufReader, ErrorKind, Read, Write};
+
+// The most steps that a line `finish` makes.
+const MAX_STEPS: usize = 1_000_000;
+
+fn goes_on(outcome: &Outcome) -> bool
+    ensures { result ≡ goes_on outcome.now }
+{
+    matches!(outcome, Outcome::Moved | Outcome::Commit(_))
+}
+
+// One step of a call.
+fn step(machine: &mut Machine, alloc: Global, call: CallNo) -> Outcome
+    ensures stands { Leads machine.old (λ past h. Happens past (Step call) result h) machine.new }
+    ensures columns { machine.new.columns ≡ machine.old.columns }
+{
+    machine.event(alloc, &Event::Step(call))
+}
+
+// Steps of a call, until one is neither moved nor a commit.
+fn finish(machine: &mut Machine, alloc: Global, call: CallNo) -> Outcome
+    ensures stands { Leads machine.old (λ past h. Finishes past call result h) machine.new }
+    ensures columns { machine.new.columns ≡ machine.old.columns }
+{
+    for _ in 1..MAX_STEPS {
+        let outcome = step(machine, alloc, call);
+        if !goes_on(&outcome) {
+            return outcome;
+        }
+    }
+    step(machine, alloc, call)
+}
+
+// One event, where the index serves it.
+fn ask(machine: &mut Machine, alloc: Global, event: &Event) -> Option<Outcome>
+    ensures stands { Leads machine.old (λ past h. Asks (event_service event.now) event.now past result h) machine.new }
+    ensures columns { machine.new.columns ≡ machine.old.columns }
+{
+    match event_service(event) {
+        Service::Served => Some(machine.event(alloc, event)),
+        Service::TooLong => Some(Outcome::Refused(Refusal::KeyTooLong)),
+        Service::Unknown => None,
+    }
+}
+
+// What a line is answered.
+fn answer(machine: &mut Machine, alloc: Global, line: &[u8]) -> Result<Option<Outcome>, ScriptFault>
+    ensures stands { IfOk result (λ reply. Leads machine.old (λ past h. Answers (command_of line.now) past reply h) machine.new) }
+    ensures columns { machine.new.columns ≡ machine.old.columns }
+    ensures err { IfErr result (λ fault. (fault ≡ NoMemory) × (machine.new ≡ machine.old)) }
+{
+    match read_command(alloc, line) {
+        Ok(Command::Once(event)) => Ok(ask(machine, alloc, &event)),
+        Ok(Command::Finish(call)) => Ok(Some(finish(machine, alloc, call))),
+        Err(LineError::Bad) => Ok(None),
+        Err(LineError::Memory) => Err(ScriptFault::NoMemory),
+    }
+}
+
+// One more where the line was bad.
+fn count(bad: u64, reply: &Option<Outcome>) -> u64
+    requires { bad < 2 ^ 64 - 1 }
+    ensures value { result ≡ bad + bad_lines (reply.now ∷ []) }
+    ensures within { result ≤ bad + 1 }
+{
+    if reply.is_none() { bad + 1 } else { bad }
+}
+
+// Why a line could not be read: the reader says want of memory, its own or that of the line, by the kind of its error.
+fn fault_of(error: &io::Error) -> ScriptFault
+    ensures { (refusal : Refusal) → result ≢ Start refusal }
+{
+    if error.kind() == ErrorKind::OutOfMemory {
+        ScriptFault::NoMemory
+    } else {
+        ScriptFault::Read
+    }
+}
+
+// Answers the lines that the reader gives, on an empty index.
+fn play<R: BufRead, W: Write>(
+    machine: &mut Machine,
+    alloc: Global,
+    reader: &mut R,
+    writer: &mut W,
+) -> Result<u64, ScriptFault>
+    requires { Stands machine.old [] }
+    ensures ok { IfOk result (λ bad. Played machine.old.columns (R.remaining reader.old) (W.contents writer.old) bad (W.contents writer.new)) }
+    ensures err { IfErr result (λ fault. Broke machine.old.columns fault (R.remaining reader.old) (W.contents writer.old) (W.contents writer.new)) }
+    ensures opened { IfErr result (λ fault. (refusal : Refusal) → fault ≢ Start refusal) }
+{
+    let mut bad: u64 = 0;
+    for _ in 0..u64::MAX {
+        let line = match next_line(alloc, reader) {
+            Ok(Some(line)) => line,
+            Ok(None) => return Ok(bad),
+            Err(e) => return Err(fault_of(&e)),
+        };
+        let reply = answer(machine, alloc, &line)?;
+        bad = count(bad, &reply);
+        send(alloc, writer, &reply)?;
+    }
+    Err(ScriptFault::Read)
+}
+
+// The same of any reader, which is read a bounded number of times.
+fn play_from<R: Read + Drop, W: Write>(
+    machine: &mut Machine,
+    alloc: Global,
+    reader: R,
+    writer: &mut W,
+) -> Result<u64, ScriptFault>
+    requires { Stands machine.old [] }
+    ensures ok { IfOk result (λ bad. Played machine.old.columns (R.remaining reader) (W.contents writer.old) bad (W.contents writer.new)) }
+    ensures err { IfErr result (λ fault. Broke machine.old.columns fault (R.remaining reader) (W.contents writer.old) (W.contents writer.new)) }
+    ensures opened { IfErr result (λ fault. (refusal : Refusal) → fault ≢ Start refusal) }
+{
+    match BufReader::new(alloc, Counted::new(reader)) {
+        Ok(mut buffered) => play(machine, alloc, &mut buffered, writer),
+        Err(_) => Err(ScriptFault::NoMemory),
+    }
+}
+
+/// Answers the lines of a script on an empty index, a line of text for each, and gives the number of bad lines.
+///
+/// A line is `begin PASS REQUEST`, `step CALL` or `finish CALL`; a request is `get KEY COLS`, `put KEY SETS`,
+/// `remove KEY` or `range START LIMIT COLS`. A line of other bytes, or of what the index doesn't serve yet, is answered `bad line`. What a line says and how an outcome is
+/// written is told in `reading` and `showing`. `finish` makes at most 1,000,000 steps.
+///
+/// The reader is read at most 4,294,967,295 times, in pieces; the writer is given each reply in one piece, and is not
+/// flushed. A line costs its event, or its steps, and some allocations for its words and its reply.
+///
+/// # Errors
+///
+/// `Start` where the index can't be opened, before anything is read. `Read` where a read fails, or one more than the most
+/// is wanted; `Write` where a write fails or takes nothing; `NoMemory` where a line can't be kept or its reply not be
+/// made. What was written by then are the first bytes of the replies so far, and all of them where a read failed.
+pub fn script<R: Read + Drop, W: Write>(
+    alloc: Global,
+    options: Options,
+    reader: R,
+    writer: &mut W,
+) -> Result<u64, ScriptFault>
+    ensures answered { IfOk result (λ bad. Played options.columns (R.remaining reader) (W.contents writer.old) bad (W.contents writer.new)) }
+    ensures broke { IfErr result (λ fault. Broke options.columns fault (R.remaining reader) (W.contents writer.old) (W.contents writer.new)) }
+    ensures start { IfSome (open_fault options.columns options.feed options.keep) (λ refusal. (result ≡ Err (Start refusal)) × (writer.new ≡ writer.old)) }
+    ensures opened { IfErr result (λ fault. (refusal : Refusal) → fault ≡ Start refusal → open_fault options.columns options.feed options.keep ≡ Some refusal) }
+{
+    match Machine::open(alloc, options) {
+        Ok(mut machine) => play_from(&mut machine, alloc, reader, writer),
+        Err(refusal) => Err(ScriptFault::Start(refusal)),
+    }
+}

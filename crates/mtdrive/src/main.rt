@@ -1,0 +1,140 @@
+//! Answers a script of the index: lines of events on standard input, a line of text for each on standard output.
+#![tactic(auto)]
+
+ghost use Rattle.std.specs.Prelude.{◌≡◌, codes};
+ghost use Rattle.clap.specs.Words.{found_of, one_text};
+ghost use Rattle.mtdrive.specs.CommandLine.{IsNumber, status_of};
+
+use clap::builder::ValueParser;
+use clap::error::ErrorKind as FaultKind;
+use clap::{Arg, ArgMatches, Command, Error};
+use mt_drive::fault::ScriptFault;
+use mt_drive::script::script;
+use mt_machine::options::Options;
+use mt_types::limits::{MAX_COLUMNS, MAX_FEED, MAX_KEEP};
+use std::alloc::{AllocError, Global};
+use std::io::ErrorKind;
+use std::process::ExitCode;
+use std::{env, io};
+
+const ABOUT: &str = "Answers a script of events on an empty index, line by line";
+
+const LINES: &str = "\
+Each line of standard input is one of
+  begin PASS REQUEST   begins a call: prints `call N` or a refusal
+  step CALL            one step of it: `moved`, `again`, `commit N`, `done FROM TO ANSWER` or a refusal
+  finish CALL          steps until one is neither moved nor a commit, at most 1,000,000; prints the last
+A request is `get KEY COLS`, `put KEY SETS`, `remove KEY` or `range START LIMIT COLS`. Keys and columns
+are hex, `-` is empty; COLS is `all` or numbers joined by commas, SETS is `-` or NUMBER=BYTES joined by
+commas. Other lines print `bad line`.
+
+The status is 0; 1 where a line was bad; 2 for a bad command line; 3 where reading or writing failed.";
+
+// An option that takes a number within these bounds.
+fn number_option<'a>(
+    alloc: Global,
+    name: &'a str,
+    least: u64,
+    most: u64,
+    help: &'a str,
+) -> Arg<'a> {
+    Arg::new(alloc, name)
+        .long(name)
+        .value_name("N")
+        .value_parser(ValueParser::Unsigned(least, most))
+        .help(help)
+}
+
+fn command<'a>(alloc: Global) -> Result<Command<'a>, AllocError> {
+    let columns = "How many columns a row has, 1 to 16 [default: 1]";
+    let feed = "How many commits the log holds for the slowest reader, 1 to 65536 [default: 4096]";
+    let keep = "How many of the last commits the log keeps, 0 to 65536 [default: 0]";
+    Command::new(alloc, "mtdrive")
+        .about(ABOUT)
+        .after_help(LINES)
+        .arg(number_option(alloc, "columns", 1, MAX_COLUMNS, columns))?
+        .arg(number_option(alloc, "feed", 1, MAX_FEED, feed))?
+        .arg(number_option(alloc, "keep", 0, MAX_KEEP, keep))
+}
+
+// The number that an option was given.
+fn number(matches: &ArgMatches<'_>, name: &str, otherwise: u64) -> u64
+    ensures { IsNumber (one_text (found_of matches.now) name.now) otherwise result }
+{
+    match matches.get_one::<u64>(name) {
+        Some(given) => given,
+        None => otherwise,
+    }
+}
+
+fn options_of(matches: &ArgMatches<'_>) -> Options
+    ensures columns { IsNumber (one_text (found_of matches.now) (codes "columns")) 1 result.columns }
+    ensures feed { IsNumber (one_text (found_of matches.now) (codes "feed")) 4096 result.feed }
+    ensures keep { IsNumber (one_text (found_of matches.now) (codes "keep")) 0 result.keep }
+{
+    Options {
+        columns: number(matches, "columns", 1),
+        feed: number(matches, "feed", 4096),
+        keep: number(matches, "keep", 0),
+    }
+}
+
+// How the program ends.
+fn status_of(played: &Result<u64, ScriptFault>) -> u8
+    ensures { result ≡ status_of played.now }
+{
+    match played {
+        Ok(0) => 0,
+        Ok(_) => 1,
+        Err(ScriptFault::Start(_)) => 2,
+        Err(_) => 3,
+    }
+}
+
+// What the command line says, or the text to print in place of a run.
+fn options_given(alloc: Global, words: &[String]) -> Result<Options, Error> {
+    let matches = command(alloc)?.try_get_matches_from(words)?;
+    Ok(options_of(&matches))
+}
+
+fn play(rt: &(impl Input + Print + Eprint + AllocGlobal), options: Options) -> io::Result<u8> {
+    let played = script(rt.alloc(), options, rt.reader(), &mut io::writer(rt));
+    if let Err(fault) = &played {
+        eprintln!(rt; "mtdrive: {fault}")?;
+    }
+    Ok(status_of(&played))
+}
+
+fn run(rt: &HostRuntime) -> io::Result<u8> {
+    let mut words = Vec::new(rt.alloc());
+    for word in env::args(rt)? {
+        words.push(word)?;
+    }
+    match options_given(rt.alloc(), words.as_slice()) {
+        Ok(options) => play(rt, options),
+        Err(fault) if fault.kind() == FaultKind::OutOfMemory => Err(ErrorKind::OutOfMemory.into()),
+        Err(fault) => {
+            fault.print(rt)?;
+            Ok(fault.exit_code() as u8)
+        }
+    }
+}
+
+// The status of a run that could not print, had no memory, or was given words that are no text.
+fn status_of_error(error: &io::Error) -> u8 {
+    if error.kind() == ErrorKind::InvalidData {
+        2
+    } else {
+        3
+    }
+}
+
+fn main(rt: HostRuntime) -> ExitCode {
+    match run(&rt) {
+        Ok(status) => ExitCode::from(status),
+        Err(error) => {
+            let _ = eprintln!(rt; "mtdrive: {error}");
+            ExitCode::from(status_of_error(&error))
+        }
+    }
+}
