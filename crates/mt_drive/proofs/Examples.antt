@@ -1,10 +1,13 @@
--- What some lines say.
-use Rattle.std.proofs.Common.{◌≡◌, [], ◌∷◌, Some, None, refl}
+-- What some lines say, and how a text is cut into lines and replies are put together.
+use Rattle.std.proofs.Common.{◌≡◌, ◌++◌, [], ◌∷◌, Some, None, refl}
 use Rattle.std.specs.Prelude.{codes}
 use Rattle.hex.specs.Hex.{decode_pairs}
 use Rattle.mt_types.specs.declared.event.Request.TheVariants.{Get, Put, Range}
 use Rattle.mt_types.specs.declared.event.Event.TheVariants.{Begin, Step}
 use Rattle.mt_drive.specs.declared.command.Command.TheVariants.{Once, Finish}
+use Rattle.mt_types.specs.declared.event.Outcome.TheVariants.{Moved}
+use Rattle.mt_drive.specs.Lines.{lines_of}
+use Rattle.mt_drive.specs.Script.{output_of, bad_lines}
 use Rattle.mt_drive.specs.Reading.{command_of, begin_of, step_of, finish_of, request_of, get_of, put_of, remove_of, range_of, columns_of, set_of, sets_of}
 
 steps : command_of (codes "step 007") ≡ Some (Once (Step (record { 0 = 7 })))
@@ -46,3 +49,15 @@ odd_hex = refl
 nothing : command_of [] ≡ None
 unfolding command_of
 nothing = refl
+
+an_empty_line_and_a_last_one : lines_of (codes "a" ++ 10 ∷ 10 ∷ codes "bc") ≡ codes "a" ∷ [] ∷ codes "bc" ∷ []
+an_empty_line_and_a_last_one = refl
+
+no_line_after_the_last_feed : lines_of (codes "a" ++ 10 ∷ []) ≡ codes "a" ∷ []
+no_line_after_the_last_feed = refl
+
+two_replies : output_of (None ∷ Some Moved ∷ []) ≡ codes "bad line" ++ 10 ∷ (codes "moved" ++ 10 ∷ [])
+two_replies = refl
+
+one_bad : bad_lines (None ∷ Some Moved ∷ []) ≡ 1
+one_bad = refl

@@ -151,8 +151,9 @@ fn play_from<R: Read + Drop, W: Write>(
 /// Answers the lines of a script on an empty index, a line of text for each, and gives the number of bad lines.
 ///
 /// A line is `begin PASS REQUEST`, `step CALL` or `finish CALL`; a request is `get KEY COLS`, `put KEY SETS`,
-/// `remove KEY` or `range START LIMIT COLS`. A line of other bytes, or of what the index doesn't serve yet, is answered `bad line`. What a line says and how an outcome is
-/// written is told in `reading` and `showing`. `finish` makes at most 1,000,000 steps.
+/// `remove KEY` or `range START LIMIT COLS`. A line of other bytes, or of what the index doesn't serve yet, is answered
+/// `bad line`; the begin of a call whose key has more than eight bytes is refused, since there is one layer so far. What a
+/// line says and how an outcome is written is told in `reading` and `showing`. `finish` makes at most 1,000,000 steps.
 ///
 /// The reader is read at most 4,294,967,295 times, in pieces; the writer is given each reply in one piece, and is not
 /// flushed. A line costs its event, or its steps, and some allocations for its words and its reply.
