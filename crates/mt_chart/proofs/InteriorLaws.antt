@@ -1,0 +1,200 @@
+-- Each step on a head or an interior, and each change of numbers, leads from an index to an index.
+use Rattle.std.proofs.Common.{ℕ, suc, ◌≡◌, ◌≢◌, ◌≤◌, ◌⊎◌, inl, inr, List, Option, Some, None, Bool, true, false, refl, sym, ap, ◌∙◌, arith}
+use Rattle.mt_chart.specs.Chart.{Standing, on, gone, Role, top, at_level, Spot, spot, Chart, OnHead, IsTree, Owns, by_interior, Changes, still_on, went}
+use Rattle.mt_chart.specs.Steps.{AreTwins}
+use Rattle.mt_chart.specs.StepLaws.{DroppingAChildKeeps, PostingABorderKeeps, BypassingKeeps, BypassingARootKeeps, MakingARootKeeps, MarkingAHeadKeeps, PostingAHalfKeeps, KeepingChildrenKeeps, PartsNeedBeNoTwins, MarkingWhatIsGoneKeeps, ChangingSparesKeeps, FreeingKeeps, LaterEpochsKeep}
+use Rattle.mt_chart.proofs.HeldNodes.{evolves_same, evolves_again}
+use Rattle.mt_chart.proofs.ChartChanges.{evolves_at, dated_at, dated_later}
+use Rattle.mt_chart.proofs.Owners.{same_borders_content, owned_shrink}
+use Rattle.mt_chart.proofs.Ownership.{owned_rest, owned_children, owned_root}
+use Rattle.mt_chart.proofs.SmallChanges.{permit, mark_gone}
+use Rattle.mt_chart.proofs.InteriorSteps.{child_dropped_tree, child_dropped_content, child_dropped_owned, border_posted_tree, border_posted_content, border_posted_owned, bypass_tree, bypass_content, bypass_owned}
+use Rattle.mt_chart.proofs.RootSteps.{mark_head_tree, mark_head_content, root_bypass_tree, root_bypass_content, new_root_tree, new_root_content, half_kept_tree, half_kept_content, half_posted_tree, half_posted_content}
+use Rattle.mt_chart.proofs.RootStepsOwned.{root_bypass_owned, half_posted_owned, new_root_owned}
+use Rattle.mt_chart.proofs.SpareNumbers.{spare_tree, spare_content, free_tree, free_evolves}
+
+on_not_gone : (y : Bool) (e : ℕ) → on y ≡ gone e → ⊥
+on_not_gone y e q = cc
+
+gone_now : (now e : ℕ) → gone now ≡ gone e → e ≤ now
+gone_now now e q = let w : now ≡ e = cc in omega arith
+
+pub dropping_child : DroppingAChildKeeps
+dropping_child now twins arena after chart next index step = record {
+  index = record {
+    tree = child_dropped_tree arena after chart next index.tree (AreTwins twins) index.owned step.number step.below step.prefix step.least step.writes.posted step.old step.new step.writes.place step.writes.there step.writes.written step.writes.low step.writes.level step.writes.leftmost step.writes.once
+        step.child.number step.prefix step.low step.place step.charted owns step.no_twin.0 step.children;
+    owned = child_dropped_owned arena after chart next index.tree (AreTwins twins) index.owned step.number step.below step.prefix step.least step.writes.posted step.old step.new step.writes.place step.writes.there step.writes.written step.writes.low step.writes.level step.writes.leftmost step.writes.once
+        step.child.number step.prefix step.low step.place step.charted owns step.no_twin.0 step.children;
+    dated = dated_at chart next step.child.number (at_level 0) step.prefix step.low (on false) now step.charted (λ e q. absurd (on_not_gone false e q)) index.dated;
+  };
+  content = child_dropped_content arena after chart next index.tree (AreTwins twins) index.owned step.number step.below step.prefix step.least step.writes.posted step.old step.new step.writes.place step.writes.there step.writes.written step.writes.low step.writes.level step.writes.leftmost step.writes.once
+      step.child.number step.prefix step.low step.place step.charted owns step.no_twin.0 step.children;
+  evolves = λ begun le. evolves_at begun chart next step.child.number (at_level 0) step.prefix step.low (on false) step.charted (inr (on true, step.place, still_on));
+}
+  where
+    owns : Owns arena chart step.number step.child.number
+    owns = by_interior step.below step.prefix step.least step.writes.posted step.old step.child step.writes.place step.writes.there step.stood refl
+
+pub posting_border : PostingABorderKeeps
+posting_border now twins arena after chart next index step = record {
+  index = record {
+    tree = border_posted_tree arena after chart next index.tree (AreTwins twins) index.owned step.number step.below step.prefix step.least step.writes.posted step.old step.new step.writes.place step.writes.there step.writes.written step.writes.low step.writes.level step.writes.leftmost step.writes.once
+        step.posted_number step.low step.place step.charted step.children;
+    owned = border_posted_owned arena after chart next index.tree (AreTwins twins) index.owned step.number step.below step.prefix step.least step.writes.posted step.old step.new step.writes.place step.writes.there step.writes.written step.writes.low step.writes.level step.writes.leftmost step.writes.once
+        step.posted_number step.low step.place step.charted step.children;
+    dated = dated_at chart next step.posted_number (at_level 0) step.prefix step.low (on true) now step.charted (λ e q. absurd (on_not_gone true e q)) index.dated;
+  };
+  content = border_posted_content arena after chart next index.tree (AreTwins twins) index.owned step.number step.below step.prefix step.least step.writes.posted step.old step.new step.writes.place step.writes.there step.writes.written step.writes.low step.writes.level step.writes.leftmost step.writes.once
+      step.posted_number step.low step.place step.charted step.children;
+  evolves = λ begun le. evolves_at begun chart next step.posted_number (at_level 0) step.prefix step.low (on true) step.charted (inr (on false, step.place, still_on));
+}
+
+pub bypassing : BypassingKeeps
+bypassing now twins arena after chart next index step = record {
+  index = record {
+    tree = bypass_tree arena after chart next index.tree (AreTwins twins) index.owned step.number step.below step.prefix step.least step.writes.posted step.old step.new step.writes.place step.writes.there step.writes.written step.writes.low step.writes.level step.writes.leftmost step.writes.once
+        step.gone_number step.gone_below step.low step.posted step.gone_node step.child now index.dated step.place step.there step.locked step.one_child step.charted step.entry step.stood step.named step.no_twin.0 alone step.children;
+    owned = bypass_owned arena after chart next index.tree (AreTwins twins) index.owned step.number step.below step.prefix step.least step.writes.posted step.old step.new step.writes.place step.writes.there step.writes.written step.writes.low step.writes.level step.writes.leftmost step.writes.once
+        step.gone_number step.gone_below step.low step.posted step.gone_node step.child now index.dated step.place step.there step.locked step.one_child step.charted step.entry step.stood step.named step.no_twin.0 alone step.children;
+    dated = dated_at chart next step.gone_number (at_level (suc step.gone_below)) step.prefix step.low (gone now) now step.charted (λ e q. gone_now now e q) index.dated;
+  };
+  content = bypass_content arena after chart next index.tree (AreTwins twins) index.owned step.number step.below step.prefix step.least step.writes.posted step.old step.new step.writes.place step.writes.there step.writes.written step.writes.low step.writes.level step.writes.leftmost step.writes.once
+      step.gone_number step.gone_below step.low step.posted step.gone_node step.child now index.dated step.place step.there step.locked step.one_child step.charted step.entry step.stood step.named step.no_twin.0 alone step.children;
+  evolves = λ begun le. evolves_at begun chart next step.gone_number (at_level (suc step.gone_below)) step.prefix step.low (gone now) step.charted (inr (on step.posted, step.place, went le));
+}
+  where
+    alone : (j : ℕ) → AreTwins twins step.gone_number j ⊎ AreTwins twins j step.gone_number → ⊥
+    alone j (inl t) = step.gone_no_twin.1 j t
+    alone j (inr t) = step.gone_no_twin.0 j t
+
+pub bypassing_root : BypassingARootKeeps
+bypassing_root now twins arena after chart next index step = record {
+  index = record {
+    tree = root_bypass_tree arena after chart index.tree step.number step.prefix step.old step.new step.writes.place step.writes.there step.writes.written next (AreTwins twins) index.owned step.gone_number step.gone_below step.gone_node step.child now index.dated
+        step.was_root step.place step.there step.locked step.one_child step.charted step.root step.level step.no_twin.0;
+    owned = root_bypass_owned arena after chart next (AreTwins twins) index.owned step.number step.prefix step.old step.new step.writes.place step.writes.there step.writes.written step.gone_number step.gone_below step.gone_node step.child now step.place step.there step.one_child step.root step.charted step.gone_no_twin.1;
+    dated = dated_at chart next step.gone_number (at_level (suc step.gone_below)) step.prefix 0 (gone now) now step.charted (λ e q. gone_now now e q) index.dated;
+  };
+  content = root_bypass_content arena after chart index.tree step.number step.prefix step.old step.new step.writes.place step.writes.there step.writes.written next (AreTwins twins) index.owned step.gone_number step.gone_below step.gone_node step.child now index.dated
+      step.was_root step.place step.there step.locked step.one_child step.charted step.root step.level step.no_twin.0;
+  evolves = λ begun le. evolves_at begun chart next step.gone_number (at_level (suc step.gone_below)) step.prefix 0 (gone now) step.charted (inr (on true, step.place, went le));
+}
+
+head_kept : (chart between : Chart) (h c : ℕ) (q : List ℕ) (l : ℕ) (x : Spot) → OnHead chart h q → chart c ≡ Some (spot (at_level 0) q l (on false)) → Changes chart between c (Some x) → OnHead between h q
+head_kept chart between h c q l x at_h at_c change = change.rest h (λ e. let u : chart h ≡ chart c = ap chart e in let w : top ≡ at_level 0 = cc in cc) ∙ at_h
+
+unknown_kept : (chart between : Chart) (x c : ℕ) (y z : Spot) → chart x ≡ None → chart c ≡ Some y → Changes chart between c (Some z) → between x ≡ None
+unknown_kept chart between x c y z fresh at_c change = change.rest x (λ e. let u : chart x ≡ chart c = ap chart e in let w : ◌≡◌ {A = Option Spot} None (Some y) = sym fresh ∙ (u ∙ at_c) in cc) ∙ fresh
+
+pub making_root : MakingARootKeeps
+making_root now twins arena after chart between next index step = record {
+  index = record {
+    tree = new_root_tree arena after chart index.tree step.number step.prefix step.old step.new step.writes.place step.writes.there step.writes.written between next step.posted_number step.root_number step.below step.low step.root_node step.place step.unknown step.filled
+        step.posted_charted step.root_charted step.root_low step.root_level step.higher step.children step.root step.level;
+    owned = new_root_owned arena after chart between next (AreTwins twins) index.tree (permit arena chart index.tree between step.posted_number step.prefix step.low false true step.place step.posted_charted (inl refl)) index.owned
+        step.number step.prefix step.old step.new (head_kept chart between step.number step.posted_number step.prefix step.low (spot (at_level 0) step.prefix step.low (on true)) step.writes.place step.place step.posted_charted) step.writes.there step.writes.written
+        step.posted_number step.root_number step.below step.low 0 step.root_node step.place (unknown_kept chart between step.root_number step.posted_number (spot (at_level 0) step.prefix step.low (on false)) (spot (at_level 0) step.prefix step.low (on true)) step.unknown step.place step.posted_charted) step.filled
+        step.posted_charted step.root_charted step.children step.once step.root step.no_twin.0;
+    dated = dated_at between next step.root_number (at_level (suc step.below)) step.prefix 0 (on true) now step.root_charted (λ e q. absurd (on_not_gone true e q))
+        (dated_at chart between step.posted_number (at_level 0) step.prefix step.low (on true) now step.posted_charted (λ e q. absurd (on_not_gone true e q)) index.dated);
+  };
+  content = new_root_content arena after chart index.tree step.number step.prefix step.old step.new step.writes.place step.writes.there step.writes.written between next step.posted_number step.root_number step.below step.low step.root_node step.place step.unknown step.filled
+      step.posted_charted step.root_charted step.root_low step.root_level step.higher step.children step.root step.level;
+  evolves = λ begun le. evolves_again begun chart between next
+      (evolves_at begun chart between step.posted_number (at_level 0) step.prefix step.low (on true) step.posted_charted (inr (on false, step.place, still_on)))
+      (evolves_at begun between next step.root_number (at_level (suc step.below)) step.prefix 0 (on true) step.root_charted
+      (inl (unknown_kept chart between step.root_number step.posted_number (spot (at_level 0) step.prefix step.low (on false)) (spot (at_level 0) step.prefix step.low (on true)) step.unknown step.place step.posted_charted)));
+}
+
+pub marking_head : MarkingAHeadKeeps
+marking_head now twins arena after chart index step = record {
+  index = record {
+    tree = mark_head_tree arena after chart index.tree step.number step.prefix step.old step.new step.writes.place step.writes.there step.writes.written step.root step.level;
+    owned = owned_root arena after chart (AreTwins twins) index.owned step.number step.prefix step.old step.new step.writes.place step.writes.there step.writes.written (inl (sym step.root));
+    dated = index.dated;
+  };
+  content = mark_head_content arena after chart index.tree step.number step.prefix step.old step.new step.writes.place step.writes.there step.writes.written step.root step.level;
+  evolves = λ begun le. evolves_same begun chart;
+}
+
+pub posting_half : PostingAHalfKeeps
+posting_half now twins more_twins arena after chart next index step = record {
+  index = record {
+    tree = half_posted_tree arena after chart next index.tree step.number step.below step.prefix step.least step.posted step.node step.place step.there step.half_number step.low step.half step.unknown step.filled step.charted step.half_low step.half_level step.half_leftmost step.part
+        step.parent_number step.parent_below step.parent_least step.writes.posted step.old step.new step.writes.place step.writes.there step.writes.written step.above step.writes.low step.writes.level step.writes.leftmost step.children;
+    owned = half_posted_owned arena after chart next (AreTwins twins) (AreTwins more_twins) index.tree index.owned step.kept_twins step.number step.below step.prefix step.least step.posted step.node step.place step.there
+        step.half_number step.low step.half step.unknown step.filled step.charted step.half_once step.part step.new_twins
+        step.parent_number step.parent_below step.parent_least step.writes.posted step.old step.new step.writes.place step.writes.there step.writes.written step.writes.once step.children;
+    dated = dated_at chart next step.half_number (at_level (suc step.below)) step.prefix step.low (on true) now step.charted (λ e q. absurd (on_not_gone true e q)) index.dated;
+  };
+  content = half_posted_content arena after chart next index.tree step.number step.below step.prefix step.least step.posted step.node step.place step.there step.half_number step.low step.half step.unknown step.filled step.charted step.half_low step.half_level step.half_leftmost step.part
+      step.parent_number step.parent_below step.parent_least step.writes.posted step.old step.new step.writes.place step.writes.there step.writes.written step.above step.writes.low step.writes.level step.writes.leftmost step.children;
+  evolves = λ begun le. evolves_at begun chart next step.half_number (at_level (suc step.below)) step.prefix step.low (on true) step.charted (inl step.unknown);
+}
+
+pub keeping_children : KeepingChildrenKeeps
+keeping_children now twins arena after chart index step = record {
+  index = record {
+    tree = half_kept_tree arena after chart chart index.tree step.number step.below step.prefix step.least step.writes.posted step.old step.writes.place step.writes.there step.new step.writes.written step.writes.low step.writes.level step.writes.leftmost step.children;
+    owned = owned_children arena after chart (AreTwins twins) index.owned step.number step.below step.prefix step.least step.writes.posted step.old step.new step.writes.place step.writes.there step.writes.written step.writes.once (λ d k. inl (step.children d k));
+    dated = index.dated;
+  };
+  content = half_kept_content arena after chart chart index.tree step.number step.below step.prefix step.least step.writes.posted step.old step.writes.place step.writes.there step.new step.writes.written step.writes.low step.writes.level step.writes.leftmost step.children;
+  evolves = λ begun le. evolves_same begun chart;
+}
+
+pub fewer_twins : PartsNeedBeNoTwins
+fewer_twins now twins fewer arena chart index apart = record {
+  tree = index.tree;
+  owned = owned_shrink arena chart (AreTwins twins) (AreTwins fewer) index.owned apart;
+  dated = index.dated;
+}
+
+interior_no_border : (chart : Chart) (n i k : ℕ) (p q : List ℕ) (l m : ℕ) (s t : Standing) → chart n ≡ Some (spot (at_level 0) p l s) → chart i ≡ Some (spot (at_level (suc k)) q m t) → n ≢ i
+interior_no_border chart n i k p q l m s t g h e = let u : chart n ≡ chart i = ap chart e in let w : at_level 0 ≡ at_level (suc k) = cc in let v : 0 ≡ suc k = cc in omega arith
+
+on_no_gone : (chart : Chart) (n i : ℕ) (r x : Role) (p q : List ℕ) (l m : ℕ) (y : Bool) (e : ℕ) → chart n ≡ Some (spot r p l (on y)) → chart i ≡ Some (spot x q m (gone e)) → n ≢ i
+on_no_gone chart n i r x p q l m y e g h f = let u : chart n ≡ chart i = ap chart f in let w : on y ≡ gone e = cc in cc
+
+pub marking_gone : MarkingWhatIsGoneKeeps
+marking_gone now twins arena after chart index step = record {
+  index = record {
+    tree = new_tree;
+    owned = owned_rest arena after chart chart (AreTwins twins) index.owned
+        (λ j r p l y g ne. (refl, step.written.rest j (on_no_gone chart j step.number r (at_level (suc step.below)) p step.prefix l step.low y step.epoch g step.place)));
+    dated = index.dated;
+  };
+  content = same_borders_content arena after chart index.tree new_tree (λ m q l st g. step.written.rest m (interior_no_border chart m step.number step.below q step.prefix l step.low st (gone step.epoch) g step.place));
+  evolves = λ begun le. evolves_same begun chart;
+}
+  where
+    new_tree : IsTree after chart
+    new_tree = mark_gone arena chart index.tree after step.number step.below step.prefix step.low step.epoch step.node step.place step.written step.node_low step.node_level step.marked
+
+pub changing_spares : ChangingSparesKeeps
+changing_spares now twins arena after chart index same = record {
+  index = record {
+    tree = spare_tree arena after chart index.tree same;
+    owned = owned_rest arena after chart chart (AreTwins twins) index.owned (λ j r p l y g ne. (refl, same j (spot r p l (on y)) g));
+    dated = index.dated;
+  };
+  content = spare_content arena after chart index.tree same;
+  evolves = λ begun le. evolves_same begun chart;
+}
+
+known_differs : (next : Chart) (n r : ℕ) (x : Spot) → next n ≡ Some x → next r ≡ None → n ≢ r
+known_differs next n r x g f e = let u : next n ≡ next r = ap next e in let w : ◌≡◌ {A = Option Spot} None (Some x) = sym f ∙ (sym u ∙ g) in cc
+
+pub freeing : FreeingKeeps
+freeing now twins arena chart next epoch index step = (
+  record {
+    tree = free_tree arena chart next index.tree step.number step.role step.prefix step.low epoch step.place step.charted.now step.charted.rest (λ m f q v e x. step.later m f q v e x);
+    owned = owned_rest arena arena chart next (AreTwins twins) index.owned (λ j r p l y g ne. (sym (step.charted.rest j (known_differs next j step.number (spot r p l (on y)) g step.charted.now)), refl));
+    dated = λ m role p l e g. index.dated m role p l e (sym (step.charted.rest m (known_differs next m step.number (spot role p l (gone e)) g step.charted.now)) ∙ g);
+  },
+  free_evolves arena chart next index.tree step.number step.role step.prefix step.low epoch step.place step.charted.now step.charted.rest (λ m f q v e x. step.later m f q v e x),
+)
+
+pub later_epochs : LaterEpochsKeep
+later_epochs now later twins arena chart le index = record { tree = index.tree; owned = index.owned; dated = dated_later chart now later le index.dated }
