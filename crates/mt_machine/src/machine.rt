@@ -268,32 +268,32 @@ impl Machine {
             _ => unreachable!(),
         }
     }
-}
 
-/// The outcomes of these events, one for each in their order, on an empty index, and the machine that they lead to.
-///
-/// Costs what the events cost, and an allocation for the list of outcomes that doubles as it grows.
-///
-/// # Errors
-///
-/// Those of `Machine::open`, and `NoMemory` where the list of outcomes can't grow.
-pub fn run(
-    alloc: Global,
-    options: Options,
-    events: &[Event],
-) -> Result<(Machine, Vec<Outcome>), Refusal>
-    requires { All IsServed events.now }
-    ensures legal { IfOk result (λ run. (h : History) × IsRun options.columns events.now run.1.items run.0 h) }
-    ensures length { IfOk result (λ run. length run.1.items ≡ length events.now) }
-    ensures fault { MatchOption (open_fault options.columns options.feed options.keep) (IfErr result (λ refusal. refusal ≡ Refusal.NoMemory)) (λ refusal. result ≡ Err refusal) }
-{
-    let mut machine = Machine::open(alloc, options)?;
-    let mut outcomes = Vec::new(alloc);
-    for event in events {
-        let outcome = machine.event(alloc, event);
-        let Ok(()) = outcomes.push(outcome) else {
-            return Err(Refusal::NoMemory);
-        };
+    /// The outcomes of these events, one for each in their order, on an empty index, and the machine that they lead to.
+    ///
+    /// Costs what the events cost, and an allocation for the list of outcomes that doubles as it grows.
+    ///
+    /// # Errors
+    ///
+    /// Those of `Machine::open`, and `NoMemory` where the list of outcomes can't grow.
+    pub fn run(
+        alloc: Global,
+        options: Options,
+        events: &[Event],
+    ) -> Result<(Machine, Vec<Outcome>), Refusal>
+        requires { All IsServed events.now }
+        ensures legal { IfOk result (λ run. (h : History) × IsRun options.columns events.now run.1.items run.0 h) }
+        ensures length { IfOk result (λ run. length run.1.items ≡ length events.now) }
+        ensures fault { MatchOption (open_fault options.columns options.feed options.keep) (IfErr result (λ refusal. refusal ≡ Refusal.NoMemory)) (λ refusal. result ≡ Err refusal) }
+    {
+        let mut machine = Machine::open(alloc, options)?;
+        let mut outcomes = Vec::new(alloc);
+        for event in events {
+            let outcome = machine.event(alloc, event);
+            let Ok(()) = outcomes.push(outcome) else {
+                return Err(Refusal::NoMemory);
+            };
+        }
+        Ok((machine, outcomes))
     }
-    Ok((machine, outcomes))
 }

@@ -3,7 +3,7 @@
 ghost use Rattle.std.specs.Prelude.{◌≤◌, length, IfOk};
 ghost use Rattle.mt_machine.specs.Seen.{IsServed};
 
-use crate::machine::{Machine, run};
+use crate::machine::Machine;
 use crate::options::Options;
 use bytes::Bytes;
 use mt_types::event::{Answer, Event, Outcome, Request};
@@ -82,7 +82,7 @@ fn empty_index_empty_key(rt: HostRuntime) -> Result<(), Fail> {
         Event::Step(CallNo(1)),
         Event::Step(CallNo(1)),
     ];
-    let (machine, outcomes) = run(alloc, OPTIONS, &events)?;
+    let (machine, outcomes) = Machine::run(alloc, OPTIONS, &events)?;
     assert_eq!(rt; machine.open_calls(), 0);
     assert_eq!(rt; outcomes.len(), 3);
     let absent = matches!(&outcomes[2], Outcome::Done(reply) if reply.answer == Answer::Absent);

@@ -7,7 +7,7 @@ use Rattle.mt_types.specs.History.{History, GoesOn, happening}
 use Rattle.mt_types.specs.Legal.{Legal}
 use Rattle.mt_types.proofs.HistoryLemmas.{GoesOn-append, GoesOn-length}
 use Rattle.mt_machine.proofs.StepLemmas.{opened}
-use Rattle.mt_machine.proofs.machine.run.Goals as goal
+use Rattle.mt_machine.proofs.machine.Machine.run.Goals as goal
 
 pub loop-event-init : goal.loop-event-init
 loop-event-init c =

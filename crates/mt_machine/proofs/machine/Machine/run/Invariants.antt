@@ -3,7 +3,7 @@ use Rattle.mt_types.specs.History.{History, GoesOn}
 use Rattle.mt_types.specs.Limits.{open_fault}
 use Rattle.mt_machine.specs.Stands.{Stands}
 use Rattle.std.proofs.Common.{None}
-use Rattle.mt_machine.proofs.machine.run.Given as goal
+use Rattle.mt_machine.proofs.machine.Machine.run.Given as goal
 
 -- the events so far led from nothing to where the machine stands
 abbrev pub invariant-loop-event : goal.invariant-loop-event
