@@ -5,7 +5,7 @@ use Rattle.mt_types.specs.declared.row.Row.{Row}
 use Rattle.mt_chart.specs.Tree.{link, Entry, Arena, Among, Below, Has}
 use Rattle.mt_chart.specs.Chart.{on, gone, Role, top, at_level, Spot, spot, Chart, IsBorder, Apart, class, Owns, by_head, Dated}
 use Rattle.mt_chart.specs.Steps.{Twin, AreTwins, IsIndex, MarksBorder, ShowsRow, HidesRow, SetsRow}
-use Rattle.mt_chart.specs.StepLaws.{ShowingAddsTheRow, HidingRemovesTheRow, SettingReplacesTheRow, MarkingABorderKeeps, LinkingAHalfKeeps, MakingALayerKeeps, UnlinkingKeeps, DroppingALayerKeeps}
+use Rattle.mt_chart.specs.StepLaws.{ShowingAddsTheRow, HidingRemovesTheRow, SettingReplacesTheRow, MarkingABorderKeeps, MarkingAGoneBorderKeeps, LinkingAHalfKeeps, MakingALayerKeeps, UnlinkingKeeps, DroppingALayerKeeps}
 use Rattle.mt_chart.proofs.Basics.{same_number}
 use Rattle.mt_chart.proofs.HeldNodes.{evolves_same}
 use Rattle.mt_chart.proofs.ChartChanges.{dated_at}
@@ -15,6 +15,7 @@ use Rattle.mt_chart.proofs.Refit.{refit, refit_owned, content_same, content_show
 use Rattle.mt_chart.proofs.Split.{split_tree, split_owned, split_content, split_evolves}
 use Rattle.mt_chart.proofs.NewLayer.{layer_made_tree, layer_made_owned, layer_made_content, layer_made_evolves}
 use Rattle.mt_chart.proofs.Unlink.{unlink_tree, unlink_owned, unlink_content, unlink_evolves}
+use Rattle.mt_chart.proofs.SpareNumbers.{gone_border_keeps}
 use Rattle.mt_chart.proofs.DropLayer.{layer_dropped_tree, layer_dropped_owned, layer_dropped_content, layer_dropped_evolves}
 
 -- a row is shown
@@ -175,6 +176,9 @@ marking now twins arena after chart index step = record {
   content = marks_content now twins arena after chart index step;
   evolves = λ begun le. evolves_same begun chart;
 }
+
+pub marking_gone_border : MarkingAGoneBorderKeeps
+marking_gone_border now twins arena after chart index step = gone_border_keeps arena after chart step.number step.prefix step.low step.epoch now twins step.node index step.place step.written step.marked
 
 on_not_gone : (y : Bool) (e : ℕ) → on y ≡ gone e → ⊥
 on_not_gone y e q = cc

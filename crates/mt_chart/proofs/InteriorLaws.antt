@@ -1,8 +1,8 @@
 -- Each step on a head or an interior, and each change of numbers, leads from an index to an index.
 use Rattle.std.proofs.Common.{ℕ, suc, ◌≡◌, ◌≢◌, ◌≤◌, ◌⊎◌, inl, inr, List, Option, Some, None, Bool, true, false, refl, sym, ap, ◌∙◌, arith}
-use Rattle.mt_chart.specs.Chart.{Standing, on, gone, Role, top, at_level, Spot, spot, Chart, OnHead, IsTree, Owns, by_interior, Changes, still_on, went}
+use Rattle.mt_chart.specs.Chart.{Standing, on, gone, top, at_level, Spot, spot, Chart, OnHead, IsTree, Owns, by_interior, Changes, still_on, went}
 use Rattle.mt_chart.specs.Steps.{AreTwins}
-use Rattle.mt_chart.specs.StepLaws.{DroppingAChildKeeps, PostingABorderKeeps, BypassingKeeps, BypassingARootKeeps, MakingARootKeeps, MarkingAHeadKeeps, PostingAHalfKeeps, KeepingChildrenKeeps, PartsNeedBeNoTwins, MarkingWhatIsGoneKeeps, ChangingSparesKeeps, FreeingKeeps, LaterEpochsKeep}
+use Rattle.mt_chart.specs.StepLaws.{DroppingAChildKeeps, PostingABorderKeeps, BypassingKeeps, BypassingARootKeeps, MakingARootKeeps, MarkingAHeadKeeps, PostingAHalfKeeps, KeepingChildrenKeeps, PartsNeedBeNoTwins, MarkingWhatIsGoneKeeps, MarkingAGoneHeadKeeps, ChangingSparesKeeps, FreeingKeeps, LaterEpochsKeep}
 use Rattle.mt_chart.proofs.HeldNodes.{evolves_same, evolves_again}
 use Rattle.mt_chart.proofs.ChartChanges.{evolves_at, dated_at, dated_later}
 use Rattle.mt_chart.proofs.Owners.{same_borders_content, owned_shrink}
@@ -11,7 +11,7 @@ use Rattle.mt_chart.proofs.SmallChanges.{permit, mark_gone}
 use Rattle.mt_chart.proofs.InteriorSteps.{child_dropped_tree, child_dropped_content, child_dropped_owned, border_posted_tree, border_posted_content, border_posted_owned, bypass_tree, bypass_content, bypass_owned}
 use Rattle.mt_chart.proofs.RootSteps.{mark_head_tree, mark_head_content, root_bypass_tree, root_bypass_content, new_root_tree, new_root_content, half_kept_tree, half_kept_content, half_posted_tree, half_posted_content}
 use Rattle.mt_chart.proofs.RootStepsOwned.{root_bypass_owned, half_posted_owned, new_root_owned}
-use Rattle.mt_chart.proofs.SpareNumbers.{spare_tree, spare_content, free_tree, free_evolves}
+use Rattle.mt_chart.proofs.SpareNumbers.{on_no_gone, gone_head_keeps, spares_keep, free_tree, free_evolves}
 
 on_not_gone : (y : Bool) (e : ℕ) → on y ≡ gone e → ⊥
 on_not_gone y e q = cc
@@ -154,9 +154,6 @@ fewer_twins now twins fewer arena chart index apart = record {
 interior_no_border : (chart : Chart) (n i k : ℕ) (p q : List ℕ) (l m : ℕ) (s t : Standing) → chart n ≡ Some (spot (at_level 0) p l s) → chart i ≡ Some (spot (at_level (suc k)) q m t) → n ≢ i
 interior_no_border chart n i k p q l m s t g h e = let u : chart n ≡ chart i = ap chart e in let w : at_level 0 ≡ at_level (suc k) = cc in let v : 0 ≡ suc k = cc in omega arith
 
-on_no_gone : (chart : Chart) (n i : ℕ) (r x : Role) (p q : List ℕ) (l m : ℕ) (y : Bool) (e : ℕ) → chart n ≡ Some (spot r p l (on y)) → chart i ≡ Some (spot x q m (gone e)) → n ≢ i
-on_no_gone chart n i r x p q l m y e g h f = let u : chart n ≡ chart i = ap chart f in let w : on y ≡ gone e = cc in cc
-
 pub marking_gone : MarkingWhatIsGoneKeeps
 marking_gone now twins arena after chart index step = record {
   index = record {
@@ -172,16 +169,11 @@ marking_gone now twins arena after chart index step = record {
     new_tree : IsTree after chart
     new_tree = mark_gone arena chart index.tree after step.number step.below step.prefix step.low step.epoch step.node step.place step.written step.node_low step.node_level step.marked
 
+pub marking_gone_head : MarkingAGoneHeadKeeps
+marking_gone_head now twins arena after chart index step = gone_head_keeps arena after chart step.number step.prefix step.low step.epoch now twins step.node index step.place step.written step.marked
+
 pub changing_spares : ChangingSparesKeeps
-changing_spares now twins arena after chart index same = record {
-  index = record {
-    tree = spare_tree arena after chart index.tree same;
-    owned = owned_rest arena after chart chart (AreTwins twins) index.owned (λ j r p l y g ne. (refl, same j (spot r p l (on y)) g));
-    dated = index.dated;
-  };
-  content = spare_content arena after chart index.tree same;
-  evolves = λ begun le. evolves_same begun chart;
-}
+changing_spares now twins arena after chart index same = spares_keep now twins arena after chart index same
 
 known_differs : (next : Chart) (n r : ℕ) (x : Spot) → next n ≡ Some x → next r ≡ None → n ≢ r
 known_differs next n r x g f e = let u : next n ≡ next r = ap next e in let w : ◌≡◌ {A = Option Spot} None (Some x) = sym f ∙ (sym u ∙ g) in cc

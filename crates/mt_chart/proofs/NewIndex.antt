@@ -1,33 +1,50 @@
 -- A new index: head 0 and one empty border. So the invariant can be met.
-use Rattle.std.proofs.Common.{ℕ, zero, suc, ◌≡◌, inl, List, [], Option, Some, None, Bool, true, refl, sym, ap, ◌∙◌, subst, arith}
+use Rattle.std.proofs.Common.{ℕ, zero, suc, ◌≡◌, ◌≢◌, ◌<◌, inl, inr, List, [], Option, Some, None, Bool, true, refl, sym, ap, ◌∙◌, subst, arith}
+use Rattle.std.proofs.lemmas.Bool.{cases_eq, eq-eqb, ne_eqb}
 use Rattle.mt_chart.specs.Tree.{Right, BorderNode, Node, border}
-use Rattle.mt_chart.specs.NewIndex.{new_head, new_border, new_arena, new_chart}
-use Rattle.mt_chart.specs.Chart.{Dated, Standing, on, gone, top, at_level, Spot, spot, OnBorder, IsBorder, Hung, HeadAt, IsTree, Owned, Owns, by_head, by_interior}
+use Rattle.mt_chart.specs.NewIndex.{only_at, new_head, new_border, arena_of_two, new_arena, new_chart}
+use Rattle.mt_chart.specs.Chart.{Dated, Standing, on, gone, top, at_level, spot, OnBorder, IsBorder, Hung, HeadAt, IsTree, Owned, Owns, by_head, by_interior}
 
-only_border : (n : ℕ) (p : List ℕ) (l : ℕ) (st : Standing) → new_chart n ≡ Some (spot (at_level 0) p l st) → (n ≡ 1) × (p ≡ []) × (l ≡ 0) × (st ≡ on true)
-only_border zero p l st g = absurd (let e : top ≡ at_level 0 = cc in cc)
-only_border (suc zero) p l st g = (refl, (cc), (let e : 0 ≡ l = cc in sym e), (cc))
-only_border (suc (suc n)) p l st g = absurd (let e : ◌≡◌ {A = Option Spot} None (Some (spot (at_level 0) p l st)) = g in cc)
+pub only_here : {A : Type 0} (at : ℕ) (value : A) (number : ℕ) → number ≡ at → only_at at value number ≡ Some value
+only_here at value number e = rw (eq-eqb number at e) refl
 
-only_head : (n : ℕ) (p : List ℕ) (l : ℕ) (st : Standing) → new_chart n ≡ Some (spot top p l st) → (n ≡ 0) × (p ≡ []) × (l ≡ 0) × (st ≡ on true)
-only_head zero p l st g = (refl, (cc), (let e : 0 ≡ l = cc in sym e), (cc))
-only_head (suc zero) p l st g = absurd (let e : top ≡ at_level 0 = cc in cc)
-only_head (suc (suc n)) p l st g = absurd (let e : ◌≡◌ {A = Option Spot} None (Some (spot top p l st)) = g in cc)
+pub only_elsewhere : {A : Type 0} (at : ℕ) (value : A) (number : ℕ) → number ≢ at → only_at at value number ≡ None
+only_elsewhere at value number e = rw (ne_eqb number at e) refl
 
-no_interior : (n k : ℕ) (p : List ℕ) (l : ℕ) (st : Standing) → new_chart n ≡ Some (spot (at_level (suc k)) p l st) → ⊥
-no_interior zero k p l st g = let e : top ≡ at_level (suc k) = cc in cc
-no_interior (suc zero) k p l st g = let e : at_level 0 ≡ at_level (suc k) = cc in let f : 0 ≡ suc k = cc in omega arith
-no_interior (suc (suc n)) k p l st g = let e : ◌≡◌ {A = Option Spot} None (Some (spot (at_level (suc k)) p l st)) = g in cc
+pub only_is : {A : Type 0} (at : ℕ) (value other : A) (number : ℕ) → only_at at value number ≡ Some other → (number ≡ at) × (value ≡ other)
+only_is at value other number g = elim (cases_eq number at) [
+  | inl e ↦ (e, (let w = sym (only_here at value number e) ∙ g in cc))
+  | inr e ↦ absurd (let w = sym (only_elsewhere at value number e) ∙ g in cc)
+]
+
+-- what stands at the border's number
+pub at_root : (root : ℕ) (node : BorderNode) → 0 < root → arena_of_two root node root ≡ Some (border node)
+at_root zero node h = elim h [ ]
+at_root (suc k) node h = only_here (suc k) (border node) (suc k) refl
+
+pub charted_root : (root : ℕ) → 0 < root → new_chart root root ≡ Some (spot (at_level 0) [] 0 (on true))
+charted_root zero h = elim h [ ]
+charted_root (suc k) h = only_here (suc k) (spot (at_level 0) [] 0 (on true)) (suc k) refl
+
+only_border : (root n : ℕ) (p : List ℕ) (l : ℕ) (st : Standing) → new_chart root n ≡ Some (spot (at_level 0) p l st) → (n ≡ root) × (p ≡ []) × (l ≡ 0) × (st ≡ on true)
+only_border root zero p l st g = absurd (let e : top ≡ at_level 0 = cc in cc)
+only_border root (suc n) p l st g = let (e, f) = only_is root (spot (at_level 0) [] 0 (on true)) (spot (at_level 0) p l st) (suc n) g in (e, (cc), (let h : 0 ≡ l = cc in sym h), (cc))
+
+only_head : (root n : ℕ) (p : List ℕ) (l : ℕ) (st : Standing) → new_chart root n ≡ Some (spot top p l st) → (n ≡ 0) × (p ≡ []) × (l ≡ 0) × (st ≡ on true)
+only_head root zero p l st g = (refl, (cc), (let e : 0 ≡ l = cc in sym e), (cc))
+only_head root (suc n) p l st g = absurd (let (e, f) = only_is root (spot (at_level 0) [] 0 (on true)) (spot top p l st) (suc n) g in let h : top ≡ at_level 0 = cc in cc)
+
+no_interior : (root n k : ℕ) (p : List ℕ) (l : ℕ) (st : Standing) → new_chart root n ≡ Some (spot (at_level (suc k)) p l st) → ⊥
+no_interior root zero k p l st g = let e : top ≡ at_level (suc k) = cc in cc
+no_interior root (suc n) k p l st g =
+    let (e, f) = only_is root (spot (at_level 0) [] 0 (on true)) (spot (at_level (suc k)) p l st) (suc n) g in
+    let h : at_level 0 ≡ at_level (suc k) = cc in let i : 0 ≡ suc k = cc in omega arith
 
 not_gone : (e : ℕ) → gone e ≡ on true → ⊥
 not_gone e h = cc
 
-is_new : (n : ℕ) (p : List ℕ) (b : BorderNode) → OnBorder new_arena new_chart n p b → (n ≡ 1) × (p ≡ []) × (b ≡ new_border)
-is_new n p b o = let (e, f, g, h) = only_border n p b.low (on o.posted) o.place in
-    (e, f, (let i : new_arena n ≡ new_arena 1 = ap new_arena e in let j = o.node in let k : ◌≡◌ {A = Option Node} (Some (border new_border)) (Some (border b)) = sym i ∙ j in let w : border new_border ≡ border b = cc in let v : new_border ≡ b = cc in sym v))
-
-new_ok : IsBorder new_chart [] new_border
-new_ok = record {
+new_ok : (root : ℕ) → IsBorder (new_chart root) [] new_border
+new_ok root = record {
   apart = (λ e f i j x y. elim i [ ]);
   from_low = (λ e i. elim i [ ]);
   to_right = (λ e i. elim i [ ]);
@@ -36,39 +53,49 @@ new_ok = record {
   empty = (λ e. refl);
 }
 
-head_at : (h : ℕ) (p : List ℕ) (l : ℕ) (y : Bool) → (h ≡ 0) × (p ≡ []) × (l ≡ 0) × (on y ≡ on true) → HeadAt new_arena new_chart h p l y
-head_at h p l y (e, f, g, i) = record { low = g; posted = (cc); node = new_head; is_node = ap new_arena e; root = (let w : ◌≡◌ {A = Option Spot} (Some (spot (at_level 0) [] 0 (on true))) (Some (spot (at_level 0) p 0 (on true))) = ap (λ (q : List ℕ). Some (spot (at_level 0) q 0 (on true))) (sym f) in w) }
+module _ (root : ℕ) (positive : 0 < root) where
+  is_new : (n : ℕ) (p : List ℕ) (b : BorderNode) → OnBorder (new_arena root) (new_chart root) n p b → (n ≡ root) × (p ≡ []) × (b ≡ new_border)
+  is_new n p b o = let (e, f, g, h) = only_border root n p b.low (on o.posted) o.place in
+      (e, f, (let i = ap (new_arena root) e ∙ at_root root new_border positive in let k : ◌≡◌ {A = Option Node} (Some (border new_border)) (Some (border b)) = sym i ∙ o.node in let w : border new_border ≡ border b = cc in let v : new_border ≡ b = cc in sym v))
 
-pub new_tree : IsTree new_arena new_chart
-new_tree = record {
-  layer_0 = refl;
-  heads = (λ h p l y g. head_at h p l y (only_head h p l (on y) g));
-  borders = (λ n p l y g. let (e, f, z, i) = only_border n p l (on y) g in (new_border, ap new_arena e, sym z));
-  each_border = (λ n p b o. let (e, f, g) = is_new n p b o in rw (f, g) new_ok);
-  interiors = (λ n k p l st g. absurd (no_interior n k p l st g));
-  gone_heads = (λ h p l e g. absurd (not_gone e ((only_head h p l (gone e) g).3)));
-  gone_borders = (λ n p l e g. absurd (not_gone e ((only_border n p l (gone e) g).3)));
-  from_left = (λ n p b o. let (e, f, g) = is_new n p b o in inl (ap (λ z. z.low) g));
-  in_layer = (λ n p b o. let (e, f, g) = is_new n p b o in (0, ap (λ (q : List ℕ). Some (spot top q 0 (on true))) (sym f)));
-  hung = (λ h p g. let (e, f, z, i) = only_head h p 0 (on true) g in subst (λ (q : List ℕ). Hung new_arena new_chart h q) (sym f) e);
-  disjoint = (λ n m p b c o o' le be. let (e, f, g) = is_new n p b o in let (e', f', g') = is_new m p c o' in e ∙ sym e');
-}
+  head_at : (h : ℕ) (p : List ℕ) (l : ℕ) (y : Bool) → (h ≡ 0) × (p ≡ []) × (l ≡ 0) × (on y ≡ on true) → HeadAt (new_arena root) (new_chart root) h p l y
+  head_at h p l y (e, f, g, i) = record {
+    low = g;
+    posted = (cc);
+    node = new_head root;
+    is_node = ap (new_arena root) e;
+    root = charted_root root positive ∙ ap (λ (q : List ℕ). Some (spot (at_level 0) q 0 (on true))) (sym f);
+  }
 
-pub new_owned : Owned new_arena new_chart (λ i j. ⊥)
-new_owned = record { one_owner = (λ i j c x y. inl (owner i c x ∙ sym (owner j c y))); once = (λ n k p l y t g e. absurd (no_interior n k p l (on y) g)) }
+  pub new_tree : IsTree (new_arena root) (new_chart root)
+  new_tree = record {
+    layer_0 = refl;
+    heads = (λ h p l y g. head_at h p l y (only_head root h p l (on y) g));
+    borders = (λ n p l y g. let (e, f, z, i) = only_border root n p l (on y) g in (new_border, ap (new_arena root) e ∙ at_root root new_border positive, sym z));
+    each_border = (λ n p b o. let (e, f, g) = is_new n p b o in rw (f, g) (new_ok root));
+    interiors = (λ n k p l st g. absurd (no_interior root n k p l st g));
+    gone_heads = (λ h p l e g. absurd (not_gone e ((only_head root h p l (gone e) g).3)));
+    gone_borders = (λ n p l e g. absurd (not_gone e ((only_border root n p l (gone e) g).3)));
+    from_left = (λ n p b o. let (e, f, g) = is_new n p b o in inl (ap (λ z. z.low) g));
+    in_layer = (λ n p b o. let (e, f, g) = is_new n p b o in (0, ap (λ (q : List ℕ). Some (spot top q 0 (on true))) (sym f)));
+    hung = (λ h p g. let (e, f, z, i) = only_head root h p 0 (on true) g in subst (λ (q : List ℕ). Hung (new_arena root) (new_chart root) h q) (sym f) e);
+    disjoint = (λ n m p b c o o' le be. let (e, f, g) = is_new n p b o in let (e', f', g') = is_new m p c o' in e ∙ sym e');
+  }
+
+pub new_owned : (root : ℕ) → Owned (new_arena root) (new_chart root) (λ i j. ⊥)
+new_owned root = record { one_owner = (λ i j c x y. inl (owner i c x ∙ sym (owner j c y))); once = (λ n k p l y t g e. absurd (no_interior root n k p l (on y) g)) }
   where
-    owner : (i c : ℕ) → Owns new_arena new_chart i c → i ≡ 0
-    owner i c (by_head p t g e f) = (only_head i p 0 (on true) g).0
-    owner i c (by_interior k p l y node child g e m f) = absurd (no_interior i k p l (on y) g)
+    owner : (i c : ℕ) → Owns (new_arena root) (new_chart root) i c → i ≡ 0
+    owner i c (by_head p t g e f) = (only_head root i p 0 (on true) g).0
+    owner i c (by_interior k p l y node child g e m f) = absurd (no_interior root i k p l (on y) g)
 
-pub new_dated : Dated new_chart 0
-new_dated n role p l e g = absurd (go n g)
+pub new_dated : (root : ℕ) → Dated (new_chart root) 0
+new_dated root n role p l e g = absurd (go n g)
   where
-    go : (m : ℕ) → new_chart m ≡ Some (spot role p l (gone e)) → ⊥
+    go : (m : ℕ) → new_chart root m ≡ Some (spot role p l (gone e)) → ⊥
     go zero h = let c : on true ≡ gone e = cc in cc
-    go (suc zero) h = let c : on true ≡ gone e = cc in cc
-    go (suc (suc m)) h = let c : ◌≡◌ {A = Option Spot} None (Some (spot role p l (gone e))) = h in cc
+    go (suc m) h = let (i, f) = only_is root (spot (at_level 0) [] 0 (on true)) (spot role p l (gone e)) (suc m) h in let c : on true ≡ gone e = cc in cc
 
 -- what stands at a border that is on
-pub new_stands : (n : ℕ) (p : List ℕ) (b : BorderNode) → OnBorder new_arena new_chart n p b → b ≡ new_border
-new_stands n p b o = (is_new n p b o).2
+pub new_stands : (root : ℕ) → 0 < root → (n : ℕ) (p : List ℕ) (b : BorderNode) → OnBorder (new_arena root) (new_chart root) n p b → b ≡ new_border
+new_stands root positive n p b o = (is_new root positive n p b o).2

@@ -1,7 +1,7 @@
 -- The laws of an index, each by its lemma.
-use Rattle.std.proofs.Common.{ℕ, zero, suc, ◌≡◌, ◌≢◌, ◌⊎◌, ◌↔◌, inl, inr, [], ◌∷◌, true, false, refl, subst, arith}
+use Rattle.std.proofs.Common.{ℕ, zero, suc, ◌≡◌, ◌≢◌, ◌⊎◌, ◌↔◌, inl, inr, [], ◌∷◌, true, false, refl, sym, ◌∙◌, subst, arith}
 use Rattle.mt_slice.specs.Place.{last}
-use Rattle.mt_chart.specs.Tree.{short, BorderNode, Among, no_right}
+use Rattle.mt_chart.specs.Tree.{short, BorderNode, border, Among, no_right}
 use Rattle.mt_chart.specs.Steps.{AreTwins}
 use Rattle.mt_chart.specs.NewIndex.{new_border, first_row_border, first_row_arena, new_arena, new_chart}
 use Rattle.mt_chart.specs.TreeLaws.{NewIndexIsIndex, NewIndexIsEmpty, FirstRowsCanBeShown, FreeInteriorsAreOn, LeftNeighboursAreFound, RowsAreInBorders, KeysHaveOneRow, KeysAreAtTheirPlaces, KeysAreInTheirIntervals, RootsAreHeld, ChildrenAreHeld, SomeChildLeadsOn, HeldBordersAreOn, RightNeighboursAreHeld, LinkedHeadsAreHeld, HeldNodesAreThere}
@@ -11,21 +11,21 @@ use Rattle.mt_chart.proofs.Entries.{among_cases, among_first}
 use Rattle.mt_chart.proofs.Reach.{stored, has}
 use Rattle.mt_chart.proofs.Keys.{one_row, at_place, in_interval}
 use Rattle.mt_chart.proofs.Owners.{owned_shrink}
-use Rattle.mt_chart.proofs.NewIndex.{new_tree, new_owned, new_dated, new_stands}
+use Rattle.mt_chart.proofs.NewIndex.{only_elsewhere, at_root, charted_root, new_tree, new_owned, new_dated, new_stands}
 use Rattle.mt_chart.proofs.HeldNodes.{holds_root, holds_child, holds_right, holds_link, first_child, border_is_on}
 use Rattle.mt_chart.proofs.Ranges.{range_node}
 
 pub new_index : NewIndexIsIndex
-new_index = record {
-  tree = new_tree;
-  owned = owned_shrink new_arena new_chart (λ i j. ⊥) (AreTwins []) new_owned (λ i j c x y never. absurd never);
-  dated = new_dated;
+new_index root positive = record {
+  tree = new_tree root positive;
+  owned = owned_shrink (new_arena root) (new_chart root) (λ i j. ⊥) (AreTwins []) (new_owned root) (λ i j c x y never. absurd never);
+  dated = new_dated root;
 }
 
 pub new_index_empty : NewIndexIsEmpty
-new_index_empty key row h =
-    let s = stored new_arena new_chart new_tree key row h in
-    none s.entry (subst (λ (v : BorderNode). Among s.entry v.entries) (new_stands s.number s.prefix s.node s.on_border) s.live)
+new_index_empty root positive key row h =
+    let s = stored (new_arena root) (new_chart root) (new_tree root positive) key row h in
+    none s.entry (subst (λ (v : BorderNode). Among s.entry v.entries) (new_stands root positive s.number s.prefix s.node s.on_border) s.live)
   where
     none : (e : _) → Among e new_border.entries → ⊥
     none e i = elim i [ ]
@@ -38,14 +38,14 @@ among_one e x = (among_cases e x [], back)
     back (inr i) = elim i [ ]
 
 pub first_row : FirstRowsCanBeShown
-first_row row = record {
-  number = 1;
+first_row root positive row = record {
+  number = root;
   prefix = [];
   old = new_border;
   new = first_row_border row;
   writes = record {
-    stands = record { posted = true; place = refl; node = refl };
-    written = record { now = refl; rest = others };
+    stands = record { posted = true; place = charted_root root positive; node = at_root root new_border positive };
+    written = record { now = at_root root (first_row_border row) positive; rest = others };
     low = refl;
     empty = λ e. absurd (let c : false ≡ true = e in cc);
   };
@@ -60,10 +60,9 @@ first_row row = record {
   to_right = no_right;
 }
   where
-    others : (other : ℕ) → other ≢ 1 → first_row_arena row other ≡ new_arena other
+    others : (other : ℕ) → other ≢ root → first_row_arena root row other ≡ new_arena root other
     others zero ne = refl
-    others (suc zero) ne = absurd (ne refl)
-    others (suc (suc other)) ne = refl
+    others (suc other) ne = only_elsewhere root (border (first_row_border row)) (suc other) ne ∙ sym (only_elsewhere root (border new_border) (suc other) ne)
 
 pub rows_in_borders : RowsAreInBorders
 rows_in_borders arena chart tree key row = (stored arena chart tree key row, has arena chart tree key row)

@@ -4,7 +4,7 @@ use Rattle.mt_slice.specs.Place.{Place}
 use Rattle.mt_types.specs.declared.row.Row.{Row}
 use Rattle.mt_chart.specs.Tree.{Arena, Has}
 use Rattle.mt_chart.specs.Chart.{Chart, Evolves, Owns}
-use Rattle.mt_chart.specs.Steps.{Twin, AreTwins, IsIndex, Keeps, MarksBorder, ShowsRow, HidesRow, SetsRow, LinksHalf, MakesLayer, Unlinks, DropsLayer, DropsChild, PostsBorder, Bypasses, MarksHead, BypassesRoot, MakesRoot, PostsHalf, KeepsChildren, MarksGone, ChangesSpares, Frees}
+use Rattle.mt_chart.specs.Steps.{Twin, AreTwins, IsIndex, Keeps, MarksBorder, ShowsRow, HidesRow, SetsRow, LinksHalf, MakesLayer, Unlinks, DropsLayer, DropsChild, PostsBorder, Bypasses, MarksHead, BypassesRoot, MakesRoot, PostsHalf, KeepsChildren, MarksGone, MarksGoneBorder, MarksGoneHead, ChangesSpares, Frees}
 
 -- once a row is shown at a key, the index has that row there, and all rows that it had
 abbrev pub ShowingAddsTheRow : Type 0
@@ -81,6 +81,14 @@ PartsNeedBeNoTwins = (now : ℕ) (twins fewer : List Twin) (arena : Arena) (char
 -- to mark an interior that is gone keeps the index
 abbrev pub MarkingWhatIsGoneKeeps : Type 0
 MarkingWhatIsGoneKeeps = (now : ℕ) (twins : List Twin) (arena after : Arena) (chart : Chart) → IsIndex now twins arena chart → MarksGone arena after chart → Keeps now twins arena after chart chart
+
+-- to lock or unlock a border that is gone keeps the index
+abbrev pub MarkingAGoneBorderKeeps : Type 0
+MarkingAGoneBorderKeeps = (now : ℕ) (twins : List Twin) (arena after : Arena) (chart : Chart) → IsIndex now twins arena chart → MarksGoneBorder arena after chart → Keeps now twins arena after chart chart
+
+-- to lock or unlock a head that is gone keeps the index
+abbrev pub MarkingAGoneHeadKeeps : Type 0
+MarkingAGoneHeadKeeps = (now : ℕ) (twins : List Twin) (arena after : Arena) (chart : Chart) → IsIndex now twins arena chart → MarksGoneHead arena after chart → Keeps now twins arena after chart chart
 
 -- to occupy, fill and give back numbers that the chart doesn't know keeps the index
 abbrev pub ChangingSparesKeeps : Type 0

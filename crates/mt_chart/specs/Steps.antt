@@ -407,6 +407,28 @@ pub record MarksGone (arena after : Arena) (chart : Chart) : Type 0 where
   pub node_level : node.level ≡ suc below
   pub marked : node.deleted ≡ true
 
+-- a border that is gone is locked or unlocked: it stays marked deleted
+pub record MarksGoneBorder (arena after : Arena) (chart : Chart) : Type 0 where
+  pub number : ℕ
+  pub prefix : List ℕ
+  pub low : ℕ
+  pub epoch : ℕ
+  pub node : BorderNode
+  pub place : chart number ≡ Some (spot (at_level 0) prefix low (gone epoch))
+  pub written : Changes arena after number (Some (border node))
+  pub marked : node.deleted ≡ true
+
+-- a head that is gone is locked or unlocked: it stays marked deleted
+pub record MarksGoneHead (arena after : Arena) (chart : Chart) : Type 0 where
+  pub number : ℕ
+  pub prefix : List ℕ
+  pub low : ℕ
+  pub epoch : ℕ
+  pub node : HeadNode
+  pub place : chart number ≡ Some (spot top prefix low (gone epoch))
+  pub written : Changes arena after number (Some (head node))
+  pub marked : node.deleted ≡ true
+
 -- numbers that the chart doesn't know are occupied, filled and given back; what it knows stays
 abbrev pub ChangesSpares : Arena → Arena → Chart → Type 0
 ChangesSpares arena after chart = (number : ℕ) (place : Spot) → chart number ≡ Some place → after number ≡ arena number

@@ -1,5 +1,5 @@
 -- The laws of an index: where its rows stand, and what a call that goes through it may rely on.
-use Rattle.std.specs.Prelude.{ℕ, suc, ◌≡◌, ◌≤◌, ◌⊎◌, ◌↔◌, List, [], ◌∷◌, Some, Bool, false}
+use Rattle.std.specs.Prelude.{ℕ, suc, ◌≡◌, ◌<◌, ◌≤◌, ◌⊎◌, ◌↔◌, List, [], ◌∷◌, Some, Bool, false}
 use Rattle.mt_slice.specs.Place.{Place, last, deeper, under, first_slice}
 use Rattle.mt_types.specs.declared.row.Row.{Row}
 use Rattle.mt_chart.specs.Tree.{link, Entry, Right, HeadNode, BorderNode, Child, InteriorNode, Node, head, border, interior, Arena, Among, Below, HoldsRow, Has}
@@ -9,15 +9,15 @@ use Rattle.mt_chart.specs.NewIndex.{new_arena, new_chart, first_row_arena}
 
 -- a new index meets the invariant
 abbrev pub NewIndexIsIndex : Type 0
-NewIndexIsIndex = IsIndex 0 [] new_arena new_chart
+NewIndexIsIndex = (root : ℕ) → 0 < root → IsIndex 0 [] (new_arena root) (new_chart root)
 
 -- a new index has no row
 abbrev pub NewIndexIsEmpty : Type 0
-NewIndexIsEmpty = (key : Place) (row : Row) → Has new_arena key row → ⊥
+NewIndexIsEmpty = (root : ℕ) → 0 < root → (key : Place) (row : Row) → Has (new_arena root) key row → ⊥
 
 -- a first row can be shown in a new index, at the empty key
 abbrev pub FirstRowsCanBeShown : Type 0
-FirstRowsCanBeShown = (row : Row) → ShowsRow new_arena (first_row_arena row) new_chart (last 0 0) row
+FirstRowsCanBeShown = (root : ℕ) → 0 < root → (row : Row) → ShowsRow (new_arena root) (first_row_arena root row) (new_chart root) (last 0 0) row
 
 -- the rows that the tree has are those in borders that are on
 abbrev pub RowsAreInBorders : Type 0

@@ -1,6 +1,6 @@
 //! Laws of the steps on border nodes: each leads from an index to an index, and this is what it does to the content. Each function does nothing, and its contract is the law.
 
-ghost use Rattle.mt_chart.specs.StepLaws.{ShowingAddsTheRow, HidingRemovesTheRow, SettingReplacesTheRow, MarkingABorderKeeps, LinkingAHalfKeeps, MakingALayerKeeps, UnlinkingKeeps, DroppingALayerKeeps};
+ghost use Rattle.mt_chart.specs.StepLaws.{ShowingAddsTheRow, HidingRemovesTheRow, SettingReplacesTheRow, MarkingABorderKeeps, MarkingAGoneBorderKeeps, LinkingAHalfKeeps, MakingALayerKeeps, UnlinkingKeeps, DroppingALayerKeeps};
 
 /// Once a border shows one entry more, the index has that row at its key, and all rows that it had.
 pub fn showing_adds_the_row()
@@ -17,9 +17,10 @@ pub fn setting_replaces_the_row()
     ensures { SettingReplacesTheRow }
 {}
 
-/// A border is locked, unlocked or marked deleted.
+/// A border is locked, unlocked or marked deleted; one that is gone is locked or unlocked.
 pub fn marking_a_border_keeps()
-    ensures { MarkingABorderKeeps }
+    ensures on { MarkingABorderKeeps }
+    ensures gone { MarkingAGoneBorderKeeps }
 {}
 
 /// The link step of a border's split.

@@ -24,7 +24,8 @@ key_order = nat_list_cmp_total
 key_apart : map.IsAntisymmetric key_cmp
 key_apart = map.slice_cmp-IsAntisymmetric map.nat_cmp-IsAntisymmetric
 
-get-with_row : (key : List ℕ) (row : Option Row) (rows : Rows) (q : List ℕ) → map.get (with_row key row rows) q ≡ cond (eq_by_cmp key_cmp q key) row (map.get rows q)
+-- a read of the rows with this row under a key, or none
+pub get-with_row : (key : List ℕ) (row : Option Row) (rows : Rows) (q : List ℕ) → map.get (with_row key row rows) q ≡ cond (eq_by_cmp key_cmp q key) row (map.get rows q)
 get-with_row key None rows q = map.get-remove key_order rows key q
 get-with_row key (Some row) rows q = map.get-insert key_order rows key row q
 

@@ -26,7 +26,6 @@ use Rattle.mt_machine.specs.declared.table.Stage.{Stage}
 use Rattle.mt_machine.specs.Calls.{call_at}
 use Rattle.mt_machine.specs.Content.{row_of}
 use Rattle.mt_types.specs.declared.row.Row.{Row}
-use Rattle.mt_machine.specs.Scan.{AreKeyEntries}
 use Rattle.mt_machine.specs.Table.{TableSeen, new_table}
 use Rattle.mt_machine.specs.Seen.{Seen, IsServedRequest, Begins, request_of, with_call, fault_of}
 use Rattle.mt_machine.specs.Stands.{Stands, CallStands, Paired, WriterStands, IsWriting, commit_of, commit_at}
@@ -66,7 +65,6 @@ quiet s h x u entries st may commits begun live held deltas calls locked writer 
       commits = ap (λ (n : ℕ). n + length u.log.deltas) held ∙ ap (λ (ds : List Delta). s.table.log.held_after + length ds) deltas ∙ st.commits ∙ ap length (sym commits);
       begun = st.begun ∙ sym begun;
       content = λ key bytes. ap (λ (l : List Entry). row_of key l) live ∙ st.content key bytes ∙ ap (λ (rs : Rows). get rs key) (sym same_rows);
-      keys = subst AreKeyEntries (sym live) st.keys;
       end_here = λ key some. st.end_here key (subst (λ (rs : Rows). IsSome (get rs key)) same_rows some);
       logged = subst (λ (ds : List Delta). FitsNewestFirst (reverse ds) (rows s.columns (moment (x ∷ h)))) (sym deltas) (subst (λ (rs : Rows). FitsNewestFirst (reverse s.table.log.deltas) rs) (sym same_rows) st.logged);
       calls = calls;
@@ -156,7 +154,6 @@ called s pass request task h served st none is =
       commits = st.commits;
       begun = ap (λ (n : ℕ). n + 1) st.begun;
       content = st.content;
-      keys = st.keys;
       end_here = st.end_here;
       logged = st.logged;
       calls = paired-append (CallStands s.table.writer (x ∷ h)) 0 s.calls.begun s.calls.calls (moment h).calls _ _
@@ -208,7 +205,6 @@ opens-stands C = record {
   commits = refl;
   begun = refl;
   content = λ key bytes. sym (get-empty key_cmp key);
-  keys = tt;
   end_here = λ key some. absurd (no-row key some);
   logged = tt;
   calls = omega arith;

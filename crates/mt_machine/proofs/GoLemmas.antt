@@ -212,8 +212,8 @@ pub range-stands : (s : Seen) (n : ℕ) (h : History) (kept : Call) (start : Lis
 range-stands s n h kept start limit asked (Answered answer) st at f is v =
     read-answers s n h kept answer st at f (subst Reads (sym is) tt)
     (subst (λ (t : Task). RightAnswer s.columns h f.call (request_of t) answer 0) (sym is)
-    (subst (λ (a : Answer). RightAnswer s.columns h f.call (RangeRequest start limit asked) a 0) (sym v.3)
-    (right_range s.columns f.call.began h start asked limit s.table.border.live v.0 v.1 st.keys v.2.ordered.pairs st.content st.end_here f.related.began)))
+    (subst (λ (a : Answer). RightAnswer s.columns h f.call (RangeRequest start limit asked) a 0) (sym v.1)
+    (right_range s.columns f.call.began h start asked limit s.table.border v.0 v.2 st.content st.end_here f.related.began)))
 range-stands s n h kept start limit asked (EndsRefused refusal) st at f is v = read-fails s n h kept refusal st at f (subst Reads (sym is) tt) v
 range-stands s n h kept start limit asked GoesOn st at f is v = absurd v
 range-stands s n h kept start limit asked Waits st at f is v = absurd v

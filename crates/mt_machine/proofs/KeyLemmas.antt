@@ -13,7 +13,7 @@ use Rattle.mt_border.specs.Entry.{with_row, content_with_row, at_version}
 use Rattle.mt_border.specs.Border.{BorderView, with_shown}
 use Rattle.mt_border.specs.Table.{changed_at}
 use Rattle.mt_border.specs.declared.entry.Entry.{Entry}
-use Rattle.mt_machine.specs.Scan.{IsKeyEntry, AreKeyEntries}
+use Rattle.mt_machine.specs.Content.{IsKeyEntry, AreKeyEntries}
 use Rattle.mt_machine.specs.Table.{next_entry, new_entry}
 use Rattle.mt_machine.proofs.ContentLemmas.{next_one}
 

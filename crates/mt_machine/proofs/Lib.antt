@@ -12,4 +12,3 @@ pub mod GoLemmas
 pub mod WriteStands
 pub mod StepStands
 pub mod RangeRight
-pub mod ScanLemmas

@@ -48,8 +48,7 @@ use Rattle.mt_machine.proofs.PairedLemmas.{paired-change}
 use Rattle.mt_machine.proofs.SearchLemmas.{none_row_is, first_row_is}
 use Rattle.mt_machine.proofs.ContentLemmas.{shown_ranked, written_ranked, content-put, removed_ranked, first-alone, content-removed}
 use Rattle.mt_machine.proofs.EventLemmas.{commit_of-other, call-later, with_parts}
-use Rattle.mt_machine.specs.Scan.{AreKeyEntries}
-use Rattle.mt_machine.proofs.KeyLemmas.{EndHere, keys-shown, keys-written, keys-removed, end_here-put, end_here-removed}
+use Rattle.mt_machine.proofs.KeyLemmas.{EndHere, end_here-put, end_here-removed}
 use Rattle.mt_machine.proofs.GoLemmas.{step_event, OpenAt, goes-on, ends, same-call}
 
 -- ---- a call that writes, at the border that it has not locked
@@ -255,12 +254,12 @@ module _ (s : Seen) (h : History) (w : Writer) (kept : Call) (key : List ℕ) (e
       → after_change s.columns (length (moment h).commits + 1) change (rows s.columns (moment h)) ≡ redo delta (rows s.columns (moment h))
       → get (rows s.columns (moment h)) delta.key ≡ delta.before
       → ((q : List ℕ) → AreBytes q → row_of q u.border.live ≡ get (redo delta (rows s.columns (moment h))) q)
-      → AreKeyEntries u.border.live → EndHere (redo delta (rows s.columns (moment h)))
+      → EndHere (redo delta (rows s.columns (moment h)))
       → u.log ≡ with_delta s.table.log delta
       → u.border.version.locked ≡ s.table.border.version.locked
       → u.writer ≡ Some (writer_at w.call (Stored (newest s.table.log + 1)))
       → Stands (record s { table = u }) (happening (step_event w.call) (Commit (newest s.table.log + 1)) 0 ∷ h)
-  commit-stands change delta u none may asks makes before content keys end_here appended lock wrote_next =
+  commit-stands change delta u none may asks makes before content end_here appended lock wrote_next =
       let C = s.columns in
       let number = newest s.table.log + 1 in
       let o : Outcome = Commit number in
@@ -286,7 +285,6 @@ module _ (s : Seen) (h : History) (w : Writer) (kept : Call) (key : List ℕ) (e
         commits = ap newest appended ∙ counted ∙ sym (ap length commits);
         begun = st.begun ∙ sym (ap (λ m. m.begun) then);
         content = λ q bytes_q. content q bytes_q ∙ ap (λ (rs : Rows). get rs q) (sym all);
-        keys = keys;
         end_here = λ q some. end_here q (subst (λ (rs : Rows). IsSome (get rs q)) all some);
         logged = subst (λ (l : LogSeen). Fits l (rows C (moment (x ∷ h)))) (sym appended) (subst (λ (rs : Rows). Fits (with_delta s.table.log delta) rs) (sym all) fits);
         calls = subst (λ cs. Paired (CallStands u.writer (x ∷ h)) 0 s.calls.begun s.calls.calls cs) (sym (ap (λ m. m.calls) then))
@@ -398,12 +396,11 @@ module _ (s : Seen) (h : History) (w : Writer) (kept : Call) (key : List ℕ) (e
   put-stands : (sets : List (ℕ × List ℕ)) (before : Option Row) (logged : List (List ℕ)) (u : TableSeen) → edit ≡ Put sets → commit_at w.stage ≡ None → AreBytes key → length key ≤ 8
       → before ≡ row_of key s.table.border.live → logged ≡ columns_after s.columns sets (row_of key s.table.border.live)
       → ((rank : ℕ) → row_ranked rank u.border.live ≡ cond (key_rank key == rank) (Some (record { version = number; columns = logged })) (row_ranked rank s.table.border.live))
-      → AreKeyEntries u.border.live
       → u.log ≡ with_delta s.table.log (put_delta number key before logged)
       → u.border.version.locked ≡ s.table.border.version.locked
       → u.writer ≡ Some (writer_at w.call (Stored number))
       → Stands (record s { table = u }) (happening (step_event w.call) (Commit number) 0 ∷ h)
-  put-stands sets before logged u puts none bytes short was made ranked keys appended lock wrote_next =
+  put-stands sets before logged u puts none bytes short was made ranked appended lock wrote_next =
       let C = s.columns in
       let old : Rows = rows C (moment h) in
       let row : Row = record { version = number; columns = logged } in
@@ -417,7 +414,7 @@ module _ (s : Seen) (h : History) (w : Writer) (kept : Call) (key : List ℕ) (e
       (ap (insert old key) (sym row_is))
       (sym held ∙ sym was)
       (content-put old s.table.border.live u.border.live key row bytes short st.content ranked)
-      keys (end_here-put old key row bytes short st.end_here) appended lock wrote_next
+      (end_here-put old key row bytes short st.end_here) appended lock wrote_next
 
   -- a remove commits
   remove-stands : (place : ℕ) (before : Row) → edit ≡ Remove → commit_at w.stage ≡ None → IsTaken s.table.border key place before
@@ -436,7 +433,7 @@ module _ (s : Seen) (h : History) (w : Writer) (kept : Call) (key : List ℕ) (e
       refl stands
       (content-removed old s.table.border.live (hidden_at w.call s.table place key before).border.live key here.bytes here.ends_here st.content
       (λ rank. removed_ranked rank (key_rank key) place s.table.border.live here.first alone))
-      (keys-removed place s.table.border.live st.keys) (end_here-removed old key st.end_here) refl refl refl
+      (end_here-removed old key st.end_here) refl refl refl
 
   filled-stands : (e : Edit) (place : ℕ) (stored : List ℕ) (logged : List (List ℕ)) → edit ≡ e → w.stage ≡ Filled place stored logged → StageStands s.columns s.table.border key e (Filled place stored logged)
       → Leads (Committed number) (shown_at w.call s.table place stored logged)
@@ -446,8 +443,7 @@ module _ (s : Seen) (h : History) (w : Writer) (kept : Call) (key : List ℕ) (e
       leads (Committed number) (Committed number) (shown_at w.call s.table place stored logged) (shown_at w.call s.table place key logged) refl (ap (λ (k : List ℕ). shown_at w.call s.table place k logged) own.0)
       (put-stands sets None logged (shown_at w.call s.table place key logged) puts (ap commit_at stage) fill.bytes fill.ends_here (sym old)
       (fill.columns ∙ ap (columns_after s.columns sets) (sym old))
-      (λ rank. shown_ranked s.table.border place number rank key logged fill.ends_here fill.absent fill.filled)
-      (keys-shown s.table.border place number key logged fill.bytes fill.ends_here fill.filled st.keys) refl refl refl)
+      (λ rank. shown_ranked s.table.border place number rank key logged fill.ends_here fill.absent fill.filled) refl refl refl)
   filled-stands Remove place stored logged puts stage own = absurd own
 
   made-stands : (e : Edit) (place : ℕ) (stored : List ℕ) (columns logged : List (List ℕ)) → edit ≡ e → w.stage ≡ Made place stored columns logged → StageStands s.columns s.table.border key e (Made place stored columns logged)
@@ -459,8 +455,7 @@ module _ (s : Seen) (h : History) (w : Writer) (kept : Call) (key : List ℕ) (e
       (put-stands sets (row_at place s.table.border.live) logged (written_at w.call s.table place key columns logged) puts (ap commit_at stage) made.here.bytes made.here.ends_here (sym old)
       (made.copied ∙ made.made)
       (λ rank. written_ranked rank (key_rank key) place s.table.border.live (record { version = number; columns = columns }) made.here.first made.here.row
-      ∙ ap (λ (c : List (List ℕ)). cond (key_rank key == rank) (Some (record { version = number; columns = c })) (row_ranked rank s.table.border.live)) (sym made.copied))
-      (keys-written place s.table.border.live (record { version = number; columns = columns }) st.keys) refl refl refl)
+      ∙ ap (λ (c : List (List ℕ)). cond (key_rank key == rank) (Some (record { version = number; columns = c })) (row_ranked rank s.table.border.live)) (sym made.copied)) refl refl refl)
   made-stands Remove place stored columns logged puts stage own = absurd own
 
   taken-stands : (e : Edit) (place : ℕ) (stored : List ℕ) (before : Row) → edit ≡ e → w.stage ≡ Taken place stored before → StageStands s.columns s.table.border key e (Taken place stored before)

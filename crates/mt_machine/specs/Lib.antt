@@ -5,4 +5,4 @@ pub mod Table
 pub mod Seen
 pub mod Stands
 pub mod Causes
-pub mod Scan
+pub mod Range

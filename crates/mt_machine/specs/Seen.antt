@@ -28,9 +28,8 @@ use Rattle.mt_machine.specs.declared.table.Stage.{Stage}
 use Rattle.mt_machine.specs.declared.progress.Progress.{Progress}
 use Rattle.mt_machine.specs.declared.progress.Progress.TheVariants.{Moved as GoesOn, Waits, Committed, Answered, Refused as EndsRefused}
 use Rattle.mt_machine.specs.Calls.{CallsSeen, call_at, reached, without}
-use Rattle.mt_border.specs.Order.{IsBorder}
 use Rattle.mt_machine.specs.Content.{row_of}
-use Rattle.mt_machine.specs.Scan.{range_pairs}
+use Rattle.mt_machine.specs.Range.{IsRangeOf}
 use Rattle.mt_machine.specs.Table.{TableSeen, Writes, locked_by, stage_of}
 
 pub record Seen : Type 0 where
@@ -89,8 +88,7 @@ GetVisits key asked t _ = ⊥
 
 -- a range at the border
 abbrev pub RangeVisits : List ℕ → List ℕ → ℕ → TableSeen → Progress → Type 0
-RangeVisits start asked limit t (Answered answer) =
-    AreBytes start × (length start ≤ 8) × IsBorder t.border × (answer ≡ RowsAnswer (range_pairs start asked limit t.border.live))
+RangeVisits start asked limit t (Answered answer) = (pairs : List (List ℕ × Row)) × (answer ≡ RowsAnswer pairs) × IsRangeOf start asked limit t.border pairs
 RangeVisits start asked limit t (EndsRefused refusal) = refusal ≡ NoMemory
 RangeVisits start asked limit t _ = ⊥
 

@@ -23,7 +23,6 @@ use Rattle.mt_machine.specs.declared.table.Stage.TheVariants.{Locked, Filled, Ma
 use Rattle.mt_machine.specs.Calls.{call_at}
 use Rattle.mt_machine.specs.Content.{key_rank, row_of, columns_after}
 use Rattle.mt_machine.specs.Table.{NoneOf, IsThere, next_entry, new_entry}
-use Rattle.mt_machine.specs.Scan.{AreKeyEntries}
 use Rattle.mt_machine.specs.Seen.{Seen, request_of}
 
 -- the number of its commit, if the stage comes after one
@@ -120,7 +119,6 @@ pub record Stands (s : Seen) (h : History) : Type 0 where
   pub begun : s.calls.begun ≡ (moment h).begun
   -- the border holds the rows of the history, each of a key that ends in the first layer, and the log their changes
   pub content : (key : List ℕ) → AreBytes key → row_of key s.table.border.live ≡ get (rows s.columns (moment h)) key
-  pub keys : AreKeyEntries s.table.border.live
   pub end_here : (key : List ℕ) → IsSome (get (rows s.columns (moment h)) key) → AreBytes key × (length key ≤ 8)
   pub logged : Fits s.table.log (rows s.columns (moment h))
   -- the open calls are those of the history

@@ -21,7 +21,7 @@ use Rattle.mt_border.specs.Order.{IsBorder}
 use Rattle.mt_border.specs.Entry.{entry_rank}
 use Rattle.mt_border.specs.declared.entry.Entry.{Entry}
 use Rattle.mt_border.specs.declared.entry.Content.TheVariants.{Short}
-use Rattle.mt_machine.specs.Content.{key_rank, row_of, columns_after}
+use Rattle.mt_machine.specs.Content.{key_rank, row_of, columns_after, AreKeyEntries}
 use Rattle.mt_machine.specs.declared.writing.Spot.{Spot}
 use Rattle.mt_machine.specs.declared.writing.Spot.TheVariants.{There, Gap}
 use Rattle.mt_machine.specs.declared.table.Writer.{Writer}
@@ -40,12 +40,30 @@ abbrev pub stage_of : ℕ → Option Writer → Option Stage
 stage_of call None = None
 stage_of call (Some writer) = if writer.call == call then Some writer.stage else None
 
+-- the entry of a key with these columns, before its commit
+abbrev pub new_entry : List ℕ → List (List ℕ) → Entry
+new_entry key columns = record {
+  slice = slice_number key;
+  content = Short (length key) (record { version = 0; columns = columns });
+}
+
+-- what the first unused slot holds
+abbrev pub next_entry : List Slot → Option Entry
+next_entry [] = None
+next_entry (slot ∷ slots) = Some slot.entry
+
 -- what a first unused slot holds may be shown at this place
 pub record IsShowable (b : BorderView) (place : ℕ) : Type 0 where
   pub room : length b.live < 15
   pub within : place ≤ length b.live
   pub row : IsSome (next_row b.unused)
   pub sound : (version : ℕ) → IsBorder (with_shown b place version)
+
+-- what a first unused slot holds is the entry of this key, which ends in the first layer
+pub record IsNextKey (b : BorderView) (key : List ℕ) (columns : List (List ℕ)) : Type 0 where
+  pub bytes : AreBytes key
+  pub ends_here : length key ≤ 8
+  pub filled : next_entry b.unused ≡ Some (new_entry key columns)
 
 -- why a put fails: want of memory; a border that is full, since nodes can't be split yet; or a number that would have
 -- to rise above the greatest
@@ -63,7 +81,7 @@ HasLogCause log _ = ⊥
 
 abbrev pub StageFits : BorderView → LogSeen → Stage → Type 0
 StageFits b log Locked = log.reserved ≡ 0
-StageFits b log (Filled place key logged) = (log.reserved ≡ 1) × IsShowable b place
+StageFits b log (Filled place key logged) = (log.reserved ≡ 1) × IsShowable b place × IsNextKey b key logged
 StageFits b log (Made place key columns logged) = (log.reserved ≡ 1) × (place < length b.live) × IsSome (row_at place b.live)
 StageFits b log (Taken place key before) = (log.reserved ≡ 1) × (place < length b.live)
 StageFits b log (Stored number) = log.reserved ≡ 0
@@ -93,6 +111,7 @@ pub record IsWhole (log : LogSeen) : Type 0 where
 -- what always holds of the border, its log and its writer
 pub record IsTable (t : TableSeen) : Type 0 where
   pub plain : IsPlain t.border
+  pub keys : AreKeyEntries t.border.live
   pub unheld : IsUnheld t.log
   pub writer : WriterFits t.border t.log t.writer
 
@@ -141,18 +160,6 @@ pub record IsGap (key : List ℕ) (b : BorderView) (place : ℕ) : Type 0 where
 abbrev pub Finds : List ℕ → BorderView → Spot → Type 0
 Finds key b (There place) = IsThere key b place
 Finds key b (Gap place) = IsGap key b place
-
--- the entry of a key with these columns, before its commit
-abbrev pub new_entry : List ℕ → List (List ℕ) → Entry
-new_entry key columns = record {
-  slice = slice_number key;
-  content = Short (length key) (record { version = 0; columns = columns });
-}
-
--- what the first unused slot holds
-abbrev pub next_entry : List Slot → Option Entry
-next_entry [] = None
-next_entry (slot ∷ slots) = Some slot.entry
 
 -- the room for one delta more
 abbrev pub with_room : LogSeen → LogSeen

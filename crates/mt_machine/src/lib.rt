@@ -7,7 +7,6 @@ mod columns;
 pub mod machine;
 pub mod options;
 mod progress;
-mod scan;
 mod short_key;
 mod table;
 #[cfg(test)]

@@ -10,11 +10,11 @@ ghost use Rattle.mt_machine.specs.Causes.{IsCaused};
 ghost use Rattle.mt_machine.specs.Table.{stage_of};
 
 use crate::calls::{Call, Calls, Edit, Task, Visit};
-use crate::columns::shown;
 use crate::options::Options;
 use crate::progress::Progress;
 use crate::short_key::ShortKey;
 use crate::table::Table;
+use mt_scan::shown;
 use mt_types::copying::TryCopy;
 use mt_types::event::{Answer, Event, Outcome, Reply, Request};
 use mt_types::limits::{MAX_OPEN_CALLS, open_fault, request_fault};

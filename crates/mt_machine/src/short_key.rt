@@ -54,6 +54,16 @@ impl ShortKey {
         (slice, Length::new(bytes.len()))
     }
 
+    /// The key itself.
+    pub(crate) fn as_key(&self) -> &Key
+        ensures value { result.now ≡ self.now }
+        ensures bytes { AreBytes self.now }
+        ensures ends_here { length self.now ≤ 8 }
+    {
+        let _bytes = key_bytes(&self.key);
+        &self.key
+    }
+
     /// The same key, to be kept elsewhere. Shares the bytes.
     pub(crate) fn to_key(&self, alloc: Global) -> Result<Key, NoMemory>
         ensures { IfOk result (λ key. key ≡ self.now) }

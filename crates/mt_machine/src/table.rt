@@ -5,18 +5,18 @@ ghost use Rattle.std.specs.Option.{option_copied};
 ghost use Rattle.mt_slice.specs.Place.{AreBytes};
 ghost use Rattle.mt_commit.specs.Log.{newest};
 ghost use Rattle.mt_border.specs.Border.{with_lock};
-ghost use Rattle.mt_border.specs.Order.{IsBorder};
 ghost use Rattle.mt_machine.specs.Content.{row_of};
-ghost use Rattle.mt_machine.specs.Scan.{range_pairs};
+ghost use Rattle.mt_machine.specs.Range.{IsRangeOf};
 ghost use Rattle.mt_machine.specs.Table.{Writes, locked_by, stage_of, written_answer};
 
 use crate::calls::Edit;
 use crate::progress::Progress;
-use crate::scan::pairs_from;
 use crate::short_key::ShortKey;
 use crate::writing::{hide, prepare, row_of, show, write};
 use mt_border::Border;
 use mt_commit::log::Log;
+use mt_scan::{Scan, Visited};
+use mt_types::copying::TryCopy;
 use mt_types::event::Answer;
 use mt_types::key::Key;
 use mt_types::refusal::{NoMemory, Refusal};
@@ -132,7 +132,8 @@ impl Table {
         row_of(&self.border, key)
     }
 
-    /// The pairs from a key on, up to a limit. Costs a search of one border, and two allocations for each pair.
+    /// The pairs from a key on, up to a limit: those that a scan takes in one visit, since the border is the only one.
+    /// Costs a look at each entry, and some allocations for each pair.
     pub(crate) fn pairs(
         &self,
         alloc: Global,
@@ -140,12 +141,14 @@ impl Table {
         limit: u16,
         asked: &ColumnNumbers,
     ) -> Result<Pairs, NoMemory>
-        ensures value { IfOk result (λ pairs. pairs ≡ range_pairs start.now asked.now limit self.now.border.live) }
-        ensures bytes { AreBytes start.now }
-        ensures ends_here { length start.now ≤ 8 }
-        ensures sound { IsBorder self.now.border }
+        ensures { IfOk result (λ pairs. IsRangeOf start.now asked.now limit self.now.border pairs) }
     {
-        pairs_from(alloc, &self.border, start, limit, asked)
+        let mut scan = Scan::new(alloc, start.as_key(), limit, asked.copy(alloc)?)?;
+        let _entries = self.border.len();
+        match scan.visit(alloc, &self.border)? {
+            Visited::Done => Ok(scan.into_pairs()),
+            _ => unreachable!(),
+        }
     }
 
     /// Whether some call has locked the border.

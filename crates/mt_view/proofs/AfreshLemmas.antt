@@ -11,9 +11,11 @@ use Rattle.mt_types.specs.Rows.{Rows}
 use Rattle.mt_types.specs.Views.{belongs, afresh}
 use Rattle.mt_types.specs.declared.row.Row.{Row}
 use Rattle.mt_types.specs.declared.view.ViewSpec.{ViewSpec}
-use Rattle.mt_view.specs.State.{StateSeen, IsAfresh, with_row, redo, belonging, applied}
+use Rattle.mt_commit.specs.Deltas.{redo}
+use Rattle.mt_commit.proofs.RowLemmas.{get-with_row}
+use Rattle.mt_view.specs.State.{StateSeen, IsAfresh, belonging, applied}
 use Rattle.mt_view.specs.Laws.{AppliedIsAfresh}
-use Rattle.mt_view.proofs.MapLemmas.{Entries, key_order, key_apart}
+use Rattle.mt_rows.proofs.MapLemmas.{Entries, key_order, key_apart}
 
 both : (a b : Bool) → T a → T b → T (a && b)
 both true b p q = q
@@ -101,10 +103,6 @@ afresh_from_each state rows h =
     let same : state.rows ≡ map.from_sorted (afresh state.spec rows) =
     map.same_map key_order key_apart _ _ (λ q. h q ∙ sym (get-afresh state.spec rows q) ∙ sym (map.get-from_sorted key_cmp (afresh state.spec rows) q sorted)) in
     ap map.entries same ∙ map.entries-from_sorted key_cmp (afresh state.spec rows) sorted
-
-pub get-with_row : (key : List ℕ) (row : Option Row) (rows : Rows) (q : List ℕ) → map.get (with_row key row rows) q ≡ cond (eq_by_cmp key_cmp q key) row (map.get rows q)
-get-with_row key None rows q = map.get-remove key_order rows key q
-get-with_row key (Some row) rows q = map.get-insert key_order rows key row q
 
 belonging-cond : (spec : ViewSpec) (q key : List ℕ) (row old : Option Row)
     → cond (eq_by_cmp key_cmp q key) (belonging spec key row) (belonging spec q old) ≡ belonging spec q (cond (eq_by_cmp key_cmp q key) row old)

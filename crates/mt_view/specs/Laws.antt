@@ -5,7 +5,8 @@ use Rattle.mt_types.specs.Rows.{Rows, after}
 use Rattle.mt_types.specs.History.{Moment, StandingView}
 use Rattle.mt_types.specs.Legal.{page_of}
 use Rattle.mt_types.specs.declared.row.Delta.{Delta}
-use Rattle.mt_view.specs.State.{StateSeen, IsAfresh, belonging, redo, applied, page_of_state}
+use Rattle.mt_commit.specs.Deltas.{redo}
+use Rattle.mt_view.specs.State.{StateSeen, IsAfresh, belonging, applied, page_of_state}
 
 -- a state is afresh for some rows exactly where it holds, under each key, the row that stands there, if it belongs to the view
 abbrev pub AfreshByKey : Type 0

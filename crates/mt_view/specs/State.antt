@@ -1,27 +1,19 @@
 -- The state of a view as its contracts see it: what a delta makes of it, what it shows, and when it is afresh.
 use Rattle.std.specs.Prelude.{ℕ, ◌≡◌, if◌then◌else◌, List, length, Option, Some, None}
-use Rattle.std.specs.FinMap.{entries, insert, remove}
+use Rattle.std.specs.FinMap.{entries}
 use Rattle.mt_types.specs.Rows.{Rows}
 use Rattle.mt_types.specs.Views.{afresh, belongs, column_sums, page_from}
 use Rattle.mt_types.specs.declared.row.Row.{Row}
 use Rattle.mt_types.specs.declared.row.Delta.{Delta}
 use Rattle.mt_types.specs.declared.view.Page.{Page}
 use Rattle.mt_types.specs.declared.view.ViewSpec.{ViewSpec}
+use Rattle.mt_commit.specs.Deltas.{with_row}
 
 pub record StateSeen : Type 0 where
   pub spec : ViewSpec  -- which rows it is to hold
   pub columns : ℕ  -- how many columns it sums
   pub at : ℕ  -- the number of the commit at which it stands
   pub rows : Rows  -- the rows that it holds
-
--- the rows with this row under a key, or none
-abbrev pub with_row : List ℕ → Option Row → Rows → Rows
-with_row key None rows = remove rows key
-with_row key (Some row) rows = insert rows key row
-
--- the rows after a delta, from those before it
-abbrev pub redo : Delta → Rows → Rows
-redo delta rows = with_row delta.key delta.after rows
 
 -- the row under a key, where it belongs to the view
 abbrev pub belonging : ViewSpec → List ℕ → Option Row → Option Row

@@ -49,7 +49,8 @@ impl Model for ViewState {
 }
 
 impl ViewState {
-    ghost use Rattle.mt_view.specs.State.{StateSeen, IsAfresh, belonging, redo, applied, page_of_state};
+    ghost use Rattle.mt_commit.specs.Deltas.{redo};
+    ghost use Rattle.mt_view.specs.State.{StateSeen, IsAfresh, belonging, applied, page_of_state};
 
     /// The state of a view of no rows, at number 0, which sums so many columns. Costs one allocation.
     pub fn open(alloc: Global, columns: u8, spec: ViewSpec) -> Result<ViewState, NoMemory>

@@ -1,5 +1,6 @@
 use Rattle.std.proofs.Common.{◌≡◌, subst, sym, rules}
-use Rattle.mt_view.specs.State.{StateSeen, IsAfresh, redo, applied}
+use Rattle.mt_commit.specs.Deltas.{redo}
+use Rattle.mt_view.specs.State.{StateSeen, IsAfresh, applied}
 use Rattle.mt_view.specs.StateFields.{state_of}
 use Rattle.mt_view.proofs.AfreshLemmas.{applied_is_afresh}
 use Rattle.mt_view.proofs.state.ViewState.apply.Goals as goal

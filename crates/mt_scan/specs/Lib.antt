@@ -1,0 +1,5 @@
+-- What the contracts of this crate cite.
+pub mod Cursor
+pub mod CursorCode
+pub mod Scan
+pub mod ScanCode

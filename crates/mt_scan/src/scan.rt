@@ -1,0 +1,213 @@
+//! The scan itself: what it keeps from one visit of a border to the next, and what a visit does.
+
+ghost use Rattle.std.specs.Prelude.{◌≡◌, ◌<◌, ◌↔◌, [], ◌∷◌, length, option_map, IfOk, IsSome, IsTrue, IsFalse, OnOk};
+ghost use Rattle.mt_slice.specs.Place.{first_slice, place_of, under};
+ghost use Rattle.mt_border.specs.Entry.{entry_row};
+ghost use Rattle.mt_chart.specs.Scan.{AtEnd};
+ghost use Rattle.mt_chart.specs.KeyAnswer.{as_places, KeysAreBytes};
+ghost use Rattle.mt_tree.specs.Seen.{right_seen};
+ghost use Rattle.mt_scan.specs.Cursor.{Steps, entered_at};
+ghost use Rattle.mt_scan.specs.Scan.{HoldsKey, HoldsKeys, Takes, IsTaken, IsNext, VisitsBorder, outcome_of};
+
+use crate::cursor::{Cursor, Step};
+use crate::pair::{key_of, row_of, shown};
+use mt_border::{Border, Entry, RightLink};
+use mt_slice::compare;
+use mt_types::items::Items;
+use mt_types::key::Key;
+use mt_types::numbers::NodeNo;
+use mt_types::refusal::NoMemory;
+use mt_types::row::{ColumnNumbers, Pairs, Row};
+use std::alloc::Global;
+use std::marker::Model;
+
+/// What the visit of a border comes to.
+#[derive(Clone, Copy, Debug, PartialEq, Eq)]
+pub enum Visited {
+    /// The scan is at its end.
+    Done,
+    /// It goes on at this node.
+    To(NodeNo),
+    /// It goes on at the head of layer 0.
+    Top,
+}
+
+/// A scan of the pairs from a key on, up to a limit: the layer in which it stands, its cursor, and what it has taken.
+///
+/// It goes from border to border by their right links, and into the layers of links (Masstree, EuroSys 2012, section
+/// 4.6). Its cursor alone says where it goes on, so it may begin anew at the head of layer 0 at any time.
+#[derive(Drop)]
+pub struct Scan {
+    cursor: Cursor,
+    taken: Vec<(Key, Row)>,
+    limit: u16,
+    columns: ColumnNumbers,
+}
+
+impl Model for Scan {
+    ghost use Rattle.mt_scan.specs.Scan.{ScanView};
+    ghost use Rattle.mt_scan.specs.ScanCode.{scan_code};
+
+    ghost Value = { ScanView };
+
+    ghost coded = { scan_code };
+
+    ghost use Rattle.mt_scan.specs.Scan.{IsScan};
+
+    ghost view = { λ s. record { prefix = s.cursor.prefix; at = s.cursor.at; taken = s.taken.items; limit = s.limit; asked = s.columns } };
+
+    ghost invariant = { λ s. IsScan (record { prefix = s.cursor.prefix; at = s.cursor.at; taken = s.taken.items; limit = s.limit; asked = s.columns }) };
+}
+
+impl Scan {
+    /// A scan that begins at a key, in layer 0, and takes up to so many pairs with these columns of each row, or all
+    /// columns where none is named. Costs an allocation for the slices of the key.
+    ///
+    /// # Errors
+    ///
+    /// `NoMemory` where an allocation is refused.
+    pub fn new(
+        alloc: Global,
+        start: &Key,
+        limit: u16,
+        columns: ColumnNumbers,
+    ) -> Result<Scan, NoMemory>
+        ensures { IfOk result (λ scan. scan ≡ record { prefix = []; at = place_of start.now; taken = []; limit = limit; asked = columns }) }
+    {
+        Ok(Scan {
+            cursor: Cursor::new(alloc, start)?,
+            taken: Vec::new(alloc),
+            limit,
+            columns,
+        })
+    }
+
+    /// The slice that the scan seeks in its layer: it goes down to the border where that slice would stand. Constant
+    /// cost.
+    pub fn slice(&self) -> u64
+        ensures { result ≡ first_slice self.now.at }
+    {
+        self.cursor.slice()
+    }
+
+    /// Takes the scan back to the head of layer 0, with its cursor and its pairs as they are. Constant cost.
+    pub fn restart(&mut self)
+        ensures { self.new ≡ record self.old { prefix = []; at = under self.old.prefix self.old.at } }
+    {
+        self.cursor.restart();
+    }
+
+    // Whether it has as many pairs as it may take.
+    fn is_full(&self) -> bool
+        ensures full { IsTrue result ↔ (length self.now.taken ≡ self.now.limit) }
+        ensures room { IsFalse result ↔ (length self.now.taken < self.now.limit) }
+    {
+        self.taken.len() == self.limit as usize
+    }
+
+    // Whether a key is not after the last that was taken.
+    fn is_taken(&self, key: &Key) -> bool
+        ensures taken { IsTrue result → IsTaken self.now (place_of key.now) }
+        ensures next { IsFalse result → IsNext self.now (place_of key.now) }
+    {
+        match self.taken.last() {
+            Some((last, _)) => compare(key, last).is_le(),
+            None => false,
+        }
+    }
+
+    // Takes the pair of an entry that has a row, if its key is after the last that was taken.
+    fn take(&mut self, alloc: Global, entry: &Entry) -> Result<(), NoMemory>
+        requires room { length self.old.taken < self.old.limit }
+        requires row { IsSome (entry_row entry.now) }
+        requires key { HoldsKey self.old.prefix entry.now }
+        ensures { OnOk result (Takes self.old entry.now self.new) }
+    {
+        let key = key_of(alloc, self.cursor.above(), entry)?;
+        if !self.is_taken(&key) {
+            let row = shown(alloc, &self.columns, row_of(entry))?;
+            self.taken.push((key, row))?;
+        }
+        Ok(())
+    }
+
+    // Goes into the layer below a slice.
+    fn enter(&mut self, slice: u64) -> Result<(), NoMemory>
+        ensures { OnOk result (self.new ≡ record self.old { prefix = slice ∷ self.old.prefix; at = entered_at slice self.old.at }) }
+    {
+        self.cursor.enter(slice)
+    }
+
+    // What the scan does at an entry.
+    fn step(&self, entry: &Entry) -> Step
+        ensures { Steps self.now.at entry.now.slice entry.now.content result }
+    {
+        self.cursor.step(entry)
+    }
+
+    // Leaves a border at its end: to its right neighbour, or else out of the layer.
+    fn leave(&mut self, right: Option<RightLink>) -> Visited
+        ensures left { AtEnd self.old.prefix (option_map right_seen right) (as_places self.old.taken) (outcome_of result self.new) }
+        ensures kept { self.new ≡ record self.old { prefix = self.new.prefix; at = self.new.at } }
+        ensures home { result ≡ Visited.Top → self.new.prefix ≡ [] }
+    {
+        if let Some(link) = right {
+            self.cursor.go_to(link.low, 0);
+            return Visited::To(link.node);
+        }
+        if self.cursor.leave() {
+            Visited::Top
+        } else {
+            Visited::Done
+        }
+    }
+
+    /// Visits a border of the layer in which the scan stands: takes the pairs that are at or after the cursor, in their
+    /// order, up to the limit, up to the first link that it has to enter, or to the border's end. The scan is then at its
+    /// end, or it goes on at the head of the link's layer, at the border to the right, or at the head of layer 0, and its
+    /// cursor is behind all that it has done. Where it has as many pairs as it may take, it is at its end at once.
+    ///
+    /// Costs a look at each entry up to there, and for each pair that it takes the allocations of its key and its row. The
+    /// bytes of the columns are shared.
+    ///
+    /// # Errors
+    ///
+    /// `NoMemory` where an allocation is refused. The call is then to be refused too: what the scan has done of the visit
+    /// is not said.
+    pub fn visit(&mut self, alloc: Global, border: &Border) -> Result<Visited, NoMemory>
+        requires { HoldsKeys self.old.prefix border.now.live }
+        ensures visited { IfOk result (λ visited. VisitsBorder self.old border.now visited self.new) }
+        ensures full { IfOk result (λ visited. length self.new.taken ≡ self.old.limit → visited ≡ Visited.Done) }
+        ensures home { IfOk result (λ visited. visited ≡ Visited.Top → self.new.prefix ≡ []) }
+        ensures limit { OnOk result (self.new.limit ≡ self.old.limit) }
+        ensures asked { OnOk result (self.new.asked ≡ self.old.asked) }
+    {
+        for place in 0..border.len() {
+            if self.is_full() {
+                return Ok(Visited::Done);
+            }
+            let entry = border.entry(place);
+            match self.step(entry) {
+                Step::Pass => {}
+                Step::Take => self.take(alloc, entry)?,
+                Step::Enter(head) => {
+                    self.enter(entry.slice)?;
+                    return Ok(Visited::To(head));
+                }
+            }
+        }
+        if self.is_full() {
+            return Ok(Visited::Done);
+        }
+        Ok(self.leave(border.right()))
+    }
+
+    /// The pairs that it has taken, in the order of their keys. Constant cost.
+    pub fn into_pairs(self) -> Pairs
+        ensures value { result ≡ self.taken }
+        ensures bytes { KeysAreBytes self.taken }
+    {
+        let Scan { taken, .. } = self;
+        Items::from_vec(taken)
+    }
+}

@@ -1,0 +1,96 @@
+-- A border that is locked, unlocked or marked deleted, or whose unused slots are filled, keeps the tree at each chart.
+use Rattle.std.proofs.Common.{ℕ, zero, suc, ◌≡◌, List, [], Option, Some, None, true, Result, Ok, Err, OnOk, OnErr, refl, ap, sym, subst, ◌∙◌}
+use Rattle.std.specs.Option.{option_map}
+use Rattle.mt_border.specs.Border.{BorderView, first_held, with_filled}
+use Rattle.mt_border.specs.Order.{IsBorder}
+use Rattle.mt_border.specs.declared.entry.Entry.{Entry}
+use Rattle.mt_border.proofs.BorderLemmas.{filled_deleted}
+use Rattle.mt_arena.specs.Node.{border_at}
+use Rattle.mt_arena.specs.Arena.{ArenaView, with_node_at}
+use Rattle.mt_arena.specs.declared.node.Node.TheVariants.{Border}
+use Rattle.mt_chart.specs.Tree.{Arena, BorderNode, border}
+use Rattle.mt_chart.specs.Chart.{on, gone, top, at_level, Spot, spot, Chart, OnBorder, Changes}
+use Rattle.mt_chart.specs.Steps.{Twin, IsIndex, Keeps, WritesBorder}
+use Rattle.mt_chart.proofs.BorderLaws.{marking, marking_gone_border}
+use Rattle.mt_chart.proofs.InteriorLaws.{changing_spares}
+use Rattle.mt_tree.specs.Seen.{arena_seen, border_seen, entries_seen, right_seen}
+use Rattle.mt_tree.specs.Keeping.{IsOnIn, KeepsTree}
+use Rattle.mt_tree.proofs.SeenLemmas.{seen-border, written-border}
+
+-- a border that is on in the chart is the one that is seen there
+pub stands_seen : (a : ArenaView) (now : ℕ) (twins : List Twin) (chart : Chart) (number : ℕ) (prefix : List ℕ) (b : BorderView) → IsIndex now twins (arena_seen a) chart → IsOnIn chart number prefix → border_at a.nodes number ≡ Some b →
+    OnBorder (arena_seen a) chart number prefix (border_seen b)
+stands_seen a now twins chart number prefix b index stands is =
+    let (node, there, low) = index.tree.borders number prefix stands.low stands.posted stands.place in
+    let seen : arena_seen a number ≡ Some (border (border_seen b)) = seen-border a number b is in
+    let same : node ≡ border_seen b = cc in
+    let same_low : stands.low ≡ b.low = sym low ∙ ap (λ (n : BorderNode). n.low) same in
+    record { posted = stands.posted; place = subst (λ (l : ℕ). chart number ≡ Some (spot (at_level 0) prefix l (on stands.posted))) same_low stands.place; node = seen }
+
+-- a border that is on is written, and keeps its low
+pub writes_seen : (a : ArenaView) (chart : Chart) (number : ℕ) (prefix : List ℕ) (b b' : BorderView) → border_at a.nodes number ≡ Some b → OnBorder (arena_seen a) chart number prefix (border_seen b) → b'.low ≡ b.low →
+    (b'.version.deleted ≡ true → b'.live ≡ []) → WritesBorder (arena_seen a) (arena_seen (with_node_at a number (Border b'))) chart number prefix (border_seen b) (border_seen b')
+writes_seen a chart number prefix b b' is stands low empty = record { stands = stands; written = written-border a number b b' is; low = low; empty = λ deleted. ap entries_seen (empty deleted) }
+
+-- what is the same to every reader
+pub record IsMarked (b b' : BorderView) : Type 0 where
+  pub low : b'.low ≡ b.low
+  pub right : b'.right ≡ b.right
+  pub live : b'.live ≡ b.live
+  pub deleted : b.version.deleted ≡ true → b'.version.deleted ≡ true
+
+-- a slot is filled, or nothing is changed
+pub filled_is_marked : {T E : Type 0} (result : Result T E) (b b' : BorderView) (entry : Entry) → OnOk result (b' ≡ with_filled b entry) → OnErr result (b' ≡ b) → IsMarked b b'
+filled_is_marked (Ok done) b b' entry filled unchanged = rw filled (record { low = refl; right = refl; live = refl; deleted = λ marked. filled_deleted (first_held b.unused) b.version ∙ marked })
+filled_is_marked (Err refusal) b b' entry filled unchanged = rw unchanged (record { low = refl; right = refl; live = refl; deleted = λ marked. marked })
+
+module _ (a : ArenaView) (number : ℕ) (b b' : BorderView) (is : border_at a.nodes number ≡ Some b) (same : IsMarked b b') (sound : IsBorder b') where
+  here : arena_seen a number ≡ Some (border (border_seen b))
+  here = seen-border a number b is
+
+  abbrev after : Arena
+  after = arena_seen (with_node_at a number (Border b'))
+
+  written : Changes (arena_seen a) after number (Some (border (border_seen b')))
+  written = written-border a number b b' is
+
+  pub marked_keeps : KeepsTree a (with_node_at a number (Border b'))
+  marked_keeps = record { keeps = λ now twins chart index. go now twins chart index (chart number) refl }
+    where
+      unknown : (now : ℕ) (twins : List Twin) (chart : Chart) → IsIndex now twins (arena_seen a) chart → chart number ≡ None → Keeps now twins (arena_seen a) after chart chart
+      unknown now twins chart index none = changing_spares now twins (arena_seen a) after chart index
+          (λ m place g. written.rest m (λ e. let w : chart m ≡ chart number = ap chart e in cc))
+
+      on_border : (now : ℕ) (twins : List Twin) (chart : Chart) (prefix : List ℕ) → IsIndex now twins (arena_seen a) chart → IsOnIn chart number prefix → Keeps now twins (arena_seen a) after chart chart
+      on_border now twins chart prefix index stands = marking now twins (arena_seen a) after chart index (record {
+        number = number;
+        prefix = prefix;
+        old = border_seen b;
+        new = border_seen b';
+        writes = writes_seen a chart number prefix b b' is (stands_seen a now twins chart number prefix b index stands is) same.low sound.deleted_empty;
+        right = ap (option_map right_seen) same.right;
+        entries = ap entries_seen same.live;
+      })
+
+      gone_border : (now : ℕ) (twins : List Twin) (chart : Chart) (prefix : List ℕ) (low epoch : ℕ) → IsIndex now twins (arena_seen a) chart → chart number ≡ Some (spot (at_level 0) prefix low (gone epoch)) → Keeps now twins (arena_seen a) after chart chart
+      gone_border now twins chart prefix low epoch index place = marking_gone_border now twins (arena_seen a) after chart index (record {
+        number = number;
+        prefix = prefix;
+        low = low;
+        epoch = epoch;
+        node = border_seen b';
+        place = place;
+        written = written;
+        marked = (let (node, there, marked) = index.tree.gone_borders number prefix low epoch place in
+            let seen = here in
+            let same_node : node ≡ border_seen b = cc in
+            same.deleted (sym (ap (λ (n : BorderNode). n.deleted) same_node) ∙ marked));
+      })
+
+      go : (now : ℕ) (twins : List Twin) (chart : Chart) → IsIndex now twins (arena_seen a) chart → (at : Option Spot) → chart number ≡ at → Keeps now twins (arena_seen a) after chart chart
+      go now twins chart index None g = unknown now twins chart index g
+      go now twins chart index (Some (spot top prefix low (on posted))) g = absurd (let seen = here in let u = index.tree.heads number prefix low posted g in let there = u.is_node in cc)
+      go now twins chart index (Some (spot top prefix low (gone epoch))) g = absurd (let seen = here in let (node, there, marked) = index.tree.gone_heads number prefix low epoch g in cc)
+      go now twins chart index (Some (spot (at_level zero) prefix low (on posted))) g = on_border now twins chart prefix index (record { low = low; posted = posted; place = g })
+      go now twins chart index (Some (spot (at_level zero) prefix low (gone epoch))) g = gone_border now twins chart prefix low epoch index g
+      go now twins chart index (Some (spot (at_level (suc below)) prefix low standing)) g = absurd (let seen = here in let u = index.tree.interiors number below prefix low standing g in let there = u.is_node in cc)

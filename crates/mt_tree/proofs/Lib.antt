@@ -1,0 +1,20 @@
+-- Lemmas on how nodes are seen and changed, for this crate and for those above it.
+pub mod SeenLemmas
+pub mod SpareWrites
+pub mod SpareLemmas
+pub mod NewTreeLemmas
+pub mod FoundLemmas
+pub mod DescentLemmas
+pub mod RowLemmas
+pub mod HeldLemmas
+pub mod IntervalLemmas
+pub mod BorderEntries
+pub mod BorderMarks
+pub mod SplitSteps
+pub mod BorderRows
+pub mod UnlinkSteps
+pub mod LayerSteps
+pub mod ChildLists
+pub mod InteriorPlaces
+pub mod InteriorChanges
+pub mod HeadChanges

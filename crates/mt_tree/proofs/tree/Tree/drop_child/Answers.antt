@@ -1,0 +1,7 @@
+use Rattle.mt_tree.proofs.InteriorChanges.{drop_child_keeps}
+use Rattle.mt_tree.proofs.tree.Tree.drop_child.Goals as goal
+
+pub returns-clause-keeps : goal.returns-clause-keeps
+returns-clause-keeps c =
+    let is = rw c.self.view_is at c.interior_mut.ensures.value in
+    rw (c.self.view_is, c.drop_child.ensures.value) (drop_child_keeps c.args.self.now c.args.number.0 c.args.place c.interior_mut.result.now is c.requires.later c.requires.within (rw c.drop_child.ensures.value at c.drop_child.ensures.sound))

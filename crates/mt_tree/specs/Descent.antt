@@ -1,0 +1,133 @@
+-- What a descent sees at a node on its way to the rest of a key, and what it then knows of the tree.
+use Rattle.std.specs.Prelude.{ℕ, ◌≡◌, ◌<◌, ◌≤◌, ◌-◌, ◌⊎◌, ◌↔◌, if◌then◌else◌, false, List, [], ◌∷◌, length, drop, slice_get, Option, Some, None, IsSome}
+use Rattle.mt_types.specs.declared.numbers.NodeNo.{NodeNo}
+use Rattle.mt_types.specs.declared.row.Row.{Row}
+use Rattle.mt_slice.specs.Place.{Place, AreBytes, first_slice, under, place_of, slice_number}
+use Rattle.mt_slice.specs.Classes.{class_of}
+use Rattle.mt_border.specs.Border.{BorderView, right_for, row_at}
+use Rattle.mt_border.specs.Find.{found_in}
+use Rattle.mt_border.specs.Order.{IsBorder}
+use Rattle.mt_border.specs.declared.entry.Content.{Content}
+use Rattle.mt_border.specs.declared.entry.Content.TheVariants.{Short, Long, Link}
+use Rattle.mt_border.specs.declared.entry.Entry.{Entry}
+use Rattle.mt_border.specs.declared.found.Found.{Found}
+use Rattle.mt_border.specs.declared.found.Found.TheVariants.{Absent, Row as RowFound, OtherSuffix, Link as LinkFound}
+use Rattle.mt_interior.specs.Head.{HeadView}
+use Rattle.mt_interior.specs.Interior.{InteriorView, children_up_to}
+use Rattle.mt_interior.specs.declared.child.Child.{Child}
+use Rattle.mt_arena.specs.Node.{node_at, interior_at, border_at}
+use Rattle.mt_arena.specs.Arena.{ArenaView}
+use Rattle.mt_arena.specs.declared.node.Node.{Node}
+use Rattle.mt_arena.specs.declared.node.Node.TheVariants.{Head, Interior, Border}
+use Rattle.mt_chart.specs.Tree.{Has, Below as BelowLow}
+use Rattle.mt_chart.specs.Chart.{Chart, Holds}
+use Rattle.mt_chart.specs.Steps.{Twin}
+use Rattle.mt_chart.specs.ScanRun.{EntriesInOrder}
+use Rattle.mt_chart.specs.TreeLaws.{IsWhere, HasEntry, GoesOnAtALink}
+use Rattle.mt_tree.specs.Seen.{arena_seen, border_seen}
+use Rattle.mt_tree.specs.Keeping.{IsIndexAt}
+use Rattle.mt_tree.specs.declared.visit.Visit.{Visit}
+use Rattle.mt_tree.specs.declared.visit.Visit.TheVariants.{Again, To, Below, Here}
+
+-- from a head to the root
+abbrev pub visit_head : HeadView → Visit
+visit_head h = if h.version.deleted then Again else To h.root
+
+-- to a child; the interior nodes that a call may visit have one
+abbrev pub to_child : Option Child → Visit
+to_child (Some child) = To child.node
+to_child None = Again
+
+-- from an interior node to the last child whose low is at most the slice
+abbrev pub visit_interior : ℕ → InteriorView → Visit
+visit_interior slice i = if i.version.deleted then Again else to_child (slice_get i.children (children_up_to slice i.children - 1))
+
+-- what a search finds among entries for the rest of a key
+abbrev pub found_for : List ℕ → List Entry → Found
+found_for rest live = found_in (slice_number rest) (class_of (length rest)) (drop 8 rest) live
+
+-- a link leads to the layer below
+abbrev pub visit_found : Found → Visit
+visit_found (Absent place) = Here
+visit_found (RowFound place) = Here
+visit_found (OtherSuffix place) = Here
+visit_found (LinkFound place top) = Below top
+
+-- to the right neighbour, if that is where the slice stands
+abbrev pub to_right : Option NodeNo → Found → Visit
+to_right (Some right) found = To right
+to_right None found = visit_found found
+
+abbrev pub visit_border : List ℕ → BorderView → Visit
+visit_border rest b = if b.version.deleted then Again else to_right (right_for b.right (slice_number rest)) (found_for rest b.live)
+
+abbrev pub node_visit : List ℕ → Node → Visit
+node_visit rest (Head h) = visit_head h
+node_visit rest (Interior i) = visit_interior (slice_number rest) i
+node_visit rest (Border b) = visit_border rest b
+
+-- the number names a node, and one that is an interior, not marked deleted, has a child for the slice
+pub record MayVisit (a : ArenaView) (number slice : ℕ) : Type 0 where
+  pub named : IsSome (node_at a.nodes number)
+  pub has_child : (i : InteriorView) → interior_at a.nodes number ≡ Some i → i.version.deleted ≡ false → (0 < length i.children) × (i.low ≤ slice)
+
+-- the border is on, in the layer of the prefix, and the rest of the key is in its interval
+pub record IsHere (a : ArenaView) (chart : Chart) (number : ℕ) (prefix rest : List ℕ) : Type 0 where
+  pub border : BorderView
+  pub named : border_at a.nodes number ≡ Some border
+  pub stands : IsWhere (arena_seen a) chart number prefix (border_seen border) (place_of rest)
+
+-- what a call knows where a visit leads it: it holds the next node, or it has come to the key's border
+abbrev pub Knows : ArenaView → Chart → ℕ → ℕ → List ℕ → List ℕ → Visit → Type 0
+Knows a chart begun number prefix rest Again = Unit {0}
+Knows a chart begun number prefix rest (To next) = Holds chart begun next.0 prefix (slice_number rest)
+Knows a chart begun number prefix rest (Below top) = (8 < length rest) × ((slice : ℕ) → Holds chart begun top.0 (slice_number rest ∷ prefix) slice)
+Knows a chart begun number prefix rest Here = IsHere a chart number prefix rest
+
+-- A CALL THAT HOLDS THE NODE, for the slice that it seeks in the layer of a prefix, knows this after the visit
+pub record LeadsOn (a : ArenaView) (number : ℕ) (rest : List ℕ) (visit : Visit) : Type 0 where
+  pub leads : (now : ℕ) (twins : List Twin) (chart : Chart) (begun : ℕ) (prefix : List ℕ) → IsIndexAt a now twins chart → Holds chart begun number prefix (slice_number rest) → Knows a chart begun number prefix rest visit
+
+-- a suffix is of bytes
+abbrev pub HasBytes : Content → Type 0
+HasBytes (Short bytes row) = Unit {0}
+HasBytes (Long suffix row) = AreBytes suffix
+HasBytes (Link top) = Unit {0}
+
+abbrev pub AllHaveBytes : List Entry → Type 0
+AllHaveBytes [] = Unit {0}
+AllHaveBytes (entry ∷ entries) = HasBytes entry.content × AllHaveBytes entries
+
+-- the row that was found, if one was
+abbrev pub row_found : List Entry → Found → Option Row
+row_found live (Absent place) = None
+row_found live (RowFound place) = row_at place live
+row_found live (OtherSuffix place) = None
+row_found live (LinkFound place top) = None
+
+-- no link leads on
+abbrev pub IsLast : Found → Type 0
+IsLast (Absent place) = Unit {0}
+IsLast (RowFound place) = Unit {0}
+IsLast (OtherSuffix place) = Unit {0}
+IsLast (LinkFound place top) = ⊥
+
+-- WHERE A CALL HAS COME TO THE KEY'S BORDER, and no link leads on, the tree has a row at the key exactly where that row was found
+pub record TellsRow (a : ArenaView) (number : ℕ) (rest : List ℕ) (found : Found) : Type 0 where
+  pub tells : (now : ℕ) (twins : List Twin) (chart : Chart) (prefix : List ℕ) → IsIndexAt a now twins chart → (here : IsHere a chart number prefix rest) → AllHaveBytes here.border.live → IsLast found →
+      (row : Row) → Has (arena_seen a) (under prefix (place_of rest)) row ↔ (row_found here.border.live found ≡ Some row)
+
+-- what a call holds it may visit, for the slice that it holds it for
+abbrev pub HeldNodesMayBeVisited : Type 0
+HeldNodesMayBeVisited = (a : ArenaView) (now : ℕ) (twins : List Twin) (chart : Chart) (begun number slice : ℕ) (prefix : List ℕ) → IsIndexAt a now twins chart → Holds chart begun number prefix slice → MayVisit a number slice
+
+-- the tree has no other row in the border's interval than those of its entries and of the layers under its links
+abbrev pub HasInterval : ArenaView → ℕ → List ℕ → BorderView → Type 0
+HasInterval a number prefix b = (place : Place) (row : Row) → b.low ≤ first_slice place → BelowLow (first_slice place) (border_seen b).right → Has (arena_seen a) (under prefix place) row →
+    HasEntry (border_seen b) place row ⊎ GoesOnAtALink (border_seen b) place
+
+-- WHAT A RANGE NEEDS OF A BORDER that it holds, not marked deleted: the border begins at or before the slice that the range seeks, its
+-- entries are in order, and they are all that there is in its interval
+abbrev pub HeldBordersHaveIntervals : Type 0
+HeldBordersHaveIntervals = (a : ArenaView) (now : ℕ) (twins : List Twin) (chart : Chart) (begun number slice : ℕ) (prefix : List ℕ) (b : BorderView) → IsIndexAt a now twins chart → Holds chart begun number prefix slice →
+    border_at a.nodes number ≡ Some b → b.version.deleted ≡ false → IsBorder b → (b.low ≤ slice) × EntriesInOrder (border_seen b).entries × HasInterval a number prefix b

@@ -1,0 +1,141 @@
+//! What a call changes in a border node, and what each change keeps of the whole tree.
+
+ghost use Rattle.std.specs.Prelude.{◌≡◌, ◌↔◌, [], Some, true, false, IsSomeAnd, IsTrue, IsErr, OnOk, OnErr, IfErr, length, ◌<◌};
+ghost use Rattle.mt_border.specs.Border.{with_lock, with_deleted, with_filled, with_shown, with_hidden, with_value, with_split, with_link_at, with_right, fill_is_spent, row_at};
+ghost use Rattle.mt_arena.specs.Node.{border_at};
+ghost use Rattle.mt_arena.specs.Arena.{with_border_changed};
+ghost use Rattle.mt_tree.specs.Keeping.{KeepsTree};
+ghost use Rattle.mt_tree.specs.BorderSteps.{MayShow, ShowsNext, HasRowAt, HidesRowAt, SetsRowAt, IsUpperHalf, LinksHalfAt, HasLayerFor, MakesLayerAt, IsMarkedRight, UnlinksAt, HasMarkedLayerAt, DropsLayerAt};
+
+use crate::tree::Tree;
+use mt_border::{Entry, RightLink};
+use mt_types::numbers::NodeNo;
+use mt_types::refusal::Refusal;
+use mt_types::row::Row;
+
+impl Tree {
+    /// Locks a border. Constant cost.
+    pub fn lock_border(&mut self, number: NodeNo)
+        requires { IsSomeAnd (border_at self.old.nodes number.0) (λ b. b.version.locked ≡ false) }
+        ensures value { self.new ≡ with_border_changed self.old number.0 (λ b. with_lock b true) }
+        ensures keeps { KeepsTree self.old self.new }
+    {
+        self.arena.border_mut(number).lock();
+    }
+
+    /// Unlocks a border. Constant cost.
+    pub fn unlock_border(&mut self, number: NodeNo)
+        requires { IsSomeAnd (border_at self.old.nodes number.0) (λ b. b.version.locked ≡ true) }
+        ensures value { self.new ≡ with_border_changed self.old number.0 (λ b. with_lock b false) }
+        ensures keeps { KeepsTree self.old self.new }
+    {
+        self.arena.border_mut(number).unlock();
+    }
+
+    /// Marks a border as deleted, which has no live entry. Constant cost.
+    pub fn mark_border_deleted(&mut self, number: NodeNo)
+        requires { IsSomeAnd (border_at self.old.nodes number.0) (λ b. b.live ≡ []) }
+        ensures value { self.new ≡ with_border_changed self.old number.0 with_deleted }
+        ensures keeps { KeepsTree self.old self.new }
+    {
+        self.arena.border_mut(number).mark_deleted();
+    }
+
+    /// Writes an entry into the first unused slot of a border, where it shows nothing. Where that slot held a key, the
+    /// border's counter of insertions rises by one. Constant cost.
+    ///
+    /// # Errors
+    ///
+    /// `Spent` where that counter would rise and is at its greatest value, 2^56 - 1. Nothing is then changed.
+    pub fn fill_slot(&mut self, number: NodeNo, entry: Entry) -> Result<(), Refusal>
+        requires { IsSomeAnd (border_at self.old.nodes number.0) (λ b. length b.live < 15) }
+        ensures filled { OnOk result (self.new ≡ with_border_changed self.old number.0 (λ b. with_filled b entry)) }
+        ensures unchanged { OnErr result (self.new ≡ self.old) }
+        ensures spent { IsErr result ↔ IsSomeAnd (border_at self.old.nodes number.0) (λ b. IsTrue (fill_is_spent b)) }
+        ensures only { IfErr result (λ refusal. refusal ≡ Refusal.Spent) }
+        ensures keeps { KeepsTree self.old self.new }
+    {
+        self.arena.border_mut(number).fill_slot(entry)
+    }
+
+    /// Makes what the first unused slot of a border holds, a row, live at a place, made by the commit of this number.
+    /// Constant cost.
+    pub fn show(&mut self, number: NodeNo, place: usize, version: u64)
+        requires { IsSomeAnd (border_at self.old.nodes number.0) (λ b. MayShow b place version) }
+        ensures value { self.new ≡ with_border_changed self.old number.0 (λ b. with_shown b place version) }
+        ensures shows { ShowsNext self.old self.new number.0 version }
+    {
+        self.arena.border_mut(number).show(place, version);
+    }
+
+    /// Hides the entry at a place of a border, which has a row. Constant cost.
+    pub fn hide_row(&mut self, number: NodeNo, place: usize)
+        requires { IsSomeAnd (border_at self.old.nodes number.0) (λ b. HasRowAt b place) }
+        ensures value { self.new ≡ with_border_changed self.old number.0 (λ b. with_hidden b place) }
+        ensures hides { HidesRowAt self.old self.new number.0 place }
+    {
+        let border = self.arena.border_mut(number);
+        let _sound = border.len();
+        border.hide(place);
+    }
+
+    /// Gives the entry at a place of a border, which has a row, another one, and returns the old one. Constant cost.
+    pub fn set_value(&mut self, number: NodeNo, place: usize, row: Row) -> Row
+        requires { IsSomeAnd (border_at self.old.nodes number.0) (λ b. HasRowAt b place) }
+        ensures value { self.new ≡ with_border_changed self.old number.0 (λ b. with_value b place row) }
+        ensures replaced { IsSomeAnd (border_at self.old.nodes number.0) (λ b. row_at place b.live ≡ Some result) }
+        ensures sets { SetsRowAt self.old self.new number.0 place row }
+    {
+        let border = self.arena.border_mut(number);
+        let _sound = border.len();
+        border.set_value(place, row)
+    }
+
+    /// The link step of a split: a border keeps the first so many entries, and names to its right the half, a border that
+    /// was filled with the others. Constant cost.
+    pub fn link_half(&mut self, number: NodeNo, half: NodeNo, keep: usize)
+        requires { IsSomeAnd (border_at self.old.nodes number.0) (λ b. IsSomeAnd (border_at self.old.nodes half.0) (λ upper. IsUpperHalf b upper keep)) }
+        ensures value { IsSomeAnd (border_at self.old.nodes half.0) (λ upper. self.new ≡ with_border_changed self.old number.0 (λ b. with_split b keep (record { low = upper.low; node = half }))) }
+        ensures links { LinksHalfAt self.old self.new number.0 half.0 }
+    {
+        let low = self.border(half).low();
+        self.arena
+            .border_mut(number)
+            .link_right(keep, RightLink { low, node: half });
+    }
+
+    /// Makes the entry at a place of a border, which has the row of a longer key, a link to the head of a layer that has
+    /// that row alone. The entry's own row is dropped. Constant cost.
+    pub fn make_link(&mut self, number: NodeNo, place: usize, head: NodeNo)
+        requires { IsSomeAnd (border_at self.old.nodes number.0) (λ b. HasLayerFor self.old.nodes b place head.0) }
+        ensures value { self.new ≡ with_border_changed self.old number.0 (λ b. with_link_at b place head) }
+        ensures makes { MakesLayerAt self.old self.new number.0 place head.0 }
+    {
+        let above = self.arena.border_mut(number);
+        let _sound = above.len();
+        above.make_link(place, head);
+    }
+
+    /// Takes a border that is marked deleted out of its chain: the border before it takes its right link. Constant cost.
+    pub fn unlink(&mut self, number: NodeNo, gone: NodeNo)
+        requires { IsSomeAnd (border_at self.old.nodes number.0) (λ b. IsSomeAnd (border_at self.old.nodes gone.0) (λ right. IsMarkedRight b right gone)) }
+        ensures value { IsSomeAnd (border_at self.old.nodes gone.0) (λ right. self.new ≡ with_border_changed self.old number.0 (λ b. with_right b right.right)) }
+        ensures unlinks { UnlinksAt self.old self.new number.0 gone.0 }
+    {
+        let right = self.border(gone).right();
+        let left = self.arena.border_mut(number);
+        let _sound = left.len();
+        left.set_right(right);
+    }
+
+    /// Hides the link at a place of a border to a layer that is marked deleted. Constant cost.
+    pub fn hide_link(&mut self, number: NodeNo, place: usize)
+        requires { IsSomeAnd (border_at self.old.nodes number.0) (λ b. HasMarkedLayerAt self.old.nodes b place) }
+        ensures value { self.new ≡ with_border_changed self.old number.0 (λ b. with_hidden b place) }
+        ensures drops { DropsLayerAt self.old self.new number.0 place }
+    {
+        let above = self.arena.border_mut(number);
+        let _sound = above.len();
+        above.hide(place);
+    }
+}

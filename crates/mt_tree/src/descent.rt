@@ -1,0 +1,97 @@
+//! How a call goes down the tree to a key, and what it knows on the way.
+
+ghost use Rattle.std.specs.Prelude.{◌≡◌, ◌<◌, ◌≤◌, length, drop, false, IsSome, IsSomeAnd};
+ghost use Rattle.mt_slice.specs.Place.{slice_number};
+ghost use Rattle.mt_border.specs.Order.{IsBorder};
+ghost use Rattle.mt_interior.specs.Interior.{IsInterior};
+ghost use Rattle.mt_arena.specs.Node.{node_at, border_at};
+ghost use Rattle.mt_tree.specs.Descent.{visit_head, visit_interior, visit_border, node_visit, found_for, MayVisit, LeadsOn, TellsRow};
+
+use crate::tree::Tree;
+use crate::visit::Visit;
+use mt_arena::Node;
+use mt_border::{Border, Found};
+use mt_interior::{Head, Interior};
+use mt_slice::{rest_of, slice_of};
+use mt_types::numbers::NodeNo;
+
+// From a head to the root.
+fn visit_head(head: &Head) -> Visit
+    ensures { result ≡ visit_head head.now }
+{
+    if head.is_deleted() {
+        return Visit::Again;
+    }
+    Visit::To(head.root())
+}
+
+// From an interior node to the last child whose low is at most the slice.
+fn visit_interior(interior: &Interior, slice: u64) -> Visit
+    requires { interior.now.version.deleted ≡ false → (0 < length interior.now.children) × (interior.now.low ≤ slice) }
+    ensures value { result ≡ visit_interior slice interior.now }
+    ensures sound { IsInterior interior.now }
+{
+    if interior.is_deleted() {
+        return Visit::Again;
+    }
+    Visit::To(interior.child(interior.child_for(slice)).node)
+}
+
+// What a search finds for the rest of a key.
+fn find(border: &Border, rest: &[u8]) -> Found
+    ensures value { result ≡ found_for rest.now border.now.live }
+    ensures sound { IsBorder border.now }
+{
+    let (slice, class) = slice_of(rest);
+    border.find(slice, class, rest_of(rest))
+}
+
+// From a border to the right, where the slice stands there or beyond, or to the layer below, where a link leads on.
+fn visit_border(border: &Border, rest: &[u8]) -> Visit
+    ensures value { result ≡ visit_border rest.now border.now }
+    ensures sound { IsBorder border.now }
+{
+    if border.is_deleted() {
+        return Visit::Again;
+    }
+    let (slice, _) = slice_of(rest);
+    if let Some(right) = border.right_for(slice) {
+        return Visit::To(right);
+    }
+    match find(border, rest) {
+        Found::Link(_, top) => Visit::Below(top),
+        Found::Absent(_) | Found::Row(_) | Found::OtherSuffix(_) => Visit::Here,
+    }
+}
+
+impl Tree {
+    /// The visit of a node in the descent to a key, of which `rest` is what the layers above have left (Masstree, EuroSys
+    /// 2012, section 4.6). A node that is locked is read as it stands.
+    ///
+    /// A call that holds the node holds the next one too, and where it has come to `Here`, the tree has a row at the key
+    /// exactly where the border has an entry with that row. Searches one node, and takes no memory.
+    pub fn visit(&self, number: NodeNo, rest: &[u8]) -> Visit
+        requires { MayVisit self.now number.0 (slice_number rest.now) }
+        ensures value { IsSomeAnd (node_at self.now.nodes number.0) (λ node. result ≡ node_visit rest.now node) }
+        ensures leads { LeadsOn self.now number.0 rest.now result }
+    {
+        match self.node(number) {
+            Node::Head(head) => visit_head(head),
+            Node::Interior(interior) => {
+                let (slice, _) = slice_of(rest);
+                visit_interior(interior, slice)
+            }
+            Node::Border(border) => visit_border(border, rest),
+        }
+    }
+
+    /// What a search in a border finds for a key, of which `rest` is what the layers above have left. Searches one border,
+    /// and takes no memory.
+    pub fn find(&self, number: NodeNo, rest: &[u8]) -> Found
+        requires { IsSome (border_at self.now.nodes number.0) }
+        ensures value { IsSomeAnd (border_at self.now.nodes number.0) (λ b. result ≡ found_for rest.now b.live) }
+        ensures row { TellsRow self.now number.0 rest.now result }
+    {
+        find(self.border(number), rest)
+    }
+}

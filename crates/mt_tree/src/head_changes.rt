@@ -1,0 +1,55 @@
+//! What a call changes in the head of a layer, and what each change keeps.
+
+ghost use Rattle.std.specs.Prelude.{◌≡◌, IsSome, IsSomeAnd, true, false};
+ghost use Rattle.mt_interior.specs.Head.{with_root, with_lock, with_deleted};
+ghost use Rattle.mt_arena.specs.Node.{head_at, interior_at};
+ghost use Rattle.mt_arena.specs.Arena.{with_head_changed};
+ghost use Rattle.mt_tree.specs.Keeping.{KeepsTree, KeepsAlong};
+ghost use Rattle.mt_tree.specs.InteriorSteps.{child_at, HasOneChild};
+ghost use Rattle.mt_tree.specs.HeadSteps.{IsRootOver, NamesRootAt, BypassesRootAt};
+
+use crate::tree::Tree;
+use mt_types::numbers::NodeNo;
+
+impl Tree {
+    /// Unlocks a head. Constant cost.
+    pub fn unlock_head(&mut self, number: NodeNo)
+        requires { IsSomeAnd (head_at self.old.nodes number.0) (λ head. head.version.locked ≡ true) }
+        ensures value { self.new ≡ with_head_changed self.old number.0 (λ head. with_lock head false) }
+        ensures keeps { KeepsTree self.old self.new }
+    {
+        self.arena.head_mut(number).unlock();
+    }
+
+    /// Marks a head as deleted. Constant cost.
+    pub fn mark_head_deleted(&mut self, number: NodeNo)
+        requires { IsSome (head_at self.old.nodes number.0) }
+        ensures value { self.new ≡ with_head_changed self.old number.0 with_deleted }
+        ensures keeps { KeepsTree self.old self.new }
+    {
+        self.arena.head_mut(number).mark_deleted();
+    }
+
+    /// Names a new root, an interior over the old root and a border. Constant cost.
+    pub fn name_root(&mut self, number: NodeNo, root: NodeNo)
+        requires { IsSomeAnd (head_at self.old.nodes number.0) (λ head. IsSomeAnd (interior_at self.old.nodes root.0) (IsRootOver head)) }
+        ensures value { IsSomeAnd (interior_at self.old.nodes root.0) (λ interior. self.new ≡ with_head_changed self.old number.0 (λ head. with_root head root interior.level)) }
+        ensures keeps { KeepsAlong self.old self.new (NamesRootAt self.old number.0 root.0) }
+    {
+        let level = self.interior(root).level();
+        self.arena.head_mut(number).set_root(root, level);
+    }
+
+    /// Names the only child of the root in its place. Constant cost.
+    pub fn bypass_root(&mut self, number: NodeNo, gone: NodeNo)
+        requires named { IsSomeAnd (head_at self.old.nodes number.0) (λ head. head.root ≡ gone) }
+        requires one { IsSomeAnd (interior_at self.old.nodes gone.0) HasOneChild }
+        ensures value { IsSomeAnd (child_at self.old.nodes gone.0 0) (λ child. self.new ≡ with_head_changed self.old number.0 (λ head. with_root head child.node child.level)) }
+        ensures keeps { KeepsAlong self.old self.new (BypassesRootAt number.0 gone.0) }
+    {
+        let child = self.interior(gone).child(0);
+        self.arena
+            .head_mut(number)
+            .set_root(child.node, child.level);
+    }
+}

@@ -1,0 +1,17 @@
+//! The tree of nodes: one call for each change of a node, and what each keeps of the whole tree.
+#![tactic(auto)]
+
+mod border_changes;
+mod descent;
+mod head_changes;
+mod interior_changes;
+pub mod laws;
+mod spares;
+mod tree;
+mod visit;
+
+pub use tree::{TOP, Tree};
+pub use visit::Visit;
+
+#[cfg(test)]
+mod tests;

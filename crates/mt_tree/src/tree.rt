@@ -1,0 +1,106 @@
+//! The tree itself: its nodes under their numbers.
+
+ghost use Rattle.std.specs.Prelude.{◌≡◌, ◌+◌, ℕ, List, Some, IsSome, IfOk, []};
+ghost use Rattle.mt_types.specs.declared.row.Row.{Row};
+ghost use Rattle.mt_arena.specs.Node.{node_at, head_at, interior_at, border_at, occupied};
+ghost use Rattle.mt_chart.specs.NewIndex.{new_chart};
+ghost use Rattle.mt_tree.specs.Seen.{HasRow};
+ghost use Rattle.mt_tree.specs.Keeping.{IsIndexAt};
+ghost use Rattle.mt_tree.specs.NewTree.{IsNewTree};
+
+use mt_arena::{Arena, Node};
+use mt_border::Border;
+use mt_interior::{Head, Interior};
+use mt_types::numbers::NodeNo;
+use mt_types::refusal::NoMemory;
+use std::alloc::Global;
+use std::marker::Model;
+
+/// The nodes of an index under their numbers: the heads of layers, interior nodes and borders. Number 0 is the head of
+/// layer 0.
+///
+/// Each change is of one node. What it keeps of the whole tree is a clause of its own, which speaks of every chart at which
+/// the tree is an index: a chart tells where each node stands, and exists in proofs only.
+#[derive(Drop)]
+pub struct Tree {
+    pub(crate) arena: Arena,
+}
+
+impl Model for Tree {
+    ghost use Rattle.mt_arena.specs.Arena.{ArenaView};
+
+    ghost Value = { ArenaView };
+
+    ghost view = { λ t. t.arena };
+}
+
+/// The number of the head of layer 0.
+pub const TOP: NodeNo = NodeNo(0);
+
+impl Tree {
+    /// A tree with no row: the head of layer 0, over one border. Costs two allocations.
+    ///
+    /// # Errors
+    ///
+    /// `NoMemory` where an allocation is refused.
+    pub fn open(alloc: Global) -> Result<Tree, NoMemory>
+        ensures new { IfOk result IsNewTree }
+        ensures index { IfOk result (λ tree. (root : ℕ) × IsIndexAt tree 0 [] (new_chart root)) }
+        ensures empty { IfOk result (λ tree. (key : List ℕ) (row : Row) → HasRow tree key row → ⊥) }
+    {
+        let mut arena = Arena::open(alloc, Node::Head(Head::new(TOP, 0)))?;
+        let Ok(root) = arena.spare(Node::Border(Border::new(alloc, 0, 0))) else {
+            return Err(NoMemory);
+        };
+        arena.head_mut(TOP).set_root(root, 0);
+        Ok(Tree { arena })
+    }
+
+    /// How many numbers name no node. Constant cost.
+    pub fn free_numbers(&self) -> usize
+        ensures value { result + occupied self.now.nodes ≡ 1048576 }
+    {
+        self.arena.free_numbers()
+    }
+
+    /// The node under a number. Constant cost.
+    pub fn node(&self, number: NodeNo) -> &Node
+        requires { IsSome (node_at self.now.nodes number.0) }
+        ensures value { node_at self.now.nodes number.0 ≡ Some result.now }
+    {
+        self.arena.get(number)
+    }
+
+    /// The head under a number. Constant cost.
+    pub fn head(&self, number: NodeNo) -> &Head
+        requires { IsSome (head_at self.now.nodes number.0) }
+        ensures value { head_at self.now.nodes number.0 ≡ Some result.now }
+    {
+        match self.node(number) {
+            Node::Head(head) => head,
+            Node::Interior(_) | Node::Border(_) => unreachable!(),
+        }
+    }
+
+    /// The interior node under a number. Constant cost.
+    pub fn interior(&self, number: NodeNo) -> &Interior
+        requires { IsSome (interior_at self.now.nodes number.0) }
+        ensures value { interior_at self.now.nodes number.0 ≡ Some result.now }
+    {
+        match self.node(number) {
+            Node::Interior(interior) => interior,
+            Node::Head(_) | Node::Border(_) => unreachable!(),
+        }
+    }
+
+    /// The border under a number. Constant cost.
+    pub fn border(&self, number: NodeNo) -> &Border
+        requires { IsSome (border_at self.now.nodes number.0) }
+        ensures value { border_at self.now.nodes number.0 ≡ Some result.now }
+    {
+        match self.node(number) {
+            Node::Border(border) => border,
+            Node::Head(_) | Node::Interior(_) => unreachable!(),
+        }
+    }
+}
