@@ -1,13 +1,20 @@
 -- The remaining whole steps: a root is bypassed, a new root, the split of an interior, a head is marked.
-use Rattle.std.proofs.Common.{ℕ, suc, ◌≡◌, ◌≢◌, ◌<◌, ◌⊎◌, ◌↔◌, inl, inr, List, [], ◌∷◌, Option, Some, None, Bool, true, false, refl, sym, ap, ◌∙◌, subst, arith}
+use Rattle.std.proofs.Common.{ℕ, suc, ◌≡◌, ◌≢◌, ◌<◌, ◌⊎◌, ◌↔◌, inl, inr, List, [], ◌∷◌, Option, Some, None, Bool, true, refl, sym, ap, ◌∙◌, subst, arith}
 use Rattle.mt_slice.specs.Place.{Place}
 use Rattle.mt_types.specs.declared.row.Row.{Row}
 use Rattle.mt_chart.specs.Tree.{HeadNode, Child, InteriorNode, head, interior, Arena, Among, first, later, Has}
 use Rattle.mt_chart.specs.Chart.{Standing, on, gone, top, at_level, Spot, spot, Chart, OnHead, IsChild, AreChildren, FirstLow, IsTree, Changes, Dated, Owns, by_head, Owned}
 use Rattle.mt_chart.proofs.Basics.{same_number}
 use Rattle.mt_chart.proofs.Reach.{children_on, on_child}
-use Rattle.mt_chart.proofs.SmallChanges.{permit, take_children, take_root, publish, leave}
+use Rattle.mt_chart.proofs.SmallChanges.{take_children, take_root, publish, leave}
 use Rattle.mt_chart.proofs.Owners.{same_borders_content, only_owner, head_owns, owner_moves}
+
+-- the root of a head that is on
+pub head_root : (arena : Arena) (chart : Chart) → IsTree arena chart → (h : ℕ) (q : List ℕ) (t : HeadNode) → OnHead chart h q → arena h ≡ Some (head t) → chart t.root ≡ Some (spot (at_level t.level) q 0 (on true))
+head_root arena chart tree h q t at_h there =
+    let u = tree.heads h q 0 true at_h in
+    let same : u.node ≡ t = (let w : arena h ≡ Some (head u.node) = u.is_node in cc) in
+    rw same at u.root
 
 -- a change of the head `h`
 module _ (arena new : Arena) (chart : Chart) (tree : IsTree arena chart) (h : ℕ) (q : List ℕ) (t t' : HeadNode) (at_h : OnHead chart h q) (there : arena h ≡ Some (head t)) (change : Changes arena new h (Some (head t'))) where
@@ -17,10 +24,7 @@ module _ (arena new : Arena) (chart : Chart) (tree : IsTree arena chart) (h : �
   -- a head with the same root: it is locked, unlocked or marked deleted
   module _ (root : t'.root ≡ t.root) (level : t'.level ≡ t.level) where
     pub mark_head_tree : IsTree new chart
-    mark_head_tree =
-        let u = tree.heads h q 0 true at_h in
-        let same : u.node ≡ t = (let w : arena h ≡ Some (head u.node) = u.is_node in cc) in
-        take_root arena chart tree new h q t' at_h change (rw (root, level) (rw same at u.root))
+    mark_head_tree = take_root arena chart tree new h q t' at_h change (rw (root, level) (head_root arena chart tree h q t at_h there))
 
     pub mark_head_content : (k : Place) (w : Row) → Has new k w ↔ Has arena k w
     mark_head_content = same_borders_content arena new chart tree mark_head_tree agree_border
@@ -59,40 +63,27 @@ module _ (arena new : Arena) (chart : Chart) (tree : IsTree arena chart) (h : �
     pub root_bypass_content : (k : Place) (w : Row) → Has new k w ↔ Has arena k w
     root_bypass_content = same_borders_content arena new chart tree root_mid agree_border
 
-  -- a new root `x`, which names the old root and a border that nobody named
-  module _ (chart1 chart2 : Chart) (c x f : ℕ) (l : ℕ) (node : InteriorNode) (at_c : chart c ≡ Some (spot (at_level 0) q l (on false))) (fresh : chart x ≡ None) (filled : arena x ≡ Some (interior node))
-      (charted1 : Changes chart chart1 c (Some (spot (at_level 0) q l (on true)))) (charted2 : Changes chart1 chart2 x (Some (spot (at_level (suc f)) q 0 (on true))))
-      (low : node.low ≡ 0) (node_level : node.level ≡ suc f) (below : t.level < suc f)
-      (children : node.children ≡ (record { low = 0; number = t.root; level = t.level }) ∷ ((record { low = l; number = c; level = 0 }) ∷ [])) (root : t'.root ≡ x) (level : t'.level ≡ suc f) where
-    tree1 : IsTree arena chart1
-    tree1 = permit arena chart tree chart1 c q l false true at_c charted1 (inl refl)
-
-    at_h1 : OnHead chart1 h q
-    at_h1 = charted1.rest h (λ e. let w : chart h ≡ chart c = ap chart e in let v = at_h in let v' = at_c in let s : top ≡ at_level 0 = cc in cc) ∙ at_h
-
-    old_root : chart1 t.root ≡ Some (spot (at_level t.level) q 0 (on true))
-    old_root = let u = tree1.heads h q 0 true at_h1 in let same : u.node ≡ t = (let w : arena h ≡ Some (head u.node) = u.is_node in cc) in rw same at u.root
-
-    fresh1 : chart1 x ≡ None
-    fresh1 = charted1.rest x (λ e. let w : chart x ≡ chart c = ap chart e in let v = at_c in let n = fresh in let k : ◌≡◌ {A = Option Spot} None (Some (spot (at_level 0) q l (on false))) = cc in cc) ∙ fresh
-
-    inv2 : IsTree arena chart2
-    inv2 = publish arena chart1 tree1 chart2 x f q 0 node fresh1 filled charted2 low node_level
+  -- a new root `x`, which names the old root and `c`, of lower levels
+  module _ (next : Chart) (c k l x f : ℕ) (node : InteriorNode) (at_c : chart c ≡ Some (spot (at_level k) q l (on true))) (fresh : chart x ≡ None) (filled : arena x ≡ Some (interior node))
+      (charted : Changes chart next x (Some (spot (at_level (suc f)) q 0 (on true)))) (low : node.low ≡ 0) (node_level : node.level ≡ suc f) (below : t.level < suc f) (below_c : k < suc f)
+      (children : node.children ≡ (record { low = 0; number = t.root; level = t.level }) ∷ ((record { low = l; number = c; level = k }) ∷ [])) (root : t'.root ≡ x) (level : t'.level ≡ suc f) where
+    published : IsTree arena next
+    published = publish arena chart tree next x f q 0 node fresh filled charted low node_level
         (rw children (record { leftmost = refl; each = each }))
       where
-        each : (d : Child) → Among d ((record { low = 0; number = t.root; level = t.level }) ∷ ((record { low = l; number = c; level = 0 }) ∷ [])) → IsChild chart1 (on true) q (suc f) d
-        each d first = record { standing = on true; lower = below; place = old_root; may = refl }
-        each d (later first) = record { standing = on true; lower = (omega arith); place = charted1.now; may = refl }
-        each d (later (later k)) = elim k [ ]
+        each : (d : Child) → Among d ((record { low = 0; number = t.root; level = t.level }) ∷ ((record { low = l; number = c; level = k }) ∷ [])) → IsChild chart (on true) q (suc f) d
+        each d first = record { standing = on true; lower = below; place = head_root arena chart tree h q t at_h there; may = refl }
+        each d (later first) = record { standing = on true; lower = below_c; place = at_c; may = refl }
+        each d (later (later i)) = elim i [ ]
 
-    pub new_root_tree : IsTree new chart2
-    new_root_tree = take_root arena chart2 inv2 new h q t' (charted2.rest h (λ e. let w : chart1 h ≡ chart1 x = ap chart1 e in let v = at_h1 in let n = fresh1 in let k : ◌≡◌ {A = Option Spot} None (Some (spot top q 0 (on true))) = cc in cc) ∙ at_h1)
-        change (rw (root, level) charted2.now)
+    next_h : OnHead next h q
+    next_h = charted.rest h (λ e. let w : chart h ≡ chart x = ap chart e in let v = at_h in let n = fresh in let z : ◌≡◌ {A = Option Spot} None (Some (spot top q 0 (on true))) = cc in cc) ∙ at_h
+
+    pub new_root_tree : IsTree new next
+    new_root_tree = take_root arena next published new h q t' next_h change (rw (root, level) charted.now)
 
     pub new_root_content : (k : Place) (w : Row) → Has new k w ↔ Has arena k w
-    new_root_content = same_borders_content arena new chart2 inv2 new_root_tree (λ n p v st g. change.rest n (λ e. let w : chart2 n ≡ chart2 h = ap chart2 e in
-        let u = inv2.layer_0 in let z : chart2 h ≡ Some (spot top q 0 (on true)) = charted2.rest h (λ e. let w : chart1 h ≡ chart1 x = ap chart1 e in let v = at_h1 in let n = fresh1 in let k : ◌≡◌ {A = Option Spot} None (Some (spot top q 0 (on true))) = cc in cc) ∙ at_h1 in
-        let s : at_level 0 ≡ top = cc in cc))
+    new_root_content = same_borders_content arena new next published new_root_tree (λ n p v st g. change.rest n (λ e. let w : next n ≡ next h = ap next e in let z = next_h in let s : at_level 0 ≡ top = cc in cc))
 
 -- the split of the interior `i`: the new one, `c`, has some of its children, and is posted in the interior `j`
 module _ (arena new : Arena) (chart more : Chart) (tree : IsTree arena chart) (i f : ℕ) (q : List ℕ) (m : ℕ) (y : Bool) (x : InteriorNode) (at_i : chart i ≡ Some (spot (at_level (suc f)) q m (on y))) (there : arena i ≡ Some (interior x)) where
@@ -105,28 +96,29 @@ module _ (arena new : Arena) (chart more : Chart) (tree : IsTree arena chart) (i
     pub half_kept_content : (k : Place) (w : Row) → Has new k w ↔ Has arena k w
     half_kept_content = same_borders_content arena new chart tree half_kept_tree (λ n p l st g. change.rest n (λ e. let w : chart n ≡ chart i = ap chart e in let v = at_i in let c : at_level 0 ≡ at_level (suc f) = cc in let c' : 0 ≡ suc f = cc in omega arith))
 
-  -- the new half is posted in `j`
+  -- the new half comes to be known
   module _ (c : ℕ) (l : ℕ) (xc : InteriorNode) (fresh : chart c ≡ None) (filled : arena c ≡ Some (interior xc)) (charted : Changes chart more c (Some (spot (at_level (suc f)) q l (on true))))
-      (low : xc.low ≡ l) (level : xc.level ≡ suc f) (leftmost : FirstLow l xc.children) (part : (d : Child) → Among d xc.children → Among d x.children)
-      (j g v : ℕ) (z : Bool) (xj xj' : InteriorNode) (at_j : chart j ≡ Some (spot (at_level (suc g)) q v (on z))) (there_j : arena j ≡ Some (interior xj)) (change : Changes arena new j (Some (interior xj'))) (above : f < g)
-      (low_j : xj'.low ≡ v) (level_j : xj'.level ≡ suc g) (leftmost_j : FirstLow v xj'.children)
-      (sub : (d : Child) → Among d xj'.children → (d ≡ record { low = l; number = c; level = suc f }) ⊎ Among d xj.children) where
-    half : IsTree arena more
-    half = publish arena chart tree more c f q l xc fresh filled charted low level (record { leftmost = leftmost; each = (λ d k. each d (part d k)) })
+      (low : xc.low ≡ l) (level : xc.level ≡ suc f) (leftmost : FirstLow l xc.children) (part : (d : Child) → Among d xc.children → Among d x.children) where
+    pub half_known_tree : IsTree arena more
+    half_known_tree = publish arena chart tree more c f q l xc fresh filled charted low level (record { leftmost = leftmost; each = (λ d k. each d (part d k)) })
       where
         each : (d : Child) → Among d x.children → IsChild chart (on true) q (suc f) d
         each d k = let w = children_on arena chart tree i f q m y x at_i there in let o = w.each d k in record { standing = o.standing; lower = o.lower; place = o.place; may = o.may }
 
-    more_j : more j ≡ Some (spot (at_level (suc g)) q v (on z))
-    more_j = charted.rest j (λ e. let w : chart j ≡ chart c = ap chart e in let n = fresh in let o = at_j in let k : ◌≡◌ {A = Option Spot} None (Some (spot (at_level (suc g)) q v (on z))) = cc in cc) ∙ at_j
+    -- it is posted in `j`
+    module _ (j g v : ℕ) (z : Bool) (xj xj' : InteriorNode) (at_j : chart j ≡ Some (spot (at_level (suc g)) q v (on z))) (there_j : arena j ≡ Some (interior xj)) (change : Changes arena new j (Some (interior xj'))) (above : f < g)
+        (low_j : xj'.low ≡ v) (level_j : xj'.level ≡ suc g) (leftmost_j : FirstLow v xj'.children)
+        (sub : (d : Child) → Among d xj'.children → (d ≡ record { low = l; number = c; level = suc f }) ⊎ Among d xj.children) where
+      more_j : more j ≡ Some (spot (at_level (suc g)) q v (on z))
+      more_j = charted.rest j (λ e. let w : chart j ≡ chart c = ap chart e in let n = fresh in let o = at_j in let k : ◌≡◌ {A = Option Spot} None (Some (spot (at_level (suc g)) q v (on z))) = cc in cc) ∙ at_j
 
-    pub half_posted_tree : IsTree new more
-    half_posted_tree = let w = children_on arena more half j g q v z xj more_j there_j in
-        take_children arena more half new j g q v z xj' more_j change low_j level_j (record { leftmost = leftmost_j; each = (λ d k. go d w.each (sub d k)) })
-      where
-        go : (d : Child) → ((e : Child) → Among e xj.children → IsChild more (on z) q (suc g) e) → (d ≡ record { low = l; number = c; level = suc f }) ⊎ Among d xj.children → IsChild more (on z) q (suc g) d
-        go d each (inl e) = subst (λ (n : Child). IsChild more (on z) q (suc g) n) (sym e) (record { standing = on true; lower = (omega arith); place = charted.now; may = refl })
-        go d each (inr k) = each d k
+      pub half_posted_tree : IsTree new more
+      half_posted_tree = let w = children_on arena more half_known_tree j g q v z xj more_j there_j in
+          take_children arena more half_known_tree new j g q v z xj' more_j change low_j level_j (record { leftmost = leftmost_j; each = (λ d k. go d w.each (sub d k)) })
+        where
+          go : (d : Child) → ((e : Child) → Among e xj.children → IsChild more (on z) q (suc g) e) → (d ≡ record { low = l; number = c; level = suc f }) ⊎ Among d xj.children → IsChild more (on z) q (suc g) d
+          go d each (inl e) = subst (λ (n : Child). IsChild more (on z) q (suc g) n) (sym e) (record { standing = on true; lower = (omega arith); place = charted.now; may = refl })
+          go d each (inr k) = each d k
 
-    pub half_posted_content : (k : Place) (w : Row) → Has new k w ↔ Has arena k w
-    half_posted_content = same_borders_content arena new more half half_posted_tree (λ n p w st e. change.rest n (λ h. let s : more n ≡ more j = ap more h in let o = more_j in let u : at_level 0 ≡ at_level (suc g) = cc in let k : 0 ≡ suc g = cc in omega arith))
+      pub half_posted_content : (k : Place) (w : Row) → Has new k w ↔ Has arena k w
+      half_posted_content = same_borders_content arena new more half_known_tree half_posted_tree (λ n p w st e. change.rest n (λ h. let s : more n ≡ more j = ap more h in let o = more_j in let u : at_level 0 ≡ at_level (suc g) = cc in let k : 0 ≡ suc g = cc in omega arith))

@@ -4,7 +4,7 @@ use Rattle.mt_slice.specs.Place.{Place}
 use Rattle.mt_types.specs.declared.row.Row.{Row}
 use Rattle.mt_chart.specs.Tree.{Arena, Has}
 use Rattle.mt_chart.specs.Chart.{Chart, Evolves, Owns}
-use Rattle.mt_chart.specs.Steps.{Twin, AreTwins, IsIndex, Keeps, MarksBorder, ShowsRow, HidesRow, SetsRow, LinksHalf, MakesLayer, Unlinks, DropsLayer, DropsChild, PostsBorder, Bypasses, MarksHead, BypassesRoot, MakesRoot, PostsHalf, KeepsChildren, MarksGone, MarksGoneBorder, MarksGoneHead, ChangesSpares, Frees}
+use Rattle.mt_chart.specs.Steps.{Twin, AreTwins, IsIndex, Keeps, MarksBorder, ShowsRow, HidesRow, SetsRow, LinksHalf, MakesLayer, Unlinks, DropsLayer, DropsChild, PostsBorder, Bypasses, MarksHead, BypassesRoot, MakesRoot, PostsHalf, MakesRootOverHalf, KeepsChildren, MarksGone, MarksGoneBorder, MarksGoneHead, ChangesSpares, Frees}
 
 -- once a row is shown at a key, the index has that row there, and all rows that it had
 abbrev pub ShowingAddsTheRow : Type 0
@@ -68,6 +68,10 @@ MarkingAHeadKeeps = (now : ℕ) (twins : List Twin) (arena after : Arena) (chart
 -- to post the new half of an interior that is split keeps the index, with more twins
 abbrev pub PostingAHalfKeeps : Type 0
 PostingAHalfKeeps = (now : ℕ) (twins more_twins : List Twin) (arena after : Arena) (chart next : Chart) → IsIndex now twins arena chart → PostsHalf twins more_twins arena after chart next → Keeps now more_twins arena after chart next
+
+-- a new root over the old one and its new half keeps the index, with more twins
+abbrev pub MakingARootOverAHalfKeeps : Type 0
+MakingARootOverAHalfKeeps = (now : ℕ) (twins more_twins : List Twin) (arena after : Arena) (chart between next : Chart) → IsIndex now twins arena chart → MakesRootOverHalf twins more_twins arena after chart between next → Keeps now more_twins arena after chart next
 
 -- to leave some of an interior's children out keeps the index
 abbrev pub KeepingChildrenKeeps : Type 0

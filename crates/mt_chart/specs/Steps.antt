@@ -382,6 +382,50 @@ pub record PostsHalf (twins more_twins : List Twin) (arena after : Arena) (chart
   pub kept_twins : (one other : ℕ) → AreTwins twins one other → AreTwins more_twins one other
   pub new_twins : (other : ℕ) → (other ≡ number) ⊎ AreTwins twins other number → AreTwins more_twins half_number other × AreTwins more_twins other half_number
 
+-- A new root over the two halves of the old one: the root, an interior, is split, and a head names a filled interior in its place.
+-- The two children of that one are the old root and a filled interior with some of the old root's children. Between the two
+-- changes of the chart, the new half may be named and the new root is unknown. Of the twins it is as where a half is posted, and
+-- the head is none of them.
+pub record MakesRootOverHalf (twins more_twins : List Twin) (arena after : Arena) (chart between next : Chart) : Type 0 where
+  pub number : ℕ
+  pub prefix : List ℕ
+  pub old : HeadNode
+  pub new : HeadNode
+  pub writes : WritesHead arena after chart number prefix old new
+  pub split_number : ℕ
+  pub below : ℕ
+  pub split : InteriorNode
+  pub was_root : old.root ≡ split_number
+  pub place : chart split_number ≡ Some (spot (at_level (suc below)) prefix 0 (on true))
+  pub there : arena split_number ≡ Some (interior split)
+  pub half_number : ℕ
+  pub low : ℕ
+  pub half : InteriorNode
+  pub half_unknown : chart half_number ≡ None
+  pub half_filled : arena half_number ≡ Some (interior half)
+  pub half_charted : Changes chart between half_number (Some (spot (at_level (suc below)) prefix low (on true)))
+  pub half_low : half.low ≡ low
+  pub half_level : half.level ≡ suc below
+  pub half_leftmost : FirstLow low half.children
+  pub half_once : NoChildTwice half.children
+  pub part : (each : Child) → Among each half.children → Among each split.children
+  pub root_number : ℕ
+  pub root_below : ℕ
+  pub root_node : InteriorNode
+  pub unknown : chart root_number ≡ None
+  pub filled : arena root_number ≡ Some (interior root_node)
+  pub root_charted : Changes between next root_number (Some (spot (at_level (suc root_below)) prefix 0 (on true)))
+  pub root_low : root_node.low ≡ 0
+  pub root_level : root_node.level ≡ suc root_below
+  pub above : below < root_below
+  pub children : root_node.children ≡ (record { low = 0; number = old.root; level = old.level }) ∷ ((record { low = low; number = half_number; level = suc below }) ∷ [])
+  pub once : NoChildTwice root_node.children
+  pub root : new.root ≡ root_number
+  pub level : new.level ≡ suc root_below
+  pub kept_twins : (one other : ℕ) → AreTwins twins one other → AreTwins more_twins one other
+  pub new_twins : (other : ℕ) → (other ≡ split_number) ⊎ AreTwins twins other split_number → AreTwins more_twins half_number other × AreTwins more_twins other half_number
+  pub no_twin : NoTwin more_twins number
+
 -- an interior keeps some of its children: the first half of a split is cut, or an interior is locked or unlocked
 pub record KeepsChildren (arena after : Arena) (chart : Chart) : Type 0 where
   pub number : ℕ

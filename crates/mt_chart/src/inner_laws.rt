@@ -1,6 +1,6 @@
 //! Laws of the steps on heads and interior nodes, and of numbers: each leads from an index to an index, with the same content. Each function does nothing, and its contract is the law.
 
-ghost use Rattle.mt_chart.specs.StepLaws.{LaterEpochsKeep, DroppingAChildKeeps, PostingABorderKeeps, BypassingKeeps, BypassingARootKeeps, MakingARootKeeps, MarkingAHeadKeeps, MarkingWhatIsGoneKeeps, MarkingAGoneHeadKeeps, PostingAHalfKeeps, KeepingChildrenKeeps, PartsNeedBeNoTwins, ChangingSparesKeeps, FreeingKeeps};
+ghost use Rattle.mt_chart.specs.StepLaws.{LaterEpochsKeep, DroppingAChildKeeps, PostingABorderKeeps, BypassingKeeps, BypassingARootKeeps, MakingARootKeeps, MakingARootOverAHalfKeeps, MarkingAHeadKeeps, MarkingWhatIsGoneKeeps, MarkingAGoneHeadKeeps, PostingAHalfKeeps, KeepingChildrenKeeps, PartsNeedBeNoTwins, ChangingSparesKeeps, FreeingKeeps};
 
 /// An interior node drops an empty border.
 pub fn dropping_a_child_keeps()
@@ -18,9 +18,10 @@ pub fn bypassing_keeps()
     ensures root { BypassingARootKeeps }
 {}
 
-/// A head names a new root, over the old one and a border.
+/// A head names a new root, over the old one and a border, or over the old one, which is split, and its new half.
 pub fn making_a_root_keeps()
-    ensures { MakingARootKeeps }
+    ensures border { MakingARootKeeps }
+    ensures half { MakingARootOverAHalfKeeps }
 {}
 
 /// A head is locked, unlocked or marked deleted; an interior node that is gone is marked deleted; a head that is gone is locked

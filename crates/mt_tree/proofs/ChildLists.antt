@@ -1,12 +1,13 @@
 -- The children of an interior as the theory of the tree sees them, once one is put in, dropped or renamed, or only some are kept.
-use Rattle.std.proofs.Common.{ℕ, zero, suc, ◌≡◌, ◌≢◌, ◌<◌, ◌⊎◌, inl, inr, List, [], ◌∷◌, length, take, drop, Some, slice_get, refl, sym, ap, ◌∙◌, arith}
+use Rattle.std.proofs.Common.{ℕ, zero, suc, ◌≡◌, ◌≢◌, ◌<◌, ◌⊎◌, inl, inr, List, [], ◌∷◌, length, take, drop, Some, slice_get, refl, sym, ap, ◌∙◌, arith, length-drop}
 use Rattle.std.specs.List.{insert, remove}
 use Rattle.mt_types.specs.declared.numbers.NodeNo.{NodeNo}
-use Rattle.mt_interior.specs.Interior.{renamed, StartsAt}
+use Rattle.mt_interior.specs.Interior.{InteriorView, renamed, StartsAt}
 use Rattle.mt_interior.specs.declared.child.Child.{Child}
 use Rattle.mt_chart.specs.Tree.{Among, first, later, Child as PlainChild}
 use Rattle.mt_chart.specs.Chart.{FirstLow, NoChildTwice}
 use Rattle.mt_tree.specs.Seen.{child_seen, children_seen}
+use Rattle.mt_tree.specs.InteriorSteps.{HasUpperChildren}
 
 -- where there is a child, the first has the low
 pub first_low : (low : ℕ) (children : List Child) → 0 < length children → StartsAt low children → FirstLow low (children_seen children)
@@ -125,6 +126,15 @@ pub once_dropped : (count : ℕ) (children : List Child) → NoChildTwice (child
 once_dropped zero children once = once
 once_dropped (suc count) [] once = tt
 once_dropped (suc count) (child ∷ children) once = once_dropped count children once.1
+
+-- a half has some of the children of the interior that is split, from its own low on
+pub upper_children : (half split : InteriorView) → HasUpperChildren half split → StartsAt half.low half.children → NoChildTwice (children_seen split.children) →
+    FirstLow half.low (children_seen half.children) × NoChildTwice (children_seen half.children) × ((each : PlainChild) → Among each (children_seen half.children) → Among each (children_seen split.children))
+upper_children half split upper starts once = (
+  first_low half.low half.children (rw upper.children (omega (arith, length-drop upper.place split.children, upper.within))) starts,
+  rw upper.children (once_dropped upper.place split.children once),
+  λ each i. among_dropped upper.place split.children each (rw upper.children at i),
+)
 
 pub some_inserted : (children : List Child) (place : ℕ) (child : Child) → 0 < length (insert children place child)
 some_inserted [] zero child = omega arith

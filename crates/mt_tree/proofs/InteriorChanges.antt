@@ -1,5 +1,5 @@
 -- What each change of an interior keeps of the tree.
-use Rattle.std.proofs.Common.{ℕ, suc, ◌≡◌, ◌≢◌, ◌<◌, ◌≤◌, ◌⊎◌, inl, inr, List, [], ◌∷◌, length, take, Option, Some, None, IsSome, IsSomeAnd, slice_get, Bool, true, false, refl, sym, ap, ◌∙◌, subst, arith, length-drop, length-take}
+use Rattle.std.proofs.Common.{ℕ, suc, ◌≡◌, ◌≢◌, ◌<◌, ◌≤◌, ◌⊎◌, inl, inr, List, [], ◌∷◌, length, take, Option, Some, None, IsSome, IsSomeAnd, slice_get, Bool, true, false, refl, sym, ap, ◌∙◌, subst, arith, length-take}
 use Rattle.std.proofs.lemmas.List.Edits.{length-remove}
 use Rattle.std.proofs.lemmas.Option.{slice_get_within}
 use Rattle.mt_types.specs.declared.numbers.NodeNo.{NodeNo}
@@ -11,14 +11,14 @@ use Rattle.mt_arena.specs.Node.{interior_at, border_at}
 use Rattle.mt_arena.specs.Arena.{ArenaView, with_node_at}
 use Rattle.mt_arena.specs.declared.node.Node.TheVariants.{Interior}
 use Rattle.mt_chart.specs.Tree.{Among, first, border, Child as PlainChild, Arena}
-use Rattle.mt_chart.specs.Chart.{Standing, on, gone, Role, at_level, spot, Chart, AreChildren, by_interior, IsTree}
+use Rattle.mt_chart.specs.Chart.{Standing, on, gone, Role, at_level, spot, Chart, FirstLow, AreChildren, by_interior, IsTree, NoChildTwice}
 use Rattle.mt_chart.specs.Steps.{Twin, AreTwins, Keeps, WritesInterior}
 use Rattle.mt_chart.proofs.InteriorLaws.{posting_border, posting_half, dropping_child, bypassing}
 use Rattle.mt_tree.specs.Seen.{arena_seen, border_seen, interior_seen, child_seen, children_seen}
 use Rattle.mt_tree.specs.Keeping.{IsIndexAt, KeepsTree, KeepsAlong, KeepsWhere}
 use Rattle.mt_tree.specs.InteriorSteps.{child_at, HasOneChild, HasUpperChildren, IsInLayer, IsNotGone, PostsAt, DropsAt, BypassesAt, PostsHalfAt, KeepsHalf}
 use Rattle.mt_tree.proofs.SeenLemmas.{seen-interior, seen-border}
-use Rattle.mt_tree.proofs.ChildLists.{NamesNot, first_low, some_child, among_inserted, once_inserted, some_inserted, among_removed, once_removed, among_read, others_removed, among_kept, among_renamed, once_renamed, among_taken, once_taken, among_dropped, once_dropped, only_child}
+use Rattle.mt_tree.proofs.ChildLists.{NamesNot, first_low, some_child, among_inserted, once_inserted, some_inserted, among_removed, once_removed, among_read, others_removed, among_kept, among_renamed, once_renamed, among_taken, once_taken, upper_children, only_child}
 use Rattle.mt_tree.proofs.InteriorPlaces.{StandsAs, IsOnAs, is_on_as, child_place, names_not, writes, write_keeps}
 
 -- a border that is on has the low of its place
@@ -103,9 +103,9 @@ post_half_keeps a number half_number half old half_is is half_sound lower sound 
           charted = rw (same, half_level) at at.charted;
           half_low = refl;
           half_level = half_level;
-          half_leftmost = first_low half.low half.children (rw upper.children (omega (arith, length-drop upper.place at.split.children, upper.within))) half_sound.starts;
-          half_once = rw upper.children (once_dropped upper.place at.split.children s.once);
-          part = λ each i. among_dropped upper.place at.split.children each (rw upper.children at i);
+          half_leftmost = parts.0;
+          half_once = parts.1;
+          part = parts.2;
           parent_number = number;
           parent_below = w.below;
           parent_least = at.stands.low;
@@ -129,6 +129,9 @@ post_half_keeps a number half_number half old half_is is half_sound lower sound 
 
         upper : HasUpperChildren half at.split
         upper = rw same at at.upper
+
+        parts : FirstLow half.low (children_seen half.children) × NoChildTwice (children_seen half.children) × ((each : PlainChild) → Among each (children_seen half.children) → Among each (children_seen at.split.children))
+        parts = upper_children half at.split upper half_sound.starts s.once
 
         half_level : half.level ≡ suc s.below
         half_level = upper.level ∙ s.node_level

@@ -6,7 +6,7 @@ ghost use Rattle.mt_arena.specs.Node.{head_at, interior_at};
 ghost use Rattle.mt_arena.specs.Arena.{with_head_changed};
 ghost use Rattle.mt_tree.specs.Keeping.{KeepsTree, KeepsAlong};
 ghost use Rattle.mt_tree.specs.InteriorSteps.{child_at, HasOneChild};
-ghost use Rattle.mt_tree.specs.HeadSteps.{IsRootOver, NamesRootAt, BypassesRootAt};
+ghost use Rattle.mt_tree.specs.HeadSteps.{IsRootOver, NamesRootAt, IsRootOverHalf, KeepsRootOverHalf, BypassesRootAt};
 
 use crate::tree::Tree;
 use mt_types::numbers::NodeNo;
@@ -38,6 +38,16 @@ impl Tree {
     {
         let level = self.interior(root).level();
         self.arena.head_mut(number).set_root(root, level);
+    }
+
+    /// Names a new root, an interior over the old root, which is being split, and its new half. Constant cost.
+    pub fn name_root_over_half(&mut self, number: NodeNo, root: NodeNo)
+        requires { IsSomeAnd (head_at self.old.nodes number.0) (λ head. IsSomeAnd (interior_at self.old.nodes root.0) (IsRootOverHalf self.old.nodes head)) }
+        ensures value { IsSomeAnd (interior_at self.old.nodes root.0) (λ interior. self.new ≡ with_head_changed self.old number.0 (λ head. with_root head root interior.level)) }
+        ensures keeps { KeepsRootOverHalf self.old self.new number.0 root.0 }
+    {
+        let root_level = self.interior(root).level();
+        self.arena.head_mut(number).set_root(root, root_level);
     }
 
     /// Names the only child of the root in its place. Constant cost.

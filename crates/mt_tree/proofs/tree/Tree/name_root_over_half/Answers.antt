@@ -1,0 +1,9 @@
+use Rattle.mt_tree.proofs.HeadChanges.{name_root_over_half_keeps}
+use Rattle.mt_tree.proofs.tree.Tree.name_root_over_half.Goals as goal
+
+pub returns-clause-keeps : goal.returns-clause-keeps
+returns-clause-keeps c =
+    let is = rw c.self.view_is at c.head_mut.ensures.value in
+    let root_is = c.interior.ensures.value in
+    rw (c.self.view_is, c.set_root.ensures.value, c.level-root_level.ensures.value)
+    (name_root_over_half_keeps c.args.self.now c.args.number.0 c.args.root c.head_mut.result.now c.interior.result.now is root_is c.level-root_level.ensures.sound (rw (is, root_is) at c.requires))
