@@ -1,5 +1,5 @@
 -- The cursor of a scan: the layer and the place at which it stands, and what it does at an entry.
-use Rattle.std.specs.Prelude.{ℕ, ◌≡◌, ◌<◌, ◌≤◌, ◌==◌, Bool, true, false, if◌then◌else◌, List, [], ◌∷◌, length, take, drop, reverse}
+use Rattle.std.specs.Prelude.{ℕ, ◌≡◌, ◌≢◌, ◌<◌, ◌≤◌, ◌==◌, Bool, true, false, if◌then◌else◌, List, [], ◌∷◌, length, take, drop, reverse}
 use Rattle.mt_slice.specs.Place.{Place, last, deeper, under, Precedes, place_of}
 use Rattle.mt_chart.specs.Scan.{AtMost}
 use Rattle.mt_border.specs.declared.entry.Content.{Content}
@@ -27,7 +27,7 @@ cursor_view slices class depth = record { prefix = reverse (take depth slices); 
 pub record IsCursor (slices : List ℕ) (class depth : ℕ) : Type 0 where
   pub within : depth < length slices
   pub class_fits : class ≤ 10
-  pub no_long : (class ≡ 9) → ⊥
+  pub no_long : class ≢ 9
 
 -- the place is in the layer below a slice
 abbrev pub is_inside : ℕ → Place → Bool
