@@ -4,7 +4,7 @@ use Rattle.std.specs.Prelude.{nat_le, ◌==◌}
 use Rattle.std.specs.List.{AllByRecursion}
 use Rattle.std.proofs.lemmas.Bool.Decides.{eqb_tells}
 use Rattle.std.proofs.lemmas.List.Sums.{sum_by-cons}
-use Rattle.mt_types.specs.Legal.{least}
+use Rattle.mt_types.specs.Numbers.{least}
 use Rattle.mt_commit.specs.Holders.{with_holder, without_holder}
 use Rattle.mt_commit.specs.Laws.{times_held, PinningCounts, UnpinningCounts, CountedIsHeld, LeastIsByCounts}
 use Rattle.mt_commit.proofs.LogLemmas.{least_within, least_from, least_below}

@@ -12,7 +12,7 @@ use Rattle.std.specs.BTreeMap as tree
 use Rattle.std.proofs.lemmas.Cmp.{ranked}
 use Rattle.std.proofs.lemmas.Bool.Decides.{eqb_tells, leb_tells}
 use Rattle.std.proofs.Math.Nat.{min-eq_left, min-eq_right}
-use Rattle.mt_types.specs.Legal.{least}
+use Rattle.mt_types.specs.Numbers.{least}
 use Rattle.mt_commit.specs.Holders.{with_holder, without_holder, each_held, AllHeld}
 
 abbrev pub Counts : Type 0

@@ -4,7 +4,7 @@ use Rattle.std.specs.Prelude.{All, slice_get, OnOk, OnErr, cond, nat_le, â—Œ==â—
 use Rattle.std.specs.List.{AllByRecursion}
 use Rattle.std.proofs.lemmas.List.Elements.{All-from_recursion, recursion_from_All, All-weaker}
 use Rattle.std.proofs.Math.Nat.{min-le_left, min-le_right, le-min}
-use Rattle.mt_types.specs.Legal.{least}
+use Rattle.mt_types.specs.Numbers.{least}
 use Rattle.mt_types.specs.declared.row.Delta.{Delta}
 use Rattle.mt_types.specs.declared.refusal.NoMemory.{NoMemory}
 use Rattle.mt_commit.specs.Holders.{with_holder, without_holder}

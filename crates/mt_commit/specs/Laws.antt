@@ -1,7 +1,7 @@
 -- Laws of a log, of the rows that it speaks of and of its holders.
 use Rattle.std.specs.Prelude.{ℕ, ◌+◌, ◌-◌, ◌≡◌, ◌<◌, ◌≤◌, ◌==◌, if◌then◌else◌, List, count_by, Contains, Some}
 use Rattle.std.specs.FinMap.{get}
-use Rattle.mt_types.specs.Legal.{least}
+use Rattle.mt_types.specs.Numbers.{least}
 use Rattle.mt_types.specs.Rows.{Rows}
 use Rattle.mt_types.specs.declared.row.Delta.{Delta}
 use Rattle.mt_commit.specs.Log.{LogSeen, IsLog, newest, delta_of, with_delta, trimmed}

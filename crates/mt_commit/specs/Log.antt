@@ -1,7 +1,7 @@
 -- The log of commits as its contracts see it, and what its calls make of it.
 use Rattle.std.specs.Prelude.{ℕ, ◌+◌, ◌-◌, ◌^◌, ◌≡◌, ◌<◌, ◌≤◌, nat_lt, nat_le, min, List, [], ◌∷◌, ◌++◌, length, drop, slice_get, Option, All}
 use Rattle.std.specs.Option.{option_or}
-use Rattle.mt_types.specs.Legal.{least, greatest_number}
+use Rattle.mt_types.specs.Numbers.{least, greatest_number}
 use Rattle.mt_types.specs.Limits.{refused_if}
 use Rattle.mt_types.specs.declared.row.Delta.{Delta}
 use Rattle.mt_types.specs.declared.refusal.Refusal.{Refusal}

@@ -1,7 +1,7 @@
 //! Who holds the log: numbers of commits, each as often as it is held.
 
 ghost use Rattle.std.specs.Prelude.{◌≡◌, ◌≤◌, [], All, OnOk, OnErr};
-ghost use Rattle.mt_types.specs.Legal.{least};
+ghost use Rattle.mt_types.specs.Numbers.{least};
 ghost use Rattle.mt_commit.specs.Holders.{with_holder, without_holder};
 
 use mt_types::refusal::NoMemory;

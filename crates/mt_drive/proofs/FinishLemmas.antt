@@ -6,8 +6,8 @@ use Rattle.mt_types.specs.declared.numbers.CallNo.{CallNo}
 use Rattle.mt_types.specs.declared.event.Event.{Event}
 use Rattle.mt_types.specs.declared.event.Event.TheVariants.{Step}
 use Rattle.mt_types.specs.declared.event.Outcome.{Outcome}
-use Rattle.mt_types.specs.History.{History, GoesOn}
-use Rattle.mt_types.proofs.HistoryLemmas.{GoesOn-append}
+use Rattle.mt_promise.specs.History.{History, GoesOn}
+use Rattle.mt_promise.proofs.HistoryLemmas.{GoesOn-append}
 use Rattle.mt_machine.specs.Seen.{Seen}
 use Rattle.mt_drive.specs.Machine.{Leads}
 use Rattle.mt_drive.specs.Script.{goes_on, AllGoOn, Happens, Steps, Finishes}

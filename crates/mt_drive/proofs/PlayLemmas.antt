@@ -1,8 +1,8 @@
 -- A script that has been played so far.
 use Rattle.std.proofs.Common.{◌≡◌, ◌⊎◌, inl, inr, ℕ, ◌+◌, cond, List, [], ◌∷◌, ◌++◌, length, fold, take, drop, take_all, length-drop, take-append-drop, ◌-◌, refl, ap, subst, sym, ◌∙◌, arith, append_assoc, Option, None, Some, IfSome}
 use Rattle.std.specs.Io.KnownBytes.{Appends}
-use Rattle.mt_types.specs.History.{History}
-use Rattle.mt_types.specs.Legal.{Legal}
+use Rattle.mt_promise.specs.History.{History}
+use Rattle.mt_promise.specs.Legal.{Legal}
 use Rattle.mt_machine.specs.Seen.{Seen}
 use Rattle.mt_machine.specs.Stands.{Stands}
 use Rattle.mt_drive.specs.declared.fault.ScriptFault.{ScriptFault}

@@ -1,5 +1,5 @@
 -- How the machine keeps the history of a script.
-use Rattle.mt_types.specs.History.{History}
+use Rattle.mt_promise.specs.History.{History}
 use Rattle.mt_machine.specs.Seen.{Seen}
 use Rattle.mt_machine.specs.Stands.{Stands}
 

@@ -8,8 +8,8 @@ use Rattle.mt_types.specs.declared.event.Event.{Event}
 use Rattle.mt_types.specs.declared.event.Event.TheVariants.{Step}
 use Rattle.mt_types.specs.declared.event.Outcome.{Outcome}
 use Rattle.mt_types.specs.declared.event.Outcome.TheVariants.{Moved, Commit, Refused}
-use Rattle.mt_types.specs.History.{History, GoesOn}
-use Rattle.mt_types.specs.Legal.{Legal}
+use Rattle.mt_promise.specs.History.{History, GoesOn}
+use Rattle.mt_promise.specs.Legal.{Legal}
 use Rattle.mt_drive.specs.declared.fault.ScriptFault.{ScriptFault}
 use Rattle.mt_drive.specs.declared.fault.ScriptFault.TheVariants.{Read}
 use Rattle.mt_drive.specs.declared.service.Service.{Service}

@@ -36,11 +36,11 @@ abbrev pub sums_text : List ℕ → List ℕ
 sums_text sums = join_with_byte 44 (map decimal sums)
 
 abbrev pub rule_text : TidyRule → List ℕ
-rule_text rules.None = codes "none"
-rule_text rules.A = codes "a"
-rule_text rules.B = codes "b"
-rule_text rules.C = codes "c"
-rule_text rules.D = codes "d"
+rule_text rules.Nothing = codes "none"
+rule_text rules.EmptyBorder = codes "a"
+rule_text rules.LoneChild = codes "b"
+rule_text rules.LoneRootChild = codes "c"
+rule_text rules.EmptyLayer = codes "d"
 
 abbrev pub answer_text : Answer → List ℕ
 answer_text Absent = codes "absent"

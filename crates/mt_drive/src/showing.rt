@@ -108,11 +108,11 @@ fn push_rule(out: &mut String, rule: TidyRule) -> Result<(), AllocError>
     ensures { OnOk result (string_bytes out.new ≡ string_bytes out.old ++ rule_text rule) }
 {
     match rule {
-        TidyRule::None => out.push_str("none"),
-        TidyRule::A => out.push_str("a"),
-        TidyRule::B => out.push_str("b"),
-        TidyRule::C => out.push_str("c"),
-        TidyRule::D => out.push_str("d"),
+        TidyRule::Nothing => out.push_str("none"),
+        TidyRule::EmptyBorder => out.push_str("a"),
+        TidyRule::LoneChild => out.push_str("b"),
+        TidyRule::LoneRootChild => out.push_str("c"),
+        TidyRule::EmptyLayer => out.push_str("d"),
     }
 }
 

@@ -14,9 +14,9 @@ use Rattle.mt_types.specs.declared.event.Request.TheVariants.{Get as GetRequest,
 use Rattle.mt_types.specs.declared.event.Outcome.{Outcome}
 use Rattle.mt_types.specs.declared.event.Outcome.TheVariants.{Call as Called, Moved, Again, Commit, Done, Applied, Current, View, Dropped, Epoch, Freed, Refused}
 use Rattle.mt_types.specs.Rows.{Rows, after}
-use Rattle.mt_types.specs.History.{History, Happening, OpenCall, happening, moment, rows}
-use Rattle.mt_types.specs.Legal.{MayHappen, MayBegin, begin_fault, view_places}
-use Rattle.mt_types.proofs.HistoryLemmas.{happened_is}
+use Rattle.mt_promise.specs.History.{History, Happening, OpenCall, happening, moment, rows}
+use Rattle.mt_promise.specs.Legal.{MayHappen, MayBegin, begin_fault, view_places}
+use Rattle.mt_promise.proofs.HistoryLemmas.{happened_is}
 use Rattle.mt_commit.specs.Deltas.{FitsNewestFirst}
 use Rattle.mt_border.specs.declared.entry.Entry.{Entry}
 use Rattle.mt_machine.specs.declared.calls.Call.{Call}

@@ -14,10 +14,10 @@ use Rattle.mt_types.specs.declared.event.Answer.{Answer}
 use Rattle.mt_types.specs.declared.event.Outcome.{Outcome}
 use Rattle.mt_types.specs.declared.event.Outcome.TheVariants.{Moved, Refused}
 use Rattle.mt_types.specs.Rows.{shown}
-use Rattle.mt_types.specs.History.{History, Happening, Moment, OpenCall, happening, moment, rows, call_of, without_call, replace_call, after_step, after_call_step}
-use Rattle.mt_types.specs.RightAnswers.{RightAnswer, Lacks, Shows}
-use Rattle.mt_types.specs.Legal.{MayStepAt, MayStep, MayEnd}
-use Rattle.mt_types.proofs.HistoryLemmas.{Sometime-here}
+use Rattle.mt_promise.specs.History.{History, Happening, Moment, OpenCall, happening, moment, rows, call_of, without_call, replace_call, after_step, after_call_step}
+use Rattle.mt_promise.specs.RightAnswers.{RightAnswer, Lacks, Shows}
+use Rattle.mt_promise.specs.Legal.{MayStepAt, MayStep, MayEnd}
+use Rattle.mt_promise.proofs.HistoryLemmas.{Sometime-here}
 use Rattle.mt_machine.specs.declared.calls.Call.{Call}
 use Rattle.mt_machine.specs.declared.calls.Task.{Task}
 use Rattle.mt_types.specs.declared.refusal.Refusal.TheVariants.{NoMemory}

@@ -2,7 +2,7 @@
 use Rattle.std.proofs.Common.{◌≡◌, ◌≢◌, ◌≤◌, ◌+◌, ◌==◌, ℕ, suc, Bool, true, false, not, cond, List, [], ◌∷◌, ◌++◌, length, Some, None, sym, ◌∙◌, ap, subst, refl, arith, inl, inr}
 use Rattle.std.proofs.lemmas.Bool.{eq-eqb}
 use Rattle.std.proofs.lemmas.Bool.Decides.{eqb_tells}
-use Rattle.mt_types.specs.History.{OpenCall, call_of, without_call, replace_call}
+use Rattle.mt_promise.specs.History.{OpenCall, call_of, without_call, replace_call}
 use Rattle.mt_machine.specs.declared.calls.Call.{Call}
 use Rattle.mt_machine.specs.Calls.{call_at, with_changed, without}
 use Rattle.mt_machine.specs.Stands.{Paired}

@@ -16,10 +16,10 @@ use Rattle.std.proofs.lemmas.List.Elements.{All-nil, All-cons}
 use borrow.Author.Tests.{ltb-true, ltb-false}
 use Rattle.mt_types.specs.Keys.{key_cmp}
 use Rattle.mt_types.specs.Rows.{shown}
-use Rattle.mt_types.specs.History.{History, moment, rows, Sometime}
-use Rattle.mt_types.specs.RightAnswers.{RightRange, Shows, Stands}
+use Rattle.mt_promise.specs.History.{History, moment, rows, Sometime}
+use Rattle.mt_promise.specs.RightAnswers.{RightRange, Shows, Stands}
 use Rattle.mt_types.specs.declared.row.Row.{Row}
-use Rattle.mt_types.proofs.HistoryLemmas.{Sometime-here, Throughout-here}
+use Rattle.mt_promise.proofs.HistoryLemmas.{Sometime-here, Throughout-here}
 use Rattle.mt_slice.specs.Place.{Place, last, AreBytes, slice_number, place_of, place_cmp}
 use Rattle.mt_slice.proofs.PlaceOn.{place_of-short}
 use Rattle.mt_slice.proofs.PlaceOrder.{place_cmp-less, place_cmp-greater}

@@ -3,8 +3,8 @@ use Rattle.std.proofs.Common.{◌≡◌, ℕ, ◌∷◌, Option, Some, None, sym
 use Rattle.mt_types.specs.declared.refusal.Refusal.TheVariants.{NoSuchCall}
 use Rattle.mt_types.specs.declared.event.Outcome.{Outcome}
 use Rattle.mt_types.specs.declared.event.Outcome.TheVariants.{Moved, Refused}
-use Rattle.mt_types.specs.History.{History, happening, moment, after_call_step}
-use Rattle.mt_types.specs.Legal.{MayStepAt}
+use Rattle.mt_promise.specs.History.{History, happening, moment, after_call_step}
+use Rattle.mt_promise.specs.Legal.{MayStepAt}
 use Rattle.mt_machine.specs.declared.calls.Call.{Call}
 use Rattle.mt_machine.specs.declared.calls.Task.{Task}
 use Rattle.mt_machine.specs.declared.calls.Task.TheVariants.{Get, Write, Range}

@@ -18,10 +18,10 @@ use Rattle.mt_types.specs.declared.event.Answer.TheVariants.{Absent as AbsentAns
 use Rattle.mt_types.specs.declared.event.Outcome.{Outcome}
 use Rattle.mt_types.specs.declared.event.Outcome.TheVariants.{Moved, Again, Commit, Refused}
 use Rattle.mt_types.specs.Rows.{Rows, after, after_change}
-use Rattle.mt_types.specs.History.{History, Happening, OpenCall, happening, moment, rows, change_of, replace_call, after_call_step}
-use Rattle.mt_types.specs.RightAnswers.{RightAnswer, Lacks}
-use Rattle.mt_types.specs.Legal.{MayStepAt, MayStep, MayCommit, MayEnd, is_get}
-use Rattle.mt_types.proofs.HistoryLemmas.{after-append, Sometime-here}
+use Rattle.mt_promise.specs.History.{History, Happening, OpenCall, happening, moment, rows, change_of, replace_call, after_call_step}
+use Rattle.mt_promise.specs.RightAnswers.{RightAnswer, Lacks}
+use Rattle.mt_promise.specs.Legal.{MayStepAt, MayStep, MayCommit, MayEnd, is_get}
+use Rattle.mt_promise.proofs.HistoryLemmas.{after-append, Sometime-here}
 use Rattle.mt_slice.specs.Place.{AreBytes}
 use Rattle.mt_commit.specs.Log.{LogSeen, newest, with_delta}
 use Rattle.mt_commit.specs.Deltas.{Fits, redo}

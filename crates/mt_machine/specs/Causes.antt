@@ -1,6 +1,6 @@
 -- The causes that a history doesn't show: why a call waits or is refused.
 use Rattle.std.specs.Prelude.{◌≡◌, ◌≤◌, ◌⊎◌, IsTrue, true, length, None}
-use Rattle.mt_types.specs.Legal.{greatest_number}
+use Rattle.mt_types.specs.Numbers.{greatest_number}
 use Rattle.mt_types.specs.declared.event.Event.{Event}
 use Rattle.mt_types.specs.declared.event.Event.TheVariants.{Step}
 use Rattle.mt_types.specs.declared.event.Outcome.{Outcome}

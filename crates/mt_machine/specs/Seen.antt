@@ -13,7 +13,7 @@ use Rattle.mt_types.specs.declared.event.Answer.TheVariants.{Absent, Found, Rows
 use Rattle.mt_types.specs.declared.event.Outcome.{Outcome}
 use Rattle.mt_types.specs.declared.event.Outcome.TheVariants.{Call as Called, Moved, Again, Commit, Done, Refused}
 use Rattle.mt_types.specs.Rows.{shown}
-use Rattle.mt_types.specs.Legal.{begin_fault}
+use Rattle.mt_promise.specs.Legal.{begin_fault}
 use Rattle.mt_slice.specs.Place.{AreBytes}
 use Rattle.mt_commit.specs.Log.{newest}
 use Rattle.mt_machine.specs.declared.short_key.TheConstants.{MAX_SERVED_KEY_BYTES}

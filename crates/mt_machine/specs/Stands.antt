@@ -4,8 +4,8 @@ use Rattle.std.specs.Option.{is_some}
 use Rattle.std.specs.FinMap.{get}
 use Rattle.mt_types.specs.declared.event.Event.{Event}
 use Rattle.mt_types.specs.declared.event.Outcome.{Outcome}
-use Rattle.mt_types.specs.History.{History, OpenCall, moment, rows, GoesOn}
-use Rattle.mt_types.specs.Legal.{Legal}
+use Rattle.mt_promise.specs.History.{History, OpenCall, moment, rows, GoesOn}
+use Rattle.mt_promise.specs.Legal.{Legal}
 use Rattle.mt_slice.specs.Place.{AreBytes}
 use Rattle.mt_commit.specs.Log.{newest}
 use Rattle.mt_commit.specs.Deltas.{Fits}

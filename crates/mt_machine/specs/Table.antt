@@ -1,7 +1,7 @@
 -- The one border with its log and the call that has locked it: what is seen of it, what always holds, and each of its
 -- changes.
 use Rattle.std.specs.Prelude.{ℕ, zero, suc, ◌+◌, ◌==◌, ◌≡◌, ◌≢◌, ◌≤◌, ◌<◌, ◌⊎◌, if◌then◌else◌, true, false, IsTrue, List, [], ◌∷◌, length, Option, Some, None, IsSome}
-use Rattle.mt_types.specs.Legal.{greatest_number}
+use Rattle.mt_types.specs.Numbers.{greatest_number}
 use Rattle.mt_types.specs.declared.row.Row.{Row}
 use Rattle.mt_types.specs.declared.row.Delta.{Delta}
 use Rattle.mt_types.specs.declared.refusal.Refusal.{Refusal}

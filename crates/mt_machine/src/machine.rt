@@ -1,8 +1,8 @@
 //! The machine: events in, outcomes out, one atomic step an event.
 
 ghost use Rattle.std.specs.Prelude.{◌≡◌, [], ◌∷◌, length, IfOk, IfErr, MatchOption, All, Some, Err};
-ghost use Rattle.mt_types.specs.History.{History, happening, moment};
-ghost use Rattle.mt_types.specs.Legal.{begin_fault};
+ghost use Rattle.mt_promise.specs.History.{History, happening, moment};
+ghost use Rattle.mt_promise.specs.Legal.{begin_fault};
 ghost use Rattle.mt_types.specs.Limits.{open_fault};
 ghost use Rattle.mt_machine.specs.Seen.{IsServed, IsServedRequest, request_of, GetVisits, RangeVisits, Visits, WriteVisits, Begins, Steps, Happens};
 ghost use Rattle.mt_machine.specs.Stands.{Stands, IsRun};

@@ -1,12 +1,7 @@
-pub mod ExactLists
-pub mod ExactValues
-pub mod Examples
-pub mod Headline
-pub mod History
+-- What the contracts cite, in the order in which a reader takes it.
 pub mod Keys
-pub mod Legal
-pub mod Limits
-pub mod RefusalNumbers
-pub mod RightAnswers
 pub mod Rows
 pub mod Views
+pub mod Limits
+pub mod Numbers
+pub mod RefusalNumbers

@@ -70,16 +70,16 @@ pub enum Event {
 /// What a call did that tidies the tree.
 #[derive(Clone, Copy, Debug, PartialEq, Eq)]
 pub enum TidyRule {
-    /// Nothing.
-    None,
+    /// Nothing was to do, or the call gave up.
+    Nothing,
     /// It took an empty border out.
-    A,
+    EmptyBorder,
     /// It took an interior with one child out, below the root.
-    B,
+    LoneChild,
     /// It took a root with one child out.
-    C,
+    LoneRootChild,
     /// It took an empty layer out.
-    D,
+    EmptyLayer,
 }
 
 /// The answer of a call.

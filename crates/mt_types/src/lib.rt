@@ -1,11 +1,8 @@
-//! The values of the index: keys, rows, requests, events and their outcomes, with the definitions of what it promises.
+//! The values of the index: keys, rows, requests, events and their outcomes, with the model of rows and views.
 #![tactic(auto)]
 
 pub mod copying;
 pub mod event;
-pub mod exact;
-pub mod examples;
-pub mod headline;
 pub mod items;
 pub mod key;
 pub mod limits;

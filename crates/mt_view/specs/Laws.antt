@@ -2,8 +2,8 @@
 use Rattle.std.specs.Prelude.{ℕ, ◌≡◌, ◌↔◌, List, take}
 use Rattle.std.specs.FinMap.{get}
 use Rattle.mt_types.specs.Rows.{Rows, after}
-use Rattle.mt_types.specs.History.{Moment, StandingView}
-use Rattle.mt_types.specs.Legal.{page_of}
+use Rattle.mt_promise.specs.History.{Moment, StandingView}
+use Rattle.mt_promise.specs.Legal.{page_of}
 use Rattle.mt_types.specs.declared.row.Delta.{Delta}
 use Rattle.mt_commit.specs.Deltas.{redo}
 use Rattle.mt_view.specs.State.{StateSeen, IsAfresh, belonging, applied, page_of_state}

@@ -1,5 +1,5 @@
 use Rattle.std.proofs.Common.{◌≡◌, ap, ◌∙◌, arith}
-use Rattle.mt_types.specs.Legal.{least}
+use Rattle.mt_types.specs.Numbers.{least}
 use Rattle.mt_commit.specs.Log.{LogSeen, newest, slowest}
 use Rattle.mt_commit.proofs.LogLemmas.{slowest_within, held_by_slowest}
 use Rattle.mt_commit.proofs.log.Log.slowest.Goals as goal

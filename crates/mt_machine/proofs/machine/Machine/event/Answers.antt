@@ -1,6 +1,6 @@
 use Rattle.std.proofs.Common.{subst, sym, ◌∷◌}
 use Rattle.mt_types.specs.declared.event.Event.{Event}
-use Rattle.mt_types.specs.History.{happening}
+use Rattle.mt_promise.specs.History.{happening}
 use Rattle.mt_machine.specs.Seen.{IsServed}
 use Rattle.mt_machine.specs.Stands.{Stands}
 use Rattle.mt_machine.proofs.EventLemmas.{begins-stands}

@@ -3,9 +3,9 @@ use Rattle.std.proofs.lemmas.List.{take_more, take_all}
 use Rattle.mt_types.specs.Limits.{open_fault}
 use Rattle.mt_types.specs.declared.event.Event.{Event}
 use Rattle.mt_types.specs.declared.event.Outcome.{Outcome}
-use Rattle.mt_types.specs.History.{History, GoesOn, happening}
-use Rattle.mt_types.specs.Legal.{Legal}
-use Rattle.mt_types.proofs.HistoryLemmas.{GoesOn-append, GoesOn-length}
+use Rattle.mt_promise.specs.History.{History, GoesOn, happening}
+use Rattle.mt_promise.specs.Legal.{Legal}
+use Rattle.mt_promise.proofs.HistoryLemmas.{GoesOn-append, GoesOn-length}
 use Rattle.mt_machine.proofs.StepLemmas.{opened}
 use Rattle.mt_machine.proofs.machine.Machine.run.Goals as goal
 

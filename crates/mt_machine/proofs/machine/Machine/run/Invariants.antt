@@ -1,5 +1,5 @@
 use Rattle.std.proofs.Common.{◌≡◌, [], take}
-use Rattle.mt_types.specs.History.{History, GoesOn}
+use Rattle.mt_promise.specs.History.{History, GoesOn}
 use Rattle.mt_types.specs.Limits.{open_fault}
 use Rattle.mt_machine.specs.Stands.{Stands}
 use Rattle.std.proofs.Common.{None}

@@ -1,0 +1,9 @@
+-- The promise, in the order in which a reader takes it.
+pub mod History
+pub mod RightAnswers
+pub mod Legal
+pub mod Headline
+pub mod Examples
+-- behind it: what equality in code tells
+pub mod ExactLists
+pub mod ExactValues

@@ -1,0 +1,7 @@
+//! The promise of the index: which histories of events and outcomes are legal, and what follows from that for each get,
+//! range and view, as laws.
+#![tactic(auto)]
+
+pub mod exact;
+pub mod examples;
+pub mod headline;

@@ -1,5 +1,0 @@
-use Rattle.mt_types.proofs.examples.visible_by_commit_alone.Goals as goal
-use Rattle.mt_types.proofs.ExampleLemmas.{visible}
-
-pub returns : goal.returns
-returns c = visible
