@@ -104,7 +104,7 @@ late_absence legal =
 
 pub key_left_out : KeyLeftOutIsRefuted
 key_left_out legal =
-    let any = legal.1.answer.complete key refl (
+    let once = legal.1.answer.once key refl (
       (λ _. stands_then),
       (
         (λ _. stands_then),
@@ -142,7 +142,7 @@ key_left_out legal =
       ),
     )
     (inl (omega arith)) in
-    omega (arith, any.2)
+    let none : ◌≡◌ {A = ℕ} 0 1 = once in omega (arith, none)
 
 moves_on : (n : ℕ) → false ≡ true → n < MAX_NODES
 moves_on n e = absurd (false≢true e)

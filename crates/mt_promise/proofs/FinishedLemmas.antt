@@ -18,9 +18,8 @@ legal_before C [] x past legal = legal
 legal_before C (y ∷ later) x past legal = legal_before C later x past legal.0
 
 -- what is known when a call is done
-pub record IsDone (C : ℕ) (request : Request) (reply : Reply) (before past : History) : Type 0 where
+pub record IsDone (C : ℕ) (request : Request) (reply : Reply) (before past : History) (note : ℕ) : Type 0 where
   pub call : OpenCall
-  pub note : ℕ
   pub legal : Legal C past
   pub so : (pass : PassNo) × BeganSo call pass request before
   pub right : RightReply C past call reply note
@@ -33,7 +32,7 @@ done_call C past k None at reply note may = cc
 done_call C past k (Some call) at reply note may = (call, at, may)
 
 pub finished : (C : ℕ) (h : History) → Legal C h → (request : Request) (reply : Reply) (before past : History)
-    → IsFinished h request reply before past → IsDone C request reply before past
+    → (f : IsFinished h request reply before past) → IsDone C request reply before past f.end_note
 finished C h legal request reply before past f =
     let whole = subst (λ (z : History). Legal C z) f.ended legal in
     let end = legal_before C f.later (happening (Step f.number) (Done reply) f.end_note) past whole in
@@ -44,7 +43,6 @@ finished C h legal request reply before past f =
     let so = began_so C f.between before f.pass request f.number f.begin_note legal_start done.0 open_start in
     record {
       call = done.0;
-      note = f.end_note;
       legal = end.0;
       so = (f.pass, so);
       right = done.2;

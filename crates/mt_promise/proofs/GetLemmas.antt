@@ -36,4 +36,4 @@ get_replies C key asked before past call note began _ right = absurd right
 pub legal_gets : LegalGetsAreRight
 legal_gets C h legal key asked reply before past f =
     let done = finished C h legal (Get key asked) reply before past f in
-    get_replies C key asked before past done.call done.note done.so.1.began_is reply.answer done.answer
+    get_replies C key asked before past done.call f.end_note done.so.1.began_is reply.answer done.answer

@@ -3,7 +3,9 @@ pub mod ExampleLemmas
 pub mod FinishedLemmas
 pub mod GetLemmas
 pub mod HistoryLemmas
+pub mod KeepLemmas
 pub mod NumberedLemmas
+pub mod PageExamples
 pub mod PageLemmas
 pub mod RangeLemmas
 pub mod StandLemmas

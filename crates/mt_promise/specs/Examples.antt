@@ -3,13 +3,14 @@
 use Rattle.std.specs.Prelude.{ℕ, ◌-◌, List, [], ◌∷◌, ◌++◌, None}
 use Rattle.mt_promise.specs.History.{Happening, happening, History}
 use Rattle.mt_promise.specs.Legal.{Legal}
+use Rattle.mt_promise.specs.Headline.{ViewsAreRight}
 use Rattle.mt_types.specs.declared.row.Row.{Row}
 use Rattle.mt_types.specs.declared.view.ViewSpec.{ViewSpec}
 use Rattle.mt_types.specs.declared.view.ViewSpec.TheVariants.{Range as RangeOf}
 use Rattle.mt_types.specs.declared.view.RowTest.TheVariants.{AtLeast}
-use Rattle.mt_types.specs.declared.event.Event.TheVariants.{Begin, Step, Apply, ViewRead}
+use Rattle.mt_types.specs.declared.event.Event.TheVariants.{Begin, Step, Apply, ViewRead, ViewDrop}
 use Rattle.mt_types.specs.declared.event.Outcome.{Outcome}
-use Rattle.mt_types.specs.declared.event.Outcome.TheVariants.{Call, Moved, Commit, Done, Applied, View}
+use Rattle.mt_types.specs.declared.event.Outcome.TheVariants.{Call, Moved, Commit, Done, Applied, Dropped, View}
 use Rattle.mt_types.specs.declared.event.Request.{Request}
 use Rattle.mt_types.specs.declared.event.Request.TheVariants.{Get, Put, Range, Build}
 use Rattle.mt_types.specs.declared.event.Answer.{Answer}
@@ -94,6 +95,24 @@ amount_left =
     (happening (Apply (record { 0 = 1 })) (Applied 1) 0 ∷ happening (Apply (record { 0 = 1 })) (Applied 2) 0 ∷
     happening (ViewRead (record { 0 = 1 }) 0 [] 10) (View (record { at = 2; count = 0; sums = 5 ∷ []; rows = [] })) 0 ∷ [])))
 
+-- a view of this specification is built on an index without rows
+abbrev pub build_first : List Happening
+build_first = begins 1 (Build at_least_five) 1 ∷ done 1 1 0 0 (Built (record { 0 = 1 })) ∷ []
+
+-- a page of the first view is shown, without rows
+abbrev pub shows_none : ℕ → Happening
+shows_none at =
+    happening (ViewRead (record { 0 = 1 }) 0 [] 10) (View (record { at = at; count = 0; sums = 0 ∷ []; rows = [] })) 0
+
+-- a view is dropped, and then a page of it is shown
+abbrev pub page_after_drop : History
+page_after_drop = told [] (build_first ++ (happening (ViewDrop (record { 0 = 1 })) Dropped 0 ∷ shows_none 0 ∷ []))
+
+-- a view is taken on by a commit, and its page still stands before it
+abbrev pub page_left_behind : History
+page_left_behind =
+    told [] (build_first ++ (put_amount 2 1 4 ++ (happening (Apply (record { 0 = 1 })) (Applied 1) 0 ∷ shows_none 0 ∷ [])))
+
 -- what the definitions say of them
 abbrev pub VisibleIsLegal : Type 0
 VisibleIsLegal = Legal 1 visible_by_commit_alone
@@ -115,3 +134,16 @@ TwoCommitsAreRefuted = ¬ (Legal 1 two_commits)
 
 abbrev pub AmountLeftIsRefuted : Type 0
 AmountLeftIsRefuted = ¬ (Legal 1 amount_left)
+
+abbrev pub PageAfterDropIsRefuted : Type 0
+PageAfterDropIsRefuted = ¬ (Legal 1 page_after_drop)
+
+abbrev pub PageLeftBehindIsRefuted : Type 0
+PageLeftBehindIsRefuted = ¬ (Legal 1 page_left_behind)
+
+-- and so says the promise itself, whatever is legal
+abbrev pub PageAfterDropIsNotRight : Type 0
+PageAfterDropIsNotRight = ¬ (ViewsAreRight 1 page_after_drop)
+
+abbrev pub PageLeftBehindIsNotRight : Type 0
+PageLeftBehindIsNotRight = ¬ (ViewsAreRight 1 page_left_behind)

@@ -1,5 +1,5 @@
 -- Which outcome each event may have, after any past: the promise of the index, outcome by outcome.
-use Rattle.std.specs.Prelude.{ℕ, zero, suc, MatchBool, ◌+◌, ◌≡◌, ◌<◌, ◌⊎◌, nat_lt, nat_le, Bool, true, false, IsTrue, if◌then◌else◌, List, [], ◌∷◌, ◌++◌, map, filter, length, count_by, take, Option, Some, None}
+use Rattle.std.specs.Prelude.{ℕ, zero, suc, MatchBool, ◌+◌, ◌≡◌, ◌<◌, ◌≤◌, ◌⊎◌, nat_lt, nat_le, Bool, true, false, IsTrue, if◌then◌else◌, List, [], ◌∷◌, ◌++◌, map, filter, length, count_by, take, Option, Some, None}
 use Rattle.std.specs.Option.{option_or}
 use Rattle.mt_types.specs.Rows.{after}
 use Rattle.mt_types.specs.Views.{afresh, column_sums, page_from}
@@ -86,7 +86,8 @@ MayEnd past began (Put key sets) (FeedFull slowest) = Sometime began (λ m. held
 MayEnd past began (Put key sets) Spent = Unit {0}
 MayEnd past began (Remove key) (FeedFull slowest) = Sometime began (λ m. held_from m ≡ slowest) past
 MayEnd past began (Remove key) Spent = Unit {0}
-MayEnd past began (Build spec) Spent = Unit {0}
+-- a build, only where as many views were built as there are numbers
+MayEnd past began (Build spec) Spent = greatest_number ≤ (moment past).built
 MayEnd past began _ _ = ⊥
 
 -- a reply carries its call's pass and number, and the numbers of commits at its begin and at its end

@@ -1,8 +1,7 @@
 -- When the answer of a call is right. Each speaks of the moments from the call's begin to its end.
-use Rattle.std.specs.Prelude.{ℕ, ◌+◌, ◌≡◌, ◌≤◌, ◌<◌, ◌⊎◌, IsTrue, List, length, Some, None, IsSome, All, Any}
-use Rattle.std.specs.FinMap.{get, is_sorted}
-use Rattle.std.specs.Ordering.{is_ge, is_le}
-use Rattle.mt_types.specs.Keys.{key_cmp}
+use Rattle.std.specs.Prelude.{ℕ, ◌+◌, ◌≡◌, ◌≤◌, List, length, Some, None, IsSome}
+use Rattle.std.specs.FinMap.{get}
+use Rattle.mt_types.specs.Ranges.{IsRangeAnswer}
 use Rattle.mt_types.specs.Rows.{shown}
 use Rattle.mt_promise.specs.History.{History, Moment, OpenCall, moment, rows, Sometime, Throughout}
 use Rattle.mt_types.specs.declared.row.Row.{Row}
@@ -24,17 +23,9 @@ abbrev pub Stands : ℕ → List ℕ → Moment → Type 0
 Stands C key m = IsSome (get (rows C m) key)
 
 -- the pairs of a range answer, asked from start on, at most limit of them, by a call that began when so much had happened
-pub record RightRange (C began : ℕ) (past : History) (start asked : List ℕ) (limit : ℕ) (pairs : List (List ℕ × Row)) : Type 0 where
-  -- the keys rise strictly
-  pub rises : IsTrue (is_sorted key_cmp pairs)
-  pub from_start : All (λ pair. IsTrue (is_ge (key_cmp pair.0 start))) pairs
-  pub few : length pairs ≤ limit
-  -- each pair was true at some moment
-  pub stood : All (λ pair. Sometime began (Shows C pair.0 asked pair.1) past) pairs
-  -- each key that was there throughout is given, up to the limit
-  pub complete : (key : List ℕ) → IsTrue (is_ge (key_cmp key start)) → Throughout began (Stands C key) past
-      → (length pairs < limit) ⊎ Any (λ pair. IsTrue (is_le (key_cmp key pair.0))) pairs
-      → Any (λ pair. pair.0 ≡ key) pairs
+abbrev pub RightRange : ℕ → ℕ → History → List ℕ → List ℕ → ℕ → List (List ℕ × Row) → Type 0
+RightRange C began past start asked limit pairs =
+    IsRangeAnswer (λ key answer. Sometime began (Shows C key asked answer) past) (λ key. Throughout began (Stands C key) past) start limit pairs
 
 -- the answer of this call is right, given after this past
 abbrev pub RightAnswer : ℕ → History → OpenCall → Request → Answer → ℕ → Type 0

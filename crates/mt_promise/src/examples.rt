@@ -1,7 +1,7 @@
 //! Checks of the definitions themselves, as laws on small histories: one that is legal, and wrong ones that are not.
 //! Their bodies do nothing.
 
-ghost use Rattle.mt_promise.specs.Examples.{VisibleIsLegal, LateAbsenceIsRefuted, EarlyRowIsRefuted, KeyLeftOutIsRefuted, WrongCommitIsRefuted, TwoCommitsAreRefuted, AmountLeftIsRefuted};
+ghost use Rattle.mt_promise.specs.Examples.{VisibleIsLegal, LateAbsenceIsRefuted, EarlyRowIsRefuted, KeyLeftOutIsRefuted, WrongCommitIsRefuted, TwoCommitsAreRefuted, AmountLeftIsRefuted, PageAfterDropIsRefuted, PageLeftBehindIsRefuted, PageAfterDropIsNotRight, PageLeftBehindIsNotRight};
 
 /// A row is visible by its commit alone: a get before finds nothing, a get after finds the row before the put is done.
 pub fn visible_by_commit_alone()
@@ -22,4 +22,16 @@ pub fn wrong_histories()
     ensures two_commits { TwoCommitsAreRefuted }
     // a view keeps an amount in its sum whose row has gone
     ensures amount_left { AmountLeftIsRefuted }
+    // a page of a view that was dropped is shown
+    ensures page_after_drop { PageAfterDropIsRefuted }
+    // a view is taken on by a commit, and its page still stands before it
+    ensures page_left_behind { PageLeftBehindIsRefuted }
+{}
+
+/// Pages that the promise itself refuses, whatever is legal.
+pub fn wrong_pages()
+    // one of a view that was dropped
+    ensures after_drop { PageAfterDropIsNotRight }
+    // one that stands before a commit by which the view was taken on
+    ensures left_behind { PageLeftBehindIsNotRight }
 {}

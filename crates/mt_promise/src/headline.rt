@@ -1,22 +1,12 @@
-//! The promise in its own words, as laws: what each legal history gives for gets, ranges and views. Their bodies do
-//! nothing; a proof that each machine's history is legal makes them true of that machine.
+//! The promise in its own words, as a law: what each legal history gives for gets, ranges and views. Its body does
+//! nothing; a proof that each machine's history is legal makes it true of that machine.
 
-ghost use Rattle.mt_promise.specs.Headline.{LegalGetsAreRight, LegalRangesAreRight, LegalViewsAreRight};
+ghost use Rattle.mt_promise.specs.Headline.{LegalHistoriesKeepThePromise};
 
-/// In a legal history each finished get replies with the row, or the absence, that its key had at some moment of that
-/// call.
-pub fn gets_are_right()
-    ensures { LegalGetsAreRight }
-{}
-
-/// In a legal history each finished range gives every key that was there throughout exactly once, in order, and only
-/// pairs true during the call.
-pub fn ranges_are_right()
-    ensures { LegalRangesAreRight }
-{}
-
-/// In a legal history each page of a view that stands at commit n is exactly its filter and sums over the rows after
-/// the first n commits.
-pub fn views_are_right()
-    ensures { LegalViewsAreRight }
+/// Each legal history keeps the promise: each finished get replies with the row, or the absence, that its key had at some
+/// moment of that call; each finished range gives every key that was there throughout exactly once, in order, and only
+/// pairs true during the call; each page is of a view that stands at some commit n, and is exactly its filter and sums
+/// over the rows after the first n commits.
+pub fn legal_histories_keep_the_promise()
+    ensures { LegalHistoriesKeepThePromise }
 {}
