@@ -3,6 +3,7 @@ use Rattle.std.proofs.Common.{◌≡◌, ◌⊎◌, inl, inr, ℕ, ◌+◌, cond
 use Rattle.std.specs.Io.KnownBytes.{Appends}
 use Rattle.mt_promise.specs.History.{History}
 use Rattle.mt_promise.specs.Legal.{Legal}
+use Rattle.mt_promise.proofs.KeepLemmas.{keeps_promise}
 use Rattle.mt_machine.specs.Seen.{Seen}
 use Rattle.mt_machine.specs.Stands.{Stands}
 use Rattle.mt_drive.specs.declared.fault.ScriptFault.{ScriptFault}
@@ -149,6 +150,7 @@ Played-end {C} {input} {old} {bad} {s} {now} {new} next p lost = record {
   read = Goes-end input now next p.lines p.read lost;
   answered = p.answered;
   legal = legal_of p;
+  promise = keeps_promise C p.h (legal_of p);
   written = p.written;
   counted = p.counted;
 }
@@ -163,6 +165,7 @@ Broke-between fault {C} {input} {old} {bad} {s} {now} {new} p =
       read = front.1;
       answered = p.answered;
       legal = legal_of p;
+      promise = keeps_promise C p.h (legal_of p);
       sent = output_of p.replies;
       unsent = [];
       written = p.written;
@@ -184,6 +187,7 @@ Broke-sending fault {C} {input} {old} {bad} {s} {now} {new} t next out line repl
       read = front.1;
       answered = one.1;
       legal = one.3;
+      promise = keeps_promise C one.0 one.3;
       sent = output_of p.replies ++ sent;
       unsent = unsent;
       written = Appends-both old new out (output_of p.replies) sent p.written went;
@@ -202,6 +206,7 @@ Broke-none fault C input old =
       read = front.1;
       answered = refl;
       legal = tt;
+      promise = keeps_promise C [] tt;
       sent = [];
       unsent = [];
       written = Appends-none old;

@@ -10,6 +10,7 @@ use Rattle.mt_types.specs.declared.event.Outcome.{Outcome}
 use Rattle.mt_types.specs.declared.event.Outcome.TheVariants.{Moved, Commit, Refused}
 use Rattle.mt_promise.specs.History.{History, GoesOn}
 use Rattle.mt_promise.specs.Legal.{Legal}
+use Rattle.mt_promise.specs.Headline.{KeepsPromise}
 use Rattle.mt_drive.specs.declared.fault.ScriptFault.{ScriptFault}
 use Rattle.mt_drive.specs.declared.fault.ScriptFault.TheVariants.{Read}
 use Rattle.mt_drive.specs.declared.service.Service.{Service}
@@ -90,7 +91,7 @@ AnswersAll past [] (reply ∷ replies) h = ⊥
 AnswersAll past (line ∷ lines) [] h = ⊥
 
 -- All lines of the input, where it is known, were answered on an empty index of C columns; what happened there is
--- legal; the replies were written, each with a line feed; and so many lines were bad.
+-- legal, and so keeps the promise; the replies were written, each with a line feed; and so many lines were bad.
 pub record Played (C : ℕ) (input old : Option (List ℕ)) (bad : ℕ) (new : Option (List ℕ)) : Type 0 where
   pub lines : List (List ℕ)
   pub replies : List Reply
@@ -98,6 +99,7 @@ pub record Played (C : ℕ) (input old : Option (List ℕ)) (bad : ℕ) (new : O
   pub read : IfSome input (λ bytes. lines_of bytes ≡ lines)
   pub answered : AnswersAll [] lines replies h
   pub legal : Legal C h
+  pub promise : KeepsPromise C h
   pub written : Appends old new (output_of replies)
   pub counted : bad ≡ bad_lines replies
 
@@ -111,6 +113,7 @@ pub record Broke (C : ℕ) (fault : ScriptFault) (input old new : Option (List �
   pub read : IfSome input (λ bytes. lines_of bytes ≡ lines ++ more)
   pub answered : AnswersAll [] lines replies h
   pub legal : Legal C h
+  pub promise : KeepsPromise C h
   pub sent : List ℕ
   pub unsent : List ℕ
   pub written : Appends old new sent

@@ -15,6 +15,7 @@ use Rattle.std.proofs.lemmas.Cmp.{nat_list_cmp_total}
 use Rattle.std.proofs.lemmas.List.Elements.{All-nil, All-cons}
 use borrow.Author.Tests.{ltb-true, ltb-false}
 use Rattle.mt_types.specs.Keys.{key_cmp}
+use Rattle.mt_types.proofs.RangeLemmas.{given_once}
 use Rattle.mt_types.specs.Rows.{shown}
 use Rattle.mt_promise.specs.History.{History, moment, rows, Sometime}
 use Rattle.mt_promise.specs.RightAnswers.{RightRange, Shows, Stands}
@@ -479,7 +480,7 @@ right_range C began h start asked limit b pairs range held known late =
       from_start = from_given asked found start is_start limit (short_rank start) (entries_from (short_rank start) live) run (omega arith);
       few = few_given asked found limit (short_rank start) (entries_from (short_rank start) live) run;
       stood = stood_given asked found C began h late held limit (short_rank start) (entries_from (short_rank start) live) run;
-      complete = λ key from each room.
+      once = λ key from each room.
           let some = Throughout-here began (Stands C key) h late each in
           let is_known = known key some in
           let is_key : IsShort key = record { bytes = is_known.0; ends_here = is_known.1 } in
@@ -487,7 +488,9 @@ right_range C began h start asked limit b pairs range held known late =
           ap (λ (rank : ℕ). is_some (row_ranked rank live)) (sym (rank_is_short key is_key.ends_here)) ∙ ap is_some (held key is_key.bytes) ∙ some in
           let there : is_some (row_ranked (short_rank key) (entries_from (short_rank start) live)) ≡ true =
           ap is_some (row_from (short_rank start) (short_rank key) live (rank_by_ge key start is_key is_start from)) ∙ here in
-          complete_given asked found key is_key limit (short_rank start) (entries_from (short_rank start) live) run there room;
+          given_once key (given asked found limit (short_rank start) (entries_from (short_rank start) live) run)
+          (rises_given asked found limit (short_rank start) (entries_from (short_rank start) live) run)
+          (complete_given asked found key is_key limit (short_rank start) (entries_from (short_rank start) live) run there room);
     })
 
 -- the entries of the border are those of keys under no prefix

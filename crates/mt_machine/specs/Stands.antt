@@ -6,6 +6,7 @@ use Rattle.mt_types.specs.declared.event.Event.{Event}
 use Rattle.mt_types.specs.declared.event.Outcome.{Outcome}
 use Rattle.mt_promise.specs.History.{History, OpenCall, moment, rows, GoesOn}
 use Rattle.mt_promise.specs.Legal.{Legal}
+use Rattle.mt_promise.specs.Headline.{GetsAreRight, RangesAreRight, ViewsAreRight}
 use Rattle.mt_slice.specs.Place.{AreBytes}
 use Rattle.mt_commit.specs.Log.{newest}
 use Rattle.mt_commit.specs.Deltas.{Fits}
@@ -127,9 +128,13 @@ pub record Stands (s : Seen) (h : History) : Type 0 where
   pub locked : s.table.border.version.locked ≡ is_some s.table.writer
   pub writer : WriterStands s s.table.writer
 
--- these events, with these outcomes, led from an empty index of C columns to this machine, and each outcome was one
--- that its event may have
+-- These events, with these outcomes, led from an empty index of C columns to this machine; each outcome was one that its
+-- event may have; so each get, each range and each page of a view is right; and the machine can go on from there.
 pub record IsRun (C : ℕ) (events : List Event) (outcomes : List Outcome) (machine : Seen) (h : History) : Type 0 where
   pub told : GoesOn [] events outcomes h
   pub legal : Legal C h
+  pub gets : GetsAreRight C h
+  pub ranges : RangesAreRight C h
+  pub views : ViewsAreRight C h
+  pub columns : machine.columns ≡ C
   pub stands : Stands machine h

@@ -5,6 +5,7 @@ use Rattle.mt_types.specs.declared.event.Event.{Event}
 use Rattle.mt_types.specs.declared.event.Outcome.{Outcome}
 use Rattle.mt_promise.specs.History.{History, GoesOn, happening}
 use Rattle.mt_promise.specs.Legal.{Legal}
+use Rattle.mt_promise.proofs.KeepLemmas.{keeps_promise}
 use Rattle.mt_promise.proofs.HistoryLemmas.{GoesOn-append, GoesOn-length}
 use Rattle.mt_machine.proofs.StepLemmas.{opened}
 use Rattle.mt_machine.proofs.machine.Machine.run.Goals as goal
@@ -36,11 +37,17 @@ loop-event-preserved c =
 
 pub returns-clause-legal : goal.returns-clause-legal
 returns-clause-legal c =
-    let told = c.loop-event.invariant.told in (
+    let told = c.loop-event.invariant.told in
+    let legal = subst (λ C. Legal C told.0) c.loop-event.invariant.columns told.2.legal in
+    let promise = keeps_promise _ told.0 legal in (
       told.0,
       record {
         told = subst (λ (es : List Event). GoesOn [] es c.loop-event.outcomes.items told.0) (take_all c.loop-event.event-index c.args.events.now c.loop-event-test.false) told.1;
-        legal = subst (λ C. Legal C told.0) c.loop-event.invariant.columns told.2.legal;
+        legal = legal;
+        gets = promise.gets;
+        ranges = promise.ranges;
+        views = promise.views;
+        columns = c.loop-event.invariant.columns;
         stands = told.2;
       },
     )
