@@ -1,9 +1,9 @@
 -- Each step on a border leads from an index to an index.
-use Rattle.std.proofs.Common.{ℕ, ◌≡◌, ◌≢◌, ◌≤◌, ◌⊎◌, ◌↔◌, inl, inr, List, [], ◌∷◌, Some, Bool, true, false, sym, ap, ◌∙◌, subst, arith}
+use Rattle.std.proofs.Common.{ℕ, ◌≡◌, ◌≢◌, ◌≤◌, ◌⊎◌, ◌↔◌, inl, inr, List, [], ◌∷◌, Option, Some, None, Bool, true, false, refl, sym, ap, ◌∙◌, subst, arith}
 use Rattle.mt_slice.specs.Place.{Place}
 use Rattle.mt_types.specs.declared.row.Row.{Row}
-use Rattle.mt_chart.specs.Tree.{link, Entry, Arena, Among, Below, Has}
-use Rattle.mt_chart.specs.Chart.{on, gone, Role, top, at_level, Spot, spot, Chart, IsBorder, Apart, class, Owns, by_head, Dated}
+use Rattle.mt_chart.specs.Tree.{link, Entry, Right, HeadNode, BorderNode, head, border, Arena, Among, Below, Has}
+use Rattle.mt_chart.specs.Chart.{Standing, on, gone, Role, top, at_level, Spot, spot, Chart, OnHead, IsLastBorder, IsBorder, Apart, class, Owns, by_head, Dated}
 use Rattle.mt_chart.specs.Steps.{Twin, AreTwins, IsIndex, MarksBorder, ShowsRow, HidesRow, SetsRow}
 use Rattle.mt_chart.specs.StepLaws.{ShowingAddsTheRow, HidingRemovesTheRow, SettingReplacesTheRow, MarkingABorderKeeps, MarkingAGoneBorderKeeps, LinkingAHalfKeeps, MakingALayerKeeps, UnlinkingKeeps, DroppingALayerKeeps}
 use Rattle.mt_chart.proofs.Basics.{same_number}
@@ -11,6 +11,8 @@ use Rattle.mt_chart.proofs.HeldNodes.{evolves_same}
 use Rattle.mt_chart.proofs.ChartChanges.{dated_at}
 use Rattle.mt_chart.proofs.Keys.{holds_slice, link_holds_none}
 use Rattle.mt_chart.proofs.Owners.{only_owner}
+use Rattle.mt_chart.proofs.Naming.{border_none, unknown_none, named_written, named_chain, named_layer, named_no_layer}
+use Rattle.mt_chart.proofs.MarkedHeads.{was_head, marked_written, marked_border, marked_layer}
 use Rattle.mt_chart.proofs.Refit.{refit, refit_owned, content_same, content_shown, content_hidden, content_set}
 use Rattle.mt_chart.proofs.Split.{split_tree, split_owned, split_content, split_evolves}
 use Rattle.mt_chart.proofs.NewLayer.{layer_made_tree, layer_made_owned, layer_made_content, layer_made_evolves}
@@ -49,6 +51,8 @@ module _ (now : ℕ) (twins : List Twin) (arena after : Arena) (chart : Chart) (
         (λ e i. (shows_inside e ((step.entries e).0 i)).0) (λ e i. (shows_inside e ((step.entries e).0 i)).1) shows_links step.writes.empty;
     owned = refit_owned arena after chart index.tree step.number step.prefix step.old step.new step.writes.stands step.writes.written step.writes.low step.right shows_apart
         (λ e i. (shows_inside e ((step.entries e).0 i)).0) (λ e i. (shows_inside e ((step.entries e).0 i)).1) shows_links step.writes.empty (AreTwins twins) index.owned;
+    named = named_written arena after chart step.number (Some (border step.new)) step.writes.written (border_none chart step.number step.prefix step.old.low (on step.writes.stands.posted) step.writes.stands.place) index.named;
+    marked = marked_border arena after chart chart index.tree index.marked (λ j p g. g) step.number step.old step.new step.writes.stands.node step.writes.written step.right;
     dated = index.dated;
   }
 
@@ -80,6 +84,8 @@ module _ (now : ℕ) (twins : List Twin) (arena after : Arena) (chart : Chart) (
         (λ e i. hides_ok.from_low e ((step.entries e).0 i).0) (λ e i. hides_ok.to_right e ((step.entries e).0 i).0) hides_links step.writes.empty;
     owned = refit_owned arena after chart index.tree step.number step.prefix step.old step.new step.writes.stands step.writes.written step.writes.low step.right hides_apart
         (λ e i. hides_ok.from_low e ((step.entries e).0 i).0) (λ e i. hides_ok.to_right e ((step.entries e).0 i).0) hides_links step.writes.empty (AreTwins twins) index.owned;
+    named = named_written arena after chart step.number (Some (border step.new)) step.writes.written (border_none chart step.number step.prefix step.old.low (on step.writes.stands.posted) step.writes.stands.place) index.named;
+    marked = marked_border arena after chart chart index.tree index.marked (λ j p g. g) step.number step.old step.new step.writes.stands.node step.writes.written step.right;
     dated = index.dated;
   }
 
@@ -134,6 +140,8 @@ module _ (now : ℕ) (twins : List Twin) (arena after : Arena) (chart : Chart) (
         (λ e i. (sets_inside e ((step.entries e).0 i)).0) (λ e i. (sets_inside e ((step.entries e).0 i)).1) sets_links step.writes.empty;
     owned = refit_owned arena after chart index.tree step.number step.prefix step.old step.new step.writes.stands step.writes.written step.writes.low step.right sets_apart
         (λ e i. (sets_inside e ((step.entries e).0 i)).0) (λ e i. (sets_inside e ((step.entries e).0 i)).1) sets_links step.writes.empty (AreTwins twins) index.owned;
+    named = named_written arena after chart step.number (Some (border step.new)) step.writes.written (border_none chart step.number step.prefix step.old.low (on step.writes.stands.posted) step.writes.stands.place) index.named;
+    marked = marked_border arena after chart chart index.tree index.marked (λ j p g. g) step.number step.old step.new step.writes.stands.node step.writes.written step.right;
     dated = index.dated;
   }
 
@@ -162,6 +170,8 @@ module _ (now : ℕ) (twins : List Twin) (arena after : Arena) (chart : Chart) (
         (λ e i. marks_ok.from_low e ((marks_entries e).0 i)) (λ e i. marks_ok.to_right e ((marks_entries e).0 i)) (λ slice number. marks_entries (record { slice = slice; content = link number })) step.writes.empty;
     owned = refit_owned arena after chart index.tree step.number step.prefix step.old step.new step.writes.stands step.writes.written step.writes.low step.right marks_apart
         (λ e i. marks_ok.from_low e ((marks_entries e).0 i)) (λ e i. marks_ok.to_right e ((marks_entries e).0 i)) (λ slice number. marks_entries (record { slice = slice; content = link number })) step.writes.empty (AreTwins twins) index.owned;
+    named = named_written arena after chart step.number (Some (border step.new)) step.writes.written (border_none chart step.number step.prefix step.old.low (on step.writes.stands.posted) step.writes.stands.place) index.named;
+    marked = marked_border arena after chart chart index.tree index.marked (λ j p g. g) step.number step.old step.new step.writes.stands.node step.writes.written step.right;
     dated = index.dated;
   }
 
@@ -183,16 +193,35 @@ marking_gone_border now twins arena after chart index step = gone_border_keeps a
 on_not_gone : (y : Bool) (e : ℕ) → on y ≡ gone e → ⊥
 on_not_gone y e q = cc
 
+no_head : (r : Role) (p q : List ℕ) (l : ℕ) (s : Standing) → r ≡ at_level 0 → spot r p l s ≢ spot top q 0 (on true)
+no_head r p q l s e f = let w : r ≡ top = cc in cc
+
+unposted : (p q : List ℕ) (l m k : ℕ) (y : Bool) → spot (at_level 0) p l (on false) ≡ spot (at_level k) q m (on y) → (k ≡ 0) × (y ≡ false)
+unposted p q l m k y e = let r : at_level 0 ≡ at_level k = cc in let s : on false ≡ on y = cc in (cc, cc)
+
 pub linking : LinkingAHalfKeeps
 linking now twins arena after chart next index step = record {
   index = record {
     tree = split_tree arena after chart next index.tree step.number step.prefix step.old step.new step.writes.stands step.writes.written step.half_number step.half step.filled step.unknown step.charted step.writes.low step.right step.half_right step.above step.below step.parts step.lower step.upper step.writes.empty step.half_empty;
     owned = split_owned arena after chart next index.tree step.number step.prefix step.old step.new step.writes.stands step.writes.written step.half_number step.half step.filled step.unknown step.charted step.writes.low step.right step.half_right step.above step.below step.parts step.lower step.upper step.writes.empty step.half_empty (AreTwins twins) index.owned;
+    named = named_chain arena after chart next step.number step.half_number (Some (border step.new)) (spot (at_level 0) step.prefix step.half.low (on false)) step.writes.written
+        (border_none chart step.number step.prefix step.old.low (on step.writes.stands.posted) step.writes.stands.place) step.charted (unknown_none chart step.half_number step.unknown) (λ k p l y e. unposted step.prefix p step.half.low l k y e) index.named;
+    marked = marked_written arena after chart next index.tree index.marked (was_head chart next step.half_number (spot (at_level 0) step.prefix step.half.low (on false)) step.charted (λ p e. no_head (at_level 0) step.prefix p step.half.low (on false) refl e))
+        step.number (Some (border step.new)) step.writes.written (λ t e. cc) (λ j p t g e d at f last. absurd (not_marked j p t g e d at f));
     dated = dated_at chart next step.half_number (at_level 0) step.prefix step.half.low (on false) now step.charted (λ e q. absurd (on_not_gone false e q)) index.dated;
   };
   content = split_content arena after chart next index.tree step.number step.prefix step.old step.new step.writes.stands step.writes.written step.half_number step.half step.filled step.unknown step.charted step.writes.low step.right step.half_right step.above step.below step.parts step.lower step.upper step.writes.empty step.half_empty;
   evolves = λ begun le. split_evolves arena after chart next index.tree step.number step.prefix step.old step.new step.writes.stands step.writes.written step.half_number step.half step.filled step.unknown step.charted step.writes.low step.right step.half_right step.above step.below step.parts step.lower step.upper step.writes.empty step.half_empty begun;
 }
+  where
+    not_marked : (j : ℕ) (p : List ℕ) (t : HeadNode) → OnHead chart j p → arena j ≡ Some (head t) → t.deleted ≡ true → chart t.root ≡ Some (spot (at_level t.level) p 0 (on true)) → t.root ≡ step.number → ⊥
+    not_marked j p t g e d at f =
+        let same : chart t.root ≡ chart step.number = ap chart f in
+        let place = step.writes.stands.place in
+        let layer : p ≡ step.prefix = cc in
+        let alive : t.deleted ≡ false = step.head_alive j t (subst (λ (q : List ℕ). OnHead chart j q) layer g) e f in
+        let clash : true ≡ false = sym d ∙ alive in
+        cc
 
 -- where two numbers have new places
 dated_two : (chart next : Chart) (now one two : ℕ) (p q : Spot) → next one ≡ Some p → next two ≡ Some q → ((other : ℕ) → other ≢ one → other ≢ two → next other ≡ chart other) →
@@ -215,12 +244,36 @@ making_layer now twins arena after chart next index step = record {
   index = record {
     tree = layer_made_tree arena after chart next index.tree step.number step.prefix step.old step.new step.writes.stands step.writes.written step.top_number step.root_number step.top_node step.root step.top_filled step.root_filled step.two_numbers step.top_unknown step.root_unknown step.slice step.rest step.row step.entry step.top_charted step.root_charted step.others step.writes.low step.right step.writes.empty step.stood step.entries step.names_root step.level step.root_low step.root_right step.root_alive step.root_entries step.holds;
     owned = layer_made_owned arena after chart next index.tree step.number step.prefix step.old step.new step.writes.stands step.writes.written step.top_number step.root_number step.top_node step.root step.top_filled step.root_filled step.two_numbers step.top_unknown step.root_unknown step.slice step.rest step.row step.entry step.top_charted step.root_charted step.others step.writes.low step.right step.writes.empty step.stood step.entries step.names_root step.level step.root_low step.root_right step.root_alive step.root_entries step.holds (AreTwins twins) index.owned;
+    named = named_layer arena after chart next step.number (Some (border step.new)) step.writes.written (border_none chart step.number step.prefix step.old.low (on step.writes.stands.posted) step.writes.stands.place)
+        step.top_number step.root_number step.top_node (step.slice ∷ step.prefix) step.top_unknown step.root_unknown top_not_number step.top_charted step.top_filled step.names_root step.others index.named;
+    marked = marked_layer arena after chart next index.tree index.marked step.number step.old step.new step.writes.stands.node step.writes.written step.right step.top_number step.root_number step.top_node step.root step.top_filled step.names_root step.root_filled step.root_right
+        root_not_number was;
     dated = dated_two chart next now step.top_number step.root_number (spot top (step.slice ∷ step.prefix) 0 (on true)) (spot (at_level 0) (step.slice ∷ step.prefix) 0 (on true)) step.top_charted step.root_charted step.others
         (λ role prefix low e q. absurd (spot_on top role (step.slice ∷ step.prefix) prefix 0 low true e q)) (λ role prefix low e q. absurd (spot_on (at_level 0) role (step.slice ∷ step.prefix) prefix 0 low true e q)) index.dated;
   };
   content = layer_made_content arena after chart next index.tree step.number step.prefix step.old step.new step.writes.stands step.writes.written step.top_number step.root_number step.top_node step.root step.top_filled step.root_filled step.two_numbers step.top_unknown step.root_unknown step.slice step.rest step.row step.entry step.top_charted step.root_charted step.others step.writes.low step.right step.writes.empty step.stood step.entries step.names_root step.level step.root_low step.root_right step.root_alive step.root_entries step.holds;
   evolves = λ begun le. layer_made_evolves arena after chart next index.tree step.number step.prefix step.old step.new step.writes.stands step.writes.written step.top_number step.root_number step.top_node step.root step.top_filled step.root_filled step.two_numbers step.top_unknown step.root_unknown step.slice step.rest step.row step.entry step.top_charted step.root_charted step.others step.writes.low step.right step.writes.empty step.stood step.entries step.names_root step.level step.root_low step.root_right step.root_alive step.root_entries step.holds begun;
 }
+  where
+    root_not_number : step.root_number ≢ step.number
+    root_not_number e =
+        let same : chart step.root_number ≡ chart step.number = ap chart e in
+        let place = step.writes.stands.place in
+        let clash : ◌≡◌ {A = Option Spot} None (Some (spot (at_level 0) step.prefix step.old.low (on step.writes.stands.posted))) = sym step.root_unknown ∙ (same ∙ place) in
+        cc
+
+    was : (j : ℕ) (p : List ℕ) → j ≢ step.top_number → OnHead next j p → OnHead chart j p
+    was j p ne g = sym (step.others j ne (λ e. let w : next j ≡ next step.root_number = ap next e in let v = step.root_charted in let c : top ≡ at_level 0 = cc in cc)) ∙ g
+
+    top_not_number : step.top_number ≢ step.number
+    top_not_number e =
+        let same : chart step.top_number ≡ chart step.number = ap chart e in
+        let place = step.writes.stands.place in
+        let clash : ◌≡◌ {A = Option Spot} None (Some (spot (at_level 0) step.prefix step.old.low (on step.writes.stands.posted))) = sym step.top_unknown ∙ (same ∙ place) in
+        cc
+
+spot_gone : (r role : Role) (p prefix : List ℕ) (l low e : ℕ) (y : Bool) → spot r p l (gone e) ≡ spot role prefix low (on y) → ⊥
+spot_gone r role p prefix l low e y q = let w : gone e ≡ on y = cc in cc
 
 gone_now : (now e : ℕ) → gone now ≡ gone e → e ≤ now
 gone_now now e q = let w : now ≡ e = cc in omega arith
@@ -230,12 +283,24 @@ unlinking now twins arena after chart next index step = record {
   index = record {
     tree = unlink_tree arena after chart next index.tree step.number step.prefix step.old step.new step.stands step.written step.gone_number step.gone_node step.there step.dropped bare step.marked now index.dated step.charted step.low step.entries step.was_right step.right step.deleted;
     owned = unlink_owned arena after chart next index.tree step.number step.prefix step.old step.new step.stands step.written step.gone_number step.gone_node step.there step.dropped bare step.marked now index.dated step.charted step.low step.entries step.was_right step.right step.deleted (AreTwins twins) index.owned;
+    named = named_chain arena after chart next step.number step.gone_number (Some (border step.new)) (spot (at_level 0) step.prefix step.gone_node.low (gone now)) step.written
+        (border_none chart step.number step.prefix step.old.low (on step.stands.posted) step.stands.place) step.charted (border_none chart step.gone_number step.prefix step.gone_node.low (on false) step.dropped)
+        (λ k p l y e. absurd (spot_gone (at_level 0) (at_level k) step.prefix p step.gone_node.low l now y e)) index.named;
+    marked = marked_written arena after chart next index.tree index.marked (was_head chart next step.gone_number (spot (at_level 0) step.prefix step.gone_node.low (gone now)) step.charted (λ p e. no_head (at_level 0) step.prefix p step.gone_node.low (gone now) refl e))
+        step.number (Some (border step.new)) step.written (λ t e. cc) (λ j p t g e d at f last. absurd (has_right last));
     dated = dated_at chart next step.gone_number (at_level 0) step.prefix step.gone_node.low (gone now) now step.charted (λ e q. gone_now now e q) index.dated;
   };
   content = unlink_content arena after chart next index.tree step.number step.prefix step.old step.new step.stands step.written step.gone_number step.gone_node step.there step.dropped bare step.marked now index.dated step.charted step.low step.entries step.was_right step.right step.deleted;
   evolves = λ begun le. unlink_evolves arena after chart next index.tree step.number step.prefix step.old step.new step.stands step.written step.gone_number step.gone_node step.there step.dropped bare step.marked now index.dated step.charted step.low step.entries step.was_right step.right step.deleted begun le;
 }
   where
+    has_right : IsLastBorder arena step.number → ⊥
+    has_right (x, e, none) =
+        let there = step.stands.node in
+        let same : x ≡ step.old = cc in
+        let clash : ◌≡◌ {A = Option Right} None (Some (record { low = step.gone_node.low; number = step.gone_number })) = sym none ∙ (ap (λ (v : BorderNode). v.right) same ∙ step.was_right) in
+        cc
+
     bare : step.gone_node.entries ≡ []
     bare = (index.tree.each_border step.gone_number step.prefix step.gone_node (record { posted = false; place = step.dropped; node = step.there })).empty step.marked
 
@@ -244,6 +309,9 @@ dropping_layer now twins arena after chart next index step = record {
   index = record {
     tree = layer_dropped_tree arena after chart next index.tree step.number step.prefix step.old step.new step.stands step.written step.slice step.top_number step.root_number step.top_node step.root step.top_on step.top_there step.top_deleted step.root_on step.root_low step.root_right step.root_entries step.root_deleted only_head now index.dated step.top_goes step.root_goes step.others step.low step.right step.deleted step.stood step.entries;
     owned = layer_dropped_owned arena after chart next index.tree step.number step.prefix step.old step.new step.stands step.written step.slice step.top_number step.root_number step.top_node step.root step.top_on step.top_there step.top_deleted step.root_on step.root_low step.root_right step.root_entries step.root_deleted only_head now index.dated step.top_goes step.root_goes step.others step.low step.right step.deleted step.stood step.entries (AreTwins twins) index.owned;
+    named = named_no_layer arena after chart next step.number (Some (border step.new)) step.written (border_none chart step.number step.prefix step.old.low (on step.stands.posted) step.stands.place)
+        step.top_number step.root_number step.top_node (step.slice ∷ step.prefix) step.root.low now step.root_on.posted step.top_on step.top_there step.names_root step.root_on.place step.top_goes step.root_goes step.others index.named;
+    marked = marked_border arena after chart next index.tree index.marked was step.number step.old step.new step.stands.node step.written step.right;
     dated = dated_two chart next now step.top_number step.root_number (spot top (step.slice ∷ step.prefix) 0 (gone now)) (spot (at_level 0) (step.slice ∷ step.prefix) 0 (gone now)) step.top_goes step.root_goes step.others
         (λ role prefix low e q. spot_now top role (step.slice ∷ step.prefix) prefix 0 low now e q) (λ role prefix low e q. spot_now (at_level 0) role (step.slice ∷ step.prefix) prefix 0 low now e q) index.dated;
   };
@@ -251,5 +319,9 @@ dropping_layer now twins arena after chart next index step = record {
   evolves = λ begun le. layer_dropped_evolves arena after chart next index.tree step.number step.prefix step.old step.new step.stands step.written step.slice step.top_number step.root_number step.top_node step.root step.top_on step.top_there step.top_deleted step.root_on step.root_low step.root_right step.root_entries step.root_deleted only_head now index.dated step.top_goes step.root_goes step.others step.low step.right step.deleted step.stood step.entries begun le;
 }
   where
+    was : (j : ℕ) (p : List ℕ) → OnHead next j p → OnHead chart j p
+    was j p g = sym (step.others j (λ e. let w : next j ≡ next step.top_number = ap next e in let v = step.top_goes in let c : on true ≡ gone now = cc in cc)
+        (λ e. let w : next j ≡ next step.root_number = ap next e in let v = step.root_goes in let c : top ≡ at_level 0 = cc in cc)) ∙ g
+
     only_head : (j : ℕ) → Owns arena chart j step.root_number → j ≡ step.top_number
     only_head = only_owner arena chart (AreTwins twins) index.owned step.top_number step.root_number (by_head (step.slice ∷ step.prefix) step.top_node step.top_on step.top_there step.names_root) step.no_twin

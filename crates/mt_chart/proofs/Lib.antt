@@ -15,7 +15,10 @@ pub mod NewIndex
 pub mod Owners
 pub mod InteriorSteps
 pub mod RootSteps
+pub mod Roots
+pub mod MarkedHeads
 pub mod Ownership
+pub mod Naming
 pub mod Entries
 pub mod ChartChanges
 pub mod Show

@@ -1,9 +1,9 @@
 -- A new index: head 0 and one empty border. So the invariant can be met.
-use Rattle.std.proofs.Common.{ℕ, zero, suc, ◌≡◌, ◌≢◌, ◌<◌, inl, inr, List, [], Option, Some, None, Bool, true, refl, sym, ap, ◌∙◌, subst, arith}
+use Rattle.std.proofs.Common.{ℕ, zero, suc, ◌≡◌, ◌≢◌, ◌<◌, inl, inr, List, [], Option, Some, None, Bool, true, false, refl, sym, ap, ◌∙◌, subst, arith}
 use Rattle.std.proofs.lemmas.Bool.{cases_eq, eq-eqb, ne_eqb}
-use Rattle.mt_chart.specs.Tree.{Right, BorderNode, Node, border}
+use Rattle.mt_chart.specs.Tree.{Right, HeadNode, BorderNode, Node, head, border}
 use Rattle.mt_chart.specs.NewIndex.{only_at, new_head, new_border, arena_of_two, new_arena, new_chart}
-use Rattle.mt_chart.specs.Chart.{Dated, Standing, on, gone, top, at_level, spot, OnBorder, IsBorder, Hung, HeadAt, IsTree, Owned, Owns, by_head, by_interior}
+use Rattle.mt_chart.specs.Chart.{Dated, Standing, on, gone, top, at_level, spot, OnBorder, IsBorder, Hung, HeadAt, IsTree, Owned, Owns, by_head, by_interior, Named, MarkedHeads}
 
 pub only_here : {A : Type 0} (at : ℕ) (value : A) (number : ℕ) → number ≡ at → only_at at value number ≡ Some value
 only_here at value number e = rw (eq-eqb number at e) refl
@@ -88,6 +88,17 @@ new_owned root = record { one_owner = (λ i j c x y. inl (owner i c x ∙ sym (o
     owner : (i c : ℕ) → Owns (new_arena root) (new_chart root) i c → i ≡ 0
     owner i c (by_head p t g e f) = (only_head root i p 0 (on true) g).0
     owner i c (by_interior k p l y node child g e m f) = absurd (no_interior root i k p l (on y) g)
+
+pub new_named : (root : ℕ) → 0 < root → Named (new_arena root) (new_chart root)
+new_named root positive n zero p l y g = let (e, f, z, i) = only_border root n p l (on y) g in inr (0, by_head [] (new_head root) refl refl (sym e))
+new_named root positive n (suc k) p l y g = absurd (no_interior root n k p l (on y) g)
+
+pub new_marked : (root : ℕ) → MarkedHeads (new_arena root) (new_chart root)
+new_marked root n p t g there deleted =
+    let first : n ≡ 0 = (only_head root n p 0 (on true) g).0 in
+    let here : new_arena root n ≡ Some (head (new_head root)) = ap (new_arena root) first in
+    let same : new_head root ≡ t = cc in
+    absurd (let clash : false ≡ true = ap (λ (v : HeadNode). v.deleted) same ∙ deleted in cc)
 
 pub new_dated : (root : ℕ) → Dated (new_chart root) 0
 new_dated root n role p l e g = absurd (go n g)

@@ -8,6 +8,8 @@ use Rattle.mt_chart.specs.Chart.{Standing, on, gone, Role, top, at_level, Spot, 
 use Rattle.mt_chart.specs.Steps.{Twin, AreTwins, IsIndex, Keeps}
 use Rattle.mt_chart.proofs.Basics.{same_number}
 use Rattle.mt_chart.proofs.HeldNodes.{later_same, evolves_same}
+use Rattle.mt_chart.proofs.MarkedHeads.{marked_rest}
+use Rattle.mt_chart.proofs.Naming.{named_rest}
 use Rattle.mt_chart.proofs.Ownership.{owned_rest}
 use Rattle.mt_chart.proofs.Reach.{stored, has}
 use Rattle.mt_chart.proofs.Split.{interior_known}
@@ -59,7 +61,7 @@ module _ (arena new : Arena) (chart : Chart) (tree : IsTree arena chart)
 
   pub rest_keeps : (now : ℕ) (twins : List Twin) → IsIndex now twins arena chart → Keeps now twins arena new chart chart
   rest_keeps now twins index = record {
-    index = record { tree = rest_tree; owned = owned_rest arena new chart chart (AreTwins twins) index.owned (λ j r p l y g ne. (refl, same_on j r p l y g)); dated = index.dated };
+    index = record { tree = rest_tree; owned = owned_rest arena new chart chart (AreTwins twins) index.owned (λ j r p l y g ne. (refl, same_on j r p l y g)); named = named_rest arena new chart chart index.named (λ j r p l y g ne. (refl, same_on j r p l y g)) (λ d k p l y g. refl); marked = marked_rest arena new chart chart tree index.marked (λ j p g. g) same_on; dated = index.dated };
     content = rest_content;
     evolves = λ begun le. evolves_same begun chart;
   }

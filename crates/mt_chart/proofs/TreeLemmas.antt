@@ -11,7 +11,7 @@ use Rattle.mt_chart.proofs.Entries.{among_cases, among_first}
 use Rattle.mt_chart.proofs.Reach.{stored, has}
 use Rattle.mt_chart.proofs.Keys.{one_row, at_place, in_interval}
 use Rattle.mt_chart.proofs.Owners.{owned_shrink}
-use Rattle.mt_chart.proofs.NewIndex.{only_elsewhere, at_root, charted_root, new_tree, new_owned, new_dated, new_stands}
+use Rattle.mt_chart.proofs.NewIndex.{only_elsewhere, at_root, charted_root, new_tree, new_owned, new_named, new_marked, new_dated, new_stands}
 use Rattle.mt_chart.proofs.HeldNodes.{holds_root, holds_child, holds_right, holds_link, first_child, border_is_on}
 use Rattle.mt_chart.proofs.Ranges.{range_node}
 
@@ -19,6 +19,8 @@ pub new_index : NewIndexIsIndex
 new_index root positive = record {
   tree = new_tree root positive;
   owned = owned_shrink (new_arena root) (new_chart root) (λ i j. ⊥) (AreTwins []) (new_owned root) (λ i j c x y never. absurd never);
+  named = new_named root positive;
+  marked = new_marked root;
   dated = new_dated root;
 }
 

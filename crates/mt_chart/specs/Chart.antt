@@ -1,6 +1,6 @@
 -- What the proofs know of the tree beside the arena: the chart, which tells where each published node stands, and the
 -- invariant between an arena and a chart.
-use Rattle.std.specs.Prelude.{ℕ, suc, ◌≡◌, ◌≢◌, ◌<◌, ◌≤◌, ◌⊎◌, List, [], ◌∷◌, Option, Some, Bool, true}
+use Rattle.std.specs.Prelude.{ℕ, suc, ◌≡◌, ◌≢◌, ◌<◌, ◌≤◌, ◌⊎◌, List, [], ◌∷◌, Option, Some, None, Bool, true, false}
 use Rattle.mt_slice.specs.Place.{Place, under}
 use Rattle.mt_types.specs.declared.row.Row.{Row}
 use Rattle.mt_chart.specs.Tree.{Content, short, long, link, Entry, Right, HeadNode, BorderNode, Child, InteriorNode, head, border, interior, Arena, Among, Below, HoldsRow}
@@ -135,6 +135,22 @@ NoChildTwice (child ∷ others) = ((other : Child) → Among other others → ot
 pub record Owned (arena : Arena) (chart : Chart) (twins : ℕ → ℕ → Type 0) : Type 0 where
   pub one_owner : (owner other child : ℕ) → Owns arena chart owner child → Owns arena chart other child → (owner ≡ other) ⊎ twins owner other
   pub once : (number below : ℕ) (prefix : List ℕ) (low : ℕ) (posted : Bool) (node : InteriorNode) → chart number ≡ Some (spot (at_level (suc below)) prefix low (on posted)) → arena number ≡ Some (interior node) → NoChildTwice node.children
+
+-- a head or an interior that is on names the number
+abbrev pub HasOwner : Arena → Chart → ℕ → Type 0
+HasOwner arena chart number = (owner : ℕ) × Owns arena chart owner number
+
+-- What is on in the tree of a layer is named, but for a border that no head or interior may name.
+abbrev pub Named : Arena → Chart → Type 0
+Named arena chart = (number level : ℕ) (prefix : List ℕ) (low : ℕ) (posted : Bool) → chart number ≡ Some (spot (at_level level) prefix low (on posted)) → ((level ≡ 0) × (posted ≡ false)) ⊎ HasOwner arena chart number
+
+-- the number names a border with nothing to its right
+abbrev pub IsLastBorder : Arena → ℕ → Type 0
+IsLastBorder arena number = (node : BorderNode) × (arena number ≡ Some (border node)) × (node.right ≡ None)
+
+-- a head that is on and is marked deleted has a border for its root, with nothing to its right
+abbrev pub MarkedHeads : Arena → Chart → Type 0
+MarkedHeads arena chart = (number : ℕ) (prefix : List ℕ) (node : HeadNode) → OnHead chart number prefix → arena number ≡ Some (head node) → node.deleted ≡ true → IsLastBorder arena node.root
 
 -- no node went after the present epoch
 abbrev pub Dated : Chart → ℕ → Type 0

@@ -3,7 +3,7 @@ use Rattle.std.specs.Prelude.{ℕ, suc, ◌≡◌, ◌≢◌, ◌<◌, ◌≤◌
 use Rattle.mt_slice.specs.Place.{Place, under}
 use Rattle.mt_types.specs.declared.row.Row.{Row}
 use Rattle.mt_chart.specs.Tree.{link, long, Entry, HeadNode, BorderNode, Child, InteriorNode, head, border, interior, Arena, Among, Below, HoldsRow, Has}
-use Rattle.mt_chart.specs.Chart.{on, gone, Role, top, at_level, Spot, spot, Chart, OnHead, OnBorder, class, FirstLow, IsTree, NoChildTwice, Owned, Dated, Evolves, Changes}
+use Rattle.mt_chart.specs.Chart.{on, gone, Role, top, at_level, Spot, spot, Chart, OnHead, OnBorder, class, FirstLow, IsTree, NoChildTwice, Owns, Owned, Named, IsLastBorder, MarkedHeads, Dated, Evolves, Changes}
 
 -- the two halves of an interior that is being split
 pub record Twin : Type 0 where
@@ -14,11 +14,13 @@ pub record Twin : Type 0 where
 abbrev pub AreTwins : List Twin → ℕ → ℕ → Type 0
 AreTwins twins one other = Among (record { one = one; other = other }) twins
 
--- WHAT HOLDS BETWEEN TWO STEPS in an epoch: the invariant; each node has one owner, but for the twins; and nobody went later
--- than now.
+-- WHAT HOLDS BETWEEN TWO STEPS in an epoch: the invariant; each node has one owner, but for the twins; what is on in the tree of
+-- a layer is named; a layer whose head is marked deleted has one border; and nobody went later than now.
 pub record IsIndex (now : ℕ) (twins : List Twin) (arena : Arena) (chart : Chart) : Type 0 where
   pub tree : IsTree arena chart
   pub owned : Owned arena chart (AreTwins twins)
+  pub named : Named arena chart
+  pub marked : MarkedHeads arena chart
   pub dated : Dated chart now
 
 -- the two arenas have the same rows
@@ -99,7 +101,8 @@ pub record SetsRow (arena after : Arena) (chart : Chart) (key : Place) (before r
   pub entries : (each : Entry) → Among each new.entries ↔ ((each ≡ set) ⊎ (Among each old.entries × (each ≢ entry)))
 
 -- The link step of a split: a border keeps the lower of its entries, and its right link names a filled border with the
--- upper ones, which comes to be on but is not to be named by a head or an interior.
+-- upper ones, which comes to be on but is not to be named by a head or an interior. No head that is marked deleted has it for its
+-- root.
 pub record LinksHalf (arena after : Arena) (chart next : Chart) : Type 0 where
   pub number : ℕ
   pub prefix : List ℕ
@@ -119,6 +122,7 @@ pub record LinksHalf (arena after : Arena) (chart next : Chart) : Type 0 where
   pub lower : (entry : Entry) → Among entry new.entries → entry.slice < half.low
   pub upper : (entry : Entry) → Among entry half.entries → half.low ≤ entry.slice
   pub half_empty : half.deleted ≡ true → half.entries ≡ []
+  pub head_alive : (top_number : ℕ) (top_node : HeadNode) → OnHead chart top_number prefix → arena top_number ≡ Some (head top_node) → top_node.root ≡ number → top_node.deleted ≡ false
 
 -- A new layer: in a border a link stands in place of the row of a longer key. It names a filled head, whose root is a
 -- filled border with that row alone, one layer deeper. Head and border come to be on.
@@ -255,7 +259,7 @@ pub record PostsBorder (arena after : Arena) (chart next : Chart) : Type 0 where
   pub low : ℕ
   pub place : chart posted_number ≡ Some (spot (at_level 0) prefix low (on false))
   pub charted : Changes chart next posted_number (Some (spot (at_level 0) prefix low (on true)))
-  pub children : (each : Child) → Among each new.children → (each ≡ record { low = low; number = posted_number; level = 0 }) ⊎ Among each old.children
+  pub children : (each : Child) → Among each new.children ↔ ((each ≡ record { low = low; number = posted_number; level = 0 }) ⊎ Among each old.children)
 
 -- an interior with one child, locked, is bypassed: the interior above names that child in its place, and it goes
 pub record Bypasses (now : ℕ) (twins : List Twin) (arena after : Arena) (chart next : Chart) : Type 0 where
@@ -280,7 +284,7 @@ pub record Bypasses (now : ℕ) (twins : List Twin) (arena after : Arena) (chart
   pub entry : Child
   pub stood : Among entry old.children
   pub named : entry.number ≡ gone_number
-  pub children : (each : Child) → Among each new.children → (each ≡ child) ⊎ (Among each old.children × (each.number ≢ gone_number))
+  pub children : (each : Child) → Among each new.children ↔ ((each ≡ child) ⊎ (Among each old.children × (each.number ≢ gone_number)))
   pub no_twin : NoTwin twins number
   pub gone_no_twin : NoTwin twins gone_number
 
@@ -290,7 +294,7 @@ pub record WritesHead (arena after : Arena) (chart : Chart) (number : ℕ) (pref
   pub there : arena number ≡ Some (head old)
   pub written : Changes arena after number (Some (head new))
 
--- a head is locked, unlocked or marked deleted
+-- a head is locked, unlocked or, where its root is a border with nothing to its right, marked deleted
 pub record MarksHead (arena after : Arena) (chart : Chart) : Type 0 where
   pub number : ℕ
   pub prefix : List ℕ
@@ -299,6 +303,7 @@ pub record MarksHead (arena after : Arena) (chart : Chart) : Type 0 where
   pub writes : WritesHead arena after chart number prefix old new
   pub root : new.root ≡ old.root
   pub level : new.level ≡ old.level
+  pub last : new.deleted ≡ true → (old.deleted ≡ true) ⊎ IsLastBorder arena old.root
 
 -- a root, an interior with one child, locked, is bypassed: the head names that child in its place, and it goes
 pub record BypassesRoot (now : ℕ) (twins : List Twin) (arena after : Arena) (chart next : Chart) : Type 0 where
@@ -319,6 +324,7 @@ pub record BypassesRoot (now : ℕ) (twins : List Twin) (arena after : Arena) (c
   pub charted : Changes chart next gone_number (Some (spot (at_level (suc gone_below)) prefix 0 (gone now)))
   pub root : new.root ≡ child.number
   pub level : new.level ≡ child.level
+  pub deleted : new.deleted ≡ old.deleted
   pub no_twin : NoTwin twins number
   pub gone_no_twin : NoTwin twins gone_number
 
@@ -347,6 +353,7 @@ pub record MakesRoot (twins : List Twin) (arena after : Arena) (chart between ne
   pub once : NoChildTwice root_node.children
   pub root : new.root ≡ root_number
   pub level : new.level ≡ suc below
+  pub deleted : new.deleted ≡ old.deleted
   pub no_twin : NoTwin twins number
 
 -- An interior is split: a filled interior with some of its children is posted in an interior above it. Until the first half
@@ -378,7 +385,7 @@ pub record PostsHalf (twins more_twins : List Twin) (arena after : Arena) (chart
   pub new : InteriorNode
   pub writes : WritesInterior arena after chart parent_number parent_below prefix parent_least old new
   pub above : below < parent_below
-  pub children : (each : Child) → Among each new.children → (each ≡ record { low = low; number = half_number; level = suc below }) ⊎ Among each old.children
+  pub children : (each : Child) → Among each new.children ↔ ((each ≡ record { low = low; number = half_number; level = suc below }) ⊎ Among each old.children)
   pub kept_twins : (one other : ℕ) → AreTwins twins one other → AreTwins more_twins one other
   pub new_twins : (other : ℕ) → (other ≡ number) ⊎ AreTwins twins other number → AreTwins more_twins half_number other × AreTwins more_twins other half_number
 
@@ -422,11 +429,13 @@ pub record MakesRootOverHalf (twins more_twins : List Twin) (arena after : Arena
   pub once : NoChildTwice root_node.children
   pub root : new.root ≡ root_number
   pub level : new.level ≡ suc root_below
+  pub deleted : new.deleted ≡ old.deleted
   pub kept_twins : (one other : ℕ) → AreTwins twins one other → AreTwins more_twins one other
   pub new_twins : (other : ℕ) → (other ≡ split_number) ⊎ AreTwins twins other split_number → AreTwins more_twins half_number other × AreTwins more_twins other half_number
   pub no_twin : NoTwin more_twins number
 
--- an interior keeps some of its children: the first half of a split is cut, or an interior is locked or unlocked
+-- An interior keeps some of its children: the first half of a split is cut, or an interior is locked or unlocked. What it leaves
+-- out another names.
 pub record KeepsChildren (arena after : Arena) (chart : Chart) : Type 0 where
   pub number : ℕ
   pub below : ℕ
@@ -436,6 +445,7 @@ pub record KeepsChildren (arena after : Arena) (chart : Chart) : Type 0 where
   pub new : InteriorNode
   pub writes : WritesInterior arena after chart number below prefix least old new
   pub children : (each : Child) → Among each new.children → Among each old.children
+  pub left_out : (each : Child) → Among each old.children → Among each new.children ⊎ ((other : ℕ) × (other ≢ number) × Owns arena chart other each.number)
 
 -- an interior that is gone is marked deleted
 pub record MarksGone (arena after : Arena) (chart : Chart) : Type 0 where

@@ -1,10 +1,10 @@
 -- The laws of an index: where its rows stand, and what a call that goes through it may rely on.
-use Rattle.std.specs.Prelude.{ℕ, suc, ◌≡◌, ◌<◌, ◌≤◌, ◌⊎◌, ◌↔◌, List, [], ◌∷◌, Some, Bool, false}
+use Rattle.std.specs.Prelude.{ℕ, suc, ◌≡◌, ◌≢◌, ◌<◌, ◌≤◌, ◌⊎◌, ◌↔◌, List, [], ◌∷◌, Some, None, Bool, true, false}
 use Rattle.mt_slice.specs.Place.{Place, last, deeper, under, first_slice}
 use Rattle.mt_types.specs.declared.row.Row.{Row}
 use Rattle.mt_chart.specs.Tree.{link, Entry, Right, HeadNode, BorderNode, Child, InteriorNode, Node, head, border, interior, Arena, Among, Below, HoldsRow, Has}
-use Rattle.mt_chart.specs.Chart.{Standing, on, at_level, spot, Chart, OnBorder, IsTree, Stored, Holds, Evolves}
-use Rattle.mt_chart.specs.Steps.{IsIndex, ShowsRow}
+use Rattle.mt_chart.specs.Chart.{Standing, on, at_level, spot, Chart, OnHead, OnBorder, IsTree, Stored, Holds, Evolves}
+use Rattle.mt_chart.specs.Steps.{Twin, IsIndex, ShowsRow}
 use Rattle.mt_chart.specs.NewIndex.{new_arena, new_chart, first_row_arena}
 
 -- a new index meets the invariant
@@ -106,3 +106,25 @@ FreeInteriorsAreOn = (arena : Arena) (chart : Chart) → IsTree arena chart → 
 abbrev pub LeftNeighboursAreFound : Type 0
 LeftNeighboursAreFound = (arena : Arena) (chart : Chart) → IsTree arena chart → (left number slice : ℕ) (prefix : List ℕ) (node other : BorderNode) → OnBorder arena chart left prefix node →
     OnBorder arena chart number prefix other → node.low ≤ slice → suc slice ≡ other.low → Below slice node.right → node.right ≡ Some (record { low = other.low; number = number })
+
+-- no number from this one on names a node
+abbrev pub EndsBy : Arena → ℕ → Type 0
+EndsBy arena bound = (number : ℕ) → bound ≤ number → arena number ≡ None
+
+-- The root of a head that is on has the greatest level of its layer: all the rest that may be named there is lower. For owners'
+-- levels rise, and there are so many nodes at most.
+abbrev pub RootsAreHighest : Type 0
+RootsAreHighest = (now bound : ℕ) (twins : List Twin) (arena : Arena) (chart : Chart) → IsIndex now twins arena chart → EndsBy arena bound → (number : ℕ) (prefix : List ℕ) (node : HeadNode) → OnHead chart number prefix →
+    arena number ≡ Some (head node) → (other level low : ℕ) → chart other ≡ Some (spot (at_level level) prefix low (on true)) → (node.root ≡ other) ⊎ (level < node.level)
+
+-- So an interior that is on is the root of its layer, where the root has no greater level: as where an interior is being split, and
+-- its new half is to be posted above it, and the head's root is not above it.
+abbrev pub RootOfASplitIsIt : Type 0
+RootOfASplitIsIt = (now bound : ℕ) (twins : List Twin) (arena : Arena) (chart : Chart) → IsIndex now twins arena chart → EndsBy arena bound → (number : ℕ) (prefix : List ℕ) (node : HeadNode) → OnHead chart number prefix →
+    arena number ≡ Some (head node) → (split below low : ℕ) (posted : Bool) → chart split ≡ Some (spot (at_level (suc below)) prefix low (on posted)) → node.level ≤ suc below → node.root ≡ split
+
+-- A layer whose head is marked deleted has one border, its root. So in a layer where a border is on that is another, has a greater
+-- low, or may not be named yet, the head is not marked deleted: as where a border is to be posted.
+abbrev pub MarkedLayersHaveOneBorder : Type 0
+MarkedLayersHaveOneBorder = (now : ℕ) (twins : List Twin) (arena : Arena) (chart : Chart) → IsIndex now twins arena chart → (number : ℕ) (prefix : List ℕ) (node : HeadNode) → OnHead chart number prefix → arena number ≡ Some (head node) →
+    (other low : ℕ) (posted : Bool) → chart other ≡ Some (spot (at_level 0) prefix low (on posted)) → (node.root ≢ other) ⊎ ((0 < low) ⊎ (posted ≡ false)) → node.deleted ≡ false

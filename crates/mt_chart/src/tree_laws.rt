@@ -1,6 +1,6 @@
 //! Laws of an index: where its rows stand, and what a call that goes through it may rely on. Each function does nothing, and its contract is the law.
 
-ghost use Rattle.mt_chart.specs.TreeLaws.{LeftNeighboursAreFound, FreeInteriorsAreOn, FirstRowsCanBeShown, NewIndexIsIndex, NewIndexIsEmpty, RowsAreInBorders, KeysHaveOneRow, KeysAreAtTheirPlaces, KeysAreInTheirIntervals, HoldingLasts, EvolvingGoesOn, LayerZeroIsHeld, RootsAreHeld, ChildrenAreHeld, SomeChildLeadsOn, RightNeighboursAreHeld, LinkedHeadsAreHeld, HeldNodesAreThere, HeldBordersAreOn};
+ghost use Rattle.mt_chart.specs.TreeLaws.{LeftNeighboursAreFound, FreeInteriorsAreOn, FirstRowsCanBeShown, NewIndexIsIndex, NewIndexIsEmpty, RowsAreInBorders, KeysHaveOneRow, KeysAreAtTheirPlaces, KeysAreInTheirIntervals, HoldingLasts, EvolvingGoesOn, LayerZeroIsHeld, RootsAreHeld, ChildrenAreHeld, SomeChildLeadsOn, RightNeighboursAreHeld, LinkedHeadsAreHeld, HeldNodesAreThere, HeldBordersAreOn, RootsAreHighest, RootOfASplitIsIt, MarkedLayersHaveOneBorder};
 
 /// A new index, head 0 over one empty border, meets the invariant and has no row, and a first row can be shown in it.
 pub fn new_indexes_are_empty()
@@ -48,4 +48,16 @@ pub fn held_nodes_are_there()
     ensures borders { HeldBordersAreOn }
     ensures interiors { FreeInteriorsAreOn }
     ensures left { LeftNeighboursAreFound }
+{}
+
+/// The root of a head has the greatest level of its layer. So an interior node that is being split is the root, where the root's
+/// level is no greater.
+pub fn roots_are_highest()
+    ensures highest { RootsAreHighest }
+    ensures split { RootOfASplitIsIt }
+{}
+
+/// A layer whose head is marked deleted has one border, its root.
+pub fn marked_layers_have_one_border()
+    ensures { MarkedLayersHaveOneBorder }
 {}

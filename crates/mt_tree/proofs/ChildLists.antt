@@ -38,6 +38,16 @@ among_inserted (old ∷ children) (suc place) child each (later i) =
       | inr j ↦ inr (later j)
     ]
 
+pub inserted_among : (children : List Child) (place : ℕ) (child : Child) (each : PlainChild) → (each ≡ child_seen child) ⊎ Among each (children_seen children) → Among each (children_seen (insert children place child))
+inserted_among [] zero child each (inl e) = rw e first
+inserted_among [] (suc place) child each (inl e) = rw e first
+inserted_among [] place child each (inr i) = elim i [ ]
+inserted_among (old ∷ children) zero child each (inl e) = rw e first
+inserted_among (old ∷ children) zero child each (inr i) = later i
+inserted_among (old ∷ children) (suc place) child each (inl e) = later (inserted_among children place child each (inl e))
+inserted_among (old ∷ children) (suc place) child each (inr first) = first
+inserted_among (old ∷ children) (suc place) child each (inr (later i)) = later (inserted_among children place child each (inr i))
+
 pub once_inserted : (children : List Child) (place : ℕ) (child : Child) → NamesNot child.node.0 (children_seen children) → NoChildTwice (children_seen children) → NoChildTwice (children_seen (insert children place child))
 once_inserted [] zero child new once = (λ other i. elim i [ ], tt)
 once_inserted [] (suc place) child new once = (λ other i. elim i [ ], tt)
@@ -94,6 +104,16 @@ among_renamed (old ∷ children) (suc place) level node child read once each (la
       | inr (j, other) ↦ inr (later j, other)
     ]
 
+pub renamed_among : (children : List Child) (place level : ℕ) (node : NodeNo) (child : Child) → slice_get children place ≡ Some child →
+    (each : PlainChild) → (each ≡ child_seen (record child { node = node; level = level })) ⊎ (Among each (children_seen children) × (each.number ≢ child.node.0)) → Among each (children_seen (renamed place node level children))
+renamed_among [] place level node child read each i = absurd (cc)
+renamed_among (old ∷ children) zero level node child read each (inl e) = let same : old ≡ child = cc in rw (e, same) first
+renamed_among (old ∷ children) zero level node child read each (inr (first, other)) = let same : old ≡ child = cc in absurd (other (ap (λ (c : Child). c.node.0) same))
+renamed_among (old ∷ children) zero level node child read each (inr (later i, other)) = later i
+renamed_among (old ∷ children) (suc place) level node child read each (inl e) = later (renamed_among children place level node child read each (inl e))
+renamed_among (old ∷ children) (suc place) level node child read each (inr (first, other)) = first
+renamed_among (old ∷ children) (suc place) level node child read each (inr (later i, other)) = later (renamed_among children place level node child read each (inr (i, other)))
+
 pub once_renamed : (children : List Child) (place level : ℕ) (node : NodeNo) (child : Child) → slice_get children place ≡ Some child → NamesNot node.0 (children_seen children) → NoChildTwice (children_seen children) →
     NoChildTwice (children_seen (renamed place node level children))
 once_renamed [] place level node child read new once = absurd (cc)
@@ -126,6 +146,17 @@ pub once_dropped : (count : ℕ) (children : List Child) → NoChildTwice (child
 once_dropped zero children once = once
 once_dropped (suc count) [] once = tt
 once_dropped (suc count) (child ∷ children) once = once_dropped count children once.1
+
+-- each child is among the first ones, or among those from the place on
+pub among_parted : (count : ℕ) (children : List Child) (each : PlainChild) → Among each (children_seen children) → Among each (children_seen (take count children)) ⊎ Among each (children_seen (drop count children))
+among_parted zero children each i = inr i
+among_parted (suc count) [] each i = elim i [ ]
+among_parted (suc count) (child ∷ children) each first = inl first
+among_parted (suc count) (child ∷ children) each (later i) =
+    elim (among_parted count children each i) [
+      | inl j ↦ inl (later j)
+      | inr j ↦ inr j
+    ]
 
 -- a half has some of the children of the interior that is split, from its own low on
 pub upper_children : (half split : InteriorView) → HasUpperChildren half split → StartsAt half.low half.children → NoChildTwice (children_seen split.children) →

@@ -1,22 +1,24 @@
 -- What each change of a head keeps of the tree.
-use Rattle.std.proofs.Common.{ℕ, zero, suc, ◌≡◌, ◌≢◌, ◌-◌, ◌<◌, List, [], ◌∷◌, Option, Some, None, slice_get, true, false, refl, ap, ◌∙◌, arith}
+use Rattle.std.proofs.Common.{ℕ, zero, suc, ◌≡◌, ◌≢◌, ◌-◌, ◌<◌, ◌⊎◌, inl, inr, List, [], ◌∷◌, Option, Some, None, IsSomeAnd, slice_get, true, false, refl, ap, ◌∙◌, arith}
+use Rattle.std.specs.Option.{option_map}
 use Rattle.mt_types.specs.declared.numbers.NodeNo.{NodeNo}
+use Rattle.mt_border.specs.Border.{BorderView}
 use Rattle.mt_interior.specs.Head.{HeadView, with_root, with_lock, with_deleted}
 use Rattle.mt_interior.specs.Interior.{InteriorView, IsInterior}
 use Rattle.mt_interior.specs.declared.child.Child.{Child}
-use Rattle.mt_arena.specs.Node.{interior_at, head_at}
+use Rattle.mt_arena.specs.Node.{interior_at, head_at, border_at}
 use Rattle.mt_arena.specs.Arena.{ArenaView, with_node_at}
 use Rattle.mt_arena.specs.declared.node.Node.TheVariants.{Head}
 use Rattle.mt_chart.specs.Tree.{Child as PlainChild, Among, first, later, head, Arena}
-use Rattle.mt_chart.specs.Chart.{on, gone, top, at_level, Spot, spot, Chart, OnHead, FirstLow, NoChildTwice, Changes}
+use Rattle.mt_chart.specs.Chart.{on, gone, top, at_level, Spot, spot, Chart, OnHead, IsLastBorder, FirstLow, NoChildTwice, Changes}
 use Rattle.mt_chart.specs.Steps.{Twin, Keeps, WritesHead}
 use Rattle.mt_chart.proofs.InteriorLaws.{marking_head, marking_gone_head, making_root, making_root_over_half, bypassing_root}
 use Rattle.mt_chart.proofs.RootSteps.{head_root}
-use Rattle.mt_tree.specs.Seen.{arena_seen, head_seen, interior_seen, child_seen, children_seen}
+use Rattle.mt_tree.specs.Seen.{arena_seen, head_seen, border_seen, right_seen, interior_seen, child_seen, children_seen}
 use Rattle.mt_tree.specs.Keeping.{IsIndexAt, KeepsTree, KeepsAlong}
 use Rattle.mt_tree.specs.InteriorSteps.{HasOneChild, HasUpperChildren, IsInLayer}
 use Rattle.mt_tree.specs.HeadSteps.{IsRootOver, NamesRootAt, IsRootOverHalf, NamesRootOverHalfAt, KeepsRootOverHalf, BypassesRootAt}
-use Rattle.mt_tree.proofs.SeenLemmas.{seen-head, seen-interior, written-head}
+use Rattle.mt_tree.proofs.SeenLemmas.{seen-head, seen-border, seen-interior, written-head}
 use Rattle.mt_tree.proofs.ChildLists.{upper_children, only_child}
 use Rattle.mt_tree.proofs.SpareWrites.{spare_written}
 use Rattle.mt_tree.proofs.InteriorPlaces.{IsOnAs, is_on_as}
@@ -36,8 +38,9 @@ module _ (a : ArenaView) (number : ℕ) (old new : HeadView) (is : head_at a.nod
   writes chart prefix place = record { place = place; there = there; written = written }
 
   -- whatever its standing, where it keeps its root
-  marked_keeps : new.root ≡ old.root → new.level ≡ old.level → (old.version.deleted ≡ true → new.version.deleted ≡ true) → KeepsTree a (with_node_at a number (Head new))
-  marked_keeps same_root same_level deleted = record { keeps = λ now twins chart index. go now twins chart index (chart number) refl }
+  marked_keeps : new.root ≡ old.root → new.level ≡ old.level → (old.version.deleted ≡ true → new.version.deleted ≡ true) →
+      (new.version.deleted ≡ true → (old.version.deleted ≡ true) ⊎ IsLastBorder (arena_seen a) old.root.0) → KeepsTree a (with_node_at a number (Head new))
+  marked_keeps same_root same_level deleted last = record { keeps = λ now twins chart index. go now twins chart index (chart number) refl }
     where
       go : (now : ℕ) (twins : List Twin) (chart : Chart) → IsIndexAt a now twins chart → (stands : Option Spot) → chart number ≡ stands → Keeps now twins (arena_seen a) after chart chart
       go now twins chart index None unknown = spare_written now twins (arena_seen a) after chart number (Some (head (head_seen new))) index written unknown
@@ -51,6 +54,7 @@ module _ (a : ArenaView) (number : ℕ) (old new : HeadView) (is : head_at a.nod
             writes = writes chart prefix (rw (w.low, w.posted) at place);
             root = ap (λ (n : NodeNo). n.0) same_root;
             level = same_level;
+            last = last;
           })
       go now twins chart index (Some (spot top prefix low (gone epoch))) place =
           let (node, there_too, was) = index.tree.gone_heads number prefix low epoch place in
@@ -71,10 +75,15 @@ module _ (a : ArenaView) (number : ℕ) (old new : HeadView) (is : head_at a.nod
       go now twins chart index (Some (spot (at_level (suc below)) prefix low standing)) place = absurd (let w = (index.tree.interiors number below prefix low standing place).is_node in let here = there in cc)
 
 pub unlock_keeps : (a : ArenaView) (number : ℕ) (old : HeadView) → head_at a.nodes number ≡ Some old → KeepsTree a (with_node_at a number (Head (with_lock old false)))
-unlock_keeps a number old is = marked_keeps a number old (with_lock old false) is refl refl (λ deleted. deleted)
+unlock_keeps a number old is = marked_keeps a number old (with_lock old false) is refl refl (λ deleted. deleted) (λ deleted. inl deleted)
 
-pub mark_keeps : (a : ArenaView) (number : ℕ) (old : HeadView) → head_at a.nodes number ≡ Some old → KeepsTree a (with_node_at a number (Head (with_deleted old)))
-mark_keeps a number old is = marked_keeps a number old (with_deleted old) is refl refl (λ deleted. refl)
+-- where its root is a border with nothing to its right
+pub mark_keeps : (a : ArenaView) (number : ℕ) (old : HeadView) → head_at a.nodes number ≡ Some old → IsSomeAnd (border_at a.nodes old.root.0) (λ root. root.right ≡ None) → KeepsTree a (with_node_at a number (Head (with_deleted old)))
+mark_keeps a number old is last = marked_keeps a number old (with_deleted old) is refl refl (λ deleted. refl) (λ deleted. inr (go (border_at a.nodes old.root.0) refl last))
+  where
+    go : (found : Option BorderView) → border_at a.nodes old.root.0 ≡ found → IsSomeAnd found (λ root. root.right ≡ None) → IsLastBorder (arena_seen a) old.root.0
+    go None e some = absurd some
+    go (Some root) e none = (border_seen root, seen-border a old.root.0 root e, ap (option_map right_seen) none)
 
 -- a new root is named
 module _ (a : ArenaView) (number : ℕ) (root_number : NodeNo) (old : HeadView) (node : InteriorView) (is : head_at a.nodes number ≡ Some old) (root_is : interior_at a.nodes root_number.0 ≡ Some node)
@@ -115,6 +124,7 @@ module _ (a : ArenaView) (number : ℕ) (root_number : NodeNo) (old : HeadView) 
           once = rw children (apart, (λ other i. elim i [ ], tt));
           root = refl;
           level = level;
+          deleted = refl;
           no_twin = at.no_twin;
         })
       where
@@ -178,6 +188,7 @@ module _ (a : ArenaView) (number : ℕ) (root_number : NodeNo) (old : HeadView) 
           once = rw children (apart, (λ other i. elim i [ ], tt));
           root = refl;
           level = level;
+          deleted = refl;
           kept_twins = at.kept_twins;
           new_twins = rw (posted, old_same) at at.new_twins;
           no_twin = at.no_twin;
@@ -259,6 +270,7 @@ module _ (a : ArenaView) (number : ℕ) (gone_number : NodeNo) (old : HeadView) 
         charted = rw (low, g.is_level) at at.charted;
         root = refl;
         level = refl;
+        deleted = refl;
         no_twin = at.no_twin;
         gone_no_twin = at.gone_no_twin;
       })

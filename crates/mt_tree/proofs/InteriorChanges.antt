@@ -1,5 +1,5 @@
 -- What each change of an interior keeps of the tree.
-use Rattle.std.proofs.Common.{ℕ, suc, ◌≡◌, ◌≢◌, ◌<◌, ◌≤◌, ◌⊎◌, inl, inr, List, [], ◌∷◌, length, take, Option, Some, None, IsSome, IsSomeAnd, slice_get, Bool, true, false, refl, sym, ap, ◌∙◌, subst, arith, length-take}
+use Rattle.std.proofs.Common.{ℕ, suc, ◌≡◌, ◌≢◌, ◌<◌, ◌≤◌, ◌⊎◌, inl, inr, List, [], ◌∷◌, length, take, drop, Option, Some, None, IsSome, IsSomeAnd, slice_get, Bool, true, false, refl, sym, ap, ◌∙◌, subst, arith, length-take, length-drop}
 use Rattle.std.proofs.lemmas.List.Edits.{length-remove}
 use Rattle.std.proofs.lemmas.Option.{slice_get_within}
 use Rattle.mt_types.specs.declared.numbers.NodeNo.{NodeNo}
@@ -11,14 +11,14 @@ use Rattle.mt_arena.specs.Node.{interior_at, border_at}
 use Rattle.mt_arena.specs.Arena.{ArenaView, with_node_at}
 use Rattle.mt_arena.specs.declared.node.Node.TheVariants.{Interior}
 use Rattle.mt_chart.specs.Tree.{Among, first, border, Child as PlainChild, Arena}
-use Rattle.mt_chart.specs.Chart.{Standing, on, gone, Role, at_level, spot, Chart, FirstLow, AreChildren, by_interior, IsTree, NoChildTwice}
+use Rattle.mt_chart.specs.Chart.{Standing, on, gone, Role, at_level, spot, Chart, FirstLow, AreChildren, Owns, by_interior, IsTree, NoChildTwice}
 use Rattle.mt_chart.specs.Steps.{Twin, AreTwins, Keeps, WritesInterior}
 use Rattle.mt_chart.proofs.InteriorLaws.{posting_border, posting_half, dropping_child, bypassing}
 use Rattle.mt_tree.specs.Seen.{arena_seen, border_seen, interior_seen, child_seen, children_seen}
 use Rattle.mt_tree.specs.Keeping.{IsIndexAt, KeepsTree, KeepsAlong, KeepsWhere}
-use Rattle.mt_tree.specs.InteriorSteps.{child_at, HasOneChild, HasUpperChildren, IsInLayer, IsNotGone, PostsAt, DropsAt, BypassesAt, PostsHalfAt, KeepsHalf}
+use Rattle.mt_tree.specs.InteriorSteps.{child_at, HasOneChild, HasUpperChildren, IsInLayer, IsNotGone, CutsAt, PostsAt, DropsAt, BypassesAt, PostsHalfAt, KeepsHalf}
 use Rattle.mt_tree.proofs.SeenLemmas.{seen-interior, seen-border}
-use Rattle.mt_tree.proofs.ChildLists.{NamesNot, first_low, some_child, among_inserted, once_inserted, some_inserted, among_removed, once_removed, among_read, others_removed, among_kept, among_renamed, once_renamed, among_taken, once_taken, upper_children, only_child}
+use Rattle.mt_tree.proofs.ChildLists.{NamesNot, first_low, some_child, among_inserted, inserted_among, once_inserted, some_inserted, among_removed, once_removed, among_read, others_removed, among_kept, among_renamed, renamed_among, once_renamed, among_taken, once_taken, among_parted, upper_children, only_child}
 use Rattle.mt_tree.proofs.InteriorPlaces.{StandsAs, IsOnAs, is_on_as, child_place, names_not, writes, write_keeps}
 
 -- a border that is on has the low of its place
@@ -66,12 +66,16 @@ post_border_keeps a number posted node old border_is is sound = record { keeps =
           low = at.low;
           place = at.unnamed;
           charted = at.charted;
-          children = λ each i. as_posted each at.low its_low (among_inserted old.children (children_up_to child.low old.children) child each i);
+          children = λ each. (λ i. as_posted each at.low its_low (among_inserted old.children (children_up_to child.low old.children) child each i), λ i. inserted_among old.children (children_up_to child.low old.children) child each (posted_as each at.low its_low i));
         })
       where
         as_posted : (each : PlainChild) (low : ℕ) → node.low ≡ low → (each ≡ child_seen child) ⊎ Among each (children_seen old.children) → (each ≡ record { low = low; number = posted.0; level = 0 }) ⊎ Among each (children_seen old.children)
         as_posted each low e (inl same) = inl (subst (λ (l : ℕ). each ≡ record { low = l; number = posted.0; level = 0 }) e same)
         as_posted each low e (inr i) = inr i
+
+        posted_as : (each : PlainChild) (low : ℕ) → node.low ≡ low → (each ≡ record { low = low; number = posted.0; level = 0 }) ⊎ Among each (children_seen old.children) → (each ≡ child_seen child) ⊎ Among each (children_seen old.children)
+        posted_as each low e (inl same) = inl (subst (λ (l : ℕ). each ≡ record { low = l; number = posted.0; level = 0 }) (sym e) same)
+        posted_as each low e (inr i) = inr i
 
 -- the new half of an interior is posted
 pub post_half_keeps : (a : ArenaView) (number : ℕ) (half_number : NodeNo) (half old : InteriorView) → interior_at a.nodes half_number.0 ≡ Some half → interior_at a.nodes number ≡ Some old → IsInterior half → half.level < old.level →
@@ -113,7 +117,7 @@ post_half_keeps a number half_number half old half_is is half_sound lower sound 
           new = interior_seen (with_child old child);
           writes = child_written a number old child is sound chart at.prefix at.stands w (λ level low e. let here = at.unknown in cc);
           above = omega (arith, half_level, w.node_level, lower);
-          children = λ each i. as_posted each (among_inserted old.children (children_up_to child.low old.children) child each i);
+          children = λ each. (λ i. as_posted each (among_inserted old.children (children_up_to child.low old.children) child each i), λ i. inserted_among old.children (children_up_to child.low old.children) child each (posted_as each i));
           kept_twins = at.kept_twins;
           new_twins = at.new_twins;
         })
@@ -139,6 +143,10 @@ post_half_keeps a number half_number half old half_is is half_sound lower sound 
         as_posted : (each : PlainChild) → (each ≡ child_seen child) ⊎ Among each (children_seen old.children) → (each ≡ record { low = half.low; number = half_number.0; level = suc s.below }) ⊎ Among each (children_seen old.children)
         as_posted each (inl e) = inl (e ∙ ap (λ (l : ℕ). record { low = half.low; number = half_number.0; level = l }) half_level)
         as_posted each (inr i) = inr i
+
+        posted_as : (each : PlainChild) → (each ≡ record { low = half.low; number = half_number.0; level = suc s.below }) ⊎ Among each (children_seen old.children) → (each ≡ child_seen child) ⊎ Among each (children_seen old.children)
+        posted_as each (inl e) = inl (e ∙ ap (λ (l : ℕ). record { low = half.low; number = half_number.0; level = l }) (sym half_level))
+        posted_as each (inr i) = inr i
 
 -- an interior names a child no more
 drop_at : (a : ArenaView) (number place : ℕ) (old : InteriorView) (child : Child) → interior_at a.nodes number ≡ Some old → slice_get old.children place ≡ Some child → 0 < place → place < length old.children → IsInterior (without_child old place) →
@@ -206,7 +214,7 @@ module _ (a : ArenaView) (number place gone_number : ℕ) (old gone_node : Inter
         entry = child_seen entry;
         stood = among_read old.children place entry read;
         named = named;
-        children = λ each i. as_renamed each (among_renamed old.children place child.level child.node entry read w.once each i);
+        children = λ each. (λ i. as_renamed each (among_renamed old.children place child.level child.node entry read w.once each i), λ i. renamed_among old.children place child.level child.node entry read each (renamed_as each i));
         no_twin = at.no_twin;
         gone_no_twin = at.gone_no_twin;
       })
@@ -250,6 +258,11 @@ module _ (a : ArenaView) (number place gone_number : ℕ) (old gone_node : Inter
       as_renamed each (inl e) = inl (e ∙ ap (λ (l : ℕ). child_seen (record child { low = l })) same_low)
       as_renamed each (inr (i, other)) = inr (i, λ e. other (e ∙ sym named))
 
+      renamed_as : (each : PlainChild) → (each ≡ child_seen child) ⊎ (Among each (children_seen old.children) × (each.number ≢ gone_number)) →
+          (each ≡ child_seen (record entry { node = child.node; level = child.level })) ⊎ (Among each (children_seen old.children) × (each.number ≢ entry.node.0))
+      renamed_as each (inl e) = inl (e ∙ ap (λ (l : ℕ). child_seen (record child { low = l })) (sym same_low))
+      renamed_as each (inr (i, other)) = inr (i, λ e. other (e ∙ named))
+
 pub bypass_keeps : (a : ArenaView) (number place : ℕ) (gone_number : NodeNo) (old gone_node : InteriorView) (child : Child) → interior_at a.nodes number ≡ Some old → interior_at a.nodes gone_number.0 ≡ Some gone_node →
     IsSomeAnd (slice_get old.children place) (λ entry. entry.node ≡ gone_number) → slice_get gone_node.children 0 ≡ Some child → HasOneChild gone_node → IsInterior (with_bypass old place child.node child.level) →
     KeepsAlong a (with_node_at a number (Interior (with_bypass old place child.node child.level))) (BypassesAt number gone_number.0)
@@ -265,7 +278,7 @@ marked_keeps : (a : ArenaView) (number : ℕ) (old new : InteriorView) → inter
     Keeps now twins (arena_seen a) (arena_seen (with_node_at a number (Interior new))) chart chart
 marked_keeps a number old new is same_low same_level same now twins chart index where_gone =
     write_keeps a number old new is now twins chart index same_low same_level
-    (λ prefix stands w. (rw (same_low, same, w.node_low) w.children.leftmost, rw same w.once, λ each i. rw same at i)) where_gone
+    (λ prefix stands w. (rw (same_low, same, w.node_low) w.children.leftmost, rw same w.once, λ each i. rw same at i, λ each i. inl (rw same i))) where_gone
 
 -- an interior is locked; where it is gone it is marked deleted, since it was unlocked
 pub lock_keeps : (a : ArenaView) (number : ℕ) (old : InteriorView) → interior_at a.nodes number ≡ Some old → old.version.locked ≡ false → KeepsTree a (with_node_at a number (Interior (with_lock old true)))
@@ -292,14 +305,42 @@ unlock_keeps a number old is = record {
 pub mark_keeps : (a : ArenaView) (number : ℕ) (old : InteriorView) → interior_at a.nodes number ≡ Some old → KeepsTree a (with_node_at a number (Interior (with_deleted old)))
 mark_keeps a number old is = record { keeps = λ now twins chart index. marked_keeps a number old (with_deleted old) is refl refl refl now twins chart index (λ role prefix low epoch place w. refl) }
 
--- the first children stay
-pub keep_first_keeps : (a : ArenaView) (number count : ℕ) (old : InteriorView) → interior_at a.nodes number ≡ Some old → 1 ≤ count → IsInterior (with_first old count) →
-    KeepsWhere a (with_node_at a number (Interior (with_first old count))) (λ chart. IsNotGone chart number)
-keep_first_keeps a number count old is some sound = record {
-  keeps = λ now twins chart index stays. write_keeps a number old (with_first old count) is now twins chart index refl refl
-      (λ prefix stands w. (first_low old.low (take count old.children) (omega (arith, length-take count old.children, some_child stands.low old.children w.children.leftmost)) sound.starts, once_taken count old.children w.once, λ each i. among_taken count old.children each i))
-      (λ role prefix low epoch place w. absurd (stays role prefix low epoch place));
+-- the first children stay, and the new half names the others
+pub keep_first_keeps : (a : ArenaView) (number count : ℕ) (old : InteriorView) → interior_at a.nodes number ≡ Some old → 1 ≤ count → count ≤ length old.children → IsInterior (with_first old count) →
+    KeepsWhere a (with_node_at a number (Interior (with_first old count))) (CutsAt a number count)
+keep_first_keeps a number count old is some within sound = record {
+  keeps = λ now twins chart index at. write_keeps a number old (with_first old count) is now twins chart index refl refl
+      (λ prefix stands w. (
+        first_low old.low (take count old.children) (omega (arith, length-take count old.children, some_child stands.low old.children w.children.leftmost)) sound.starts,
+        once_taken count old.children w.once,
+        λ each i. among_taken count old.children each i,
+        λ each i. others now twins chart index at each (among_parted count old.children each i),
+      ))
+      (λ role prefix low epoch place w. absurd (at.stays role prefix low epoch place));
 }
+  where
+    others : (now : ℕ) (twins : List Twin) (chart : Chart) → IsIndexAt a now twins chart → CutsAt a number count chart → (each : PlainChild) → Among each (children_seen (take count old.children)) ⊎ Among each (children_seen (drop count old.children)) →
+        Among each (children_seen (take count old.children)) ⊎ ((other : ℕ) × (other ≢ number) × Owns (arena_seen a) chart other each.number)
+    others now twins chart index at each (inl i) = inl i
+    others now twins chart index at each (inr i) = inr (
+      at.half_number,
+      apart,
+      by_interior w.below at.prefix at.half_stands.low at.half_stands.posted (interior_seen at.half) each (rw w.is_level at at.half_stands.place) (seen-interior a at.half_number at.half at.is_half) (rw (at.upper, same) i) refl,
+    )
+      where
+        w : IsOnAs chart at.half_number at.prefix at.half_stands (interior_seen at.half)
+        w = is_on_as a at.half_number at.half at.is_half now twins chart index at.prefix at.half_stands
+
+        same : at.split ≡ old
+        same = let here = at.is_split in cc
+
+        -- it has fewer children
+        apart : at.half_number ≢ number
+        apart e =
+            let here = at.is_half in
+            let both : at.half ≡ old = (let there : interior_at a.nodes at.half_number ≡ interior_at a.nodes number = ap (interior_at a.nodes) e in cc) in
+            let fewer : old.children ≡ drop count old.children = ap (λ (v : InteriorView). v.children) (sym both) ∙ (at.upper ∙ ap (λ (v : InteriorView). drop count v.children) same) in
+            omega (arith, ap (λ (v : List Child). length v) fewer, length-drop count old.children, some, within)
 
 -- One that has no child takes some: none that is on has no child, and one that is gone is marked deleted.
 pub fill_keeps : (a : ArenaView) (number : ℕ) (old : InteriorView) (children : List Child) → interior_at a.nodes number ≡ Some old → old.children ≡ [] → KeepsTree a (with_node_at a number (Interior (with_children old children)))

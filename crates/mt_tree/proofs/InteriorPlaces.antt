@@ -5,7 +5,7 @@ use Rattle.mt_arena.specs.Node.{interior_at}
 use Rattle.mt_arena.specs.Arena.{ArenaView, with_node_at}
 use Rattle.mt_arena.specs.declared.node.Node.TheVariants.{Interior}
 use Rattle.mt_chart.specs.Tree.{Child, InteriorNode, Among, interior, Arena}
-use Rattle.mt_chart.specs.Chart.{Standing, on, gone, Role, top, at_level, Spot, spot, Chart, FirstLow, AreChildren, IsTree, NoChildTwice, Changes}
+use Rattle.mt_chart.specs.Chart.{Standing, on, gone, Role, top, at_level, Spot, spot, Chart, FirstLow, AreChildren, Owns, IsTree, NoChildTwice, Changes}
 use Rattle.mt_chart.specs.Steps.{Twin, WritesInterior, Keeps}
 use Rattle.mt_chart.proofs.InteriorLaws.{keeping_children, marking_gone}
 use Rattle.mt_tree.specs.Seen.{arena_seen, interior_seen, children_seen}
@@ -104,10 +104,12 @@ module _ (a : ArenaView) (number : ℕ) (old new : InteriorView) (is : interior_
     once = once;
   }
 
-  -- Whatever its standing: where it is on, it takes some of the children that it has; and where it is gone, it is marked deleted.
+  -- Whatever its standing: where it is on, it takes some of the children that it has, and another names the rest; and where it is
+  -- gone, it is marked deleted.
   pub write_keeps : (now : ℕ) (twins : List Twin) (chart : Chart) → IsIndexAt a now twins chart → new.low ≡ old.low → new.level ≡ old.level →
       ((prefix : List ℕ) (stands : IsInLayer chart number prefix) → IsOnAs chart number prefix stands (interior_seen old) →
-      FirstLow new.low (children_seen new.children) × NoChildTwice (children_seen new.children) × ((each : Child) → Among each (children_seen new.children) → Among each (children_seen old.children))) →
+      FirstLow new.low (children_seen new.children) × NoChildTwice (children_seen new.children) × ((each : Child) → Among each (children_seen new.children) → Among each (children_seen old.children)) ×
+      ((each : Child) → Among each (children_seen old.children) → Among each (children_seen new.children) ⊎ ((other : ℕ) × (other ≢ number) × Owns (arena_seen a) chart other each.number))) →
       ((role : Role) (prefix : List ℕ) (low epoch : ℕ) → chart number ≡ Some (spot role prefix low (gone epoch)) → StandsAs chart (interior_seen old) role prefix low (gone epoch) → new.version.deleted ≡ true) →
       Keeps now twins (arena_seen a) after chart chart
   write_keeps now twins chart index same_low same_level where_on where_gone = go (chart number) refl
@@ -121,7 +123,7 @@ module _ (a : ArenaView) (number : ℕ) (old new : InteriorView) (is : interior_
       on_case : (prefix : List ℕ) → IsInLayer chart number prefix → Keeps now twins (arena_seen a) after chart chart
       on_case prefix stands =
           let w = is_on_as a number old is now twins chart index prefix stands in
-          let (leftmost, once, fewer) = where_on prefix stands w in
+          let (leftmost, once, fewer, left_out) = where_on prefix stands w in
           keeping_children now twins (arena_seen a) after chart index (record {
             number = number;
             below = w.below;
@@ -131,6 +133,7 @@ module _ (a : ArenaView) (number : ℕ) (old new : InteriorView) (is : interior_
             new = interior_seen new;
             writes = writes chart prefix stands w same_low same_level leftmost once;
             children = fewer;
+            left_out = left_out;
           })
 
       go : (stands : Option Spot) → chart number ≡ stands → Keeps now twins (arena_seen a) after chart chart

@@ -16,5 +16,6 @@ pub mod UnlinkSteps
 pub mod LayerSteps
 pub mod ChildLists
 pub mod InteriorPlaces
+pub mod RootLemmas
 pub mod InteriorChanges
 pub mod HeadChanges

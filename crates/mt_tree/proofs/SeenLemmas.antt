@@ -1,16 +1,16 @@
 -- How a change of one node of an arena is seen.
-use Rattle.std.proofs.Common.{ℕ, ◌≡◌, List, [], ◌∷◌, map, Option, Some, IsSome, refl, ap}
-use Rattle.std.specs.Option.{option_map}
+use Rattle.std.proofs.Common.{ℕ, ◌≡◌, List, [], ◌∷◌, map, Option, Some, None, IsSome, refl, ap}
+use Rattle.std.specs.Option.{option_map, option_and_then}
 use Rattle.std.specs.Prelude.{slice_set}
 use Rattle.mt_border.specs.Border.{BorderView}
 use Rattle.mt_interior.specs.Head.{HeadView}
 use Rattle.mt_interior.specs.Interior.{InteriorView}
-use Rattle.mt_arena.specs.Node.{node_at, head_at, interior_at, border_at}
+use Rattle.mt_arena.specs.Node.{node_at, head_of, head_at, interior_at, border_at}
 use Rattle.mt_arena.specs.Arena.{ArenaView, with_node_at, with_head_changed, with_interior_changed, with_border_changed, head_changed, interior_changed, border_changed}
 use Rattle.mt_arena.specs.declared.node.Node.{Node}
 use Rattle.mt_arena.specs.declared.node.Node.TheVariants.{Head, Interior, Border}
 use Rattle.mt_arena.proofs.NodeLemmas.{updates-with_node, node-from_head, node-from_interior, node-from_border}
-use Rattle.mt_chart.specs.Tree.{Among, first, later, head, border, interior}
+use Rattle.mt_chart.specs.Tree.{HeadNode, Among, first, later, head, border, interior}
 use Rattle.mt_chart.specs.Chart.{Changes}
 use Rattle.mt_tree.specs.Seen.{arena_seen, node_seen, head_seen, border_seen, interior_seen}
 
@@ -40,6 +40,16 @@ seen-interior a number i is = ap (option_map node_seen) (node-from_interior a.no
 
 pub seen-border : (a : ArenaView) (number : ℕ) (b : BorderView) → border_at a.nodes number ≡ Some b → arena_seen a number ≡ Some (border (border_seen b))
 seen-border a number b is = ap (option_map node_seen) (node-from_border a.nodes number b is)
+
+-- what is seen as a head is one
+pub head-seen : (a : ArenaView) (number : ℕ) (node : HeadNode) → arena_seen a number ≡ Some (head node) → (h : HeadView) × (head_at a.nodes number ≡ Some h) × (head_seen h ≡ node)
+head-seen a number node is = go (node_at a.nodes number) is
+  where
+    go : (found : Option Node) → option_map node_seen found ≡ Some (head node) → (h : HeadView) × (option_and_then head_of found ≡ Some h) × (head_seen h ≡ node)
+    go None e = absurd (cc)
+    go (Some (Head h)) e = (h, refl, cc)
+    go (Some (Interior i)) e = absurd (cc)
+    go (Some (Border b)) e = absurd (cc)
 
 -- one node is written, and the others stay
 pub seen-written : (a : ArenaView) (number : ℕ) (old node : Node) → node_at a.nodes number ≡ Some old → Changes (arena_seen a) (arena_seen (with_node_at a number node)) number (Some (node_seen node))

@@ -1,5 +1,5 @@
 -- The link step of a border's split keeps the tree.
-use Rattle.std.proofs.Common.{ℕ, ◌≡◌, ◌<◌, ◌⊎◌, ◌↔◌, List, take, Option, Some, None, IsSomeAnd, refl, ap, subst, ◌∙◌}
+use Rattle.std.proofs.Common.{ℕ, ◌≡◌, ◌<◌, ◌⊎◌, ◌↔◌, List, take, Option, Some, None, IsSomeAnd, refl, sym, ap, subst, ◌∙◌}
 use Rattle.std.specs.Option.{option_map}
 use Rattle.mt_types.specs.declared.numbers.NodeNo.{NodeNo}
 use Rattle.mt_border.specs.Border.{BorderView, with_split}
@@ -9,7 +9,7 @@ use Rattle.mt_border.specs.declared.entry.RightLink.{RightLink}
 use Rattle.mt_arena.specs.Node.{border_at}
 use Rattle.mt_arena.specs.Arena.{ArenaView, with_node_at}
 use Rattle.mt_arena.specs.declared.node.Node.TheVariants.{Border}
-use Rattle.mt_chart.specs.Tree.{Among, Below, no_right, before_right}
+use Rattle.mt_chart.specs.Tree.{HeadNode, Among, Below, no_right, before_right}
 use Rattle.mt_chart.specs.Tree.{Entry as PlainEntry}
 use Rattle.mt_chart.specs.Chart.{Chart}
 use Rattle.mt_chart.specs.Steps.{Twin, IsIndex, Keeps}
@@ -17,7 +17,7 @@ use Rattle.mt_chart.proofs.BorderLaws.{linking}
 use Rattle.mt_tree.specs.Seen.{arena_seen, border_seen, entry_seen, entries_seen, right_seen}
 use Rattle.mt_tree.specs.Keeping.{KeepsAlong}
 use Rattle.mt_tree.specs.BorderSteps.{IsUpperHalf, ChartsHalf, LinksHalfAt}
-use Rattle.mt_tree.proofs.SeenLemmas.{among_unmap, seen-border}
+use Rattle.mt_tree.proofs.SeenLemmas.{among_unmap, seen-border, head-seen}
 use Rattle.mt_tree.proofs.BorderEntries.{asked, all_among, seen_from_low, seen_parts}
 use Rattle.mt_tree.proofs.BorderMarks.{stands_seen, writes_seen}
 
@@ -38,10 +38,10 @@ module _ (a : ArenaView) (number : ℕ) (half : NodeNo) (keep : ℕ) (b upper : 
   lower e i = let s = among_unmap entry_seen e (take keep b.live) i in
       subst (λ (v : PlainEntry). v.slice < upper.low) s.is (all_among (λ (y : Entry). y.slice < upper.low) (take keep b.live) of.above_kept.each s.source s.stands)
 
-  pub half_keeps : KeepsAlong a (with_node_at a number (Border new)) (λ now twins chart next. ChartsHalf number half.0 upper.low chart next)
+  pub half_keeps : KeepsAlong a (with_node_at a number (Border new)) (λ now twins chart next. ChartsHalf a number half.0 upper.low chart next)
   half_keeps = record { keeps = keeps }
     where
-      keeps : (now : ℕ) (twins : List Twin) (chart next : Chart) → IsIndex now twins (arena_seen a) chart → ChartsHalf number half.0 upper.low chart next → Keeps now twins (arena_seen a) (arena_seen (with_node_at a number (Border new))) chart next
+      keeps : (now : ℕ) (twins : List Twin) (chart next : Chart) → IsIndex now twins (arena_seen a) chart → ChartsHalf a number half.0 upper.low chart next → Keeps now twins (arena_seen a) (arena_seen (with_node_at a number (Border new))) chart next
       keeps now twins chart next index step = linking now twins (arena_seen a) (arena_seen (with_node_at a number (Border new))) chart next index (record {
         number = number;
         prefix = step.prefix;
@@ -61,6 +61,8 @@ module _ (a : ArenaView) (number : ℕ) (half : NodeNo) (keep : ℕ) (b upper : 
         lower = lower;
         upper = seen_from_low upper upper_sound;
         half_empty = λ deleted. ap entries_seen (upper_sound.deleted_empty deleted);
+        head_alive = λ head_number node on_head there names. (let (h, is_head, same) = head-seen a head_number node there in
+            ap (λ (n : HeadNode). n.deleted) (sym same) ∙ step.head_alive head_number h on_head is_head (ap (λ (n : HeadNode). n.root) same ∙ names));
       })
 
 -- the border that `half` names is the upper half; it is the same one whoever reads it

@@ -12,7 +12,7 @@ use Rattle.mt_border.specs.declared.slot_table.Slot.{Slot}
 use Rattle.mt_interior.specs.Head.{HeadView}
 use Rattle.mt_arena.specs.Node.{Nodes, head_at, border_at}
 use Rattle.mt_arena.specs.Arena.{ArenaView}
-use Rattle.mt_chart.specs.Chart.{on, gone, top, at_level, spot, Chart, Changes}
+use Rattle.mt_chart.specs.Chart.{on, gone, top, at_level, spot, Chart, OnHead, Changes}
 use Rattle.mt_chart.specs.Steps.{Twin, AreTwins}
 use Rattle.mt_tree.specs.Seen.{entry_place}
 use Rattle.mt_tree.specs.Keeping.{IsOnIn, KeepsAlong, AddsRow, RemovesRow, ReplacesRow}
@@ -53,17 +53,18 @@ pub record IsUpperHalf (b half : BorderView) (keep : ℕ) : Type 0 where
   pub above_kept : AreBelow half.low (take keep b.live)
   pub unspent : b.version.vsplit < 2 ^ 64 - 1
 
--- the chart then: the border is on, in some layer; the half, of this low, was unknown, and is on in that layer from then on, but no head or
--- interior may name it
-pub record ChartsHalf (number half low : ℕ) (chart next : Chart) : Type 0 where
+-- the chart then: the border is on, in some layer, whose head is not marked deleted where it names the border; the half, of this low, was unknown,
+-- and is on in that layer from then on, but no head or interior may name it
+pub record ChartsHalf (a : ArenaView) (number half low : ℕ) (chart next : Chart) : Type 0 where
   pub prefix : List ℕ
   pub stands : IsOnIn chart number prefix
   pub unknown : chart half ≡ None
   pub charted : Changes chart next half (Some (spot (at_level 0) prefix low (on false)))
+  pub head_alive : (head_number : ℕ) (head : HeadView) → OnHead chart head_number prefix → head_at a.nodes head_number ≡ Some head → head.root.0 ≡ number → head.version.deleted ≡ false
 
 -- the half is linked: the tree is an index at that next chart, with the same rows
 pub record LinksHalfAt (a after : ArenaView) (number half : ℕ) : Type 0 where
-  pub links : (upper : BorderView) → border_at a.nodes half ≡ Some upper → KeepsAlong a after (λ now twins chart next. ChartsHalf number half upper.low chart next)
+  pub links : (upper : BorderView) → border_at a.nodes half ≡ Some upper → KeepsAlong a after (λ now twins chart next. ChartsHalf a number half upper.low chart next)
 
 -- A LAYER IS MADE. The entry at the place of a border is of a longer key, with this suffix and row; the head names, at level 0, a border that is not
 -- marked deleted, from low 0 on and with nothing to its right, and that has the same row alone, at the place of the suffix.

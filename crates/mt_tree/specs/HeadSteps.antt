@@ -1,14 +1,14 @@
 -- What a caller must know of a head before it changes it, and at which charts the change keeps the tree.
-use Rattle.std.specs.Prelude.{ℕ, ◌≡◌, ◌⊎◌, List, [], ◌∷◌, Some, None, true, false}
+use Rattle.std.specs.Prelude.{ℕ, ◌≡◌, ◌<◌, ◌≤◌, ◌⊎◌, List, [], ◌∷◌, Some, None, true, false}
 use Rattle.mt_interior.specs.Head.{HeadView}
 use Rattle.mt_interior.specs.Interior.{InteriorView, StartsAt}
 use Rattle.mt_interior.specs.declared.child.Child.{Child}
 use Rattle.mt_arena.specs.Node.{Nodes, head_at, interior_at}
-use Rattle.mt_arena.specs.Arena.{ArenaView}
+use Rattle.mt_arena.specs.Arena.{ArenaView, IsArena}
 use Rattle.mt_chart.specs.Chart.{on, gone, at_level, spot, Chart, OnHead, Changes}
 use Rattle.mt_chart.specs.Steps.{Twin, AreTwins, NoTwin, Keeps}
 use Rattle.mt_tree.specs.Seen.{arena_seen}
-use Rattle.mt_tree.specs.Keeping.{IsIndexAt}
+use Rattle.mt_tree.specs.Keeping.{IsIndexAt, IsOnIn}
 use Rattle.mt_tree.specs.InteriorSteps.{child_at, HasUpperChildren, IsInLayer}
 
 -- the interior has two children, from the slice 0 on: the head's root, and a border
@@ -87,3 +87,15 @@ pub record BypassesRootAt (number gone_number : ℕ) (now : ℕ) (twins : List T
   pub charted : Changes chart next gone_number (Some (spot (at_level stood.level) prefix stood.low (gone now)))
   pub no_twin : NoTwin twins number
   pub gone_no_twin : NoTwin twins gone_number
+
+-- WHAT A POSTING MAY TAKE FOR GRANTED at a head: where it is to post the new half of an interior, which is on in the head's layer, and
+-- the head's root is not above that interior, the root is that interior.
+abbrev pub RootOfASplitIsIt : Type 0
+RootOfASplitIsIt = (a : ArenaView) (now : ℕ) (twins : List Twin) (chart : Chart) (number split_number : ℕ) (prefix : List ℕ) (head : HeadView) (split : InteriorView) → IsArena a → IsIndexAt a now twins chart →
+    OnHead chart number prefix → head_at a.nodes number ≡ Some head → interior_at a.nodes split_number ≡ Some split → IsInLayer chart split_number prefix → head.level ≤ split.level → head.root.0 ≡ split_number
+
+-- And the head of the layer, which is on, is not marked deleted: where a border is to be posted, that border is on in the layer, has a low
+-- above 0, and may not be named yet.
+abbrev pub HeadOfAPostingIsAlive : Type 0
+HeadOfAPostingIsAlive = (a : ArenaView) (now : ℕ) (twins : List Twin) (chart : Chart) (number posted_number : ℕ) (prefix : List ℕ) (head : HeadView) → IsIndexAt a now twins chart → OnHead chart number prefix →
+    head_at a.nodes number ≡ Some head → (stands : IsOnIn chart posted_number prefix) → (0 < stands.low) ⊎ (stands.posted ≡ false) → head.version.deleted ≡ false

@@ -43,6 +43,18 @@ pub record IsInLayer (chart : Chart) (number : ℕ) (prefix : List ℕ) : Type 0
 abbrev pub IsNotGone : Chart → ℕ → Type 0
 IsNotGone chart number = (role : Role) (prefix : List ℕ) (low epoch : ℕ) → chart number ≢ Some (spot role prefix low (gone epoch))
 
+-- An interior may be cut to its first so many children: it is not gone, and its new half, which is on in a layer, has the others.
+pub record CutsAt (a : ArenaView) (number count : ℕ) (chart : Chart) : Type 0 where
+  pub stays : IsNotGone chart number
+  pub split : InteriorView
+  pub half_number : ℕ
+  pub half : InteriorView
+  pub is_split : interior_at a.nodes number ≡ Some split
+  pub is_half : interior_at a.nodes half_number ≡ Some half
+  pub upper : half.children ≡ drop count split.children
+  pub prefix : List ℕ
+  pub half_stands : IsInLayer chart half_number prefix
+
 -- A border comes to be named: the interior that is to name it is on in the same layer, where no head or interior names
 -- the border so far.
 pub record PostsAt (number posted : ℕ) (now : ℕ) (twins : List Twin) (chart next : Chart) : Type 0 where

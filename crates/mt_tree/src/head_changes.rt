@@ -1,8 +1,8 @@
 //! What a call changes in the head of a layer, and what each change keeps.
 
-ghost use Rattle.std.specs.Prelude.{◌≡◌, IsSome, IsSomeAnd, true, false};
+ghost use Rattle.std.specs.Prelude.{◌≡◌, None, IsSomeAnd, true, false};
 ghost use Rattle.mt_interior.specs.Head.{with_root, with_lock, with_deleted};
-ghost use Rattle.mt_arena.specs.Node.{head_at, interior_at};
+ghost use Rattle.mt_arena.specs.Node.{head_at, interior_at, border_at};
 ghost use Rattle.mt_arena.specs.Arena.{with_head_changed};
 ghost use Rattle.mt_tree.specs.Keeping.{KeepsTree, KeepsAlong};
 ghost use Rattle.mt_tree.specs.InteriorSteps.{child_at, HasOneChild};
@@ -21,9 +21,9 @@ impl Tree {
         self.arena.head_mut(number).unlock();
     }
 
-    /// Marks a head as deleted. Constant cost.
+    /// Marks a head as deleted, whose root is a border with nothing to its right. Constant cost.
     pub fn mark_head_deleted(&mut self, number: NodeNo)
-        requires { IsSome (head_at self.old.nodes number.0) }
+        requires { IsSomeAnd (head_at self.old.nodes number.0) (λ head. IsSomeAnd (border_at self.old.nodes head.root.0) (λ root. root.right ≡ None)) }
         ensures value { self.new ≡ with_head_changed self.old number.0 with_deleted }
         ensures keeps { KeepsTree self.old self.new }
     {

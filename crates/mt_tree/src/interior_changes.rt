@@ -5,7 +5,7 @@ ghost use Rattle.mt_interior.specs.Interior.{with_lock, with_deleted, with_child
 ghost use Rattle.mt_arena.specs.Node.{interior_at, border_at};
 ghost use Rattle.mt_arena.specs.Arena.{with_interior_changed};
 ghost use Rattle.mt_tree.specs.Keeping.{KeepsTree, KeepsWhere, KeepsAlong};
-ghost use Rattle.mt_tree.specs.InteriorSteps.{child_at, HasRoomFrom, HasOneChild, IsNotGone, PostsAt, DropsAt, BypassesAt, KeepsHalf};
+ghost use Rattle.mt_tree.specs.InteriorSteps.{child_at, HasRoomFrom, HasOneChild, IsNotGone, CutsAt, PostsAt, DropsAt, BypassesAt, KeepsHalf};
 
 use crate::tree::Tree;
 use mt_interior::Child;
@@ -113,7 +113,7 @@ impl Tree {
         requires some { 1 ≤ count }
         requires within { IsSomeAnd (interior_at self.old.nodes number.0) (λ interior. count ≤ length interior.children) }
         ensures value { self.new ≡ with_interior_changed self.old number.0 (λ interior. with_first interior count) }
-        ensures keeps { KeepsWhere self.old self.new (λ chart. IsNotGone chart number.0) }
+        ensures keeps { KeepsWhere self.old self.new (CutsAt self.old number.0 count) }
     {
         self.arena.interior_mut(number).keep_first(count);
     }

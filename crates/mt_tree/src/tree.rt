@@ -3,6 +3,7 @@
 ghost use Rattle.std.specs.Prelude.{◌≡◌, ◌+◌, ℕ, List, Some, IsSome, IfOk, []};
 ghost use Rattle.mt_types.specs.declared.row.Row.{Row};
 ghost use Rattle.mt_arena.specs.Node.{node_at, head_at, interior_at, border_at, occupied};
+ghost use Rattle.mt_arena.specs.Arena.{IsArena};
 ghost use Rattle.mt_chart.specs.NewIndex.{new_chart};
 ghost use Rattle.mt_tree.specs.Seen.{HasRow};
 ghost use Rattle.mt_tree.specs.Keeping.{IsIndexAt};
@@ -67,6 +68,7 @@ impl Tree {
     pub fn node(&self, number: NodeNo) -> &Node
         requires { IsSome (node_at self.now.nodes number.0) }
         ensures value { node_at self.now.nodes number.0 ≡ Some result.now }
+        ensures sound { IsArena self.now }
     {
         self.arena.get(number)
     }
@@ -75,6 +77,7 @@ impl Tree {
     pub fn head(&self, number: NodeNo) -> &Head
         requires { IsSome (head_at self.now.nodes number.0) }
         ensures value { head_at self.now.nodes number.0 ≡ Some result.now }
+        ensures sound { IsArena self.now }
     {
         match self.node(number) {
             Node::Head(head) => head,
