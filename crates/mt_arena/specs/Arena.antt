@@ -6,6 +6,7 @@ use Rattle.mt_border.specs.Border.{BorderView}
 use Rattle.mt_interior.specs.Head.{HeadView}
 use Rattle.mt_interior.specs.Interior.{InteriorView}
 use Rattle.mt_types.specs.declared.numbers.NodeNo.{NodeNo}
+use Rattle.mt_types.specs.declared.limits.TheConstants.{MAX_NODES}
 use Rattle.mt_arena.specs.Node.{Nodes, node_at, occupied, with_node, AreBelow}
 use Rattle.mt_arena.specs.declared.node.Node.{Node}
 use Rattle.mt_arena.specs.declared.node.Node.TheVariants.{Head, Interior, Border}
@@ -79,8 +80,8 @@ pub record AreRetired (nodes : Nodes) (retired : List Retired) : Type 0 where
 
 -- what holds of every arena
 pub record IsArena (a : ArenaView) : Type 0 where
-  pub below : AreBelow 1048576 a.nodes
-  pub within : occupied a.nodes ≤ 1048576
+  pub below : AreBelow MAX_NODES a.nodes
+  pub within : occupied a.nodes ≤ MAX_NODES
   pub retired : AreRetired a.nodes a.retired
 
 -- what holds of every arena's fields: there is room for each node in the list of retired ones

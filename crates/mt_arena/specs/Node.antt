@@ -2,8 +2,9 @@
 use Rattle.std.specs.Prelude.{◌≡◌, ◌≢◌, ℕ, ◌≤◌, List, Option, Some, None, slice_index_or, slice_set, count_by, is_some}
 use Rattle.std.specs.Option.{option_and_then}
 use Rattle.mt_border.specs.Border.{BorderView}
-use Rattle.mt_interior.specs.Head.{HeadView}
-use Rattle.mt_interior.specs.Interior.{InteriorView}
+use Rattle.mt_border.specs.Order.{IsBorder}
+use Rattle.mt_interior.specs.Head.{HeadView, IsHead}
+use Rattle.mt_interior.specs.Interior.{InteriorView, IsInterior}
 use Rattle.mt_arena.specs.declared.node.Node.{Node}
 use Rattle.mt_arena.specs.declared.node.Node.TheVariants.{Head, Interior, Border}
 
@@ -40,6 +41,12 @@ interior_at nodes number = option_and_then interior_of (node_at nodes number)
 
 abbrev pub border_at : Nodes → ℕ → Option BorderView
 border_at nodes number = option_and_then border_of (node_at nodes number)
+
+-- what holds of every node
+abbrev pub IsNode : Node → Type 0
+IsNode (Head head) = IsHead head
+IsNode (Interior interior) = IsInterior interior
+IsNode (Border border) = IsBorder border
 
 -- how many numbers name a node
 abbrev pub occupied : Nodes → ℕ

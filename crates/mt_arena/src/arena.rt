@@ -2,7 +2,11 @@
 
 ghost use Rattle.std.specs.Prelude.{◌≡◌, ◌≢◌, ◌+◌, ◌<◌, ◌≤◌, ◌↔◌, ◌⊎◌, length, [], slice_get, All, Some, None, Err, IsSome, IfOk, IfErr, OnOk, OnErr};
 ghost use Rattle.std.specs.Borrow.{sem};
+ghost use Rattle.mt_types.specs.declared.limits.TheConstants.{MAX_NODES};
 ghost use Rattle.mt_arena.specs.Node.{node_at, head_at, interior_at, border_at, occupied, Updates};
+ghost use Rattle.mt_border.specs.Order.{IsBorder};
+ghost use Rattle.mt_interior.specs.Head.{IsHead};
+ghost use Rattle.mt_interior.specs.Interior.{IsInterior};
 ghost use Rattle.mt_arena.specs.Arena.{without_node, with_retired, without_first_retired, IsArena};
 
 use crate::node::Node;
@@ -69,7 +73,7 @@ impl Arena {
 
     /// How many numbers name no node. Constant cost.
     pub fn free_numbers(&self) -> usize
-        ensures value { result + occupied self.now.nodes ≡ 1048576 }
+        ensures value { result + occupied self.now.nodes ≡ MAX_NODES }
         ensures sound { IsArena self.now }
     {
         MAX_NODES as usize - self.nodes.len()
@@ -84,11 +88,42 @@ impl Arena {
         &self.nodes[number.0 as usize]
     }
 
+    /// The head under a number. Constant cost.
+    pub fn head(&self, number: NodeNo) -> &Head
+        requires { IsSome (head_at self.now.nodes number.0) }
+        ensures value { head_at self.now.nodes number.0 ≡ Some result.now }
+        ensures sound { IsHead result.now }
+        ensures arena { IsArena self.now }
+    {
+        self.get(number).as_head()
+    }
+
+    /// The interior node under a number. Constant cost.
+    pub fn interior(&self, number: NodeNo) -> &Interior
+        requires { IsSome (interior_at self.now.nodes number.0) }
+        ensures value { interior_at self.now.nodes number.0 ≡ Some result.now }
+        ensures sound { IsInterior result.now }
+        ensures arena { IsArena self.now }
+    {
+        self.get(number).as_interior()
+    }
+
+    /// The border under a number. Constant cost.
+    pub fn border(&self, number: NodeNo) -> &Border
+        requires { IsSome (border_at self.now.nodes number.0) }
+        ensures value { border_at self.now.nodes number.0 ≡ Some result.now }
+        ensures sound { IsBorder result.now }
+        ensures arena { IsArena self.now }
+    {
+        self.get(number).as_border()
+    }
+
     /// The head under a number, to be changed. Constant cost.
     pub fn head_mut(&mut self, number: NodeNo) -> &mut Head
         requires { IsSome (head_at self.old.nodes number.0) }
         ensures* writes_back { sem 𝓛 (lends_head_at self.entry number.0 result) }
         ensures value { head_at self.old.nodes number.0 ≡ Some result.now }
+        ensures sound { IsHead result.now }
     {
         self.nodes[number.0 as usize].head_mut()
     }
@@ -98,6 +133,7 @@ impl Arena {
         requires { IsSome (interior_at self.old.nodes number.0) }
         ensures* writes_back { sem 𝓛 (lends_interior_at self.entry number.0 result) }
         ensures value { interior_at self.old.nodes number.0 ≡ Some result.now }
+        ensures sound { IsInterior result.now }
     {
         self.nodes[number.0 as usize].interior_mut()
     }
@@ -107,6 +143,7 @@ impl Arena {
         requires { IsSome (border_at self.old.nodes number.0) }
         ensures* writes_back { sem 𝓛 (lends_border_at self.entry number.0 result) }
         ensures value { border_at self.old.nodes number.0 ≡ Some result.now }
+        ensures sound { IsBorder result.now }
     {
         self.nodes[number.0 as usize].border_mut()
     }
@@ -119,12 +156,12 @@ impl Arena {
     /// `ArenaFull` where each number names a node, `NoMemory` where an allocation is refused. Nothing is then changed.
     pub fn spare(&mut self, node: Node) -> Result<NodeNo, Refusal>
         ensures vacant { IfOk result (λ number. node_at self.old.nodes number.0 ≡ None) }
-        ensures below { IfOk result (λ number. number.0 < 1048576) }
+        ensures below { IfOk result (λ number. number.0 < MAX_NODES) }
         ensures updates { IfOk result (λ number. Updates self.old.nodes self.new.nodes number.0 (Some node)) }
         ensures occupied { OnOk result (occupied self.new.nodes ≡ occupied self.old.nodes + 1) }
         ensures retired { self.new.retired ≡ self.old.retired }
 
-        ensures full { (result ≡ Err Refusal.ArenaFull) ↔ (occupied self.old.nodes ≡ 1048576) }
+        ensures full { (result ≡ Err Refusal.ArenaFull) ↔ (occupied self.old.nodes ≡ MAX_NODES) }
         ensures only { IfErr result (λ refusal. (refusal ≡ Refusal.ArenaFull) ⊎ (refusal ≡ Refusal.NoMemory)) }
         ensures err { OnErr result (self.new ≡ self.old) }
         ensures sound { IsArena self.new }

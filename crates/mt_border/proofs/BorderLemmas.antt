@@ -143,7 +143,8 @@ nothing_deleted xs i h e = omega (arith, ap (λ (t : List _). length t) e)
 -- The border after each call.
 pub border_changed : (b : BorderView) (i : ℕ) (f : Entry → Entry) → i < length b.live → ((e : Entry) → (f e).slice ≡ e.slice) → ((e : Entry) → IsEntry e → IsEntry (f e)) → map entry_rank (changed_at i f b.live) ≡ map entry_rank b.live → IsBorder b → IsBorder (record b { live = changed_at i f b.live })
 border_changed b i f within slices whole ranks h = record {
-  fifteen = rw (length-changed_at i f b.live) h.fifteen;
+  slots = rw (length-changed_at i f b.live) h.slots;
+  low_fits = h.low_fits;
   ordered = ordered_by_ranks _ b.live ranks h.ordered;
   entries = record { each = All-changed_at IsEntry f whole i b.live h.entries.each };
   held_back = h.held_back;
@@ -177,7 +178,8 @@ length-first (x ∷ xs) (suc i) h = length-first xs i (omega arith)
 
 pub border_hidden : (b : BorderView) (i : ℕ) → i < length b.live → IsBorder b → IsBorder (with_hidden b i)
 border_hidden b i within h = record {
-  fifteen = omega (arith, h.fifteen, length-remove b.live i within, length-append (left_slots (take 1 (drop i b.live))) b.unused, length-map (take 1 (drop i b.live)) left_slot, length-first b.live i within);
+  slots = omega (arith, h.slots, length-remove b.live i within, length-append (left_slots (take 1 (drop i b.live))) b.unused, length-map (take 1 (drop i b.live)) left_slot, length-first b.live i within);
+  low_fits = h.low_fits;
   ordered = ordered_remove b.live i within h.ordered;
   entries = record { each = All-remove IsEntry i b.live h.entries.each };
   held_back = hold_left (take 1 (drop i b.live)) b.unused (record { each = All-take IsEntry 1 (drop i b.live) (All-drop IsEntry i b.live h.entries.each) }) h.held_back;
@@ -211,7 +213,8 @@ length-first_changed f (x ∷ xs) = refl
 
 pub border_filled : (b : BorderView) (entry : Entry) → IsEntry entry → IsVersion (filled_version (first_held b.unused) b.version) → IsBorder b → IsBorder (with_filled b entry)
 border_filled b entry g counters h = record {
-  fifteen = rw (length-first_changed (λ (slot : Slot). record slot { entry = entry }) b.unused) h.fifteen;
+  slots = rw (length-first_changed (λ (slot : Slot). record slot { entry = entry }) b.unused) h.slots;
+  low_fits = h.low_fits;
   ordered = h.ordered;
   entries = h.entries;
   held_back = hold_filled entry b.unused g h.held_back;
@@ -228,7 +231,8 @@ take_none (suc k) xs e = ap (λ (t : List Entry). take (suc k) t) e
 
 pub border_split : (b : BorderView) (keep : ℕ) (right : RightLink) → keep ≤ length b.live → b.low < right.low → AreBelow right.low (take keep b.live) → b.version.vsplit < 2 ^ 64 - 1 → IsBorder b → IsBorder (with_split b keep right)
 border_split b keep right within above below unspent h = record {
-  fifteen = omega (arith, h.fifteen, length-take-le keep b.live within, length-drop keep b.live, length-append (left_slots (drop keep b.live)) b.unused, length-map (drop keep b.live) left_slot);
+  slots = omega (arith, h.slots, length-take-le keep b.live within, length-drop keep b.live, length-append (left_slots (drop keep b.live)) b.unused, length-map (drop keep b.live) left_slot);
+  low_fits = h.low_fits;
   ordered = ordered_take b.live keep within h.ordered;
   entries = record { each = All-take IsEntry keep b.live h.entries.each };
   held_back = hold_left (drop keep b.live) b.unused (record { each = All-drop IsEntry keep b.live h.entries.each }) h.held_back;

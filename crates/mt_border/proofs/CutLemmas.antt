@@ -72,7 +72,7 @@ one_slice live none (suc i) h =
     elim (cases_eq (slice_index (slices live) i) (slice_index (slices live) (suc i))) [
       | inl same ↦ sym same ∙ one_slice live none i (omega arith)
       | inr apart ↦ (let back : suc i - 1 ≡ i = omega arith in
-          absurd (none (suc i) (record { first = omega arith; last = h; apart = rw back apart })))
+          absurd (none (suc i) (record { first = omega arith; last = omega (arith, h); apart = rw back apart })))
     ]
 
 -- fifteen entries stand at two slices at least, for a slice has ten classes

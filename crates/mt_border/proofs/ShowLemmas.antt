@@ -160,7 +160,8 @@ border_shown b slot rest i version e here between low right h =
     let long : length (take i b.live ++ (x ∷ drop i b.live)) ≡ length b.live + 1 = length-insert b.live i x between.within in
     let unused : length b.unused ≡ suc (length rest) = ap (λ (u : List Slot). length u) e in
     subst IsBorder (sym shown) (record {
-      fifteen = omega (arith, h.fifteen, long, unused);
+      slots = omega (arith, h.slots, long, unused);
+      low_fits = h.low_fits;
       ordered = record { pairs = inserted_pairs b.live i x between.within h.ordered (λ k d l. rw rank (between.below k d l)) (λ k d u w. rw rank (between.above k d u w)) };
       entries = record { each = All-inserted IsEntry i b.live x whole h.entries.each };
       held_back = record { each = λ k d within. held.each (suc k) d (omega arith) };
@@ -176,7 +177,7 @@ pub filled_shown : (b : BorderView) (entry : Entry) (suffix : List ℕ) (i versi
 filled_shown b entry suffix i version room here absent low right h filled = go b.unused refl
   where
     go : (unused : List Slot) → b.unused ≡ unused → IsBorder (with_shown (with_filled b entry) i version)
-    go [] e = absurd (let none : length b.unused ≡ 0 = ap (λ (u : List Slot). length u) e in omega (arith, h.fifteen, none))
+    go [] e = absurd (let none : length b.unused ≡ 0 = ap (λ (u : List Slot). length u) e in omega (arith, h.slots, none))
     go (slot ∷ rest) e =
         border_shown (with_filled b entry) (record slot { entry = entry }) rest i version (ap (λ (u : List Slot). first_changed (λ (s : Slot). record s { entry = entry }) u) e) (filled_deleted (first_held b.unused) b.version ∙ here) (between_from_absent entry.slice (entry_class entry) suffix b.live i h.ordered absent) low right filled
 
@@ -184,7 +185,7 @@ pub filled_row : (b : BorderView) (entry : Entry) → length b.live < 15 → IsS
 filled_row b entry room row h = go b.unused refl
   where
     go : (unused : List Slot) → b.unused ≡ unused → IsSome (next_row (first_changed (λ slot. record slot { entry = entry }) b.unused))
-    go [] e = absurd (let none : length b.unused ≡ 0 = ap (λ (u : List Slot). length u) e in omega (arith, h.fifteen, none))
+    go [] e = absurd (let none : length b.unused ≡ 0 = ap (λ (u : List Slot). length u) e in omega (arith, h.slots, none))
     go (slot ∷ rest) e = rw e row
 
 pub row_of_row : (class : Class) (suffix : List ℕ) (row : Row) → IsSome (content_row (content_of class suffix row))

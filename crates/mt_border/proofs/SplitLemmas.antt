@@ -1,5 +1,5 @@
 -- For callers that cut a full border in two: the upper entries are a border, and the lower ones stand below it.
-use Rattle.std.proofs.Common.{◌≡◌, ◌≢◌, ℕ, ◌+◌, ◌-◌, ◌<◌, ◌≤◌, List, length, take, drop, replicate, get_or, refl, sym, ◌∙◌, arith, inl, inr, subst, slice_get, slice_index, Bool, Option, Some, None}
+use Rattle.std.proofs.Common.{◌≡◌, ◌≢◌, ℕ, ◌+◌, ◌-◌, ◌^◌, ◌<◌, ◌≤◌, List, length, take, drop, replicate, get_or, refl, sym, ◌∙◌, arith, inl, inr, subst, slice_get, slice_index, Bool, Option, Some, None}
 use Rattle.std.proofs.lemmas.Bool.{cases_eq}
 use Rattle.std.proofs.lemmas.Option.{get_or_from_slice_get}
 use Rattle.std.proofs.lemmas.List.{get_or-map, get_or-take, get_or-drop, length-take-le, length-drop, length-replicate}
@@ -83,7 +83,8 @@ cut_upper b i first locked h full cut there =
     let inside : i < length b.live = omega (arith, full, cut.last) in
     let blanks : List Slot = replicate 15 blank_slot in
     record {
-      fifteen = omega (arith, full, inside, length-drop i b.live, length-drop (length (drop i b.live)) blanks, length-replicate 15 blank_slot);
+      slots = omega (arith, full, inside, length-drop i b.live, length-drop (length (drop i b.live)) blanks, length-replicate 15 blank_slot);
+      low_fits = subst (λ (e : Entry). e.slice < 2 ^ 64) (get_or_from_slice_get b.live i first first there) (h.entries.each i first inside).slice_fits;
       ordered = ordered_drop b.live i h.ordered;
       entries = record { each = All-drop IsEntry i b.live h.entries.each };
       held_back = record { each = All-drop (λ (s : Slot). IsEntry s.entry) (length (drop i b.live)) blanks (All-replicate (λ (s : Slot). IsEntry s.entry) 15 blank_slot blank_is_entry) };

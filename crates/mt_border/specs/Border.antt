@@ -5,6 +5,7 @@ use Rattle.std.specs.List.{remove}
 use Rattle.mt_types.specs.declared.row.Row.{Row}
 use Rattle.mt_types.specs.declared.numbers.NodeNo.{NodeNo}
 use Rattle.mt_word.specs.Version.{VersionView}
+use Rattle.mt_word.specs.declared.permutation_word.TheConstants.{SLOTS}
 use Rattle.mt_border.specs.Entry.{entry_row, entry_suffix, at_version, with_row, with_link}
 use Rattle.mt_border.specs.Table.{TableView, blank_slot, first_changed, changed_at}
 use Rattle.mt_border.specs.declared.entry.Entry.{Entry}
@@ -56,7 +57,7 @@ new_border layer low locked = record {
   right = None;
   version = new_version locked;
   live = [];
-  unused = replicate 15 blank_slot;
+  unused = replicate SLOTS blank_slot;
 }
 
 -- the slot of an entry that was live

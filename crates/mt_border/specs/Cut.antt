@@ -1,5 +1,6 @@
 -- Where a full border may be cut in two.
-use Rattle.std.specs.Prelude.{◌≡◌, ◌≢◌, ℕ, ◌+◌, ◌-◌, ◌≤◌, List, map, slice_index}
+use Rattle.std.specs.Prelude.{◌≡◌, ◌≢◌, ℕ, ◌+◌, ◌-◌, ◌<◌, ◌≤◌, List, map, slice_index}
+use Rattle.mt_word.specs.declared.permutation_word.TheConstants.{SLOTS}
 use Rattle.mt_border.specs.declared.entry.Entry.{Entry}
 
 -- the slices of these entries
@@ -9,7 +10,7 @@ slices live = map (λ entry. entry.slice) live
 -- Before place i, from 1 to 14, fifteen entries may be cut in two: the slices on both sides differ.
 pub record IsCut (live : List Entry) (i : ℕ) : Type 0 where
   pub first : 1 ≤ i
-  pub last : i ≤ 14
+  pub last : i < SLOTS
   pub apart : slice_index (slices live) (i - 1) ≢ slice_index (slices live) i
 
 -- how far two numbers are apart

@@ -2,7 +2,7 @@
 use Rattle.std.specs.Prelude.{ℕ, ◌≤◌, ◌<◌, ◌+◌, ◌*◌, ◌^◌, List, length, drop, Option, Some, None}
 use Rattle.mt_types.specs.declared.row.Row.{Row}
 use Rattle.mt_types.specs.declared.numbers.NodeNo.{NodeNo}
-use Rattle.mt_slice.specs.Place.{slice_number}
+use Rattle.mt_slice.specs.Place.{AreBytes, slice_number}
 use Rattle.mt_slice.specs.Classes.{class_number, class_of}
 use Rattle.mt_slice.specs.declared.slice_class.Class.{Class}
 use Rattle.mt_slice.specs.declared.slice_class.Class.TheVariants.{Len, Long as LongClass}
@@ -26,10 +26,10 @@ rank_at slice class = slice * 10 + class_number class
 abbrev pub entry_rank : Entry → ℕ
 entry_rank entry = rank_at entry.slice (entry_class entry)
 
--- a length is at most 8, and a suffix is not empty
+-- a length is at most 8, and a suffix is of bytes and not empty
 abbrev pub IsContent : Content → Type 0
 IsContent (Short bytes row) = bytes ≤ 8
-IsContent (Long suffix row) = 0 < length suffix
+IsContent (Long suffix row) = (0 < length suffix) × AreBytes suffix
 IsContent (Link head) = Unit {0}
 
 -- a slice is of 64 bits

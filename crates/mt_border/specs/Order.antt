@@ -1,7 +1,8 @@
 -- The invariant of a border.
-use Rattle.std.specs.Prelude.{◌≡◌, ℕ, ◌+◌, ◌<◌, ◌≤◌, List, [], ◌∷◌, length, true, Option, Some, None}
+use Rattle.std.specs.Prelude.{◌≡◌, ℕ, ◌+◌, ◌^◌, ◌<◌, ◌≤◌, List, [], ◌∷◌, length, true, Option, Some, None}
 use Rattle.std.specs.List.{All, AllPairs}
 use Rattle.mt_word.specs.Version.{IsVersion}
+use Rattle.mt_word.specs.declared.permutation_word.TheConstants.{SLOTS}
 use Rattle.mt_border.specs.Entry.{entry_rank, IsEntry}
 use Rattle.mt_border.specs.Border.{BorderView}
 use Rattle.mt_border.specs.Table.{TableView}
@@ -34,7 +35,8 @@ IsLeftOf low live (Some link) = (low < link.low) × AreBelow link.low live
 
 -- what holds of every border
 pub record IsBorder (b : BorderView) : Type 0 where
-  pub fifteen : length b.live + length b.unused ≡ 15
+  pub slots : length b.live + length b.unused ≡ SLOTS
+  pub low_fits : b.low < 2 ^ 64
   pub ordered : IsOrdered b.live
   pub entries : AreEntries b.live
   pub held_back : HoldEntries b.unused

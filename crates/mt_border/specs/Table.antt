@@ -1,6 +1,7 @@
 -- What a contract sees of a `SlotTable`.
 use Rattle.std.specs.Prelude.{◌≡◌, ℕ, List, ◌++◌, length, map, take, drop, slice_index_or, false, [], ◌∷◌, Option, None}
 use Rattle.mt_word.specs.Slots.{Slots, IsArranged}
+use Rattle.mt_word.specs.declared.permutation_word.TheConstants.{SLOTS}
 use Rattle.mt_types.specs.declared.row.Row.{Row}
 use Rattle.mt_border.specs.Entry.{entry_row}
 use Rattle.mt_border.specs.declared.entry.Content.TheVariants.{Link}
@@ -28,7 +29,7 @@ table_view slots s = record { live = picked slots s.live; unused = picked slots 
 
 -- there are fifteen slots, and each stands at one place
 pub record IsTable (slots : List Slot) (s : Slots) : Type 0 where
-  pub fifteen : length slots ≡ 15
+  pub fifteen : length slots ≡ SLOTS
   pub arranged : IsArranged s
 
 -- the elements, of which the first is changed

@@ -3,6 +3,7 @@
 ghost use Rattle.std.specs.Prelude.{◌≡◌, ℕ, ◌+◌, ◌-◌, ◌*◌, ◌^◌, ◌==◌, nat_lt, ◌<◌, ◌≤◌, ◌↔◌, ◌∷◌, ◌++◌, length, take, drop, slice_get, Some, None, IsSome, IsErr, IsTrue, OnOk, OnErr, IfOk, IfErr, true, false, []};
 ghost use Rattle.std.specs.List.{list_any, prefix_len};
 ghost use Rattle.std.specs.Bool.{IsFalse};
+ghost use Rattle.mt_word.specs.declared.permutation_word.TheConstants.{SLOTS};
 ghost use Rattle.mt_word.specs.Version.{IsVersion};
 ghost use Rattle.mt_border.specs.Entry.{IsEntry, entry_rank};
 ghost use Rattle.mt_border.specs.Border.{new_border, with_filled, with_shown, with_hidden, with_value, with_link_at, with_entries, with_split, with_right, with_lock, with_deleted, right_for, row_at, suffix_at, fill_is_spent, filled_version, next_row};
@@ -168,7 +169,7 @@ impl Border {
     #[inline]
     pub fn len(&self) -> usize
         ensures value { result ≡ length self.now.live }
-        ensures within { result ≤ 15 }
+        ensures within { result ≤ SLOTS }
         ensures sound { IsBorder self.now }
     {
         self.table.len()
@@ -176,8 +177,8 @@ impl Border {
 
     /// Whether no slot is unused. Constant cost.
     pub fn is_full(&self) -> bool
-        ensures full { IsTrue result ↔ (length self.now.live ≡ 15) }
-        ensures room { IsFalse result ↔ (length self.now.live < 15) }
+        ensures full { IsTrue result ↔ (length self.now.live ≡ SLOTS) }
+        ensures room { IsFalse result ↔ (length self.now.live < SLOTS) }
         ensures sound { IsBorder self.now }
     {
         self.len() == SLOTS
@@ -300,7 +301,7 @@ impl Border {
     ///
     /// `Spent` where that counter would rise and is at its greatest value, 2^56 - 1. Nothing is then changed.
     pub fn fill_slot(&mut self, entry: Entry) -> Result<(), Refusal>
-        requires { length self.old.live < 15 }
+        requires { length self.old.live < SLOTS }
         ensures filled { OnOk result (self.new ≡ with_filled self.old entry) }
         ensures unchanged { OnErr result (self.new ≡ self.old) }
         ensures spent { IsErr result ↔ IsTrue (fill_is_spent self.old) }
@@ -317,7 +318,7 @@ impl Border {
     /// Makes what the first unused slot holds live at this place, its row made by the commit of this number. It is
     /// visible by the permutation alone. Constant cost.
     pub fn show(&mut self, place: usize, version: u64)
-        requires room { length self.old.live < 15 }
+        requires room { length self.old.live < SLOTS }
         requires within { place ≤ length self.old.live }
         requires row { IsSome (next_row self.old.unused) }
         requires sound { IsBorder (with_shown self.old place version) }
@@ -418,7 +419,7 @@ impl Border {
 
     // Whether the entries of a full border may be cut in two before this place.
     fn is_cut(&self, place: usize) -> bool
-        requires full { length self.now.live ≡ 15 }
+        requires full { length self.now.live ≡ SLOTS }
         requires first { 1 ≤ place }
         ensures { IsTrue result ↔ IsCut self.now.live place }
     {
@@ -430,7 +431,7 @@ impl Border {
     ///
     /// Looks at each entry at most twice, and takes no memory.
     pub fn cut_place(&self) -> usize
-        requires { length self.now.live ≡ 15 }
+        requires { length self.now.live ≡ SLOTS }
         ensures { IsBestCut self.now.live result }
     {
         let is_full = self.is_full();

@@ -1,9 +1,10 @@
 //! The entries of a layer: what stands at a slice and class.
 
 ghost use Rattle.std.specs.Prelude.{◌≡◌, ◌≤◌, ◌<◌, IfOk, IsOk, length, drop};
-ghost use Rattle.mt_slice.specs.Place.{place_of};
+ghost use Rattle.mt_slice.specs.Place.{AreBytes, place_of};
 ghost use Rattle.mt_slice.specs.Classes.{place_at};
-ghost use Rattle.mt_border.specs.Entry.{entry_class, entry_of_row, IsEntry};
+ghost use Rattle.std.specs.Option.{option_copied};
+ghost use Rattle.mt_border.specs.Entry.{entry_class, entry_of_row, entry_row, IsEntry};
 
 use bytes::Bytes;
 use mt_slice::{Class, Length, SLICE_BYTES, slice_of};
@@ -14,7 +15,7 @@ use mt_types::row::Row;
 use std::alloc::Global;
 use std::marker::Model;
 
-/// What follows a key's slice, where the key is longer than that: not empty.
+/// What follows a key's slice, where the key is longer than that: bytes, one at least.
 #[derive(Debug, Drop)]
 pub struct Suffix {
     bytes: Bytes,
@@ -22,20 +23,32 @@ pub struct Suffix {
 
 impl Model for Suffix {
     ghost use Rattle.std.specs.Prelude.{ℕ, List, length, ◌<◌};
+    ghost use Rattle.mt_slice.specs.Place.{AreBytes};
 
     ghost Value = { List ℕ };
 
     ghost view = { λ s. s.bytes };
 
-    ghost invariant = { λ s. 0 < length s.bytes };
+    ghost invariant = { λ s. (0 < length s.bytes) × AreBytes s.bytes };
+}
+
+// The bytes, each of which is below 256.
+fn each_byte(bytes: &Bytes) -> &[u8]
+    ensures value { result.now ≡ bytes.now }
+    ensures bytes { AreBytes bytes.now }
+{
+    let read = bytes.as_slice();
+    read
 }
 
 impl Suffix {
     /// The suffix of these bytes, of which there is one at least. Constant cost.
     pub fn new(bytes: Bytes) -> Suffix
         requires { 0 < length bytes }
-        ensures { result ≡ bytes }
+        ensures value { result ≡ bytes }
+        ensures bytes { AreBytes result }
     {
+        let _read = each_byte(&bytes);
         Suffix { bytes }
     }
 
@@ -43,6 +56,7 @@ impl Suffix {
     pub fn as_slice(&self) -> &[u8]
         ensures value { result.now ≡ self.now }
         ensures some { 0 < length self.now }
+        ensures bytes { AreBytes self.now }
     {
         self.bytes.as_slice()
     }
@@ -51,6 +65,7 @@ impl Suffix {
     pub fn into_bytes(self) -> Bytes
         ensures value { result ≡ self }
         ensures some { 0 < length self }
+        ensures bytes { AreBytes self }
     {
         let Suffix { bytes } = self;
         bytes
@@ -104,6 +119,17 @@ impl Entry {
             Class::Long => Content::Long(Suffix::new(rest.slice(SLICE_BYTES..)?), row),
         };
         Ok(Entry { slice, content })
+    }
+
+    /// The row, where the entry has one: a link has none. Constant cost.
+    pub fn row(&self) -> Option<&Row>
+        ensures { option_copied result ≡ entry_row self.now }
+    {
+        match &self.content {
+            Content::Short(_, row) => Some(row),
+            Content::Long(_, row) => Some(row),
+            Content::Link(_) => None,
+        }
     }
 
     /// The class at which the entry stands. Constant cost.

@@ -3,6 +3,7 @@
 ghost use Rattle.std.specs.Prelude.{◌≡◌, ℕ, ◌+◌, ◌<◌, ◌≤◌, ◌++◌, length, take, drop, map, replicate, slice_get, slice_set, slice_index_or, Some, IsSome, true, []};
 ghost use Rattle.std.specs.List.{remove};
 ghost use Rattle.arrayvec.specs.ArrayVec.{array_vec_len};
+ghost use Rattle.mt_word.specs.declared.permutation_word.TheConstants.{SLOTS};
 ghost use Rattle.mt_border.specs.Entry.{at_version, with_row, with_link, entry_row};
 ghost use Rattle.mt_border.specs.Border.{left_slots};
 ghost use Rattle.mt_border.specs.Table.{blank_slot, changed_at, first_changed, row_of_first};
@@ -33,7 +34,7 @@ impl MadeWith<Global> for Slot {
 /// Fifteen slots, of which some are live.
 #[derive(Drop)]
 pub struct SlotTable {
-    slots: ArrayVec<Slot, 15, Global>,
+    slots: ArrayVec<Slot, SLOTS, Global>,
     permutation: Permutation,
 }
 
@@ -62,14 +63,14 @@ impl Slot {
     }
 }
 
-fn put_entry(slots: &mut ArrayVec<Slot, 15, Global>, slot: usize, entry: Entry)
+fn put_entry(slots: &mut ArrayVec<Slot, SLOTS, Global>, slot: usize, entry: Entry)
     requires { slot < array_vec_len slots.old }
     ensures { slots.new.items ≡ slice_set slots.old.items slot (record (slice_index_or slots.old.items slot blank_slot) { entry = entry }) }
 {
     slots.as_mut_slice()[slot].entry = entry;
 }
 
-fn put_held(slots: &mut ArrayVec<Slot, 15, Global>, slot: usize)
+fn put_held(slots: &mut ArrayVec<Slot, SLOTS, Global>, slot: usize)
     requires { slot < array_vec_len slots.old }
     ensures { slots.new.items ≡ slice_set slots.old.items slot (record (slice_index_or slots.old.items slot blank_slot) { held_key = true }) }
 {
@@ -86,7 +87,7 @@ fn set_version(entry: &mut Entry, version: u64)
     }
 }
 
-fn put_version(slots: &mut ArrayVec<Slot, 15, Global>, slot: usize, version: u64)
+fn put_version(slots: &mut ArrayVec<Slot, SLOTS, Global>, slot: usize, version: u64)
     requires { slot < array_vec_len slots.old }
     ensures { let old = slice_index_or slots.old.items slot blank_slot in slots.new.items ≡ slice_set slots.old.items slot (record old { entry = at_version version old.entry }) }
 {
@@ -105,7 +106,7 @@ fn replace_row(entry: &mut Entry, row: Row) -> Row
     }
 }
 
-fn put_row(slots: &mut ArrayVec<Slot, 15, Global>, slot: usize, row: Row) -> Row
+fn put_row(slots: &mut ArrayVec<Slot, SLOTS, Global>, slot: usize, row: Row) -> Row
     requires within { slot < array_vec_len slots.old }
     requires row { IsSome (entry_row (slice_index_or slots.old.items slot blank_slot).entry) }
     ensures value { let old = slice_index_or slots.old.items slot blank_slot in slots.new.items ≡ slice_set slots.old.items slot (record old { entry = with_row row old.entry }) }
@@ -114,7 +115,7 @@ fn put_row(slots: &mut ArrayVec<Slot, 15, Global>, slot: usize, row: Row) -> Row
     replace_row(&mut slots.as_mut_slice()[slot].entry, row)
 }
 
-fn put_link(slots: &mut ArrayVec<Slot, 15, Global>, slot: usize, head: NodeNo)
+fn put_link(slots: &mut ArrayVec<Slot, SLOTS, Global>, slot: usize, head: NodeNo)
     requires { slot < array_vec_len slots.old }
     ensures { let old = slice_index_or slots.old.items slot blank_slot in slots.new.items ≡ slice_set slots.old.items slot (record old { entry = with_link head old.entry }) }
 {
@@ -122,8 +123,8 @@ fn put_link(slots: &mut ArrayVec<Slot, 15, Global>, slot: usize, head: NodeNo)
 }
 
 // Fifteen slots that hold nothing yet.
-fn blank_slots(alloc: Global) -> ArrayVec<Slot, 15, Global>
-    ensures { result.items ≡ replicate 15 blank_slot }
+fn blank_slots(alloc: Global) -> ArrayVec<Slot, SLOTS, Global>
+    ensures { result.items ≡ replicate SLOTS blank_slot }
 {
     let mut slots = ArrayVec::new_in(alloc);
     for _ in 0..SLOTS {
@@ -135,7 +136,7 @@ fn blank_slots(alloc: Global) -> ArrayVec<Slot, 15, Global>
 impl SlotTable {
     /// Fifteen slots that hold nothing yet. It allocates nothing.
     pub fn new(alloc: Global) -> Self
-        ensures { result ≡ record { live = []; unused = replicate 15 blank_slot } }
+        ensures { result ≡ record { live = []; unused = replicate SLOTS blank_slot } }
     {
         SlotTable {
             slots: blank_slots(alloc),
@@ -153,7 +154,7 @@ impl SlotTable {
     #[inline]
     pub fn len(&self) -> usize
         ensures value { result ≡ length self.now.live }
-        ensures fits { length self.now.live + length self.now.unused ≡ 15 }
+        ensures fits { length self.now.live + length self.now.unused ≡ SLOTS }
     {
         self.permutation.len()
     }
@@ -169,7 +170,7 @@ impl SlotTable {
 
     /// The first unused slot.
     pub fn first_unused(&self) -> &Slot
-        requires { length self.now.live < 15 }
+        requires { length self.now.live < SLOTS }
         ensures { slice_get self.now.unused 0 ≡ Some result.now }
     {
         &self.slots.as_slice()[self.permutation.first_unused()]
@@ -177,7 +178,7 @@ impl SlotTable {
 
     /// Writes the entry of the first unused slot.
     pub fn fill(&mut self, entry: Entry)
-        requires { length self.old.live < 15 }
+        requires { length self.old.live < SLOTS }
         ensures { self.new ≡ record self.old { unused = first_changed (λ slot. record slot { entry = entry }) self.old.unused } }
     {
         let slot = self.permutation.first_unused();
@@ -186,7 +187,7 @@ impl SlotTable {
 
     /// Writes the version of the row in the first unused slot.
     pub fn stamp(&mut self, version: u64)
-        requires { length self.old.live < 15 }
+        requires { length self.old.live < SLOTS }
         ensures { self.new ≡ record self.old { unused = first_changed (λ slot. record slot { entry = at_version version slot.entry }) self.old.unused } }
     {
         let slot = self.permutation.first_unused();
@@ -195,7 +196,7 @@ impl SlotTable {
 
     /// Marks the first unused slot as one that held a key.
     pub fn mark(&mut self)
-        requires { length self.old.live < 15 }
+        requires { length self.old.live < SLOTS }
         ensures { self.new ≡ record self.old { unused = first_changed (λ slot. record slot { held_key = true }) self.old.unused } }
     {
         let slot = self.permutation.first_unused();
@@ -204,7 +205,7 @@ impl SlotTable {
 
     /// Makes the first unused slot live at this place.
     pub fn insert_at(&mut self, place: usize)
-        requires room { length self.old.live < 15 }
+        requires room { length self.old.live < SLOTS }
         requires within { place ≤ length self.old.live }
         ensures { self.new ≡ record {
           live = take place self.old.live ++ (take 1 self.old.unused ++ drop place self.old.live);
@@ -258,7 +259,7 @@ impl SlotTable {
 
     /// Makes these entries live, after those that are.
     pub fn extend(&mut self, entries: Vec<Entry>)
-        requires { length self.old.live + length entries.items ≤ 15 }
+        requires { length self.old.live + length entries.items ≤ SLOTS }
         ensures { self.new ≡ record {
           live = self.old.live ++ left_slots entries.items;
           unused = drop (length entries.items) self.old.unused;

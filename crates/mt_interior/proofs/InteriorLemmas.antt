@@ -1,5 +1,5 @@
 -- What holds of every interior node holds after each change.
-use Rattle.std.proofs.Common.{◌≡◌, ℕ, zero, suc, ◌<◌, ◌≤◌, List, [], ◌∷◌, length, drop, get_or, Some, slice_get, refl, ap, arith, lit<, lit≤, length-drop}
+use Rattle.std.proofs.Common.{◌≡◌, ℕ, zero, suc, ◌^◌, ◌<◌, ◌≤◌, List, [], ◌∷◌, length, drop, get_or, Some, slice_get, refl, ap, arith, lit<, lit≤, length-drop}
 use Rattle.std.proofs.lemmas.List.Elements.{All-cons, All-nil, All-drop}
 use Rattle.std.proofs.lemmas.List.Sorted.{IsNonDecreasingBy-drop}
 use Rattle.std.proofs.lemmas.List.Edits.{length-insert, length-remove}
@@ -17,7 +17,8 @@ interior-inserted i child some room lower from_low h =
     record {
       least = h.least;
       most = h.most;
-      sixteen = omega (arith, long);
+      low_fits = h.low_fits;
+      few = omega (arith, long);
       starts = starts-inserted i.low (children_up_to child.low i.children) i.children child some (some_up_to i.low child.low i.children h.starts some from_low) h.starts;
       rising = rising-inserted i.children child h.rising;
       lower = record { each = All-inserted (λ c. c.level < i.level) i.children (children_up_to child.low i.children) child lower h.lower.each };
@@ -28,11 +29,12 @@ interior-inserted i child some room lower from_low h =
 pub interior-removed : (i : InteriorView) (place : ℕ) → 0 < place → place < length i.children → IsInterior i → IsInterior (without_child i place)
 interior-removed i place later within h =
     let short = length-remove i.children place within in
-    let all = h.sixteen in
+    let all = h.few in
     record {
       least = h.least;
       most = h.most;
-      sixteen = omega (arith, short, all);
+      low_fits = h.low_fits;
+      few = omega (arith, short, all);
       starts = starts-removed i.low place i.children later h.starts;
       rising = rising-removed i.children place within h.rising;
       lower = record { each = All-removed (λ c. c.level < i.level) i.children place h.lower.each };
@@ -43,11 +45,12 @@ interior-removed i place later within h =
 pub interior-renamed : (i : InteriorView) (place level : ℕ) (node : NodeNo) → level < i.level → IsInterior i → IsInterior (with_bypass i place node level)
 interior-renamed i place level node lower h =
     let same = length-renamed place level node i.children in
-    let all = h.sixteen in
+    let all = h.few in
     record {
       least = h.least;
       most = h.most;
-      sixteen = omega (arith, same, all);
+      low_fits = h.low_fits;
+      few = omega (arith, same, all);
       starts = starts-renamed i.low place level node i.children h.starts;
       rising = rising-renamed place level node i.children h.rising;
       lower = record { each = lower-renamed place level i.level node i.children lower h.lower.each };
@@ -60,7 +63,8 @@ pub interior-root : (level : ℕ) (first second : Child) → 1 ≤ level → lev
 interior-root level first second least most at_0 lower lower_too = record {
   least = least;
   most = most;
-  sixteen = lit≤ tt;
+  low_fits = lit< tt;
+  few = lit≤ tt;
   starts = at_0;
   rising = record { lows = λ i j d before within. rising i j d before within };
   lower = record { each = All-cons (λ c. c.level < level) first (second ∷ []) lower (All-cons (λ c. c.level < level) second [] lower_too (All-nil (λ c. c.level < level))) };
@@ -81,14 +85,15 @@ starts-from zero child (first ∷ children) read = let same : first ≡ child = 
 starts-from (suc place) child (first ∷ children) read = starts-from place child children read
 
 -- For callers of `fill`: the children of a node from a place on, in a new node of the same level and of the low there.
-pub interior-upper : (i : InteriorView) (place : ℕ) (child : Child) → slice_get i.children place ≡ Some child → IsInterior i → IsInterior (with_children (new_interior i.level child.low) (drop place i.children))
-interior-upper i place child read h =
+pub interior-upper : (i : InteriorView) (place : ℕ) (child : Child) → slice_get i.children place ≡ Some child → child.low < 2 ^ 64 → IsInterior i → IsInterior (with_children (new_interior i.level child.low) (drop place i.children))
+interior-upper i place child read fits h =
     let short : length (drop place i.children) ≤ length i.children = omega (arith, length-drop place i.children) in
-    let all = h.sixteen in
+    let all = h.few in
     record {
       least = h.least;
       most = h.most;
-      sixteen = omega (arith, short, all);
+      low_fits = fits;
+      few = omega (arith, short, all);
       starts = starts-from place child i.children read;
       rising = record { lows = IsNonDecreasingBy-drop (λ (c : Child). c.low) place i.children h.rising.lows };
       lower = record { each = All-drop (λ c. c.level < i.level) place i.children h.lower.each };

@@ -1,5 +1,6 @@
 -- What a contract sees of a `Head`, and what each call makes of it.
 use Rattle.std.specs.Prelude.{◌≡◌, ℕ, ◌≤◌, Bool, true, false}
+use Rattle.mt_types.specs.declared.limits.TheConstants.{MAX_LEVEL}
 use Rattle.mt_types.specs.declared.numbers.NodeNo.{NodeNo}
 use Rattle.mt_word.specs.Version.{VersionView, IsVersion}
 
@@ -41,6 +42,6 @@ with_deleted h = record h { version = record h.version { deleted = true } }
 
 -- what holds of every head
 pub record IsHead (h : HeadView) : Type 0 where
-  pub most : h.level ≤ 15
+  pub most : h.level ≤ MAX_LEVEL
   pub inner : h.version.border ≡ false
   pub counters : IsVersion h.version

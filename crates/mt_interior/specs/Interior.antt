@@ -1,11 +1,13 @@
 -- What a contract sees of an `Interior`, and what each call makes of it.
-use Rattle.std.specs.Prelude.{◌≡◌, ℕ, zero, suc, ◌≤◌, ◌<◌, nat_le, Bool, true, false, List, [], ◌∷◌, length, take, insert, remove, All}
+use Rattle.std.specs.Prelude.{◌≡◌, ℕ, zero, suc, ◌^◌, ◌≤◌, ◌<◌, nat_le, Bool, true, false, List, [], ◌∷◌, length, take, insert, remove, All}
 use Rattle.std.specs.List.{prefix_len}
 use Rattle.std.specs.List.Sorted.{IsNonDecreasingBy}
+use Rattle.mt_types.specs.declared.limits.TheConstants.{MAX_LEVEL}
 use Rattle.mt_types.specs.declared.numbers.NodeNo.{NodeNo}
 use Rattle.mt_word.specs.Version.{VersionView, IsVersion}
 use Rattle.mt_interior.specs.Head.{new_inner_version}
 use Rattle.mt_interior.specs.declared.child.Child.{Child}
+use Rattle.mt_interior.specs.declared.interior.TheConstants.{MAX_CHILDREN}
 
 -- what an unused place holds
 abbrev pub blank_child : Child
@@ -78,8 +80,9 @@ pub record AreLower (level : ℕ) (children : List Child) : Type 0 where
 -- what holds of every interior node
 pub record IsInterior (i : InteriorView) : Type 0 where
   pub least : 1 ≤ i.level
-  pub most : i.level ≤ 15
-  pub sixteen : length i.children ≤ 16
+  pub most : i.level ≤ MAX_LEVEL
+  pub low_fits : i.low < 2 ^ 64
+  pub few : length i.children ≤ MAX_CHILDREN
   pub starts : StartsAt i.low i.children
   pub rising : IsRising i.children
   pub lower : AreLower i.level i.children

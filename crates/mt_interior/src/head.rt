@@ -1,6 +1,7 @@
 //! The head of a layer.
 
 ghost use Rattle.std.specs.Prelude.{◌≡◌, ◌≤◌, true, false};
+ghost use Rattle.mt_types.specs.declared.limits.TheConstants.{MAX_LEVEL};
 ghost use Rattle.mt_interior.specs.Head.{new_head, with_root, with_lock, with_deleted, IsHead};
 
 use mt_types::numbers::NodeNo;
@@ -30,7 +31,7 @@ impl Model for Head {
 impl Head {
     /// An unlocked head with this root, which has this level. It allocates nothing.
     pub fn new(root: NodeNo, level: u8) -> Head
-        requires { level ≤ 15 }
+        requires { level ≤ MAX_LEVEL }
         ensures value { result ≡ new_head root level false }
         ensures sound { IsHead result }
     {
@@ -43,7 +44,7 @@ impl Head {
 
     /// A head as `new` makes it, but locked. It allocates nothing.
     pub fn new_locked(root: NodeNo, level: u8) -> Head
-        requires { level ≤ 15 }
+        requires { level ≤ MAX_LEVEL }
         ensures value { result ≡ new_head root level true }
         ensures sound { IsHead result }
     {
@@ -90,7 +91,7 @@ impl Head {
 
     /// Names another root, which has this level. Constant cost.
     pub fn set_root(&mut self, root: NodeNo, level: u8)
-        requires { level ≤ 15 }
+        requires { level ≤ MAX_LEVEL }
         ensures value { self.new ≡ with_root self.old root level }
         ensures sound { IsHead self.new }
     {

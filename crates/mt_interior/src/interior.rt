@@ -3,6 +3,7 @@
 ghost use Rattle.std.specs.Prelude.{◌≡◌, ◌==◌, ◌+◌, ◌<◌, ◌≤◌, ◌↔◌, length, drop, slice_get, slice_set, slice_index_or, position, [], Some, IsSomeAnd, IsTrue, IfOk, IfSome, true, false};
 ghost use Rattle.std.specs.Bool.{IsFalse};
 ghost use Rattle.arrayvec.specs.ArrayVec.{array_vec_len};
+ghost use Rattle.mt_types.specs.declared.limits.TheConstants.{MAX_LEVEL};
 ghost use Rattle.mt_interior.specs.Interior.{new_interior, children_up_to, with_children, with_child, without_child, with_bypass, with_first, blank_child, with_lock, with_deleted, IsInterior};
 
 use crate::child::Child;
@@ -57,7 +58,7 @@ impl Interior {
     /// A locked interior node of this level and low with no child yet. It allocates nothing.
     pub fn new_locked(level: u8, low: u64) -> Interior
         requires least { 1 ≤ level }
-        requires most { level ≤ 15 }
+        requires most { level ≤ MAX_LEVEL }
         ensures value { result ≡ new_interior level low }
         ensures sound { IsInterior result }
     {
@@ -91,7 +92,7 @@ impl Interior {
     #[inline]
     pub fn len(&self) -> usize
         ensures value { result ≡ length self.now.children }
-        ensures within { result ≤ 16 }
+        ensures within { result ≤ MAX_CHILDREN }
         ensures sound { IsInterior self.now }
     {
         self.children.len()
@@ -99,8 +100,8 @@ impl Interior {
 
     /// Whether the node has as many children as it may. Constant cost.
     pub fn is_full(&self) -> bool
-        ensures full { IsTrue result ↔ (length self.now.children ≡ 16) }
-        ensures room { IsFalse result ↔ (length self.now.children < 16) }
+        ensures full { IsTrue result ↔ (length self.now.children ≡ MAX_CHILDREN) }
+        ensures room { IsFalse result ↔ (length self.now.children < MAX_CHILDREN) }
         ensures sound { IsInterior self.now }
     {
         self.len() == MAX_CHILDREN
@@ -206,7 +207,7 @@ impl Interior {
     /// it.
     pub fn insert(&mut self, child: Child)
         requires some { 0 < length self.old.children }
-        requires room { length self.old.children < 16 }
+        requires room { length self.old.children < MAX_CHILDREN }
         requires lower { child.level < self.old.level }
         requires from_low { self.old.low ≤ child.low }
         ensures value { self.new ≡ with_child self.old child }
