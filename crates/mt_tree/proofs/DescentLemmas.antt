@@ -1,6 +1,6 @@
 -- Where a visit leads, and what a search tells of the tree.
 use Rattle.std.proofs.Common.{ℕ, zero, suc, ◌≡◌, ◌+◌, ◌-◌, ◌*◌, ◌<◌, ◌≤◌, inl, inr, Bool, true, false, nat_eq, nat_le, if◌then◌else◌, List, [], ◌∷◌, length, drop, slice_get, get_or, Option, Some, None, refl, sym, ap, subst, ◌∙◌, cond, arith}
-use Rattle.std.specs.Option.{option_map}
+use Rattle.std.specs.Option.{option_map, option_and_then}
 use Rattle.std.specs.Cmp.Lexicographic.{pointwise}
 use Rattle.std.proofs.lemmas.Bool.{cases_Bool}
 use Rattle.std.proofs.lemmas.Option.{slice_get-get_or}
@@ -23,20 +23,23 @@ use Rattle.mt_border.specs.declared.entry.Entry.{Entry}
 use Rattle.mt_border.specs.declared.entry.RightLink.{RightLink}
 use Rattle.mt_border.specs.declared.found.Found.{Found}
 use Rattle.mt_border.specs.declared.found.Found.TheVariants.{Absent, Row as RowFound, OtherSuffix, Link as LinkFound}
-use Rattle.mt_interior.specs.Head.{HeadView}
+use Rattle.mt_interior.specs.Head.{HeadView, IsHead}
 use Rattle.mt_interior.specs.Interior.{InteriorView, IsInterior, StartsAt, children_up_to, blank_child}
 use Rattle.mt_interior.specs.declared.child.Child.{Child}
-use Rattle.mt_arena.specs.Node.{head_at, interior_at, border_at}
+use Rattle.mt_arena.specs.Node.{node_at, head_of, interior_of, border_of, head_at, interior_at, border_at, IsNode}
+use Rattle.mt_arena.specs.declared.node.Node.{Node}
+use Rattle.mt_arena.specs.declared.node.Node.TheVariants.{Head as HeadNode, Interior as InteriorNode, Border as BorderNode}
 use Rattle.mt_arena.specs.Arena.{ArenaView}
 use Rattle.mt_chart.specs.Tree.{Among, first, later, Below, no_right, before_right, link}
+use Rattle.mt_chart.specs.Walk.{to_root, to_child as move_to_child, to_right as move_to_right, to_link}
 use Rattle.mt_chart.specs.Tree.{Entry as PlainEntry}
 use Rattle.mt_chart.specs.Chart.{Chart, Holds, OnBorder}
 use Rattle.mt_chart.specs.Steps.{Twin}
 use Rattle.mt_chart.proofs.TreeLemmas.{roots_held, children_held, borders_on, rights_held, links_held}
 use Rattle.mt_tree.specs.Seen.{arena_seen, border_seen, head_seen, interior_seen, child_seen, entry_seen, entries_seen, right_seen}
 use Rattle.mt_tree.specs.Keeping.{IsIndexAt}
-use Rattle.mt_tree.specs.Descent.{visit_head, visit_interior, visit_border, to_child, visit_found, to_right, found_for, Knows, LeadsOn, IsHere}
-use Rattle.mt_tree.specs.declared.visit.Visit.TheVariants.{Again, To}
+use Rattle.mt_tree.specs.Descent.{visit_head, visit_interior, visit_border, node_visit, to_child, visit_found, to_right, found_for, Knows, LeadsOn, IsHere, IsLast, TellsVisit, MayVisit, MayVisitNode}
+use Rattle.mt_tree.specs.declared.visit.Visit.TheVariants.{Again, To, Here}
 use Rattle.mt_tree.proofs.SeenLemmas.{among_map, seen-head, seen-interior, seen-border}
 use Rattle.mt_tree.proofs.FoundLemmas.{found_one, all_among}
 
@@ -210,3 +213,73 @@ leads_interior a number rest i named sound may = record {
         Knows a chart begun number prefix rest (if deleted then Again else to_child (slice_get i.children (children_up_to (slice_number rest) i.children - 1)))
     go chart begun prefix true is held = tt
     go chart begun prefix false is held = let (some, low) = may is in let up = last_up_to i (slice_number rest) sound some low in to_up chart begun prefix up (held is up)
+
+-- what each visit was
+pub tells_head : (a : ArenaView) (number : ℕ) (rest : List ℕ) (h : HeadView) → head_at a.nodes number ≡ Some h → IsHead h → TellsVisit a number rest (visit_head h)
+tells_head a number rest h named sound = go h.version.deleted refl
+  where
+    go : (deleted : Bool) → h.version.deleted ≡ deleted → TellsVisit a number rest (if deleted then Again else To h.root)
+    go true is = tt
+    go false is = to_root (head_seen h) (seen-head a number h named) is sound.most refl
+
+pub tells_interior : (a : ArenaView) (number : ℕ) (rest : List ℕ) (i : InteriorView) → interior_at a.nodes number ≡ Some i → IsInterior i →
+    (i.version.deleted ≡ false → (0 < length i.children) × (i.low ≤ slice_number rest)) → TellsVisit a number rest (visit_interior (slice_number rest) i)
+tells_interior a number rest i named sound may = go i.version.deleted refl
+  where
+    to_up : i.version.deleted ≡ false → UpTo i (slice_number rest) → TellsVisit a number rest (to_child (slice_get i.children (children_up_to (slice_number rest) i.children - 1)))
+    to_up is up = rw up.is
+        (move_to_child (interior_seen i) (child_seen up.child) (seen-interior a number i named) is sound.most (omega (arith, sound.low_fits)) (among_map child_seen up.child i.children up.among) refl)
+
+    go : (deleted : Bool) → i.version.deleted ≡ deleted → TellsVisit a number rest (if deleted then Again else to_child (slice_get i.children (children_up_to (slice_number rest) i.children - 1)))
+    go true is = tt
+    go false is = let (some, low) = may is in to_up is (last_up_to i (slice_number rest) sound some low)
+
+module _ (a : ArenaView) (number : ℕ) (rest : List ℕ) (b : BorderView) (named : border_at a.nodes number ≡ Some b) (sound : IsBorder b) where
+  same_border : (other : BorderView) → border_at a.nodes number ≡ Some other → b ≡ other
+  same_border other at = let both : ◌≡◌ {A = Option BorderView} (Some b) (Some other) = sym named ∙ at in cc
+
+  here : b.version.deleted ≡ false → IsLast (found_for rest b.live) → TellsVisit a number rest Here
+  here alive last other at = let same = same_border other at in
+      (ap (λ (x : BorderView). x.version.deleted) (sym same) ∙ alive, subst (λ (x : BorderView). IsLast (found_for rest x.live)) same last)
+
+  tells_found : (found : Found) → found_for rest b.live ≡ found → b.version.deleted ≡ false → TellsVisit a number rest (visit_found found)
+  tells_found (Absent place) e alive = here alive (subst IsLast (sym e) tt)
+  tells_found (RowFound place) e alive = here alive (subst IsLast (sym e) tt)
+  tells_found (OtherSuffix place) e alive = here alive (subst IsLast (sym e) tt)
+  tells_found (LinkFound place top) e alive =
+      let f = found_one (slice_number rest) (class_of (length rest)) (drop 8 rest) b.live (LinkFound place top) e (λ at clash. cc) in
+      let is = link_found (drop 8 rest) _ place top f.entry.content f.is in
+      let seen : entry_seen f.entry ≡ record { slice = f.entry.slice; content = link top.0 } = at_entry f.entry top is in
+      let among = subst (λ (p : PlainEntry). Among p (entries_seen b.live)) seen (among_map entry_seen f.entry b.live f.stands) in
+      to_link (border_seen b) f.entry.slice top.0 (seen-border a number b named) alive (omega (arith, sound.low_fits)) among refl
+    where
+      at_entry : (entry : Entry) (t : NodeNo) → entry.content ≡ Link t → entry_seen entry ≡ record { slice = entry.slice; content = link t.0 }
+      at_entry entry t y = rw y refl
+
+  tells_right : (right : Option NodeNo) → right_for b.right (slice_number rest) ≡ right → b.version.deleted ≡ false → TellsVisit a number rest (to_right right (found_for rest b.live))
+  tells_right (Some next) e alive =
+      let n = right_found b (slice_number rest) next e in
+      move_to_right (border_seen b) (right_seen n.right) (seen-border a number b named) alive (ap (option_map right_seen) n.is) (ap (λ (x : NodeNo). x.0) n.node)
+  tells_right None e alive = tells_found (found_for rest b.live) refl alive
+
+  pub tells_border : TellsVisit a number rest (visit_border rest b)
+  tells_border = go b.version.deleted refl
+    where
+      go : (deleted : Bool) → b.version.deleted ≡ deleted → TellsVisit a number rest (if deleted then Again else to_right (right_for b.right (slice_number rest)) (found_for rest b.live))
+      go true is = tt
+      go false is = tells_right (right_for b.right (slice_number rest)) refl is
+
+-- the visit of a node, of whatever kind
+module _ (a : ArenaView) (number : ℕ) (rest : List ℕ) where
+  pub may_visit : (node : Node) → node_at a.nodes number ≡ Some node → MayVisit a number (slice_number rest) → MayVisitNode node (slice_number rest)
+  may_visit node is may = record { has_child = λ i of. may.has_child i (ap (option_and_then interior_of) is ∙ of) }
+
+  pub leads_node : (node : Node) → node_at a.nodes number ≡ Some node → IsNode node → MayVisit a number (slice_number rest) → LeadsOn a number rest (node_visit rest node)
+  leads_node (HeadNode h) is sound may = leads_head a number rest h (ap (option_and_then head_of) is)
+  leads_node (InteriorNode i) is sound may = leads_interior a number rest i (ap (option_and_then interior_of) is) sound (may.has_child i (ap (option_and_then interior_of) is))
+  leads_node (BorderNode b) is sound may = leads_border a number rest b (ap (option_and_then border_of) is) sound
+
+  pub tells_node : (node : Node) → node_at a.nodes number ≡ Some node → IsNode node → MayVisit a number (slice_number rest) → TellsVisit a number rest (node_visit rest node)
+  tells_node (HeadNode h) is sound may = tells_head a number rest h (ap (option_and_then head_of) is) sound
+  tells_node (InteriorNode i) is sound may = tells_interior a number rest i (ap (option_and_then interior_of) is) sound (may.has_child i (ap (option_and_then interior_of) is))
+  tells_node (BorderNode b) is sound may = tells_border a number rest b (ap (option_and_then border_of) is) sound

@@ -1,10 +1,10 @@
 -- A new tree is an index.
-use Rattle.std.proofs.Common.{ℕ, zero, suc, ◌≡◌, ◌≢◌, ◌<◌, inl, inr, List, [], Option, Some, None, IsSome, true, false, refl, ap, sym, ◌∙◌, arith}
+use Rattle.std.proofs.Common.{ℕ, zero, suc, ◌≡◌, ◌≢◌, ◌<◌, inl, inr, [], Option, Some, None, IsSome, true, false, refl, ap, sym, ◌∙◌, arith}
 use Rattle.std.specs.Option.{option_and_then}
 use Rattle.std.proofs.lemmas.Bool.{cases_eq}
 use Rattle.mt_types.specs.declared.row.Row.{Row}
 use Rattle.mt_types.specs.declared.numbers.NodeNo.{NodeNo}
-use Rattle.mt_slice.specs.Place.{place_of}
+use Rattle.mt_slice.specs.Place.{Place}
 use Rattle.mt_border.specs.Border.{BorderView, new_border as new_real_border}
 use Rattle.mt_interior.specs.Head.{HeadView, with_root, new_head as new_real_head}
 use Rattle.mt_arena.specs.Node.{node_at, head_of, border_of, head_at, Updates}
@@ -12,13 +12,14 @@ use Rattle.mt_arena.specs.Arena.{ArenaView, with_node_at}
 use Rattle.mt_arena.specs.declared.node.Node.{Node}
 use Rattle.mt_arena.specs.declared.node.Node.TheVariants.{Head, Border}
 use Rattle.mt_arena.proofs.NodeLemmas.{updates-with_node}
+use Rattle.mt_chart.specs.Tree.{Has}
 use Rattle.mt_chart.specs.Chart.{Spot, spot, at_level, on}
 use Rattle.mt_chart.specs.NewIndex.{new_arena, new_chart, new_border}
 use Rattle.mt_chart.specs.Steps.{Keeps}
 use Rattle.mt_chart.proofs.NewIndex.{at_root, only_elsewhere}
 use Rattle.mt_chart.proofs.TreeLemmas.{new_index, new_index_empty}
 use Rattle.mt_chart.proofs.InteriorLaws.{changing_spares}
-use Rattle.mt_tree.specs.Seen.{arena_seen, HasRow}
+use Rattle.mt_tree.specs.Seen.{arena_seen}
 use Rattle.mt_tree.specs.Keeping.{IsIndexAt}
 use Rattle.mt_tree.specs.NewTree.{IsNewTree}
 use Rattle.mt_tree.proofs.SeenLemmas.{seen-head, seen-border}
@@ -40,11 +41,11 @@ new_seen a new number place known = elim (cases_eq number 0) [
 new_keeps : (a : ArenaView) (new : IsNewTree a) → Keeps 0 [] (new_arena new.root.0) (arena_seen a) (new_chart new.root.0) (new_chart new.root.0)
 new_keeps a new = changing_spares 0 [] (new_arena new.root.0) (arena_seen a) (new_chart new.root.0) (new_index new.root.0 new.another) (new_seen a new)
 
-pub new_tree_index : (a : ArenaView) → IsNewTree a → (root : ℕ) × IsIndexAt a 0 [] (new_chart root)
-new_tree_index a new = (new.root.0, (new_keeps a new).index)
+pub new_tree_index : (a : ArenaView) → (new : IsNewTree a) → IsIndexAt a 0 [] (new_chart new.root.0)
+new_tree_index a new = (new_keeps a new).index
 
-pub new_tree_empty : (a : ArenaView) → IsNewTree a → (key : List ℕ) (row : Row) → HasRow a key row → ⊥
-new_tree_empty a new key row has = new_index_empty new.root.0 new.another (place_of key) row (((new_keeps a new).content (place_of key) row).0 has)
+pub new_tree_empty : (a : ArenaView) → IsNewTree a → (place : Place) (row : Row) → Has (arena_seen a) place row → ⊥
+new_tree_empty a new place row has = new_index_empty new.root.0 new.another place row (((new_keeps a new).content place row).0 has)
 
 -- the head of layer 0 is put into an arena, then a border; then the head, which is lent, names it
 pub new_tree : (first second : ArenaView) (top lent named : HeadView) (node : BorderView) (old root : NodeNo) → top ≡ new_real_head old 0 false → Updates [] first.nodes 0 (Some (Head top)) → node_at first.nodes root.0 ≡ None →

@@ -1,7 +1,8 @@
 -- What a search in the border of a key tells of the tree.
-use Rattle.std.proofs.Common.{ℕ, ◌≡◌, ◌<◌, ◌≤◌, inl, inr, Bool, true, false, nat_eq, if◌then◌else◌, List, [], ◌∷◌, length, drop, Option, Some, refl, sym, ap, subst, ◌∙◌, arith}
+use Rattle.std.proofs.Common.{ℕ, zero, suc, ◌≡◌, ◌≢◌, ◌<◌, ◌≤◌, ◌==◌, inl, inr, Bool, true, false, nat_eq, nat_lt, if◌then◌else◌, List, [], ◌∷◌, length, drop, slice_get, Option, Some, IsSome, IsSomeAnd, refl, sym, ap, subst, ◌∙◌, arith}
 use Rattle.std.specs.Cmp.Lexicographic.{pointwise, bytes_decides}
 use Rattle.std.proofs.lemmas.Bool.{cases_lt, le-leb, lt-leb}
+use Rattle.std.proofs.lemmas.List.Sums.{prefix_len-le-length}
 use Rattle.mt_types.specs.declared.row.Row.{Row}
 use Rattle.mt_types.specs.declared.numbers.NodeNo.{NodeNo}
 use Rattle.mt_slice.specs.Place.{Place, last, deeper, AreBytes, first_slice, place_of, slice_number}
@@ -12,7 +13,7 @@ use Rattle.mt_slice.proofs.Canonical.{same_from_place_of}
 use Rattle.mt_slice.proofs.Slices.{bytes-drop}
 use Rattle.mt_border.specs.Border.{BorderView, row_at, first_row}
 use Rattle.mt_border.specs.Entry.{entry_rank, rank_at, content_row, content_class, IsContent, IsEntry}
-use Rattle.mt_border.specs.Find.{entries_before, found_content}
+use Rattle.mt_border.specs.Find.{entries_before, found_first, found_content}
 use Rattle.mt_border.specs.Order.{IsBorder}
 use Rattle.mt_border.specs.declared.entry.Content.{Content}
 use Rattle.mt_border.specs.declared.entry.Content.TheVariants.{Short, Long, Link}
@@ -21,20 +22,15 @@ use Rattle.mt_border.specs.declared.found.Found.{Found}
 use Rattle.mt_border.specs.declared.found.Found.TheVariants.{Absent, Row as RowFound, OtherSuffix, Link as LinkFound}
 use Rattle.mt_arena.specs.Node.{border_at}
 use Rattle.mt_arena.specs.Arena.{ArenaView}
-use Rattle.mt_chart.specs.Tree.{Among, first, later, HoldsRow, link}
+use Rattle.mt_chart.specs.Tree.{HoldsRow, link}
 use Rattle.mt_chart.specs.Tree.{Entry as PlainEntry}
 use Rattle.mt_chart.specs.TreeLaws.{HasEntry, GoesOnAtALink}
 use Rattle.mt_chart.proofs.TreeLemmas.{at_their_places}
-use Rattle.mt_tree.specs.Seen.{arena_seen, border_seen, entry_seen, content_seen}
-use Rattle.mt_tree.specs.Descent.{found_for, HasBytes, AllHaveBytes, row_found, IsLast, TellsRow}
+use Rattle.mt_tree.specs.Seen.{arena_seen, border_seen, entry_seen, content_seen, content_place}
+use Rattle.mt_tree.specs.Descent.{found_for, row_found, IsLast, StandsAt, TellsRow}
 use Rattle.mt_tree.proofs.SeenLemmas.{among_map, among_unmap}
 use Rattle.mt_tree.proofs.FoundLemmas.{found_among, found_one, all_among}
-use Rattle.mt_tree.proofs.DescentLemmas.{rank_tells, slice_of_place, class_long}
-
-has_bytes : (entry : Entry) (live : List Entry) → AllHaveBytes live → Among entry live → HasBytes entry.content
-has_bytes entry [] all i = elim i [ ]
-has_bytes entry (x ∷ xs) all first = all.0
-has_bytes entry (x ∷ xs) all (later i) = has_bytes entry xs all.1 i
+use Rattle.mt_tree.proofs.DescentLemmas.{rank_tells, slice_of_place, class_long, link_found}
 
 -- the ranks agree, where slice and class do
 same_rank : (rest : List ℕ) (entry : Entry) → entry.slice ≡ slice_number rest → class_number (content_class entry.content) ≡ class_number (class_of (length rest)) → entry_rank entry ≡ rank_at (slice_number rest) (class_of (length rest))
@@ -53,17 +49,17 @@ record Fits (rest : List ℕ) (slice : ℕ) (content : Content) (row : Row) : Ty
   pub has_row : content_row content ≡ Some row
   pub found : (place : ℕ) → found_content (drop 8 rest) place content ≡ RowFound place
 
-fits : (rest : List ℕ) → AreBytes rest → (slice : ℕ) (content : Content) (row : Row) → HasBytes content → HoldsRow slice (content_seen content) (place_of rest) row → Fits rest slice content row
-fits rest bytes slice (Short n here) row has (at, same) = elim (cases_lt 8 (length rest)) [
+fits : (rest : List ℕ) → AreBytes rest → (slice : ℕ) (content : Content) (row : Row) → IsContent content → HoldsRow slice (content_seen content) (place_of rest) row → Fits rest slice content row
+fits rest bytes slice (Short n here) row whole (at, same) = elim (cases_lt 8 (length rest)) [
   | inl over ↦ absurd (let clash : deeper (slice_number rest) (place_of (drop 8 rest)) ≡ last slice n = sym (place_of-long rest over) ∙ at in cc)
   | inr within ↦ (let is : last (slice_number rest) (length rest) ≡ last slice n = sym (place_of-short rest within) ∙ at in
       let count : length rest ≡ n = cc in
       record { slices = (cc); classes = sym count ∙ sym (class_short (length rest) within); has_row = ap Some same; found = λ place. refl })
 ]
-fits rest bytes slice (Long suffix here) row has (at, same) = elim (cases_lt 8 (length rest)) [
+fits rest bytes slice (Long suffix here) row whole (at, same) = elim (cases_lt 8 (length rest)) [
   | inl over ↦ (let is : deeper (slice_number rest) (place_of (drop 8 rest)) ≡ deeper slice (place_of suffix) = sym (place_of-long rest over) ∙ at in
       let places : place_of suffix ≡ place_of (drop 8 rest) = cc in
-      let held : suffix ≡ drop 8 rest = same_from_place_of suffix (drop 8 rest) has (bytes-drop 8 rest bytes) places in
+      let held : suffix ≡ drop 8 rest = same_from_place_of suffix (drop 8 rest) whole.1 (bytes-drop 8 rest bytes) places in
       record {
         slices = (cc);
         classes = sym (class_over (length rest) over);
@@ -72,7 +68,7 @@ fits rest bytes slice (Long suffix here) row has (at, same) = elim (cases_lt 8 (
       })
   | inr within ↦ absurd (let clash : last (slice_number rest) (length rest) ≡ deeper slice (place_of suffix) = sym (place_of-short rest within) ∙ at in cc)
 ]
-fits rest bytes slice (Link top) row has never = absurd never
+fits rest bytes slice (Link top) row whole never = absurd never
 
 same_suffix : (same : Bool) (i j : ℕ) → (if same then RowFound i else OtherSuffix i) ≡ RowFound j → (same ≡ true) × (i ≡ j)
 same_suffix true i j e = (refl, cc)
@@ -105,10 +101,10 @@ module _ (b : BorderView) (sound : IsBorder b) (rest : List ℕ) (bytes : AreByt
   row_there : (entry : Entry) (more : List Entry) → drop at b.live ≡ entry ∷ more → row_at at b.live ≡ content_row entry.content
   row_there entry more e = ap first_row e
 
-  found-from_entry : (row : Row) → AllHaveBytes b.live → HasEntry (border_seen b) (place_of rest) row → row_found b.live (found_for rest b.live) ≡ Some row
-  found-from_entry row all (seen, i, holds_row) =
+  found-from_entry : (row : Row) → HasEntry (border_seen b) (place_of rest) row → row_found b.live (found_for rest b.live) ≡ Some row
+  found-from_entry row (seen, i, holds_row) =
       let s = among_unmap entry_seen seen b.live i in
-      let f = fits rest bytes s.source.slice s.source.content row (has_bytes s.source b.live all s.stands) (subst (λ (p : PlainEntry). HoldsRow p.slice p.content (place_of rest) row) (sym s.is) holds_row) in
+      let f = fits rest bytes s.source.slice s.source.content row (all_among IsEntry s.source b.live sound.entries.each s.stands).content (subst (λ (p : PlainEntry). HoldsRow p.slice p.content (place_of rest) row) (sym s.is) holds_row) in
       let (found, after) = found_among (slice_number rest) (class_of (length rest)) (drop 8 rest) s.source b.live sound.ordered s.stands (same_rank rest s.source f.slices f.classes) in
       ap (row_found b.live) (found ∙ f.found at) ∙ (row_there s.source after.0 after.1 ∙ f.has_row)
 
@@ -149,12 +145,132 @@ module _ (b : BorderView) (sound : IsBorder b) (rest : List ℕ) (bytes : AreByt
 
 pub tells_row : (a : ArenaView) (number : ℕ) (rest : List ℕ) (b : BorderView) → border_at a.nodes number ≡ Some b → IsBorder b → AreBytes rest → TellsRow a number rest (found_for rest b.live)
 tells_row a number rest b named sound bytes = record {
-  tells = λ now twins chart prefix index here all ends row.
+  tells = λ now twins chart prefix index here ends row.
       let same : b ≡ here.border = let both : ◌≡◌ {A = Option BorderView} (Some b) (Some here.border) = sym named ∙ here.named in cc in
       let whole = subst IsBorder same sound in
       let found : found_for rest b.live ≡ found_for rest here.border.live = ap (λ (x : BorderView). found_for rest x.live) same in
       let (to, from) = at_their_places (arena_seen a) chart number prefix (border_seen here.border) (place_of rest) index.tree here.stands (no_link here.border whole rest bytes (subst IsLast found ends)) row in (
-        λ has. ap (row_found here.border.live) found ∙ found-from_entry here.border whole rest bytes row all (to has),
+        λ has. ap (row_found here.border.live) found ∙ found-from_entry here.border whole rest bytes row (to has),
         λ is. from (entry-from_found here.border whole rest bytes row (found_for rest here.border.live) refl (sym (ap (row_found here.border.live) found) ∙ is)),
       );
 }
+
+-- what was found stands at its place
+stands_dropped : (place : ℕ) (live : List Entry) (entry : Entry) (more : List Entry) → drop place live ≡ entry ∷ more → slice_get live place ≡ Some entry
+stands_dropped zero [] entry more e = absurd (cc)
+stands_dropped (suc place) [] entry more e = absurd (cc)
+stands_dropped zero (x ∷ xs) entry more e = cc
+stands_dropped (suc place) (x ∷ xs) entry more e = stands_dropped place xs entry more e
+
+held_place : (slice : ℕ) (content : Content) (place : Place) (row : Row) → HoldsRow slice (content_seen content) place row → content_place slice content ≡ place
+held_place slice (Short n here) place row (at, same) = sym at
+held_place slice (Long suffix here) place row (at, same) = sym at
+held_place slice (Link top) place row never = absurd never
+
+row_content : (suffix : List ℕ) (i j : ℕ) (content : Content) → found_content suffix i content ≡ RowFound j → (row : Row) × (content_row content ≡ Some row)
+row_content suffix i j (Short n row) e = (row, refl)
+row_content suffix i j (Long held row) e = (row, refl)
+row_content suffix i j (Link top) e = absurd (cc)
+
+other_suffix : (same : Bool) (i j : ℕ) → (if same then RowFound i else OtherSuffix i) ≡ OtherSuffix j → (same ≡ false) × (i ≡ j)
+other_suffix true i j e = absurd (cc)
+other_suffix false i j e = (refl, cc)
+
+record OtherContent (suffix : List ℕ) (i j : ℕ) (content : Content) : Type 0 where
+  pub held : List ℕ
+  pub row : Row
+  pub is : content ≡ Long held row
+  pub at : i ≡ j
+  pub other : held ≢ suffix
+
+other_content : (suffix : List ℕ) (i j : ℕ) (content : Content) → found_content suffix i content ≡ OtherSuffix j → OtherContent suffix i j content
+other_content suffix i j (Short n row) e = absurd (cc)
+other_content suffix i j (Long held row) e =
+    let (apart, at) = other_suffix (pointwise nat_eq held suffix) i j e in
+    record {
+      held = held;
+      row = row;
+      is = refl;
+      at = at;
+      other = λ same. (let equal = (bytes_decides held suffix).1 same in let clash : true ≡ false = sym equal ∙ apart in cc);
+    }
+other_content suffix i j (Link top) e = absurd (cc)
+
+link_place : (suffix : List ℕ) (i j : ℕ) (top : NodeNo) (content : Content) → found_content suffix i content ≡ LinkFound j top → i ≡ j
+link_place suffix i j top (Short n row) e = absurd (cc)
+link_place suffix i j top (Long held row) e = absurd (neither (pointwise nat_eq held suffix) e)
+  where
+    neither : (same : Bool) → (if same then RowFound i else OtherSuffix i) ≡ LinkFound j top → ⊥
+    neither true f = cc
+    neither false f = cc
+link_place suffix i j top (Link other) e = cc
+
+entry_is : (entry : Entry) (slice : ℕ) (content : Content) → entry.slice ≡ slice → entry.content ≡ content → entry ≡ record { slice = slice; content = content }
+entry_is entry slice content x y = rw (sym x, sym y) refl
+
+module _ (b : BorderView) (sound : IsBorder b) (rest : List ℕ) where
+  abbrev at_place : ℕ
+  at_place = entries_before (slice_number rest) (class_of (length rest)) b.live
+
+  absent_within : (place : ℕ) → found_for rest b.live ≡ Absent place → place ≤ length b.live
+  absent_within place e = go (drop at_place b.live) e
+    where
+      few : at_place ≤ length b.live
+      few = prefix_len-le-length (λ entry. nat_lt (entry_rank entry) (rank_at (slice_number rest) (class_of (length rest)))) b.live
+
+      go : (entries : List Entry) → found_first (slice_number rest) (class_of (length rest)) (drop 8 rest) at_place entries ≡ Absent place → place ≤ length b.live
+      go [] f = let same : at_place ≡ place = cc in omega (arith, same, few)
+      go (entry ∷ entries) f = by_rank (entry_rank entry == rank_at (slice_number rest) (class_of (length rest))) f
+        where
+          content_not : (content : Content) → found_content (drop 8 rest) at_place content ≡ Absent place → ⊥
+          content_not (Short n row) g = cc
+          content_not (Long held row) g = neither (pointwise nat_eq held (drop 8 rest)) g
+            where
+              neither : (same : Bool) → (if same then RowFound at_place else OtherSuffix at_place) ≡ Absent place → ⊥
+              neither true h = cc
+              neither false h = cc
+          content_not (Link top) g = cc
+
+          by_rank : (same : Bool) → (if same then found_content (drop 8 rest) at_place entry.content else Absent at_place) ≡ Absent place → place ≤ length b.live
+          by_rank true g = absurd (content_not entry.content g)
+          by_rank false g = let same : at_place ≡ place = cc in omega (arith, same, few)
+
+  stands_at : (found : Found) → found_for rest b.live ≡ found → StandsAt rest b.live found
+  stands_at (Absent place) e = absent_within place e
+  stands_at (RowFound place) e =
+      let f = found_one (slice_number rest) (class_of (length rest)) (drop 8 rest) b.live (RowFound place) e (λ k clash. cc) in
+      let whole = all_among IsEntry f.entry b.live sound.entries.each f.stands in
+      let (slices, classes) = rank_tells rest f.entry whole f.rank in
+      let (row, has) = row_content (drop 8 rest) at_place place f.entry.content f.is in
+      let here = place_found (drop 8 rest) at_place place f.entry.content f.is in
+      record {
+        entry = f.entry;
+        stands = stands_dropped place b.live f.entry f.more (subst (λ (k : ℕ). drop k b.live ≡ f.entry ∷ f.more) here f.starts);
+        row = subst (λ (r : Option Row). IsSome r) (sym has) (some row);
+        of_rest = held_place f.entry.slice f.entry.content (place_of rest) row (holds rest f.entry.slice at_place place f.entry.content row whole.content slices classes f.is has);
+      }
+    where
+      some : (row : Row) → IsSome (Some row)
+      some row = cc
+  stands_at (OtherSuffix place) e =
+      let f = found_one (slice_number rest) (class_of (length rest)) (drop 8 rest) b.live (OtherSuffix place) e (λ k clash. cc) in
+      let whole = all_among IsEntry f.entry b.live sound.entries.each f.stands in
+      let (slices, classes) = rank_tells rest f.entry whole f.rank in
+      let o = other_content (drop 8 rest) at_place place f.entry.content f.is in
+      record {
+        suffix = o.held;
+        row = o.row;
+        stands = stands_dropped place b.live f.entry f.more (subst (λ (k : ℕ). drop k b.live ≡ f.entry ∷ f.more) o.at f.starts) ∙ ap Some (entry_is f.entry (slice_number rest) (Long o.held o.row) slices o.is);
+        goes_on = class_long (length rest) (sym classes ∙ ap (λ (c : Content). class_number (content_class c)) o.is);
+        other = o.other;
+      }
+  stands_at (LinkFound place top) e =
+      let f = found_one (slice_number rest) (class_of (length rest)) (drop 8 rest) b.live (LinkFound place top) e (λ k clash. cc) in
+      let whole = all_among IsEntry f.entry b.live sound.entries.each f.stands in
+      let (slices, classes) = rank_tells rest f.entry whole f.rank in
+      let is = link_found (drop 8 rest) at_place place top f.entry.content f.is in
+      let here = link_place (drop 8 rest) at_place place top f.entry.content f.is in
+      stands_dropped place b.live f.entry f.more (subst (λ (k : ℕ). drop k b.live ≡ f.entry ∷ f.more) here f.starts) ∙ ap Some (entry_is f.entry (slice_number rest) (Link top) slices is)
+
+pub found_stands : (a : ArenaView) (number : ℕ) (rest : List ℕ) (b : BorderView) → border_at a.nodes number ≡ Some b → IsBorder b → IsSomeAnd (border_at a.nodes number) (λ x. StandsAt rest x.live (found_for rest b.live))
+found_stands a number rest b named sound = rw named (stands_at b sound rest (found_for rest b.live) refl)

@@ -1,11 +1,12 @@
 -- How a change of one node of an arena is seen.
 use Rattle.std.proofs.Common.{ℕ, ◌≡◌, List, [], ◌∷◌, map, Option, Some, None, IsSome, refl, ap}
 use Rattle.std.specs.Option.{option_map, option_and_then}
-use Rattle.std.specs.Prelude.{slice_set}
+use Rattle.std.specs.Prelude.{slice_set, IsSomeAnd}
 use Rattle.mt_border.specs.Border.{BorderView}
+use Rattle.mt_border.specs.Order.{IsBorder}
 use Rattle.mt_interior.specs.Head.{HeadView}
 use Rattle.mt_interior.specs.Interior.{InteriorView}
-use Rattle.mt_arena.specs.Node.{node_at, head_of, head_at, interior_at, border_at}
+use Rattle.mt_arena.specs.Node.{node_at, head_of, border_of, head_at, interior_at, border_at}
 use Rattle.mt_arena.specs.Arena.{ArenaView, with_node_at, with_head_changed, with_interior_changed, with_border_changed, head_changed, interior_changed, border_changed}
 use Rattle.mt_arena.specs.declared.node.Node.{Node}
 use Rattle.mt_arena.specs.declared.node.Node.TheVariants.{Head, Interior, Border}
@@ -81,3 +82,13 @@ changed-interior a number i change is = ap (λ (n : Option Node). with_nodes a n
 
 pub changed-border : (a : ArenaView) (number : ℕ) (b : BorderView) (change : BorderView → BorderView) → border_at a.nodes number ≡ Some b → with_border_changed a number change ≡ with_node_at a number (Border (change b))
 changed-border a number b change is = ap (λ (n : Option Node). with_nodes a number (option_map (border_changed change) n)) (node-from_border a.nodes number b is)
+
+-- what is written under a number is what it then names
+pub sound_written : (a : ArenaView) (number : ℕ) (old new : BorderView) → border_at a.nodes number ≡ Some old → IsBorder new → IsSomeAnd (border_at (with_node_at a number (Border new)).nodes number) IsBorder
+sound_written a number old new is sound =
+    let updates = updates-with_node a.nodes number (Border new) (rw (node-from_border a.nodes number old is) (some (Border old))) in
+    let now : border_at (with_node_at a number (Border new)).nodes number ≡ Some new = ap (option_and_then border_of) updates.changed in
+    rw now sound
+  where
+    some : (n : Node) → IsSome (Some n)
+    some n = cc

@@ -3,6 +3,7 @@ use Rattle.std.specs.Prelude.{ℕ, ◌≡◌, ◌≢◌, ◌<◌, ◌≤◌, ◌
 use Rattle.mt_slice.specs.Place.{place_of}
 use Rattle.mt_types.specs.declared.row.Row.{Row}
 use Rattle.mt_types.specs.declared.numbers.NodeNo.{NodeNo}
+use Rattle.mt_word.specs.declared.permutation_word.TheConstants.{SLOTS}
 use Rattle.mt_border.specs.Entry.{entry_row}
 use Rattle.mt_border.specs.Border.{BorderView, next_row, row_at, with_shown}
 use Rattle.mt_border.specs.Order.{IsBorder, AreBelow}
@@ -20,7 +21,7 @@ use Rattle.mt_tree.specs.Keeping.{IsOnIn, KeepsAlong, AddsRow, RemovesRow, Repla
 -- A ROW IS SHOWN. The border has room, its first unused slot holds a row, and once that is live at the place, the border is in order and in its
 -- interval.
 pub record MayShow (b : BorderView) (place version : ℕ) : Type 0 where
-  pub room : length b.live < 15
+  pub room : length b.live < SLOTS
   pub within : place ≤ length b.live
   pub row : IsSome (next_row b.unused)
   pub sound : IsBorder (with_shown b place version)

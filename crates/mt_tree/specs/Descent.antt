@@ -1,30 +1,31 @@
 -- What a descent sees at a node on its way to the rest of a key, and what it then knows of the tree.
-use Rattle.std.specs.Prelude.{ℕ, ◌≡◌, ◌<◌, ◌≤◌, ◌-◌, ◌⊎◌, ◌↔◌, if◌then◌else◌, false, List, [], ◌∷◌, length, drop, slice_get, Option, Some, None, IsSome}
+use Rattle.std.specs.Prelude.{ℕ, ◌≡◌, ◌≢◌, ◌<◌, ◌≤◌, ◌-◌, ◌⊎◌, ◌↔◌, if◌then◌else◌, false, List, ◌∷◌, length, drop, slice_get, Option, Some, None, IsSome}
 use Rattle.mt_types.specs.declared.numbers.NodeNo.{NodeNo}
 use Rattle.mt_types.specs.declared.row.Row.{Row}
-use Rattle.mt_slice.specs.Place.{Place, AreBytes, first_slice, under, place_of, slice_number}
+use Rattle.mt_slice.specs.Place.{Place, first_slice, under, place_of, slice_number}
 use Rattle.mt_slice.specs.Classes.{class_of}
 use Rattle.mt_border.specs.Border.{BorderView, right_for, row_at}
+use Rattle.mt_border.specs.Entry.{entry_row}
 use Rattle.mt_border.specs.Find.{found_in}
 use Rattle.mt_border.specs.Order.{IsBorder}
-use Rattle.mt_border.specs.declared.entry.Content.{Content}
-use Rattle.mt_border.specs.declared.entry.Content.TheVariants.{Short, Long, Link}
+use Rattle.mt_border.specs.declared.entry.Content.TheVariants.{Long, Link}
 use Rattle.mt_border.specs.declared.entry.Entry.{Entry}
 use Rattle.mt_border.specs.declared.found.Found.{Found}
 use Rattle.mt_border.specs.declared.found.Found.TheVariants.{Absent, Row as RowFound, OtherSuffix, Link as LinkFound}
 use Rattle.mt_interior.specs.Head.{HeadView}
 use Rattle.mt_interior.specs.Interior.{InteriorView, children_up_to}
 use Rattle.mt_interior.specs.declared.child.Child.{Child}
-use Rattle.mt_arena.specs.Node.{node_at, interior_at, border_at}
+use Rattle.mt_arena.specs.Node.{node_at, interior_of, interior_at, border_at}
 use Rattle.mt_arena.specs.Arena.{ArenaView}
 use Rattle.mt_arena.specs.declared.node.Node.{Node}
 use Rattle.mt_arena.specs.declared.node.Node.TheVariants.{Head, Interior, Border}
 use Rattle.mt_chart.specs.Tree.{Has, Below as BelowLow}
 use Rattle.mt_chart.specs.Chart.{Chart, Holds}
 use Rattle.mt_chart.specs.Steps.{Twin}
+use Rattle.mt_chart.specs.Walk.{Moves}
 use Rattle.mt_chart.specs.ScanRun.{EntriesInOrder}
 use Rattle.mt_chart.specs.TreeLaws.{IsWhere, HasEntry, GoesOnAtALink}
-use Rattle.mt_tree.specs.Seen.{arena_seen, border_seen}
+use Rattle.mt_tree.specs.Seen.{arena_seen, border_seen, entry_place}
 use Rattle.mt_tree.specs.Keeping.{IsIndexAt}
 use Rattle.mt_tree.specs.declared.visit.Visit.{Visit}
 use Rattle.mt_tree.specs.declared.visit.Visit.TheVariants.{Again, To, Below, Here}
@@ -66,6 +67,10 @@ node_visit rest (Head h) = visit_head h
 node_visit rest (Interior i) = visit_interior (slice_number rest) i
 node_visit rest (Border b) = visit_border rest b
 
+-- the node, if it is an interior that is not marked deleted, has a child for the slice
+pub record MayVisitNode (node : Node) (slice : ℕ) : Type 0 where
+  pub has_child : (i : InteriorView) → interior_of node ≡ Some i → i.version.deleted ≡ false → (0 < length i.children) × (i.low ≤ slice)
+
 -- the number names a node, and one that is an interior, not marked deleted, has a child for the slice
 pub record MayVisit (a : ArenaView) (number slice : ℕ) : Type 0 where
   pub named : IsSome (node_at a.nodes number)
@@ -88,15 +93,42 @@ Knows a chart begun number prefix rest Here = IsHere a chart number prefix rest
 pub record LeadsOn (a : ArenaView) (number : ℕ) (rest : List ℕ) (visit : Visit) : Type 0 where
   pub leads : (now : ℕ) (twins : List Twin) (chart : Chart) (begun : ℕ) (prefix : List ℕ) → IsIndexAt a now twins chart → Holds chart begun number prefix (slice_number rest) → Knows a chart begun number prefix rest visit
 
--- a suffix is of bytes
-abbrev pub HasBytes : Content → Type 0
-HasBytes (Short bytes row) = Unit {0}
-HasBytes (Long suffix row) = AreBytes suffix
-HasBytes (Link top) = Unit {0}
+-- no link leads on
+abbrev pub IsLast : Found → Type 0
+IsLast (Absent place) = Unit {0}
+IsLast (RowFound place) = Unit {0}
+IsLast (OtherSuffix place) = Unit {0}
+IsLast (LinkFound place top) = ⊥
 
-abbrev pub AllHaveBytes : List Entry → Type 0
-AllHaveBytes [] = Unit {0}
-AllHaveBytes (entry ∷ entries) = HasBytes entry.content × AllHaveBytes entries
+-- WHAT A VISIT WAS: one that goes on is a move of a descent; where it has come to the key's border, the border is not marked deleted, and no
+-- link leads on
+abbrev pub TellsVisit : ArenaView → ℕ → List ℕ → Visit → Type 0
+TellsVisit a number rest Again = Unit {0}
+TellsVisit a number rest (To next) = Moves (arena_seen a) number next.0
+TellsVisit a number rest (Below top) = Moves (arena_seen a) number top.0
+TellsVisit a number rest Here = (b : BorderView) → border_at a.nodes number ≡ Some b → (b.version.deleted ≡ false) × IsLast (found_for rest b.live)
+
+-- the entry at a place has a row, whose key has the rest
+pub record HasRowOf (rest : List ℕ) (live : List Entry) (place : ℕ) : Type 0 where
+  pub entry : Entry
+  pub stands : slice_get live place ≡ Some entry
+  pub row : IsSome (entry_row entry)
+  pub of_rest : entry_place entry ≡ place_of rest
+
+-- the entry at a place has the row of a longer key, of the same slice as the rest but another suffix
+pub record HasOtherSuffix (rest : List ℕ) (live : List Entry) (place : ℕ) : Type 0 where
+  pub suffix : List ℕ
+  pub row : Row
+  pub stands : slice_get live place ≡ Some (record { slice = slice_number rest; content = Long suffix row })
+  pub goes_on : 8 < length rest
+  pub other : suffix ≢ drop 8 rest
+
+-- where a row, a row of another suffix or a link was found, such an entry stands at the place
+abbrev pub StandsAt : List ℕ → List Entry → Found → Type 0
+StandsAt rest live (Absent place) = place ≤ length live
+StandsAt rest live (RowFound place) = HasRowOf rest live place
+StandsAt rest live (OtherSuffix place) = HasOtherSuffix rest live place
+StandsAt rest live (LinkFound place top) = slice_get live place ≡ Some (record { slice = slice_number rest; content = Link top })
 
 -- the row that was found, if one was
 abbrev pub row_found : List Entry → Found → Option Row
@@ -105,16 +137,9 @@ row_found live (RowFound place) = row_at place live
 row_found live (OtherSuffix place) = None
 row_found live (LinkFound place top) = None
 
--- no link leads on
-abbrev pub IsLast : Found → Type 0
-IsLast (Absent place) = Unit {0}
-IsLast (RowFound place) = Unit {0}
-IsLast (OtherSuffix place) = Unit {0}
-IsLast (LinkFound place top) = ⊥
-
 -- WHERE A CALL HAS COME TO THE KEY'S BORDER, and no link leads on, the tree has a row at the key exactly where that row was found
 pub record TellsRow (a : ArenaView) (number : ℕ) (rest : List ℕ) (found : Found) : Type 0 where
-  pub tells : (now : ℕ) (twins : List Twin) (chart : Chart) (prefix : List ℕ) → IsIndexAt a now twins chart → (here : IsHere a chart number prefix rest) → AllHaveBytes here.border.live → IsLast found →
+  pub tells : (now : ℕ) (twins : List Twin) (chart : Chart) (prefix : List ℕ) → IsIndexAt a now twins chart → (here : IsHere a chart number prefix rest) → IsLast found →
       (row : Row) → Has (arena_seen a) (under prefix (place_of rest)) row ↔ (row_found here.border.live found ≡ Some row)
 
 -- what a call holds it may visit, for the slice that it holds it for

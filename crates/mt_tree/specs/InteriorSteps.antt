@@ -3,6 +3,7 @@ use Rattle.std.specs.Prelude.{ℕ, ◌≡◌, ◌≢◌, ◌<◌, ◌≤◌, ◌
 use Rattle.std.specs.Option.{option_and_then}
 use Rattle.mt_interior.specs.Interior.{InteriorView}
 use Rattle.mt_interior.specs.declared.child.Child.{Child}
+use Rattle.mt_interior.specs.declared.interior.TheConstants.{MAX_CHILDREN}
 use Rattle.mt_arena.specs.Node.{Nodes, interior_at}
 use Rattle.mt_arena.specs.Arena.{ArenaView}
 use Rattle.mt_chart.specs.Chart.{on, gone, Role, at_level, spot, Chart, Changes}
@@ -17,7 +18,7 @@ child_at nodes number place = option_and_then (λ interior. slice_get interior.c
 -- the interior has a child, it has room for one more, and a child of this low may stand in it
 pub record HasRoomFrom (low : ℕ) (interior : InteriorView) : Type 0 where
   pub some : 0 < length interior.children
-  pub room : length interior.children < 16
+  pub room : length interior.children < MAX_CHILDREN
   pub from_low : interior.low ≤ low
 
 -- the interior is locked and has one child

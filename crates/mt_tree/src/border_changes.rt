@@ -2,6 +2,8 @@
 
 ghost use Rattle.std.specs.Prelude.{◌≡◌, ◌↔◌, [], Some, true, false, IsSomeAnd, IsTrue, IsErr, OnOk, OnErr, IfErr, length, ◌<◌};
 ghost use Rattle.mt_border.specs.Border.{with_lock, with_deleted, with_filled, with_shown, with_hidden, with_value, with_split, with_link_at, with_right, fill_is_spent, row_at};
+ghost use Rattle.mt_word.specs.declared.permutation_word.TheConstants.{SLOTS};
+ghost use Rattle.mt_border.specs.Order.{IsBorder};
 ghost use Rattle.mt_arena.specs.Node.{border_at};
 ghost use Rattle.mt_arena.specs.Arena.{with_border_changed};
 ghost use Rattle.mt_tree.specs.Keeping.{KeepsTree};
@@ -18,6 +20,7 @@ impl Tree {
     pub fn lock_border(&mut self, number: NodeNo)
         requires { IsSomeAnd (border_at self.old.nodes number.0) (λ b. b.version.locked ≡ false) }
         ensures value { self.new ≡ with_border_changed self.old number.0 (λ b. with_lock b true) }
+        ensures sound { IsSomeAnd (border_at self.new.nodes number.0) IsBorder }
         ensures keeps { KeepsTree self.old self.new }
     {
         self.arena.border_mut(number).lock();
@@ -27,6 +30,7 @@ impl Tree {
     pub fn unlock_border(&mut self, number: NodeNo)
         requires { IsSomeAnd (border_at self.old.nodes number.0) (λ b. b.version.locked ≡ true) }
         ensures value { self.new ≡ with_border_changed self.old number.0 (λ b. with_lock b false) }
+        ensures sound { IsSomeAnd (border_at self.new.nodes number.0) IsBorder }
         ensures keeps { KeepsTree self.old self.new }
     {
         self.arena.border_mut(number).unlock();
@@ -36,6 +40,7 @@ impl Tree {
     pub fn mark_border_deleted(&mut self, number: NodeNo)
         requires { IsSomeAnd (border_at self.old.nodes number.0) (λ b. b.live ≡ []) }
         ensures value { self.new ≡ with_border_changed self.old number.0 with_deleted }
+        ensures sound { IsSomeAnd (border_at self.new.nodes number.0) IsBorder }
         ensures keeps { KeepsTree self.old self.new }
     {
         self.arena.border_mut(number).mark_deleted();
@@ -48,11 +53,12 @@ impl Tree {
     ///
     /// `Spent` where that counter would rise and is at its greatest value, 2^56 - 1. Nothing is then changed.
     pub fn fill_slot(&mut self, number: NodeNo, entry: Entry) -> Result<(), Refusal>
-        requires { IsSomeAnd (border_at self.old.nodes number.0) (λ b. length b.live < 15) }
+        requires { IsSomeAnd (border_at self.old.nodes number.0) (λ b. length b.live < SLOTS) }
         ensures filled { OnOk result (self.new ≡ with_border_changed self.old number.0 (λ b. with_filled b entry)) }
         ensures unchanged { OnErr result (self.new ≡ self.old) }
         ensures spent { IsErr result ↔ IsSomeAnd (border_at self.old.nodes number.0) (λ b. IsTrue (fill_is_spent b)) }
         ensures only { IfErr result (λ refusal. refusal ≡ Refusal.Spent) }
+        ensures sound { IsSomeAnd (border_at self.new.nodes number.0) IsBorder }
         ensures keeps { KeepsTree self.old self.new }
     {
         self.arena.border_mut(number).fill_slot(entry)
@@ -63,6 +69,7 @@ impl Tree {
     pub fn show(&mut self, number: NodeNo, place: usize, version: u64)
         requires { IsSomeAnd (border_at self.old.nodes number.0) (λ b. MayShow b place version) }
         ensures value { self.new ≡ with_border_changed self.old number.0 (λ b. with_shown b place version) }
+        ensures sound { IsSomeAnd (border_at self.new.nodes number.0) IsBorder }
         ensures shows { ShowsNext self.old self.new number.0 version }
     {
         self.arena.border_mut(number).show(place, version);
@@ -72,11 +79,10 @@ impl Tree {
     pub fn hide_row(&mut self, number: NodeNo, place: usize)
         requires { IsSomeAnd (border_at self.old.nodes number.0) (λ b. HasRowAt b place) }
         ensures value { self.new ≡ with_border_changed self.old number.0 (λ b. with_hidden b place) }
+        ensures sound { IsSomeAnd (border_at self.new.nodes number.0) IsBorder }
         ensures hides { HidesRowAt self.old self.new number.0 place }
     {
-        let border = self.arena.border_mut(number);
-        let _sound = border.len();
-        border.hide(place);
+        self.arena.border_mut(number).hide(place);
     }
 
     /// Gives the entry at a place of a border, which has a row, another one, and returns the old one. Constant cost.
@@ -84,11 +90,10 @@ impl Tree {
         requires { IsSomeAnd (border_at self.old.nodes number.0) (λ b. HasRowAt b place) }
         ensures value { self.new ≡ with_border_changed self.old number.0 (λ b. with_value b place row) }
         ensures replaced { IsSomeAnd (border_at self.old.nodes number.0) (λ b. row_at place b.live ≡ Some result) }
+        ensures sound { IsSomeAnd (border_at self.new.nodes number.0) IsBorder }
         ensures sets { SetsRowAt self.old self.new number.0 place row }
     {
-        let border = self.arena.border_mut(number);
-        let _sound = border.len();
-        border.set_value(place, row)
+        self.arena.border_mut(number).set_value(place, row)
     }
 
     /// The link step of a split: a border keeps the first so many entries, and names to its right the half, a border that
@@ -96,6 +101,7 @@ impl Tree {
     pub fn link_half(&mut self, number: NodeNo, half: NodeNo, keep: usize)
         requires { IsSomeAnd (border_at self.old.nodes number.0) (λ b. IsSomeAnd (border_at self.old.nodes half.0) (λ upper. IsUpperHalf b upper keep)) }
         ensures value { IsSomeAnd (border_at self.old.nodes half.0) (λ upper. self.new ≡ with_border_changed self.old number.0 (λ b. with_split b keep (record { low = upper.low; node = half }))) }
+        ensures sound { IsSomeAnd (border_at self.new.nodes number.0) IsBorder }
         ensures links { LinksHalfAt self.old self.new number.0 half.0 }
     {
         let low = self.border(half).low();
@@ -109,33 +115,30 @@ impl Tree {
     pub fn make_link(&mut self, number: NodeNo, place: usize, head: NodeNo)
         requires { IsSomeAnd (border_at self.old.nodes number.0) (λ b. HasLayerFor self.old.nodes b place head.0) }
         ensures value { self.new ≡ with_border_changed self.old number.0 (λ b. with_link_at b place head) }
+        ensures sound { IsSomeAnd (border_at self.new.nodes number.0) IsBorder }
         ensures makes { MakesLayerAt self.old self.new number.0 place head.0 }
     {
-        let above = self.arena.border_mut(number);
-        let _sound = above.len();
-        above.make_link(place, head);
+        self.arena.border_mut(number).make_link(place, head);
     }
 
     /// Takes a border that is marked deleted out of its chain: the border before it takes its right link. Constant cost.
     pub fn unlink(&mut self, number: NodeNo, gone: NodeNo)
         requires { IsSomeAnd (border_at self.old.nodes number.0) (λ b. IsSomeAnd (border_at self.old.nodes gone.0) (λ right. IsMarkedRight b right gone)) }
         ensures value { IsSomeAnd (border_at self.old.nodes gone.0) (λ right. self.new ≡ with_border_changed self.old number.0 (λ b. with_right b right.right)) }
+        ensures sound { IsSomeAnd (border_at self.new.nodes number.0) IsBorder }
         ensures unlinks { UnlinksAt self.old self.new number.0 gone.0 }
     {
         let right = self.border(gone).right();
-        let left = self.arena.border_mut(number);
-        let _sound = left.len();
-        left.set_right(right);
+        self.arena.border_mut(number).set_right(right);
     }
 
     /// Hides the link at a place of a border to a layer that is marked deleted. Constant cost.
     pub fn hide_link(&mut self, number: NodeNo, place: usize)
         requires { IsSomeAnd (border_at self.old.nodes number.0) (λ b. HasMarkedLayerAt self.old.nodes b place) }
         ensures value { self.new ≡ with_border_changed self.old number.0 (λ b. with_hidden b place) }
+        ensures sound { IsSomeAnd (border_at self.new.nodes number.0) IsBorder }
         ensures drops { DropsLayerAt self.old self.new number.0 place }
     {
-        let above = self.arena.border_mut(number);
-        let _sound = above.len();
-        above.hide(place);
+        self.arena.border_mut(number).hide(place);
     }
 }

@@ -3,9 +3,11 @@
 ghost use Rattle.std.specs.Prelude.{◌≡◌, ◌<◌, ◌≤◌, length, drop, false, IsSome, IsSomeAnd};
 ghost use Rattle.mt_slice.specs.Place.{slice_number};
 ghost use Rattle.mt_border.specs.Order.{IsBorder};
+ghost use Rattle.mt_interior.specs.Head.{IsHead};
 ghost use Rattle.mt_interior.specs.Interior.{IsInterior};
-ghost use Rattle.mt_arena.specs.Node.{node_at, border_at};
-ghost use Rattle.mt_tree.specs.Descent.{visit_head, visit_interior, visit_border, node_visit, found_for, MayVisit, LeadsOn, TellsRow};
+ghost use Rattle.mt_arena.specs.Node.{node_at, border_at, IsNode};
+ghost use Rattle.mt_arena.specs.Arena.{IsArena};
+ghost use Rattle.mt_tree.specs.Descent.{visit_head, visit_interior, visit_border, node_visit, found_for, MayVisit, MayVisitNode, LeadsOn, TellsVisit, StandsAt, TellsRow};
 
 use crate::tree::Tree;
 use crate::visit::Visit;
@@ -17,7 +19,8 @@ use mt_types::numbers::NodeNo;
 
 // From a head to the root.
 fn visit_head(head: &Head) -> Visit
-    ensures { result ≡ visit_head head.now }
+    ensures value { result ≡ visit_head head.now }
+    ensures sound { IsHead head.now }
 {
     if head.is_deleted() {
         return Visit::Again;
@@ -64,6 +67,23 @@ fn visit_border(border: &Border, rest: &[u8]) -> Visit
     }
 }
 
+/// What a descent to a key sees at a node, of which `rest` is what the layers above have left (Masstree, EuroSys 2012,
+/// section 4.6). Looks at that node alone: searches it, and takes no memory.
+pub fn visit_node(node: &Node, rest: &[u8]) -> Visit
+    requires { MayVisitNode node.now (slice_number rest.now) }
+    ensures value { result ≡ node_visit rest.now node.now }
+    ensures sound { IsNode node.now }
+{
+    match node {
+        Node::Head(head) => visit_head(head),
+        Node::Interior(interior) => {
+            let (slice, _) = slice_of(rest);
+            visit_interior(interior, slice)
+        }
+        Node::Border(border) => visit_border(border, rest),
+    }
+}
+
 impl Tree {
     /// The visit of a node in the descent to a key, of which `rest` is what the layers above have left (Masstree, EuroSys
     /// 2012, section 4.6). A node that is locked is read as it stands.
@@ -74,15 +94,10 @@ impl Tree {
         requires { MayVisit self.now number.0 (slice_number rest.now) }
         ensures value { IsSomeAnd (node_at self.now.nodes number.0) (λ node. result ≡ node_visit rest.now node) }
         ensures leads { LeadsOn self.now number.0 rest.now result }
+        ensures tells { TellsVisit self.now number.0 rest.now result }
+        ensures arena { IsArena self.now }
     {
-        match self.node(number) {
-            Node::Head(head) => visit_head(head),
-            Node::Interior(interior) => {
-                let (slice, _) = slice_of(rest);
-                visit_interior(interior, slice)
-            }
-            Node::Border(border) => visit_border(border, rest),
-        }
+        visit_node(self.node(number), rest)
     }
 
     /// What a search in a border finds for a key, of which `rest` is what the layers above have left. Searches one border,
@@ -91,6 +106,9 @@ impl Tree {
         requires { IsSome (border_at self.now.nodes number.0) }
         ensures value { IsSomeAnd (border_at self.now.nodes number.0) (λ b. result ≡ found_for rest.now b.live) }
         ensures row { TellsRow self.now number.0 rest.now result }
+        ensures stands { IsSomeAnd (border_at self.now.nodes number.0) (λ b. StandsAt rest.now b.live result) }
+        ensures sound { IsSomeAnd (border_at self.now.nodes number.0) IsBorder }
+        ensures arena { IsArena self.now }
     {
         find(self.border(number), rest)
     }

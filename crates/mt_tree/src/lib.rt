@@ -10,6 +10,7 @@ mod spares;
 mod tree;
 mod visit;
 
+pub use descent::visit_node;
 pub use tree::{TOP, Tree};
 pub use visit::Visit;
 

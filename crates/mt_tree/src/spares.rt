@@ -1,9 +1,11 @@
 //! Numbers that are occupied, filled, given back, retired and freed, and what each change keeps.
 
 ghost use Rattle.std.specs.Prelude.{◌≡◌, ◌≢◌, ◌+◌, ◌<◌, ◌≤◌, ◌↔◌, ◌⊎◌, length, slice_get, All, None, Some, Err, IsSome, IsSomeAnd, IfOk, IfErr, OnOk, OnErr};
+ghost use Rattle.mt_types.specs.declared.limits.TheConstants.{MAX_NODES};
 ghost use Rattle.mt_border.specs.Border.{with_entries};
+ghost use Rattle.mt_border.specs.Order.{IsBorder};
 ghost use Rattle.mt_arena.specs.Node.{node_at, border_at, occupied, Updates};
-ghost use Rattle.mt_arena.specs.Arena.{without_node, with_retired, without_first_retired, with_border_changed};
+ghost use Rattle.mt_arena.specs.Arena.{without_node, with_retired, without_first_retired, with_border_changed, IsArena};
 ghost use Rattle.mt_tree.specs.Keeping.{KeepsTree, KeepsUnknown, IsUnknown, FreesNode};
 ghost use Rattle.mt_tree.specs.Spares.{MayFill};
 
@@ -23,12 +25,14 @@ impl Tree {
     /// `ArenaFull` where all 1,048,576 numbers name a node, `NoMemory` where an allocation is refused. Nothing is then changed.
     pub fn occupy(&mut self, node: Node) -> Result<NodeNo, Refusal>
         ensures vacant { IfOk result (λ number. node_at self.old.nodes number.0 ≡ None) }
+        ensures below { IfOk result (λ number. number.0 < MAX_NODES) }
         ensures updates { IfOk result (λ number. Updates self.old.nodes self.new.nodes number.0 (Some node)) }
         ensures occupied { OnOk result (occupied self.new.nodes ≡ occupied self.old.nodes + 1) }
         ensures retired { self.new.retired ≡ self.old.retired }
-        ensures full { (result ≡ Err Refusal.ArenaFull) ↔ (occupied self.old.nodes ≡ 1048576) }
+        ensures full { (result ≡ Err Refusal.ArenaFull) ↔ (occupied self.old.nodes ≡ MAX_NODES) }
         ensures only { IfErr result (λ refusal. (refusal ≡ Refusal.ArenaFull) ⊎ (refusal ≡ Refusal.NoMemory)) }
         ensures err { OnErr result (self.new ≡ self.old) }
+        ensures arena { IsArena self.new }
         ensures unknown { IfOk result (λ number. IsUnknown self.old number.0) }
         ensures keeps { KeepsTree self.old self.new }
     {
@@ -39,6 +43,7 @@ impl Tree {
     pub fn fill_border(&mut self, number: NodeNo, entries: Items<Entry>, right: Option<RightLink>)
         requires { IsSomeAnd (border_at self.old.nodes number.0) (λ b. MayFill b entries right) }
         ensures value { self.new ≡ with_border_changed self.old number.0 (λ b. with_entries b entries right) }
+        ensures sound { IsSomeAnd (border_at self.new.nodes number.0) IsBorder }
         ensures keeps { KeepsUnknown self.old self.new number.0 }
     {
         self.arena.border_mut(number).fill(entries, right);

@@ -1,11 +1,17 @@
 //! The tree itself: its nodes under their numbers.
 
 ghost use Rattle.std.specs.Prelude.{◌≡◌, ◌+◌, ℕ, List, Some, IsSome, IfOk, []};
+ghost use Rattle.mt_types.specs.declared.limits.TheConstants.{MAX_NODES};
 ghost use Rattle.mt_types.specs.declared.row.Row.{Row};
+ghost use Rattle.mt_slice.specs.Place.{Place};
+ghost use Rattle.mt_border.specs.Order.{IsBorder};
+ghost use Rattle.mt_interior.specs.Head.{IsHead};
+ghost use Rattle.mt_interior.specs.Interior.{IsInterior};
 ghost use Rattle.mt_arena.specs.Node.{node_at, head_at, interior_at, border_at, occupied};
 ghost use Rattle.mt_arena.specs.Arena.{IsArena};
+ghost use Rattle.mt_chart.specs.Tree.{Has};
 ghost use Rattle.mt_chart.specs.NewIndex.{new_chart};
-ghost use Rattle.mt_tree.specs.Seen.{HasRow};
+ghost use Rattle.mt_tree.specs.Seen.{arena_seen};
 ghost use Rattle.mt_tree.specs.Keeping.{IsIndexAt};
 ghost use Rattle.mt_tree.specs.NewTree.{IsNewTree};
 
@@ -46,8 +52,8 @@ impl Tree {
     /// `NoMemory` where an allocation is refused.
     pub fn open(alloc: Global) -> Result<Tree, NoMemory>
         ensures new { IfOk result IsNewTree }
-        ensures index { IfOk result (λ tree. (root : ℕ) × IsIndexAt tree 0 [] (new_chart root)) }
-        ensures empty { IfOk result (λ tree. (key : List ℕ) (row : Row) → HasRow tree key row → ⊥) }
+        ensures index { IfOk result (λ tree. (new : IsNewTree tree) → IsIndexAt tree 0 [] (new_chart new.root.0)) }
+        ensures empty { IfOk result (λ tree. (place : Place) (row : Row) → Has (arena_seen tree) place row → ⊥) }
     {
         let mut arena = Arena::open(alloc, Node::Head(Head::new(TOP, 0)))?;
         let Ok(root) = arena.spare(Node::Border(Border::new(alloc, 0, 0))) else {
@@ -59,7 +65,8 @@ impl Tree {
 
     /// How many numbers name no node. Constant cost.
     pub fn free_numbers(&self) -> usize
-        ensures value { result + occupied self.now.nodes ≡ 1048576 }
+        ensures value { result + occupied self.now.nodes ≡ MAX_NODES }
+        ensures arena { IsArena self.now }
     {
         self.arena.free_numbers()
     }
@@ -68,7 +75,7 @@ impl Tree {
     pub fn node(&self, number: NodeNo) -> &Node
         requires { IsSome (node_at self.now.nodes number.0) }
         ensures value { node_at self.now.nodes number.0 ≡ Some result.now }
-        ensures sound { IsArena self.now }
+        ensures arena { IsArena self.now }
     {
         self.arena.get(number)
     }
@@ -77,33 +84,29 @@ impl Tree {
     pub fn head(&self, number: NodeNo) -> &Head
         requires { IsSome (head_at self.now.nodes number.0) }
         ensures value { head_at self.now.nodes number.0 ≡ Some result.now }
-        ensures sound { IsArena self.now }
+        ensures sound { IsHead result.now }
+        ensures arena { IsArena self.now }
     {
-        match self.node(number) {
-            Node::Head(head) => head,
-            Node::Interior(_) | Node::Border(_) => unreachable!(),
-        }
+        self.arena.head(number)
     }
 
     /// The interior node under a number. Constant cost.
     pub fn interior(&self, number: NodeNo) -> &Interior
         requires { IsSome (interior_at self.now.nodes number.0) }
         ensures value { interior_at self.now.nodes number.0 ≡ Some result.now }
+        ensures sound { IsInterior result.now }
+        ensures arena { IsArena self.now }
     {
-        match self.node(number) {
-            Node::Interior(interior) => interior,
-            Node::Head(_) | Node::Border(_) => unreachable!(),
-        }
+        self.arena.interior(number)
     }
 
     /// The border under a number. Constant cost.
     pub fn border(&self, number: NodeNo) -> &Border
         requires { IsSome (border_at self.now.nodes number.0) }
         ensures value { border_at self.now.nodes number.0 ≡ Some result.now }
+        ensures sound { IsBorder result.now }
+        ensures arena { IsArena self.now }
     {
-        match self.node(number) {
-            Node::Border(border) => border,
-            Node::Head(_) | Node::Interior(_) => unreachable!(),
-        }
+        self.arena.border(number)
     }
 }
