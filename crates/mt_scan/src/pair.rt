@@ -10,7 +10,7 @@ ghost use Rattle.mt_tree.specs.Seen.{entry_place};
 ghost use Rattle.mt_scan.specs.Scan.{HoldsKey};
 
 use bytes::Bytes;
-use mt_border::{Content, Entry, Suffix};
+use mt_border::{Content, Entry};
 use mt_slice::SLICE_BYTES;
 use mt_types::copying::TryCopy;
 use mt_types::items::Items;
@@ -30,15 +30,6 @@ fn slice_bytes(alloc: Global, slices: &[u64]) -> Result<Vec<u8>, NoMemory>
     Ok(bytes)
 }
 
-// The bytes of a suffix, each of which is below 256.
-fn suffix_bytes(suffix: &Suffix) -> &[u8]
-    ensures value { result.now ≡ suffix.now }
-    ensures bytes { AreBytes suffix.now }
-{
-    let bytes = suffix.as_slice();
-    bytes
-}
-
 // Appends the bytes of an entry's key in its layer. The entry has a row.
 fn push_entry(bytes: &mut Vec<u8>, entry: &Entry) -> Result<(), NoMemory>
     requires { IsSome (entry_row entry.now) }
@@ -49,7 +40,7 @@ fn push_entry(bytes: &mut Vec<u8>, entry: &Entry) -> Result<(), NoMemory>
         Content::Short(length, _) => bytes.extend_from_slice(&slice[..length.get()])?,
         Content::Long(suffix, _) => {
             bytes.extend_from_slice(&slice)?;
-            bytes.extend_from_slice(suffix_bytes(suffix))?;
+            bytes.extend_from_slice(suffix.as_slice())?;
         }
         Content::Link(_) => unreachable!(),
     }
@@ -76,10 +67,9 @@ pub(crate) fn row_of(entry: &Entry) -> &Row
     requires { IsSome (entry_row entry.now) }
     ensures { entry_row entry.now ≡ Some result.now }
 {
-    match &entry.content {
-        Content::Short(_, row) => row,
-        Content::Long(_, row) => row,
-        Content::Link(_) => unreachable!(),
+    match entry.row() {
+        Some(row) => row,
+        None => unreachable!(),
     }
 }
 

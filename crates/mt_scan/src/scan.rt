@@ -20,6 +20,7 @@ use mt_types::refusal::NoMemory;
 use mt_types::row::{ColumnNumbers, Pairs, Row};
 use std::alloc::Global;
 use std::marker::Model;
+use std::mem;
 
 /// What the visit of a border comes to.
 #[derive(Clone, Copy, Debug, PartialEq, Eq)]
@@ -121,7 +122,9 @@ impl Scan {
         requires room { length self.old.taken < self.old.limit }
         requires row { IsSome (entry_row entry.now) }
         requires key { HoldsKey self.old.prefix entry.now }
-        ensures { OnOk result (Takes self.old entry.now self.new) }
+        ensures taken { OnOk result (Takes self.old entry.now self.new) }
+        ensures limit { self.new.limit ≡ self.old.limit }
+        ensures asked { self.new.asked ≡ self.old.asked }
     {
         let key = key_of(alloc, self.cursor.above(), entry)?;
         if !self.is_taken(&key) {
@@ -133,7 +136,9 @@ impl Scan {
 
     // Goes into the layer below a slice.
     fn enter(&mut self, slice: u64) -> Result<(), NoMemory>
-        ensures { OnOk result (self.new ≡ record self.old { prefix = slice ∷ self.old.prefix; at = entered_at slice self.old.at }) }
+        ensures entered { OnOk result (self.new ≡ record self.old { prefix = slice ∷ self.old.prefix; at = entered_at slice self.old.at }) }
+        ensures limit { self.new.limit ≡ self.old.limit }
+        ensures asked { self.new.asked ≡ self.old.asked }
     {
         self.cursor.enter(slice)
     }
@@ -172,15 +177,15 @@ impl Scan {
     ///
     /// # Errors
     ///
-    /// `NoMemory` where an allocation is refused. The call is then to be refused too: what the scan has done of the visit
-    /// is not said.
+    /// `NoMemory` where an allocation is refused. The call is then to be refused too: of what the scan has done of the
+    /// visit, no more is said than that its limit and its columns stay.
     pub fn visit(&mut self, alloc: Global, border: &Border) -> Result<Visited, NoMemory>
         requires { HoldsKeys self.old.prefix border.now.live }
         ensures visited { IfOk result (λ visited. VisitsBorder self.old border.now visited self.new) }
         ensures full { IfOk result (λ visited. length self.new.taken ≡ self.old.limit → visited ≡ Visited.Done) }
         ensures home { IfOk result (λ visited. visited ≡ Visited.Top → self.new.prefix ≡ []) }
-        ensures limit { OnOk result (self.new.limit ≡ self.old.limit) }
-        ensures asked { OnOk result (self.new.asked ≡ self.old.asked) }
+        ensures limit { self.new.limit ≡ self.old.limit }
+        ensures asked { self.new.asked ≡ self.old.asked }
     {
         for place in 0..border.len() {
             if self.is_full() {
@@ -200,6 +205,16 @@ impl Scan {
             return Ok(Visited::Done);
         }
         Ok(self.leave(border.right()))
+    }
+
+    /// Takes out the pairs that it has taken, in the order of their keys: it is then as if it had taken none. Constant
+    /// cost.
+    pub fn take_pairs(&mut self, alloc: Global) -> Pairs
+        ensures value { result ≡ self.old.taken }
+        ensures bytes { KeysAreBytes self.old.taken }
+        ensures left { self.new ≡ record self.old { taken = [] } }
+    {
+        Items::from_vec(mem::replace(&mut self.taken, Vec::new(alloc)))
     }
 
     /// The pairs that it has taken, in the order of their keys. Constant cost.

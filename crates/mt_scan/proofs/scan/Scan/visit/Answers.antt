@@ -20,7 +20,7 @@ take-requires-clause-key c =
 
 pub returns-in-Enter-clause-visited : goal.returns-in-Enter-clause-visited
 returns-in-Enter-clause-visited c =
-    comes-enter c.args.self.now c.loop-place.self c.args.border.now c.loop-place.place c.loop-place.invariant c.entry-entry.result.now c.in-Enter.head c.enter.new.self c.entry-entry.ensures.value c.in-Enter.ensures c.in_ok-enter-in-Enter.ensures
+    comes-enter c.args.self.now c.loop-place.self c.args.border.now c.loop-place.place c.loop-place.invariant c.entry-entry.result.now c.in-Enter.head c.enter.new.self c.entry-entry.ensures.value c.in-Enter.ensures c.in_ok-enter-in-Enter.ensures.entered
 
 pub loop-place-preserved : goal.loop-place-preserved
 loop-place-preserved c = elim c.match-step.branch [
@@ -30,5 +30,5 @@ loop-place-preserved c = elim c.match-step.branch [
   | in-Take+in_ok-take-in-Take w ↦
       subst (λ (s : ScanView). Visiting c.args.self.now s c.args.border.now (c.loop-place.place + 1)) (sym w.self-is)
       (goes-on_taking c.args.self.now c.loop-place.self c.args.border.now c.loop-place.place c.loop-place.invariant c.entry-entry.result.now w.take.new.self c.entry-entry.ensures.value w.in-Take.ensures
-      (c.is_full.ensures.room.0 c.if-is_full.false) w.in_ok-take-in-Take.ensures)
+      (c.is_full.ensures.room.0 c.if-is_full.false) w.in_ok-take-in-Take.ensures.taken)
 ]
