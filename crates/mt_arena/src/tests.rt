@@ -72,3 +72,16 @@ fn retired_is_freed_first(rt: HostRuntime) -> Result<(), Fail> {
     assert_eq!(rt; arena.len(), 1);
     Ok(())
 }
+
+#[test]
+fn spare_after_a_retire(rt: HostRuntime) -> Result<(), Fail> {
+    let mut arena = Arena::open(rt.alloc(), head())?;
+    let gone = arena.spare(head())?;
+    arena.retire(gone, 3);
+    let other = arena.spare(head())?;
+    assert!(rt; other != gone);
+    assert_eq!(rt; arena.len(), 3);
+    arena.free_first_retired();
+    assert_eq!(rt; arena.spare(head()), Ok(gone));
+    Ok(())
+}

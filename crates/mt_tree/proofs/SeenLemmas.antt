@@ -4,9 +4,9 @@ use Rattle.std.specs.Option.{option_map, option_and_then}
 use Rattle.std.specs.Prelude.{slice_set, IsSomeAnd}
 use Rattle.mt_border.specs.Border.{BorderView}
 use Rattle.mt_border.specs.Order.{IsBorder}
-use Rattle.mt_interior.specs.Head.{HeadView}
-use Rattle.mt_interior.specs.Interior.{InteriorView}
-use Rattle.mt_arena.specs.Node.{node_at, head_of, border_of, head_at, interior_at, border_at}
+use Rattle.mt_interior.specs.Head.{HeadView, IsHead}
+use Rattle.mt_interior.specs.Interior.{InteriorView, IsInterior}
+use Rattle.mt_arena.specs.Node.{node_at, head_of, interior_of, border_of, head_at, interior_at, border_at}
 use Rattle.mt_arena.specs.Arena.{ArenaView, with_node_at, with_head_changed, with_interior_changed, with_border_changed, head_changed, interior_changed, border_changed}
 use Rattle.mt_arena.specs.declared.node.Node.{Node}
 use Rattle.mt_arena.specs.declared.node.Node.TheVariants.{Head, Interior, Border}
@@ -84,11 +84,23 @@ pub changed-border : (a : ArenaView) (number : ℕ) (b : BorderView) (change : B
 changed-border a number b change is = ap (λ (n : Option Node). with_nodes a number (option_map (border_changed change) n)) (node-from_border a.nodes number b is)
 
 -- what is written under a number is what it then names
-pub sound_written : (a : ArenaView) (number : ℕ) (old new : BorderView) → border_at a.nodes number ≡ Some old → IsBorder new → IsSomeAnd (border_at (with_node_at a number (Border new)).nodes number) IsBorder
-sound_written a number old new is sound =
-    let updates = updates-with_node a.nodes number (Border new) (rw (node-from_border a.nodes number old is) (some (Border old))) in
-    let now : border_at (with_node_at a number (Border new)).nodes number ≡ Some new = ap (option_and_then border_of) updates.changed in
-    rw now sound
+now_names : (a : ArenaView) (number : ℕ) (old node : Node) → node_at a.nodes number ≡ Some old → node_at (with_node_at a number node).nodes number ≡ Some node
+now_names a number old node is = (updates-with_node a.nodes number node (rw is (some old))).changed
   where
     some : (n : Node) → IsSome (Some n)
     some n = cc
+
+pub sound_head : (a : ArenaView) (number : ℕ) (old new : HeadView) → head_at a.nodes number ≡ Some old → IsHead new → IsSomeAnd (head_at (with_node_at a number (Head new)).nodes number) IsHead
+sound_head a number old new is sound =
+    let now : head_at (with_node_at a number (Head new)).nodes number ≡ Some new = ap (option_and_then head_of) (now_names a number (Head old) (Head new) (node-from_head a.nodes number old is)) in
+    rw now sound
+
+pub sound_interior : (a : ArenaView) (number : ℕ) (old new : InteriorView) → interior_at a.nodes number ≡ Some old → IsInterior new → IsSomeAnd (interior_at (with_node_at a number (Interior new)).nodes number) IsInterior
+sound_interior a number old new is sound =
+    let now : interior_at (with_node_at a number (Interior new)).nodes number ≡ Some new = ap (option_and_then interior_of) (now_names a number (Interior old) (Interior new) (node-from_interior a.nodes number old is)) in
+    rw now sound
+
+pub sound_border : (a : ArenaView) (number : ℕ) (old new : BorderView) → border_at a.nodes number ≡ Some old → IsBorder new → IsSomeAnd (border_at (with_node_at a number (Border new)).nodes number) IsBorder
+sound_border a number old new is sound =
+    let now : border_at (with_node_at a number (Border new)).nodes number ≡ Some new = ap (option_and_then border_of) (now_names a number (Border old) (Border new) (node-from_border a.nodes number old is)) in
+    rw now sound

@@ -82,7 +82,8 @@ impl Tree {
         ensures sound { IsSomeAnd (border_at self.new.nodes number.0) IsBorder }
         ensures hides { HidesRowAt self.old self.new number.0 place }
     {
-        self.arena.border_mut(number).hide(place);
+        let border = self.arena.border_mut(number);
+        border.hide(place);
     }
 
     /// Gives the entry at a place of a border, which has a row, another one, and returns the old one. Constant cost.

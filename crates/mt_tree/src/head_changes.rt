@@ -1,7 +1,7 @@
 //! What a call changes in the head of a layer, and what each change keeps.
 
 ghost use Rattle.std.specs.Prelude.{◌≡◌, None, IsSomeAnd, true, false};
-ghost use Rattle.mt_interior.specs.Head.{with_root, with_lock, with_deleted};
+ghost use Rattle.mt_interior.specs.Head.{with_root, with_lock, with_deleted, IsHead};
 ghost use Rattle.mt_arena.specs.Node.{head_at, interior_at, border_at};
 ghost use Rattle.mt_arena.specs.Arena.{with_head_changed};
 ghost use Rattle.mt_tree.specs.Keeping.{KeepsTree, KeepsAlong};
@@ -16,6 +16,7 @@ impl Tree {
     pub fn unlock_head(&mut self, number: NodeNo)
         requires { IsSomeAnd (head_at self.old.nodes number.0) (λ head. head.version.locked ≡ true) }
         ensures value { self.new ≡ with_head_changed self.old number.0 (λ head. with_lock head false) }
+        ensures sound { IsSomeAnd (head_at self.new.nodes number.0) IsHead }
         ensures keeps { KeepsTree self.old self.new }
     {
         self.arena.head_mut(number).unlock();
@@ -25,6 +26,7 @@ impl Tree {
     pub fn mark_head_deleted(&mut self, number: NodeNo)
         requires { IsSomeAnd (head_at self.old.nodes number.0) (λ head. IsSomeAnd (border_at self.old.nodes head.root.0) (λ root. root.right ≡ None)) }
         ensures value { self.new ≡ with_head_changed self.old number.0 with_deleted }
+        ensures sound { IsSomeAnd (head_at self.new.nodes number.0) IsHead }
         ensures keeps { KeepsTree self.old self.new }
     {
         self.arena.head_mut(number).mark_deleted();
@@ -34,6 +36,7 @@ impl Tree {
     pub fn name_root(&mut self, number: NodeNo, root: NodeNo)
         requires { IsSomeAnd (head_at self.old.nodes number.0) (λ head. IsSomeAnd (interior_at self.old.nodes root.0) (IsRootOver head)) }
         ensures value { IsSomeAnd (interior_at self.old.nodes root.0) (λ interior. self.new ≡ with_head_changed self.old number.0 (λ head. with_root head root interior.level)) }
+        ensures sound { IsSomeAnd (head_at self.new.nodes number.0) IsHead }
         ensures keeps { KeepsAlong self.old self.new (NamesRootAt self.old number.0 root.0) }
     {
         let level = self.interior(root).level();
@@ -44,6 +47,7 @@ impl Tree {
     pub fn name_root_over_half(&mut self, number: NodeNo, root: NodeNo)
         requires { IsSomeAnd (head_at self.old.nodes number.0) (λ head. IsSomeAnd (interior_at self.old.nodes root.0) (IsRootOverHalf self.old.nodes head)) }
         ensures value { IsSomeAnd (interior_at self.old.nodes root.0) (λ interior. self.new ≡ with_head_changed self.old number.0 (λ head. with_root head root interior.level)) }
+        ensures sound { IsSomeAnd (head_at self.new.nodes number.0) IsHead }
         ensures keeps { KeepsRootOverHalf self.old self.new number.0 root.0 }
     {
         let root_level = self.interior(root).level();
@@ -55,6 +59,7 @@ impl Tree {
         requires named { IsSomeAnd (head_at self.old.nodes number.0) (λ head. head.root ≡ gone) }
         requires one { IsSomeAnd (interior_at self.old.nodes gone.0) HasOneChild }
         ensures value { IsSomeAnd (child_at self.old.nodes gone.0 0) (λ child. self.new ≡ with_head_changed self.old number.0 (λ head. with_root head child.node child.level)) }
+        ensures sound { IsSomeAnd (head_at self.new.nodes number.0) IsHead }
         ensures keeps { KeepsAlong self.old self.new (BypassesRootAt number.0 gone.0) }
     {
         let child = self.interior(gone).child(0);

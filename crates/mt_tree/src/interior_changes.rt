@@ -16,6 +16,7 @@ impl Tree {
     pub fn lock_interior(&mut self, number: NodeNo)
         requires { IsSomeAnd (interior_at self.old.nodes number.0) (λ interior. interior.version.locked ≡ false) }
         ensures value { self.new ≡ with_interior_changed self.old number.0 (λ interior. with_lock interior true) }
+        ensures sound { IsSomeAnd (interior_at self.new.nodes number.0) IsInterior }
         ensures keeps { KeepsTree self.old self.new }
     {
         self.arena.interior_mut(number).lock();
@@ -25,6 +26,7 @@ impl Tree {
     pub fn unlock_interior(&mut self, number: NodeNo)
         requires { IsSomeAnd (interior_at self.old.nodes number.0) (λ interior. interior.version.locked ≡ true) }
         ensures value { self.new ≡ with_interior_changed self.old number.0 (λ interior. with_lock interior false) }
+        ensures sound { IsSomeAnd (interior_at self.new.nodes number.0) IsInterior }
         ensures keeps { IsSomeAnd (interior_at self.old.nodes number.0) (λ interior. KeepsWhere self.old self.new (λ chart. IsNotGone chart number.0 ⊎ (interior.version.deleted ≡ true))) }
     {
         self.arena.interior_mut(number).unlock();
@@ -34,6 +36,7 @@ impl Tree {
     pub fn mark_interior_deleted(&mut self, number: NodeNo)
         requires { IsSome (interior_at self.old.nodes number.0) }
         ensures value { self.new ≡ with_interior_changed self.old number.0 with_deleted }
+        ensures sound { IsSomeAnd (interior_at self.new.nodes number.0) IsInterior }
         ensures keeps { KeepsTree self.old self.new }
     {
         self.arena.interior_mut(number).mark_deleted();
@@ -44,6 +47,7 @@ impl Tree {
         requires empty { IsSomeAnd (interior_at self.old.nodes number.0) (λ interior. interior.children ≡ []) }
         requires sound { IsSomeAnd (interior_at self.old.nodes number.0) (λ interior. IsInterior (with_children interior children.now)) }
         ensures value { self.new ≡ with_interior_changed self.old number.0 (λ interior. with_children interior children.now) }
+        ensures sound { IsSomeAnd (interior_at self.new.nodes number.0) IsInterior }
         ensures keeps { KeepsTree self.old self.new }
     {
         self.arena.interior_mut(number).fill(children);
@@ -54,6 +58,7 @@ impl Tree {
     pub fn post_border(&mut self, number: NodeNo, posted: NodeNo)
         requires { IsSomeAnd (border_at self.old.nodes posted.0) (λ border. IsSomeAnd (interior_at self.old.nodes number.0) (HasRoomFrom border.low)) }
         ensures value { IsSomeAnd (border_at self.old.nodes posted.0) (λ border. self.new ≡ with_interior_changed self.old number.0 (λ interior. with_child interior (record { low = border.low; node = posted; level = 0 }))) }
+        ensures sound { IsSomeAnd (interior_at self.new.nodes number.0) IsInterior }
         ensures keeps { KeepsAlong self.old self.new (PostsAt number.0 posted.0) }
     {
         let low = self.border(posted).low();
@@ -73,6 +78,7 @@ impl Tree {
         requires room { IsSomeAnd (interior_at self.old.nodes half.0) (λ upper. IsSomeAnd (interior_at self.old.nodes number.0) (HasRoomFrom upper.low)) }
         requires lower { IsSomeAnd (interior_at self.old.nodes half.0) (λ upper. IsSomeAnd (interior_at self.old.nodes number.0) (λ interior. upper.level < interior.level)) }
         ensures value { IsSomeAnd (interior_at self.old.nodes half.0) (λ upper. self.new ≡ with_interior_changed self.old number.0 (λ interior. with_child interior (record { low = upper.low; node = half; level = upper.level }))) }
+        ensures sound { IsSomeAnd (interior_at self.new.nodes number.0) IsInterior }
         ensures keeps { KeepsHalf self.old self.new number.0 half.0 }
     {
         let upper = self.interior(half);
@@ -89,6 +95,7 @@ impl Tree {
         requires later { 0 < place }
         requires within { IsSome (child_at self.old.nodes number.0 place) }
         ensures value { self.new ≡ with_interior_changed self.old number.0 (λ interior. without_child interior place) }
+        ensures sound { IsSomeAnd (interior_at self.new.nodes number.0) IsInterior }
         ensures keeps { IsSomeAnd (child_at self.old.nodes number.0 place) (λ child. KeepsAlong self.old self.new (DropsAt number.0 child)) }
     {
         self.arena.interior_mut(number).drop_child(place);
@@ -100,6 +107,7 @@ impl Tree {
         requires one { IsSomeAnd (interior_at self.old.nodes gone.0) HasOneChild }
         requires lower { IsSomeAnd (child_at self.old.nodes gone.0 0) (λ child. IsSomeAnd (interior_at self.old.nodes number.0) (λ interior. child.level < interior.level)) }
         ensures value { IsSomeAnd (child_at self.old.nodes gone.0 0) (λ child. self.new ≡ with_interior_changed self.old number.0 (λ interior. with_bypass interior place child.node child.level)) }
+        ensures sound { IsSomeAnd (interior_at self.new.nodes number.0) IsInterior }
         ensures keeps { KeepsAlong self.old self.new (BypassesAt number.0 gone.0) }
     {
         let child = self.interior(gone).child(0);
@@ -113,6 +121,7 @@ impl Tree {
         requires some { 1 ≤ count }
         requires within { IsSomeAnd (interior_at self.old.nodes number.0) (λ interior. count ≤ length interior.children) }
         ensures value { self.new ≡ with_interior_changed self.old number.0 (λ interior. with_first interior count) }
+        ensures sound { IsSomeAnd (interior_at self.new.nodes number.0) IsInterior }
         ensures keeps { KeepsWhere self.old self.new (CutsAt self.old number.0 count) }
     {
         self.arena.interior_mut(number).keep_first(count);

@@ -183,3 +183,56 @@ fn hidden_slot_is_filled_again(rt: HostRuntime) -> Result<(), Fail> {
     assert_eq!(rt; border.version.vinsert(), 1);
     Ok(())
 }
+
+// Makes the entry at a place a link, where it has the row of a longer key.
+fn link(border: &mut Border, place: usize, head: NodeNo) {
+    if place < border.len() {
+        let is_long = matches!(border.entry(place).content, Content::Long(_, _));
+        if is_long {
+            border.make_link(place, head);
+        }
+    }
+}
+
+#[test]
+fn upper_entries_of_each_kind(rt: HostRuntime) -> Result<(), Fail> {
+    let alloc = rt.alloc();
+    let mut border = ten_and_five(alloc)?;
+    let upper = copied_from(alloc, &border, 8)?;
+    assert_eq!(rt; upper.len(), 7);
+    assert!(rt; matches!(upper[0].content, Content::Short(_, _)));
+    assert!(rt; matches!(upper[1].content, Content::Long(_, _)));
+    link(&mut border, 9, NodeNo(7));
+    let linked = copied_from(alloc, &border, 8)?;
+    assert_eq!(rt; linked.len(), 7);
+    assert!(rt; matches!(linked[1].content, Content::Link(NodeNo(7))));
+    Ok(())
+}
+
+// Copies of the entries from a place on.
+fn copied_from(alloc: Global, border: &Border, place: usize) -> Result<Vec<Entry>, Fail> {
+    if place > border.len() {
+        return Err("fewer entries")?;
+    }
+    Ok(border.copy_upper(alloc, place)?.into_vec())
+}
+
+#[test]
+fn entries_are_copied(rt: HostRuntime) -> Result<(), Fail> {
+    let alloc = rt.alloc();
+    let entries = [
+        Entry::of_row(Bytes::from_static(b"abc"), row(alloc))?,
+        Entry::of_row(Bytes::from_static(b"0123456789"), row(alloc))?,
+        Entry {
+            slice: 3,
+            content: Content::Link(NodeNo(4)),
+        },
+    ];
+    for entry in &entries {
+        let copy = entry.copy(alloc)?;
+        assert_eq!(rt; copy.slice, entry.slice);
+        assert_eq!(rt; copy.class(), entry.class());
+        assert!(rt; copy.row() == entry.row());
+    }
+    Ok(())
+}

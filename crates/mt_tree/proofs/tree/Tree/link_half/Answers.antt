@@ -1,6 +1,6 @@
 -- What it keeps of the tree, by the law of its step.
 use Rattle.mt_tree.proofs.SplitSteps.{half_links}
-use Rattle.mt_tree.proofs.SeenLemmas.{sound_written}
+use Rattle.mt_tree.proofs.SeenLemmas.{sound_border}
 use Rattle.mt_tree.proofs.tree.Tree.link_half.Goals as goal
 
 pub returns-clause-links : goal.returns-clause-links
@@ -11,4 +11,4 @@ returns-clause-links c =
     c.border_mut.ensures.value filled required c.low-low.ensures.value c.link_right.ensures.value c.low-low.ensures.sound c.link_right.ensures.sound)
 
 pub returns-clause-sound : goal.returns-clause-sound
-returns-clause-sound c = sound_written c.self.inside.arena c.args.number.0 c.border_mut.result.now c.link_right.new.self c.border_mut.ensures.value c.link_right.ensures.sound
+returns-clause-sound c = sound_border c.self.inside.arena c.args.number.0 c.border_mut.result.now c.link_right.new.self c.border_mut.ensures.value c.link_right.ensures.sound

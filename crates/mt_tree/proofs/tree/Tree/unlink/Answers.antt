@@ -1,6 +1,6 @@
 -- What it keeps of the tree, by the law of its step.
 use Rattle.mt_tree.proofs.UnlinkSteps.{may_take_right, unlinks_at}
-use Rattle.mt_tree.proofs.SeenLemmas.{sound_written}
+use Rattle.mt_tree.proofs.SeenLemmas.{sound_border}
 use Rattle.mt_tree.proofs.tree.Tree.unlink.Goals as goal
 
 pub set_right-requires : goal.set_right-requires
@@ -17,4 +17,4 @@ returns-clause-unlinks c =
     c.right-right.result c.set_right.new.self c.right-right.ensures.value c.set_right.ensures.value)
 
 pub returns-clause-sound : goal.returns-clause-sound
-returns-clause-sound c = sound_written c.self.inside.arena c.args.number.0 c.border_mut.result.now c.set_right.new.self c.border_mut.ensures.value c.set_right.ensures.sound
+returns-clause-sound c = sound_border c.self.inside.arena c.args.number.0 c.border_mut.result.now c.set_right.new.self c.border_mut.ensures.value c.set_right.ensures.sound
