@@ -8,7 +8,9 @@ use Rattle.std.specs.declared.cmp.Ordering.TheVariants.{Equal}
 use Rattle.std.specs.Ordering.{is_lt, is_le, is_ge}
 use Rattle.mt_slice.specs.Place.{Place, Precedes, place_of, AreBytes}
 use Rattle.mt_chart.specs.Tree.{Among, first, later}
-use Rattle.mt_chart.specs.KeyAnswer.{as_places, KeysAreBytes, AnswersKeys}
+use Rattle.mt_types.specs.Ranges.{IsRangeAnswer}
+use Rattle.mt_types.proofs.RangeLemmas.{given_once}
+use Rattle.mt_chart.specs.KeyAnswer.{as_places, KeysAreBytes}
 use Rattle.mt_chart.specs.Scan.{AtMost, Pair, Rising, UpTo, Listed, AnswersRange}
 use Rattle.mt_slice.proofs.KeyOrder.{KeyLess, place_order, key_three, cmp_less, cmp_greater, cmp_equal}
 use Rattle.mt_slice.proofs.PlaceOrder.{never}
@@ -101,14 +103,14 @@ same_length [] = refl
 same_length (x ∷ xs) = ap suc (same_length xs)
 
 pub answers_keys : {V : Type 0} (stood : Place → V → Type 0) (throughout : Place → Type 0) (start : List ℕ) (limit : ℕ) (pairs : List (List ℕ × V)) → AreBytes start → KeysAreBytes pairs →
-    AnswersRange stood throughout (place_of start) limit (as_places pairs) → AnswersKeys (λ key v. stood (place_of key) v) (λ key. throughout (place_of key)) start limit pairs
+    AnswersRange stood throughout (place_of start) limit (as_places pairs) → IsRangeAnswer (λ key v. stood (place_of key) v) (λ key. AreBytes key × throughout (place_of key)) start limit pairs
 answers_keys {V} stood throughout start limit pairs c b a = record {
   rises = keys_rise pairs b a.rises;
   from_start = all_from (λ (pair : List ℕ × V). IsTrue (is_ge (key_cmp pair.0 start))) pairs
       (λ x i. ge_from x.0 start (key_bytes x pairs b i) c (a.from_start (record { key = place_of x.0; value = x.1 }) (among_place x pairs i)));
   few = (let e : length (as_places pairs) ≡ length pairs = same_length pairs in let f : length (as_places pairs) ≤ limit = a.few in omega arith);
-  stands = all_from (λ (pair : List ℕ × V). stood (place_of pair.0) pair.1) pairs (λ x i. a.shown (record { key = place_of x.0; value = x.1 }) (among_place x pairs i));
-  complete = λ key d from t h. found key d (a.complete (place_of key) (from_ge key start d c from) t (bound key d h));
+  stood = all_from (λ (pair : List ℕ × V). stood (place_of pair.0) pair.1) pairs (λ x i. a.shown (record { key = place_of x.0; value = x.1 }) (among_place x pairs i));
+  once = λ key from t h. given_once key pairs (keys_rise pairs b a.rises) (found key t.0 (a.complete (place_of key) (from_ge key start t.0 c from) t.1 (bound key t.0 h)));
 }
   where
     bound : (key : List ℕ) → AreBytes key → (length pairs < limit) ⊎ Any (λ (pair : List ℕ × V). IsTrue (is_le (key_cmp key pair.0))) pairs → (length (as_places pairs) < limit) ⊎ UpTo (place_of key) (as_places pairs)

@@ -6,7 +6,8 @@ use Rattle.mt_chart.specs.Tree.{Entry, Right, BorderNode, border, Arena, Below}
 use Rattle.mt_chart.specs.Chart.{Chart, IsTree}
 use Rattle.mt_chart.specs.Scan.{Pair, answers, Outcome, Visits, AnswersRange, OpenRange}
 use Rattle.mt_chart.specs.ScanRun.{Stood, Throughout, EntriesInOrder, Scans, Steady, Never}
-use Rattle.mt_chart.specs.KeyAnswer.{as_places, KeysAreBytes, AnswersKeys}
+use Rattle.mt_types.specs.Ranges.{IsRangeAnswer}
+use Rattle.mt_chart.specs.KeyAnswer.{as_places, KeysAreBytes}
 
 -- at each moment of a scan the invariant holds, and all before its cursor is done
 abbrev pub ScansStayOpen : Type 0
@@ -24,11 +25,11 @@ abbrev pub VisitsHaveOutcomes : Type 0
 VisitsHaveOutcomes = (show : Row → Row) (limit : ℕ) (prefix : List ℕ) (at : Place) (right : Option Right) (entries : List Entry) (taken : List (Pair Row)) → length taken ≤ limit →
     (outcome : Outcome Row) × Visits show limit prefix at right entries taken outcome
 
--- a right answer by places is a right answer by keys
+-- a right answer by places is a right answer by keys, of bytes
 abbrev pub AnswersAreOfKeys : Type 0
 AnswersAreOfKeys = (show : Row → Row) (past : List Arena) (start : List ℕ) (limit : ℕ) (pairs : List (List ℕ × Row)) → AreBytes start → KeysAreBytes pairs →
     AnswersRange (Stood show past) (Throughout past) (place_of start) limit (as_places pairs) →
-    AnswersKeys (λ key row. Stood show past (place_of key) row) (λ key. Throughout past (place_of key)) start limit pairs
+    IsRangeAnswer (λ key row. Stood show past (place_of key) row) (λ key. AreBytes key × Throughout past (place_of key)) start limit pairs
 
 -- what a scan reads of a key whose row nobody changed is that row
 abbrev pub SteadyRowsAreRead : Type 0
