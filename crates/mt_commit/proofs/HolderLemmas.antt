@@ -1,6 +1,7 @@
 -- Counts of numbers, and the holders that they stand for.
-use Rattle.std.proofs.Common.{◌≡◌, ℕ, zero, suc, ◌+◌, ◌-◌, ◌<◌, ◌≤◌, ◌≢◌, Bool, true, false, cond, List, [], ◌∷◌, ◌++◌, replicate, Option, Some, None, ap, sym, refl, ◌∙◌, subst, inl, inr, arith, add-one}
-use Rattle.std.specs.Prelude.{All, slice_get}
+use Rattle.std.proofs.Common.{◌≡◌, ℕ, zero, suc, ◌+◌, ◌-◌, ◌<◌, ◌≤◌, ◌≢◌, Bool, true, false, cond, List, [], ◌∷◌, ◌++◌, replicate, Option, Some, None, ap, sym, refl, ◌∙◌, subst, inl, inr, arith, add-one, length-append}
+use Rattle.std.specs.Prelude.{All, Contains, slice_get, slice_index_or, nat_le, length}
+use Rattle.std.proofs.lemmas.List.{length-replicate}
 use Rattle.std.proofs.lemmas.List.Elements.{recursion_from_All, All-same}
 use Rattle.std.specs.declared.cmp.Ordering.TheVariants.{Less, Equal, Greater}
 use Rattle.std.specs.Ordering.{nat_cmp, is_eq, match_ordering}
@@ -299,3 +300,40 @@ pub written_less : (m n : Tree) (number old : ℕ) (holders : List ℕ) → each
     → Some old ≡ tree.get nat_cmp m number → tree.WritesThrough nat_cmp (nat_cmp number) m (old - 1) n → each_held n.entries ≡ without_holder number holders
 written_less m n number old holders is held found w =
     ap each_held w.0 ∙ held_less number old m.entries held (sym found) ∙ ap (without_holder number) is
+
+length-same : (c k : ℕ) (holders : List ℕ) → length (replicate c k ++ holders) ≡ c + length holders
+length-same c k holders = length-append (replicate c k) holders ∙ ap (λ n. n + length holders) (length-replicate c k)
+
+-- a count is no more than the holders
+pub count_within : (test : ℕ → Bool) (entries : Counts) (c : ℕ) → lookup test entries ≡ Some c → c ≤ length (each_held entries)
+count_within test [] c found = cc
+count_within test (e ∷ entries) c found =
+    let long = length-same e.1 e.0 (each_held entries) in
+    elim (test e.0) as (λ b. cond b (Some e.1) (lookup test entries) ≡ Some c → c ≤ length (each_held (e ∷ entries))) [
+      | true ↦ λ f. let same : e.1 ≡ c = cc in omega arith
+      | false ↦ λ f. let rest = count_within test entries c f in omega arith
+    ] found
+
+-- a holder more, and one less
+pub length-with : (number : ℕ) (holders : List ℕ) → length (with_holder number holders) ≡ length holders + 1
+length-with number [] = refl
+length-with number (holder ∷ holders) =
+    let rest = length-with number holders in
+    elim (nat_le number holder) as (λ b. length (cond b (number ∷ holder ∷ holders) (holder ∷ with_holder number holders)) ≡ length (holder ∷ holders) + 1) [
+      | true ↦ omega arith
+      | false ↦ omega arith
+    ]
+
+pub length-without : (number : ℕ) (holders : List ℕ) → Contains holders number → length (without_holder number holders) + 1 ≡ length holders
+length-without number [] found = let none = found.1 in absurd (omega arith)
+length-without number (holder ∷ holders) found =
+    elim (eqb_tells holder number) [
+      | inl p ↦ ap (λ b. length (cond b holders (holder ∷ without_holder number holders)) + 1) p.0 ∙ omega arith
+      | inr p ↦
+          let rest = length-without number holders (elsewhere found.0 found.1 found.2 p.1) in
+          ap (λ b. length (cond b holders (holder ∷ without_holder number holders)) + 1) p.0 ∙ omega arith
+    ]
+  where
+    elsewhere : (k : ℕ) → k < length (holder ∷ holders) → slice_index_or (holder ∷ holders) k number ≡ number → holder ≢ number → Contains holders number
+    elsewhere zero less is ne = absurd (ne is)
+    elsewhere (suc k) less is ne = (k, omega arith, is)

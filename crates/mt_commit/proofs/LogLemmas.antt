@@ -8,7 +8,7 @@ use Rattle.mt_types.specs.Numbers.{least}
 use Rattle.mt_types.specs.declared.row.Delta.{Delta}
 use Rattle.mt_types.specs.declared.refusal.NoMemory.{NoMemory}
 use Rattle.mt_commit.specs.Holders.{with_holder, without_holder}
-use Rattle.mt_commit.specs.Log.{LogSeen, IsLog, Numbered, newest, slowest}
+use Rattle.mt_commit.specs.Log.{LogView, IsLog, Numbered, newest, slowest}
 
 pub least_within : (best : ℕ) (numbers : List ℕ) → least best numbers ≤ best
 least_within best [] = omega arith
@@ -18,10 +18,10 @@ pub least_from : (low best : ℕ) (numbers : List ℕ) → low ≤ best → AllB
 least_from low best [] h all = h
 least_from low best (n ∷ numbers) h all = least_from low (min best n) numbers (le-min h all.0) all.1
 
-pub slowest_within : (log : LogSeen) → slowest log ≤ newest log
+pub slowest_within : (log : LogView) → slowest log ≤ newest log
 slowest_within log = least_within (newest log) log.holders
 
-pub held_by_slowest : (log : LogSeen) → IsLog log → log.held_after ≤ slowest log
+pub held_by_slowest : (log : LogView) → IsLog log → log.held_after ≤ slowest log
 held_by_slowest log is =
     least_from log.held_after (newest log) log.holders (omega arith) (recursion_from_All (λ n. log.held_after ≤ n) log.holders is.holders_from)
 
@@ -63,12 +63,12 @@ Numbered-at zero n (d ∷ deltas) delta numbered e = let same : d ≡ delta = cc
 Numbered-at (suc i) n (d ∷ deltas) delta numbered e = let k = Numbered-at i (n + 1) deltas delta numbered.1 e in omega (arith, k)
 
 -- the delta at a place has the number of that place
-pub delta_is : (log : LogSeen) (number : ℕ) (delta : Delta) → IsLog log → log.held_after < number → slice_get log.deltas (number - log.held_after - 1) ≡ Some delta
+pub delta_is : (log : LogView) (number : ℕ) (delta : Delta) → IsLog log → log.held_after < number → slice_get log.deltas (number - log.held_after - 1) ≡ Some delta
     → delta.number ≡ number
 delta_is log number delta is after e =
     let k = Numbered-at (number - log.held_after - 1) log.held_after log.deltas delta is.numbered e in omega (arith, k)
 
-pub appended_log : (log : LogSeen) (delta : Delta) (deltas : List Delta) → IsLog log → 0 < log.reserved → delta.number ≡ newest log + 1 → deltas ≡ log.deltas ++ delta ∷ []
+pub appended_log : (log : LogView) (delta : Delta) (deltas : List Delta) → IsLog log → 0 < log.reserved → delta.number ≡ newest log + 1 → deltas ≡ log.deltas ++ delta ∷ []
     → IsLog (record log { deltas = deltas; reserved = log.reserved - 1 })
 appended_log log delta deltas is reserved next e =
     let long : length deltas ≡ length log.deltas + 1 = ap length e ∙ length-append log.deltas (delta ∷ []) in
@@ -82,24 +82,17 @@ appended_log log delta deltas is reserved next e =
       fits = omega arith;
     }
 
-pub pinned_log : (log : LogSeen) (number : ℕ) (holders : List ℕ) (r : Result (Unit {0}) NoMemory) → IsLog log → log.held_after ≤ number → number ≤ newest log
-    → OnOk r (holders ≡ with_holder number log.holders) → OnErr r (holders ≡ log.holders) → IsLog (record log { holders = holders })
-pinned_log log number holders (Ok u) is from to e f = record {
+pub pinned_log : (log : LogView) (number : ℕ) (holders : List ℕ) → IsLog log → log.held_after ≤ number → number ≤ newest log → holders ≡ with_holder number log.holders
+    → IsLog (record log { holders = holders })
+pinned_log log number holders is from to e = record {
   numbered = is.numbered;
   holders_from = let P : ℕ → Type 0 = λ n. log.held_after ≤ n in subst (All P) (sym e) (All-with P number log.holders from is.holders_from);
   holders_to = let P : ℕ → Type 0 = λ n. n ≤ newest log in subst (All P) (sym e) (All-with P number log.holders to is.holders_to);
   kept = is.kept;
   fits = is.fits;
 }
-pinned_log log number holders (Err u) is from to e f = record {
-  numbered = is.numbered;
-  holders_from = let P : ℕ → Type 0 = λ n. log.held_after ≤ n in subst (All P) (sym f) is.holders_from;
-  holders_to = let P : ℕ → Type 0 = λ n. n ≤ newest log in subst (All P) (sym f) is.holders_to;
-  kept = is.kept;
-  fits = is.fits;
-}
 
-pub unpinned_log : (log : LogSeen) (number : ℕ) (holders : List ℕ) → IsLog log → holders ≡ without_holder number log.holders → IsLog (record log { holders = holders })
+pub unpinned_log : (log : LogView) (number : ℕ) (holders : List ℕ) → IsLog log → holders ≡ without_holder number log.holders → IsLog (record log { holders = holders })
 unpinned_log log number holders is e = record {
   numbered = is.numbered;
   holders_from = let P : ℕ → Type 0 = λ n. log.held_after ≤ n in subst (All P) (sym e) (All-without P number log.holders is.holders_from);
@@ -116,18 +109,18 @@ least_below best (n ∷ numbers) =
     (omega (arith, k, m), least_below (min best n) numbers)
 
 -- what is left after a trim begins no earlier
-pub trim_rises : (log : LogSeen) (bound : ℕ) → IsLog log → bound ≡ min (slowest log) (newest log - log.keep) → log.held_after ≤ bound
+pub trim_rises : (log : LogView) (bound : ℕ) → IsLog log → bound ≡ min (slowest log) (newest log - log.keep) → log.held_after ≤ bound
 trim_rises log bound is e =
     let both : log.held_after ≤ min (slowest log) (newest log - log.keep) = le-min (held_by_slowest log is) is.kept in omega arith
 
 -- no delta beyond the newest is dropped
-pub trim_drops : (log : LogSeen) (bound : ℕ) → bound ≡ min (slowest log) (newest log - log.keep) → bound - log.held_after ≤ length log.deltas
+pub trim_drops : (log : LogView) (bound : ℕ) → bound ≡ min (slowest log) (newest log - log.keep) → bound - log.held_after ≤ length log.deltas
 trim_drops log bound e =
     let a = min-le_left (slowest log) (newest log - log.keep) in
     let b = slowest_within log in
     omega (arith, a, b)
 
-pub newest-trimmed : (log : LogSeen) (bound : ℕ) (deltas : List Delta) → IsLog log → bound ≡ min (slowest log) (newest log - log.keep)
+pub newest-trimmed : (log : LogView) (bound : ℕ) (deltas : List Delta) → IsLog log → bound ≡ min (slowest log) (newest log - log.keep)
     → deltas ≡ drop (bound - log.held_after) log.deltas → bound + length deltas ≡ newest log
 newest-trimmed log bound deltas is e d =
     let rises = trim_rises log bound is e in
@@ -135,7 +128,7 @@ newest-trimmed log bound deltas is e d =
     let long : length deltas ≡ length log.deltas - (bound - log.held_after) = ap length d ∙ length-drop (bound - log.held_after) log.deltas in
     omega arith
 
-pub trimmed_log : (log : LogSeen) (bound : ℕ) (deltas : List Delta) → IsLog log → bound ≡ min (slowest log) (newest log - log.keep)
+pub trimmed_log : (log : LogView) (bound : ℕ) (deltas : List Delta) → IsLog log → bound ≡ min (slowest log) (newest log - log.keep)
     → deltas ≡ drop (bound - log.held_after) log.deltas → IsLog (record log { held_after = bound; deltas = deltas })
 trimmed_log log bound deltas is e d =
     let rises = trim_rises log bound is e in
@@ -154,7 +147,7 @@ trimmed_log log bound deltas is e d =
     }
 
 -- the bound of a trim, of the log as it is
-pub bound_is : (log now : LogSeen) (number slow bound : ℕ) → log ≡ now → slow ≡ slowest now → number ≡ newest now → bound ≡ min slow (number - log.keep)
+pub bound_is : (log now : LogView) (number slow bound : ℕ) → log ≡ now → slow ≡ slowest now → number ≡ newest now → bound ≡ min slow (number - log.keep)
     → bound ≡ min (slowest log) (newest log - log.keep)
 bound_is log now number slow bound same s n e =
     e ∙ ap (λ x. min x (number - log.keep)) (s ∙ sym (ap slowest same)) ∙ ap (λ x. min (slowest log) (x - log.keep)) (n ∙ sym (ap newest same))

@@ -4,7 +4,7 @@ use Rattle.std.specs.FinMap.{get, insert, remove}
 use Rattle.mt_types.specs.Rows.{Rows}
 use Rattle.mt_types.specs.declared.row.Row.{Row}
 use Rattle.mt_types.specs.declared.row.Delta.{Delta}
-use Rattle.mt_commit.specs.Log.{LogSeen}
+use Rattle.mt_commit.specs.Log.{LogView}
 
 -- the rows with this row under a key, or none
 abbrev pub with_row : List ℕ → Option Row → Rows → Rows
@@ -30,9 +30,9 @@ FitsNewestFirst [] rows = Unit {0}
 FitsNewestFirst (delta ∷ deltas) rows = (get rows delta.key ≡ delta.after) × FitsNewestFirst deltas (undo delta rows)
 
 -- the rows at the number of a commit, where these are the rows at the newest
-abbrev pub rows_at : LogSeen → Rows → ℕ → Rows
+abbrev pub rows_at : LogView → Rows → ℕ → Rows
 rows_at log rows number = rows_before (reverse (drop (number - log.held_after) log.deltas)) rows
 
 -- the log fits the rows at its newest commit
-abbrev pub Fits : LogSeen → Rows → Type 0
+abbrev pub Fits : LogView → Rows → Type 0
 Fits log rows = FitsNewestFirst (reverse log.deltas) rows

@@ -4,7 +4,7 @@ use Rattle.std.specs.FinMap.{get}
 use Rattle.mt_types.specs.Numbers.{least}
 use Rattle.mt_types.specs.Rows.{Rows}
 use Rattle.mt_types.specs.declared.row.Delta.{Delta}
-use Rattle.mt_commit.specs.Log.{LogSeen, IsLog, newest, delta_of, with_delta, trimmed}
+use Rattle.mt_commit.specs.Log.{LogView, IsLog, newest, delta_of, with_delta, trimmed}
 use Rattle.mt_commit.specs.Holders.{with_holder, without_holder}
 use Rattle.mt_commit.specs.Deltas.{redo, undo, rows_at, Fits}
 
@@ -22,27 +22,27 @@ UndoneLeavesBefore = (delta : Delta) (rows : Rows) → get (undo delta rows) del
 
 -- the rows at the newest commit are the rows
 abbrev pub NewestIsPresent : Type 0
-NewestIsPresent = (log : LogSeen) (rows : Rows) → rows_at log rows (newest log) ≡ rows
+NewestIsPresent = (log : LogView) (rows : Rows) → rows_at log rows (newest log) ≡ rows
 
 -- a log that fits fits after the delta of the next commit, whose row before is there
 abbrev pub AppendingFits : Type 0
 AppendingFits =
-    (log : LogSeen) (delta : Delta) (rows : Rows) → Fits log rows → get rows delta.key ≡ delta.before → Fits (with_delta log delta) (redo delta rows)
+    (log : LogView) (delta : Delta) (rows : Rows) → Fits log rows → get rows delta.key ≡ delta.before → Fits (with_delta log delta) (redo delta rows)
 
 -- and the rows at each earlier number stay the same
 abbrev pub AppendingKeepsRows : Type 0
 AppendingKeepsRows =
-    (log : LogSeen) (delta : Delta) (rows : Rows) (number : ℕ) → number ≤ newest log → get rows delta.key ≡ delta.before
+    (log : LogView) (delta : Delta) (rows : Rows) (number : ℕ) → number ≤ newest log → get rows delta.key ≡ delta.before
     → rows_at (with_delta log delta) (redo delta rows) number ≡ rows_at log rows number
 
 -- a log that fits fits when it is trimmed
 abbrev pub TrimmingFits : Type 0
-TrimmingFits = (log : LogSeen) (rows : Rows) → Fits log rows → Fits (trimmed log) rows
+TrimmingFits = (log : LogView) (rows : Rows) → Fits log rows → Fits (trimmed log) rows
 
 -- and the rows at each number that it still reaches stay the same
 abbrev pub TrimmingKeepsRows : Type 0
 TrimmingKeepsRows =
-    (log : LogSeen) (rows : Rows) (number : ℕ) → IsLog log → (trimmed log).held_after ≤ number → rows_at (trimmed log) rows number ≡ rows_at log rows number
+    (log : LogView) (rows : Rows) (number : ℕ) → IsLog log → (trimmed log).held_after ≤ number → rows_at (trimmed log) rows number ≡ rows_at log rows number
 
 -- the delta of a commit makes the rows at its number of those at the number before, where its row before is
 pub record Makes (delta : Delta) (old new : Rows) : Type 0 where
@@ -51,7 +51,7 @@ pub record Makes (delta : Delta) (old new : Rows) : Type 0 where
 
 abbrev pub EachDeltaMakesRows : Type 0
 EachDeltaMakesRows =
-    (log : LogSeen) (rows : Rows) (number : ℕ) (delta : Delta) → Fits log rows → log.held_after ≤ number → delta_of log (number + 1) ≡ Some delta
+    (log : LogView) (rows : Rows) (number : ℕ) (delta : Delta) → Fits log rows → log.held_after ≤ number → delta_of log (number + 1) ≡ Some delta
     → Makes delta (rows_at log rows number) (rows_at log rows (number + 1))
 
 -- how often a number is among the holders

@@ -7,7 +7,7 @@ use Rattle.mt_types.specs.declared.row.Delta.{Delta}
 use Rattle.mt_types.specs.declared.refusal.Refusal.{Refusal}
 use Rattle.mt_types.specs.declared.refusal.Refusal.TheVariants.{FeedFull, Spent}
 
-pub record LogSeen : Type 0 where
+pub record LogView : Type 0 where
   pub held_after : ℕ  -- the deltas of the commits up to this number were trimmed
   pub deltas : List Delta  -- those of the commits after it, the oldest first
   pub reserved : ℕ  -- for how many more deltas there is room
@@ -16,29 +16,29 @@ pub record LogSeen : Type 0 where
   pub keep : ℕ  -- how many of the last deltas it keeps for nobody
 
 -- the number of the newest commit
-abbrev pub newest : LogSeen → ℕ
+abbrev pub newest : LogView → ℕ
 newest log = log.held_after + length log.deltas
 
 -- the least number from which the log is held, or that of the newest commit
-abbrev pub slowest : LogSeen → ℕ
+abbrev pub slowest : LogView → ℕ
 slowest log = least (newest log) log.holders
 
 -- the delta of the commit of this number
-abbrev pub delta_of : LogSeen → ℕ → Option Delta
+abbrev pub delta_of : LogView → ℕ → Option Delta
 delta_of log number = slice_get log.deltas (number - log.held_after - 1)
 
 -- why there is no room for one more delta, unless memory is wanting
-abbrev pub reserve_fault : LogSeen → Option Refusal
+abbrev pub reserve_fault : LogView → Option Refusal
 reserve_fault log =
     option_or (refused_if (nat_le greatest_number (newest log + log.reserved)) Spent)
     (refused_if (nat_lt log.feed (newest log - slowest log + log.reserved + 1)) (FeedFull (slowest log)))
 
 -- the log after the delta of the next commit, in room that was reserved
-abbrev pub with_delta : LogSeen → Delta → LogSeen
+abbrev pub with_delta : LogView → Delta → LogView
 with_delta log delta = record log { deltas = log.deltas ++ delta ∷ []; reserved = log.reserved - 1 }
 
 -- what is left is what came after the slowest, and the last ones that are kept for nobody
-abbrev pub trimmed : LogSeen → LogSeen
+abbrev pub trimmed : LogView → LogView
 trimmed log =
     let bound = min (slowest log) (newest log - log.keep) in
     record log { held_after = bound; deltas = drop (bound - log.held_after) log.deltas }
@@ -49,7 +49,7 @@ Numbered number [] = Unit {0}
 Numbered number (delta ∷ deltas) = (delta.number ≡ number + 1) × Numbered (number + 1) deltas
 
 -- what each log keeps
-pub record IsLog (log : LogSeen) : Type 0 where
+pub record IsLog (log : LogView) : Type 0 where
   pub numbered : Numbered log.held_after log.deltas
   pub holders_from : All (λ holder. log.held_after ≤ holder) log.holders
   pub holders_to : All (λ holder. holder ≤ newest log) log.holders

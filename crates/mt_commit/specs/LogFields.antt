@@ -1,10 +1,10 @@
 -- The log of commits, read off its fields.
-use Rattle.std.specs.Prelude.{◌+◌, ◌≤◌}
+use Rattle.std.specs.Prelude.{◌≡◌, ◌+◌, ◌≤◌, length}
 use Rattle.std.specs.VecDeque.{deque_items, deque_len, deque_capacity}
-use Rattle.mt_commit.specs.Log.{LogSeen, IsLog}
+use Rattle.mt_commit.specs.Log.{LogView, IsLog}
 use Rattle.mt_commit.specs.declared.log.Log.TheInside.{Inside}
 
-abbrev pub log_of : Inside → LogSeen
+abbrev pub log_of : Inside → LogView
 log_of log = record {
   held_after = log.held_after;
   deltas = deque_items log.deltas;
@@ -14,7 +14,8 @@ log_of log = record {
   keep = log.keep;
 }
 
--- the queue has the room that was reserved
+-- the queue has the room that was reserved, and the holders are counted
 pub record IsKept (log : Inside) : Type 0 where
   pub sound : IsLog (log_of log)
   pub room : deque_len log.deltas + log.reserved ≤ deque_capacity log.deltas
+  pub counted : length log.holders ≡ log.holder_count

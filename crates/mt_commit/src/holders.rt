@@ -1,9 +1,10 @@
 //! Who holds the log: numbers of commits, each as often as it is held.
 
-ghost use Rattle.std.specs.Prelude.{◌≡◌, ◌≤◌, [], All, OnOk, OnErr};
+ghost use Rattle.std.specs.Prelude.{◌≡◌, ◌<◌, ◌≤◌, [], All, length, OnOk, OnErr};
 ghost use Rattle.mt_types.specs.Numbers.{least};
 ghost use Rattle.mt_commit.specs.Holders.{with_holder, without_holder};
 
+use crate::log::MAX_HOLDERS;
 use mt_types::refusal::NoMemory;
 use std::alloc::Global;
 use std::collections::BTreeMap;
@@ -38,7 +39,7 @@ impl Holders {
         }
     }
 
-    /// The least of these numbers, or `most`, of which none is above. Costs a way down the tree.
+    /// The least of these numbers, or `most`, of which none is above. O(log n) in the numbers that differ.
     pub(crate) fn least(&self, most: u64) -> u64
         requires { All (λ holder. holder ≤ most) self.now }
         ensures { result ≡ least most self.now }
@@ -49,16 +50,14 @@ impl Holders {
         }
     }
 
-    /// Adds a number once more. On an error nothing changes: memory is wanting, or the number is there 2^64 - 1 times.
-    /// Costs a way down the tree.
+    /// Adds a number once more. On an error nothing changes. O(log n) in the numbers that differ.
     pub(crate) fn add(&mut self, number: u64) -> Result<(), NoMemory>
+        requires { length self.old < MAX_HOLDERS }
         ensures ok { OnOk result (self.new ≡ with_holder number self.old) }
         ensures err { OnErr result (self.new ≡ self.old) }
     {
         match self.counts.get_mut(&number) {
-            Some(count) => {
-                *count = count.checked_add(1).ok_or(NoMemory)?;
-            }
+            Some(count) => *count += 1,
             None => {
                 self.counts.insert(number, 1)?;
             }
@@ -66,7 +65,7 @@ impl Holders {
         Ok(())
     }
 
-    /// Takes a number away once, if it is there. Costs a way down the tree.
+    /// Takes a number away once, if it is there. O(log n) in the numbers that differ.
     pub(crate) fn remove(&mut self, number: u64)
         ensures { self.new ≡ without_holder number self.old }
     {

@@ -1,6 +1,6 @@
 //! The log of commits: a queue of deltas, the numbers from which it is held, and the room that was reserved.
 
-ghost use Rattle.std.specs.Prelude.{◌≡◌, ◌+◌, ◌-◌, ◌<◌, ◌≤◌, [], length, drop, IfErr, OnOk, OnErr, MatchOption, Contains, slice_get};
+ghost use Rattle.std.specs.Prelude.{◌≡◌, ◌+◌, ◌-◌, ◌<◌, ◌≤◌, [], length, drop, IfErr, IsErrOf, IsTrue, None, OnOk, OnErr, MatchOption, Contains, ◌↔◌, slice_get};
 ghost use Rattle.std.specs.VecDeque.{deque_capacity};
 
 use crate::holders::Holders;
@@ -10,12 +10,16 @@ use std::alloc::Global;
 use std::collections::VecDeque;
 use std::marker::Model;
 
+/// The most holders of a log, each number counted as often as it is held. Guarded by `Log::may_pin`.
+pub const MAX_HOLDERS: u64 = u64::MAX;
+
 /// The deltas of the last commits. Commits are numbered from 1 in the order in which they are appended, and what came
 /// before the deltas that are here was trimmed.
 #[derive(Drop)]
 pub struct Log {
     deltas: VecDeque<Delta>,
     holders: Holders,
+    holder_count: u64,
     held_after: u64,
     reserved: u64,
     feed: u64,
@@ -23,9 +27,9 @@ pub struct Log {
 }
 
 impl Model for Log {
-    ghost use Rattle.mt_commit.specs.Log.{LogSeen};
+    ghost use Rattle.mt_commit.specs.Log.{LogView};
 
-    ghost Value = { LogSeen };
+    ghost Value = { LogView };
 
     ghost use Rattle.mt_commit.specs.LogFields.{log_of, IsKept};
 
@@ -34,7 +38,7 @@ impl Model for Log {
     ghost invariant = { IsKept };
 }
 
-// Takes so many of the first deltas away.
+// Takes the first `count` deltas away.
 fn drop_front(deltas: &mut VecDeque<Delta>, count: u64)
     requires { count ≤ length deltas.old.items }
     ensures items { deltas.new.items ≡ drop count deltas.old.items }
@@ -46,7 +50,7 @@ fn drop_front(deltas: &mut VecDeque<Delta>, count: u64)
 }
 
 impl Log {
-    ghost use Rattle.mt_commit.specs.Log.{LogSeen, IsLog, newest, slowest, delta_of, reserve_fault, with_delta, trimmed};
+    ghost use Rattle.mt_commit.specs.Log.{LogView, IsLog, newest, slowest, delta_of, reserve_fault, with_delta, trimmed};
     ghost use Rattle.mt_commit.specs.Holders.{with_holder, without_holder};
 
     /// The log before any commit. It is to hold at most `feed` deltas for the slowest that reads it, and to keep the
@@ -58,6 +62,7 @@ impl Log {
         Log {
             deltas: VecDeque::new(alloc),
             holders: Holders::new(alloc),
+            holder_count: 0,
             held_after: 0,
             reserved: 0,
             feed,
@@ -81,8 +86,8 @@ impl Log {
         self.held_after
     }
 
-    /// The least number from which the log is held, or that of the newest commit where nobody holds it. Costs a way
-    /// down the tree of holders.
+    /// The least number from which the log is held, or that of the newest commit where nobody holds it. O(log n) in the
+    /// numbers that are held.
     pub fn slowest(&self) -> u64
         ensures value { result ≡ slowest self.now }
         ensures here { self.now.held_after ≤ result }
@@ -92,11 +97,16 @@ impl Log {
         self.holders.least(self.number())
     }
 
-    /// Makes room for one delta more, or says why there is none: `Spent` where no number is left for it, else
-    /// `FeedFull` with the number of the slowest where the log would hold more for it than it may, else `NoMemory`.
-    /// On an error nothing changes. Amortized constant cost, and a way down the tree of holders.
+    /// Makes room for one delta more. On an error nothing changes. O(log n) in the numbers that are held, amortized.
+    ///
+    /// # Errors
+    ///
+    /// The first of these that stands: `Spent` where no number is left for the delta; `FeedFull` with the number of the
+    /// slowest where the log would hold more for it than it may; `NoMemory` where an allocation is refused. Nothing is
+    /// allocated before the other two are tested.
     pub fn reserve(&mut self) -> Result<(), Refusal>
         ensures fault { MatchOption (reserve_fault self.old) (IfErr result (λ refusal. refusal ≡ Refusal.NoMemory)) (λ refusal. result ≡ Err refusal) }
+        ensures memory { IsErrOf result Refusal.NoMemory → reserve_fault self.old ≡ None }
         ensures ok { OnOk result (self.new ≡ record self.old { reserved = self.old.reserved + 1 }) }
         ensures err { OnErr result (self.new ≡ self.old) }
         ensures sound { IsLog self.new }
@@ -120,10 +130,10 @@ impl Log {
         ensures after { self.new ≡ record self.old { reserved = self.old.reserved - 1 } }
         ensures sound { IsLog self.new }
     {
-        self.reserved -= 1; // given back
+        self.reserved -= 1;
     }
 
-    /// Appends the delta of the next commit, in room that was reserved. Takes no memory. Constant cost.
+    /// Appends the delta of the next commit, in room that was reserved. Takes no memory.
     pub fn append(&mut self, delta: Delta)
         requires reserved { 0 < self.old.reserved }
         requires next { delta.number ≡ newest self.old + 1 }
@@ -134,7 +144,7 @@ impl Log {
         self.reserved -= 1;
     }
 
-    /// The delta of a commit that is here. Constant cost.
+    /// The delta of a commit that is here.
     pub fn delta(&self, number: u64) -> &Delta
         requires here { self.now.held_after < number }
         requires done { number ≤ newest self.now }
@@ -144,29 +154,45 @@ impl Log {
         &self.deltas[(number - self.held_after - 1) as usize]
     }
 
-    /// Holds the log from a number of commits on, once more. On an error nothing changes: memory is wanting, or the
-    /// number is held 2^64 - 1 times. Costs a way down the tree of holders.
+    /// Whether one holder more can be counted.
+    pub fn may_pin(&self) -> bool
+        ensures value { IsTrue result ↔ (length self.now.holders < MAX_HOLDERS) }
+        ensures sound { IsLog self.now }
+    {
+        self.holder_count < MAX_HOLDERS
+    }
+
+    /// Holds the log from a number of commits on, once more. On an error nothing changes. O(log n) in the numbers that
+    /// are held.
+    ///
+    /// # Errors
+    ///
+    /// `NoMemory` where an allocation is refused.
     pub fn pin(&mut self, number: u64) -> Result<(), NoMemory>
         requires here { self.old.held_after ≤ number }
         requires done { number ≤ newest self.old }
+        requires few { length self.old.holders < MAX_HOLDERS }
         ensures ok { OnOk result (self.new ≡ record self.old { holders = with_holder number self.old.holders }) }
         ensures err { OnErr result (self.new ≡ self.old) }
         ensures sound { IsLog self.new }
     {
-        self.holders.add(number)
+        self.holders.add(number)?;
+        self.holder_count += 1;
+        Ok(())
     }
 
-    /// Holds the log from a number of commits on once less. Costs a way down the tree of holders.
+    /// Holds the log from a number of commits on once less. O(log n) in the numbers that are held.
     pub fn unpin(&mut self, number: u64)
         requires { Contains self.old.holders number }
         ensures after { self.new ≡ record self.old { holders = without_holder number self.old.holders } }
         ensures sound { IsLog self.new }
     {
         self.holders.remove(number);
+        self.holder_count -= 1;
     }
 
     /// Drops the deltas that nobody holds, but for the last ones that are kept for nobody. The queue keeps its memory for
-    /// later deltas. Amortized constant cost, and a way down the tree of holders.
+    /// later deltas. O(n + log m) in the deltas that are dropped and the numbers that are held.
     pub fn trim(&mut self)
         ensures after { self.new ≡ trimmed self.old }
         ensures newest_stays { newest self.new ≡ newest self.old }
@@ -176,5 +202,23 @@ impl Log {
         let bound = self.slowest().min(number.saturating_sub(self.keep));
         drop_front(&mut self.deltas, bound - self.held_after);
         self.held_after = bound;
+    }
+}
+
+#[cfg(test)]
+impl Log {
+    /// The log after `number` commits of which nothing is left. It is to hold at most `feed` deltas for the slowest.
+    pub(crate) fn after(alloc: Global, number: u64, feed: u64) -> Log
+        ensures { result ≡ record { held_after = number; deltas = []; reserved = 0; holders = []; feed = feed; keep = 0 } }
+    {
+        Log {
+            deltas: VecDeque::new(alloc),
+            holders: Holders::new(alloc),
+            holder_count: 0,
+            held_after: number,
+            reserved: 0,
+            feed,
+            keep: 0,
+        }
     }
 }

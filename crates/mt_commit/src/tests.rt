@@ -1,7 +1,7 @@
 //! The log by example, and each public call once.
 
 ghost use Rattle.std.specs.Prelude.{◌≡◌, ◌+◌, ◌∷◌, ◌++◌, [], IfOk, OnOk};
-ghost use Rattle.mt_commit.specs.Log.{LogSeen, newest, with_delta};
+ghost use Rattle.mt_commit.specs.Log.{LogView, newest, with_delta};
 
 use crate::laws;
 use crate::log::Log;
@@ -42,6 +42,7 @@ fn feed_of_one(rt: HostRuntime) -> Result<(), Fail> {
     assert_eq!(rt; log.number(), 1);
     log.trim();
     assert_eq!(rt; log.held_after(), 1);
+    assert!(rt; log.may_pin());
     log.pin(1)?;
     commit(&mut log)?;
     assert_eq!(rt; log.slowest(), 1);
@@ -71,6 +72,25 @@ fn room_for_one(rt: HostRuntime) -> Result<(), Fail> {
     assert_eq!(rt; log.reserve(), Err(Refusal::FeedFull(0)));
     log.unreserve();
     assert_eq!(rt; log.reserve(), Ok(()));
+    Ok(())
+}
+
+// No memory is asked for before these are tested: the answers are the same where the first allocation fails, by
+// `rt try --test --fail-alloc 1`.
+#[test]
+fn memory_comes_last(rt: HostRuntime) -> Result<(), Fail> {
+    let mut spent = Log::after(rt.alloc(), u64::MAX, 1);
+    assert_eq!(rt; spent.reserve(), Err(Refusal::Spent));
+    let mut full = Log::after(rt.alloc(), u64::MAX - 1, 0);
+    assert_eq!(rt; full.reserve(), Err(Refusal::FeedFull(u64::MAX - 1)));
+    Ok(())
+}
+
+#[test]
+fn last_number(rt: HostRuntime) -> Result<(), Fail> {
+    let mut log = Log::after(rt.alloc(), u64::MAX - 1, 9);
+    log.reserve()?;
+    assert_eq!(rt; log.reserve(), Err(Refusal::Spent));
     Ok(())
 }
 

@@ -3,7 +3,7 @@ use Rattle.std.proofs.Common.{◌≡◌, ◌<◌, ◌≤◌, ℕ, Bool, true, fa
 use Rattle.mt_slice.specs.Place.{slice_number}
 use Rattle.mt_slice.specs.declared.slice_class.Class.TheVariants.{Len}
 use Rattle.mt_word.specs.Version.{VersionView}
-use Rattle.mt_commit.specs.Log.{LogSeen}
+use Rattle.mt_commit.specs.Log.{LogView}
 use Rattle.mt_border.specs.Border.{BorderView, with_filled, filled_version, first_held}
 use Rattle.mt_border.specs.Order.{IsBorder}
 use Rattle.mt_border.specs.Table.{first_changed}
@@ -23,7 +23,7 @@ filled_next : (slots : List Slot) (entry : Entry) → 0 < length slots → next_
 filled_next [] entry some = absurd (omega arith)
 filled_next (slot ∷ slots) entry some = refl
 
-module _ (C : ℕ) (key : List ℕ) (sets : List (ℕ × List ℕ)) (b : BorderView) (log : LogSeen) (place : ℕ) (columns : List (List ℕ)) where
+module _ (C : ℕ) (key : List ℕ) (sets : List (ℕ × List ℕ)) (b : BorderView) (log : LogView) (place : ℕ) (columns : List (List ℕ)) where
   fills-new : length b.live < 15 → IsPlain b → IsGap key b place → columns ≡ columns_after C sets None → IsBorder (with_filled b (new_entry key columns))
       → Fills C key sets b log place columns (with_filled b (new_entry key columns)) (with_room log)
   fills-new room plain gap is sound =
@@ -51,12 +51,12 @@ module _ (C : ℕ) (key : List ℕ) (sets : List (ℕ × List ℕ)) (b : BorderV
         room = refl;
       }
 
-  pub fills : (entry : Entry) (logged : List (List ℕ)) (c : BorderView) (left : LogSeen) → length b.live < 15 → IsPlain b → IsGap key b place
+  pub fills : (entry : Entry) (logged : List (List ℕ)) (c : BorderView) (left : LogView) → length b.live < 15 → IsPlain b → IsGap key b place
       → columns ≡ columns_after C sets None → logged ≡ columns → entry ≡ new_entry key columns → c ≡ with_filled b entry → left ≡ with_room log → IsBorder c
       → Fills C key sets b log place logged c left
   fills entry logged c left room plain gap is copied made filled kept sound =
       let whole : c ≡ with_filled b (new_entry key columns) = filled ∙ ap (with_filled b) made in
       subst (λ (l : List (List ℕ)). Fills C key sets b log place l c left) (sym copied)
       (subst (λ (d : BorderView). Fills C key sets b log place columns d left) (sym whole)
-      (subst (λ (l : LogSeen). Fills C key sets b log place columns (with_filled b (new_entry key columns)) l) (sym kept)
+      (subst (λ (l : LogView). Fills C key sets b log place columns (with_filled b (new_entry key columns)) l) (sym kept)
       (fills-new room plain gap is (subst IsBorder whole sound))))

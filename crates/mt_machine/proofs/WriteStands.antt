@@ -23,7 +23,7 @@ use Rattle.mt_promise.specs.RightAnswers.{RightAnswer, Lacks}
 use Rattle.mt_promise.specs.Legal.{MayStepAt, MayStep, MayCommit, MayEnd, is_get}
 use Rattle.mt_promise.proofs.HistoryLemmas.{after-append, Sometime-here}
 use Rattle.mt_slice.specs.Place.{AreBytes}
-use Rattle.mt_commit.specs.Log.{LogSeen, newest, with_delta}
+use Rattle.mt_commit.specs.Log.{LogView, newest, with_delta}
 use Rattle.mt_commit.specs.Deltas.{Fits, redo}
 use Rattle.mt_commit.proofs.RowLemmas.{appending_fits}
 use Rattle.mt_border.specs.Border.{BorderView, row_at}
@@ -116,7 +116,7 @@ own-stage s kept w key edit at is wr =
     (subst (λ (z : Edit). StageStands s.columns s.table.border wr.key z w.stage) edits wr.stage)
 
 -- an edit that makes ready, or fails, leaves the rows and the log
-record Prepared (C : ℕ) (key : List ℕ) (edit : Edit) (b : BorderView) (log : LogSeen) (stage : Stage) (c : BorderView) (left : LogSeen) : Type 0 where
+record Prepared (C : ℕ) (key : List ℕ) (edit : Edit) (b : BorderView) (log : LogView) (stage : Stage) (c : BorderView) (left : LogView) : Type 0 where
   pub live : c.live ≡ b.live
   pub lock : c.version.locked ≡ b.version.locked
   pub held : left.held_after ≡ log.held_after
@@ -124,15 +124,15 @@ record Prepared (C : ℕ) (key : List ℕ) (edit : Edit) (b : BorderView) (log :
   pub commit : commit_at stage ≡ None
   pub stands : StageStands C c key edit stage
 
-prepared-put : (C : ℕ) (key : List ℕ) (sets : List (ℕ × List ℕ)) (b : BorderView) (log : LogSeen) (stage : Stage) (c : BorderView) (left : LogSeen) → PreparesPut C key sets b log stage c left → Prepared C key (Put sets) b log stage c left
+prepared-put : (C : ℕ) (key : List ℕ) (sets : List (ℕ × List ℕ)) (b : BorderView) (log : LogView) (stage : Stage) (c : BorderView) (left : LogView) → PreparesPut C key sets b log stage c left → Prepared C key (Put sets) b log stage c left
 prepared-put C key sets b log Locked c left p = absurd p
 prepared-put C key sets b log (Filled place stored logged) c left p =
     let f = p.1 in
     record {
       live = f.same_live;
       lock = f.same_lock;
-      held = ap (λ (l : LogSeen). l.held_after) f.room;
-      deltas = ap (λ (l : LogSeen). l.deltas) f.room;
+      held = ap (λ (l : LogView). l.held_after) f.room;
+      deltas = ap (λ (l : LogView). l.deltas) f.room;
       commit = refl;
       stands = (
         p.0,
@@ -150,8 +150,8 @@ prepared-put C key sets b log (Made place stored columns logged) c left p =
     record {
       live = ap (λ (d : BorderView). d.live) f.same;
       lock = ap (λ (d : BorderView). d.version.locked) f.same;
-      held = ap (λ (l : LogSeen). l.held_after) f.room;
-      deltas = ap (λ (l : LogSeen). l.deltas) f.room;
+      held = ap (λ (l : LogView). l.held_after) f.room;
+      deltas = ap (λ (l : LogView). l.deltas) f.room;
       commit = refl;
       stands = (p.0, subst (λ (d : BorderView). IsMade C d key sets place columns logged) (sym f.same) (record { here = f.here; made = f.made; copied = f.copied }));
     }
@@ -160,13 +160,13 @@ prepared-put C key sets b log (Stored number) c left p = absurd p
 prepared-put C key sets b log (Failed refusal) c left p = record {
   live = ap (λ (d : BorderView). d.live) p.1;
   lock = ap (λ (d : BorderView). d.version.locked) p.1;
-  held = ap (λ (l : LogSeen). l.held_after) p.2;
-  deltas = ap (λ (l : LogSeen). l.deltas) p.2;
+  held = ap (λ (l : LogView). l.held_after) p.2;
+  deltas = ap (λ (l : LogView). l.deltas) p.2;
   commit = refl;
   stands = tt;
 }
 
-remove-fails : (log : LogSeen) (refusal : Refusal) → HasLogCause log refusal → (refusal ≡ NoMemory) ⊎ (refusal ≡ Spent)
+remove-fails : (log : LogView) (refusal : Refusal) → HasLogCause log refusal → (refusal ≡ NoMemory) ⊎ (refusal ≡ Spent)
 remove-fails log NoMemory cause = inl refl
 remove-fails log Spent cause = inr refl
 remove-fails log ArenaFull cause = absurd cause
@@ -183,22 +183,22 @@ remove-fails log (Behind at) cause = absurd cause
 remove-fails log BadRange cause = absurd cause
 remove-fails log WrongPass cause = absurd cause
 
-prepared-remove : (C : ℕ) (key : List ℕ) (b : BorderView) (log : LogSeen) (stage : Stage) (left : LogSeen) → PreparesRemove key b log (Some stage) left → Prepared C key Remove b log stage b left
+prepared-remove : (C : ℕ) (key : List ℕ) (b : BorderView) (log : LogView) (stage : Stage) (left : LogView) → PreparesRemove key b log (Some stage) left → Prepared C key Remove b log stage b left
 prepared-remove C key b log (Taken place stored before) left p =
     let f = p.1 in
     record {
       live = refl;
       lock = refl;
-      held = ap (λ (l : LogSeen). l.held_after) f.room;
-      deltas = ap (λ (l : LogSeen). l.deltas) f.room;
+      held = ap (λ (l : LogView). l.held_after) f.room;
+      deltas = ap (λ (l : LogView). l.deltas) f.room;
       commit = refl;
       stands = (p.0, record { here = f.here; row = f.row });
     }
 prepared-remove C key b log (Failed refusal) left p = record {
   live = refl;
   lock = refl;
-  held = ap (λ (l : LogSeen). l.held_after) p.1;
-  deltas = ap (λ (l : LogSeen). l.deltas) p.1;
+  held = ap (λ (l : LogView). l.held_after) p.1;
+  deltas = ap (λ (l : LogView). l.deltas) p.1;
   commit = refl;
   stands = remove-fails log refusal p.0;
 }
@@ -207,7 +207,7 @@ prepared-remove C key b log (Filled place stored logged) left p = absurd p
 prepared-remove C key b log (Made place stored columns logged) left p = absurd p
 prepared-remove C key b log (Stored number) left p = absurd p
 
-prepared : (C : ℕ) (key : List ℕ) (edit : Edit) (b : BorderView) (log : LogSeen) (stage : Stage) (c : BorderView) (left : LogSeen) → Prepares C key edit b log (Some stage) c left → Prepared C key edit b log stage c left
+prepared : (C : ℕ) (key : List ℕ) (edit : Edit) (b : BorderView) (log : LogView) (stage : Stage) (c : BorderView) (left : LogView) → Prepares C key edit b log (Some stage) c left → Prepared C key edit b log stage c left
 prepared C key (Put sets) b log stage c left p = prepared-put C key sets b log stage c left p
 prepared C key Remove b log stage c left p = subst (λ (d : BorderView). Prepared C key Remove b log stage d left) (sym p.0) (prepared-remove C key b log stage left p.1)
 
@@ -286,7 +286,7 @@ module _ (s : Seen) (h : History) (w : Writer) (kept : Call) (key : List ℕ) (e
         begun = st.begun ∙ sym (ap (λ m. m.begun) then);
         content = λ q bytes_q. content q bytes_q ∙ ap (λ (rs : Rows). get rs q) (sym all);
         end_here = λ q some. end_here q (subst (λ (rs : Rows). IsSome (get rs q)) all some);
-        logged = subst (λ (l : LogSeen). Fits l (rows C (moment (x ∷ h)))) (sym appended) (subst (λ (rs : Rows). Fits (with_delta s.table.log delta) rs) (sym all) fits);
+        logged = subst (λ (l : LogView). Fits l (rows C (moment (x ∷ h)))) (sym appended) (subst (λ (rs : Rows). Fits (with_delta s.table.log delta) rs) (sym all) fits);
         calls = subst (λ cs. Paired (CallStands u.writer (x ∷ h)) 0 s.calls.begun s.calls.calls cs) (sym (ap (λ m. m.calls) then))
             (subst (λ (ks : Entries). Paired (CallStands u.writer (x ∷ h)) 0 s.calls.begun ks (replace_call new (moment h).calls)) unchanged
             (paired-change (λ call. call) w.call (CallStands s.table.writer h) (CallStands u.writer (x ∷ h))

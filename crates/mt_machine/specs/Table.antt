@@ -7,7 +7,7 @@ use Rattle.mt_types.specs.declared.row.Delta.{Delta}
 use Rattle.mt_types.specs.declared.refusal.Refusal.{Refusal}
 use Rattle.mt_types.specs.declared.refusal.Refusal.TheVariants.{NoMemory, ArenaFull, Spent}
 use Rattle.mt_slice.specs.Place.{AreBytes, slice_number}
-use Rattle.mt_commit.specs.Log.{LogSeen, newest, with_delta}
+use Rattle.mt_commit.specs.Log.{LogView, newest, with_delta}
 use Rattle.mt_border.specs.Find.{found_in}
 use Rattle.mt_border.specs.declared.found.Found.TheVariants.{Absent}
 use Rattle.mt_slice.specs.declared.slice_class.Class.TheVariants.{Len}
@@ -32,7 +32,7 @@ use Rattle.mt_machine.specs.declared.progress.Progress.TheVariants.{Moved, Commi
 
 pub record TableSeen : Type 0 where
   pub border : BorderView
-  pub log : LogSeen
+  pub log : LogView
   pub writer : Option Writer  -- the call that has locked the border, and how far it is
 
 -- how far the call of this number is, if it has locked the border
@@ -67,19 +67,19 @@ pub record IsNextKey (b : BorderView) (key : List ℕ) (columns : List (List ℕ
 
 -- why a put fails: want of memory; a border that is full, since nodes can't be split yet; or a number that would have
 -- to rise above the greatest
-abbrev pub HasCause : BorderView → LogSeen → Refusal → Type 0
+abbrev pub HasCause : BorderView → LogView → Refusal → Type 0
 HasCause b log NoMemory = Unit {0}
 HasCause b log ArenaFull = length b.live ≡ 15
 HasCause b log Spent = IsTrue (fill_is_spent b) ⊎ (greatest_number ≤ newest log)
 HasCause b log _ = ⊥
 
 -- why a remove fails: want of memory, or a number of a commit that would have to rise above the greatest
-abbrev pub HasLogCause : LogSeen → Refusal → Type 0
+abbrev pub HasLogCause : LogView → Refusal → Type 0
 HasLogCause log NoMemory = Unit {0}
 HasLogCause log Spent = greatest_number ≤ newest log
 HasLogCause log _ = ⊥
 
-abbrev pub StageFits : BorderView → LogSeen → Stage → Type 0
+abbrev pub StageFits : BorderView → LogView → Stage → Type 0
 StageFits b log Locked = log.reserved ≡ 0
 StageFits b log (Filled place key logged) = (log.reserved ≡ 1) × IsShowable b place × IsNextKey b key logged
 StageFits b log (Made place key columns logged) = (log.reserved ≡ 1) × (place < length b.live) × IsSome (row_at place b.live)
@@ -88,7 +88,7 @@ StageFits b log (Stored number) = log.reserved ≡ 0
 StageFits b log (Failed refusal) = (log.reserved ≡ 0) × HasCause b log refusal
 
 -- the border is locked where a call has locked it, and as far as that call is
-abbrev pub WriterFits : BorderView → LogSeen → Option Writer → Type 0
+abbrev pub WriterFits : BorderView → LogView → Option Writer → Type 0
 WriterFits b log None = (b.version.locked ≡ false) × (log.reserved ≡ 0)
 WriterFits b log (Some writer) = (b.version.locked ≡ true) × StageFits b log writer.stage
 
@@ -99,12 +99,12 @@ pub record IsPlain (b : BorderView) : Type 0 where
   pub present : b.version.deleted ≡ false
 
 -- nobody holds the log, and it is never full
-pub record IsUnheld (log : LogSeen) : Type 0 where
+pub record IsUnheld (log : LogView) : Type 0 where
   pub feed : log.feed ≡ greatest_number
   pub holders : log.holders ≡ []
 
 -- and no room in it is reserved
-pub record IsWhole (log : LogSeen) : Type 0 where
+pub record IsWhole (log : LogView) : Type 0 where
   pub unheld : IsUnheld log
   pub free : log.reserved ≡ 0
 
@@ -162,11 +162,11 @@ Finds key b (There place) = IsThere key b place
 Finds key b (Gap place) = IsGap key b place
 
 -- the room for one delta more
-abbrev pub with_room : LogSeen → LogSeen
+abbrev pub with_room : LogView → LogView
 with_room log = record log { reserved = log.reserved + 1 }
 
 -- a new row is in the first unused slot, to be shown at this place
-pub record Fills (C : ℕ) (key : List ℕ) (sets : List (ℕ × List ℕ)) (b : BorderView) (log : LogSeen) (place : ℕ) (logged : List (List ℕ)) (c : BorderView) (left : LogSeen) : Type 0 where
+pub record Fills (C : ℕ) (key : List ℕ) (sets : List (ℕ × List ℕ)) (b : BorderView) (log : LogView) (place : ℕ) (logged : List (List ℕ)) (c : BorderView) (left : LogView) : Type 0 where
   pub bytes : AreBytes key
   pub ends_here : length key ≤ 8
   pub columns : logged ≡ columns_after C sets None
@@ -179,7 +179,7 @@ pub record Fills (C : ℕ) (key : List ℕ) (sets : List (ℕ × List ℕ)) (b :
   pub room : left ≡ with_room log
 
 -- the columns are made that the row at this place is to have
-pub record Makes (C : ℕ) (key : List ℕ) (sets : List (ℕ × List ℕ)) (b : BorderView) (log : LogSeen) (place : ℕ) (columns logged : List (List ℕ)) (c : BorderView) (left : LogSeen) : Type 0 where
+pub record Makes (C : ℕ) (key : List ℕ) (sets : List (ℕ × List ℕ)) (b : BorderView) (log : LogView) (place : ℕ) (columns logged : List (List ℕ)) (c : BorderView) (left : LogView) : Type 0 where
   pub here : IsThere key b place
   pub made : columns ≡ columns_after C sets (row_of key b.live)
   pub copied : logged ≡ columns
@@ -187,27 +187,27 @@ pub record Makes (C : ℕ) (key : List ℕ) (sets : List (ℕ × List ℕ)) (b :
   pub room : left ≡ with_room log
 
 -- a put of a call that has locked the border makes ready, or fails
-abbrev pub PreparesPut : ℕ → List ℕ → List (ℕ × List ℕ) → BorderView → LogSeen → Stage → BorderView → LogSeen → Type 0
+abbrev pub PreparesPut : ℕ → List ℕ → List (ℕ × List ℕ) → BorderView → LogView → Stage → BorderView → LogView → Type 0
 PreparesPut C key sets b log (Filled place stored logged) c left = (stored ≡ key) × Fills C key sets b log place logged c left
 PreparesPut C key sets b log (Made place stored columns logged) c left = (stored ≡ key) × Makes C key sets b log place columns logged c left
 PreparesPut C key sets b log (Failed refusal) c left = HasCause b log refusal × (c ≡ b) × (left ≡ log)
 PreparesPut C key sets b log _ c left = ⊥
 
 -- a row is found that is to be hidden
-pub record Takes (key : List ℕ) (b : BorderView) (log : LogSeen) (place : ℕ) (before : Row) (left : LogSeen) : Type 0 where
+pub record Takes (key : List ℕ) (b : BorderView) (log : LogView) (place : ℕ) (before : Row) (left : LogView) : Type 0 where
   pub here : IsThere key b place
   pub row : row_at place b.live ≡ Some before
   pub room : left ≡ with_room log
 
 -- a remove of a call that has locked the border makes ready, or fails, or finds no row
-abbrev pub PreparesRemove : List ℕ → BorderView → LogSeen → Option Stage → LogSeen → Type 0
+abbrev pub PreparesRemove : List ℕ → BorderView → LogView → Option Stage → LogView → Type 0
 PreparesRemove key b log None left = IsMissing key b × (left ≡ log)
 PreparesRemove key b log (Some (Taken place stored before)) left = (stored ≡ key) × Takes key b log place before left
 PreparesRemove key b log (Some (Failed refusal)) left = HasLogCause log refusal × (left ≡ log)
 PreparesRemove key b log (Some _) left = ⊥
 
 -- an edit makes ready, or fails, or finds nothing to remove
-abbrev pub Prepares : ℕ → List ℕ → Edit → BorderView → LogSeen → Option Stage → BorderView → LogSeen → Type 0
+abbrev pub Prepares : ℕ → List ℕ → Edit → BorderView → LogView → Option Stage → BorderView → LogView → Type 0
 Prepares C key (Put sets) b log None c left = ⊥
 Prepares C key (Put sets) b log (Some stage) c left = PreparesPut C key sets b log stage c left
 Prepares C key Remove b log stage c left = (c ≡ b) × PreparesRemove key b log stage left

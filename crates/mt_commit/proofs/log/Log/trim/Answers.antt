@@ -20,6 +20,7 @@ invariant_of-self c =
     record {
       sound = trimmed_log (log_of c.self.inside) _ _ c.self.invariant.sound bound c.drop_front.ensures.items;
       room = omega arith;
+      counted = c.self.invariant.counted;
     }
 
 pub returns-clause-newest_stays : goal.returns-clause-newest_stays
