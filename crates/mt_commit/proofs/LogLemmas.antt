@@ -1,12 +1,11 @@
 -- What the calls of a log leave as it has to be.
-use Rattle.std.proofs.Common.{◌≡◌, ℕ, zero, suc, ◌+◌, ◌-◌, ◌<◌, ◌≤◌, true, false, List, [], ◌∷◌, ◌++◌, length, drop, min, Some, Result, Ok, Err, ap, sym, ◌∙◌, subst, arith, length-append, length-drop}
-use Rattle.std.specs.Prelude.{All, slice_get, OnOk, OnErr, cond, nat_le, ◌==◌}
+use Rattle.std.proofs.Common.{◌≡◌, ℕ, zero, suc, ◌+◌, ◌-◌, ◌<◌, ◌≤◌, true, false, List, [], ◌∷◌, ◌++◌, length, drop, min, Some, ap, sym, ◌∙◌, subst, arith, length-append, length-drop}
+use Rattle.std.specs.Prelude.{All, slice_get, cond, nat_le, ◌==◌}
 use Rattle.std.specs.List.{AllByRecursion}
 use Rattle.std.proofs.lemmas.List.Elements.{All-from_recursion, recursion_from_All, All-weaker}
 use Rattle.std.proofs.Math.Nat.{min-le_left, min-le_right, le-min}
 use Rattle.mt_types.specs.Numbers.{least}
 use Rattle.mt_types.specs.declared.row.Delta.{Delta}
-use Rattle.mt_types.specs.declared.refusal.NoMemory.{NoMemory}
 use Rattle.mt_commit.specs.Holders.{with_holder, without_holder}
 use Rattle.mt_commit.specs.Log.{LogView, IsLog, Numbered, newest, slowest}
 

@@ -1,4 +1,3 @@
--- Lemmas on columns, on maps and on a put into a map.
-pub mod ColumnLemmas
+-- Lemmas on maps and on a put into a map.
 pub mod MapLemmas
 pub mod PutLemmas

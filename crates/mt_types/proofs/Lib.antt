@@ -1,1 +1,3 @@
+-- Lemmas on the columns of a row, and on ranges.
+pub mod ColumnLemmas
 pub mod RangeLemmas

@@ -6,3 +6,4 @@ pub mod Views
 pub mod Limits
 pub mod Numbers
 pub mod RefusalNumbers
+pub mod Copies

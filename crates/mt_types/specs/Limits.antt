@@ -76,7 +76,7 @@ request_fault C (Build spec) = spec_fault C spec
 abbrev pub page_fault : List ℕ → ℕ → Option Refusal
 page_fault start limit = option_or (key_fault start) (limit_fault limit)
 
--- the first limit that an index breaks which is to be opened with so many columns, and with these bounds of its log
+-- the first limit that an index breaks which is to be opened with this number of columns, and with these bounds of its log
 abbrev pub open_fault : ℕ → ℕ → ℕ → Option Refusal
 open_fault columns feed keep =
     option_or (refused_if (not (is_within 1 MAX_COLUMNS columns)) BadColumn)

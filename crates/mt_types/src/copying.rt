@@ -1,6 +1,6 @@
 //! Copies that may be refused memory.
 
-ghost use Rattle.std.specs.Prelude.{◌≡◌, IfOk};
+ghost use Rattle.std.specs.Prelude.{◌≡◌, Ok, None, IfOk, IsOk};
 
 use crate::refusal::NoMemory;
 use bytes::Bytes;
@@ -16,13 +16,19 @@ pub trait TryCopy {
 }
 
 impl TryCopy for u8 {
-    fn copy(&self, _alloc: Global) -> Result<u8, NoMemory> {
+    /// Takes no memory.
+    fn copy(&self, _alloc: Global) -> Result<u8, NoMemory>
+        ensures { result ≡ Ok self.now }
+    {
         Ok(*self)
     }
 }
 
 impl TryCopy for u128 {
-    fn copy(&self, _alloc: Global) -> Result<u128, NoMemory> {
+    /// Takes no memory.
+    fn copy(&self, _alloc: Global) -> Result<u128, NoMemory>
+        ensures { result ≡ Ok self.now }
+    {
         Ok(*self)
     }
 }
@@ -41,7 +47,11 @@ impl<A: TryCopy + Drop, B: TryCopy + Drop> TryCopy for (A, B) {
 }
 
 impl<T: TryCopy> TryCopy for Option<T> {
-    fn copy(&self, alloc: Global) -> Result<Option<T>, NoMemory> {
+    /// Where there is no value, takes no memory.
+    fn copy(&self, alloc: Global) -> Result<Option<T>, NoMemory>
+        ensures value { IfOk result (λ made. made ≡ self.now) }
+        ensures free { self.now ≡ None → IsOk result }
+    {
         match self {
             Some(value) => Ok(Some(value.copy(alloc)?)),
             None => Ok(None),

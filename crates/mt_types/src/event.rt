@@ -1,6 +1,7 @@
 //! What an index is asked, event by event, and what it answers.
 
-ghost use Rattle.std.specs.Prelude.{◌≡◌, IfOk};
+ghost use Rattle.std.specs.Prelude.{◌≡◌, IfOk, IsOk};
+ghost use Rattle.mt_types.specs.Copies.{IsBareEvent, IsBareAnswer, IsBareOutcome};
 
 use crate::copying::TryCopy;
 use crate::numbers::{CallNo, PassNo, ViewNo};
@@ -143,7 +144,7 @@ pub enum Outcome {
 }
 
 impl TryCopy for Request {
-    /// Shares the bytes. Costs at most one allocation.
+    /// Shares the bytes. O(n) in the columns that it names; at most one allocation for them.
     fn copy(&self, alloc: Global) -> Result<Request, NoMemory> {
         match self {
             Request::Get { key, columns } => Ok(Request::Get {
@@ -177,8 +178,11 @@ impl TryCopy for Request {
 }
 
 impl TryCopy for Event {
-    /// Shares the bytes. Costs at most one allocation.
-    fn copy(&self, alloc: Global) -> Result<Event, NoMemory> {
+    /// Shares the bytes. Costs a copy of its request; where it holds no bytes, takes no memory.
+    fn copy(&self, alloc: Global) -> Result<Event, NoMemory>
+        ensures value { IfOk result (λ made. made ≡ self.now) }
+        ensures free { IsBareEvent self.now → IsOk result }
+    {
         match self {
             Event::Begin(pass, request) => Ok(Event::Begin(*pass, request.copy(alloc)?)),
             Event::Step(call) => Ok(Event::Step(*call)),
@@ -202,8 +206,12 @@ impl TryCopy for Event {
 }
 
 impl TryCopy for Answer {
-    /// Shares the bytes. Costs an allocation for each list.
-    fn copy(&self, alloc: Global) -> Result<Answer, NoMemory> {
+    /// Shares the bytes. O(n) in the columns that it holds, with an allocation for each row; where it holds none, takes
+    /// no memory.
+    fn copy(&self, alloc: Global) -> Result<Answer, NoMemory>
+        ensures value { IfOk result (λ made. made ≡ self.now) }
+        ensures free { IsBareAnswer self.now → IsOk result }
+    {
         match self {
             Answer::Absent => Ok(Answer::Absent),
             Answer::Found(row) => Ok(Answer::Found(row.copy(alloc)?)),
@@ -217,8 +225,11 @@ impl TryCopy for Answer {
 }
 
 impl TryCopy for Reply {
-    /// Shares the bytes. Costs an allocation for each list of the answer.
-    fn copy(&self, alloc: Global) -> Result<Reply, NoMemory> {
+    /// Costs a copy of its answer.
+    fn copy(&self, alloc: Global) -> Result<Reply, NoMemory>
+        ensures value { IfOk result (λ made. made ≡ self.now) }
+        ensures free { IsBareAnswer self.now.answer → IsOk result }
+    {
         Ok(Reply {
             pass: self.pass,
             call: self.call,
@@ -230,8 +241,11 @@ impl TryCopy for Reply {
 }
 
 impl TryCopy for Outcome {
-    /// Shares the bytes. Costs an allocation for each list.
-    fn copy(&self, alloc: Global) -> Result<Outcome, NoMemory> {
+    /// Costs a copy of its reply or page; where it holds no rows, takes no memory.
+    fn copy(&self, alloc: Global) -> Result<Outcome, NoMemory>
+        ensures value { IfOk result (λ made. made ≡ self.now) }
+        ensures free { IsBareOutcome self.now → IsOk result }
+    {
         match self {
             Outcome::Call(call) => Ok(Outcome::Call(*call)),
             Outcome::Moved => Ok(Outcome::Moved),

@@ -80,7 +80,7 @@ fn copy_items<T: TryCopy + Drop>(alloc: Global, items: &[T]) -> Result<Vec<T>, N
 }
 
 impl<T: TryCopy + Drop> TryCopy for Items<T> {
-    /// Costs one allocation and a copy of each item.
+    /// O(n) in the items; one allocation.
     fn copy(&self, alloc: Global) -> Result<Items<T>, NoMemory> {
         Ok(Items {
             items: copy_items(alloc, &self.items)?,

@@ -10,7 +10,7 @@ use std::alloc::Global;
 use std::cmp::Ordering;
 use std::marker::Model;
 
-/// A key: up to 255 bytes. Keys are ordered by their bytes from the first on, a proper prefix first.
+/// A key: up to `MAX_KEY_BYTES` bytes. Keys are ordered by their bytes from the first on, a proper prefix first.
 #[derive(Debug, Drop)]
 pub struct Key {
     bytes: Bytes,
@@ -28,7 +28,7 @@ impl Model for Key {
 }
 
 impl Key {
-    /// The key of these bytes. Refused `KeyTooLong` where there are more than 255. Takes no memory.
+    /// The key of these bytes. Refused `KeyTooLong` where there are more than `MAX_KEY_BYTES`. Takes no memory.
     pub fn new(bytes: Bytes) -> Result<Key, Refusal>
         ensures kept { IfOk result (λ key. key ≡ bytes) }
         ensures refused { IsErrOf result Refusal.KeyTooLong ↔ (MAX_KEY_BYTES < length bytes) }

@@ -1,6 +1,9 @@
 //! The values of the index: keys, rows, requests, events and their outcomes, with the model of rows and views.
+//!
+//! A call costs O(1) unless it says otherwise.
 #![tactic(auto)]
 
+pub mod columns;
 pub mod copying;
 pub mod event;
 pub mod items;

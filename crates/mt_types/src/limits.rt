@@ -44,7 +44,7 @@ pub const MAX_NODES: u32 = 1_048_576;
 /// The highest level of an interior node; a border node has level 0. A node that would stand higher is not posted.
 pub const MAX_LEVEL: u8 = 15;
 
-/// The deepest layer: a key of 255 bytes has its last slice there. Guarded by `KeyTooLong`.
+/// The deepest layer: a key of `MAX_KEY_BYTES` has its last slice there. Guarded by `KeyTooLong`.
 pub const MAX_LAYER: usize = 31;
 
 /// The most queries of a frame; the least is 1. A frame outside is a bad frame.
@@ -121,7 +121,7 @@ fn sets_fault(columns: u8, sets: &[(u8, Column)]) -> Option<Refusal>
     }
 }
 
-/// Whether the limit of a range, a page or a feed is from 1 to 1000: else `BadLimit`. Constant cost.
+/// `BadLimit` unless the limit of a range, a page or a feed is from 1 to `MAX_RANGE`.
 pub fn limit_fault(limit: u16) -> Option<Refusal>
     ensures { result ≡ limit_fault limit }
 {
@@ -175,9 +175,8 @@ fn spec_fault(columns: u8, spec: &ViewSpec) -> Option<Refusal>
     }
 }
 
-/// The first limit that a request breaks on an index of so many columns: of keys, then of columns, then of numbers.
-///
-/// Costs a look at each column that is named, and at most sixteen times the rest of the list.
+/// The first limit that a request breaks on an index of `columns` columns: of keys, then of columns, then of numbers.
+/// O(n) in the columns that it names, times `columns`: the search ends at the first number that stands twice.
 pub fn request_fault(columns: u8, request: &Request) -> Option<Refusal>
     ensures { result ≡ request_fault columns request.now }
 {
@@ -201,15 +200,15 @@ pub fn request_fault(columns: u8, request: &Request) -> Option<Refusal>
     }
 }
 
-/// The first limit that is broken where a page of a view is asked for. Constant cost.
+/// The first limit that is broken where a page of a view is asked for.
 pub fn page_fault(start: &[u8], limit: u16) -> Option<Refusal>
     ensures { result ≡ page_fault start.now limit }
 {
     key_fault(start).or_else(|| limit_fault(limit))
 }
 
-/// The first limit that an index breaks which is to be opened with so many columns, a log that holds at most `feed`
-/// commits for the slowest that reads it, and keeps `keep` for nobody. Constant cost.
+/// The first limit that an index breaks which is to be opened with `columns` columns and a log that holds at most
+/// `feed` commits for the slowest that reads it, and keeps `keep` for nobody.
 pub fn open_fault(columns: u64, feed: u64, keep: u64) -> Option<Refusal>
     ensures { result ≡ open_fault columns feed keep }
 {
@@ -220,7 +219,7 @@ pub fn open_fault(columns: u64, feed: u64, keep: u64) -> Option<Refusal>
     }
 }
 
-/// Whether an index may have so many passes, and a published view so many readers: else `BadLimit`. Constant cost.
+/// `BadLimit` unless an index may have `passes` passes, and a published view as many readers.
 pub fn passes_fault(passes: u64) -> Option<Refusal>
     ensures { result ≡ passes_fault passes }
 {

@@ -54,7 +54,7 @@ pub struct Delta {
 }
 
 impl TryCopy for Row {
-    /// Shares the columns' bytes. Costs one allocation for the list of columns.
+    /// Shares the columns' bytes. O(n) in the columns; one allocation.
     fn copy(&self, alloc: Global) -> Result<Row, NoMemory> {
         Ok(Row {
             version: self.version,
@@ -64,7 +64,7 @@ impl TryCopy for Row {
 }
 
 impl TryCopy for Change {
-    /// Shares the bytes. Costs at most one allocation.
+    /// Shares the bytes. O(n) in the columns that it names; at most one allocation for them.
     fn copy(&self, alloc: Global) -> Result<Change, NoMemory> {
         match self {
             Change::Put(key, sets) => Ok(Change::Put(key.copy(alloc)?, sets.copy(alloc)?)),
@@ -74,7 +74,7 @@ impl TryCopy for Change {
 }
 
 impl TryCopy for Delta {
-    /// Shares the bytes. Costs an allocation for each of the two rows that is there.
+    /// Shares the bytes. O(n) in the columns; an allocation for each of the two rows that is there.
     fn copy(&self, alloc: Global) -> Result<Delta, NoMemory> {
         Ok(Delta {
             number: self.number,

@@ -1,6 +1,7 @@
 //! Standing views: what they show, and a page of what one shows.
 
-ghost use Rattle.std.specs.Prelude.{◌≡◌, IfOk};
+ghost use Rattle.std.specs.Prelude.{◌≡◌, IfOk, IsOk};
+ghost use Rattle.mt_types.specs.Copies.{IsBareTest};
 
 use crate::copying::TryCopy;
 use crate::items::Items;
@@ -55,8 +56,11 @@ pub struct Page {
 }
 
 impl TryCopy for RowTest {
-    /// Shares the bytes.
-    fn copy(&self, alloc: Global) -> Result<RowTest, NoMemory> {
+    /// Shares the bytes. Where it holds none, takes no memory.
+    fn copy(&self, alloc: Global) -> Result<RowTest, NoMemory>
+        ensures value { IfOk result (λ made. made ≡ self.now) }
+        ensures free { IsBareTest self.now → IsOk result }
+    {
         match self {
             RowTest::Any => Ok(RowTest::Any),
             RowTest::Equals(column, bytes) => Ok(RowTest::Equals(*column, bytes.copy(alloc)?)),
@@ -83,7 +87,7 @@ impl TryCopy for ViewSpec {
 }
 
 impl TryCopy for Page {
-    /// Shares the bytes. Costs an allocation for each list.
+    /// Shares the bytes. O(n) in the columns that it holds, with an allocation for each row.
     fn copy(&self, alloc: Global) -> Result<Page, NoMemory> {
         Ok(Page {
             at: self.at,

@@ -1,4 +1,4 @@
-use Rattle.std.proofs.Common.{◌≡◌, ◌+◌, ℕ, List, ap, sym, ◌∙◌, subst, arith, length}
+use Rattle.std.proofs.Common.{◌≡◌, ◌+◌, ℕ, List, ap, sym, subst, arith, length}
 use Rattle.std.specs.Prelude.{Contains}
 use Rattle.mt_commit.specs.Holders.{without_holder}
 use Rattle.mt_commit.specs.Log.{LogView}
