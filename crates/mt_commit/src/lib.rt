@@ -1,4 +1,6 @@
 //! The log of commits: the deltas of the last commits, held for those that still read them.
+//!
+//! A call costs O(1) unless it says otherwise.
 #![tactic(auto)]
 
 mod holders;

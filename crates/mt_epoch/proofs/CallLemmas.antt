@@ -11,14 +11,14 @@ use Rattle.std.specs.BTreeMap.{insert_entry, is_at}
 use Rattle.std.proofs.lemmas.Bool.Decides.{eqb_tells}
 use Rattle.std.proofs.lemmas.List.Elements.{All-head, All-tail}
 use Rattle.mt_types.specs.declared.numbers.CallNo.{CallNo}
-use Rattle.mt_epoch.specs.EpochsSeen.{OpenCall, began_of, epochs_seen}
+use Rattle.mt_epoch.specs.EpochsView.{OpenCall, began_of, epochs_of}
 
 abbrev pub Entries : Type 0
 Entries = List (CallNo × ℕ)
 
 -- the open calls that the entries are
 abbrev pub calls_of : Entries → List OpenCall
-calls_of entries = (epochs_seen 0 entries).calls
+calls_of entries = (epochs_of 0 entries).calls
 
 -- the calls that stay where this one ends
 abbrev pub without_call : ℕ → List OpenCall → List OpenCall

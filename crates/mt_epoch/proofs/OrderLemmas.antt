@@ -5,10 +5,10 @@ use Rattle.std.proofs.lemmas.List.Elements.{All-push, All-filter}
 use Rattle.std.proofs.lemmas.Option.{get_or_from_slice_get, slice_get_within}
 use Rattle.std.proofs.lemmas.List.Kept.{AllPairs-filter}
 use Rattle.std.proofs.lemmas.List.Quantifiers.{all_pairs_push}
-use Rattle.mt_epoch.specs.EpochsSeen.{OpenCall, EpochsSeen, IsInOrder, after_begin, after_end}
+use Rattle.mt_epoch.specs.EpochsView.{OpenCall, EpochsView, IsInOrder, after_begin, after_end}
 
 -- a call begins
-pub in_order-begin : (number : ℕ) (seen : EpochsSeen) → IsInOrder seen → All (λ other. other.number < number) seen.calls → IsInOrder (after_begin number seen)
+pub in_order-begin : (number : ℕ) (seen : EpochsView) → IsInOrder seen → All (λ other. other.number < number) seen.calls → IsInOrder (after_begin number seen)
 in_order-begin number seen order below = record {
   numbers_rise = all_pairs_push (λ earlier later. earlier.number < later.number) seen.calls _ order.numbers_rise below;
   epochs_never_fall = all_pairs_push (λ earlier later. earlier.began ≤ later.began) seen.calls _ order.epochs_never_fall order.none_is_ahead;
@@ -16,7 +16,7 @@ in_order-begin number seen order below = record {
 }
 
 -- a call ends
-pub in_order-end : (number : ℕ) (seen : EpochsSeen) → IsInOrder seen → IsInOrder (after_end number seen)
+pub in_order-end : (number : ℕ) (seen : EpochsView) → IsInOrder seen → IsInOrder (after_end number seen)
 in_order-end number seen order = record {
   numbers_rise = AllPairs-filter (λ earlier later. earlier.number < later.number) _ seen.calls order.numbers_rise;
   epochs_never_fall = AllPairs-filter (λ earlier later. earlier.began ≤ later.began) _ seen.calls order.epochs_never_fall;
@@ -24,7 +24,7 @@ in_order-end number seen order = record {
 }
 
 -- where the first call began in a later epoch, each did
-pub all_later : (bound : ℕ) (first : OpenCall) (seen : EpochsSeen) → IsInOrder seen → slice_get seen.calls 0 ≡ Some first → bound < first.began → All (λ call. bound < call.began) seen.calls
+pub all_later : (bound : ℕ) (first : OpenCall) (seen : EpochsView) → IsInOrder seen → slice_get seen.calls 0 ≡ Some first → bound < first.began → All (λ call. bound < call.began) seen.calls
 all_later bound first seen order is later zero d within = rw (get_or_from_slice_get seen.calls 0 first d is) later
 all_later bound first seen order is later (suc k) d within =
     let rises = order.epochs_never_fall 0 (suc k) d (omega arith) within in

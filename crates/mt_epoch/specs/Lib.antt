@@ -1,2 +1,2 @@
 -- What contracts see of the epochs.
-pub mod EpochsSeen
+pub mod EpochsView

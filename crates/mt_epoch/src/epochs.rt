@@ -1,7 +1,7 @@
 //! The present epoch, and the epochs in which the open calls began.
 
-ghost use Rattle.std.specs.Prelude.{◌≡◌, ◌+◌, ◌-◌, ◌^◌, ◌<◌, ◌↔◌, [], length, All, IsTrue, IsSome, IfOk, IfErr, IsErr, OnOk, OnErr};
-ghost use Rattle.mt_epoch.specs.EpochsSeen.{EpochsSeen, began_of, after_begin, after_end, IsInOrder};
+ghost use Rattle.std.specs.Prelude.{◌≡◌, ◌+◌, ◌<◌, ◌↔◌, [], length, All, IsTrue, IsSome, IfOk, IfErr, IsErr, OnOk, OnErr};
+ghost use Rattle.mt_epoch.specs.EpochsView.{EpochsView, began_of, after_begin, after_end, IsInOrder};
 
 use mt_types::numbers::CallNo;
 use mt_types::refusal::{NoMemory, Refusal};
@@ -20,13 +20,13 @@ pub struct Epochs {
 }
 
 impl Model for Epochs {
-    ghost use Rattle.mt_epoch.specs.EpochsSeen.{EpochsSeen, IsInOrder, epochs_seen};
+    ghost use Rattle.mt_epoch.specs.EpochsView.{EpochsView, IsInOrder, epochs_of};
 
-    ghost Value = { EpochsSeen };
+    ghost Value = { EpochsView };
 
-    ghost view = { λ e. epochs_seen e.epoch e.calls.entries };
+    ghost view = { λ e. epochs_of e.epoch e.calls.entries };
 
-    ghost invariant = { λ e. IsInOrder (epochs_seen e.epoch e.calls.entries) };
+    ghost invariant = { λ e. IsInOrder (epochs_of e.epoch e.calls.entries) };
 }
 
 impl Epochs {
@@ -55,14 +55,14 @@ impl Epochs {
         self.calls.len()
     }
 
-    /// Whether the call is open. Costs a comparison of numbers for each doubling of the open calls.
+    /// Whether the call is open. O(log n) in the open calls.
     pub fn is_open(&self, call: CallNo) -> bool
         ensures { IsTrue result ↔ IsSome (began_of call.0 self.now.calls) }
     {
         self.calls.contains_key(&call)
     }
 
-    /// The epoch in which the call began, if it is open. Costs as `is_open` does.
+    /// The epoch in which the call began, if it is open. O(log n) in the open calls.
     pub fn began(&self, call: CallNo) -> Option<u64>
         ensures { result ≡ began_of call.0 self.now.calls }
     {
@@ -70,7 +70,11 @@ impl Epochs {
     }
 
     /// A call begins in the present epoch. Its number is greater than that of each open call. On an error nothing
-    /// changes. Costs as `is_open` does, and it may take memory.
+    /// changes. O(log n) in the open calls.
+    ///
+    /// # Errors
+    ///
+    /// `NoMemory` where an allocation is refused.
     pub fn begin(&mut self, call: CallNo) -> Result<(), NoMemory>
         requires { All (λ other. other.number < call.0) self.old.calls }
         ensures ok { OnOk result (self.new ≡ after_begin call.0 self.old) }
@@ -81,7 +85,7 @@ impl Epochs {
         Ok(())
     }
 
-    /// An open call ends. Takes no memory. Costs as `is_open` does.
+    /// An open call ends. Takes no memory. O(log n) in the open calls.
     pub fn end(&mut self, call: CallNo)
         requires { IsSome (began_of call.0 self.old.calls) }
         ensures ended { self.new ≡ after_end call.0 self.old }
@@ -90,12 +94,15 @@ impl Epochs {
         let _ = self.calls.remove(&call);
     }
 
-    /// The next epoch begins, and its number is given. Refused `Spent` where the present epoch is the greatest number,
-    /// and then nothing changes. Takes no memory.
+    /// The next epoch begins, and its number is given. On an error nothing changes. Takes no memory.
+    ///
+    /// # Errors
+    ///
+    /// `Spent` where the present epoch is the greatest number.
     pub fn advance(&mut self) -> Result<u64, Refusal>
         ensures next { IfOk result (λ epoch. epoch ≡ self.old.epoch + 1) }
         ensures ok { OnOk result (self.new ≡ record self.old { epoch = self.old.epoch + 1 }) }
-        ensures spent { IsErr result ↔ (self.old.epoch ≡ 2 ^ 64 - 1) }
+        ensures spent { IsErr result ↔ (self.old.epoch ≡ u64.MAX) }
         ensures refusal { IfErr result (λ refusal. refusal ≡ Refusal.Spent) }
         ensures err { OnErr result (self.new ≡ self.old) }
         ensures in_order { IsInOrder self.new }
@@ -105,8 +112,8 @@ impl Epochs {
         Ok(next)
     }
 
-    /// Whether a node that was retired in this epoch may be freed: each open call began in a later one.
-    /// Costs as `is_open` does: only the first open call is read, since none began before it.
+    /// Whether a node that was retired in this epoch may be freed: each open call began in a later one. O(log n) in the
+    /// open calls, of which only the first is read, since none began before it.
     pub fn may_free(&self, epoch: u64) -> bool
         ensures { IsTrue result ↔ All (λ call. epoch < call.began) self.now.calls }
     {

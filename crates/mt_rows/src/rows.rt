@@ -64,23 +64,23 @@ impl Rows {
         self.rows.is_empty()
     }
 
-    /// The row under a key, if there is one. Costs a comparison of keys for each doubling of the rows.
+    /// The row under a key, if there is one. O(log n) in the rows.
     pub fn get(&self, key: &Key) -> Option<&Row>
         ensures { option_copied result ≡ map.get self.now key.now }
     {
         self.rows.get(key)
     }
 
-    /// The rows from a key on, each with its key, in the order of the keys. Takes no memory and copies nothing.
-    /// Costs as `get` does; then each row costs a step to its neighbour.
+    /// The rows from a key on, each with its key, in the order of the keys. Takes no memory and copies nothing. O(log n) in
+    /// the rows.
     pub fn from_key(&self, start: &Key) -> Range<'_, Key, Row>
         ensures { result ≡ filter (λ pair. is_ge (key_cmp pair.0 start.now)) (map.entries self.now) }
     {
         self.rows.range(start..)
     }
 
-    /// A copy of the first rows from a key on, up to a limit, each with its key. Shares the bytes.
-    /// Costs as `get` does, and then an allocation for the columns of each row that it gives.
+    /// A copy of the first rows from a key on, up to a limit, each with its key. Shares the bytes. O(log n + m) in the rows
+    /// and the columns that it gives, with an allocation for each row that it gives.
     pub fn page(&self, alloc: Global, start: &Key, limit: usize) -> Result<Pairs, NoMemory>
         ensures { IfOk result (λ pairs. pairs ≡ page_from start.now limit (map.entries self.now)) }
     {
@@ -94,8 +94,11 @@ impl Rows {
         Ok(Pairs::from_vec(pairs))
     }
 
-    /// Puts a row under a key, and gives the row that stood there. On an error nothing changes. Costs as `get` does,
-    /// and for a new key it may take memory.
+    /// Puts a row under a key, and gives the row that stood there. On an error nothing changes. O(log n) in the rows.
+    ///
+    /// # Errors
+    ///
+    /// `NoMemory` where an allocation is refused, which only a new key asks for.
     pub fn set(&mut self, key: Key, row: Row) -> Result<Option<Row>, NoMemory>
         ensures old { IfOk result (λ old. old ≡ map.get self.old key) }
         ensures ok { OnOk result (self.new ≡ map.insert self.old key row) }
@@ -104,7 +107,7 @@ impl Rows {
         Ok(self.rows.insert(key, row)?)
     }
 
-    /// Takes the row under a key away, and gives it, if there is one. Costs as `get` does.
+    /// Takes the row under a key away, and gives it, if there is one. O(log n) in the rows.
     pub fn remove(&mut self, key: &Key) -> Option<Row>
         ensures old { result ≡ map.get self.old key.now }
         ensures after { self.new ≡ map.remove self.old key.now }
@@ -112,9 +115,8 @@ impl Rows {
         self.rows.remove(key)
     }
 
-    /// Does a change, as the commit of this number does it in an index of so many columns. On an error nothing changes.
-    /// Costs as `get` does. A put also copies its list of sets, with shared bytes, and writes a row that is there in
-    /// place: the columns that it does not name are not touched.
+    /// Does a change, as the commit of this number does it in an index of `columns` columns. On an error nothing changes.
+    /// O(log n + m) in the rows and the sets: a row that is there is written in place.
     pub fn apply(
         &mut self,
         alloc: Global,
@@ -156,8 +158,8 @@ impl Rows {
     }
 }
 
-/// The rows of an index of so many columns after these changes from none on: the i-th is made by the commit of number i,
-/// from 1 on. Refused `NoMemory` alone. Costs as `apply` does, for each change.
+/// The rows of an index of `columns` columns after these changes from none on: the i-th is made by the commit of number
+/// i, from 1 on. Refused `NoMemory` alone. O(n log n) in the changes.
 pub fn after(alloc: Global, columns: u8, changes: &[Change]) -> Result<Rows, Refusal>
     ensures ok { IfOk result (λ rows. rows ≡ after columns changes.now) }
     ensures refused { IfErr result (λ refusal. refusal ≡ Refusal.NoMemory) }

@@ -9,7 +9,7 @@ abbrev pub class_number : Class → ℕ
 class_number (Len bytes) = bytes
 class_number Long = 9
 
--- the class of a rest of so many bytes
+-- the class of a rest of this many bytes
 abbrev pub class_of : ℕ → Class
 class_of bytes = if nat_le bytes 8 then Len bytes else Long
 

@@ -35,7 +35,7 @@ AreBytes (byte ∷ bytes) = (byte < 256) × AreBytes bytes
 unfoldable pub slice_number : List ℕ → ℕ
 slice_number bytes = big_endian 0 (take 8 (bytes ++ replicate 8 0))
 
--- the place of bytes that go on past at most so many slices
+-- the place of bytes that go on past at most this number of slices
 abbrev pub place_within : ℕ → List ℕ → Place
 place_within zero bytes = last (slice_number bytes) (length bytes)
 place_within (suc slices) bytes =
@@ -56,7 +56,7 @@ abbrev pub slices_above : ℕ → List ℕ → List ℕ
 slices_above zero bytes = []
 slices_above (suc layer) bytes = slice_number (rest_at layer bytes) ∷ slices_above layer bytes
 
--- the bytes of a place: the eight of each slice that it goes past, and the first so many of its last slice
+-- the bytes of a place: the eight of each slice that it goes past, and those of its last slice that are of the key
 abbrev pub bytes_of_place : Place → List ℕ
 bytes_of_place (last slice bytes) = take bytes (to_be_bytes w64 slice)
 bytes_of_place (deeper slice rest) = to_be_bytes w64 slice ++ bytes_of_place rest

@@ -1,4 +1,6 @@
 //! Keys as places: how a key of bytes is cut into the slices of the trie's layers.
+//!
+//! A call costs O(1) unless it says otherwise.
 #![tactic(auto)]
 
 pub mod laws;

@@ -1,4 +1,4 @@
-//! The classes of a slice: a key that ends there after so many bytes, or one that goes on.
+//! The classes of a slice: how many bytes of a key that ends there, or that the key goes on.
 
 ghost use Rattle.std.specs.Prelude.{◌≡◌, ◌≤◌, length};
 ghost use Rattle.mt_slice.specs.Classes.{IsClass, class_number, class_of};
@@ -30,7 +30,7 @@ impl Model for Length {
 }
 
 impl Length {
-    /// So many bytes. Constant cost.
+    /// The length of `bytes` bytes.
     pub fn new(bytes: usize) -> Length
         requires { bytes ≤ SLICE_BYTES }
         ensures { result ≡ bytes }
@@ -38,7 +38,7 @@ impl Length {
         Length { bytes: bytes as u8 }
     }
 
-    /// How many bytes. Constant cost.
+    /// How many bytes.
     pub fn get(self) -> usize
         ensures value { result ≡ self }
         ensures fits { self ≤ SLICE_BYTES }
@@ -47,7 +47,7 @@ impl Length {
     }
 }
 
-/// What stands at a slice of a layer: the key's last bytes there, which are so many, or a key that goes on past it.
+/// What stands at a slice of a layer: a key that ends there, by how many bytes it has there, or one that goes on past it.
 ///
 /// One slice has ten classes. They are ordered `Len(0)` to `Len(8)`, then `Long` (Masstree, EuroSys 2012, section 4.2).
 #[derive(Clone, Copy, Debug, PartialEq, Eq, PartialOrd, Ord)]
@@ -57,7 +57,7 @@ pub enum Class {
 }
 
 impl Class {
-    /// The class of a rest of so many bytes. Constant cost.
+    /// The class of a rest of `bytes` bytes.
     pub fn of_length(bytes: usize) -> Class
         ensures { result ≡ class_of bytes }
     {
@@ -68,7 +68,7 @@ impl Class {
         }
     }
 
-    /// The class as a number: 0 to 8 for the lengths, 9 for `Long`. Constant cost.
+    /// The class as a number: 0 to 8 for the lengths, 9 for `Long`.
     pub fn number(self) -> u8
         ensures value { result ≡ class_number self }
         ensures one_of_ten { result ≤ 9 }

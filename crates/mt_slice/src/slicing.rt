@@ -12,8 +12,8 @@ use std::cmp::Ordering;
 
 // These bytes and zero bytes after them, eight in all.
 fn padded(bytes: &[u8]) -> [u8; SLICE_BYTES]
-    requires { length bytes.now ≤ 8 }
-    ensures { result ≡ take 8 (bytes.now ++ replicate 8 0) }
+    requires { length bytes.now ≤ SLICE_BYTES }
+    ensures { result ≡ take SLICE_BYTES (bytes.now ++ replicate SLICE_BYTES 0) }
 {
     let mut padded = [0; SLICE_BYTES];
     padded[..bytes.len()].copy_from_slice(bytes);
@@ -35,44 +35,43 @@ fn slice_number(bytes: &[u8]) -> u64
 /// The slice of these bytes, which are the rest of a key in a layer, and their class: the first eight bytes as a
 /// big-endian number, padded with zero bytes, and how many bytes there are, or that there are more.
 ///
-/// Constant cost, and no memory (Masstree, EuroSys 2012, section 4.2).
+/// Takes no memory (Masstree, EuroSys 2012, section 4.2).
 pub fn slice_of(bytes: &[u8]) -> (u64, Class)
     ensures slice { result.0 ≡ slice_number bytes.now }
     ensures class { result.1 ≡ class_of (length bytes.now) }
-    ensures place { place_of bytes.now ≡ place_at result.0 result.1 (place_of (drop 8 bytes.now)) }
+    ensures place { place_of bytes.now ≡ place_at result.0 result.1 (place_of (drop SLICE_BYTES bytes.now)) }
 {
     (slice_number(bytes), Class::of_length(bytes.len()))
 }
 
-/// What follows the slice of these bytes: nothing where their class is a length. Constant cost.
+/// What follows the slice of these bytes: nothing where their class is a length.
 pub fn rest_of(bytes: &[u8]) -> &[u8]
-    ensures { result.now ≡ drop 8 bytes.now }
+    ensures { result.now ≡ drop SLICE_BYTES bytes.now }
 {
     &bytes[bytes.len().min(SLICE_BYTES)..]
 }
 
-/// The bytes of a key, each of which is below 256: its rest in layer 0. Constant cost.
+/// The bytes of a key, each of which is below 256: its rest in layer 0.
 pub fn key_bytes(key: &Key) -> &[u8]
     ensures value { result.now ≡ key.now }
     ensures bytes { AreBytes key.now }
     ensures fits { length key.now ≤ MAX_KEY_BYTES }
 {
-    let bytes = key.as_slice();
-    bytes
+    key.as_slice()
 }
 
 fn rest_at(key: &Key, layer: usize) -> &[u8]
-    requires { 8 * layer ≤ length key.now }
+    requires { SLICE_BYTES * layer ≤ length key.now }
     ensures value { result.now ≡ rest_at layer key.now }
     ensures within { layer ≤ MAX_LAYER }
 {
     &key_bytes(key)[SLICE_BYTES * layer..]
 }
 
-/// The slice of the key in a layer, and its class there: those of its rest from byte `8 * layer` on. Constant cost, and
+/// The slice of the key in a layer, and its class there: those of its rest from byte `SLICE_BYTES * layer` on. Takes
 /// no memory.
 pub fn slice_at(key: &Key, layer: usize) -> (u64, Class)
-    requires { 8 * layer ≤ length key.now }
+    requires { SLICE_BYTES * layer ≤ length key.now }
     ensures slice { result.0 ≡ slice_number (rest_at layer key.now) }
     ensures class { result.1 ≡ class_of (length (rest_at layer key.now)) }
     ensures place { place_of (rest_at layer key.now) ≡ place_at result.0 result.1 (place_of (rest_at (layer + 1) key.now)) }
@@ -81,16 +80,16 @@ pub fn slice_at(key: &Key, layer: usize) -> (u64, Class)
     slice_of(rest_at(key, layer))
 }
 
-/// What follows the slice of the key in a layer: nothing where its class is a length. Constant cost.
+/// What follows the slice of the key in a layer: nothing where its class is a length.
 pub fn rest_after(key: &Key, layer: usize) -> &[u8]
-    requires { 8 * layer ≤ length key.now }
+    requires { SLICE_BYTES * layer ≤ length key.now }
     ensures { result.now ≡ rest_at (layer + 1) key.now }
 {
     rest_of(rest_at(key, layer))
 }
 
-/// How two keys compare: by their bytes from the first on, a proper prefix first, and so by their places. Costs a look
-/// at each byte up to the first that differs.
+/// How two keys compare: by their bytes from the first on, a proper prefix first, and so by their places. O(n) in
+/// the bytes up to the first that differs.
 pub fn compare(a: &Key, b: &Key) -> Ordering
     ensures keys { result ≡ key_cmp a.now b.now }
     ensures places { result ≡ place_cmp (place_of a.now) (place_of b.now) }

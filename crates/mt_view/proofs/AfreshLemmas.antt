@@ -13,7 +13,7 @@ use Rattle.mt_types.specs.declared.row.Row.{Row}
 use Rattle.mt_types.specs.declared.view.ViewSpec.{ViewSpec}
 use Rattle.mt_commit.specs.Deltas.{redo}
 use Rattle.mt_commit.proofs.RowLemmas.{get-with_row}
-use Rattle.mt_view.specs.State.{StateSeen, IsAfresh, belonging, applied}
+use Rattle.mt_view.specs.State.{StateView, IsAfresh, belonging, applied}
 use Rattle.mt_view.specs.Laws.{AppliedIsAfresh}
 use Rattle.mt_rows.proofs.MapLemmas.{Entries, key_order, key_apart}
 
@@ -93,11 +93,11 @@ get-afresh : (spec : ViewSpec) (rows : Rows) (q : List ℕ) → map.find key_cmp
 get-afresh spec rows q = found-filter spec q (map.entries rows) (map.entries_sorted rows) ∙ ap (belonging spec q) (sym (map.get-entries rows q))
 
 -- what an afresh state holds under each key
-pub afresh_at : (state : StateSeen) (rows : Rows) → IsAfresh state rows → (q : List ℕ) → map.get state.rows q ≡ belonging state.spec q (map.get rows q)
+pub afresh_at : (state : StateView) (rows : Rows) → IsAfresh state rows → (q : List ℕ) → map.get state.rows q ≡ belonging state.spec q (map.get rows q)
 afresh_at state rows h q = map.get-entries state.rows q ∙ ap (map.find key_cmp q) h ∙ get-afresh state.spec rows q
 
 -- and a state that holds that is afresh
-pub afresh_from_each : (state : StateSeen) (rows : Rows) → ((q : List ℕ) → map.get state.rows q ≡ belonging state.spec q (map.get rows q)) → IsAfresh state rows
+pub afresh_from_each : (state : StateView) (rows : Rows) → ((q : List ℕ) → map.get state.rows q ≡ belonging state.spec q (map.get rows q)) → IsAfresh state rows
 afresh_from_each state rows h =
     let sorted = sorted-filter state.spec (map.entries rows) (map.entries_sorted rows) in
     let same : state.rows ≡ map.from_sorted (afresh state.spec rows) =

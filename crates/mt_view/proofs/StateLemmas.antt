@@ -9,7 +9,7 @@ use Rattle.std.proofs.lemmas.List.{with_items_is}
 use Rattle.mt_types.specs.Keys.{key_cmp}
 use Rattle.mt_types.specs.Views.{amount, column_of}
 use Rattle.mt_types.specs.declared.row.Row.{Row}
-use Rattle.mt_view.specs.State.{StateSeen}
+use Rattle.mt_view.specs.State.{StateView}
 use Rattle.mt_view.specs.StateFields.{state_of, IsKept}
 use Rattle.mt_view.specs.declared.state.ViewState.TheInside.{Inside}
 use Rattle.mt_rows.proofs.MapLemmas.{Tree, seen-remove}
@@ -83,18 +83,18 @@ kept_removed s n lent ws k old kept is len there e ordered subtracted =
     }
 
 -- the state with other rows
-abbrev with_rows : StateSeen → map.FinMap key_cmp Row → StateSeen
+abbrev with_rows : StateView → map.FinMap key_cmp Row → StateView
 with_rows state rows = record state { rows = rows }
 
-pub seen_put : (s : Inside) (n : Tree) (ws : List ℕ) (state : StateSeen) (k key : List ℕ) (v row : Row) → IsKept s → state_of s ≡ state → tree.IsOrdered key_cmp n
+pub seen_put : (s : Inside) (n : Tree) (ws : List ℕ) (state : StateView) (k key : List ℕ) (v row : Row) → IsKept s → state_of s ≡ state → tree.IsOrdered key_cmp n
     → tree.Updates key_cmp s.rows n k (Some v) → k ≡ key → v ≡ row
     → state_of (record s { rows = n; sums = with_items s.sums ws }) ≡ record state { rows = map.insert state.rows key row }
 seen_put s n ws state k key v row kept is ordered updates same alike =
     ap (with_rows (state_of s)) (seen-put s.rows n k key v row kept.ordered ordered updates same alike)
-    ∙ ap (λ (z : StateSeen). with_rows z (map.insert z.rows key row)) is
+    ∙ ap (λ (z : StateView). with_rows z (map.insert z.rows key row)) is
 
-pub seen_removed : (s : Inside) (n : Tree) (state : StateSeen) (key : List ℕ) → IsKept s → state_of s ≡ state → tree.IsOrdered key_cmp n
+pub seen_removed : (s : Inside) (n : Tree) (state : StateView) (key : List ℕ) → IsKept s → state_of s ≡ state → tree.IsOrdered key_cmp n
     → tree.Updates key_cmp s.rows n key None → state_of (record s { rows = n }) ≡ record state { rows = map.remove state.rows key }
 seen_removed s n state key kept is ordered updates =
     ap (with_rows (state_of s)) (seen-remove s.rows n key kept.ordered ordered updates)
-    ∙ ap (λ (z : StateSeen). with_rows z (map.remove z.rows key)) is
+    ∙ ap (λ (z : StateView). with_rows z (map.remove z.rows key)) is

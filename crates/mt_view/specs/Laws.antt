@@ -6,20 +6,20 @@ use Rattle.mt_promise.specs.History.{Moment, StandingView}
 use Rattle.mt_promise.specs.Legal.{page_of}
 use Rattle.mt_types.specs.declared.row.Delta.{Delta}
 use Rattle.mt_commit.specs.Deltas.{redo}
-use Rattle.mt_view.specs.State.{StateSeen, IsAfresh, belonging, applied, page_of_state}
+use Rattle.mt_view.specs.State.{StateView, IsAfresh, belonging, applied, page_of_state}
 
 -- a state is afresh for some rows exactly where it holds, under each key, the row that stands there, if it belongs to the view
 abbrev pub AfreshByKey : Type 0
 AfreshByKey =
-    (state : StateSeen) (rows : Rows) → IsAfresh state rows ↔ ((key : List ℕ) → get state.rows key ≡ belonging state.spec key (get rows key))
+    (state : StateView) (rows : Rows) → IsAfresh state rows ↔ ((key : List ℕ) → get state.rows key ≡ belonging state.spec key (get rows key))
 
 -- a state that is afresh for some rows is, after a delta, afresh for the rows with that delta
 abbrev pub AppliedIsAfresh : Type 0
-AppliedIsAfresh = (state : StateSeen) (delta : Delta) (rows : Rows) → IsAfresh state rows → IsAfresh (applied delta state) (redo delta rows)
+AppliedIsAfresh = (state : StateView) (delta : Delta) (rows : Rows) → IsAfresh state rows → IsAfresh (applied delta state) (redo delta rows)
 
 -- the state is that of a standing view: it has its specification and its number, and is afresh for the rows at that
 --     number of commits of an index of C columns
-pub record IsStateOf (C : ℕ) (m : Moment) (view : StandingView) (state : StateSeen) : Type 0 where
+pub record IsStateOf (C : ℕ) (m : Moment) (view : StandingView) (state : StateView) : Type 0 where
   pub spec : state.spec ≡ view.spec
   pub columns : state.columns ≡ C
   pub at : state.at ≡ view.at
@@ -28,5 +28,5 @@ pub record IsStateOf (C : ℕ) (m : Moment) (view : StandingView) (state : State
 -- and then it shows the page of the view
 abbrev pub ShowsPage : Type 0
 ShowsPage =
-    (C : ℕ) (m : Moment) (view : StandingView) (state : StateSeen) (start : List ℕ) (limit : ℕ) → IsStateOf C m view state
+    (C : ℕ) (m : Moment) (view : StandingView) (state : StateView) (start : List ℕ) (limit : ℕ) → IsStateOf C m view state
     → page_of_state state start limit ≡ page_of C m view start limit

@@ -9,7 +9,7 @@ use Rattle.mt_types.specs.declared.view.Page.{Page}
 use Rattle.mt_types.specs.declared.view.ViewSpec.{ViewSpec}
 use Rattle.mt_commit.specs.Deltas.{with_row}
 
-pub record StateSeen : Type 0 where
+pub record StateView : Type 0 where
   pub spec : ViewSpec  -- which rows it is to hold
   pub columns : ℕ  -- how many columns it sums
   pub at : ℕ  -- the number of the commit at which it stands
@@ -21,16 +21,16 @@ belonging spec key None = None
 belonging spec key (Some row) = if belongs spec (key, row) then Some row else None
 
 -- the state after a delta: its row after stands under its key where it belongs to the view, and else no row does
-abbrev pub applied : Delta → StateSeen → StateSeen
+abbrev pub applied : Delta → StateView → StateView
 applied delta state =
     record state { at = delta.number; rows = with_row delta.key (belonging state.spec delta.key delta.after) state.rows }
 
 -- the state holds what its view shows of these rows
-abbrev pub IsAfresh : StateSeen → Rows → Type 0
+abbrev pub IsAfresh : StateView → Rows → Type 0
 IsAfresh state rows = entries state.rows ≡ afresh state.spec rows
 
 -- the first rows of the state from a key on, up to a limit, with its number, its count and its sums
-abbrev pub page_of_state : StateSeen → List ℕ → ℕ → Page
+abbrev pub page_of_state : StateView → List ℕ → ℕ → Page
 page_of_state state start limit =
     let pairs = entries state.rows in
     record { at = state.at; count = length pairs; sums = column_sums 0 state.columns pairs; rows = page_from start limit pairs }

@@ -9,7 +9,7 @@ use Rattle.mt_types.specs.declared.view.RowTest.{RowTest}
 use Rattle.mt_types.specs.declared.view.RowTest.TheVariants.{Any, Equals, AtLeast}
 use Rattle.mt_types.specs.declared.view.ViewSpec.{ViewSpec}
 use Rattle.mt_types.specs.declared.view.ViewSpec.TheVariants.{Range, Prefix}
-use Rattle.mt_view.specs.State.{StateSeen}
+use Rattle.mt_view.specs.State.{StateView}
 
 abbrev Bytes : Type 0
 Bytes = List ℕ
@@ -68,7 +68,7 @@ abbrev rows_code : Coded Rows
 rows_code = code bytes_code row_code
 
 -- a state is stored as its fields
-abbrev pub state_code : Coded StateSeen
+abbrev pub state_code : Coded StateView
 state_code =
     code_by (ViewSpec × (ℕ × (ℕ × Rows))) (coded× spec_code (coded× coded_ℕ (coded× coded_ℕ rows_code)))
     (λ state. (state.spec, (state.columns, (state.at, state.rows))))

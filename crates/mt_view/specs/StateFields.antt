@@ -4,10 +4,10 @@ use Rattle.std.specs.BTreeMap.{IsOrdered, values}
 use Rattle.std.specs.FinMap.{from_sorted}
 use Rattle.mt_types.specs.Keys.{key_cmp}
 use Rattle.mt_types.specs.Views.{amount, column_of, column_sum}
-use Rattle.mt_view.specs.State.{StateSeen}
+use Rattle.mt_view.specs.State.{StateView}
 use Rattle.mt_view.specs.declared.state.ViewState.TheInside.{Inside}
 
-abbrev pub state_of : Inside → StateSeen
+abbrev pub state_of : Inside → StateView
 state_of state = record {
   spec = state.spec;
   columns = vec_len state.sums;

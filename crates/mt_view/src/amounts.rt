@@ -6,7 +6,7 @@ ghost use Rattle.mt_types.specs.Views.{amount, column_of};
 use crate::members::amount_of;
 use mt_types::row::Row;
 
-/// Adds the amounts of a row to the sums. Costs a look at each column that is summed.
+/// Adds the amounts of a row to the sums. O(n) in the columns.
 pub(crate) fn add(sums: &mut [u128], row: &Row)
     requires { (column : ℕ) → column < length sums.old
         → slice_index sums.old column + 2 ^ 64 ≤ 2 ^ 128 }
@@ -21,7 +21,7 @@ pub(crate) fn add(sums: &mut [u128], row: &Row)
     }
 }
 
-/// Takes the amounts of a row away from the sums. Costs a look at each column that is summed.
+/// Takes the amounts of a row away from the sums. O(n) in the columns.
 pub(crate) fn subtract(sums: &mut [u128], row: &Row)
     requires { (column : ℕ) → column < length sums.old
         → amount (column_of column row.now) ≤ slice_index sums.old column }
@@ -34,8 +34,7 @@ pub(crate) fn subtract(sums: &mut [u128], row: &Row)
     }
 }
 
-/// Takes the amounts of a row away from the sums and adds those of another. Costs a look at each column that is summed,
-/// for each of the two rows.
+/// Takes the amounts of a row away from the sums and adds those of another. O(n) in the columns.
 pub(crate) fn replace(sums: &mut [u128], old: &Row, row: &Row)
     requires covered { (column : ℕ) → column < length sums.old
         → amount (column_of column old.now) ≤ slice_index sums.old column }

@@ -36,7 +36,6 @@ fn column_of(row: &Row, column: usize) -> &[u8]
 }
 
 /// The amount of a column of a row: its bytes as a big-endian number where there are at most eight, else 0.
-/// Costs a look at each of its bytes, at most eight.
 pub(crate) fn amount_of(row: &Row, column: usize) -> u64
     ensures { result ≡ amount (column_of column row.now) }
 {
@@ -68,7 +67,7 @@ fn is_before(key: &Key, hi: &Option<Bytes>) -> bool
     }
 }
 
-/// Whether a row, by its key and its columns, belongs to a view. Costs a comparison of keys and of a column.
+/// Whether a row, by its key and its columns, belongs to a view. O(n) in the bytes of the keys.
 pub(crate) fn belongs(spec: &ViewSpec, key: &Key, row: &Row) -> bool
     ensures { result ≡ belongs spec.now (key.now, row.now) }
 {

@@ -34,10 +34,10 @@ pub struct ViewState {
 }
 
 impl Model for ViewState {
-    ghost use Rattle.mt_view.specs.State.{StateSeen};
+    ghost use Rattle.mt_view.specs.State.{StateView};
     ghost use Rattle.mt_view.specs.StateCode.{state_code};
 
-    ghost Value = { StateSeen };
+    ghost Value = { StateView };
 
     ghost coded = { state_code };
 
@@ -50,9 +50,9 @@ impl Model for ViewState {
 
 impl ViewState {
     ghost use Rattle.mt_commit.specs.Deltas.{redo};
-    ghost use Rattle.mt_view.specs.State.{StateSeen, IsAfresh, belonging, applied, page_of_state};
+    ghost use Rattle.mt_view.specs.State.{StateView, IsAfresh, belonging, applied, page_of_state};
 
-    /// The state of a view of no rows, at number 0, which sums so many columns. Costs one allocation.
+    /// The state of a view of no rows, at number 0, which sums `columns` columns. O(n) in `columns`; one allocation.
     pub fn open(alloc: Global, columns: u8, spec: ViewSpec) -> Result<ViewState, NoMemory>
         ensures ok { IfOk result (λ state. state ≡ record { spec = spec; columns = columns; at = 0; rows = map.empty }) }
         ensures afresh { IfOk result (λ state. IsAfresh state map.empty) }
@@ -66,33 +66,33 @@ impl ViewState {
         })
     }
 
-    /// The number of the commit at which the state stands. Constant cost.
+    /// The number of the commit at which the state stands.
     pub fn at(&self) -> u64
         ensures { result ≡ self.now.at }
     {
-        self.at // as the last delta set it
+        self.at
     }
 
-    /// How many rows the state holds. Constant cost.
+    /// How many rows the state holds.
     pub fn count(&self) -> u64
         ensures { result ≡ length (map.entries self.now.rows) }
     {
         self.rows.len() as u64
     }
 
-    /// The sum of the amounts of a column, over all rows that the state holds. Constant cost.
+    /// The sum of the amounts of a column, over all rows that the state holds.
     pub fn sum(&self, column: u8) -> u128
         requires { column < self.now.columns }
         ensures value { result ≡ column_sum column (map.entries self.now.rows) }
-        ensures bounded { result ≤ length (map.entries self.now.rows) * (2 ^ 64 - 1) }
+        ensures bounded { result ≤ length (map.entries self.now.rows) * u64.MAX }
     {
         self.sums[column as usize]
     }
 
     /// Takes the state on by a delta: its row after, where it belongs to the view, takes the place of the row that the
     /// state holds under its key. On an error nothing changes. What the delta says of the row before is not looked at.
-    /// Costs a comparison of keys for each doubling of the rows and a look at each column. Allocates at most what one
-    /// row needs, and nothing where that row does not belong: then it cannot fail.
+    /// O(log n + m) in the rows that it holds and the columns. Allocates at most what one row needs, and nothing where
+    /// that row does not belong: then it cannot fail.
     pub fn apply(&mut self, delta: &Delta) -> Result<(), NoMemory>
         ensures afresh { OnOk result ((rows : Rows) → IsAfresh self.old rows → IsAfresh self.new (redo delta.now rows)) }
         ensures ok { OnOk result (self.new ≡ applied delta.now self.old) }
@@ -130,8 +130,8 @@ impl ViewState {
     }
 
     /// What the state shows from a key on: its number, its count, its sums, and a copy of the first rows from that key
-    /// on, up to the limit. Shares the bytes. Costs a comparison of keys for each doubling of the rows, and then an
-    /// allocation for each row that it gives.
+    /// on, up to the limit. Shares the bytes. O(log n + m) in the rows that it holds and the columns that it gives, with
+    /// an allocation for each row that it gives.
     pub fn read(&self, start: &Key, limit: u16) -> Result<Page, NoMemory>
         ensures { IfOk result (λ page. page ≡ page_of_state self.now start.now limit) }
     {
@@ -181,8 +181,8 @@ fn copied_rows(alloc: Global, rows: &BTreeMap<Key, Row>) -> Result<BTreeMap<Key,
 }
 
 impl TryCopy for ViewState {
-    /// Shares the bytes. Costs an allocation for each row, and a comparison of keys for each doubling of the rows
-    /// before it. Applied to the same deltas, both states stay equal.
+    /// Shares the bytes. O(n log n) in the rows, with an allocation for each. Applied to the same deltas, both states stay
+    /// equal.
     fn copy(&self, alloc: Global) -> Result<ViewState, NoMemory> {
         Ok(ViewState {
             alloc,

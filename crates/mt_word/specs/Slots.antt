@@ -20,7 +20,7 @@ all_slots = 0 ∷ 1 ∷ 2 ∷ 3 ∷ 4 ∷ 5 ∷ 6 ∷ 7 ∷ 8 ∷ 9 ∷ 10 ∷ 1
 pub record IsArranged (s : Slots) : Type 0 where
   pub each_once : IsPermutation all_slots (places s)
 
--- the first so many places are live
+-- the first `count` places are live
 abbrev pub slots_at : ℕ → List ℕ → Slots
 slots_at count ps = record { live = take count ps; unused = drop count ps }
 

@@ -1,11 +1,13 @@
 //! The two words of a border node: which slots hold its keys in which order, and its version.
+//!
+//! A call costs O(1) unless it says otherwise.
 #![tactic(auto)]
 
 mod permutation_word;
 mod version_word;
 
 pub use permutation_word::{Permutation, SLOTS};
-pub use version_word::{SpentCounter, Version};
+pub use version_word::{MAX_INSERTS, MAX_SPLITS, SpentCounter, Version};
 
 #[cfg(test)]
 mod tests;

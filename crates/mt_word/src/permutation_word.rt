@@ -25,8 +25,7 @@ const EVERY_SLOT: u16 = 0x7fff;
 /// order in which they are taken (Masstree, EuroSys 2012, section 4.6.2).
 ///
 /// One word of sixteen four-bit fields: the lowest holds the number of live slots, the next the
-/// slot at place 0, and so on. Each call costs a few shifts and masks, but for `from_u64`, which
-/// reads the fifteen fields in turn.
+/// slot at place 0, and so on.
 #[derive(Clone, Copy, Debug)]
 pub struct Permutation {
     word: u64,
@@ -70,7 +69,7 @@ impl Eq for Permutation {
     ghost laws = { on_equiv word_of_slots nat_eq_equiv };
 }
 
-// The lowest so many fields of a word.
+// The lowest `count` fields of a word.
 #[inline]
 fn lowest(fields: u64, count: usize) -> u64
     requires { count < 16 }
@@ -79,7 +78,7 @@ fn lowest(fields: u64, count: usize) -> u64
     fields & ((1 << (FIELD_BITS * count)) - 1)
 }
 
-// A word without its lowest so many fields.
+// A word without its lowest `count` fields.
 #[inline]
 fn above(fields: u64, count: usize) -> u64
     requires { count < 16 }
@@ -88,7 +87,7 @@ fn above(fields: u64, count: usize) -> u64
     fields >> (FIELD_BITS * count)
 }
 
-// The fields of `low`, which are so many, and those of `high` above them.
+// The `count` fields of `low`, and those of `high` above them.
 #[inline]
 fn joined(low: u64, count: usize, high: u64) -> u64
     requires count_fits { count < 16 }
@@ -144,7 +143,7 @@ impl Permutation {
         Permutation { word: NONE_LIVE }
     }
 
-    // The permutation with these slots by place, of which so many are live.
+    // The permutation with these slots by place, of which the first `count` are live.
     #[inline]
     fn arranged(count: usize, places: u64) -> Self
         requires count_fits { count < 16 }
@@ -243,7 +242,7 @@ impl Permutation {
         *self = Permutation::arranged(last, with_field(others, last, slot));
     }
 
-    /// Keeps the first so many live slots. The others become the first unused ones, in their order.
+    /// Keeps the first `count` live slots. The others become the first unused ones, in their order.
     pub fn keep_first(&mut self, count: usize)
         requires { count ≤ length self.old.live }
         ensures value { self.new ≡ with_first self.old count }

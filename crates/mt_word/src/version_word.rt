@@ -20,9 +20,13 @@ const SPARE: u128 = 0xe0;
 
 const VINSERT_SHIFT: u32 = 8;
 
-const VINSERT_MOST: u128 = (1 << 56) - 1;
-
 const VSPLIT_SHIFT: u32 = 64;
+
+/// The greatest value of `vinsert`.
+pub const MAX_INSERTS: u64 = (1 << 56) - 1;
+
+/// The greatest value of `vsplit`.
+pub const MAX_SPLITS: u64 = u64::MAX;
 
 /// A counter of a `Version` is at its greatest value, and cannot be raised.
 #[derive(Clone, Copy, PartialEq, Eq, Debug)]
@@ -33,7 +37,7 @@ pub struct SpentCounter;
 /// section 4.5).
 ///
 /// One word of 128 bits: bit 0 locked, 1 inserting, 2 splitting, 3 deleted, 4 border, 5 to 7 zero,
-/// 8 to 63 `vinsert`, 64 to 127 `vsplit`. Each call costs a few operations on it.
+/// 8 to 63 `vinsert`, 64 to 127 `vsplit`.
 #[derive(Clone, Copy, Debug)]
 pub struct Version {
     word: u128,
@@ -150,7 +154,7 @@ impl Version {
         ensures value { result ≡ self.now.vinsert }
         ensures whole { IsVersion self.now }
     {
-        ((self.word >> VINSERT_SHIFT) & VINSERT_MOST) as u64
+        ((self.word >> VINSERT_SHIFT) & MAX_INSERTS as u128) as u64
     }
 
     /// How often the node was split since it was made.
@@ -161,20 +165,20 @@ impl Version {
         (self.word >> VSPLIT_SHIFT) as u64
     }
 
-    /// Whether `vinsert` is at its greatest value, 2^56 - 1.
+    /// Whether `vinsert` is `MAX_INSERTS`.
     pub fn is_insert_spent(&self) -> bool
-        ensures spent { IsTrue result ↔ (self.now.vinsert ≡ 2 ^ 56 - 1) }
+        ensures spent { IsTrue result ↔ (self.now.vinsert ≡ MAX_INSERTS) }
         ensures whole { IsVersion self.now }
     {
-        u128::from(self.vinsert()) == VINSERT_MOST
+        self.vinsert() == MAX_INSERTS
     }
 
-    /// Whether `vsplit` is at its greatest value, 2^64 - 1.
+    /// Whether `vsplit` is `MAX_SPLITS`.
     pub fn is_split_spent(&self) -> bool
-        ensures spent { IsTrue result ↔ (self.now.vsplit ≡ 2 ^ 64 - 1) }
+        ensures spent { IsTrue result ↔ (self.now.vsplit ≡ MAX_SPLITS) }
         ensures whole { IsVersion self.now }
     {
-        self.vsplit() == u64::MAX
+        self.vsplit() == MAX_SPLITS
     }
 
     /// Locks the node.
@@ -207,10 +211,10 @@ impl Version {
     ///
     /// # Errors
     ///
-    /// `SpentCounter` where it is at its greatest value, 2^56 - 1. Nothing is then changed.
+    /// `SpentCounter` where it is `MAX_INSERTS`. Nothing is then changed.
     pub fn bump_insert(&mut self) -> Result<(), SpentCounter>
-        ensures ok { IsOk result ↔ (self.old.vinsert < 2 ^ 56 - 1) }
-        ensures spent { IsErr result ↔ (self.old.vinsert ≡ 2 ^ 56 - 1) }
+        ensures ok { IsOk result ↔ (self.old.vinsert < MAX_INSERTS) }
+        ensures spent { IsErr result ↔ (self.old.vinsert ≡ MAX_INSERTS) }
         ensures raised { OnOk result (self.new ≡ record self.old { vinsert = self.old.vinsert + 1 }) }
         ensures unchanged { OnErr result (self.new ≡ self.old) }
         ensures whole { IsVersion self.new }
@@ -226,10 +230,10 @@ impl Version {
     ///
     /// # Errors
     ///
-    /// `SpentCounter` where it is at its greatest value, 2^64 - 1. Nothing is then changed.
+    /// `SpentCounter` where it is `MAX_SPLITS`. Nothing is then changed.
     pub fn bump_split(&mut self) -> Result<(), SpentCounter>
-        ensures ok { IsOk result ↔ (self.old.vsplit < 2 ^ 64 - 1) }
-        ensures spent { IsErr result ↔ (self.old.vsplit ≡ 2 ^ 64 - 1) }
+        ensures ok { IsOk result ↔ (self.old.vsplit < MAX_SPLITS) }
+        ensures spent { IsErr result ↔ (self.old.vsplit ≡ MAX_SPLITS) }
         ensures raised { OnOk result (self.new ≡ record self.old { vsplit = self.old.vsplit + 1 }) }
         ensures unchanged { OnErr result (self.new ≡ self.old) }
         ensures whole { IsVersion self.new }
@@ -247,8 +251,7 @@ impl Version {
         ensures valid { IsVersionWord result }
         ensures read_back { version_of_word result ≡ self.now }
     {
-        let Version { word } = *self;
-        word
+        self.word
     }
 
     /// The version in a word, or `None` unless bits 5 to 7 are zero.

@@ -3,7 +3,7 @@ use Rattle.std.specs.FinMap as map
 use Rattle.std.specs.Ordering.{is_ge}
 use Rattle.mt_types.specs.Keys.{key_cmp}
 use Rattle.mt_types.specs.declared.row.Row.{Row}
-use Rattle.mt_view.specs.State.{StateSeen}
+use Rattle.mt_view.specs.State.{StateView}
 use Rattle.mt_rows.proofs.MapLemmas.{between-from, entries-seen}
 use Rattle.mt_view.proofs.state.ViewState.from_key.Goals as goal
 
@@ -12,4 +12,4 @@ returns c =
     c.range.ensures.between tt
     ∙ between-from c.args.start.now c.self.inside.rows.entries
     ∙ ap (filter (λ (pair : List ℕ × Row). is_ge (key_cmp pair.0 c.args.start.now)))
-    (sym (entries-seen c.self.inside.rows c.self.invariant.ordered) ∙ ap (λ (s : StateSeen). map.entries s.rows) c.self.view_is)
+    (sym (entries-seen c.self.inside.rows c.self.invariant.ordered) ∙ ap (λ (s : StateView). map.entries s.rows) c.self.view_is)
