@@ -6,8 +6,8 @@ use Rattle.std.proofs.lemmas.List.Elements.{All-head, All-tail, All-push}
 use Rattle.std.proofs.lemmas.List.Quantifiers.{all_pairs_push}
 use Rattle.std.proofs.lemmas.List.Sorted.{IsNonDecreasingBy-push, IsNonDecreasingBy-drop}
 use Rattle.mt_types.specs.declared.numbers.NodeNo.{NodeNo}
-use Rattle.mt_arena.specs.Node.{Nodes, node_at, occupied, Updates, AreBelow}
-use Rattle.mt_arena.specs.Arena.{arena_view, AreRetired, IsSound}
+use Rattle.mt_arena.specs.Node.{Nodes, node_at, occupied, Updates, NamesNoneFrom}
+use Rattle.mt_arena.specs.Arena.{arena_view, AreRetired, IsSoundArena}
 use Rattle.mt_arena.specs.declared.retired.Retired.{Retired}
 use Rattle.mt_arena.proofs.NodeLemmas.{updates-without, occupied-without}
 
@@ -46,7 +46,7 @@ retired_below nodes retired number h here apart =
     let fewer = retired_among (set nodes number None) retired rest h.once in
     omega (arith, fewer, occupied-without nodes number here)
 
-below-without : (limit : ℕ) (old new : Nodes) (number : ℕ) → Updates old new number None → AreBelow limit old → AreBelow limit new
+below-without : (limit : ℕ) (old new : Nodes) (number : ℕ) → Updates old new number None → NamesNoneFrom limit old → NamesNoneFrom limit new
 below-without limit old new number updates below = record {
   each = λ other past. elim (cases_eq other number) [
     | inl same ↦ rw same updates.changed
@@ -56,7 +56,7 @@ below-without limit old new number updates below = record {
 
 -- a node that is not retired is freed
 pub sound-freed : (nodes new : Nodes) (retired : List Retired) (number room : ℕ) → Updates nodes new number None → occupied new + 1 ≡ occupied nodes → All (λ r. r.node.0 ≢ number) retired →
-    IsSound (arena_view nodes retired) room → IsSound (arena_view new retired) room
+    IsSoundArena (arena_view nodes retired) room → IsSoundArena (arena_view new retired) room
 sound-freed nodes new retired number room updates less apart h =
     let within = h.arena.within in
     let roomy = h.room_for_all in
@@ -71,7 +71,7 @@ sound-freed nodes new retired number room updates less apart h =
 
 -- a node is retired
 pub sound-retired : (nodes : Nodes) (retired : List Retired) (number : NodeNo) (epoch room : ℕ) → IsSome (node_at nodes number.0) → All (λ r. r.node.0 ≢ number.0) retired → All (λ r. r.epoch ≤ epoch) retired →
-    IsSound (arena_view nodes retired) room → IsSound (arena_view nodes (retired ++ record { node = number; epoch = epoch } ∷ [])) room
+    IsSoundArena (arena_view nodes retired) room → IsSoundArena (arena_view nodes (retired ++ record { node = number; epoch = epoch } ∷ [])) room
 sound-retired nodes retired number epoch room here apart earlier h = record {
   arena = record {
     below = h.arena.below;
@@ -95,7 +95,7 @@ later_retired nodes first later h = record {
 
 -- and freed
 pub sound-first_freed : (nodes new : Nodes) (retired : List Retired) (first : Retired) (later : List Retired) (room : ℕ) → retired ≡ first ∷ later → Updates nodes new first.node.0 None → occupied new + 1 ≡ occupied nodes →
-    IsSound (arena_view nodes retired) room → IsSound (arena_view new later) room
+    IsSoundArena (arena_view nodes retired) room → IsSoundArena (arena_view new later) room
 sound-first_freed nodes new retired first later room is updates less h =
     let both : AreRetired nodes (first ∷ later) = subst (AreRetired nodes) is h.arena.retired in
     sound-freed nodes new later first.node.0 room updates less (apart_from_first first later both.once)

@@ -7,7 +7,7 @@ use Rattle.mt_interior.specs.Head.{HeadView}
 use Rattle.mt_interior.specs.Interior.{InteriorView}
 use Rattle.mt_types.specs.declared.numbers.NodeNo.{NodeNo}
 use Rattle.mt_types.specs.declared.limits.TheConstants.{MAX_NODES}
-use Rattle.mt_arena.specs.Node.{Nodes, node_at, occupied, with_node, AreBelow}
+use Rattle.mt_arena.specs.Node.{Nodes, node_at, occupied, with_node, NamesNoneFrom}
 use Rattle.mt_arena.specs.declared.node.Node.{Node}
 use Rattle.mt_arena.specs.declared.node.Node.TheVariants.{Head, Interior, Border}
 use Rattle.mt_arena.specs.declared.retired.Retired.{Retired}
@@ -43,7 +43,10 @@ border_changed change (Border border) = Border (change border)
 
 -- the arena once the node under a number is changed so
 abbrev pub with_changed : (Node → Node) → ArenaView → ℕ → ArenaView
-with_changed change a number = record a { nodes = slice_set a.nodes number (option_map change (node_at a.nodes number)) }
+with_changed change a number = record a {
+  nodes = slice_set a.nodes number
+      (option_map change (node_at a.nodes number));
+}
 
 -- for callers: the arena once the head, the interior node or the border under a number is changed so
 abbrev pub with_head_changed : ArenaView → ℕ → (HeadView → HeadView) → ArenaView
@@ -80,11 +83,11 @@ pub record AreRetired (nodes : Nodes) (retired : List Retired) : Type 0 where
 
 -- what holds of every arena
 pub record IsArena (a : ArenaView) : Type 0 where
-  pub below : AreBelow MAX_NODES a.nodes
+  pub below : NamesNoneFrom MAX_NODES a.nodes
   pub within : occupied a.nodes ≤ MAX_NODES
   pub retired : AreRetired a.nodes a.retired
 
 -- what holds of every arena's fields: there is room for each node in the list of retired ones
-pub record IsSound (a : ArenaView) (room : ℕ) : Type 0 where
+pub record IsSoundArena (a : ArenaView) (room : ℕ) : Type 0 where
   pub arena : IsArena a
   pub room_for_all : occupied a.nodes ≤ room

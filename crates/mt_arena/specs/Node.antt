@@ -62,5 +62,5 @@ pub record Updates (old new : Nodes) (number : ℕ) (node : Option Node) : Type 
   pub others : (other : ℕ) → other ≢ number → node_at new other ≡ node_at old other
 
 -- no number from this one on names a node
-pub record AreBelow (limit : ℕ) (nodes : Nodes) : Type 0 where
+pub record NamesNoneFrom (limit : ℕ) (nodes : Nodes) : Type 0 where
   pub each : (number : ℕ) → limit ≤ number → node_at nodes number ≡ None

@@ -34,13 +34,13 @@ pub struct Arena {
 
 impl Model for Arena {
     ghost use Rattle.std.specs.VecDeque.{deque_capacity};
-    ghost use Rattle.mt_arena.specs.Arena.{ArenaView, IsSound, arena_view};
+    ghost use Rattle.mt_arena.specs.Arena.{ArenaView, IsSoundArena, arena_view};
 
     ghost Value = { ArenaView };
 
     ghost view = { λ a. arena_view a.nodes.slots a.retired.items };
 
-    ghost invariant = { λ a. IsSound (arena_view a.nodes.slots a.retired.items) (deque_capacity a.retired) };
+    ghost invariant = { λ a. IsSoundArena (arena_view a.nodes.slots a.retired.items) (deque_capacity a.retired) };
 }
 
 impl Arena {

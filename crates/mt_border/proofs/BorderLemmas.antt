@@ -12,7 +12,7 @@ use Rattle.mt_word.specs.Version.{VersionView, IsVersion}
 use Rattle.mt_border.specs.Entry.{entry_rank, IsEntry, IsContent, with_row, with_link, content_with_row, content_class, entry_suffix}
 use Rattle.mt_border.specs.Table.{first_changed, changed_at}
 use Rattle.mt_border.specs.Border.{BorderView, entries_of, left_slot, left_slots, first_held, first_suffix, filled_version, with_filled, with_hidden, with_value, with_link_at, with_split}
-use Rattle.mt_border.specs.Order.{IsBorder, IsOrdered, AreEntries, HoldEntries, AreBelow, IsLeftOf, AllHeld}
+use Rattle.mt_border.specs.Order.{IsBorder, IsOrdered, AreEntries, HoldEntries, AreBelow, IsLeftOf, AllHeldKeys}
 use Rattle.mt_border.specs.declared.entry.Entry.{Entry}
 use Rattle.mt_border.specs.declared.entry.Content.{Content}
 use Rattle.mt_border.specs.declared.entry.Content.TheVariants.{Short, Long, Link}
@@ -25,33 +25,40 @@ entry_there slots i slot h within e =
     let read : get_or (entries_of slots) i slot.entry ≡ slot.entry = get_or-map (λ (s : Slot). s.entry) slots i slot slot.entry inside ∙ ap (λ (s : Slot). s.entry) (get_or_from_slice_get slots i slot slot e) in
     subst IsEntry read (h.each i slot.entry within)
 
+-- an entry that is read at a place stands there
+pub suffix_there : (i : ℕ) (live : List Entry) (entry : Entry) → slice_get live i ≡ Some entry → IsSome (entry_suffix entry) → IsSome (first_suffix (drop i live))
+suffix_there zero [] entry e some = absurd (cc)
+suffix_there (suc i) [] entry e some = absurd (cc)
+suffix_there zero (x ∷ xs) entry e some = let same : entry ≡ x = cc in subst (λ (y : Entry). IsSome (entry_suffix y)) same some
+suffix_there (suc i) (x ∷ xs) entry e some = suffix_there i xs entry e some
+
 -- The slots that held a key.
-pub AllHeld-take : (i : ℕ) (xs : List Slot) → AllHeld xs → AllHeld (take i xs)
-AllHeld-take zero xs h = tt
-AllHeld-take (suc i) [] h = tt
-AllHeld-take (suc i) (x ∷ xs) h = (h.0, AllHeld-take i xs h.1)
+pub AllHeldKeys-take : (i : ℕ) (xs : List Slot) → AllHeldKeys xs → AllHeldKeys (take i xs)
+AllHeldKeys-take zero xs h = tt
+AllHeldKeys-take (suc i) [] h = tt
+AllHeldKeys-take (suc i) (x ∷ xs) h = (h.0, AllHeldKeys-take i xs h.1)
 
-pub AllHeld-drop : (i : ℕ) (xs : List Slot) → AllHeld xs → AllHeld (drop i xs)
-AllHeld-drop zero xs h = h
-AllHeld-drop (suc i) [] h = tt
-AllHeld-drop (suc i) (x ∷ xs) h = AllHeld-drop i xs h.1
+pub AllHeldKeys-drop : (i : ℕ) (xs : List Slot) → AllHeldKeys xs → AllHeldKeys (drop i xs)
+AllHeldKeys-drop zero xs h = h
+AllHeldKeys-drop (suc i) [] h = tt
+AllHeldKeys-drop (suc i) (x ∷ xs) h = AllHeldKeys-drop i xs h.1
 
-pub AllHeld-append : (xs ys : List Slot) → AllHeld xs → AllHeld ys → AllHeld (xs ++ ys)
-AllHeld-append [] ys h k = k
-AllHeld-append (x ∷ xs) ys h k = (h.0, AllHeld-append xs ys h.1 k)
+pub AllHeldKeys-append : (xs ys : List Slot) → AllHeldKeys xs → AllHeldKeys ys → AllHeldKeys (xs ++ ys)
+AllHeldKeys-append [] ys h k = k
+AllHeldKeys-append (x ∷ xs) ys h k = (h.0, AllHeldKeys-append xs ys h.1 k)
 
-pub left_slots-entries_of : (xs : List Slot) → AllHeld xs → left_slots (entries_of xs) ≡ xs
+pub left_slots-entries_of : (xs : List Slot) → AllHeldKeys xs → left_slots (entries_of xs) ≡ xs
 left_slots-entries_of [] h = refl
 left_slots-entries_of (x ∷ xs) h =
     ap (λ (b : Bool). record { entry = x.entry; held_key = b } ∷ left_slots (entries_of xs)) (sym h.0) ∙ ap (λ (t : List Slot). x ∷ t) (left_slots-entries_of xs h.1)
 
-AllHeld-first_changed : (g : Entry → Entry) (xs : List Slot) → AllHeld xs → AllHeld (first_changed (λ slot. record slot { entry = g slot.entry }) xs)
-AllHeld-first_changed g [] h = tt
-AllHeld-first_changed g (x ∷ xs) h = h
+AllHeldKeys-first_changed : (g : Entry → Entry) (xs : List Slot) → AllHeldKeys xs → AllHeldKeys (first_changed (λ slot. record slot { entry = g slot.entry }) xs)
+AllHeldKeys-first_changed g [] h = tt
+AllHeldKeys-first_changed g (x ∷ xs) h = h
 
-pub AllHeld-changed_at : (i : ℕ) (g : Entry → Entry) (xs : List Slot) → AllHeld xs → AllHeld (changed_at i (λ slot. record slot { entry = g slot.entry }) xs)
-AllHeld-changed_at i g xs h =
-    AllHeld-append (take i xs) (first_changed (λ slot. record slot { entry = g slot.entry }) (drop i xs)) (AllHeld-take i xs h) (AllHeld-first_changed g (drop i xs) (AllHeld-drop i xs h))
+pub AllHeldKeys-changed_at : (i : ℕ) (g : Entry → Entry) (xs : List Slot) → AllHeldKeys xs → AllHeldKeys (changed_at i (λ slot. record slot { entry = g slot.entry }) xs)
+AllHeldKeys-changed_at i g xs h =
+    AllHeldKeys-append (take i xs) (first_changed (λ slot. record slot { entry = g slot.entry }) (drop i xs)) (AllHeldKeys-take i xs h) (AllHeldKeys-first_changed g (drop i xs) (AllHeldKeys-drop i xs h))
 
 -- The entries of slots.
 entries_of-first_changed : (g : Entry → Entry) (xs : List Slot) → entries_of (first_changed (λ slot. record slot { entry = g slot.entry }) xs) ≡ first_changed g (entries_of xs)

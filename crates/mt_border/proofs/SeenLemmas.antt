@@ -8,20 +8,20 @@ use Rattle.mt_word.specs.Version.{VersionView, IsVersion}
 use Rattle.mt_border.specs.Entry.{IsEntry, with_row, with_link, at_version}
 use Rattle.mt_border.specs.Table.{TableView, first_changed, changed_at, row_of_first}
 use Rattle.mt_border.specs.Border.{BorderView, border_view, entries_of, left_slot, left_slots, first_held, first_row, first_suffix, filled_version, with_shown, with_hidden, with_value, with_link_at, with_entries, with_split}
-use Rattle.mt_border.specs.Order.{IsBorder, IsSound, AreBelow, AllHeld}
-use Rattle.mt_border.proofs.BorderLemmas.{AllHeld-take, AllHeld-drop, AllHeld-append, AllHeld-changed_at, left_slots-entries_of, entries_of-changed_at, border_value, border_link, border_hidden, border_filled, border_split}
+use Rattle.mt_border.specs.Order.{IsBorder, IsSoundBorder, AreBelow, AllHeldKeys}
+use Rattle.mt_border.proofs.BorderLemmas.{AllHeldKeys-take, AllHeldKeys-drop, AllHeldKeys-append, AllHeldKeys-changed_at, left_slots-entries_of, entries_of-changed_at, border_value, border_link, border_hidden, border_filled, border_split}
 use Rattle.mt_border.specs.declared.entry.Entry.{Entry}
 use Rattle.mt_border.specs.declared.entry.RightLink.{RightLink}
 use Rattle.mt_border.specs.declared.slot_table.Slot.{Slot}
 
 -- slots of which all held a key are what their entries leave
-pub held_part : (n i : ℕ) (xs : List Slot) → AllHeld xs → left_slots (take n (drop i (entries_of xs))) ≡ take n (drop i xs)
+pub held_part : (n i : ℕ) (xs : List Slot) → AllHeldKeys xs → left_slots (take n (drop i (entries_of xs))) ≡ take n (drop i xs)
 held_part n i xs h =
     let part : take n (drop i (entries_of xs)) ≡ entries_of (take n (drop i xs)) = simp (take-map, drop-map) in
-    ap left_slots part ∙ left_slots-entries_of (take n (drop i xs)) (AllHeld-take n (drop i xs) (AllHeld-drop i xs h))
+    ap left_slots part ∙ left_slots-entries_of (take n (drop i xs)) (AllHeldKeys-take n (drop i xs) (AllHeldKeys-drop i xs h))
 
-held_rest : (i : ℕ) (xs : List Slot) → AllHeld xs → left_slots (drop i (entries_of xs)) ≡ drop i xs
-held_rest i xs h = ap left_slots (drop-map (λ (slot : Slot). slot.entry) i xs) ∙ left_slots-entries_of (drop i xs) (AllHeld-drop i xs h)
+held_rest : (i : ℕ) (xs : List Slot) → AllHeldKeys xs → left_slots (drop i (entries_of xs)) ≡ drop i xs
+held_rest i xs h = ap left_slots (drop-map (λ (slot : Slot). slot.entry) i xs) ∙ left_slots-entries_of (drop i xs) (AllHeldKeys-drop i xs h)
 
 pub no_slots : (xs : List Slot) → entries_of xs ≡ [] → xs ≡ []
 no_slots [] e = refl
@@ -31,9 +31,9 @@ entries_of-left_slots : (entries : List Entry) → entries_of (left_slots entrie
 entries_of-left_slots [] = refl
 entries_of-left_slots (x ∷ xs) = ap (λ (t : List Entry). x ∷ t) (entries_of-left_slots xs)
 
-AllHeld-left_slots : (entries : List Entry) → AllHeld (left_slots entries)
-AllHeld-left_slots [] = tt
-AllHeld-left_slots (x ∷ xs) = (refl, AllHeld-left_slots xs)
+AllHeldKeys-left_slots : (entries : List Entry) → AllHeldKeys (left_slots entries)
+AllHeldKeys-left_slots [] = tt
+AllHeldKeys-left_slots (x ∷ xs) = (refl, AllHeldKeys-left_slots xs)
 
 -- a table of which the first unused slot gets an entry and is live after the others
 one_more : (l u : List Slot) (entry : Entry) (n : ℕ) → 0 < length u → n ≡ length l →
@@ -81,9 +81,9 @@ first_held_is [] slot e = cc
 first_held_is (x ∷ xs) slot e = ap (λ (s : Slot). s.held_key) (let same : x ≡ slot = cc in same)
 
 module _ (layer low : ℕ) (right : Option RightLink) (version : VersionView) where
-  pub sound_hidden : (t : TableView) (i : ℕ) → i < length (entries_of t.live) → IsSound (border_view layer low right version t) t →
+  pub sound_hidden : (t : TableView) (i : ℕ) → i < length (entries_of t.live) → IsSoundBorder (border_view layer low right version t) t →
       let new : TableView = record { live = remove t.live i; unused = take 1 (drop i t.live) ++ t.unused } in
-      (border_view layer low right version new ≡ with_hidden (border_view layer low right version t) i) × IsSound (border_view layer low right version new) new
+      (border_view layer low right version new ≡ with_hidden (border_view layer low right version t) i) × IsSoundBorder (border_view layer low right version new) new
   sound_hidden t i within h =
       let b : BorderView = border_view layer low right version t in
       let new : TableView = record { live = remove t.live i; unused = take 1 (drop i t.live) ++ t.unused } in
@@ -91,32 +91,32 @@ module _ (layer low : ℕ) (right : Option RightLink) (version : VersionView) wh
       let seen : border_view layer low right version new ≡ with_hidden b i = rw (live, held_part 1 i t.live h.held) refl in (
         seen,
         record {
-          held = AllHeld-append (take i t.live) (drop (suc i) t.live) (AllHeld-take i t.live h.held) (AllHeld-drop (suc i) t.live h.held);
+          held = AllHeldKeys-append (take i t.live) (drop (suc i) t.live) (AllHeldKeys-take i t.live h.held) (AllHeldKeys-drop (suc i) t.live h.held);
           border = subst IsBorder (sym seen) (border_hidden b i within h.border);
         },
       )
 
-  pub sound_value : (t : TableView) (i : ℕ) (row : Row) → i < length (entries_of t.live) → IsSound (border_view layer low right version t) t →
+  pub sound_value : (t : TableView) (i : ℕ) (row : Row) → i < length (entries_of t.live) → IsSoundBorder (border_view layer low right version t) t →
       let new : TableView = record { live = changed_at i (λ slot. record slot { entry = with_row row slot.entry }) t.live; unused = t.unused } in
-      (border_view layer low right version new ≡ with_value (border_view layer low right version t) i row) × IsSound (border_view layer low right version new) new
+      (border_view layer low right version new ≡ with_value (border_view layer low right version t) i row) × IsSoundBorder (border_view layer low right version new) new
   sound_value t i row within h =
       let b : BorderView = border_view layer low right version t in
       let new : TableView = record { live = changed_at i (λ slot. record slot { entry = with_row row slot.entry }) t.live; unused = t.unused } in
       let seen : border_view layer low right version new ≡ with_value b i row = ap (λ (live : List Entry). record b { live = live }) (entries_of-changed_at i (with_row row) t.live) in
-      (seen, record { held = AllHeld-changed_at i (with_row row) t.live h.held; border = subst IsBorder (sym seen) (border_value b i row within h.border) })
+      (seen, record { held = AllHeldKeys-changed_at i (with_row row) t.live h.held; border = subst IsBorder (sym seen) (border_value b i row within h.border) })
 
-  pub sound_link : (t : TableView) (i : ℕ) (head : NodeNo) → i < length (entries_of t.live) → IsSome (first_suffix (drop i (entries_of t.live))) → IsSound (border_view layer low right version t) t →
+  pub sound_link : (t : TableView) (i : ℕ) (head : NodeNo) → i < length (entries_of t.live) → IsSome (first_suffix (drop i (entries_of t.live))) → IsSoundBorder (border_view layer low right version t) t →
       let new : TableView = record { live = changed_at i (λ slot. record slot { entry = with_link head slot.entry }) t.live; unused = t.unused } in
-      (border_view layer low right version new ≡ with_link_at (border_view layer low right version t) i head) × IsSound (border_view layer low right version new) new
+      (border_view layer low right version new ≡ with_link_at (border_view layer low right version t) i head) × IsSoundBorder (border_view layer low right version new) new
   sound_link t i head within long h =
       let b : BorderView = border_view layer low right version t in
       let new : TableView = record { live = changed_at i (λ slot. record slot { entry = with_link head slot.entry }) t.live; unused = t.unused } in
       let seen : border_view layer low right version new ≡ with_link_at b i head = ap (λ (live : List Entry). record b { live = live }) (entries_of-changed_at i (with_link head) t.live) in
-      (seen, record { held = AllHeld-changed_at i (with_link head) t.live h.held; border = subst IsBorder (sym seen) (border_link b i head within long h.border) })
+      (seen, record { held = AllHeldKeys-changed_at i (with_link head) t.live h.held; border = subst IsBorder (sym seen) (border_link b i head within long h.border) })
 
-  pub sound_filled : (t : TableView) (entry : Entry) (slot : Slot) (raised : VersionView) → slice_get t.unused 0 ≡ Some slot → raised ≡ filled_version slot.held_key version → IsVersion raised → IsEntry entry → IsSound (border_view layer low right version t) t →
+  pub sound_filled : (t : TableView) (entry : Entry) (slot : Slot) (raised : VersionView) → slice_get t.unused 0 ≡ Some slot → raised ≡ filled_version slot.held_key version → IsVersion raised → IsEntry entry → IsSoundBorder (border_view layer low right version t) t →
       let new : TableView = record { live = t.live; unused = first_changed (λ old. record old { entry = entry }) t.unused } in
-      IsSound (border_view layer low right raised new) new
+      IsSoundBorder (border_view layer low right raised new) new
   sound_filled t entry slot raised first e counters whole h =
       let b : BorderView = border_view layer low right version t in
       let new : TableView = record { live = t.live; unused = first_changed (λ old. record old { entry = entry }) t.unused } in
@@ -125,45 +125,45 @@ module _ (layer low : ℕ) (right : Option RightLink) (version : VersionView) wh
       record { held = h.held; border = subst (λ (v : VersionView). IsBorder (border_view layer low right v new)) same (border_filled b entry whole fits h.border) }
 
   -- the slots once the first unused one has a version and a mark and is live at place i
-  shown_parts : (live unused : List Slot) (i number : ℕ) → AllHeld live →
+  shown_parts : (live unused : List Slot) (i number : ℕ) → AllHeldKeys live →
       let u = first_changed (λ slot. record slot { held_key = true }) (first_changed (λ slot. record slot { entry = at_version number slot.entry }) unused) in
       let new : TableView = record { live = take i live ++ (take 1 u ++ drop i live); unused = drop 1 u } in
-      (border_view layer low right version new ≡ with_shown (border_view layer low right version (record { live = live; unused = unused })) i number) × AllHeld new.live
+      (border_view layer low right version new ≡ with_shown (border_view layer low right version (record { live = live; unused = unused })) i number) × AllHeldKeys new.live
   shown_parts live [] i number h =
       let seen : entries_of (take i live ++ drop i live) ≡ take i (entries_of live) ++ drop i (entries_of live) = simp (map-append, take-map, drop-map) in
-      (ap (λ (l : List Entry). record { layer = layer; low = low; right = right; version = version; live = l; unused = [] }) seen, AllHeld-append (take i live) (drop i live) (AllHeld-take i live h) (AllHeld-drop i live h))
+      (ap (λ (l : List Entry). record { layer = layer; low = low; right = right; version = version; live = l; unused = [] }) seen, AllHeldKeys-append (take i live) (drop i live) (AllHeldKeys-take i live h) (AllHeldKeys-drop i live h))
   shown_parts live (x ∷ xs) i number h =
       let y : Slot = record { entry = at_version number x.entry; held_key = true } in
       let seen : entries_of (take i live ++ (y ∷ drop i live)) ≡ take i (entries_of live) ++ (y.entry ∷ drop i (entries_of live)) = simp (map-append, take-map, drop-map) in
-      (ap (λ (l : List Entry). record { layer = layer; low = low; right = right; version = version; live = l; unused = xs }) seen, AllHeld-append (take i live) (y ∷ drop i live) (AllHeld-take i live h) (refl, AllHeld-drop i live h))
+      (ap (λ (l : List Entry). record { layer = layer; low = low; right = right; version = version; live = l; unused = xs }) seen, AllHeldKeys-append (take i live) (y ∷ drop i live) (AllHeldKeys-take i live h) (refl, AllHeldKeys-drop i live h))
 
-  pub sound_shown : (t : TableView) (i number : ℕ) → AllHeld t.live → IsBorder (with_shown (border_view layer low right version t) i number) →
+  pub sound_shown : (t : TableView) (i number : ℕ) → AllHeldKeys t.live → IsBorder (with_shown (border_view layer low right version t) i number) →
       let u = first_changed (λ slot. record slot { held_key = true }) (first_changed (λ slot. record slot { entry = at_version number slot.entry }) t.unused) in
       let new : TableView = record { live = take i t.live ++ (take 1 u ++ drop i t.live); unused = drop 1 u } in
-      (border_view layer low right version new ≡ with_shown (border_view layer low right version t) i number) × IsSound (border_view layer low right version new) new
+      (border_view layer low right version new ≡ with_shown (border_view layer low right version t) i number) × IsSoundBorder (border_view layer low right version new) new
   sound_shown t i number held h =
       let parts = shown_parts t.live t.unused i number held in
       (parts.0, record { held = parts.1; border = subst IsBorder (sym parts.0) h })
 
-  pub sound_split : (t : TableView) (keep : ℕ) (link : RightLink) → keep ≤ length (entries_of t.live) → low < link.low → AreBelow link.low (take keep (entries_of t.live)) → version.vsplit < 2 ^ 64 - 1 → IsSound (border_view layer low right version t) t →
+  pub sound_split : (t : TableView) (keep : ℕ) (link : RightLink) → keep ≤ length (entries_of t.live) → low < link.low → AreBelow link.low (take keep (entries_of t.live)) → version.vsplit < 2 ^ 64 - 1 → IsSoundBorder (border_view layer low right version t) t →
       let new : TableView = record { live = take keep t.live; unused = drop keep t.live ++ t.unused } in
       let raised : VersionView = record version { vsplit = version.vsplit + 1 } in
-      (border_view layer low (Some link) raised new ≡ with_split (border_view layer low right version t) keep link) × IsSound (border_view layer low (Some link) raised new) new
+      (border_view layer low (Some link) raised new ≡ with_split (border_view layer low right version t) keep link) × IsSoundBorder (border_view layer low (Some link) raised new) new
   sound_split t keep link within above below unspent h =
       let b : BorderView = border_view layer low right version t in
       let new : TableView = record { live = take keep t.live; unused = drop keep t.live ++ t.unused } in
       let raised : VersionView = record version { vsplit = version.vsplit + 1 } in
       let live : entries_of (take keep t.live) ≡ take keep (entries_of t.live) = simp take-map in
       let seen : border_view layer low (Some link) raised new ≡ with_split b keep link = rw (live, held_rest keep t.live h.held) refl in
-      (seen, record { held = AllHeld-take keep t.live h.held; border = subst IsBorder (sym seen) (border_split b keep link within above below unspent h.border) })
+      (seen, record { held = AllHeldKeys-take keep t.live h.held; border = subst IsBorder (sym seen) (border_split b keep link within above below unspent h.border) })
 
   -- a border with nothing live gets entries
   pub sound_entries : (t : TableView) (entries : List Entry) (link : Option RightLink) → entries_of t.live ≡ [] → IsBorder (with_entries (border_view layer low right version t) entries link) →
       let new : TableView = record { live = t.live ++ left_slots entries; unused = drop (length entries) t.unused } in
-      (border_view layer low link version new ≡ with_entries (border_view layer low right version t) entries link) × IsSound (border_view layer low link version new) new
+      (border_view layer low link version new ≡ with_entries (border_view layer low right version t) entries link) × IsSoundBorder (border_view layer low link version new) new
   sound_entries t entries link empty h =
       let new : TableView = record { live = t.live ++ left_slots entries; unused = drop (length entries) t.unused } in
       let none : t.live ≡ [] = no_slots t.live empty in
       let live : entries_of (t.live ++ left_slots entries) ≡ entries = rw none (entries_of-left_slots entries) in
       let seen : border_view layer low link version new ≡ with_entries (border_view layer low right version t) entries link = rw live refl in
-      (seen, record { held = rw none (AllHeld-left_slots entries); border = subst IsBorder (sym seen) h })
+      (seen, record { held = rw none (AllHeldKeys-left_slots entries); border = subst IsBorder (sym seen) h })

@@ -47,11 +47,11 @@ pub record IsBorder (b : BorderView) : Type 0 where
   pub counters : IsVersion b.version
 
 -- each of these slots held a key
-abbrev pub AllHeld : List Slot → Type 0
-AllHeld [] = Unit {0}
-AllHeld (slot ∷ slots) = (slot.held_key ≡ true) × AllHeld slots
+abbrev pub AllHeldKeys : List Slot → Type 0
+AllHeldKeys [] = Unit {0}
+AllHeldKeys (slot ∷ slots) = (slot.held_key ≡ true) × AllHeldKeys slots
 
 -- what holds of every border's fields
-pub record IsSound (b : BorderView) (table : TableView) : Type 0 where
-  pub held : AllHeld table.live
+pub record IsSoundBorder (b : BorderView) (table : TableView) : Type 0 where
+  pub held : AllHeldKeys table.live
   pub border : IsBorder b

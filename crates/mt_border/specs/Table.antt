@@ -28,7 +28,7 @@ abbrev pub table_view : List Slot → Slots → TableView
 table_view slots s = record { live = picked slots s.live; unused = picked slots s.unused }
 
 -- there are fifteen slots, and each stands at one place
-pub record IsTable (slots : List Slot) (s : Slots) : Type 0 where
+pub record IsSlotTable (slots : List Slot) (s : Slots) : Type 0 where
   pub fifteen : length slots ≡ SLOTS
   pub arranged : IsArranged s
 

@@ -109,7 +109,8 @@ impl Entry {
     /// `NoMemory` where the bytes cannot be shared.
     pub fn of_row(rest: Bytes, row: Row) -> Result<Entry, NoMemory>
         ensures value { IfOk result (λ entry. entry ≡ entry_of_row rest row) }
-        ensures place { IfOk result (λ entry. place_of rest ≡ place_at entry.slice (entry_class entry) (place_of (drop 8 rest))) }
+        ensures place { IfOk result (λ entry. place_of rest ≡ place_at entry.slice (entry_class entry)
+            (place_of (drop 8 rest))) }
         ensures whole { IfOk result IsEntry }
         ensures short { length rest ≤ 8 → IsOk result }
     {

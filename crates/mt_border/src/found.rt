@@ -2,7 +2,8 @@
 
 use mt_types::numbers::NodeNo;
 
-/// Where an entry of some slice and class stands among a border's live entries, and what it is; or where it would stand.
+/// Where an entry of some slice and class stands among a border's live entries, and what it is; or where it would
+/// stand.
 #[derive(Clone, Copy, Debug, PartialEq, Eq)]
 pub enum Found {
     /// No entry has this slice and class. One would be inserted at this place.

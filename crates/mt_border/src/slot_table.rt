@@ -39,13 +39,13 @@ pub struct SlotTable {
 }
 
 impl Model for SlotTable {
-    ghost use Rattle.mt_border.specs.Table.{TableView, table_view, IsTable};
+    ghost use Rattle.mt_border.specs.Table.{TableView, table_view, IsSlotTable};
 
     ghost Value = { TableView };
 
     ghost view = { λ t. table_view t.slots.items t.permutation };
 
-    ghost invariant = { λ t. IsTable t.slots.items t.permutation };
+    ghost invariant = { λ t. IsSlotTable t.slots.items t.permutation };
 }
 
 impl Slot {
@@ -65,14 +65,16 @@ impl Slot {
 
 fn put_entry(slots: &mut ArrayVec<Slot, SLOTS, Global>, slot: usize, entry: Entry)
     requires { slot < array_vec_len slots.old }
-    ensures { slots.new.items ≡ slice_set slots.old.items slot (record (slice_index_or slots.old.items slot blank_slot) { entry = entry }) }
+    ensures { slots.new.items ≡ slice_set slots.old.items slot
+        (record (slice_index_or slots.old.items slot blank_slot) { entry = entry }) }
 {
     slots.as_mut_slice()[slot].entry = entry;
 }
 
 fn put_held(slots: &mut ArrayVec<Slot, SLOTS, Global>, slot: usize)
     requires { slot < array_vec_len slots.old }
-    ensures { slots.new.items ≡ slice_set slots.old.items slot (record (slice_index_or slots.old.items slot blank_slot) { held_key = true }) }
+    ensures { slots.new.items ≡ slice_set slots.old.items slot
+        (record (slice_index_or slots.old.items slot blank_slot) { held_key = true }) }
 {
     slots.as_mut_slice()[slot].held_key = true;
 }
@@ -89,7 +91,8 @@ fn set_version(entry: &mut Entry, version: u64)
 
 fn put_version(slots: &mut ArrayVec<Slot, SLOTS, Global>, slot: usize, version: u64)
     requires { slot < array_vec_len slots.old }
-    ensures { let old = slice_index_or slots.old.items slot blank_slot in slots.new.items ≡ slice_set slots.old.items slot (record old { entry = at_version version old.entry }) }
+    ensures { let old = slice_index_or slots.old.items slot blank_slot in
+        slots.new.items ≡ slice_set slots.old.items slot (record old { entry = at_version version old.entry }) }
 {
     set_version(&mut slots.as_mut_slice()[slot].entry, version);
 }
@@ -109,7 +112,8 @@ fn replace_row(entry: &mut Entry, row: Row) -> Row
 fn put_row(slots: &mut ArrayVec<Slot, SLOTS, Global>, slot: usize, row: Row) -> Row
     requires within { slot < array_vec_len slots.old }
     requires row { IsSome (entry_row (slice_index_or slots.old.items slot blank_slot).entry) }
-    ensures value { let old = slice_index_or slots.old.items slot blank_slot in slots.new.items ≡ slice_set slots.old.items slot (record old { entry = with_row row old.entry }) }
+    ensures value { let old = slice_index_or slots.old.items slot blank_slot in
+        slots.new.items ≡ slice_set slots.old.items slot (record old { entry = with_row row old.entry }) }
     ensures replaced { entry_row (slice_index_or slots.old.items slot blank_slot).entry ≡ Some result }
 {
     replace_row(&mut slots.as_mut_slice()[slot].entry, row)
@@ -117,7 +121,8 @@ fn put_row(slots: &mut ArrayVec<Slot, SLOTS, Global>, slot: usize, row: Row) -> 
 
 fn put_link(slots: &mut ArrayVec<Slot, SLOTS, Global>, slot: usize, head: NodeNo)
     requires { slot < array_vec_len slots.old }
-    ensures { let old = slice_index_or slots.old.items slot blank_slot in slots.new.items ≡ slice_set slots.old.items slot (record old { entry = with_link head old.entry }) }
+    ensures { let old = slice_index_or slots.old.items slot blank_slot in
+        slots.new.items ≡ slice_set slots.old.items slot (record old { entry = with_link head old.entry }) }
 {
     slots.as_mut_slice()[slot].entry.content = Content::Link(head);
 }
@@ -179,7 +184,10 @@ impl SlotTable {
     /// Writes the entry of the first unused slot.
     pub fn fill(&mut self, entry: Entry)
         requires { length self.old.live < SLOTS }
-        ensures { self.new ≡ record self.old { unused = first_changed (λ slot. record slot { entry = entry }) self.old.unused } }
+        ensures { self.new ≡ record self.old {
+          unused = first_changed (λ slot.
+              record slot { entry = entry }) self.old.unused;
+        } }
     {
         let slot = self.permutation.first_unused();
         put_entry(&mut self.slots, slot, entry);
@@ -188,7 +196,10 @@ impl SlotTable {
     /// Writes the version of the row in the first unused slot.
     pub fn stamp(&mut self, version: u64)
         requires { length self.old.live < SLOTS }
-        ensures { self.new ≡ record self.old { unused = first_changed (λ slot. record slot { entry = at_version version slot.entry }) self.old.unused } }
+        ensures { self.new ≡ record self.old {
+          unused = first_changed (λ slot.
+              record slot { entry = at_version version slot.entry }) self.old.unused;
+        } }
     {
         let slot = self.permutation.first_unused();
         put_version(&mut self.slots, slot, version);
@@ -197,7 +208,10 @@ impl SlotTable {
     /// Marks the first unused slot as one that held a key.
     pub fn mark(&mut self)
         requires { length self.old.live < SLOTS }
-        ensures { self.new ≡ record self.old { unused = first_changed (λ slot. record slot { held_key = true }) self.old.unused } }
+        ensures { self.new ≡ record self.old {
+          unused = first_changed (λ slot.
+              record slot { held_key = true }) self.old.unused;
+        } }
     {
         let slot = self.permutation.first_unused();
         put_held(&mut self.slots, slot);
@@ -241,7 +255,10 @@ impl SlotTable {
     pub fn set_row(&mut self, place: usize, row: Row) -> Row
         requires within { place < length self.old.live }
         requires row { IsSome (row_of_first (drop place self.old.live)) }
-        ensures value { self.new ≡ record self.old { live = changed_at place (λ slot. record slot { entry = with_row row slot.entry }) self.old.live } }
+        ensures value { self.new ≡ record self.old {
+          live = changed_at place (λ slot.
+              record slot { entry = with_row row slot.entry }) self.old.live;
+        } }
         ensures replaced { row_of_first (drop place self.old.live) ≡ Some result }
     {
         let slot = self.permutation.slot(place);
@@ -251,7 +268,10 @@ impl SlotTable {
     /// Makes the entry of the live slot at a place a link.
     pub fn set_link(&mut self, place: usize, head: NodeNo)
         requires { place < length self.old.live }
-        ensures { self.new ≡ record self.old { live = changed_at place (λ slot. record slot { entry = with_link head slot.entry }) self.old.live } }
+        ensures { self.new ≡ record self.old {
+          live = changed_at place (λ slot.
+              record slot { entry = with_link head slot.entry }) self.old.live;
+        } }
     {
         let slot = self.permutation.slot(place);
         put_link(&mut self.slots, slot, head);

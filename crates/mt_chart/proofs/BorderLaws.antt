@@ -3,7 +3,7 @@ use Rattle.std.proofs.Common.{ℕ, ◌≡◌, ◌≢◌, ◌≤◌, ◌⊎◌, �
 use Rattle.mt_slice.specs.Place.{Place}
 use Rattle.mt_types.specs.declared.row.Row.{Row}
 use Rattle.mt_chart.specs.Tree.{link, Entry, Right, HeadNode, BorderNode, head, border, Arena, Among, Below, Has}
-use Rattle.mt_chart.specs.Chart.{Standing, on, gone, Role, top, at_level, Spot, spot, Chart, OnHead, IsLastBorder, IsBorder, Apart, class, Owns, by_head, Dated}
+use Rattle.mt_chart.specs.Chart.{Standing, on, gone, Role, top, at_level, Spot, spot, Chart, OnHead, IsLastBorder, IsBorderNode, Apart, class, Owns, by_head, Dated}
 use Rattle.mt_chart.specs.Steps.{Twin, AreTwins, IsIndex, MarksBorder, ShowsRow, HidesRow, SetsRow}
 use Rattle.mt_chart.specs.StepLaws.{ShowingAddsTheRow, HidingRemovesTheRow, SettingReplacesTheRow, MarkingABorderKeeps, MarkingAGoneBorderKeeps, LinkingAHalfKeeps, MakingALayerKeeps, UnlinkingKeeps, DroppingALayerKeeps}
 use Rattle.mt_chart.proofs.Basics.{same_number}
@@ -22,7 +22,7 @@ use Rattle.mt_chart.proofs.DropLayer.{layer_dropped_tree, layer_dropped_owned, l
 
 -- a row is shown
 module _ (now : ℕ) (twins : List Twin) (arena after : Arena) (chart : Chart) (key : Place) (row : Row) (index : IsIndex now twins arena chart) (step : ShowsRow arena after chart key row) where
-  shows_ok : IsBorder chart step.prefix step.old
+  shows_ok : IsBorderNode chart step.prefix step.old
   shows_ok = index.tree.each_border step.number step.prefix step.old step.writes.stands
 
   shows_inside : (e : Entry) → (e ≡ step.entry) ⊎ Among e step.old.entries → (step.old.low ≤ e.slice) × Below e.slice step.old.right
@@ -66,7 +66,7 @@ showing now twins arena after chart key row index step = (shows_index now twins 
 
 -- a row is hidden
 module _ (now : ℕ) (twins : List Twin) (arena after : Arena) (chart : Chart) (key : Place) (row : Row) (index : IsIndex now twins arena chart) (step : HidesRow arena after chart key row) where
-  hides_ok : IsBorder chart step.prefix step.old
+  hides_ok : IsBorderNode chart step.prefix step.old
   hides_ok = index.tree.each_border step.number step.prefix step.old step.writes.stands
 
   hides_apart : Apart step.new.entries
@@ -99,7 +99,7 @@ hiding now twins arena after chart key row index step = (hides_index now twins a
 
 -- a row is set in place of another
 module _ (now : ℕ) (twins : List Twin) (arena after : Arena) (chart : Chart) (key : Place) (before row : Row) (index : IsIndex now twins arena chart) (step : SetsRow arena after chart key before row) where
-  sets_ok : IsBorder chart step.prefix step.old
+  sets_ok : IsBorderNode chart step.prefix step.old
   sets_ok = index.tree.each_border step.number step.prefix step.old step.writes.stands
 
   same_slice : step.set.slice ≡ step.entry.slice
@@ -155,7 +155,7 @@ setting now twins arena after chart key before row index step = (sets_index now 
 
 -- a border is marked
 module _ (now : ℕ) (twins : List Twin) (arena after : Arena) (chart : Chart) (index : IsIndex now twins arena chart) (step : MarksBorder arena after chart) where
-  marks_ok : IsBorder chart step.prefix step.old
+  marks_ok : IsBorderNode chart step.prefix step.old
   marks_ok = index.tree.each_border step.number step.prefix step.old step.writes.stands
 
   marks_entries : (e : Entry) → Among e step.new.entries ↔ Among e step.old.entries

@@ -4,7 +4,7 @@ use Rattle.std.proofs.Common.{ℕ, suc, ◌≡◌, ◌≢◌, ◌<◌, ◌≤◌
 use Rattle.mt_slice.specs.Place.{Place, under}
 use Rattle.mt_types.specs.declared.row.Row.{Row}
 use Rattle.mt_chart.specs.Tree.{link, Entry, Right, HeadNode, BorderNode, Child, InteriorNode, head, border, interior, Arena, Among, first, Below, no_right, Has}
-use Rattle.mt_chart.specs.Chart.{Standing, on, gone, Role, top, at_level, Spot, spot, Chart, OnHead, OnBorder, IsBorder, MayName, IsChild, AreChildren, Hung, InteriorAt, IsTree, Stored, Later, went, Changes, Evolves, Dated, Owns, by_interior, Owned}
+use Rattle.mt_chart.specs.Chart.{Standing, on, gone, Role, top, at_level, Spot, spot, Chart, OnHead, OnBorder, IsBorderNode, MayName, IsChild, AreChildren, Hung, InteriorAt, IsTree, Stored, Later, went, Changes, Evolves, Dated, Owns, by_interior, Owned}
 use Rattle.mt_chart.proofs.Basics.{same_number}
 use Rattle.mt_chart.proofs.HeldNodes.{later_same}
 use Rattle.mt_chart.proofs.Reach.{same_border, stored, has}
@@ -23,7 +23,7 @@ module _ (arena new : Arena) (chart more : Chart) (tree : IsTree arena chart) (n
   abbrev gone_link : Entry
   gone_link = record { slice = s; content = link t }
 
-  ok_n : IsBorder chart p b
+  ok_n : IsBorderNode chart p b
   ok_n = tree.each_border n p b o
 
   r_place : chart r ≡ Some (spot (at_level 0) (s ∷ p) 0 (on on_r.posted))
@@ -116,7 +116,7 @@ module _ (arena new : Arena) (chart more : Chart) (tree : IsTree arena chart) (n
 
   -- a right link does not lead to `r`, a link entry but the hidden one not to `t`
   old_ok : (m : ℕ) (q : List ℕ) (d : BorderNode) → OnBorder arena chart m q d → m ≢ r → (c : BorderNode) → c.low ≡ d.low → c.right ≡ d.right → c.deleted ≡ d.deleted →
-      ((e : Entry) → Among e c.entries → Among e d.entries) → ((v : ℕ) → Among (record { slice = v; content = link t }) c.entries → ⊥) → (c.deleted ≡ true → c.entries ≡ []) → IsBorder more q c
+      ((e : Entry) → Among e c.entries → Among e d.entries) → ((v : ℕ) → Among (record { slice = v; content = link t }) c.entries → ⊥) → (c.deleted ≡ true → c.entries ≡ []) → IsBorderNode more q c
   old_ok m q d z ne c lows rights dels sub not_t empty = let ok = tree.each_border m q d z in
       record {
         apart = (λ e f i j. ok.apart e f (sub e i) (sub f j));
@@ -218,7 +218,7 @@ module _ (arena new : Arena) (chart more : Chart) (tree : IsTree arena chart) (n
           none [] k = refl
           none (f ∷ es) k = absurd (k f first)
 
-      pick_ok : (m : ℕ) (q : List ℕ) (d : BorderNode) → (m ≢ r) × (((m ≡ n) × (q ≡ p) × (d ≡ b')) ⊎ ((m ≢ n) × OnBorder arena chart m q d)) → IsBorder more q d
+      pick_ok : (m : ℕ) (q : List ℕ) (d : BorderNode) → (m ≢ r) × (((m ≡ n) × (q ≡ p) × (d ≡ b')) ⊎ ((m ≢ n) × OnBorder arena chart m q d)) → IsBorderNode more q d
       pick_ok m q d (ne, inl (e, u, v)) = rw (u, v) (old_ok n p b o n_not_r b' low right alive (λ f i. ((entries f).0 i).0)
           (λ w i. let z = (entries (record { slice = w; content = link t })).0 i in z.1 (let k = only_n n p b w o z.0 in ap (λ (l : ℕ). record { slice = l; content = link t }) k.2)) n_empty)
       pick_ok m q d (ne, inr (e, z)) = old_ok m q d z ne d refl refl refl (λ f i. i) (λ v i. e (only_n m q d v z i).0) ((tree.each_border m q d z).empty)

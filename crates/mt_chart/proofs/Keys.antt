@@ -3,7 +3,7 @@ use Rattle.std.proofs.Common.{ℕ, ◌≡◌, ◌<◌, ◌≤◌, ◌⊎◌, ◌
 use Rattle.mt_slice.specs.Place.{Place, deeper, under, first_slice, first_class}
 use Rattle.mt_types.specs.declared.row.Row.{Row}
 use Rattle.mt_chart.specs.Tree.{Content, short, long, link, Entry, BorderNode, Arena, Among, Below, HoldsRow, Has}
-use Rattle.mt_chart.specs.Chart.{Chart, OnHead, OnBorder, IsBorder, class, IsTree, Stored}
+use Rattle.mt_chart.specs.Chart.{Chart, OnHead, OnBorder, IsBorderNode, class, IsTree, Stored}
 use Rattle.mt_chart.proofs.Basics.{same_depth, longer}
 use Rattle.mt_chart.proofs.Reach.{same_border, same_low_slice, stored, has}
 
@@ -16,7 +16,7 @@ holds_slice s (link t) x row h = elim h [ ]
 pub link_holds_none : (e : Entry) (s h : ℕ) (x : Place) (row : Row) → e ≡ record { slice = s; content = link h } → HoldsRow e.slice e.content x row → ⊥
 link_holds_none e s h x row q k = subst (λ (f : Entry). HoldsRow f.slice f.content x row) q k
 
-pub same_entry : (chart : Chart) (p : List ℕ) (b : BorderNode) (e f : Entry) (x : Place) (row row' : Row) → IsBorder chart p b →
+pub same_entry : (chart : Chart) (p : List ℕ) (b : BorderNode) (e f : Entry) (x : Place) (row row' : Row) → IsBorderNode chart p b →
     Among e b.entries → Among f b.entries → HoldsRow e.slice e.content x row → HoldsRow f.slice f.content x row' → e ≡ f
 same_entry chart p b e f x row row' ok m n h k =
     let (u, v) = holds_slice e.slice e.content x row h in

@@ -3,7 +3,7 @@ use Rattle.std.proofs.Common.{ℕ, zero, suc, ◌≡◌, ◌≢◌, ◌<◌, inl
 use Rattle.std.proofs.lemmas.Bool.{cases_eq, eq-eqb, ne_eqb}
 use Rattle.mt_chart.specs.Tree.{Right, HeadNode, BorderNode, Node, head, border}
 use Rattle.mt_chart.specs.NewIndex.{only_at, new_head, new_border, arena_of_two, new_arena, new_chart}
-use Rattle.mt_chart.specs.Chart.{Dated, Standing, on, gone, top, at_level, spot, OnBorder, IsBorder, Hung, HeadAt, IsTree, Owned, Owns, by_head, by_interior, Named, MarkedHeads}
+use Rattle.mt_chart.specs.Chart.{Dated, Standing, on, gone, top, at_level, spot, OnBorder, IsBorderNode, Hung, HeadAt, IsTree, Owned, Owns, by_head, by_interior, Named, MarkedHeads}
 
 pub only_here : {A : Type 0} (at : ℕ) (value : A) (number : ℕ) → number ≡ at → only_at at value number ≡ Some value
 only_here at value number e = rw (eq-eqb number at e) refl
@@ -43,7 +43,7 @@ no_interior root (suc n) k p l st g =
 not_gone : (e : ℕ) → gone e ≡ on true → ⊥
 not_gone e h = cc
 
-new_ok : (root : ℕ) → IsBorder (new_chart root) [] new_border
+new_ok : (root : ℕ) → IsBorderNode (new_chart root) [] new_border
 new_ok root = record {
   apart = (λ e f i j x y. elim i [ ]);
   from_low = (λ e i. elim i [ ]);

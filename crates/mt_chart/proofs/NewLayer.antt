@@ -4,7 +4,7 @@ use Rattle.std.proofs.Common.{ℕ, suc, ◌≡◌, ◌≢◌, ◌≤◌, ◌⊎�
 use Rattle.mt_slice.specs.Place.{Place, deeper, under}
 use Rattle.mt_types.specs.declared.row.Row.{Row}
 use Rattle.mt_chart.specs.Tree.{long, link, Entry, Right, HeadNode, BorderNode, head, border, Arena, Among, first, later, Below, no_right, HoldsRow, Has}
-use Rattle.mt_chart.specs.Chart.{Standing, on, gone, Role, top, at_level, Spot, spot, Chart, OnHead, OnBorder, IsBorder, class, Apart, Hung, HeadAt, InteriorAt, IsTree, Stored, Changes, Evolves, Owned}
+use Rattle.mt_chart.specs.Chart.{Standing, on, gone, Role, top, at_level, Spot, spot, Chart, OnHead, OnBorder, IsBorderNode, class, Apart, Hung, HeadAt, InteriorAt, IsTree, Stored, Changes, Evolves, Owned}
 use Rattle.mt_chart.proofs.Basics.{same_number}
 use Rattle.mt_chart.proofs.Reach.{same_border, stored, has}
 use Rattle.mt_chart.proofs.Keys.{same_slice, link_holds_none}
@@ -29,7 +29,7 @@ module _ (arena new : Arena) (chart more : Chart) (tree : IsTree arena chart) (n
   abbrev new_entry : Entry
   new_entry = record { slice = s; content = link t }
 
-  ok_n : IsBorder chart p b
+  ok_n : IsBorderNode chart p b
   ok_n = tree.each_border n p b o
 
   known : Knows chart more
@@ -115,7 +115,7 @@ module _ (arena new : Arena) (chart more : Chart) (tree : IsTree arena chart) (n
           (subst (λ (z : ℕ). b.low ≤ z) k (ok_n.from_low old_entry there), subst (λ (z : ℕ). Below z b.right) k (ok_n.to_right old_entry there))
       go (inr (u, ne)) = (ok_n.from_low e u, ok_n.to_right e u)
 
-  n_ok : IsBorder more p b'
+  n_ok : IsBorderNode more p b'
   n_ok = record {
     apart = new_apart;
     from_low = (λ e i. rw low ((entry_at e i).0));
@@ -129,7 +129,7 @@ module _ (arena new : Arena) (chart more : Chart) (tree : IsTree arena chart) (n
       go s' h' (inl e) = let u : s' ≡ s = ap (λ z. z.slice) e in let w : link h' ≡ link t = ap (λ z. z.content) e in let v : h' ≡ t = cc in rw (u, v) head_charted
       go s' h' (inr (i, ne)) = known h' (spot top (s' ∷ p) 0 (on true)) (ok_n.links s' h' i)
 
-  r_ok : IsBorder more (s ∷ p) x
+  r_ok : IsBorderNode more (s ∷ p) x
   r_ok = record {
     apart = (λ e g i j sl cl. the_one e i ∙ sym (the_one g j));
     from_low = (λ e i. rw x_low (omega arith));
@@ -192,7 +192,7 @@ module _ (arena new : Arena) (chart more : Chart) (tree : IsTree arena chart) (n
       spots m q v z (inr (inr (e, e', g))) (inl i) = (b', ap new i ∙ change.now, low ∙ (let w = o.place in let k : chart m ≡ chart n = ap chart i in cc))
       spots m q v z (inr (inr (e, e', g))) (inr i) = let (d, u, w) = tree.borders m q v z g in (d, change.rest m i ∙ u, w)
 
-      pick_ok : (m : ℕ) (q : List ℕ) (d : BorderNode) → ((m ≡ r) × (q ≡ s ∷ p) × (d ≡ x)) ⊎ (((m ≡ n) × (q ≡ p) × (d ≡ b')) ⊎ ((m ≢ n) × OnBorder arena chart m q d)) → IsBorder more q d
+      pick_ok : (m : ℕ) (q : List ℕ) (d : BorderNode) → ((m ≡ r) × (q ≡ s ∷ p) × (d ≡ x)) ⊎ (((m ≡ n) × (q ≡ p) × (d ≡ b')) ⊎ ((m ≢ n) × OnBorder arena chart m q d)) → IsBorderNode more q d
       pick_ok m q d (inl (e, u, v)) = rw (u, v) r_ok
       pick_ok m q d (inr (inl (e, u, v))) = rw (u, v) n_ok
       pick_ok m q d (inr (inr (e, z))) = border_known chart more q d known (tree.each_border m q d z)

@@ -5,7 +5,7 @@ use Rattle.mt_slice.specs.Place.{Place, last, deeper, under, Precedes, first_sli
 use Rattle.mt_types.specs.declared.row.Row.{Row}
 use Rattle.mt_chart.specs.Tree.{link, Entry, Right, HeadNode, BorderNode, Child, InteriorNode, head, border, interior, Node, Arena, Among, first, Below, Has}
 use Rattle.mt_chart.specs.Chart.{Standing, on, gone, Role, top, at_level, spot, Chart, OnBorder, IsTree, Holds, Evolves}
-use Rattle.mt_chart.specs.Scan.{AtMost, Pair, UpTo, Listed, AnswersRange, Scanned, OpenRange, Visiting, Outcome, answers, goes, AtEnd, Visits, Comes}
+use Rattle.mt_chart.specs.Scan.{AtMost, Pair, UpTo, Listed, AnswersRange, Scanned, OpenRange, Visiting, VisitOutcome, answers, goes, AtEnd, BorderVisit, Comes}
 use Rattle.mt_chart.proofs.PlaceOrder.{not_both, then_most}
 use Rattle.mt_chart.proofs.Entries.{InOrder, among_append}
 use Rattle.mt_chart.proofs.HeldNodes.{holds_kept, holds_root, holds_child, holds_right, holds_link, border_is_on}
@@ -134,10 +134,10 @@ module _ {V : Type 0} (show : Row → V) (arena : Arena) (chart : Chart) (tree :
   onto done e todo taken h v q = subst (λ w. Among (record { slice = e.slice; content = w }) b.entries) q
       (subst (λ (es : List Entry). Among e es) (sym v.split) ((among_append e done (e ∷ todo)).1 (inr first)))
 
-  to_outcome : (out to : Outcome V) → out ≡ to → Comes chart begun stood throughout start limit to → Comes chart begun stood throughout start limit out
-  to_outcome out to e h = subst (λ (w : Outcome V). Comes chart begun stood throughout start limit w) (sym e) h
+  to_outcome : (out to : VisitOutcome V) → out ≡ to → Comes chart begun stood throughout start limit to → Comes chart begun stood throughout start limit out
+  to_outcome out to e h = subst (λ (w : VisitOutcome V). Comes chart begun stood throughout start limit w) (sym e) h
 
-  at_end : (right : Option Right) (q : List ℕ) → b.right ≡ right → p ≡ q → (taken : List (Pair V)) (out : Outcome V) → Visiting stood throughout start limit p b at b.entries [] taken →
+  at_end : (right : Option Right) (q : List ℕ) → b.right ≡ right → p ≡ q → (taken : List (Pair V)) (out : VisitOutcome V) → Visiting stood throughout start limit p b at b.entries [] taken →
       AtEnd q right taken out → Comes chart begun stood throughout start limit out
   at_end (Some r) q e k taken out v h = to_outcome out (goes q r.number (last r.low 0) taken) h
       (subst (λ (w : List ℕ). OpenRange chart begun stood throughout start limit w r.number (last r.low 0) taken) k (record {
@@ -151,8 +151,8 @@ module _ {V : Type 0} (show : Row → V) (arena : Arena) (chart : Chart) (tree :
     scanned = visit_leaves stood throughout show arena chart tree stands_now throughout_now start limit n p b o in_order at from_low to_right taken s u v e k;
   })
 
-  visited : (es : List Entry) (done : List Entry) (taken : List (Pair V)) (out : Outcome V) → Visiting stood throughout start limit p b at done es taken →
-      Visits show limit p at b.right es taken out → Comes chart begun stood throughout start limit out
+  visited : (es : List Entry) (done : List Entry) (taken : List (Pair V)) (out : VisitOutcome V) → Visiting stood throughout start limit p b at done es taken →
+      BorderVisit show limit p at b.right es taken out → Comes chart begun stood throughout start limit out
   visited [] done taken out v (inl f) = to_outcome out (answers taken) f.1 (range_full stood throughout start limit (under p at) taken v.scanned f.0)
   visited [] done taken out v (inr f) = at_end b.right p refl refl taken out (let e : done ≡ b.entries = sym (v.split ∙ append-nil done) in subst (λ (es : List Entry). Visiting stood throughout start limit p b at es [] taken) e v) f
   visited (e ∷ es) done taken out v (inl f) = to_outcome out (answers taken) f.1 (range_full stood throughout start limit (under p at) taken v.scanned f.0)
@@ -178,7 +178,7 @@ pub range_visits : {V : Type 0} (show : Row → V) (arena : Arena) (chart : Char
     ((key : Place) (row : Row) → Has arena key row → stood key (show row)) → ((key : Place) → throughout key → (row : Row) × Has arena key row) →
     (start : Place) (limit : ℕ) (p : List ℕ) (n : ℕ) (at : Place) (taken : List (Pair V)) → OpenRange chart begun stood throughout start limit p n at taken →
     (b : BorderNode) → arena n ≡ Some (border b) → b.deleted ≡ false → InOrder b.entries → Below (first_slice at) b.right →
-    (out : Outcome V) → Visits show limit p at b.right b.entries taken out → Comes chart begun stood throughout start limit out
+    (out : VisitOutcome V) → BorderVisit show limit p at b.right b.entries taken out → Comes chart begun stood throughout start limit out
 range_visits show arena chart tree begun stood throughout stands_now throughout_now start limit p n at taken range b e d ord hi out h =
     let (o, lo) = border_is_on arena chart tree begun n (first_slice at) p b range.held e d in
     visited show arena chart tree begun stood throughout stands_now throughout_now start limit p n b o ord at lo hi b.entries [] taken out

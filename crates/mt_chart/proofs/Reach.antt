@@ -3,7 +3,7 @@ use Rattle.std.proofs.Common.{ℕ, zero, suc, ◌≡◌, ◌<◌, ◌≤◌, ◌
 use Rattle.mt_slice.specs.Place.{Place}
 use Rattle.mt_types.specs.declared.row.Row.{Row}
 use Rattle.mt_chart.specs.Tree.{link, Right, BorderNode, Child, InteriorNode, head, border, interior, Arena, first, Below, no_right, before_right, Leads, arrived, by_first, Linked, leftmost, by_right, Attached, layer_0, by_link, Has}
-use Rattle.mt_chart.specs.Chart.{on, gone, at_level, spot, Chart, OnHead, OnBorder, IsBorder, IsChild, AreChildren, IsTree, Stored}
+use Rattle.mt_chart.specs.Chart.{on, gone, at_level, spot, Chart, OnHead, OnBorder, IsBorderNode, IsChild, AreChildren, IsTree, Stored}
 
 pub same_border : (arena : Arena) (n : ℕ) (b c : BorderNode) → arena n ≡ Some (border b) → arena n ≡ Some (border c) → b ≡ c
 same_border arena n b c e f = cc
@@ -12,7 +12,7 @@ pub below_less : {s t : ℕ} {r : Option Right} → s ≤ t → Below t r → Be
 below_less h no_right = no_right
 below_less h (before_right k) = before_right (omega arith)
 
-pub low_is_below : (chart : Chart) (p : List ℕ) (b : BorderNode) → IsBorder chart p b → Below b.low b.right
+pub low_is_below : (chart : Chart) (p : List ℕ) (b : BorderNode) → IsBorderNode chart p b → Below b.low b.right
 low_is_below chart p b ok = go b.right refl
   where
     go : (r : Option Right) → b.right ≡ r → Below b.low r

@@ -3,7 +3,7 @@ use Rattle.std.proofs.Common.{ℕ, suc, ◌≡◌, ◌≢◌, ◌≤◌, ◌⊎�
 use Rattle.mt_slice.specs.Place.{Place, under}
 use Rattle.mt_types.specs.declared.row.Row.{Row}
 use Rattle.mt_chart.specs.Tree.{Content, short, long, link, Entry, BorderNode, border, Arena, Among, Below, HoldsRow, Has}
-use Rattle.mt_chart.specs.Chart.{Standing, on, gone, Role, top, at_level, spot, Chart, OnBorder, IsBorder, Apart, Hung, IsTree, Stored, Owns, by_head, by_interior, Owned, Changes}
+use Rattle.mt_chart.specs.Chart.{Standing, on, gone, Role, top, at_level, spot, Chart, OnBorder, IsBorderNode, Apart, Hung, IsTree, Stored, Owns, by_head, by_interior, Owned, Changes}
 use Rattle.mt_chart.proofs.Basics.{same_number}
 use Rattle.mt_chart.proofs.Reach.{same_border, stored, has}
 use Rattle.mt_chart.proofs.Keys.{one_place}
@@ -72,7 +72,7 @@ module _ (arena new : Arena) (chart : Chart) (tree : IsTree arena chart) (n : �
         )
         go (inr (e, y)) = (c, y, refl, refl, λ s h there. there)
 
-    now_ok : IsBorder chart p b'
+    now_ok : IsBorderNode chart p b'
     now_ok = let ok = tree.each_border n p b o in
         record {
           apart = apart;
@@ -102,7 +102,7 @@ module _ (arena new : Arena) (chart : Chart) (tree : IsTree arena chart) (n : �
           tree.disjoint i j q e f x' y' (rw (u, w) le) (rw (v, w) be));
     }
       where
-        pick_ok : (m : ℕ) (q : List ℕ) (c : BorderNode) → OnBorder new chart m q c → ((m ≡ n) × (q ≡ p) × (c ≡ b')) ⊎ ((m ≢ n) × OnBorder arena chart m q c) → IsBorder chart q c
+        pick_ok : (m : ℕ) (q : List ℕ) (c : BorderNode) → OnBorder new chart m q c → ((m ≡ n) × (q ≡ p) × (c ≡ b')) ⊎ ((m ≢ n) × OnBorder arena chart m q c) → IsBorderNode chart q c
         pick_ok m q c x (inl (e, f, g)) = rw (f, g) now_ok
         pick_ok m q c x (inr (e, y)) = tree.each_border m q c y
 

@@ -1,5 +1,5 @@
 -- The laws of scans, each by its lemma.
-use Rattle.mt_chart.specs.ScanRun.{Stood, Throughout}
+use Rattle.mt_chart.specs.ScanRun.{Stood, AllHave}
 use Rattle.mt_chart.specs.ScanLaws.{ScansStayOpen, ScansAnswerRightly, VisitsHaveOutcomes, AnswersAreOfKeys, SteadyRowsAreRead, NothingElseIsRead}
 use Rattle.mt_chart.proofs.ScanRuns.{scan_keeps, scan_answers, visits_total, stood_steady, stood_never}
 use Rattle.mt_chart.proofs.KeyAnswers.{answers_keys}
@@ -15,7 +15,7 @@ pub outcomes : VisitsHaveOutcomes
 outcomes show limit prefix at right entries taken few = visits_total show limit prefix at right entries taken few
 
 pub of_keys : AnswersAreOfKeys
-of_keys show past start limit pairs bytes keys answer = answers_keys (Stood show past) (Throughout past) start limit pairs bytes keys answer
+of_keys show past start limit pairs bytes keys answer = answers_keys (Stood show past) (AllHave past) start limit pairs bytes keys answer
 
 pub steady : SteadyRowsAreRead
 steady show past key row read stood same = stood_steady show past key row read stood same

@@ -5,8 +5,8 @@ use Rattle.mt_slice.specs.Place.{Place, last, deeper, under, Precedes, first_sli
 use Rattle.mt_types.specs.declared.row.Row.{Row}
 use Rattle.mt_chart.specs.Tree.{Content, short, long, link, Entry, Right, BorderNode, border, Arena, Among, first, later, Below, HoldsRow, Has}
 use Rattle.mt_chart.specs.Chart.{Chart, IsTree}
-use Rattle.mt_chart.specs.Scan.{AtMost, Pair, UpTo, AnswersRange, OpenRange, Outcome, answers, goes, AtEnd, Visits}
-use Rattle.mt_chart.specs.ScanRun.{Stood, Throughout, Steady, Never, EntriesInOrder, Scans, begins, others, again, at_head, at_interior, to_right, into_layer, visits}
+use Rattle.mt_chart.specs.Scan.{AtMost, Pair, UpTo, AnswersRange, OpenRange, VisitOutcome, answers, goes, AtEnd, BorderVisit}
+use Rattle.mt_chart.specs.ScanRun.{Stood, AllHave, Steady, Never, EntriesInOrder, Scans, begins, others, again, at_head, at_interior, to_right, into_layer, visits}
 use Rattle.mt_chart.proofs.Basics.{same_number}
 use Rattle.mt_chart.proofs.PlaceOrder.{either}
 use Rattle.mt_chart.proofs.Entries.{InOrder, among_cases}
@@ -23,39 +23,39 @@ in_order (e ∷ es) o = (o.0, in_order es o.1)
 -- the fact of an open range holds all along
 pub scan_keeps : {V : Type 0} (show : Row → V) (begun : ℕ) (start : Place) (limit : ℕ) {chart : Chart} {a : Arena} {past : List Arena} {p : List ℕ} {n : ℕ} {at : Place} {taken : List (Pair V)} →
     Scans show begun start limit chart a past p n at taken →
-    IsTree a chart × OpenRange chart begun (Stood show (a ∷ past)) (Throughout (a ∷ past)) start limit p n at taken
-scan_keeps show begun start limit (begins {chart = chart} {arena = a} tree) = (tree, range_begins a chart tree begun (Stood show (a ∷ [])) (Throughout (a ∷ [])) start limit)
+    IsTree a chart × OpenRange chart begun (Stood show (a ∷ past)) (AllHave (a ∷ past)) start limit p n at taken
+scan_keeps show begun start limit (begins {chart = chart} {arena = a} tree) = (tree, range_begins a chart tree begun (Stood show (a ∷ [])) (AllHave (a ∷ [])) start limit)
 scan_keeps show begun start limit (others {chart = chart} {new = new} {arena = a} {after = b} {past = past} {prefix = p} {number = n} {at = at} {taken = taken} s tree e) = (
   tree,
-  range_kept begun chart new (Stood show (a ∷ past)) (Stood show (b ∷ (a ∷ past))) (Throughout (a ∷ past)) (Throughout (b ∷ (a ∷ past))) start limit p n at taken e
+  range_kept begun chart new (Stood show (a ∷ past)) (Stood show (b ∷ (a ∷ past))) (AllHave (a ∷ past)) (AllHave (b ∷ (a ∷ past))) start limit p n at taken e
       (λ key v h. inr h) (λ key t. t.1) (scan_keeps show begun start limit s).1,
 )
 scan_keeps show begun start limit (again {chart = chart} {arena = a} {past = past} {prefix = p} {number = n} {at = at} {taken = taken} back s f g) =
     let (tree, r) = scan_keeps show begun start limit s in
-    (tree, range_again_at a chart tree begun (Stood show (a ∷ past)) (Throughout (a ∷ past)) start limit p n at back taken f g r)
+    (tree, range_again_at a chart tree begun (Stood show (a ∷ past)) (AllHave (a ∷ past)) start limit p n at back taken f g r)
 scan_keeps show begun start limit (at_head {chart = chart} {arena = a} {past = past} {prefix = p} {number = n} {at = at} {taken = taken} t s e d) =
     let (tree, r) = scan_keeps show begun start limit s in
-    (tree, range_head a chart tree begun (Stood show (a ∷ past)) (Throughout (a ∷ past)) start limit p n at taken r t e d)
+    (tree, range_head a chart tree begun (Stood show (a ∷ past)) (AllHave (a ∷ past)) start limit p n at taken r t e d)
 scan_keeps show begun start limit (at_interior {chart = chart} {arena = a} {past = past} {prefix = p} {number = n} {at = at} {taken = taken} t c s e d i le) =
     let (tree, r) = scan_keeps show begun start limit s in
-    (tree, range_interior a chart tree begun (Stood show (a ∷ past)) (Throughout (a ∷ past)) start limit p n at taken r t c e d i le)
+    (tree, range_interior a chart tree begun (Stood show (a ∷ past)) (AllHave (a ∷ past)) start limit p n at taken r t c e d i le)
 scan_keeps show begun start limit (to_right {chart = chart} {arena = a} {past = past} {prefix = p} {number = n} {at = at} {taken = taken} b q s e d w le) =
     let (tree, r) = scan_keeps show begun start limit s in
-    (tree, range_right a chart tree begun (Stood show (a ∷ past)) (Throughout (a ∷ past)) start limit p n at taken r b q e d w le)
+    (tree, range_right a chart tree begun (Stood show (a ∷ past)) (AllHave (a ∷ past)) start limit p n at taken r b q e d w le)
 scan_keeps show begun start limit (into_layer {chart = chart} {arena = a} {past = past} {prefix = p} {number = n} {taken = taken} b t h x s e d i) =
     let (tree, r) = scan_keeps show begun start limit s in
-    (tree, range_link a chart tree begun (Stood show (a ∷ past)) (Throughout (a ∷ past)) start limit p n t h x taken r b e d i)
+    (tree, range_link a chart tree begun (Stood show (a ∷ past)) (AllHave (a ∷ past)) start limit p n t h x taken r b e d i)
 scan_keeps show begun start limit (visits {chart = chart} {arena = a} {past = past} {prefix = p} {number = n} {at = at} {taken = taken} b q m to more s e d o hi w) =
     let (tree, r) = scan_keeps show begun start limit s in
-    (tree, range_visits show a chart tree begun (Stood show (a ∷ past)) (Throughout (a ∷ past)) (stands_now show a past) (λ key t. t.0) start limit p n at taken r b e d (in_order b.entries o) hi (goes q m to more) w)
+    (tree, range_visits show a chart tree begun (Stood show (a ∷ past)) (AllHave (a ∷ past)) (stands_now show a past) (λ key t. t.0) start limit p n at taken r b e d (in_order b.entries o) hi (goes q m to more) w)
 
 -- and its answer is right
 pub scan_answers : {V : Type 0} (show : Row → V) (begun : ℕ) (start : Place) (limit : ℕ) (chart : Chart) (a : Arena) (past : List Arena) (p : List ℕ) (n : ℕ) (at : Place) (taken more : List (Pair V)) →
     Scans show begun start limit chart a past p n at taken → (b : BorderNode) → a n ≡ Some (border b) → b.deleted ≡ false → EntriesInOrder b.entries → Below (first_slice at) b.right →
-    Visits show limit p at b.right b.entries taken (answers more) → AnswersRange (Stood show (a ∷ past)) (Throughout (a ∷ past)) start limit more
+    BorderVisit show limit p at b.right b.entries taken (answers more) → AnswersRange (Stood show (a ∷ past)) (AllHave (a ∷ past)) start limit more
 scan_answers show begun start limit chart a past p n at taken more s b e d o hi w =
     let (tree, r) = scan_keeps show begun start limit s in
-    range_visits show a chart tree begun (Stood show (a ∷ past)) (Throughout (a ∷ past)) (stands_now show a past) (λ key t. t.0) start limit p n at taken r b e d (in_order b.entries o) hi (answers more) w
+    range_visits show a chart tree begun (Stood show (a ∷ past)) (AllHave (a ∷ past)) (stands_now show a past) (λ key t. t.0) start limit p n at taken r b e d (in_order b.entries o) hi (answers more) w
 
 -- each visit comes to an outcome
 up_to_or_after : {V : Type 0} (key : Place) (taken : List (Pair V)) → UpTo key taken ⊎ ((y : Pair V) → Among y taken → Precedes y.key key)
@@ -71,41 +71,41 @@ up_to_or_after {V} key (x ∷ xs) = go (either x.key key) (up_to_or_after key xs
         on {y} (inl e) = subst (λ (w : Pair V). Precedes w.key key) (sym e) h
         on {y} (inr i) = u y i
 
-end_total : {V : Type 0} (p : List ℕ) (right : Option Right) (taken : List (Pair V)) → (out : Outcome V) × AtEnd p right taken out
+end_total : {V : Type 0} (p : List ℕ) (right : Option Right) (taken : List (Pair V)) → (out : VisitOutcome V) × AtEnd p right taken out
 end_total p (Some r) taken = (goes p r.number (last r.low 0) taken, refl)
 end_total [] None taken = (answers taken, refl)
 end_total (s ∷ u) None taken = (goes [] 0 (under u (last s 10)) taken, refl)
 
 at_limit : {V : Type 0} (show : Row → V) (limit : ℕ) (p : List ℕ) (at : Place) (right : Option Right) (e : Entry) (es : List Entry) (taken : List (Pair V)) → length taken ≤ limit →
-    ((t : List (Pair V)) → length t ≤ limit → (out : Outcome V) × Visits show limit p at right es t out) →
-    (out : Outcome V) × Visits show limit p at right (e ∷ es) taken out
+    ((t : List (Pair V)) → length t ≤ limit → (out : VisitOutcome V) × BorderVisit show limit p at right es t out) →
+    (out : VisitOutcome V) × BorderVisit show limit p at right (e ∷ es) taken out
 at_limit {V} show limit p at right e es taken few rest = go (same_number (length taken) limit)
   where
     row : (x : Place) (r : Row) → HoldsRow e.slice e.content x r → length taken < limit → Precedes x at ⊎ AtMost at x → UpTo (under p x) taken ⊎ ((y : Pair V) → Among y taken → Precedes y.key (under p x)) →
-        (out : Outcome V) × Visits show limit p at right (e ∷ es) taken out
+        (out : VisitOutcome V) × BorderVisit show limit p at right (e ∷ es) taken out
     row x r h room (inl c) u = let (out, v) = rest taken few in (out, inr (inl (x, r, h, inl c, v)))
     row x r h room (inr c) (inl u) = let (out, v) = rest taken few in (out, inr (inl (x, r, h, inr u, v)))
     row x r h room (inr c) (inr u) =
         let size : length (taken ++ (record { key = under p x; value = show r } ∷ [])) ≡ length taken + 1 = length-append taken (record { key = under p x; value = show r } ∷ []) in
         let (out, v) = rest (taken ++ (record { key = under p x; value = show r } ∷ [])) (omega arith) in (out, inr (inr (inl (x, r, h, c, u, room, v))))
 
-    entered : (h : ℕ) → e.content ≡ link h → Precedes at (deeper e.slice (last 0 0)) ⊎ ((x : Place) × (at ≡ deeper e.slice x)) → (out : Outcome V) × Visits show limit p at right (e ∷ es) taken out
+    entered : (h : ℕ) → e.content ≡ link h → Precedes at (deeper e.slice (last 0 0)) ⊎ ((x : Place) × (at ≡ deeper e.slice x)) → (out : VisitOutcome V) × BorderVisit show limit p at right (e ∷ es) taken out
     entered h q (inl c) = (goes (e.slice ∷ p) h (last 0 0) taken, inr (inr (inr (h, q, inr (inl (c, refl))))))
     entered h q (inr (x, k)) = (goes (e.slice ∷ p) h x taken, inr (inr (inr (h, q, inr (inr (x, k, refl))))))
 
-    at_link : (h : ℕ) → e.content ≡ link h → Precedes at (last e.slice 10) ⊎ AtMost (last e.slice 10) at → (out : Outcome V) × Visits show limit p at right (e ∷ es) taken out
+    at_link : (h : ℕ) → e.content ≡ link h → Precedes at (last e.slice 10) ⊎ AtMost (last e.slice 10) at → (out : VisitOutcome V) × BorderVisit show limit p at right (e ∷ es) taken out
     at_link h q (inl c) = entered h q (enters e.slice at c)
     at_link h q (inr c) = let (out, v) = rest taken few in (out, inr (inr (inr (h, q, inl (c, v)))))
 
-    at_row : (x : Place) (r : Row) → HoldsRow e.slice e.content x r → length taken < limit → (out : Outcome V) × Visits show limit p at right (e ∷ es) taken out
+    at_row : (x : Place) (r : Row) → HoldsRow e.slice e.content x r → length taken < limit → (out : VisitOutcome V) × BorderVisit show limit p at right (e ∷ es) taken out
     at_row x r h room = row x r h room (either x at) (up_to_or_after (under p x) taken)
 
-    at_content : (c : Content) → e.content ≡ c → length taken < limit → (out : Outcome V) × Visits show limit p at right (e ∷ es) taken out
+    at_content : (c : Content) → e.content ≡ c → length taken < limit → (out : VisitOutcome V) × BorderVisit show limit p at right (e ∷ es) taken out
     at_content (short k r) q room = at_row (last e.slice k) r (subst (λ (d : Content). HoldsRow e.slice d (last e.slice k) r) (sym q) (refl, refl)) room
     at_content (long y r) q room = at_row (deeper e.slice y) r (subst (λ (d : Content). HoldsRow e.slice d (deeper e.slice y) r) (sym q) (refl, refl)) room
     at_content (link h) q room = at_link h q (either at (last e.slice 10))
 
-    go : (length taken ≡ limit) ⊎ (length taken ≢ limit) → (out : Outcome V) × Visits show limit p at right (e ∷ es) taken out
+    go : (length taken ≡ limit) ⊎ (length taken ≢ limit) → (out : VisitOutcome V) × BorderVisit show limit p at right (e ∷ es) taken out
     go (inl f) = (answers taken, inl (f, refl))
     go (inr f) = at_content e.content refl (less f)
       where
@@ -113,7 +113,7 @@ at_limit {V} show limit p at right e es taken few rest = go (same_number (length
         less g = grind (arith, g)
 
 pub visits_total : {V : Type 0} (show : Row → V) (limit : ℕ) (p : List ℕ) (at : Place) (right : Option Right) (es : List Entry) (taken : List (Pair V)) → length taken ≤ limit →
-    (out : Outcome V) × Visits show limit p at right es taken out
+    (out : VisitOutcome V) × BorderVisit show limit p at right es taken out
 visits_total show limit p at right [] taken few = let (out, h) = end_total p right taken in (out, inr h)
 visits_total show limit p at right (e ∷ es) taken few = at_limit show limit p at right e es taken few (visits_total show limit p at right es)
 

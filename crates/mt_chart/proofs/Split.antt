@@ -3,7 +3,7 @@ use Rattle.std.proofs.Common.{ℕ, suc, ◌≡◌, ◌≢◌, ◌<◌, ◌≤◌
 use Rattle.mt_slice.specs.Place.{Place, under}
 use Rattle.mt_types.specs.declared.row.Row.{Row}
 use Rattle.mt_chart.specs.Tree.{link, Entry, Right, BorderNode, Child, border, Arena, Among, Below, no_right, before_right, Has}
-use Rattle.mt_chart.specs.Chart.{Standing, on, gone, Role, top, at_level, Spot, spot, Chart, OnHead, OnBorder, IsBorder, AreChildren, Hung, InteriorAt, IsTree, Stored, Owns, by_head, by_interior, Owned, Changes, Evolves}
+use Rattle.mt_chart.specs.Chart.{Standing, on, gone, Role, top, at_level, Spot, spot, Chart, OnHead, OnBorder, IsBorderNode, AreChildren, Hung, InteriorAt, IsTree, Stored, Owns, by_head, by_interior, Owned, Changes, Evolves}
 use Rattle.mt_chart.proofs.Basics.{same_number}
 use Rattle.mt_chart.proofs.HeldNodes.{later_same}
 use Rattle.mt_chart.proofs.Reach.{same_border, stored, has, below_less, low_is_below, same_low_slice}
@@ -18,7 +18,7 @@ children_known chart more st p l k cs f w = record {
   each = (λ c m. let x = w.each c m in record { standing = x.standing; lower = x.lower; place = f c.number (spot (at_level c.level) p c.low x.standing) x.place; may = x.may });
 }
 
-pub border_known : (chart more : Chart) (p : List ℕ) (b : BorderNode) → Knows chart more → IsBorder chart p b → IsBorder more p b
+pub border_known : (chart more : Chart) (p : List ℕ) (b : BorderNode) → Knows chart more → IsBorderNode chart p b → IsBorderNode more p b
 border_known chart more p b f ok = record {
   apart = ok.apart;
   from_low = ok.from_low;
@@ -98,7 +98,7 @@ module _ (arena new : Arena) (chart more : Chart) (tree : IsTree arena chart) (n
       go (inr (e, f)) (inl g) = inr (inl (g, (let h = o.place in let k : chart m ≡ chart n = ap chart g in cc), same_border new n d b' (rw g at x.node) change.now))
       go (inr (e, f)) (inr g) = inr (inr (g, record { posted = x.posted; place = f; node = sym (change.rest m g) ∙ x.node }))
 
-  left_ok : IsBorder more p b'
+  left_ok : IsBorderNode more p b'
   left_ok = let ok = tree.each_border n p b o in
       record {
         apart = (λ e f i j. ok.apart e f ((parts e).1 (inl i)) ((parts f).1 (inl j)));
@@ -109,7 +109,7 @@ module _ (arena new : Arena) (chart more : Chart) (tree : IsTree arena chart) (n
         empty = alive;
       }
 
-  right_ok : IsBorder more p c
+  right_ok : IsBorderNode more p c
   right_ok = let ok = tree.each_border n p b o in
       record {
         apart = (λ e f i j. ok.apart e f ((parts e).1 (inr i)) ((parts f).1 (inr j)));
@@ -236,7 +236,7 @@ module _ (arena new : Arena) (chart more : Chart) (tree : IsTree arena chart) (n
     disjoint = split_disjoint;
   }
     where
-      pick_ok : (m : ℕ) (q : List ℕ) (d : BorderNode) → ((m ≡ r) × (q ≡ p) × (d ≡ c)) ⊎ (((m ≡ n) × (q ≡ p) × (d ≡ b')) ⊎ ((m ≢ n) × OnBorder arena chart m q d)) → IsBorder more q d
+      pick_ok : (m : ℕ) (q : List ℕ) (d : BorderNode) → ((m ≡ r) × (q ≡ p) × (d ≡ c)) ⊎ (((m ≡ n) × (q ≡ p) × (d ≡ b')) ⊎ ((m ≢ n) × OnBorder arena chart m q d)) → IsBorderNode more q d
       pick_ok m q d (inl (e, u, v)) = rw (u, v) right_ok
       pick_ok m q d (inr (inl (e, u, v))) = rw (u, v) left_ok
       pick_ok m q d (inr (inr (e, y))) = border_known chart more q d known (tree.each_border m q d y)

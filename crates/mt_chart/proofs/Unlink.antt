@@ -3,7 +3,7 @@ use Rattle.std.proofs.Common.{ℕ, suc, ◌≡◌, ◌≢◌, ◌<◌, ◌≤◌
 use Rattle.mt_slice.specs.Place.{Place, under}
 use Rattle.mt_types.specs.declared.row.Row.{Row}
 use Rattle.mt_chart.specs.Tree.{link, Entry, Right, BorderNode, Child, InteriorNode, border, Arena, Among, Below, before_right, Has}
-use Rattle.mt_chart.specs.Chart.{Standing, on, gone, Role, top, at_level, Spot, spot, Chart, OnHead, OnBorder, IsBorder, MayName, IsChild, AreChildren, Hung, InteriorAt, IsTree, Stored, Later, went, Changes, Evolves, Dated, Owned}
+use Rattle.mt_chart.specs.Chart.{Standing, on, gone, Role, top, at_level, Spot, spot, Chart, OnHead, OnBorder, IsBorderNode, MayName, IsChild, AreChildren, Hung, InteriorAt, IsTree, Stored, Later, went, Changes, Evolves, Dated, Owned}
 use Rattle.mt_chart.proofs.Basics.{same_number}
 use Rattle.mt_chart.proofs.HeldNodes.{later_same}
 use Rattle.mt_chart.proofs.Reach.{same_border, stored, has, below_less, low_is_below}
@@ -18,10 +18,10 @@ module _ (arena new : Arena) (chart more : Chart) (tree : IsTree arena chart) (n
   on_u : OnBorder arena chart u p x
   on_u = record { posted = false; place = dropped; node = there }
 
-  ok_n : IsBorder chart p b
+  ok_n : IsBorderNode chart p b
   ok_n = tree.each_border n p b o
 
-  ok_u : IsBorder chart p x
+  ok_u : IsBorderNode chart p x
   ok_u = tree.each_border u p x on_u
 
   lows : b.low < x.low
@@ -100,7 +100,7 @@ module _ (arena new : Arena) (chart more : Chart) (tree : IsTree arena chart) (n
   link_kept : (h : ℕ) (q : List ℕ) → OnHead chart h q → OnHead more h q
   link_kept h q g = kept_spot h (spot top q 0 (on true)) (λ e. let z : top ≡ at_level 0 = cc in cc) g
 
-  n_ok : IsBorder more p b'
+  n_ok : IsBorderNode more p b'
   n_ok = record {
     apart = rw same_entries ok_n.apart;
     from_low = rw (same_entries, low) ok_n.from_low;
@@ -219,7 +219,7 @@ module _ (arena new : Arena) (chart more : Chart) (tree : IsTree arena chart) (n
       gones m q v e (inr (f, g)) = let (d, w, z) = tree.gone_borders m q v e g in
           (d, change.rest m (λ h. let k : chart m ≡ chart n = ap chart h in let i = o.place in let s : gone e ≡ on o.posted = cc in cc) ∙ w, z)
 
-      pick_ok : (m : ℕ) (q : List ℕ) (d : BorderNode) → (m ≢ u) × (((m ≡ n) × (q ≡ p) × (d ≡ b')) ⊎ ((m ≢ n) × OnBorder arena chart m q d)) → IsBorder more q d
+      pick_ok : (m : ℕ) (q : List ℕ) (d : BorderNode) → (m ≢ u) × (((m ≡ n) × (q ≡ p) × (d ≡ b')) ⊎ ((m ≢ n) × OnBorder arena chart m q d)) → IsBorderNode more q d
       pick_ok m q d (ne, inl (e, w, v)) = rw (w, v) n_ok
       pick_ok m q d (ne, inr (e, y)) = let ok = tree.each_border m q d y in
           record {

@@ -32,7 +32,14 @@ new_chart root (suc number) = only_at root (spot (at_level 0) [] 0 (on true)) (s
 
 -- the border once the empty key has a row
 abbrev pub first_row_border : Row → BorderNode
-first_row_border row = record { deleted = false; locked = false; low = 0; entries = record { slice = 0; content = short 0 row } ∷ []; right = None }
+first_row_border row =
+    record {
+      deleted = false;
+      locked = false;
+      low = 0;
+      entries = record { slice = 0; content = short 0 row } ∷ [];
+      right = None;
+    }
 
 -- the arena once the empty key has a row
 abbrev pub first_row_arena : ℕ → Row → Arena

@@ -1,10 +1,10 @@
--- What a posting that runs alone may do, and the measure by which it ends: a stack of postings, the innermost first, since an
--- interior that is full is split, and its new half is posted in turn; and the numbers that are free.
+-- What a posting that runs alone may do, and the measure by which it ends: a stack of postings, the innermost first,
+-- since an interior that is full is split, and its new half is posted in turn; and the numbers that are free.
 use Rattle.std.specs.Prelude.{ℕ, suc, ◌≡◌, ◌<◌, ◌≤◌, ◌+◌, ◌*◌, List, [], ◌∷◌}
 
--- Where one posting of the stack stands: at a node that is so many kinds above a border (a head 16, one marked deleted 17);
--- making a new root, with so many steps left of three; or in a step of an interior's split. Late: the head's root is no
--- longer the one that was seen, as others may have left it before the call was alone.
+-- Where one posting of the stack stands: at a node that is so many kinds above a border (a head 16, one marked deleted
+-- 17); making a new root, with so many steps left of three; or in a step of an interior's split. Late: the head's root
+-- is no longer the one that was seen, as others may have left it before the call was alone.
 pub data Frame : Type 0 where
   walks : ℕ → Frame
   makes_root : ℕ → Frame
@@ -80,14 +80,19 @@ abbrev pub AllWait : List Frame → Type 0
 AllWait [] = Unit {0}
 AllWait (frame ∷ waiting) = (frame ≡ waits) × AllWait waiting
 
--- One step of a posting that runs alone, from so many free numbers and a stack to others. The innermost posting is the first.
+-- One step of a posting that runs alone, from so many free numbers and a stack to others. The innermost posting is the
+-- first.
 pub data Posts : ℕ → List Frame → ℕ → List Frame → Type 0 where
-  goes_down : {free fewer steps : ℕ} {waiting : List Frame} → fewer < steps → Posts free (walks steps ∷ waiting) free (walks fewer ∷ waiting)
-  needs_root : {free steps : ℕ} {waiting : List Frame} → 16 ≤ steps → Posts free (walks steps ∷ waiting) free (makes_root 3 ∷ waiting)
+  goes_down : {free fewer steps : ℕ} {waiting : List Frame} → fewer < steps →
+      Posts free (walks steps ∷ waiting) free (walks fewer ∷ waiting)
+  needs_root : {free steps : ℕ} {waiting : List Frame} → 16 ≤ steps →
+      Posts free (walks steps ∷ waiting) free (makes_root 3 ∷ waiting)
   too_high : {free steps : ℕ} {waiting : List Frame} → Posts free (walks steps ∷ waiting) free (once_left_out waiting)
   is_put : {free steps : ℕ} {waiting : List Frame} → Posts free (walks steps ∷ waiting) free (once_posted waiting)
-  is_full : {free steps : ℕ} {waiting : List Frame} → 1 ≤ steps → Posts free (walks steps ∷ waiting) free (wants_spare ∷ waiting)
-  root_spare : {free : ℕ} {waiting : List Frame} → Posts (suc free) (makes_root 3 ∷ waiting) free (makes_root 2 ∷ waiting)
+  is_full : {free steps : ℕ} {waiting : List Frame} → 1 ≤ steps →
+      Posts free (walks steps ∷ waiting) free (wants_spare ∷ waiting)
+  root_spare : {free : ℕ} {waiting : List Frame} → Posts (suc free)
+      (makes_root 3 ∷ waiting) free (makes_root 2 ∷ waiting)
   root_refused : {free : ℕ} {waiting : List Frame} → Posts free (makes_root 3 ∷ waiting) free (once_left_out waiting)
   root_filled : {free : ℕ} {waiting : List Frame} → Posts free (makes_root 2 ∷ waiting) free (makes_root 1 ∷ waiting)
   root_named : {free : ℕ} {waiting : List Frame} → Posts free (makes_root 1 ∷ waiting) free (once_posted waiting)
@@ -95,7 +100,8 @@ pub data Posts : ℕ → List Frame → ℕ → List Frame → Type 0 where
   late_refused : {free : ℕ} {waiting : List Frame} → Posts free (late_spare ∷ waiting) free (once_left_out waiting)
   late_filled : {free : ℕ} {waiting : List Frame} → Posts free (late_fill ∷ waiting) free (late_name ∷ waiting)
   late_seen : {free : ℕ} {waiting : List Frame} → Posts free (late_name ∷ waiting) free (late_back ∷ waiting)
-  late_begins_again : {free : ℕ} {waiting : List Frame} → Posts free (late_back ∷ waiting) (suc free) (walks 16 ∷ waiting)
+  late_begins_again : {free : ℕ} {waiting : List Frame} →
+      Posts free (late_back ∷ waiting) (suc free) (walks 16 ∷ waiting)
   has_spare : {free : ℕ} {waiting : List Frame} → Posts (suc free) (wants_spare ∷ waiting) free (fills ∷ waiting)
   is_refused : {free : ℕ} {waiting : List Frame} → Posts free (wants_spare ∷ waiting) free (lets_go ∷ waiting)
   has_unlocked : {free : ℕ} {waiting : List Frame} → Posts free (lets_go ∷ waiting) free (once_left_out waiting)

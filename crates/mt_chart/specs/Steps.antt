@@ -14,8 +14,8 @@ pub record Twin : Type 0 where
 abbrev pub AreTwins : List Twin → ℕ → ℕ → Type 0
 AreTwins twins one other = Among (record { one = one; other = other }) twins
 
--- WHAT HOLDS BETWEEN TWO STEPS in an epoch: the invariant; each node has one owner, but for the twins; what is on in the tree of
--- a layer is named; a layer whose head is marked deleted has one border; and nobody went later than now.
+-- WHAT HOLDS BETWEEN TWO STEPS in an epoch: the invariant; each node has one owner, but for the twins; what is on in
+-- the tree of a layer is named; a layer whose head is marked deleted has one border; and nobody went later than now.
 pub record IsIndex (now : ℕ) (twins : List Twin) (arena : Arena) (chart : Chart) : Type 0 where
   pub tree : IsTree arena chart
   pub owned : Owned arena chart (AreTwins twins)
@@ -27,15 +27,16 @@ pub record IsIndex (now : ℕ) (twins : List Twin) (arena : Arena) (chart : Char
 abbrev pub SameContent : Arena → Arena → Type 0
 SameContent arena after = (key : Place) (row : Row) → Has after key row ↔ Has arena key row
 
--- WHAT A STEP KEEPS that changes no key's row: it leads to an index with these twins, with the same content, and every call
--- that is open may rely on the chart.
+-- WHAT A STEP KEEPS that changes no key's row: it leads to an index with these twins, with the same content, and every
+-- call that is open may rely on the chart.
 pub record Keeps (now : ℕ) (twins : List Twin) (arena after : Arena) (chart next : Chart) : Type 0 where
   pub index : IsIndex now twins after next
   pub content : SameContent arena after
   pub evolves : (begun : ℕ) → begun ≤ now → Evolves begun chart next
 
 -- a border that is on is written: it keeps its low, and is empty where it is marked deleted
-pub record WritesBorder (arena after : Arena) (chart : Chart) (number : ℕ) (prefix : List ℕ) (old new : BorderNode) : Type 0 where
+pub record WritesBorder (arena after : Arena) (chart : Chart) (number : ℕ) (prefix : List ℕ)
+    (old new : BorderNode) : Type 0 where
   pub stands : OnBorder arena chart number prefix old
   pub written : Changes arena after number (Some (border new))
   pub low : new.low ≡ old.low
@@ -64,7 +65,8 @@ pub record ShowsRow (arena after : Arena) (chart : Chart) (key : Place) (row : R
   pub is_key : key ≡ under prefix place
   pub holds : HoldsRow entry.slice entry.content place row
   pub entries : (each : Entry) → Among each new.entries ↔ ((each ≡ entry) ⊎ Among each old.entries)
-  pub lacked : (each : Entry) → Among each old.entries → each.slice ≡ entry.slice → class each.content ≢ class entry.content
+  pub lacked : (each : Entry) → Among each old.entries → each.slice ≡ entry.slice →
+      class each.content ≢ class entry.content
   pub from_low : old.low ≤ entry.slice
   pub to_right : Below entry.slice old.right
 
@@ -101,8 +103,8 @@ pub record SetsRow (arena after : Arena) (chart : Chart) (key : Place) (before r
   pub entries : (each : Entry) → Among each new.entries ↔ ((each ≡ set) ⊎ (Among each old.entries × (each ≢ entry)))
 
 -- The link step of a split: a border keeps the lower of its entries, and its right link names a filled border with the
--- upper ones, which comes to be on but is not to be named by a head or an interior. No head that is marked deleted has it for its
--- root.
+-- upper ones, which comes to be on but is not to be named by a head or an interior. No head that is marked deleted has
+-- it for its root.
 pub record LinksHalf (arena after : Arena) (chart next : Chart) : Type 0 where
   pub number : ℕ
   pub prefix : List ℕ
@@ -122,7 +124,8 @@ pub record LinksHalf (arena after : Arena) (chart next : Chart) : Type 0 where
   pub lower : (entry : Entry) → Among entry new.entries → entry.slice < half.low
   pub upper : (entry : Entry) → Among entry half.entries → half.low ≤ entry.slice
   pub half_empty : half.deleted ≡ true → half.entries ≡ []
-  pub head_alive : (top_number : ℕ) (top_node : HeadNode) → OnHead chart top_number prefix → arena top_number ≡ Some (head top_node) → top_node.root ≡ number → top_node.deleted ≡ false
+  pub head_alive : (top_number : ℕ) (top_node : HeadNode) → OnHead chart top_number prefix →
+      arena top_number ≡ Some (head top_node) → top_node.root ≡ number → top_node.deleted ≡ false
 
 -- A new layer: in a border a link stands in place of the row of a longer key. It names a filled head, whose root is a
 -- filled border with that row alone, one layer deeper. Head and border come to be on.
@@ -143,7 +146,8 @@ pub record MakesLayer (arena after : Arena) (chart next : Chart) : Type 0 where
   pub entry : Entry
   pub stood : Among (record { slice = slice; content = long rest row }) old.entries
   pub entries : (each : Entry) → Among each new.entries ↔
-      ((each ≡ record { slice = slice; content = link top_number }) ⊎ (Among each old.entries × (each ≢ record { slice = slice; content = long rest row })))
+      ((each ≡ record { slice = slice; content = link top_number })
+      ⊎ (Among each old.entries × (each ≢ record { slice = slice; content = long rest row })))
   pub top_filled : arena top_number ≡ Some (head top_node)
   pub root_filled : arena root_number ≡ Some (border root)
   pub two_numbers : top_number ≢ root_number
@@ -160,8 +164,8 @@ pub record MakesLayer (arena after : Arena) (chart next : Chart) : Type 0 where
   pub root_entries : root.entries ≡ entry ∷ []
   pub holds : HoldsRow entry.slice entry.content rest row
 
--- A border that is marked deleted, and that no head or interior may name, is taken out of its chain: the border before it
--- takes its right link, and it goes.
+-- A border that is marked deleted, and that no head or interior may name, is taken out of its chain: the border before
+-- it takes its right link, and it goes.
 pub record Unlinks (now : ℕ) (arena after : Arena) (chart next : Chart) : Type 0 where
   pub number : ℕ
   pub prefix : List ℕ
@@ -181,8 +185,8 @@ pub record Unlinks (now : ℕ) (arena after : Arena) (chart next : Chart) : Type
   pub was_right : old.right ≡ Some (record { low = gone_node.low; number = gone_number })
   pub right : new.right ≡ gone_node.right
 
--- A layer is taken out: a border hides its link to a head that is marked deleted, whose root is the layer's only border, empty and
--- marked deleted. Head and border go.
+-- A layer is taken out: a border hides its link to a head that is marked deleted, whose root is the layer's only
+-- border, empty and marked deleted. Head and border go.
 pub record DropsLayer (now : ℕ) (twins : List Twin) (arena after : Arena) (chart next : Chart) : Type 0 where
   pub number : ℕ
   pub prefix : List ℕ
@@ -199,7 +203,8 @@ pub record DropsLayer (now : ℕ) (twins : List Twin) (arena after : Arena) (cha
   pub root_number : ℕ
   pub root : BorderNode
   pub stood : Among (record { slice = slice; content = link top_number }) old.entries
-  pub entries : (each : Entry) → Among each new.entries ↔ (Among each old.entries × (each ≢ record { slice = slice; content = link top_number }))
+  pub entries : (each : Entry) → Among each new.entries
+      ↔ (Among each old.entries × (each ≢ record { slice = slice; content = link top_number }))
   pub top_on : OnHead chart top_number (slice ∷ prefix)
   pub top_there : arena top_number ≡ Some (head top_node)
   pub top_deleted : top_node.deleted ≡ true
@@ -215,7 +220,8 @@ pub record DropsLayer (now : ℕ) (twins : List Twin) (arena after : Arena) (cha
   pub others : (other : ℕ) → other ≢ top_number → other ≢ root_number → next other ≡ chart other
 
 -- an interior that is on, of the level `suc below`, takes other children
-pub record WritesInterior (arena after : Arena) (chart : Chart) (number below : ℕ) (prefix : List ℕ) (least : ℕ) (old new : InteriorNode) : Type 0 where
+pub record WritesInterior (arena after : Arena) (chart : Chart) (number below : ℕ) (prefix : List ℕ) (least : ℕ)
+    (old new : InteriorNode) : Type 0 where
   pub posted : Bool
   pub place : chart number ≡ Some (spot (at_level (suc below)) prefix least (on posted))
   pub there : arena number ≡ Some (interior old)
@@ -259,7 +265,8 @@ pub record PostsBorder (arena after : Arena) (chart next : Chart) : Type 0 where
   pub low : ℕ
   pub place : chart posted_number ≡ Some (spot (at_level 0) prefix low (on false))
   pub charted : Changes chart next posted_number (Some (spot (at_level 0) prefix low (on true)))
-  pub children : (each : Child) → Among each new.children ↔ ((each ≡ record { low = low; number = posted_number; level = 0 }) ⊎ Among each old.children)
+  pub children : (each : Child) → Among each new.children
+      ↔ ((each ≡ record { low = low; number = posted_number; level = 0 }) ⊎ Among each old.children)
 
 -- an interior with one child, locked, is bypassed: the interior above names that child in its place, and it goes
 pub record Bypasses (now : ℕ) (twins : List Twin) (arena after : Arena) (chart next : Chart) : Type 0 where
@@ -284,12 +291,14 @@ pub record Bypasses (now : ℕ) (twins : List Twin) (arena after : Arena) (chart
   pub entry : Child
   pub stood : Among entry old.children
   pub named : entry.number ≡ gone_number
-  pub children : (each : Child) → Among each new.children ↔ ((each ≡ child) ⊎ (Among each old.children × (each.number ≢ gone_number)))
+  pub children : (each : Child) → Among each new.children
+      ↔ ((each ≡ child) ⊎ (Among each old.children × (each.number ≢ gone_number)))
   pub no_twin : NoTwin twins number
   pub gone_no_twin : NoTwin twins gone_number
 
 -- a head that is on is written
-pub record WritesHead (arena after : Arena) (chart : Chart) (number : ℕ) (prefix : List ℕ) (old new : HeadNode) : Type 0 where
+pub record WritesHead (arena after : Arena) (chart : Chart) (number : ℕ) (prefix : List ℕ)
+    (old new : HeadNode) : Type 0 where
   pub place : OnHead chart number prefix
   pub there : arena number ≡ Some (head old)
   pub written : Changes arena after number (Some (head new))
@@ -329,7 +338,8 @@ pub record BypassesRoot (now : ℕ) (twins : List Twin) (arena after : Arena) (c
   pub gone_no_twin : NoTwin twins gone_number
 
 -- A new root: a head names a filled interior in place of the old root. Its two children are the old root and a border
--- that no head or interior may name. Between the two changes of the chart, the border may be named and the interior is unknown.
+-- that no head or interior may name. Between the two changes of the chart, the border may be named and the interior is
+-- unknown.
 pub record MakesRoot (twins : List Twin) (arena after : Arena) (chart between next : Chart) : Type 0 where
   pub number : ℕ
   pub prefix : List ℕ
@@ -349,15 +359,16 @@ pub record MakesRoot (twins : List Twin) (arena after : Arena) (chart between ne
   pub root_low : root_node.low ≡ 0
   pub root_level : root_node.level ≡ suc below
   pub higher : old.level < suc below
-  pub children : root_node.children ≡ (record { low = 0; number = old.root; level = old.level }) ∷ ((record { low = low; number = posted_number; level = 0 }) ∷ [])
+  pub children : root_node.children ≡ (record { low = 0; number = old.root; level = old.level }) ∷
+      ((record { low = low; number = posted_number; level = 0 }) ∷ [])
   pub once : NoChildTwice root_node.children
   pub root : new.root ≡ root_number
   pub level : new.level ≡ suc below
   pub deleted : new.deleted ≡ old.deleted
   pub no_twin : NoTwin twins number
 
--- An interior is split: a filled interior with some of its children is posted in an interior above it. Until the first half
--- is cut, the two are twins, and the pair stands both ways among the twins from then on.
+-- An interior is split: a filled interior with some of its children is posted in an interior above it. Until the first
+-- half is cut, the two are twins, and the pair stands both ways among the twins from then on.
 pub record PostsHalf (twins more_twins : List Twin) (arena after : Arena) (chart next : Chart) : Type 0 where
   pub number : ℕ
   pub below : ℕ
@@ -385,15 +396,18 @@ pub record PostsHalf (twins more_twins : List Twin) (arena after : Arena) (chart
   pub new : InteriorNode
   pub writes : WritesInterior arena after chart parent_number parent_below prefix parent_least old new
   pub above : below < parent_below
-  pub children : (each : Child) → Among each new.children ↔ ((each ≡ record { low = low; number = half_number; level = suc below }) ⊎ Among each old.children)
+  pub children : (each : Child) → Among each new.children
+      ↔ ((each ≡ record { low = low; number = half_number; level = suc below }) ⊎ Among each old.children)
   pub kept_twins : (one other : ℕ) → AreTwins twins one other → AreTwins more_twins one other
-  pub new_twins : (other : ℕ) → (other ≡ number) ⊎ AreTwins twins other number → AreTwins more_twins half_number other × AreTwins more_twins other half_number
+  pub new_twins : (other : ℕ) → (other ≡ number) ⊎ AreTwins twins other number → AreTwins more_twins half_number other
+      × AreTwins more_twins other half_number
 
--- A new root over the two halves of the old one: the root, an interior, is split, and a head names a filled interior in its place.
--- The two children of that one are the old root and a filled interior with some of the old root's children. Between the two
--- changes of the chart, the new half may be named and the new root is unknown. Of the twins it is as where a half is posted, and
--- the head is none of them.
-pub record MakesRootOverHalf (twins more_twins : List Twin) (arena after : Arena) (chart between next : Chart) : Type 0 where
+-- A new root over the two halves of the old one: the root, an interior, is split, and a head names a filled interior in
+-- its place. The two children of that one are the old root and a filled interior with some of the old root's children.
+-- Between the two changes of the chart, the new half may be named and the new root is unknown. Of the twins it is as
+-- where a half is posted, and the head is none of them.
+pub record MakesRootOverHalf (twins more_twins : List Twin) (arena after : Arena)
+    (chart between next : Chart) : Type 0 where
   pub number : ℕ
   pub prefix : List ℕ
   pub old : HeadNode
@@ -425,17 +439,19 @@ pub record MakesRootOverHalf (twins more_twins : List Twin) (arena after : Arena
   pub root_low : root_node.low ≡ 0
   pub root_level : root_node.level ≡ suc root_below
   pub above : below < root_below
-  pub children : root_node.children ≡ (record { low = 0; number = old.root; level = old.level }) ∷ ((record { low = low; number = half_number; level = suc below }) ∷ [])
+  pub children : root_node.children ≡ (record { low = 0; number = old.root; level = old.level }) ∷
+      ((record { low = low; number = half_number; level = suc below }) ∷ [])
   pub once : NoChildTwice root_node.children
   pub root : new.root ≡ root_number
   pub level : new.level ≡ suc root_below
   pub deleted : new.deleted ≡ old.deleted
   pub kept_twins : (one other : ℕ) → AreTwins twins one other → AreTwins more_twins one other
-  pub new_twins : (other : ℕ) → (other ≡ split_number) ⊎ AreTwins twins other split_number → AreTwins more_twins half_number other × AreTwins more_twins other half_number
+  pub new_twins : (other : ℕ) → (other ≡ split_number) ⊎ AreTwins twins other split_number →
+      AreTwins more_twins half_number other × AreTwins more_twins other half_number
   pub no_twin : NoTwin more_twins number
 
--- An interior keeps some of its children: the first half of a split is cut, or an interior is locked or unlocked. What it leaves
--- out another names.
+-- An interior keeps some of its children: the first half of a split is cut, or an interior is locked or unlocked. What
+-- it leaves out another names.
 pub record KeepsChildren (arena after : Arena) (chart : Chart) : Type 0 where
   pub number : ℕ
   pub below : ℕ
@@ -445,7 +461,8 @@ pub record KeepsChildren (arena after : Arena) (chart : Chart) : Type 0 where
   pub new : InteriorNode
   pub writes : WritesInterior arena after chart number below prefix least old new
   pub children : (each : Child) → Among each new.children → Among each old.children
-  pub left_out : (each : Child) → Among each old.children → Among each new.children ⊎ ((other : ℕ) × (other ≢ number) × Owns arena chart other each.number)
+  pub left_out : (each : Child) → Among each old.children → Among each new.children
+      ⊎ ((other : ℕ) × (other ≢ number) × Owns arena chart other each.number)
 
 -- an interior that is gone is marked deleted
 pub record MarksGone (arena after : Arena) (chart : Chart) : Type 0 where
@@ -487,7 +504,8 @@ pub record MarksGoneHead (arena after : Arena) (chart : Chart) : Type 0 where
 abbrev pub ChangesSpares : Arena → Arena → Chart → Type 0
 ChangesSpares arena after chart = (number : ℕ) (place : Spot) → chart number ≡ Some place → after number ≡ arena number
 
--- The chart forgets the number of a node that went in the epoch `went`. No interior that went then or before is still to be marked deleted.
+-- The chart forgets the number of a node that went in the epoch `went`. No interior that went then or before is still
+-- to be marked deleted.
 pub record Frees (arena : Arena) (chart next : Chart) (went : ℕ) : Type 0 where
   pub number : ℕ
   pub role : Role
@@ -495,5 +513,6 @@ pub record Frees (arena : Arena) (chart next : Chart) (went : ℕ) : Type 0 wher
   pub low : ℕ
   pub place : chart number ≡ Some (spot role prefix low (gone went))
   pub charted : Changes chart next number None
-  pub later : (other below : ℕ) (other_prefix : List ℕ) (other_low epoch : ℕ) (node : InteriorNode) → chart other ≡ Some (spot (at_level (suc below)) other_prefix other_low (gone epoch)) →
+  pub later : (other below : ℕ) (other_prefix : List ℕ) (other_low epoch : ℕ) (node : InteriorNode) →
+      chart other ≡ Some (spot (at_level (suc below)) other_prefix other_low (gone epoch)) →
       arena other ≡ Some (interior node) → node.deleted ≡ false → went < epoch

@@ -73,18 +73,24 @@ pub data Below (slice : ℕ) : Option Right → Type 0 where
 -- from a node of a layer, first children lead to the target, a border
 pub data Leads (arena : Arena) (target : ℕ) : ℕ → Type 0 where
   arrived : (node : BorderNode) → arena target ≡ Some (border node) → Leads arena target target
-  by_first : {number : ℕ} (node : InteriorNode) (child : Child) (others : List Child) → arena number ≡ Some (interior node) → node.children ≡ child ∷ others → Leads arena target child.number → Leads arena target number
+  by_first : {number : ℕ} (node : InteriorNode) (child : Child) (others : List Child) →
+      arena number ≡ Some (interior node) → node.children ≡ child ∷ others → Leads arena target child.number →
+      Leads arena target number
 
 -- the linked borders of a head: the leftmost, and what the right link of a linked border names
 pub data Linked (arena : Arena) (top : ℕ) : ℕ → Type 0 where
-  leftmost : {number : ℕ} (node : HeadNode) → arena top ≡ Some (head node) → Leads arena number node.root → Linked arena top number
-  by_right : {number : ℕ} (node : BorderNode) (link : Right) → Linked arena top number → arena number ≡ Some (border node) → node.right ≡ Some link → Linked arena top link.number
+  leftmost : {number : ℕ} (node : HeadNode) → arena top ≡ Some (head node) → Leads arena number node.root →
+      Linked arena top number
+  by_right : {number : ℕ} (node : BorderNode) (link : Right) → Linked arena top number →
+      arena number ≡ Some (border node) → node.right ≡ Some link → Linked arena top link.number
 
 -- The attached layers, each a prefix with its head. A prefix is the slices above the layer, the nearest first.
 pub data Attached (arena : Arena) : List ℕ → ℕ → Type 0 where
   layer_0 : Attached arena [] 0
-  by_link : {prefix : List ℕ} {top : ℕ} {number : ℕ} (node : BorderNode) (slice next_top : ℕ) → Attached arena prefix top → Linked arena top number → arena number ≡ Some (border node) →
-      Among (record { slice = slice; content = link next_top }) node.entries → Below slice node.right → Attached arena (slice ∷ prefix) next_top
+  by_link : {prefix : List ℕ} {top : ℕ} {number : ℕ} (node : BorderNode) (slice next_top : ℕ) →
+      Attached arena prefix top → Linked arena top number → arena number ≡ Some (border node) →
+      Among (record { slice = slice; content = link next_top }) node.entries → Below slice node.right →
+      Attached arena (slice ∷ prefix) next_top
 
 -- what stands at the slice holds the row, under this place of its layer
 abbrev pub HoldsRow : ℕ → Content → Place → Row → Type 0

@@ -1,4 +1,5 @@
--- The run of moves that an open get is in: each node that it came through stands before the next in one order of places.
+-- The run of moves that an open get is in: each node that it came through stands before the next in one order of
+-- places.
 use Rattle.std.specs.Prelude.{ℕ, suc, ◌≡◌, ◌<◌, ◌≤◌, ◌+◌, ◌*◌, ◌-◌, List, [], ◌∷◌, length, Some, Bool, false}
 use Rattle.mt_chart.specs.Tree.{Among, Arena, HeadNode, BorderNode, InteriorNode, Child, Right, head, border, interior, link}
 use Rattle.mt_chart.specs.Chart.{Standing, on, gone, Role, top, at_level, Spot, spot, Chart, IsTree, Evolves}
@@ -42,18 +43,26 @@ pub record KnownAt (chart : Chart) (begun number reached : ℕ) : Type 0 where
 -- the nodes that the run came through, the last one first, all before the height that is reached
 abbrev pub Run : Chart → ℕ → List ℕ → ℕ → Type 0
 Run chart begun [] reached = Unit {0}
-Run chart begun (number ∷ numbers) reached = (height_there : ℕ) × KnownAt chart begun number height_there × (height_there < reached) × Run chart begun numbers height_there
+Run chart begun (number ∷ numbers) reached = (height_there : ℕ) × KnownAt chart begun number height_there
+    × (height_there < reached) × Run chart begun numbers height_there
 
 -- all numbers of the chart are below the bound
 abbrev pub Bounded : Chart → ℕ → Type 0
 Bounded chart bound = (number : ℕ) (place : Spot) → chart number ≡ Some place → number < bound
 
--- A visit of a node that goes on to the next. What the nodes' own types keep, bounds on levels and lows, stands here too.
+-- A visit of a node that goes on to the next. What the nodes' own types keep, bounds on levels and lows, stands here
+-- too.
 pub data Moves (arena : Arena) (number next : ℕ) : Type 0 where
-  to_root : (node : HeadNode) → arena number ≡ Some (head node) → node.deleted ≡ false → node.level ≤ 15 → node.root ≡ next → Moves arena number next
-  to_child : (node : InteriorNode) (child : Child) → arena number ≡ Some (interior node) → node.deleted ≡ false → node.level ≤ 15 → node.low < 18446744073709551616 → Among child node.children → child.number ≡ next → Moves arena number next
-  to_right : (node : BorderNode) (right : Right) → arena number ≡ Some (border node) → node.deleted ≡ false → node.right ≡ Some right → right.number ≡ next → Moves arena number next
-  to_link : (node : BorderNode) (slice top_number : ℕ) → arena number ≡ Some (border node) → node.deleted ≡ false → node.low < 18446744073709551616 → Among (record { slice = slice; content = link top_number }) node.entries → top_number ≡ next → Moves arena number next
+  to_root : (node : HeadNode) → arena number ≡ Some (head node) → node.deleted ≡ false → node.level ≤ 15 →
+      node.root ≡ next → Moves arena number next
+  to_child : (node : InteriorNode) (child : Child) → arena number ≡ Some (interior node) → node.deleted ≡ false →
+      node.level ≤ 15 → node.low < 18446744073709551616 → Among child node.children → child.number ≡ next →
+      Moves arena number next
+  to_right : (node : BorderNode) (right : Right) → arena number ≡ Some (border node) → node.deleted ≡ false →
+      node.right ≡ Some right → right.number ≡ next → Moves arena number next
+  to_link : (node : BorderNode) (slice top_number : ℕ) → arena number ≡ Some (border node) → node.deleted ≡ false →
+      node.low < 18446744073709551616 → Among (record { slice = slice; content = link top_number }) node.entries →
+      top_number ≡ next → Moves arena number next
 
 -- the call knows where the node stands, and it stands higher than what was reached
 pub record Higher (chart : Chart) (begun number reached : ℕ) : Type 0 where
@@ -65,13 +74,16 @@ pub record Higher (chart : Chart) (begun number reached : ℕ) : Type 0 where
 -- steps of others come between. The run stands at a chart and a node, after so many moves.
 pub data Trail (begun : ℕ) : Chart → ℕ → ℕ → Type 0 where
   begins : {chart : Chart} {number reached : ℕ} → KnownAt chart begun number reached → Trail begun chart number 0
-  moves : {chart : Chart} {number next moves_made : ℕ} (arena : Arena) → IsTree arena chart → Trail begun chart number moves_made → Moves arena number next → Trail begun chart next (suc moves_made)
-  others : {chart new : Chart} {number moves_made : ℕ} → Evolves begun chart new → Trail begun chart number moves_made → Trail begun new number moves_made
+  moves : {chart : Chart} {number next moves_made : ℕ} (arena : Arena) → IsTree arena chart →
+      Trail begun chart number moves_made → Moves arena number next → Trail begun chart next (suc moves_made)
+  others : {chart new : Chart} {number moves_made : ℕ} → Evolves begun chart new → Trail begun chart number moves_made →
+      Trail begun new number moves_made
 
 -- the same for a call alone: one arena and one chart
 pub data Lone (arena : Arena) : ℕ → ℕ → Type 0 where
   at_top : Lone arena 0 0
-  goes_on : {number next moves_made : ℕ} → Lone arena number moves_made → Moves arena number next → Lone arena next (suc moves_made)
+  goes_on : {number next moves_made : ℕ} → Lone arena number moves_made → Moves arena number next →
+      Lone arena next (suc moves_made)
 
 -- the node is on
 pub record IsOn (chart : Chart) (number : ℕ) : Type 0 where

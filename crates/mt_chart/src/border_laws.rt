@@ -1,4 +1,5 @@
-//! Laws of the steps on border nodes: each leads from an index to an index, and this is what it does to the content. Each function does nothing, and its contract is the law.
+//! Laws of the steps on border nodes: each leads from an index to an index, and this is what it does to the content.
+//! Each function does nothing, and its contract is the law.
 
 ghost use Rattle.mt_chart.specs.StepLaws.{ShowingAddsTheRow, HidingRemovesTheRow, SettingReplacesTheRow, MarkingABorderKeeps, MarkingAGoneBorderKeeps, LinkingAHalfKeeps, MakingALayerKeeps, UnlinkingKeeps, DroppingALayerKeeps};
 
@@ -12,7 +13,8 @@ pub fn hiding_removes_the_row()
     ensures { HidingRemovesTheRow }
 {}
 
-/// Once a border has an entry in place of another, the index has the new row at the key, and all rows that it had at other keys.
+/// Once a border has an entry in place of another, the index has the new row at the key, and all rows that it had at
+/// other keys.
 pub fn setting_replaces_the_row()
     ensures { SettingReplacesTheRow }
 {}

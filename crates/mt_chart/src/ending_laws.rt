@@ -1,4 +1,5 @@
-//! Laws by which a call ends: a descent goes on in one order of places, and a call alone has a measure that falls. Each function does nothing, and its contract is the law.
+//! Laws by which a call ends: a descent goes on in one order of places, and a call alone has a measure that falls.
+//! Each function does nothing, and its contract is the law.
 
 ghost use Rattle.mt_chart.specs.EndLaws.{MovesLeftFall, MovesGoOn, HeightsAreBounded, RunsAreBounded, LoneGetsEnd, LoneCallsStayOn, PostingsEnd, CursorsGoRight, CursorsLeaveLayers};
 

@@ -1,4 +1,5 @@
-//! Laws of the steps on heads and interior nodes, and of numbers: each leads from an index to an index, with the same content. Each function does nothing, and its contract is the law.
+//! Laws of the steps on heads and interior nodes, and of numbers: each leads from an index to an index, with the same
+//! content. Each function does nothing, and its contract is the law.
 
 ghost use Rattle.mt_chart.specs.StepLaws.{LaterEpochsKeep, DroppingAChildKeeps, PostingABorderKeeps, BypassingKeeps, BypassingARootKeeps, MakingARootKeeps, MakingARootOverAHalfKeeps, MarkingAHeadKeeps, MarkingWhatIsGoneKeeps, MarkingAGoneHeadKeeps, PostingAHalfKeeps, KeepingChildrenKeeps, PartsNeedBeNoTwins, ChangingSparesKeeps, FreeingKeeps};
 
@@ -24,15 +25,16 @@ pub fn making_a_root_keeps()
     ensures half { MakingARootOverAHalfKeeps }
 {}
 
-/// A head is locked, unlocked or marked deleted; an interior node that is gone is marked deleted; a head that is gone is locked
-/// or unlocked.
+/// A head is locked, unlocked or marked deleted; an interior node that is gone is marked deleted; a head that is gone
+/// is locked or unlocked.
 pub fn marking_keeps()
     ensures head { MarkingAHeadKeeps }
     ensures gone { MarkingWhatIsGoneKeeps }
     ensures gone_head { MarkingAGoneHeadKeeps }
 {}
 
-/// The new half of an interior node is posted; the first half is cut, or a node is locked or unlocked; halves with no child in common need be no twins.
+/// The new half of an interior node is posted; the first half is cut, or a node is locked or unlocked; halves with no
+/// child in common need be no twins.
 pub fn splitting_an_interior_keeps()
     ensures half { PostingAHalfKeeps }
     ensures cut { KeepingChildrenKeeps }

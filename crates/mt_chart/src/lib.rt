@@ -1,4 +1,5 @@
-//! The theory of the tree as laws: what its invariant is, what each step on a node does to it, why a scan is right and a call ends.
+//! The theory of the tree as laws: what its invariant is, what each step on a node does to it, why a scan is right
+//! and a call ends.
 #![tactic(auto)]
 
 pub mod border_laws;

@@ -1,4 +1,5 @@
-//! Laws of scans among any other calls: what they have done at each moment, and that their answer is right. Each function does nothing, and its contract is the law.
+//! Laws of scans among any other calls: what they have done at each moment, and that their answer is right. Each
+//! function does nothing, and its contract is the law.
 
 ghost use Rattle.mt_chart.specs.ScanLaws.{ScansStayOpen, ScansAnswerRightly, VisitsHaveOutcomes, AnswersAreOfKeys, SteadyRowsAreRead, NothingElseIsRead};
 

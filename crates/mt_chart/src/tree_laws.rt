@@ -1,4 +1,5 @@
-//! Laws of an index: where its rows stand, and what a call that goes through it may rely on. Each function does nothing, and its contract is the law.
+//! Laws of an index: where its rows stand, and what a call that goes through it may rely on. Each function does
+//! nothing, and its contract is the law.
 
 ghost use Rattle.mt_chart.specs.TreeLaws.{LeftNeighboursAreFound, FreeInteriorsAreOn, FirstRowsCanBeShown, NewIndexIsIndex, NewIndexIsEmpty, RowsAreInBorders, KeysHaveOneRow, KeysAreAtTheirPlaces, KeysAreInTheirIntervals, HoldingLasts, EvolvingGoesOn, LayerZeroIsHeld, RootsAreHeld, ChildrenAreHeld, SomeChildLeadsOn, RightNeighboursAreHeld, LinkedHeadsAreHeld, HeldNodesAreThere, HeldBordersAreOn, RootsAreHighest, RootOfASplitIsIt, MarkedLayersHaveOneBorder};
 
@@ -41,8 +42,8 @@ pub fn held_nodes_lead_on()
     ensures linked { LinkedHeadsAreHeld }
 {}
 
-/// At a held number there is a node. What may be taken to be on: a held border that is not marked deleted, an interior node that
-/// is neither marked nor locked; and where the left neighbour of a border is found.
+/// At a held number there is a node. What may be taken to be on: a held border that is not marked deleted, an
+/// interior node that is neither marked nor locked; and where the left neighbour of a border is found.
 pub fn held_nodes_are_there()
     ensures there { HeldNodesAreThere }
     ensures borders { HeldBordersAreOn }
@@ -50,8 +51,8 @@ pub fn held_nodes_are_there()
     ensures left { LeftNeighboursAreFound }
 {}
 
-/// The root of a head has the greatest level of its layer. So an interior node that is being split is the root, where the root's
-/// level is no greater.
+/// The root of a head has the greatest level of its layer. So an interior node that is being split is the root, where
+/// the root's level is no greater.
 pub fn roots_are_highest()
     ensures highest { RootsAreHighest }
     ensures split { RootOfASplitIsIt }

@@ -47,7 +47,8 @@ impl Model for Interior {
 // Writes the node and the level of the child at a place.
 fn rename(children: &mut ArrayVec<Child, MAX_CHILDREN>, place: usize, node: NodeNo, level: u8)
     requires { place < array_vec_len children.old }
-    ensures { children.new.items ≡ slice_set children.old.items place (record (slice_index_or children.old.items place blank_child) { node = node; level = level }) }
+    ensures { children.new.items ≡ slice_set children.old.items place
+        (record (slice_index_or children.old.items place blank_child) { node = node; level = level }) }
 {
     let child = &mut children.as_mut_slice()[place];
     child.node = node;
@@ -155,7 +156,8 @@ impl Interior {
     /// The place of the first child that is this node, if one is. Looks at each child at most once.
     pub fn place_of(&self, node: NodeNo) -> Option<usize>
         ensures value { result ≡ position (λ child. child.node.0 == node.0) self.now.children }
-        ensures named { IfSome result (λ place. IsSomeAnd (slice_get self.now.children place) (λ child. child.node ≡ node)) }
+        ensures named { IfSome result (λ place. IsSomeAnd (slice_get self.now.children place) (λ child. child.node
+            ≡ node)) }
         ensures within { IfSome result (λ place. place < length self.now.children) }
         ensures sound { IsInterior self.now }
     {

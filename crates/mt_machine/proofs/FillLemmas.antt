@@ -31,7 +31,7 @@ module _ (C : ℕ) (key : List ℕ) (sets : List (ℕ × List ℕ)) (b : BorderV
       let between : IsBetween _ place b.live = between_from_absent (slice_number key) (Len (length key)) [] b.live place gap.sound.ordered gap.absent in
       let least : b.low ≤ slice_number key = let low = plain.low in omega arith in
       let right : IsBeforeRight (slice_number key) b.right = subst (λ (r : Option RightLink). IsBeforeRight (slice_number key) r) (sym plain.right) tt in
-      let fifteen = gap.sound.fifteen in
+      let slots = gap.sound.slots in
       let some : 0 < length b.unused = omega arith in
       record {
         bytes = gap.bytes;

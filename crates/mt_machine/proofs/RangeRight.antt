@@ -29,7 +29,7 @@ use Rattle.mt_slice.specs.Place.{Precedes}
 use Rattle.mt_slice.proofs.PlaceOrder.{never, precedes_again}
 use Rattle.mt_slice.proofs.Canonical.{same_from_place_of}
 use Rattle.mt_chart.specs.Tree.{Among, short as plain_short, link as plain_link}
-use Rattle.mt_chart.specs.Scan.{Pair as PlacedPair, Outcome, answers, AtMost, Visits}
+use Rattle.mt_chart.specs.Scan.{Pair as PlacedPair, VisitOutcome, answers, AtMost, BorderVisit}
 use Rattle.mt_chart.specs.KeyAnswer.{as_places, KeysAreBytes}
 use Rattle.mt_chart.proofs.Entries.{among_append, among_cases}
 use Rattle.mt_chart.proofs.PlaceOrder.{not_both}
@@ -39,8 +39,8 @@ use Rattle.mt_border.specs.declared.entry.Content.TheVariants.{Short}
 use Rattle.mt_border.specs.declared.entry.RightLink.{RightLink}
 use Rattle.mt_tree.specs.Seen.{content_seen, entries_seen, entry_place, right_seen, border_seen}
 use Rattle.mt_scan.specs.Scan.{ScanView, HoldsKey, HoldsKeys, VisitsBorder, outcome_of}
-use Rattle.mt_scan.specs.declared.scan.Visited.{Visited}
-use Rattle.mt_scan.specs.declared.scan.Visited.TheVariants.{Done, To, Top}
+use Rattle.mt_scan.specs.declared.scan.ScanMove.{ScanMove}
+use Rattle.mt_scan.specs.declared.scan.ScanMove.TheVariants.{Done, To, Top}
 use Rattle.mt_scan.proofs.TakenLemmas.{placed}
 use Rattle.mt_machine.specs.Range.{IsRangeOf}
 use Rattle.mt_border.specs.Entry.{entry_rank, rank_at, entry_row, content_row, content_class}
@@ -340,11 +340,11 @@ not_before a b is_a is_b le before = elim (cases_lt (short_rank b) (short_rank a
 ]
 
 module _ (asked start : List ℕ) (limit : ℕ) where
-  abbrev VisitsKeys : List Entry → List Placed → Outcome Row → Type 0
-  VisitsKeys entries taken outcome = Visits (shown asked) limit [] (place_of start) None (entries_seen entries) taken outcome
+  abbrev VisitsKeys : List Entry → List Placed → VisitOutcome Row → Type 0
+  VisitsKeys entries taken outcome = BorderVisit (shown asked) limit [] (place_of start) None (entries_seen entries) taken outcome
 
   -- a visit of entries of keys ends the scan
-  only_answers : (entries : List Entry) (taken : List Placed) (outcome : Outcome Row) → AreKeyEntries entries → VisitsKeys entries taken outcome → (all : List Placed) × (outcome ≡ answers all)
+  only_answers : (entries : List Entry) (taken : List Placed) (outcome : VisitOutcome Row) → AreKeyEntries entries → VisitsKeys entries taken outcome → (all : List Placed) × (outcome ≡ answers all)
   only_answers [] taken outcome keys (inl full) = (taken, full.1)
   only_answers [] taken outcome keys (inr end) = (taken, end)
   only_answers (entry ∷ entries) taken outcome keys (inl full) = (taken, full.1)
@@ -469,7 +469,7 @@ right_range C began h start asked limit b pairs range held known late =
     let whole : IsRun found 0 live = run_of found 0 live range.keys range.sound.ordered.pairs (λ k d within. omega arith) (λ rank more. refl) in
     let run : IsRun found (short_rank start) (entries_from (short_rank start) live) = run_from found (short_rank start) 0 live whole in
     let visit : VisitsKeys asked start limit live [] (answers (as_places pairs)) =
-    subst (λ (r : Option RightLink). Visits (shown asked) limit [] (place_of start) (option_map right_seen r) (entries_seen live) [] (answers (as_places pairs))) range.alone range.visited in
+    subst (λ (r : Option RightLink). BorderVisit (shown asked) limit [] (place_of start) (option_map right_seen r) (entries_seen live) [] (answers (as_places pairs))) range.alone range.visited in
     let all : as_places pairs ≡ as_places (given asked found limit (short_rank start) (entries_from (short_rank start) live) run) =
     takes_all asked start limit found is_start limit (short_rank start) (entries_from (short_rank start) live) run [] (as_places pairs) (omega arith) (λ key is le pair i. elim i [ ]) (omega arith)
     (from_start asked start limit found is_start 0 live (as_places pairs) whole visit) in
@@ -507,9 +507,9 @@ pub border_held : (b : BorderView) (s t : ScanView) → s ≡ t → t.prefix ≡
 border_held b s t is none keys = subst (λ (p : List ℕ). HoldsKeys p b.live) (sym (ap (λ (v : ScanView). v.prefix) is ∙ none)) (record { each = keys_held b.live keys })
 
 -- a scan of the border is at its end after one visit
-module _ (start asked : List ℕ) (limit : ℕ) (b : BorderView) (s t : ScanView) (visited : Visited)
+module _ (start asked : List ℕ) (limit : ℕ) (b : BorderView) (s t : ScanView) (visited : ScanMove)
     (begins : s ≡ record { prefix = []; at = place_of start; taken = []; limit = limit; asked = asked }) (visits : VisitsBorder s b visited t) where
-  whole_visit : Visits (shown asked) limit [] (place_of start) (border_seen b).right (border_seen b).entries [] (outcome_of visited t)
+  whole_visit : BorderVisit (shown asked) limit [] (place_of start) (border_seen b).right (border_seen b).entries [] (outcome_of visited t)
   whole_visit = subst (λ (v : ScanView). VisitsBorder v b visited t) begins visits
 
   pub is_range : (pairs : List Pair) → AreBytes start → length start ≤ 8 → IsBorder b → b.right ≡ None → AreKeyEntries b.live → visited ≡ Done → KeysAreBytes t.taken → pairs ≡ t.taken
@@ -521,16 +521,16 @@ module _ (start asked : List ℕ) (limit : ℕ) (b : BorderView) (s t : ScanView
     alone = alone;
     keys = keys;
     pairs_are_bytes = pairs_are_bytes;
-    visited = subst (λ (v : Visited). Visits (shown asked) limit [] (place_of start) (border_seen b).right (border_seen b).entries [] (outcome_of v t)) done whole_visit;
+    visited = subst (λ (v : ScanMove). BorderVisit (shown asked) limit [] (place_of start) (border_seen b).right (border_seen b).entries [] (outcome_of v t)) done whole_visit;
   })
 
   pub visit_done : b.right ≡ None → AreKeyEntries b.live → visited ≢ Done → ⊥
   visit_done alone keys other =
       let ended = only_answers asked start limit b.live [] (outcome_of visited t) keys
-      (subst (λ (r : Option RightLink). Visits (shown asked) limit [] (place_of start) (option_map right_seen r) (entries_seen b.live) [] (outcome_of visited t)) alone whole_visit) in
+      (subst (λ (r : Option RightLink). BorderVisit (shown asked) limit [] (place_of start) (option_map right_seen r) (entries_seen b.live) [] (outcome_of visited t)) alone whole_visit) in
       go visited other ended.1
     where
-      go : (v : Visited) → v ≢ Done → {all : List Placed} → outcome_of v t ≡ answers all → ⊥
+      go : (v : ScanMove) → v ≢ Done → {all : List Placed} → outcome_of v t ≡ answers all → ⊥
       go Done n e = n refl
       go (To node) n e = absurd (cc)
       go Top n e = absurd (cc)

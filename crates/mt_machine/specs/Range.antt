@@ -5,7 +5,7 @@ use Rattle.mt_types.specs.declared.row.Row.{Row}
 use Rattle.mt_slice.specs.Place.{AreBytes, place_of}
 use Rattle.mt_border.specs.Border.{BorderView}
 use Rattle.mt_border.specs.Order.{IsBorder}
-use Rattle.mt_chart.specs.Scan.{answers, Visits}
+use Rattle.mt_chart.specs.Scan.{answers, BorderVisit}
 use Rattle.mt_chart.specs.KeyAnswer.{as_places, KeysAreBytes}
 use Rattle.mt_tree.specs.Seen.{border_seen}
 use Rattle.mt_machine.specs.Content.{AreKeyEntries}
@@ -18,4 +18,4 @@ pub record IsRangeOf (start asked : List ℕ) (limit : ℕ) (b : BorderView) (pa
   pub alone : b.right ≡ None
   pub keys : AreKeyEntries b.live
   pub pairs_are_bytes : KeysAreBytes pairs
-  pub visited : Visits (shown asked) limit [] (place_of start) (border_seen b).right (border_seen b).entries [] (answers (as_places pairs))
+  pub visited : BorderVisit (shown asked) limit [] (place_of start) (border_seen b).right (border_seen b).entries [] (answers (as_places pairs))

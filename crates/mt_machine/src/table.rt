@@ -15,7 +15,7 @@ use crate::short_key::ShortKey;
 use crate::writing::{hide, prepare, row_of, show, write};
 use mt_border::Border;
 use mt_commit::log::Log;
-use mt_scan::{Scan, Visited};
+use mt_scan::{Scan, ScanMove};
 use mt_types::copying::TryCopy;
 use mt_types::event::Answer;
 use mt_types::key::Key;
@@ -146,7 +146,7 @@ impl Table {
         let mut scan = Scan::new(alloc, start.as_key(), limit, asked.copy(alloc)?)?;
         let _entries = self.border.len();
         match scan.visit(alloc, &self.border)? {
-            Visited::Done => Ok(scan.into_pairs()),
+            ScanMove::Done => Ok(scan.into_pairs()),
             _ => unreachable!(),
         }
     }

@@ -9,7 +9,7 @@ use Rattle.mt_chart.specs.Scan.{AtMost}
 use Rattle.mt_border.specs.Entry.{content_row}
 use Rattle.mt_border.specs.declared.entry.Content.{Content}
 use Rattle.mt_border.specs.declared.entry.Content.TheVariants.{Short, Long, Link}
-use Rattle.mt_scan.specs.Cursor.{Steps, content_end}
+use Rattle.mt_scan.specs.Cursor.{StepsAt, content_end}
 use Rattle.mt_scan.specs.declared.cursor.Step.TheVariants.{Pass, Take}
 
 pub not_less : (x y : Place) → place_cmp x y ≢ Less → AtMost y x
@@ -21,18 +21,18 @@ not_less x y n = go (three x y)
     go (inr (inr h)) = inr h
 
 module _ (at : Place) (slice : ℕ) (order : Ordering) where
-  pub steps-pass : (content : Content) → order ≡ place_cmp (content_end slice content) at → order ≡ Less → Steps at slice content Pass
+  pub steps-pass : (content : Content) → order ≡ place_cmp (content_end slice content) at → order ≡ Less → StepsAt at slice content Pass
   steps-pass (Short bytes row) is e = (place_cmp-Less (last slice bytes) at).0 (sym is ∙ e)
   steps-pass (Long suffix row) is e = (place_cmp-Less (deeper slice (place_of suffix)) at).0 (sym is ∙ e)
   steps-pass (Link top) is e = inr ((place_cmp-Less (last slice 10) at).0 (sym is ∙ e))
 
-  pub steps-take : (content : Content) → order ≡ place_cmp (content_end slice content) at → ((top : NodeNo) → content ≢ Link top) → order ≢ Less → Steps at slice content Take
+  pub steps-take : (content : Content) → order ≡ place_cmp (content_end slice content) at → ((top : NodeNo) → content ≢ Link top) → order ≢ Less → StepsAt at slice content Take
   steps-take (Short bytes row) is no_link n = not_less (last slice bytes) at (λ e. n (is ∙ e))
   steps-take (Long suffix row) is no_link n = not_less (deeper slice (place_of suffix)) at (λ e. n (is ∙ e))
   steps-take (Link top) is no_link n = absurd (no_link top (cc))
 
 -- only a row is taken
-pub takes-row : (at : Place) (slice : ℕ) (content : Content) → Steps at slice content Take → IsSome (content_row content)
+pub takes-row : (at : Place) (slice : ℕ) (content : Content) → StepsAt at slice content Take → IsSome (content_row content)
 takes-row at slice (Short bytes row) takes = refl
 takes-row at slice (Long suffix row) takes = refl
 takes-row at slice (Link top) takes = absurd takes

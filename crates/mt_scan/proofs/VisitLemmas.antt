@@ -13,29 +13,29 @@ use Rattle.mt_border.specs.declared.entry.Content.{Content}
 use Rattle.mt_border.specs.declared.entry.Content.TheVariants.{Short, Long, Link}
 use Rattle.mt_border.specs.declared.entry.Entry.{Entry}
 use Rattle.mt_chart.specs.Tree.{Entry as PlainEntry, Right, Among}
-use Rattle.mt_chart.specs.Scan.{Pair, Outcome, answers, goes, Visits, UpTo}
+use Rattle.mt_chart.specs.Scan.{Pair, VisitOutcome, answers, goes, BorderVisit, UpTo}
 use Rattle.mt_chart.specs.KeyAnswer.{as_places}
 use Rattle.mt_tree.specs.Seen.{content_seen, entry_seen, entries_seen, border_seen, content_place, entry_place}
 use Rattle.mt_scan.proofs.TakenLemmas.{as_places-append, length-as_places}
 use Rattle.std.proofs.lemmas.Bool.Decides.{eqb_tells}
-use Rattle.mt_scan.specs.Cursor.{Steps, entered_at}
-use Rattle.mt_scan.specs.Scan.{ScanView, Takes, HoldsKey, HoldsKeys, outcome_of}
-use Rattle.mt_scan.specs.declared.scan.Visited.TheVariants.{Done, To}
+use Rattle.mt_scan.specs.Cursor.{StepsAt, entered_at}
+use Rattle.mt_scan.specs.Scan.{ScanView, TakesPair, HoldsKey, HoldsKeys, outcome_of}
+use Rattle.mt_scan.specs.declared.scan.ScanMove.TheVariants.{Done, To}
 use Rattle.mt_scan.specs.declared.cursor.Step.TheVariants.{Pass, Take, Enter}
 
 -- the visit of these entries, by a scan that has taken these pairs since it began the visit so
-abbrev pub VisitsOn : ScanView → Option Right → List PlainEntry → List (List ℕ × Row) → Outcome Row → Type 0
-VisitsOn old right entries taken outcome = Visits (shown old.asked) old.limit old.prefix old.at right entries (as_places taken) outcome
+abbrev pub VisitsOn : ScanView → Option Right → List PlainEntry → List (List ℕ × Row) → VisitOutcome Row → Type 0
+VisitsOn old right entries taken outcome = BorderVisit (shown old.asked) old.limit old.prefix old.at right entries (as_places taken) outcome
 
 -- A visit has come to a place: the scan has taken some pairs, and what the visit of the other entries comes to is what the whole
 -- visit comes to.
 pub record Visiting (old now : ScanView) (b : BorderView) (place : ℕ) : Type 0 where
   pub same : now ≡ record old { taken = now.taken }
-  pub onward : (outcome : Outcome Row) → VisitsOn old (border_seen b).right (entries_seen (drop place b.live)) now.taken outcome → VisitsOn old (border_seen b).right (entries_seen b.live) old.taken outcome
+  pub onward : (outcome : VisitOutcome Row) → VisitsOn old (border_seen b).right (entries_seen (drop place b.live)) now.taken outcome → VisitsOn old (border_seen b).right (entries_seen b.live) old.taken outcome
 
 -- ---- one entry
 -- a link that is entered: at the layer's first place, or at the rest of the cursor
-entering : (slice : ℕ) (at : Place) (outcome : Outcome Row) (going : Place → Outcome Row) → Precedes at (last slice 10) → outcome ≡ going (entered_at slice at)
+entering : (slice : ℕ) (at : Place) (outcome : VisitOutcome Row) (going : Place → VisitOutcome Row) → Precedes at (last slice 10) → outcome ≡ going (entered_at slice at)
     → (Precedes at (deeper slice (last 0 0)) × (outcome ≡ going (last 0 0))) ⊎ ((rest : Place) × (at ≡ deeper slice rest) × (outcome ≡ going rest))
 entering slice (last own bytes) outcome going before is = inl (before_layer before, is)
   where
@@ -51,18 +51,18 @@ entering slice (deeper own rest) outcome going before is = elim (eqb_tells own s
     less other (inl h) = inl h
     less other (inr (same, h)) = absurd (other same)
 
-module _ (old : ScanView) (right : Option Right) (taken : List (List ℕ × Row)) (rest : List PlainEntry) (outcome : Outcome Row) where
+module _ (old : ScanView) (right : Option Right) (taken : List (List ℕ × Row)) (rest : List PlainEntry) (outcome : VisitOutcome Row) where
   pub visits-full : (entries : List PlainEntry) → length taken ≡ old.limit → outcome ≡ answers (as_places taken) → VisitsOn old right entries taken outcome
   visits-full [] full is = inl (length-as_places taken ∙ full, is)
   visits-full (entry ∷ entries) full is = inl (length-as_places taken ∙ full, is)
 
-  pub visits-pass : (slice : ℕ) (content : Content) → Steps old.at slice content Pass → VisitsOn old right rest taken outcome
+  pub visits-pass : (slice : ℕ) (content : Content) → StepsAt old.at slice content Pass → VisitsOn old right rest taken outcome
       → VisitsOn old right (record { slice = slice; content = content_seen content } ∷ rest) taken outcome
   visits-pass slice (Short bytes row) passes next = inr (inl (last slice bytes, row, (refl, refl), inl passes, next))
   visits-pass slice (Long suffix row) passes next = inr (inl (deeper slice (place_of suffix), row, (refl, refl), inl passes, next))
   visits-pass slice (Link top) passes next = inr (inr (inr (top.0, refl, inl (passes, next))))
 
-  pub visits-enter : (slice : ℕ) (content : Content) (node : NodeNo) → Steps old.at slice content (Enter node) → outcome ≡ goes (slice ∷ old.prefix) node.0 (entered_at slice old.at) (as_places taken)
+  pub visits-enter : (slice : ℕ) (content : Content) (node : NodeNo) → StepsAt old.at slice content (Enter node) → outcome ≡ goes (slice ∷ old.prefix) node.0 (entered_at slice old.at) (as_places taken)
       → VisitsOn old right (record { slice = slice; content = content_seen content } ∷ rest) taken outcome
   visits-enter slice (Short bytes row) node enters is = absurd enters
   visits-enter slice (Long suffix row) node enters is = absurd enters
@@ -74,16 +74,16 @@ module _ (old : ScanView) (right : Option Right) (taken : List (List ℕ × Row)
             (is ∙ ap (λ (n : NodeNo). goes (slice ∷ old.prefix) n.0 (entered_at slice old.at) (as_places taken)) enters.0)),
       )))
 
-  pub visits-taken : (slice : ℕ) (content : Content) → Steps old.at slice content Take → UpTo (under old.prefix (content_place slice content)) (as_places taken) → VisitsOn old right rest taken outcome
+  pub visits-taken : (slice : ℕ) (content : Content) → StepsAt old.at slice content Take → UpTo (under old.prefix (content_place slice content)) (as_places taken) → VisitsOn old right rest taken outcome
       → VisitsOn old right (record { slice = slice; content = content_seen content } ∷ rest) taken outcome
   visits-taken slice (Short bytes row) takes was next = inr (inl (last slice bytes, row, (refl, refl), inr was, next))
   visits-taken slice (Long suffix row) takes was next = inr (inl (deeper slice (place_of suffix), row, (refl, refl), inr was, next))
   visits-taken slice (Link top) takes was next = absurd takes
 
   taking : (x : Place) (key : List ℕ) (here row : Row) → here ≡ row → place_of key ≡ under old.prefix x → VisitsOn old right rest (taken ++ (key, shown old.asked row) ∷ []) outcome
-      → Visits (shown old.asked) old.limit old.prefix old.at right rest (as_places taken ++ (record { key = under old.prefix x; value = shown old.asked here } ∷ [])) outcome
+      → BorderVisit (shown old.asked) old.limit old.prefix old.at right rest (as_places taken ++ (record { key = under old.prefix x; value = shown old.asked here } ∷ [])) outcome
   taking x key here row is place next =
-      subst (λ (ps : List (Pair Row)). Visits (shown old.asked) old.limit old.prefix old.at right rest ps outcome)
+      subst (λ (ps : List (Pair Row)). BorderVisit (shown old.asked) old.limit old.prefix old.at right rest ps outcome)
       (as_places-append taken ((key, shown old.asked row) ∷ [])
       ∙ ap (λ (k : Place). as_places taken ++ (record { key = k; value = shown old.asked row } ∷ [])) place
       ∙ ap (λ (r : Row). as_places taken ++ (record { key = under old.prefix x; value = shown old.asked r } ∷ [])) (sym is))
@@ -96,7 +96,7 @@ module _ (old : ScanView) (right : Option Right) (taken : List (List ℕ × Row)
   room_left : length taken < old.limit → length (as_places taken) < old.limit
   room_left room = omega (arith, length-as_places taken)
 
-  pub visits-take : (slice : ℕ) (content : Content) (key : List ℕ) (row : Row) → Steps old.at slice content Take → length taken < old.limit
+  pub visits-take : (slice : ℕ) (content : Content) (key : List ℕ) (row : Row) → StepsAt old.at slice content Take → length taken < old.limit
       → content_row content ≡ Some row → place_of key ≡ under old.prefix (content_place slice content)
       → ((pair : Pair Row) → Among pair (as_places taken) → Precedes pair.key (place_of key))
       → VisitsOn old right rest (taken ++ (key, shown old.asked row) ∷ []) outcome
@@ -124,26 +124,26 @@ module _ (old now : ScanView) (b : BorderView) (place : ℕ) (so_far : Visiting 
       (visits-full old (border_seen b).right now.taken [] (outcome_of Done now) (entries_seen (drop place b.live)) (full ∙ ap (λ (s : ScanView). s.limit) so_far.same) refl)
 
   -- an entry is passed
-  pub goes-on : (entry : Entry) → slice_get b.live place ≡ Some entry → Steps now.at entry.slice entry.content Pass → Visiting old now b (place + 1)
+  pub goes-on : (entry : Entry) → slice_get b.live place ≡ Some entry → StepsAt now.at entry.slice entry.content Pass → Visiting old now b (place + 1)
   goes-on entry here step = record {
     same = so_far.same;
     onward = λ outcome next. so_far.onward outcome
         (subst (λ (es : List PlainEntry). VisitsOn old (border_seen b).right es now.taken outcome) (sym (at-entry entry here))
         (visits-pass old (border_seen b).right now.taken (entries_seen (drop (place + 1) b.live)) outcome entry.slice entry.content
-        (subst (λ (s : ScanView). Steps s.at entry.slice entry.content Pass) so_far.same step) next));
+        (subst (λ (s : ScanView). StepsAt s.at entry.slice entry.content Pass) so_far.same step) next));
   }
 
   -- an entry's pair is taken, or was
-  pub goes-on_taking : (entry : Entry) (t : ScanView) → slice_get b.live place ≡ Some entry → Steps now.at entry.slice entry.content Take → length now.taken < now.limit → Takes now entry t → Visiting old t b (place + 1)
+  pub goes-on_taking : (entry : Entry) (t : ScanView) → slice_get b.live place ≡ Some entry → StepsAt now.at entry.slice entry.content Take → length now.taken < now.limit → TakesPair now entry t → Visiting old t b (place + 1)
   goes-on_taking entry t here step room takes = go takes
     where
-      is_step : Steps old.at entry.slice entry.content Take
-      is_step = subst (λ (s : ScanView). Steps s.at entry.slice entry.content Take) so_far.same step
+      is_step : StepsAt old.at entry.slice entry.content Take
+      is_step = subst (λ (s : ScanView). StepsAt s.at entry.slice entry.content Take) so_far.same step
 
-      from : (outcome : Outcome Row) → VisitsOn old (border_seen b).right (entry_seen entry ∷ entries_seen (drop (place + 1) b.live)) now.taken outcome → VisitsOn old (border_seen b).right (entries_seen b.live) old.taken outcome
+      from : (outcome : VisitOutcome Row) → VisitsOn old (border_seen b).right (entry_seen entry ∷ entries_seen (drop (place + 1) b.live)) now.taken outcome → VisitsOn old (border_seen b).right (entries_seen b.live) old.taken outcome
       from outcome next = so_far.onward outcome (subst (λ (es : List PlainEntry). VisitsOn old (border_seen b).right es now.taken outcome) (sym (at-entry entry here)) next)
 
-      go : Takes now entry t → Visiting old t b (place + 1)
+      go : TakesPair now entry t → Visiting old t b (place + 1)
       go (inl (was, is)) = subst (λ (s : ScanView). Visiting old s b (place + 1)) (sym is) (record {
         same = so_far.same;
         onward = λ outcome next. from outcome (visits-taken old (border_seen b).right now.taken (entries_seen (drop (place + 1) b.live)) outcome entry.slice entry.content is_step
@@ -158,14 +158,14 @@ module _ (old now : ScanView) (b : BorderView) (place : ℕ) (so_far : Visiting 
       })
 
   -- a link is entered
-  pub comes-enter : (entry : Entry) (node : NodeNo) (t : ScanView) → slice_get b.live place ≡ Some entry → Steps now.at entry.slice entry.content (Enter node)
+  pub comes-enter : (entry : Entry) (node : NodeNo) (t : ScanView) → slice_get b.live place ≡ Some entry → StepsAt now.at entry.slice entry.content (Enter node)
       → t ≡ record now { prefix = entry.slice ∷ now.prefix; at = entered_at entry.slice now.at }
       → VisitsOn old (border_seen b).right (entries_seen b.live) old.taken (outcome_of (To node) t)
   comes-enter entry node t here step is =
       so_far.onward (outcome_of (To node) t)
       (subst (λ (es : List PlainEntry). VisitsOn old (border_seen b).right es now.taken (outcome_of (To node) t)) (sym (at-entry entry here))
       (visits-enter old (border_seen b).right now.taken (entries_seen (drop (place + 1) b.live)) (outcome_of (To node) t) entry.slice entry.content node
-      (subst (λ (s : ScanView). Steps s.at entry.slice entry.content (Enter node)) so_far.same step)
+      (subst (λ (s : ScanView). StepsAt s.at entry.slice entry.content (Enter node)) so_far.same step)
       (ap (outcome_of (To node)) is ∙ ap (λ (s : ScanView). goes (entry.slice ∷ s.prefix) node.0 (entered_at entry.slice s.at) (as_places now.taken)) so_far.same)))
 
   -- the entry's row is that of a key

@@ -21,7 +21,11 @@ place_from class (slice ∷ (next ∷ slices)) = deeper slice (place_from class 
 
 -- the cursor of these slices, from layer 0 on, in the layer of this number
 abbrev pub cursor_view : List ℕ → ℕ → ℕ → CursorView
-cursor_view slices class depth = record { prefix = reverse (take depth slices); at = place_from class (drop depth slices) }
+cursor_view slices class depth = record {
+  prefix = reverse (take depth slices);
+  at = place_from class
+      (drop depth slices);
+}
 
 -- the layer is one of the cursor's, and its class is a number of bytes, or 10 behind all keys that go on
 pub record IsCursor (slices : List ℕ) (class depth : ℕ) : Type 0 where
@@ -52,15 +56,16 @@ content_end slice (Link top) = last slice 10
 
 -- behind all that begins with the prefix of its layer, and back in layer 0; or in layer 0 as it was
 abbrev pub Leaves : CursorView → Bool → CursorView → Type 0
-Leaves c true d = (slice : ℕ) × (above : List ℕ) × (c.prefix ≡ slice ∷ above) × (d ≡ record { prefix = []; at = under above (last slice 10) })
+Leaves c true d = (slice : ℕ) × (above : List ℕ) × (c.prefix ≡ slice ∷ above)
+    × (d ≡ record { prefix = []; at = under above (last slice 10) })
 Leaves c false d = (c.prefix ≡ []) × (d ≡ c)
 
 -- What a scan at a place does at an entry: it passes a row whose key is before that place, and takes it otherwise; it
 -- passes a link of which all is before that place, and enters it otherwise.
-abbrev pub Steps : Place → ℕ → Content → Step → Type 0
-Steps at slice (Link top) Pass = AtMost (last slice 10) at
-Steps at slice (Link top) Take = ⊥
-Steps at slice (Link top) (Enter node) = (node ≡ top) × Precedes at (last slice 10)
-Steps at slice content Pass = Precedes (content_place slice content) at
-Steps at slice content Take = AtMost at (content_place slice content)
-Steps at slice content (Enter node) = ⊥
+abbrev pub StepsAt : Place → ℕ → Content → Step → Type 0
+StepsAt at slice (Link top) Pass = AtMost (last slice 10) at
+StepsAt at slice (Link top) Take = ⊥
+StepsAt at slice (Link top) (Enter node) = (node ≡ top) × Precedes at (last slice 10)
+StepsAt at slice content Pass = Precedes (content_place slice content) at
+StepsAt at slice content Take = AtMost at (content_place slice content)
+StepsAt at slice content (Enter node) = ⊥

@@ -19,8 +19,10 @@ place_back (last slice class) = refl
 place_back (deeper slice rest) = ap (deeper slice) (place_back rest)
 
 abbrev pub place_code : Coded Place
-place_code = code_by (List ℕ × (ℕ × ℕ)) (coded× (coded_list coded_ℕ) (coded× coded_ℕ coded_ℕ)) parts (λ p. place p.0 p.1) place_back
+place_code = code_by (List ℕ × (ℕ × ℕ)) (coded× (coded_list coded_ℕ) (coded× coded_ℕ coded_ℕ)) parts
+    (λ p. place p.0 p.1) place_back
 
 -- a cursor is stored as its fields
 abbrev pub cursor_code : Coded CursorView
-cursor_code = code_by (List ℕ × Place) (coded× (coded_list coded_ℕ) place_code) (λ c. (c.prefix, c.at)) (λ p. record { prefix = p.0; at = p.1 }) (λ _. refl)
+cursor_code = code_by (List ℕ × Place) (coded× (coded_list coded_ℕ) place_code) (λ c. (c.prefix, c.at))
+    (λ p. record { prefix = p.0; at = p.1 }) (λ _. refl)

@@ -8,11 +8,11 @@ use Rattle.mt_border.specs.Border.{BorderView}
 use Rattle.mt_border.specs.Entry.{entry_row}
 use Rattle.mt_border.specs.declared.entry.Entry.{Entry}
 use Rattle.mt_chart.specs.Tree.{Among}
-use Rattle.mt_chart.specs.Scan.{Pair, Rising, UpTo, Outcome, answers, goes, Visits}
+use Rattle.mt_chart.specs.Scan.{Pair, Rising, UpTo, VisitOutcome, answers, goes, BorderVisit}
 use Rattle.mt_chart.specs.KeyAnswer.{as_places, KeysAreBytes}
 use Rattle.mt_tree.specs.Seen.{entry_place, border_seen}
-use Rattle.mt_scan.specs.declared.scan.Visited.{Visited}
-use Rattle.mt_scan.specs.declared.scan.Visited.TheVariants.{Done, To, Top}
+use Rattle.mt_scan.specs.declared.scan.ScanMove.{ScanMove}
+use Rattle.mt_scan.specs.declared.scan.ScanMove.TheVariants.{Done, To, Top}
 
 pub record ScanView : Type 0 where
   pub prefix : List ℕ  -- the slices above the layer in which it stands, the nearest first
@@ -39,19 +39,20 @@ pub record HoldsKeys (prefix : List ℕ) (live : List Entry) : Type 0 where
   pub each : All (λ entry. IsSome (entry_row entry) → HoldsKey prefix entry) live
 
 -- what a visit comes to, where it leaves the scan so
-abbrev pub outcome_of : Visited → ScanView → Outcome Row
+abbrev pub outcome_of : ScanMove → ScanView → VisitOutcome Row
 outcome_of Done s = answers (as_places s.taken)
 outcome_of (To node) s = goes s.prefix node.0 s.at (as_places s.taken)
 outcome_of Top s = goes [] 0 s.at (as_places s.taken)
 
 -- the visit of a border by a scan, which leaves it so
-abbrev pub VisitsBorder : ScanView → BorderView → Visited → ScanView → Type 0
+abbrev pub VisitsBorder : ScanView → BorderView → ScanMove → ScanView → Type 0
 VisitsBorder s b visited t =
-    Visits (shown s.asked) s.limit s.prefix s.at (border_seen b).right (border_seen b).entries (as_places s.taken) (outcome_of visited t)
+    BorderVisit (shown s.asked) s.limit s.prefix s.at (border_seen b).right (border_seen b).entries (as_places s.taken)
+    (outcome_of visited t)
 
 -- the key was taken, or one after it
-abbrev pub IsTaken : ScanView → Place → Type 0
-IsTaken s key = UpTo key (as_places s.taken)
+abbrev pub WasTaken : ScanView → Place → Type 0
+WasTaken s key = UpTo key (as_places s.taken)
 
 -- the key is after all that were taken
 abbrev pub IsNext : ScanView → Place → Type 0
@@ -62,8 +63,9 @@ abbrev pub with_pair : ScanView → List ℕ → Row → ScanView
 with_pair s key row = record s { taken = s.taken ++ (key, shown s.asked row) ∷ [] }
 
 -- the scan takes the entry's pair, or passes it where it is not after those that it took
-abbrev pub Takes : ScanView → Entry → ScanView → Type 0
-Takes s entry t =
-    (IsTaken s (under s.prefix (entry_place entry)) × (t ≡ s))
-    ⊎ ((key : List ℕ) × (row : Row) × (entry_row entry ≡ Some row) × (place_of key ≡ under s.prefix (entry_place entry)) × IsNext s (place_of key)
+abbrev pub TakesPair : ScanView → Entry → ScanView → Type 0
+TakesPair s entry t =
+    (WasTaken s (under s.prefix (entry_place entry)) × (t ≡ s))
+    ⊎ ((key : List ℕ) × (row : Row) × (entry_row entry ≡ Some row) × (place_of key ≡ under s.prefix (entry_place entry))
+    × IsNext s (place_of key)
     × (t ≡ with_pair s key row))

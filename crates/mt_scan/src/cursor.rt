@@ -2,7 +2,7 @@
 
 ghost use Rattle.std.specs.Prelude.{◌≡◌, ◌<◌, ◌≤◌, ◌≢◌, ◌∷◌, ◌++◌, [], length, vec_len, take, reverse, IfOk, OnOk};
 ghost use Rattle.mt_slice.specs.Place.{last, under, place_of, place_cmp, first_slice};
-ghost use Rattle.mt_scan.specs.Cursor.{Steps, Leaves, is_inside, entered_at, place_from, place_with, content_end};
+ghost use Rattle.mt_scan.specs.Cursor.{StepsAt, Leaves, is_inside, entered_at, place_from, place_with, content_end};
 
 use mt_border::{Content, Entry};
 use mt_slice::{SLICE_BYTES, key_bytes, rest_of, slice_of};
@@ -139,7 +139,7 @@ impl Cursor {
 
     /// What the scan does at an entry. Costs a look at each slice of the cursor at most.
     pub(crate) fn step(&self, entry: &Entry) -> Step
-        ensures { Steps self.now.at entry.now.slice entry.now.content result }
+        ensures { StepsAt self.now.at entry.now.slice entry.now.content result }
     {
         match (&entry.content, self.compare(entry)) {
             (Content::Link(head), Ordering::Greater) => Step::Enter(*head),
@@ -168,7 +168,10 @@ impl Cursor {
     /// Into the layer below a slice: to the rest of its place, if that is there, or to the layer's first place. Costs
     /// at most one allocation.
     pub(crate) fn enter(&mut self, slice: u64) -> Result<(), NoMemory>
-        ensures { OnOk result (self.new ≡ record { prefix = slice ∷ self.old.prefix; at = entered_at slice self.old.at }) }
+        ensures { OnOk result (self.new ≡ record {
+          prefix = slice ∷ self.old.prefix;
+          at = entered_at slice self.old.at;
+        }) }
     {
         if self.is_inside(slice) {
             self.depth += 1;

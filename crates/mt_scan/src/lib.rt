@@ -6,7 +6,7 @@ mod pair;
 mod scan;
 
 pub use pair::shown;
-pub use scan::{Scan, Visited};
+pub use scan::{Scan, ScanMove};
 
 #[cfg(test)]
 mod tests;

@@ -6,8 +6,8 @@ ghost use Rattle.mt_border.specs.Entry.{entry_row};
 ghost use Rattle.mt_chart.specs.Scan.{AtEnd};
 ghost use Rattle.mt_chart.specs.KeyAnswer.{as_places, KeysAreBytes};
 ghost use Rattle.mt_tree.specs.Seen.{right_seen};
-ghost use Rattle.mt_scan.specs.Cursor.{Steps, entered_at};
-ghost use Rattle.mt_scan.specs.Scan.{HoldsKey, HoldsKeys, Takes, IsTaken, IsNext, VisitsBorder, outcome_of};
+ghost use Rattle.mt_scan.specs.Cursor.{StepsAt, entered_at};
+ghost use Rattle.mt_scan.specs.Scan.{HoldsKey, HoldsKeys, TakesPair, WasTaken, IsNext, VisitsBorder, outcome_of};
 
 use crate::cursor::{Cursor, Step};
 use crate::pair::{key_of, row_of, shown};
@@ -24,7 +24,7 @@ use std::mem;
 
 /// What the visit of a border comes to.
 #[derive(Clone, Copy, Debug, PartialEq, Eq)]
-pub enum Visited {
+pub enum ScanMove {
     /// The scan is at its end.
     Done,
     /// It goes on at this node.
@@ -55,9 +55,21 @@ impl Model for Scan {
 
     ghost use Rattle.mt_scan.specs.Scan.{IsScan};
 
-    ghost view = { λ s. record { prefix = s.cursor.prefix; at = s.cursor.at; taken = s.taken.items; limit = s.limit; asked = s.columns } };
+    ghost view = { λ s. record {
+      prefix = s.cursor.prefix;
+      at = s.cursor.at;
+      taken = s.taken.items;
+      limit = s.limit;
+      asked = s.columns;
+    } };
 
-    ghost invariant = { λ s. IsScan (record { prefix = s.cursor.prefix; at = s.cursor.at; taken = s.taken.items; limit = s.limit; asked = s.columns }) };
+    ghost invariant = { λ s. IsScan (record {
+      prefix = s.cursor.prefix;
+      at = s.cursor.at;
+      taken = s.taken.items;
+      limit = s.limit;
+      asked = s.columns;
+    }) };
 }
 
 impl Scan {
@@ -73,7 +85,13 @@ impl Scan {
         limit: u16,
         columns: ColumnNumbers,
     ) -> Result<Scan, NoMemory>
-        ensures { IfOk result (λ scan. scan ≡ record { prefix = []; at = place_of start.now; taken = []; limit = limit; asked = columns }) }
+        ensures { IfOk result (λ scan. scan ≡ record {
+          prefix = [];
+          at = place_of start.now;
+          taken = [];
+          limit = limit;
+          asked = columns;
+        }) }
     {
         Ok(Scan {
             cursor: Cursor::new(alloc, start)?,
@@ -108,7 +126,7 @@ impl Scan {
 
     // Whether a key is not after the last that was taken.
     fn is_taken(&self, key: &Key) -> bool
-        ensures taken { IsTrue result → IsTaken self.now (place_of key.now) }
+        ensures taken { IsTrue result → WasTaken self.now (place_of key.now) }
         ensures next { IsFalse result → IsNext self.now (place_of key.now) }
     {
         match self.taken.last() {
@@ -122,7 +140,7 @@ impl Scan {
         requires room { length self.old.taken < self.old.limit }
         requires row { IsSome (entry_row entry.now) }
         requires key { HoldsKey self.old.prefix entry.now }
-        ensures taken { OnOk result (Takes self.old entry.now self.new) }
+        ensures taken { OnOk result (TakesPair self.old entry.now self.new) }
         ensures limit { self.new.limit ≡ self.old.limit }
         ensures asked { self.new.asked ≡ self.old.asked }
     {
@@ -136,7 +154,10 @@ impl Scan {
 
     // Goes into the layer below a slice.
     fn enter(&mut self, slice: u64) -> Result<(), NoMemory>
-        ensures entered { OnOk result (self.new ≡ record self.old { prefix = slice ∷ self.old.prefix; at = entered_at slice self.old.at }) }
+        ensures entered { OnOk result (self.new ≡ record self.old {
+          prefix = slice ∷ self.old.prefix;
+          at = entered_at slice self.old.at;
+        }) }
         ensures limit { self.new.limit ≡ self.old.limit }
         ensures asked { self.new.asked ≡ self.old.asked }
     {
@@ -145,51 +166,53 @@ impl Scan {
 
     // What the scan does at an entry.
     fn step(&self, entry: &Entry) -> Step
-        ensures { Steps self.now.at entry.now.slice entry.now.content result }
+        ensures { StepsAt self.now.at entry.now.slice entry.now.content result }
     {
         self.cursor.step(entry)
     }
 
     // Leaves a border at its end: to its right neighbour, or else out of the layer.
-    fn leave(&mut self, right: Option<RightLink>) -> Visited
-        ensures left { AtEnd self.old.prefix (option_map right_seen right) (as_places self.old.taken) (outcome_of result self.new) }
+    fn leave(&mut self, right: Option<RightLink>) -> ScanMove
+        ensures left { AtEnd self.old.prefix (option_map right_seen right) (as_places self.old.taken)
+            (outcome_of result self.new) }
         ensures kept { self.new ≡ record self.old { prefix = self.new.prefix; at = self.new.at } }
-        ensures home { result ≡ Visited.Top → self.new.prefix ≡ [] }
+        ensures home { result ≡ ScanMove.Top → self.new.prefix ≡ [] }
     {
         if let Some(link) = right {
             self.cursor.go_to(link.low, 0);
-            return Visited::To(link.node);
+            return ScanMove::To(link.node);
         }
         if self.cursor.leave() {
-            Visited::Top
+            ScanMove::Top
         } else {
-            Visited::Done
+            ScanMove::Done
         }
     }
 
-    /// Visits a border of the layer in which the scan stands: takes the pairs that are at or after the cursor, in their
-    /// order, up to the limit, up to the first link that it has to enter, or to the border's end. The scan is then at its
-    /// end, or it goes on at the head of the link's layer, at the border to the right, or at the head of layer 0, and its
-    /// cursor is behind all that it has done. Where it has as many pairs as it may take, it is at its end at once.
+    /// Visits a border of the layer in which the scan stands: takes the pairs that are at or after the cursor, in
+    /// their order, up to the limit, up to the first link that it has to enter, or to the border's end. The scan is
+    /// then at its end, or it goes on at the head of the link's layer, at the border to the right, or at the head of
+    /// layer 0, and its cursor is behind all that it has done. Where it has as many pairs as it may take, it is at
+    /// its end at once.
     ///
-    /// Costs a look at each entry up to there, and for each pair that it takes the allocations of its key and its row. The
-    /// bytes of the columns are shared.
+    /// Costs a look at each entry up to there, and for each pair that it takes the allocations of its key and its
+    /// row. The bytes of the columns are shared.
     ///
     /// # Errors
     ///
     /// `NoMemory` where an allocation is refused. The call is then to be refused too: of what the scan has done of the
     /// visit, no more is said than that its limit and its columns stay.
-    pub fn visit(&mut self, alloc: Global, border: &Border) -> Result<Visited, NoMemory>
+    pub fn visit(&mut self, alloc: Global, border: &Border) -> Result<ScanMove, NoMemory>
         requires { HoldsKeys self.old.prefix border.now.live }
         ensures visited { IfOk result (λ visited. VisitsBorder self.old border.now visited self.new) }
-        ensures full { IfOk result (λ visited. length self.new.taken ≡ self.old.limit → visited ≡ Visited.Done) }
-        ensures home { IfOk result (λ visited. visited ≡ Visited.Top → self.new.prefix ≡ []) }
+        ensures full { IfOk result (λ visited. length self.new.taken ≡ self.old.limit → visited ≡ ScanMove.Done) }
+        ensures home { IfOk result (λ visited. visited ≡ ScanMove.Top → self.new.prefix ≡ []) }
         ensures limit { self.new.limit ≡ self.old.limit }
         ensures asked { self.new.asked ≡ self.old.asked }
     {
         for place in 0..border.len() {
             if self.is_full() {
-                return Ok(Visited::Done);
+                return Ok(ScanMove::Done);
             }
             let entry = border.entry(place);
             match self.step(entry) {
@@ -197,12 +220,12 @@ impl Scan {
                 Step::Take => self.take(alloc, entry)?,
                 Step::Enter(head) => {
                     self.enter(entry.slice)?;
-                    return Ok(Visited::To(head));
+                    return Ok(ScanMove::To(head));
                 }
             }
         }
         if self.is_full() {
-            return Ok(Visited::Done);
+            return Ok(ScanMove::Done);
         }
         Ok(self.leave(border.right()))
     }

@@ -1,5 +1,5 @@
-//! Each public call once: a scan over borders with no entries, and a row that is shown. What a scan takes of entries is said
-//! by its contract in full.
+//! Each public call once: a scan over borders with no entries, and a row that is shown. What a scan takes of entries
+//! is said by its contract in full.
 
 use super::*;
 use bytes::Bytes;
@@ -21,12 +21,12 @@ fn empty_borders(rt: HostRuntime) -> Result<(), Fail> {
         low: 0x6300_0000_0000_0000,
         node: NodeNo(3),
     }));
-    assert_eq!(rt; scan.visit(alloc, &border)?, Visited::To(NodeNo(3)));
+    assert_eq!(rt; scan.visit(alloc, &border)?, ScanMove::To(NodeNo(3)));
     assert_eq!(rt; scan.slice(), 0x6300_0000_0000_0000);
     scan.restart();
     assert_eq!(rt; scan.slice(), 0x6300_0000_0000_0000);
     border.set_right(None);
-    assert_eq!(rt; scan.visit(alloc, &border)?, Visited::Done);
+    assert_eq!(rt; scan.visit(alloc, &border)?, ScanMove::Done);
     assert_eq!(rt; scan.into_pairs().as_slice().len(), 0);
     Ok(())
 }

@@ -6,7 +6,7 @@ use Rattle.mt_chart.specs.TreeLaws.{EndsBy}
 use Rattle.mt_chart.proofs.MarkedHeads.{marked_layers}
 use Rattle.mt_chart.proofs.Roots.{root_of_split as plain_root_of_split}
 use Rattle.mt_tree.specs.Seen.{arena_seen, node_seen, head_seen}
-use Rattle.mt_tree.specs.HeadSteps.{RootOfASplitIsIt, HeadOfAPostingIsAlive}
+use Rattle.mt_tree.specs.HeadSteps.{HeadNamesTheSplit, HeadOfAPostingIsAlive}
 use Rattle.mt_tree.proofs.SeenLemmas.{seen-head}
 use Rattle.mt_tree.proofs.InteriorPlaces.{is_on_as}
 
@@ -14,7 +14,7 @@ use Rattle.mt_tree.proofs.InteriorPlaces.{is_on_as}
 ends_by : (a : ArenaView) → IsArena a → EndsBy (arena_seen a) 1048576
 ends_by a sound number past = ap (option_map node_seen) (sound.below.each number past)
 
-pub root_of_split : RootOfASplitIsIt
+pub root_of_split : HeadNamesTheSplit
 root_of_split a now twins chart number split_number prefix head split sound index on_head is_head is_split stands no_higher =
     let w = is_on_as a split_number split is_split now twins chart index prefix stands in
     plain_root_of_split now 1048576 twins (arena_seen a) chart index (ends_by a sound) number prefix (head_seen head) on_head (seen-head a number head is_head)

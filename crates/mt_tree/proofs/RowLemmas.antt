@@ -27,7 +27,7 @@ use Rattle.mt_chart.specs.Tree.{Entry as PlainEntry}
 use Rattle.mt_chart.specs.TreeLaws.{HasEntry, GoesOnAtALink}
 use Rattle.mt_chart.proofs.TreeLemmas.{at_their_places}
 use Rattle.mt_tree.specs.Seen.{arena_seen, border_seen, entry_seen, content_seen, content_place}
-use Rattle.mt_tree.specs.Descent.{found_for, row_found, IsLast, StandsAt, TellsRow}
+use Rattle.mt_tree.specs.Descent.{found_for, row_found, IsLast, IsFoundAt, TellsRow}
 use Rattle.mt_tree.proofs.SeenLemmas.{among_map, among_unmap}
 use Rattle.mt_tree.proofs.FoundLemmas.{found_among, found_one, all_among}
 use Rattle.mt_tree.proofs.DescentLemmas.{rank_tells, slice_of_place, class_long, link_found}
@@ -235,7 +235,7 @@ module _ (b : BorderView) (sound : IsBorder b) (rest : List ℕ) where
           by_rank true g = absurd (content_not entry.content g)
           by_rank false g = let same : at_place ≡ place = cc in omega (arith, same, few)
 
-  stands_at : (found : Found) → found_for rest b.live ≡ found → StandsAt rest b.live found
+  stands_at : (found : Found) → found_for rest b.live ≡ found → IsFoundAt rest b.live found
   stands_at (Absent place) e = absent_within place e
   stands_at (RowFound place) e =
       let f = found_one (slice_number rest) (class_of (length rest)) (drop 8 rest) b.live (RowFound place) e (λ k clash. cc) in
@@ -272,5 +272,5 @@ module _ (b : BorderView) (sound : IsBorder b) (rest : List ℕ) where
       let here = link_place (drop 8 rest) at_place place top f.entry.content f.is in
       stands_dropped place b.live f.entry f.more (subst (λ (k : ℕ). drop k b.live ≡ f.entry ∷ f.more) here f.starts) ∙ ap Some (entry_is f.entry (slice_number rest) (Link top) slices is)
 
-pub found_stands : (a : ArenaView) (number : ℕ) (rest : List ℕ) (b : BorderView) → border_at a.nodes number ≡ Some b → IsBorder b → IsSomeAnd (border_at a.nodes number) (λ x. StandsAt rest x.live (found_for rest b.live))
+pub found_stands : (a : ArenaView) (number : ℕ) (rest : List ℕ) (b : BorderView) → border_at a.nodes number ≡ Some b → IsBorder b → IsSomeAnd (border_at a.nodes number) (λ x. IsFoundAt rest x.live (found_for rest b.live))
 found_stands a number rest b named sound = rw named (stands_at b sound rest (found_for rest b.live) refl)

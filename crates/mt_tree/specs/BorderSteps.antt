@@ -18,9 +18,9 @@ use Rattle.mt_chart.specs.Steps.{Twin, AreTwins}
 use Rattle.mt_tree.specs.Seen.{entry_place}
 use Rattle.mt_tree.specs.Keeping.{IsOnIn, KeepsAlong, AddsRow, RemovesRow, ReplacesRow}
 
--- A ROW IS SHOWN. The border has room, its first unused slot holds a row, and once that is live at the place, the border is in order and in its
--- interval.
-pub record MayShow (b : BorderView) (place version : ℕ) : Type 0 where
+-- A ROW IS SHOWN. The border has room, its first unused slot holds a row, and once that is live at the place, the
+-- border is in order and in its interval.
+pub record MayShowAt (b : BorderView) (place version : ℕ) : Type 0 where
   pub room : length b.live < SLOTS
   pub within : place ≤ length b.live
   pub row : IsSome (next_row b.unused)
@@ -28,7 +28,8 @@ pub record MayShow (b : BorderView) (place version : ℕ) : Type 0 where
 
 -- the row that the border's first unused slot holds comes to stand at its place, made by the commit of this number
 pub record ShowsNext (a after : ArenaView) (number version : ℕ) : Type 0 where
-  pub shows : (b : BorderView) (slot : Slot) (slots : List Slot) (row : Row) → border_at a.nodes number ≡ Some b → b.unused ≡ slot ∷ slots → entry_row slot.entry ≡ Some row →
+  pub shows : (b : BorderView) (slot : Slot) (slots : List Slot) (row : Row) → border_at a.nodes number ≡ Some b →
+      b.unused ≡ slot ∷ slots → entry_row slot.entry ≡ Some row →
       AddsRow a after number (entry_place slot.entry) (record row { version = version })
 
 -- A ROW IS HIDDEN OR REPLACED. The entry at the place of the border has a row.
@@ -38,14 +39,16 @@ pub record HasRowAt (b : BorderView) (place : ℕ) : Type 0 where
 
 -- the row of the entry at the border's place is no longer there
 pub record HidesRowAt (a after : ArenaView) (number place : ℕ) : Type 0 where
-  pub hides : (b : BorderView) (entry : Entry) → border_at a.nodes number ≡ Some b → slice_get b.live place ≡ Some entry → RemovesRow a after number (entry_place entry)
+  pub hides : (b : BorderView) (entry : Entry) → border_at a.nodes number ≡ Some b →
+      slice_get b.live place ≡ Some entry → RemovesRow a after number (entry_place entry)
 
 -- another row stands where the row of the entry at the border's place did
 pub record SetsRowAt (a after : ArenaView) (number place : ℕ) (row : Row) : Type 0 where
-  pub sets : (b : BorderView) (entry : Entry) → border_at a.nodes number ≡ Some b → slice_get b.live place ≡ Some entry → ReplacesRow a after number (entry_place entry) row
+  pub sets : (b : BorderView) (entry : Entry) → border_at a.nodes number ≡ Some b →
+      slice_get b.live place ≡ Some entry → ReplacesRow a after number (entry_place entry) row
 
--- A HALF IS LINKED. The second border is filled with the upper entries of the first, those from the place `keep` on, and is to stand
--- between it and its right neighbour.
+-- A HALF IS LINKED. The second border is filled with the upper entries of the first, those from the place `keep` on,
+-- and is to stand between it and its right neighbour.
 pub record IsUpperHalf (b half : BorderView) (keep : ℕ) : Type 0 where
   pub within : keep ≤ length b.live
   pub upper : half.live ≡ drop keep b.live
@@ -54,21 +57,24 @@ pub record IsUpperHalf (b half : BorderView) (keep : ℕ) : Type 0 where
   pub above_kept : AreBelow half.low (take keep b.live)
   pub unspent : b.version.vsplit < 2 ^ 64 - 1
 
--- the chart then: the border is on, in some layer, whose head is not marked deleted where it names the border; the half, of this low, was unknown,
--- and is on in that layer from then on, but no head or interior may name it
+-- the chart then: the border is on, in some layer, whose head is not marked deleted where it names the border; the
+-- half, of this low, was unknown, and is on in that layer from then on, but no head or interior may name it
 pub record ChartsHalf (a : ArenaView) (number half low : ℕ) (chart next : Chart) : Type 0 where
   pub prefix : List ℕ
   pub stands : IsOnIn chart number prefix
   pub unknown : chart half ≡ None
   pub charted : Changes chart next half (Some (spot (at_level 0) prefix low (on false)))
-  pub head_alive : (head_number : ℕ) (head : HeadView) → OnHead chart head_number prefix → head_at a.nodes head_number ≡ Some head → head.root.0 ≡ number → head.version.deleted ≡ false
+  pub head_alive : (head_number : ℕ) (head : HeadView) → OnHead chart head_number prefix →
+      head_at a.nodes head_number ≡ Some head → head.root.0 ≡ number → head.version.deleted ≡ false
 
 -- the half is linked: the tree is an index at that next chart, with the same rows
 pub record LinksHalfAt (a after : ArenaView) (number half : ℕ) : Type 0 where
-  pub links : (upper : BorderView) → border_at a.nodes half ≡ Some upper → KeepsAlong a after (λ now twins chart next. ChartsHalf a number half upper.low chart next)
+  pub links : (upper : BorderView) → border_at a.nodes half ≡ Some upper →
+      KeepsAlong a after (λ now twins chart next. ChartsHalf a number half upper.low chart next)
 
--- A LAYER IS MADE. The entry at the place of a border is of a longer key, with this suffix and row; the head names, at level 0, a border that is not
--- marked deleted, from low 0 on and with nothing to its right, and that has the same row alone, at the place of the suffix.
+-- A LAYER IS MADE. The entry at the place of a border is of a longer key, with this suffix and row; the head names, at
+-- level 0, a border that is not marked deleted, from low 0 on and with nothing to its right, and that has the same row
+-- alone, at the place of the suffix.
 pub record HasLayerFor (nodes : Nodes) (b : BorderView) (place head : ℕ) : Type 0 where
   pub slice : ℕ
   pub suffix : List ℕ
@@ -87,7 +93,8 @@ pub record HasLayerFor (nodes : Nodes) (b : BorderView) (place head : ℕ) : Typ
   pub same_row : entry_row entry ≡ Some row
   pub same_place : entry_place entry ≡ place_of suffix
 
--- the chart then: the border is on, in some layer; the head and its root were unknown, and are on from then on, in the layer below this slice
+-- the chart then: the border is on, in some layer; the head and its root were unknown, and are on from then on, in the
+-- layer below this slice
 pub record ChartsLayer (number head root slice : ℕ) (chart next : Chart) : Type 0 where
   pub prefix : List ℕ
   pub stands : IsOnIn chart number prefix
@@ -99,7 +106,8 @@ pub record ChartsLayer (number head root slice : ℕ) (chart next : Chart) : Typ
 
 -- the layer is made: the tree is an index at that next chart, with the same rows
 pub record MakesLayerAt (a after : ArenaView) (number place head : ℕ) : Type 0 where
-  pub makes : (b : BorderView) (entry : Entry) (layer_head : HeadView) → border_at a.nodes number ≡ Some b → slice_get b.live place ≡ Some entry → head_at a.nodes head ≡ Some layer_head →
+  pub makes : (b : BorderView) (entry : Entry) (layer_head : HeadView) → border_at a.nodes number ≡ Some b →
+      slice_get b.live place ≡ Some entry → head_at a.nodes head ≡ Some layer_head →
       KeepsAlong a after (λ now twins chart next. ChartsLayer number head layer_head.root.0 entry.slice chart next)
 
 -- A BORDER IS UNLINKED. The first border's right link names the second, which is marked deleted.
@@ -107,7 +115,8 @@ pub record IsMarkedRight (b right : BorderView) (number : NodeNo) : Type 0 where
   pub named : b.right ≡ Some (record { low = right.low; node = number })
   pub marked : right.version.deleted ≡ true
 
--- the chart then: the border is on, in some layer; the other, of this low, was in that layer, no head or interior might name it, and it goes now
+-- the chart then: the border is on, in some layer; the other, of this low, was in that layer, no head or interior might
+-- name it, and it goes now
 pub record ChartsUnlinked (now number other low : ℕ) (chart next : Chart) : Type 0 where
   pub prefix : List ℕ
   pub stands : IsOnIn chart number prefix
@@ -116,10 +125,11 @@ pub record ChartsUnlinked (now number other low : ℕ) (chart next : Chart) : Ty
 
 -- the border is unlinked: the tree is an index at that next chart, with the same rows
 pub record UnlinksAt (a after : ArenaView) (number other : ℕ) : Type 0 where
-  pub unlinks : (right : BorderView) → border_at a.nodes other ≡ Some right → KeepsAlong a after (λ now twins chart next. ChartsUnlinked now number other right.low chart next)
+  pub unlinks : (right : BorderView) → border_at a.nodes other ≡ Some right →
+      KeepsAlong a after (λ now twins chart next. ChartsUnlinked now number other right.low chart next)
 
--- A LAYER IS DROPPED. The entry at the place of a border is a link to this head; the head is marked deleted, and so is its root, a border with nothing
--- to its right.
+-- A LAYER IS DROPPED. The entry at the place of a border is a link to this head; the head is marked deleted, and so is
+-- its root, a border with nothing to its right.
 pub record HasMarkedLayerAt (nodes : Nodes) (b : BorderView) (place : ℕ) : Type 0 where
   pub slice : ℕ
   pub head : NodeNo
@@ -132,7 +142,8 @@ pub record HasMarkedLayerAt (nodes : Nodes) (b : BorderView) (place : ℕ) : Typ
   pub root_marked : layer_root.version.deleted ≡ true
   pub right : layer_root.right ≡ None
 
--- the chart then: the border is on, in some layer; the head of the layer below this slice and its root go now, and the head is no twin
+-- the chart then: the border is on, in some layer; the head of the layer below this slice and its root go now, and the
+-- head is no twin
 pub record ChartsDropped (now number head root slice : ℕ) (twins : List Twin) (chart next : Chart) : Type 0 where
   pub prefix : List ℕ
   pub stands : IsOnIn chart number prefix
@@ -143,5 +154,7 @@ pub record ChartsDropped (now number head root slice : ℕ) (twins : List Twin) 
 
 -- the layer is dropped: the tree is an index at that next chart, with the same rows
 pub record DropsLayerAt (a after : ArenaView) (number place : ℕ) : Type 0 where
-  pub drops : (b : BorderView) (slice : ℕ) (head : NodeNo) (layer_head : HeadView) → border_at a.nodes number ≡ Some b → slice_get b.live place ≡ Some (record { slice = slice; content = Link head }) →
-      head_at a.nodes head.0 ≡ Some layer_head → KeepsAlong a after (λ now twins chart next. ChartsDropped now number head.0 layer_head.root.0 slice twins chart next)
+  pub drops : (b : BorderView) (slice : ℕ) (head : NodeNo) (layer_head : HeadView) → border_at a.nodes number ≡ Some b →
+      slice_get b.live place ≡ Some (record { slice = slice; content = Link head }) →
+      head_at a.nodes head.0 ≡ Some layer_head → KeepsAlong a after
+      (λ now twins chart next. ChartsDropped now number head.0 layer_head.root.0 slice twins chart next)

@@ -42,9 +42,11 @@ pub record IsInLayer (chart : Chart) (number : ℕ) (prefix : List ℕ) : Type 0
 
 -- the number is not gone
 abbrev pub IsNotGone : Chart → ℕ → Type 0
-IsNotGone chart number = (role : Role) (prefix : List ℕ) (low epoch : ℕ) → chart number ≢ Some (spot role prefix low (gone epoch))
+IsNotGone chart number = (role : Role) (prefix : List ℕ) (low epoch : ℕ) →
+    chart number ≢ Some (spot role prefix low (gone epoch))
 
--- An interior may be cut to its first so many children: it is not gone, and its new half, which is on in a layer, has the others.
+-- An interior may be cut to its first so many children: it is not gone, and its new half, which is on in a layer, has
+-- the others.
 pub record CutsAt (a : ArenaView) (number count : ℕ) (chart : Chart) : Type 0 where
   pub stays : IsNotGone chart number
   pub split : InteriorView
@@ -83,9 +85,10 @@ pub record BypassesAt (number gone_number : ℕ) (now : ℕ) (twins : List Twin)
   pub no_twin : NoTwin twins number
   pub gone_no_twin : NoTwin twins gone_number
 
--- A half of an interior comes to be named, by another interior of the layer: the half is new, and has children of the one that
--- is split. From now on the two halves are twins, and the new half is a twin of each twin of the other.
-pub record PostsHalfAt (a : ArenaView) (number half_number split_number : ℕ) (twins more_twins : List Twin) (chart next : Chart) : Type 0 where
+-- A half of an interior comes to be named, by another interior of the layer: the half is new, and has children of the
+-- one that is split. From now on the two halves are twins, and the new half is a twin of each twin of the other.
+pub record PostsHalfAt (a : ArenaView) (number half_number split_number : ℕ) (twins more_twins : List Twin)
+    (chart next : Chart) : Type 0 where
   pub split : InteriorView
   pub half : InteriorView
   pub is_split : interior_at a.nodes split_number ≡ Some split
@@ -97,10 +100,12 @@ pub record PostsHalfAt (a : ArenaView) (number half_number split_number : ℕ) (
   pub unknown : chart half_number ≡ None
   pub charted : Changes chart next half_number (Some (spot (at_level half.level) prefix half.low (on true)))
   pub kept_twins : (one other : ℕ) → AreTwins twins one other → AreTwins more_twins one other
-  pub new_twins : (other : ℕ) → (other ≡ split_number) ⊎ AreTwins twins other split_number → AreTwins more_twins half_number other × AreTwins more_twins other half_number
+  pub new_twins : (other : ℕ) → (other ≡ split_number) ⊎ AreTwins twins other split_number →
+      AreTwins more_twins half_number other × AreTwins more_twins other half_number
 
--- Where a half of an interior comes to be named, the tree is an index as before, with the same rows and more twins; all that
--- calls rely on stays.
+-- Where a half of an interior comes to be named, the tree is an index as before, with the same rows and more twins; all
+-- that calls rely on stays.
 pub record KeepsHalf (a after : ArenaView) (number half_number : ℕ) : Type 0 where
-  pub keeps : (now split_number : ℕ) (twins more_twins : List Twin) (chart next : Chart) → IsIndexAt a now twins chart → PostsHalfAt a number half_number split_number twins more_twins chart next →
+  pub keeps : (now split_number : ℕ) (twins more_twins : List Twin) (chart next : Chart) → IsIndexAt a now twins chart →
+      PostsHalfAt a number half_number split_number twins more_twins chart next →
       Keeps now more_twins (arena_seen a) (arena_seen after) chart next

@@ -43,10 +43,24 @@ abbrev pub head_seen : HeadView → HeadNode
 head_seen h = record { deleted = h.version.deleted; locked = h.version.locked; root = h.root.0; level = h.level }
 
 abbrev pub border_seen : BorderView → BorderNode
-border_seen b = record { deleted = b.version.deleted; locked = b.version.locked; low = b.low; entries = entries_seen b.live; right = option_map right_seen b.right }
+border_seen b =
+    record {
+      deleted = b.version.deleted;
+      locked = b.version.locked;
+      low = b.low;
+      entries = entries_seen b.live;
+      right = option_map right_seen b.right;
+    }
 
 abbrev pub interior_seen : InteriorView → InteriorNode
-interior_seen i = record { deleted = i.version.deleted; locked = i.version.locked; low = i.low; level = i.level; children = children_seen i.children }
+interior_seen i =
+    record {
+      deleted = i.version.deleted;
+      locked = i.version.locked;
+      low = i.low;
+      level = i.level;
+      children = children_seen i.children;
+    }
 
 abbrev pub node_seen : Node → PlainNode
 node_seen (Head h) = head (head_seen h)
@@ -57,7 +71,8 @@ node_seen (Border b) = border (border_seen b)
 abbrev pub arena_seen : ArenaView → Arena
 arena_seen a number = option_map node_seen (node_at a.nodes number)
 
--- where the key of an entry with a row stands in its layer; a link, which has no key of its own, before all that is deeper
+-- where the key of an entry with a row stands in its layer; a link, which has no key of its own, before all that is
+-- deeper
 abbrev pub content_place : ℕ → Content → Place
 content_place slice (Short bytes row) = last slice bytes
 content_place slice (Long suffix row) = deeper slice (place_of suffix)
@@ -66,7 +81,7 @@ content_place slice (Link top) = last slice 9
 abbrev pub entry_place : Entry → Place
 entry_place entry = content_place entry.slice entry.content
 
--- THE TREE HAS THE ROW AT THE KEY: from the head of layer 0 links lead to a layer, in it first children and right links to a border,
--- and a live entry there holds the row under the key
+-- THE TREE HAS THE ROW AT THE KEY: from the head of layer 0 links lead to a layer, in it first children and right links
+-- to a border, and a live entry there holds the row under the key
 abbrev pub HasRow : ArenaView → List ℕ → Row → Type 0
 HasRow a key row = Has (arena_seen a) (place_of key) row

@@ -7,7 +7,7 @@ ghost use Rattle.mt_border.specs.Order.{IsBorder};
 ghost use Rattle.mt_arena.specs.Node.{border_at};
 ghost use Rattle.mt_arena.specs.Arena.{with_border_changed};
 ghost use Rattle.mt_tree.specs.Keeping.{KeepsTree};
-ghost use Rattle.mt_tree.specs.BorderSteps.{MayShow, ShowsNext, HasRowAt, HidesRowAt, SetsRowAt, IsUpperHalf, LinksHalfAt, HasLayerFor, MakesLayerAt, IsMarkedRight, UnlinksAt, HasMarkedLayerAt, DropsLayerAt};
+ghost use Rattle.mt_tree.specs.BorderSteps.{MayShowAt, ShowsNext, HasRowAt, HidesRowAt, SetsRowAt, IsUpperHalf, LinksHalfAt, HasLayerFor, MakesLayerAt, IsMarkedRight, UnlinksAt, HasMarkedLayerAt, DropsLayerAt};
 
 use crate::tree::Tree;
 use mt_border::{Entry, RightLink};
@@ -67,7 +67,7 @@ impl Tree {
     /// Makes what the first unused slot of a border holds, a row, live at a place, made by the commit of this number.
     /// Constant cost.
     pub fn show(&mut self, number: NodeNo, place: usize, version: u64)
-        requires { IsSomeAnd (border_at self.old.nodes number.0) (λ b. MayShow b place version) }
+        requires { IsSomeAnd (border_at self.old.nodes number.0) (λ b. MayShowAt b place version) }
         ensures value { self.new ≡ with_border_changed self.old number.0 (λ b. with_shown b place version) }
         ensures sound { IsSomeAnd (border_at self.new.nodes number.0) IsBorder }
         ensures shows { ShowsNext self.old self.new number.0 version }
@@ -97,11 +97,14 @@ impl Tree {
         self.arena.border_mut(number).set_value(place, row)
     }
 
-    /// The link step of a split: a border keeps the first so many entries, and names to its right the half, a border that
-    /// was filled with the others. Constant cost.
+    /// The link step of a split: a border keeps the first so many entries, and names to its right the half, a border
+    /// that was filled with the others. Constant cost.
     pub fn link_half(&mut self, number: NodeNo, half: NodeNo, keep: usize)
-        requires { IsSomeAnd (border_at self.old.nodes number.0) (λ b. IsSomeAnd (border_at self.old.nodes half.0) (λ upper. IsUpperHalf b upper keep)) }
-        ensures value { IsSomeAnd (border_at self.old.nodes half.0) (λ upper. self.new ≡ with_border_changed self.old number.0 (λ b. with_split b keep (record { low = upper.low; node = half }))) }
+        requires { IsSomeAnd (border_at self.old.nodes number.0) (λ b.
+            IsSomeAnd (border_at self.old.nodes half.0) (λ upper. IsUpperHalf b upper keep)) }
+        ensures value { IsSomeAnd (border_at self.old.nodes half.0) (λ upper.
+            self.new ≡ with_border_changed self.old number.0 (λ b. with_split b keep
+            (record { low = upper.low; node = half }))) }
         ensures sound { IsSomeAnd (border_at self.new.nodes number.0) IsBorder }
         ensures links { LinksHalfAt self.old self.new number.0 half.0 }
     {
@@ -111,8 +114,8 @@ impl Tree {
             .link_right(keep, RightLink { low, node: half });
     }
 
-    /// Makes the entry at a place of a border, which has the row of a longer key, a link to the head of a layer that has
-    /// that row alone. The entry's own row is dropped. Constant cost.
+    /// Makes the entry at a place of a border, which has the row of a longer key, a link to the head of a layer that
+    /// has that row alone. The entry's own row is dropped. Constant cost.
     pub fn make_link(&mut self, number: NodeNo, place: usize, head: NodeNo)
         requires { IsSomeAnd (border_at self.old.nodes number.0) (λ b. HasLayerFor self.old.nodes b place head.0) }
         ensures value { self.new ≡ with_border_changed self.old number.0 (λ b. with_link_at b place head) }
@@ -122,10 +125,13 @@ impl Tree {
         self.arena.border_mut(number).make_link(place, head);
     }
 
-    /// Takes a border that is marked deleted out of its chain: the border before it takes its right link. Constant cost.
+    /// Takes a border that is marked deleted out of its chain: the border before it takes its right link. Constant
+    /// cost.
     pub fn unlink(&mut self, number: NodeNo, gone: NodeNo)
-        requires { IsSomeAnd (border_at self.old.nodes number.0) (λ b. IsSomeAnd (border_at self.old.nodes gone.0) (λ right. IsMarkedRight b right gone)) }
-        ensures value { IsSomeAnd (border_at self.old.nodes gone.0) (λ right. self.new ≡ with_border_changed self.old number.0 (λ b. with_right b right.right)) }
+        requires { IsSomeAnd (border_at self.old.nodes number.0) (λ b.
+            IsSomeAnd (border_at self.old.nodes gone.0) (λ right. IsMarkedRight b right gone)) }
+        ensures value { IsSomeAnd (border_at self.old.nodes gone.0) (λ right.
+            self.new ≡ with_border_changed self.old number.0 (λ b. with_right b right.right)) }
         ensures sound { IsSomeAnd (border_at self.new.nodes number.0) IsBorder }
         ensures unlinks { UnlinksAt self.old self.new number.0 gone.0 }
     {

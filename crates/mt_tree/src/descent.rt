@@ -7,7 +7,7 @@ ghost use Rattle.mt_interior.specs.Head.{IsHead};
 ghost use Rattle.mt_interior.specs.Interior.{IsInterior};
 ghost use Rattle.mt_arena.specs.Node.{node_at, border_at, IsNode};
 ghost use Rattle.mt_arena.specs.Arena.{IsArena};
-ghost use Rattle.mt_tree.specs.Descent.{visit_head, visit_interior, visit_border, node_visit, found_for, MayVisit, MayVisitNode, LeadsOn, TellsVisit, StandsAt, TellsRow};
+ghost use Rattle.mt_tree.specs.Descent.{visit_head, visit_interior, visit_border, node_visit, found_for, MayVisit, MayVisitNode, LeadsOn, TellsVisit, IsFoundAt, TellsRow};
 
 use crate::tree::Tree;
 use crate::visit::Visit;
@@ -85,11 +85,11 @@ pub fn visit_node(node: &Node, rest: &[u8]) -> Visit
 }
 
 impl Tree {
-    /// The visit of a node in the descent to a key, of which `rest` is what the layers above have left (Masstree, EuroSys
-    /// 2012, section 4.6). A node that is locked is read as it stands.
+    /// The visit of a node in the descent to a key, of which `rest` is what the layers above have left (Masstree,
+    /// EuroSys 2012, section 4.6). A node that is locked is read as it stands.
     ///
-    /// A call that holds the node holds the next one too, and where it has come to `Here`, the tree has a row at the key
-    /// exactly where the border has an entry with that row. Searches one node, and takes no memory.
+    /// A call that holds the node holds the next one too, and where it has come to `Here`, the tree has a row at the
+    /// key exactly where the border has an entry with that row. Searches one node, and takes no memory.
     pub fn visit(&self, number: NodeNo, rest: &[u8]) -> Visit
         requires { MayVisit self.now number.0 (slice_number rest.now) }
         ensures value { IsSomeAnd (node_at self.now.nodes number.0) (λ node. result ≡ node_visit rest.now node) }
@@ -100,13 +100,13 @@ impl Tree {
         visit_node(self.node(number), rest)
     }
 
-    /// What a search in a border finds for a key, of which `rest` is what the layers above have left. Searches one border,
-    /// and takes no memory.
+    /// What a search in a border finds for a key, of which `rest` is what the layers above have left. Searches one
+    /// border, and takes no memory.
     pub fn find(&self, number: NodeNo, rest: &[u8]) -> Found
         requires { IsSome (border_at self.now.nodes number.0) }
         ensures value { IsSomeAnd (border_at self.now.nodes number.0) (λ b. result ≡ found_for rest.now b.live) }
         ensures row { TellsRow self.now number.0 rest.now result }
-        ensures stands { IsSomeAnd (border_at self.now.nodes number.0) (λ b. StandsAt rest.now b.live result) }
+        ensures stands { IsSomeAnd (border_at self.now.nodes number.0) (λ b. IsFoundAt rest.now b.live result) }
         ensures sound { IsSomeAnd (border_at self.now.nodes number.0) IsBorder }
         ensures arena { IsArena self.now }
     {

@@ -24,7 +24,8 @@ impl Tree {
 
     /// Marks a head as deleted, whose root is a border with nothing to its right. Constant cost.
     pub fn mark_head_deleted(&mut self, number: NodeNo)
-        requires { IsSomeAnd (head_at self.old.nodes number.0) (λ head. IsSomeAnd (border_at self.old.nodes head.root.0) (λ root. root.right ≡ None)) }
+        requires { IsSomeAnd (head_at self.old.nodes number.0) (λ head.
+            IsSomeAnd (border_at self.old.nodes head.root.0) (λ root. root.right ≡ None)) }
         ensures value { self.new ≡ with_head_changed self.old number.0 with_deleted }
         ensures sound { IsSomeAnd (head_at self.new.nodes number.0) IsHead }
         ensures keeps { KeepsTree self.old self.new }
@@ -34,8 +35,10 @@ impl Tree {
 
     /// Names a new root, an interior over the old root and a border. Constant cost.
     pub fn name_root(&mut self, number: NodeNo, root: NodeNo)
-        requires { IsSomeAnd (head_at self.old.nodes number.0) (λ head. IsSomeAnd (interior_at self.old.nodes root.0) (IsRootOver head)) }
-        ensures value { IsSomeAnd (interior_at self.old.nodes root.0) (λ interior. self.new ≡ with_head_changed self.old number.0 (λ head. with_root head root interior.level)) }
+        requires { IsSomeAnd (head_at self.old.nodes number.0) (λ head.
+            IsSomeAnd (interior_at self.old.nodes root.0) (IsRootOver head)) }
+        ensures value { IsSomeAnd (interior_at self.old.nodes root.0) (λ interior.
+            self.new ≡ with_head_changed self.old number.0 (λ head. with_root head root interior.level)) }
         ensures sound { IsSomeAnd (head_at self.new.nodes number.0) IsHead }
         ensures keeps { KeepsAlong self.old self.new (NamesRootAt self.old number.0 root.0) }
     {
@@ -45,8 +48,10 @@ impl Tree {
 
     /// Names a new root, an interior over the old root, which is being split, and its new half. Constant cost.
     pub fn name_root_over_half(&mut self, number: NodeNo, root: NodeNo)
-        requires { IsSomeAnd (head_at self.old.nodes number.0) (λ head. IsSomeAnd (interior_at self.old.nodes root.0) (IsRootOverHalf self.old.nodes head)) }
-        ensures value { IsSomeAnd (interior_at self.old.nodes root.0) (λ interior. self.new ≡ with_head_changed self.old number.0 (λ head. with_root head root interior.level)) }
+        requires { IsSomeAnd (head_at self.old.nodes number.0) (λ head.
+            IsSomeAnd (interior_at self.old.nodes root.0) (IsRootOverHalf self.old.nodes head)) }
+        ensures value { IsSomeAnd (interior_at self.old.nodes root.0) (λ interior.
+            self.new ≡ with_head_changed self.old number.0 (λ head. with_root head root interior.level)) }
         ensures sound { IsSomeAnd (head_at self.new.nodes number.0) IsHead }
         ensures keeps { KeepsRootOverHalf self.old self.new number.0 root.0 }
     {
@@ -58,7 +63,8 @@ impl Tree {
     pub fn bypass_root(&mut self, number: NodeNo, gone: NodeNo)
         requires named { IsSomeAnd (head_at self.old.nodes number.0) (λ head. head.root ≡ gone) }
         requires one { IsSomeAnd (interior_at self.old.nodes gone.0) HasOneChild }
-        ensures value { IsSomeAnd (child_at self.old.nodes gone.0 0) (λ child. self.new ≡ with_head_changed self.old number.0 (λ head. with_root head child.node child.level)) }
+        ensures value { IsSomeAnd (child_at self.old.nodes gone.0 0) (λ child.
+            self.new ≡ with_head_changed self.old number.0 (λ head. with_root head child.node child.level)) }
         ensures sound { IsSomeAnd (head_at self.new.nodes number.0) IsHead }
         ensures keeps { KeepsAlong self.old self.new (BypassesRootAt number.0 gone.0) }
     {

@@ -27,7 +27,8 @@ impl Tree {
         requires { IsSomeAnd (interior_at self.old.nodes number.0) (λ interior. interior.version.locked ≡ true) }
         ensures value { self.new ≡ with_interior_changed self.old number.0 (λ interior. with_lock interior false) }
         ensures sound { IsSomeAnd (interior_at self.new.nodes number.0) IsInterior }
-        ensures keeps { IsSomeAnd (interior_at self.old.nodes number.0) (λ interior. KeepsWhere self.old self.new (λ chart. IsNotGone chart number.0 ⊎ (interior.version.deleted ≡ true))) }
+        ensures keeps { IsSomeAnd (interior_at self.old.nodes number.0) (λ interior.
+            KeepsWhere self.old self.new (λ chart. IsNotGone chart number.0 ⊎ (interior.version.deleted ≡ true))) }
     {
         self.arena.interior_mut(number).unlock();
     }
@@ -45,19 +46,24 @@ impl Tree {
     /// Gives an interior that has no child these ones. Costs a copy of each.
     pub fn fill_interior(&mut self, number: NodeNo, children: &[Child])
         requires empty { IsSomeAnd (interior_at self.old.nodes number.0) (λ interior. interior.children ≡ []) }
-        requires sound { IsSomeAnd (interior_at self.old.nodes number.0) (λ interior. IsInterior (with_children interior children.now)) }
-        ensures value { self.new ≡ with_interior_changed self.old number.0 (λ interior. with_children interior children.now) }
+        requires sound { IsSomeAnd (interior_at self.old.nodes number.0) (λ interior.
+            IsInterior (with_children interior children.now)) }
+        ensures value { self.new ≡ with_interior_changed self.old number.0 (λ interior.
+            with_children interior children.now) }
         ensures sound { IsSomeAnd (interior_at self.new.nodes number.0) IsInterior }
         ensures keeps { KeepsTree self.old self.new }
     {
         self.arena.interior_mut(number).fill(children);
     }
 
-    /// Posts a border in an interior, which leads to it from its low on. Costs a binary search, and a move of each child
-    /// after it.
+    /// Posts a border in an interior, which leads to it from its low on. Costs a binary search, and a move of each
+    /// child after it.
     pub fn post_border(&mut self, number: NodeNo, posted: NodeNo)
-        requires { IsSomeAnd (border_at self.old.nodes posted.0) (λ border. IsSomeAnd (interior_at self.old.nodes number.0) (HasRoomFrom border.low)) }
-        ensures value { IsSomeAnd (border_at self.old.nodes posted.0) (λ border. self.new ≡ with_interior_changed self.old number.0 (λ interior. with_child interior (record { low = border.low; node = posted; level = 0 }))) }
+        requires { IsSomeAnd (border_at self.old.nodes posted.0) (λ border.
+            IsSomeAnd (interior_at self.old.nodes number.0) (HasRoomFrom border.low)) }
+        ensures value { IsSomeAnd (border_at self.old.nodes posted.0) (λ border.
+            self.new ≡ with_interior_changed self.old number.0 (λ interior.
+            with_child interior (record { low = border.low; node = posted; level = 0 }))) }
         ensures sound { IsSomeAnd (interior_at self.new.nodes number.0) IsInterior }
         ensures keeps { KeepsAlong self.old self.new (PostsAt number.0 posted.0) }
     {
@@ -72,12 +78,16 @@ impl Tree {
         });
     }
 
-    /// Posts the new half of an interior in an interior above, which leads to it from its low on. Costs a binary search, and
-    /// a move of each child after it.
+    /// Posts the new half of an interior in an interior above, which leads to it from its low on. Costs a binary
+    /// search, and a move of each child after it.
     pub fn post_half(&mut self, number: NodeNo, half: NodeNo)
-        requires room { IsSomeAnd (interior_at self.old.nodes half.0) (λ upper. IsSomeAnd (interior_at self.old.nodes number.0) (HasRoomFrom upper.low)) }
-        requires lower { IsSomeAnd (interior_at self.old.nodes half.0) (λ upper. IsSomeAnd (interior_at self.old.nodes number.0) (λ interior. upper.level < interior.level)) }
-        ensures value { IsSomeAnd (interior_at self.old.nodes half.0) (λ upper. self.new ≡ with_interior_changed self.old number.0 (λ interior. with_child interior (record { low = upper.low; node = half; level = upper.level }))) }
+        requires room { IsSomeAnd (interior_at self.old.nodes half.0) (λ upper.
+            IsSomeAnd (interior_at self.old.nodes number.0) (HasRoomFrom upper.low)) }
+        requires lower { IsSomeAnd (interior_at self.old.nodes half.0) (λ upper.
+            IsSomeAnd (interior_at self.old.nodes number.0) (λ interior. upper.level < interior.level)) }
+        ensures value { IsSomeAnd (interior_at self.old.nodes half.0) (λ upper.
+            self.new ≡ with_interior_changed self.old number.0 (λ interior.
+            with_child interior (record { low = upper.low; node = half; level = upper.level }))) }
         ensures sound { IsSomeAnd (interior_at self.new.nodes number.0) IsInterior }
         ensures keeps { KeepsHalf self.old self.new number.0 half.0 }
     {
@@ -96,7 +106,8 @@ impl Tree {
         requires within { IsSome (child_at self.old.nodes number.0 place) }
         ensures value { self.new ≡ with_interior_changed self.old number.0 (λ interior. without_child interior place) }
         ensures sound { IsSomeAnd (interior_at self.new.nodes number.0) IsInterior }
-        ensures keeps { IsSomeAnd (child_at self.old.nodes number.0 place) (λ child. KeepsAlong self.old self.new (DropsAt number.0 child)) }
+        ensures keeps { IsSomeAnd (child_at self.old.nodes number.0 place) (λ child.
+            KeepsAlong self.old self.new (DropsAt number.0 child)) }
     {
         self.arena.interior_mut(number).drop_child(place);
     }
@@ -105,8 +116,11 @@ impl Tree {
     pub fn bypass(&mut self, number: NodeNo, place: usize, gone: NodeNo)
         requires named { IsSomeAnd (child_at self.old.nodes number.0 place) (λ child. child.node ≡ gone) }
         requires one { IsSomeAnd (interior_at self.old.nodes gone.0) HasOneChild }
-        requires lower { IsSomeAnd (child_at self.old.nodes gone.0 0) (λ child. IsSomeAnd (interior_at self.old.nodes number.0) (λ interior. child.level < interior.level)) }
-        ensures value { IsSomeAnd (child_at self.old.nodes gone.0 0) (λ child. self.new ≡ with_interior_changed self.old number.0 (λ interior. with_bypass interior place child.node child.level)) }
+        requires lower { IsSomeAnd (child_at self.old.nodes gone.0 0) (λ child.
+            IsSomeAnd (interior_at self.old.nodes number.0) (λ interior. child.level < interior.level)) }
+        ensures value { IsSomeAnd (child_at self.old.nodes gone.0 0) (λ child.
+            self.new ≡ with_interior_changed self.old number.0 (λ interior.
+            with_bypass interior place child.node child.level)) }
         ensures sound { IsSomeAnd (interior_at self.new.nodes number.0) IsInterior }
         ensures keeps { KeepsAlong self.old self.new (BypassesAt number.0 gone.0) }
     {
@@ -119,7 +133,8 @@ impl Tree {
     /// Keeps the first so many children of an interior, one at least. Costs a write of each that goes.
     pub fn keep_first(&mut self, number: NodeNo, count: usize)
         requires some { 1 ≤ count }
-        requires within { IsSomeAnd (interior_at self.old.nodes number.0) (λ interior. count ≤ length interior.children) }
+        requires within { IsSomeAnd (interior_at self.old.nodes number.0) (λ interior.
+            count ≤ length interior.children) }
         ensures value { self.new ≡ with_interior_changed self.old number.0 (λ interior. with_first interior count) }
         ensures sound { IsSomeAnd (interior_at self.new.nodes number.0) IsInterior }
         ensures keeps { KeepsWhere self.old self.new (CutsAt self.old number.0 count) }

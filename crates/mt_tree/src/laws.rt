@@ -1,22 +1,23 @@
-//! Laws of trees for those who go down them and along them, and for those who post a node: each function does nothing, and its contract is the law.
+//! Laws of trees for those who go down them and along them, and for those who post a node: each function does
+//! nothing, and its contract is the law.
 
 ghost use Rattle.mt_tree.specs.Descent.{HeldNodesMayBeVisited, HeldBordersHaveIntervals};
-ghost use Rattle.mt_tree.specs.HeadSteps.{RootOfASplitIsIt, HeadOfAPostingIsAlive};
+ghost use Rattle.mt_tree.specs.HeadSteps.{HeadNamesTheSplit, HeadOfAPostingIsAlive};
 
 /// What a call holds it may visit, for the slice that it holds it for.
 pub fn held_nodes_may_be_visited()
     ensures { HeldNodesMayBeVisited }
 {}
 
-/// What a range needs of a border that it holds: it begins at or before the slice that is sought, its entries are in order,
-/// and with the layers under its links they are all that the tree has in its interval.
+/// What a range needs of a border that it holds: it begins at or before the slice that is sought, its entries are in
+/// order, and with the layers under its links they are all that the tree has in its interval.
 pub fn held_borders_have_intervals()
     ensures { HeldBordersHaveIntervals }
 {}
 
-/// What a posting finds at the head of its layer: the head is not marked deleted, where a border is to be posted; and where an
-/// interior node is being split and the root is not above it, it is the root.
+/// What a posting finds at the head of its layer: the head is not marked deleted, where a border is to be posted; and
+/// where an interior node is being split and the root is not above it, it is the root.
 pub fn heads_of_postings_are_so()
     ensures alive { HeadOfAPostingIsAlive }
-    ensures root { RootOfASplitIsIt }
+    ensures root { HeadNamesTheSplit }
 {}

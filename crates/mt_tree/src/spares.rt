@@ -17,12 +17,13 @@ use mt_types::numbers::NodeNo;
 use mt_types::refusal::Refusal;
 
 impl Tree {
-    /// Puts a node under a number that named none, and gives that number: it is a spare, which nothing else names. Constant
-    /// cost, but for a move of all nodes where their number doubles.
+    /// Puts a node under a number that named none, and gives that number: it is a spare, which nothing else names.
+    /// Constant cost, but for a move of all nodes where their number doubles.
     ///
     /// # Errors
     ///
-    /// `ArenaFull` where all 1,048,576 numbers name a node, `NoMemory` where an allocation is refused. Nothing is then changed.
+    /// `ArenaFull` where all 1,048,576 numbers name a node, `NoMemory` where an allocation is refused. Nothing is
+    /// then changed.
     pub fn occupy(&mut self, node: Node) -> Result<NodeNo, Refusal>
         ensures vacant { IfOk result (λ number. node_at self.old.nodes number.0 ≡ None) }
         ensures below { IfOk result (λ number. number.0 < MAX_NODES) }
@@ -39,7 +40,8 @@ impl Tree {
         self.arena.spare(node)
     }
 
-    /// Makes these entries live in a border that never had one, and names what is to its right. Costs a move of each entry.
+    /// Makes these entries live in a border that never had one, and names what is to its right. Costs a move of each
+    /// entry.
     pub fn fill_border(&mut self, number: NodeNo, entries: Items<Entry>, right: Option<RightLink>)
         requires { IsSomeAnd (border_at self.old.nodes number.0) (λ b. MayFill b entries right) }
         ensures value { self.new ≡ with_border_changed self.old number.0 (λ b. with_entries b entries right) }
@@ -59,8 +61,8 @@ impl Tree {
         self.arena.free(number);
     }
 
-    /// Retires a node in an epoch which is not before that of any retired node: its number is freed once no call can stand
-    /// there. Takes no memory. Constant cost.
+    /// Retires a node in an epoch which is not before that of any retired node: its number is freed once no call can
+    /// stand there. Takes no memory. Constant cost.
     pub fn retire(&mut self, number: NodeNo, epoch: u64)
         requires named { IsSome (node_at self.old.nodes number.0) }
         requires not_retired { All (λ retired. retired.node.0 ≢ number.0) self.old.retired }

@@ -26,8 +26,8 @@ use std::marker::Model;
 /// The nodes of an index under their numbers: the heads of layers, interior nodes and borders. Number 0 is the head of
 /// layer 0.
 ///
-/// Each change is of one node. What it keeps of the whole tree is a clause of its own, which speaks of every chart at which
-/// the tree is an index: a chart tells where each node stands, and exists in proofs only.
+/// Each change is of one node. What it keeps of the whole tree is a clause of its own, which speaks of every chart at
+/// which the tree is an index: a chart tells where each node stands, and exists in proofs only.
 #[derive(Drop)]
 pub struct Tree {
     pub(crate) arena: Arena,

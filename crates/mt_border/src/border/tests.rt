@@ -1,6 +1,8 @@
 //! Borders by example: insertion orders, a cut, a split, a hidden slot, and each allocating call once.
 
-ghost use Rattle.std.specs.Prelude.{◌≡◌, ◌<◌, ◌-◌, ◌^◌, length};
+ghost use Rattle.std.specs.Prelude.{◌≡◌, ◌<◌, ◌-◌, ◌^◌, ◌↔◌, length, IsTrue, IsSome};
+ghost use Rattle.mt_word.specs.declared.permutation_word.TheConstants.{SLOTS};
+ghost use Rattle.mt_border.specs.Entry.{entry_suffix};
 
 use super::*;
 use bytes::Bytes;
@@ -82,7 +84,7 @@ fn ten_and_five(alloc: Global) -> Result<Border, Fail> {
 
 // Cuts a full border in two: fills a new one, of this number, with the upper entries, and links it.
 fn split(alloc: Global, border: &mut Border, node: NodeNo) -> Result<Border, Fail>
-    requires full { length border.old.live ≡ 15 }
+    requires full { length border.old.live ≡ SLOTS }
     requires unspent { border.old.version.vsplit < 2 ^ 64 - 1 }
 {
     let cut = border.cut_place();
@@ -184,13 +186,17 @@ fn hidden_slot_is_filled_again(rt: HostRuntime) -> Result<(), Fail> {
     Ok(())
 }
 
+// Whether the entry has the row of a longer key.
+fn is_long(entry: &Entry) -> bool
+    ensures { IsTrue result ↔ IsSome (entry_suffix entry.now) }
+{
+    matches!(entry.content, Content::Long(_, _))
+}
+
 // Makes the entry at a place a link, where it has the row of a longer key.
 fn link(border: &mut Border, place: usize, head: NodeNo) {
-    if place < border.len() {
-        let is_long = matches!(border.entry(place).content, Content::Long(_, _));
-        if is_long {
-            border.make_link(place, head);
-        }
+    if place < border.len() && is_long(border.entry(place)) {
+        border.make_link(place, head);
     }
 }
 
