@@ -1,6 +1,7 @@
 -- The laws by which a call ends: each move of a descent goes on in one order of places, and a call alone has a measure
 -- that falls.
-use Rattle.std.specs.Prelude.{ℕ, ◌≡◌, ◌<◌, ◌≤◌, ◌+◌, ◌*◌, List, [], ◌∷◌, length, Some}
+use Rattle.std.specs.Prelude.{ℕ, ◌≡◌, ◌<◌, ◌≤◌, ◌+◌, ◌*◌, ◌^◌, List, [], ◌∷◌, length, Some}
+use Rattle.mt_types.specs.declared.limits.TheConstants.{MAX_LAYER}
 use Rattle.mt_chart.specs.Tree.{Arena, Among}
 use Rattle.mt_chart.specs.Chart.{Role, Spot, Chart, IsTree, Dated}
 use Rattle.mt_chart.specs.Walk.{height, all_heights, moves_left, KnownAt, Bounded, Moves, Higher, Trail, Lone, IsOn}
@@ -20,7 +21,7 @@ MovesLeftFall = (arena : Arena) (chart : Chart) → IsTree arena chart → (begu
 
 -- a place in at most 32 layers has a height below all heights
 abbrev pub HeightsAreBounded : Type 0
-HeightsAreBounded = (role : Role) (prefix : List ℕ) (low : ℕ) → length prefix ≤ 31 → low < 18446744073709551616 →
+HeightsAreBounded = (role : Role) (prefix : List ℕ) (low : ℕ) → length prefix ≤ MAX_LAYER → low < 2 ^ 64 →
     height role prefix low < all_heights
 
 -- a run of moves of a get, among any other calls, is shorter than the bound on the numbers
@@ -48,11 +49,11 @@ PostingsEnd = (free free_after : ℕ) (frame : Frame) (waiting after : List Fram
 -- the cursor's number grows where a scan, its cursor at the slice or behind it, leaves a border by a right link of a
 -- greater low
 abbrev pub CursorsGoRight : Type 0
-CursorsGoRight = (prefix digits : List ℕ) (digit slice low : ℕ) → length prefix ≤ 31 → AreDigits digit_base digits →
+CursorsGoRight = (prefix digits : List ℕ) (digit slice low : ℕ) → length prefix ≤ MAX_LAYER → AreDigits digit_base digits →
     digit ≤ 2 * slice + 1 → slice < low →
     cursor_number (digits_above prefix (digit ∷ digits)) < cursor_number (digits_above prefix ((2 * low) ∷ []))
 
 -- the cursor's number grows where a scan leaves the layer of a slice
 abbrev pub CursorsLeaveLayers : Type 0
-CursorsLeaveLayers = (prefix digits : List ℕ) (slice : ℕ) → length prefix ≤ 31 → AreDigits digit_base digits →
+CursorsLeaveLayers = (prefix digits : List ℕ) (slice : ℕ) → length prefix ≤ MAX_LAYER → AreDigits digit_base digits →
     cursor_number (digits_above (slice ∷ prefix) digits) < cursor_number (digits_above prefix ((2 * slice + 1) ∷ []))

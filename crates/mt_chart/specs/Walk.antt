@@ -1,6 +1,7 @@
 -- The run of moves that an open get is in: each node that it came through stands before the next in one order of
 -- places.
-use Rattle.std.specs.Prelude.{ℕ, suc, ◌≡◌, ◌<◌, ◌≤◌, ◌+◌, ◌*◌, ◌-◌, List, [], ◌∷◌, length, Some, Bool, false}
+use Rattle.std.specs.Prelude.{ℕ, suc, ◌≡◌, ◌<◌, ◌≤◌, ◌+◌, ◌*◌, ◌^◌, ◌-◌, List, [], ◌∷◌, length, Some, Bool, false}
+use Rattle.mt_types.specs.declared.limits.TheConstants.{MAX_LAYER, MAX_LEVEL}
 use Rattle.mt_chart.specs.Tree.{Among, Arena, HeadNode, BorderNode, InteriorNode, Child, Right, head, border, interior, link}
 use Rattle.mt_chart.specs.Chart.{Standing, on, gone, Role, top, at_level, Spot, spot, Chart, IsTree, Evolves}
 
@@ -9,18 +10,18 @@ abbrev pub Distinct : {A : Type 0} → List A → Type 0
 Distinct [] = Unit {0}
 Distinct (element ∷ others) = (Among element others → ⊥) × Distinct others
 
--- how many kinds of node stand above it in a layer: a head has none, an interior of level 15 one, a border 16
+-- how many kinds of node stand above it in a layer: a head has none, an interior of the greatest level one, and so on
 abbrev pub below_top : Role → ℕ
 below_top top = 0
-below_top (at_level level) = 16 - level
+below_top (at_level level) = (MAX_LEVEL + 1) - level
 
 -- where a node stands in the order of a descent: first by its depth, then by its kind and level, then by its low
 abbrev pub height : Role → List ℕ → ℕ → ℕ
-height role prefix low = (length prefix * 17 + below_top role) * 18446744073709551616 + low
+height role prefix low = (length prefix * (MAX_LEVEL + 2) + below_top role) * (2 ^ 64) + low
 
 -- more than any height in a tree of 32 layers
 abbrev pub all_heights : ℕ
-all_heights = 10035028776097996079104
+all_heights = (MAX_LAYER + 1) * (MAX_LEVEL + 2) * 2 ^ 64
 
 -- how far a call at a node of this height is from the end of its moves, at most
 abbrev pub moves_left : ℕ → ℕ
@@ -53,15 +54,15 @@ Bounded chart bound = (number : ℕ) (place : Spot) → chart number ≡ Some pl
 -- A visit of a node that goes on to the next. What the nodes' own types keep, bounds on levels and lows, stands here
 -- too.
 pub data Moves (arena : Arena) (number next : ℕ) : Type 0 where
-  to_root : (node : HeadNode) → arena number ≡ Some (head node) → node.deleted ≡ false → node.level ≤ 15 →
+  to_root : (node : HeadNode) → arena number ≡ Some (head node) → node.deleted ≡ false → node.level ≤ MAX_LEVEL →
       node.root ≡ next → Moves arena number next
   to_child : (node : InteriorNode) (child : Child) → arena number ≡ Some (interior node) → node.deleted ≡ false →
-      node.level ≤ 15 → node.low < 18446744073709551616 → Among child node.children → child.number ≡ next →
+      node.level ≤ MAX_LEVEL → node.low < 2 ^ 64 → Among child node.children → child.number ≡ next →
       Moves arena number next
   to_right : (node : BorderNode) (right : Right) → arena number ≡ Some (border node) → node.deleted ≡ false →
       node.right ≡ Some right → right.number ≡ next → Moves arena number next
   to_link : (node : BorderNode) (slice top_number : ℕ) → arena number ≡ Some (border node) → node.deleted ≡ false →
-      node.low < 18446744073709551616 → Among (record { slice = slice; content = link top_number }) node.entries →
+      node.low < 2 ^ 64 → Among (record { slice = slice; content = link top_number }) node.entries →
       top_number ≡ next → Moves arena number next
 
 -- the call knows where the node stands, and it stands higher than what was reached
