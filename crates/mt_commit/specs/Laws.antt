@@ -27,7 +27,8 @@ NewestIsPresent = (log : LogView) (rows : Rows) → rows_at log rows (newest log
 -- a log that fits fits after the delta of the next commit, whose row before is there
 abbrev pub AppendingFits : Type 0
 AppendingFits =
-    (log : LogView) (delta : Delta) (rows : Rows) → Fits log rows → get rows delta.key ≡ delta.before → Fits (with_delta log delta) (redo delta rows)
+    (log : LogView) (delta : Delta) (rows : Rows) → Fits log rows → get rows delta.key ≡ delta.before
+    → Fits (with_delta log delta) (redo delta rows)
 
 -- and the rows at each earlier number stay the same
 abbrev pub AppendingKeepsRows : Type 0
@@ -42,7 +43,8 @@ TrimmingFits = (log : LogView) (rows : Rows) → Fits log rows → Fits (trimmed
 -- and the rows at each number that it still reaches stay the same
 abbrev pub TrimmingKeepsRows : Type 0
 TrimmingKeepsRows =
-    (log : LogView) (rows : Rows) (number : ℕ) → IsLog log → (trimmed log).held_after ≤ number → rows_at (trimmed log) rows number ≡ rows_at log rows number
+    (log : LogView) (rows : Rows) (number : ℕ) → IsLog log → (trimmed log).held_after ≤ number
+    → rows_at (trimmed log) rows number ≡ rows_at log rows number
 
 -- the delta of a commit makes the rows at its number of those at the number before, where its row before is
 pub record Makes (delta : Delta) (old new : Rows) : Type 0 where
@@ -51,7 +53,8 @@ pub record Makes (delta : Delta) (old new : Rows) : Type 0 where
 
 abbrev pub EachDeltaMakesRows : Type 0
 EachDeltaMakesRows =
-    (log : LogView) (rows : Rows) (number : ℕ) (delta : Delta) → Fits log rows → log.held_after ≤ number → delta_of log (number + 1) ≡ Some delta
+    (log : LogView) (rows : Rows) (number : ℕ) (delta : Delta) → Fits log rows → log.held_after ≤ number
+    → delta_of log (number + 1) ≡ Some delta
     → Makes delta (rows_at log rows number) (rows_at log rows (number + 1))
 
 -- how often a number is among the holders
@@ -61,12 +64,15 @@ times_held number holders = count_by (λ holder. holder == number) holders
 -- a number that is pinned is held once more, and the others as often
 abbrev pub PinningCounts : Type 0
 PinningCounts =
-    (pinned number : ℕ) (holders : List ℕ) → times_held number (with_holder pinned holders) ≡ times_held number holders + (if pinned == number then 1 else 0)
+    (pinned number : ℕ) (holders : List ℕ)
+    → times_held number (with_holder pinned holders) ≡ times_held number holders + (if pinned == number then 1 else 0)
 
 -- a number that is unpinned is held once less, and the others as often
 abbrev pub UnpinningCounts : Type 0
 UnpinningCounts =
-    (unpinned number : ℕ) (holders : List ℕ) → times_held number (without_holder unpinned holders) ≡ times_held number holders - (if unpinned == number then 1 else 0)
+    (unpinned number : ℕ) (holders : List ℕ)
+    → times_held number (without_holder unpinned holders)
+    ≡ times_held number holders - (if unpinned == number then 1 else 0)
 
 -- a number that is held at all is a holder
 abbrev pub CountedIsHeld : Type 0
@@ -75,4 +81,5 @@ CountedIsHeld = (number : ℕ) (holders : List ℕ) → 0 < times_held number ho
 -- the least holder is told by how often each number is held
 abbrev pub LeastIsByCounts : Type 0
 LeastIsByCounts =
-    (most : ℕ) (holders others : List ℕ) → ((number : ℕ) → times_held number holders ≡ times_held number others) → least most holders ≡ least most others
+    (most : ℕ) (holders others : List ℕ)
+    → ((number : ℕ) → times_held number holders ≡ times_held number others) → least most holders ≡ least most others

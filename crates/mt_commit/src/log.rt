@@ -56,7 +56,14 @@ impl Log {
     /// The log before any commit. It is to hold at most `feed` deltas for the slowest that reads it, and to keep the
     /// last `keep` for nobody. Takes no memory.
     pub fn open(alloc: Global, feed: u64, keep: u64) -> Log
-        ensures empty { result ≡ record { held_after = 0; deltas = []; reserved = 0; holders = []; feed = feed; keep = keep } }
+        ensures empty { result ≡ record {
+          held_after = 0;
+          deltas = [];
+          reserved = 0;
+          holders = [];
+          feed = feed;
+          keep = keep;
+        } }
         ensures sound { IsLog result }
     {
         Log {
@@ -105,7 +112,9 @@ impl Log {
     /// slowest where the log would hold more for it than it may; `NoMemory` where an allocation is refused. Nothing is
     /// allocated before the other two are tested.
     pub fn reserve(&mut self) -> Result<(), Refusal>
-        ensures fault { MatchOption (reserve_fault self.old) (IfErr result (λ refusal. refusal ≡ Refusal.NoMemory)) (λ refusal. result ≡ Err refusal) }
+        ensures fault { MatchOption (reserve_fault self.old)
+            (IfErr result (λ refusal. refusal ≡ Refusal.NoMemory))
+            (λ refusal. result ≡ Err refusal) }
         ensures memory { IsErrOf result Refusal.NoMemory → reserve_fault self.old ≡ None }
         ensures ok { OnOk result (self.new ≡ record self.old { reserved = self.old.reserved + 1 }) }
         ensures err { OnErr result (self.new ≡ self.old) }
@@ -191,8 +200,8 @@ impl Log {
         self.holder_count -= 1;
     }
 
-    /// Drops the deltas that nobody holds, but for the last ones that are kept for nobody. The queue keeps its memory for
-    /// later deltas. O(n + log m) in the deltas that are dropped and the numbers that are held.
+    /// Drops the deltas that nobody holds, but for the last ones that are kept for nobody. The queue keeps its memory
+    /// for later deltas. O(n + log m) in the deltas that are dropped and the numbers that are held.
     pub fn trim(&mut self)
         ensures after { self.new ≡ trimmed self.old }
         ensures newest_stays { newest self.new ≡ newest self.old }
@@ -209,7 +218,14 @@ impl Log {
 impl Log {
     /// The log after `number` commits of which nothing is left. It is to hold at most `feed` deltas for the slowest.
     pub(crate) fn after(alloc: Global, number: u64, feed: u64) -> Log
-        ensures { result ≡ record { held_after = number; deltas = []; reserved = 0; holders = []; feed = feed; keep = 0 } }
+        ensures { result ≡ record {
+          held_after = number;
+          deltas = [];
+          reserved = 0;
+          holders = [];
+          feed = feed;
+          keep = 0;
+        } }
     {
         Log {
             deltas: VecDeque::new(alloc),

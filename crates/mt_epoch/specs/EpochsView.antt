@@ -32,4 +32,5 @@ pub record IsInOrder (seen : EpochsView) : Type 0 where
 
 -- what is seen of an epoch, and of a map from the numbers of the open calls to their epochs
 abbrev pub epochs_of : ℕ → List (CallNo × ℕ) → EpochsView
-epochs_of epoch entries = record { epoch = epoch; calls = map (λ entry. record { number = entry.0.0; began = entry.1 }) entries }
+epochs_of epoch entries =
+    record { epoch = epoch; calls = map (λ entry. record { number = entry.0.0; began = entry.1 }) entries }

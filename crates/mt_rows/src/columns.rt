@@ -24,7 +24,10 @@ pub fn rewrite(alloc: Global, row: &mut Row, number: u64, sets: Sets)
 /// The row of `count` columns that a put by the commit of this number makes where there was none. O(n) in the columns;
 /// one allocation.
 pub fn new_row(alloc: Global, count: u8, number: u64, sets: Sets) -> Result<Row, NoMemory>
-    ensures { IfOk result (λ row. row ≡ record { version = number; columns = new_columns sets 0 (replicate count []) }) }
+    ensures { IfOk result (λ row. row ≡ record {
+      version = number;
+      columns = new_columns sets 0 (replicate count []);
+    }) }
 {
     let mut columns = empty_columns(alloc, count)?;
     write_sets(&mut columns, sets);

@@ -71,16 +71,16 @@ impl Rows {
         self.rows.get(key)
     }
 
-    /// The rows from a key on, each with its key, in the order of the keys. Takes no memory and copies nothing. O(log n) in
-    /// the rows.
+    /// The rows from a key on, each with its key, in the order of the keys. Takes no memory and copies nothing.
+    /// O(log n) in the rows.
     pub fn from_key(&self, start: &Key) -> Range<'_, Key, Row>
         ensures { result ≡ filter (λ pair. is_ge (key_cmp pair.0 start.now)) (map.entries self.now) }
     {
         self.rows.range(start..)
     }
 
-    /// A copy of the first rows from a key on, up to a limit, each with its key. Shares the bytes. O(log n + m) in the rows
-    /// and the columns that it gives, with an allocation for each row that it gives.
+    /// A copy of the first rows from a key on, up to a limit, each with its key. Shares the bytes. O(log n + m) in the
+    /// rows and the columns that it gives, with an allocation for each row that it gives.
     pub fn page(&self, alloc: Global, start: &Key, limit: usize) -> Result<Pairs, NoMemory>
         ensures { IfOk result (λ pairs. pairs ≡ page_from start.now limit (map.entries self.now)) }
     {
@@ -115,8 +115,8 @@ impl Rows {
         self.rows.remove(key)
     }
 
-    /// Does a change, as the commit of this number does it in an index of `columns` columns. On an error nothing changes.
-    /// O(log n + m) in the rows and the sets: a row that is there is written in place.
+    /// Does a change, as the commit of this number does it in an index of `columns` columns. On an error nothing
+    /// changes. O(log n + m) in the rows and the sets: a row that is there is written in place.
     pub fn apply(
         &mut self,
         alloc: Global,

@@ -23,15 +23,19 @@ BytesComeBack = (key : List ℕ) → AreBytes key → bytes_of_place (place_of k
 
 -- the bytes of a canonical place are a key, which has that place
 abbrev pub CanonicalPlacesAreOfKeys : Type 0
-CanonicalPlacesAreOfKeys = (place : Place) → IsCanonical place → AreBytes (bytes_of_place place) × (place_of (bytes_of_place place) ≡ place)
+CanonicalPlacesAreOfKeys =
+    (place : Place) → IsCanonical place → AreBytes (bytes_of_place place) × (place_of (bytes_of_place place) ≡ place)
 
 -- a place begins with the slice and the class of its bytes, and goes on with what follows the slice
 abbrev pub PlacesGoBySlices : Type 0
-PlacesGoBySlices = (rest : List ℕ) → place_of rest ≡ place_at (slice_number rest) (class_of (length rest)) (place_of (drop 8 rest))
+PlacesGoBySlices =
+    (rest : List ℕ) → place_of rest ≡ place_at (slice_number rest) (class_of (length rest)) (place_of (drop 8 rest))
 
 -- a key that goes on past the layers above has its rest there under their slices
 abbrev pub PlacesGoByLayers : Type 0
-PlacesGoByLayers = (layer : ℕ) (key : List ℕ) → 8 * layer < length key → place_of key ≡ under (slices_above layer key) (place_of (rest_at layer key))
+PlacesGoByLayers =
+    (layer : ℕ) (key : List ℕ) → 8 * layer < length key
+    → place_of key ≡ under (slices_above layer key) (place_of (rest_at layer key))
 
 -- the number of a class is one of ten
 abbrev pub ClassesAreFew : Type 0

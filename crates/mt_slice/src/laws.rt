@@ -49,5 +49,6 @@ pub fn places_are_ordered()
 pub fn classes_are_ten()
     ensures few { ClassesAreFew }
     ensures apart { ClassNumbersTellClasses }
-    ensures ordered { (c d : Class) → IsClass c → IsClass d → ⟦<Class as Ord>⟧.cmp c d ≡ nat_cmp (class_number c) (class_number d) }
+    ensures ordered { (c d : Class) → IsClass c → IsClass d
+        → ⟦<Class as Ord>⟧.cmp c d ≡ nat_cmp (class_number c) (class_number d) }
 {}

@@ -47,7 +47,8 @@ impl Length {
     }
 }
 
-/// What stands at a slice of a layer: a key that ends there, by how many bytes it has there, or one that goes on past it.
+/// What stands at a slice of a layer: a key that ends there, by how many bytes it has there, or one that goes on past
+/// it.
 ///
 /// One slice has ten classes. They are ordered `Len(0)` to `Len(8)`, then `Long` (Masstree, EuroSys 2012, section 4.2).
 #[derive(Clone, Copy, Debug, PartialEq, Eq, PartialOrd, Ord)]

@@ -57,7 +57,9 @@ pub fn key_bytes(key: &Key) -> &[u8]
     ensures bytes { AreBytes key.now }
     ensures fits { length key.now ≤ MAX_KEY_BYTES }
 {
-    key.as_slice()
+    // Of a variable the proof knows that its items are bytes.
+    let bytes = key.as_slice();
+    bytes
 }
 
 fn rest_at(key: &Key, layer: usize) -> &[u8]
@@ -74,7 +76,8 @@ pub fn slice_at(key: &Key, layer: usize) -> (u64, Class)
     requires { SLICE_BYTES * layer ≤ length key.now }
     ensures slice { result.0 ≡ slice_number (rest_at layer key.now) }
     ensures class { result.1 ≡ class_of (length (rest_at layer key.now)) }
-    ensures place { place_of (rest_at layer key.now) ≡ place_at result.0 result.1 (place_of (rest_at (layer + 1) key.now)) }
+    ensures place { place_of (rest_at layer key.now)
+        ≡ place_at result.0 result.1 (place_of (rest_at (layer + 1) key.now)) }
     ensures within { layer ≤ MAX_LAYER }
 {
     slice_of(rest_at(key, layer))

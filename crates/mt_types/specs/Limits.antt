@@ -68,7 +68,8 @@ abbrev pub request_fault : ℕ → Request → Option Refusal
 request_fault C (Get key columns) = option_or (key_fault key) (columns_fault C columns)
 request_fault C (Put key sets) = option_or (key_fault key) (sets_fault C sets)
 request_fault C (Remove key) = key_fault key
-request_fault C (Range start limit columns) = option_or (key_fault start) (option_or (columns_fault C columns) (limit_fault limit))
+request_fault C (Range start limit columns) =
+    option_or (key_fault start) (option_or (columns_fault C columns) (limit_fault limit))
 request_fault C (Tidy key) = key_fault key
 request_fault C (Build spec) = spec_fault C spec
 
@@ -76,7 +77,7 @@ request_fault C (Build spec) = spec_fault C spec
 abbrev pub page_fault : List ℕ → ℕ → Option Refusal
 page_fault start limit = option_or (key_fault start) (limit_fault limit)
 
--- the first limit that an index breaks which is to be opened with this number of columns, and with these bounds of its log
+-- the first limit that an index breaks which is to be opened with this number of columns and these bounds of its log
 abbrev pub open_fault : ℕ → ℕ → ℕ → Option Refusal
 open_fault columns feed keep =
     option_or (refused_if (not (is_within 1 MAX_COLUMNS columns)) BadColumn)

@@ -35,7 +35,8 @@ after_change C number (Drop key) rows = remove rows key
 -- the rows after changes, of which the first is made by the commit after this number
 abbrev pub after_from : ℕ → ℕ → Rows → List Change → Rows
 after_from C number rows [] = rows
-after_from C number rows (change ∷ changes) = after_from C (number + 1) (after_change C (number + 1) change rows) changes
+after_from C number rows (change ∷ changes) =
+    after_from C (number + 1) (after_change C (number + 1) change rows) changes
 
 -- the rows of an index of C columns after these changes from none on: the i-th is made by the commit of number i
 abbrev pub after : ℕ → List Change → Rows

@@ -8,14 +8,18 @@ use Rattle.mt_types.specs.declared.row.Delta.{Delta}
 use Rattle.mt_commit.specs.Deltas.{redo}
 use Rattle.mt_view.specs.State.{StateView, IsAfresh, belonging, applied, page_of_state}
 
--- a state is afresh for some rows exactly where it holds, under each key, the row that stands there, if it belongs to the view
+-- a state is afresh for some rows exactly where it holds, under each key, the row that stands there, if it belongs to
+--     the view
 abbrev pub AfreshByKey : Type 0
 AfreshByKey =
-    (state : StateView) (rows : Rows) → IsAfresh state rows ↔ ((key : List ℕ) → get state.rows key ≡ belonging state.spec key (get rows key))
+    (state : StateView) (rows : Rows)
+    → IsAfresh state rows ↔ ((key : List ℕ) → get state.rows key ≡ belonging state.spec key (get rows key))
 
 -- a state that is afresh for some rows is, after a delta, afresh for the rows with that delta
 abbrev pub AppliedIsAfresh : Type 0
-AppliedIsAfresh = (state : StateView) (delta : Delta) (rows : Rows) → IsAfresh state rows → IsAfresh (applied delta state) (redo delta rows)
+AppliedIsAfresh =
+    (state : StateView) (delta : Delta) (rows : Rows) → IsAfresh state rows
+    → IsAfresh (applied delta state) (redo delta rows)
 
 -- the state is that of a standing view: it has its specification and its number, and is afresh for the rows at that
 --     number of commits of an index of C columns
@@ -28,5 +32,6 @@ pub record IsStateOf (C : ℕ) (m : Moment) (view : StandingView) (state : State
 -- and then it shows the page of the view
 abbrev pub ShowsPage : Type 0
 ShowsPage =
-    (C : ℕ) (m : Moment) (view : StandingView) (state : StateView) (start : List ℕ) (limit : ℕ) → IsStateOf C m view state
+    (C : ℕ) (m : Moment) (view : StandingView) (state : StateView) (start : List ℕ) (limit : ℕ)
+    → IsStateOf C m view state
     → page_of_state state start limit ≡ page_of C m view start limit

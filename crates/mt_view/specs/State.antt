@@ -23,7 +23,10 @@ belonging spec key (Some row) = if belongs spec (key, row) then Some row else No
 -- the state after a delta: its row after stands under its key where it belongs to the view, and else no row does
 abbrev pub applied : Delta → StateView → StateView
 applied delta state =
-    record state { at = delta.number; rows = with_row delta.key (belonging state.spec delta.key delta.after) state.rows }
+    record state {
+      at = delta.number;
+      rows = with_row delta.key (belonging state.spec delta.key delta.after) state.rows;
+    }
 
 -- the state holds what its view shows of these rows
 abbrev pub IsAfresh : StateView → Rows → Type 0
@@ -33,4 +36,9 @@ IsAfresh state rows = entries state.rows ≡ afresh state.spec rows
 abbrev pub page_of_state : StateView → List ℕ → ℕ → Page
 page_of_state state start limit =
     let pairs = entries state.rows in
-    record { at = state.at; count = length pairs; sums = column_sums 0 state.columns pairs; rows = page_from start limit pairs }
+    record {
+      at = state.at;
+      count = length pairs;
+      sums = column_sums 0 state.columns pairs;
+      rows = page_from start limit pairs;
+    }

@@ -15,8 +15,11 @@ state_of state = record {
   rows = from_sorted state.rows.entries;
 }
 
--- the rows are in order, the sums are theirs, and each amount is below 2 ^ 64: so no sum of fewer than 2 ^ 63 rows overflows
+-- the rows are in order, the sums are theirs, and each amount is below 2 ^ 64: so no sum of fewer than 2 ^ 63 rows
+--     overflows
 pub record IsKept (state : Inside) : Type 0 where
   pub ordered : IsOrdered key_cmp state.rows
-  pub summed : (column : ℕ) → column < vec_len state.sums → slice_index state.sums.items column ≡ column_sum column state.rows.entries
-  pub small : (column : ℕ) → column < vec_len state.sums → All (λ row. amount (column_of column row) < 2 ^ 64) (values state.rows)
+  pub summed : (column : ℕ) → column < vec_len state.sums
+      → slice_index state.sums.items column ≡ column_sum column state.rows.entries
+  pub small : (column : ℕ) → column < vec_len state.sums
+      → All (λ row. amount (column_of column row) < 2 ^ 64) (values state.rows)

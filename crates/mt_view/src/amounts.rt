@@ -42,7 +42,8 @@ pub(crate) fn replace(sums: &mut [u128], old: &Row, row: &Row)
         → slice_index sums.old column + 2 ^ 64 ≤ 2 ^ 128 }
     ensures same_length { length sums.new ≡ length sums.old }
     ensures replaced { (column : ℕ) → column < length sums.old
-        → slice_index sums.new column + amount (column_of column old.now) ≡ slice_index sums.old column + amount (column_of column row.now) }
+        → slice_index sums.new column + amount (column_of column old.now)
+        ≡ slice_index sums.old column + amount (column_of column row.now) }
     ensures small { (column : ℕ) → column < length sums.old
         → amount (column_of column row.now) < 2 ^ 64 }
 {

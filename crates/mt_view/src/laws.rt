@@ -2,8 +2,8 @@
 
 ghost use Rattle.mt_view.specs.Laws.{AfreshByKey, AppliedIsAfresh, ShowsPage};
 
-/// A state is afresh for some rows exactly where it holds, under each key, the row that stands there, if that belongs to
-/// the view.
+/// A state is afresh for some rows exactly where it holds, under each key, the row that stands there, if that belongs
+/// to the view.
 pub fn afresh_is_told_by_key()
     ensures { AfreshByKey }
 {}

@@ -54,7 +54,12 @@ impl ViewState {
 
     /// The state of a view of no rows, at number 0, which sums `columns` columns. O(n) in `columns`; one allocation.
     pub fn open(alloc: Global, columns: u8, spec: ViewSpec) -> Result<ViewState, NoMemory>
-        ensures ok { IfOk result (λ state. state ≡ record { spec = spec; columns = columns; at = 0; rows = map.empty }) }
+        ensures ok { IfOk result (λ state. state ≡ record {
+          spec = spec;
+          columns = columns;
+          at = 0;
+          rows = map.empty;
+        }) }
         ensures afresh { IfOk result (λ state. IsAfresh state map.empty) }
     {
         Ok(ViewState {
@@ -94,7 +99,8 @@ impl ViewState {
     /// O(log n + m) in the rows that it holds and the columns. Allocates at most what one row needs, and nothing where
     /// that row does not belong: then it cannot fail.
     pub fn apply(&mut self, delta: &Delta) -> Result<(), NoMemory>
-        ensures afresh { OnOk result ((rows : Rows) → IsAfresh self.old rows → IsAfresh self.new (redo delta.now rows)) }
+        ensures afresh { OnOk result ((rows : Rows) → IsAfresh self.old rows
+            → IsAfresh self.new (redo delta.now rows)) }
         ensures ok { OnOk result (self.new ≡ applied delta.now self.old) }
         ensures err { OnErr result (self.new ≡ self.old) }
         ensures takes_no_memory { belonging self.old.spec delta.now.key delta.now.after ≡ None → IsOk result }
@@ -130,8 +136,8 @@ impl ViewState {
     }
 
     /// What the state shows from a key on: its number, its count, its sums, and a copy of the first rows from that key
-    /// on, up to the limit. Shares the bytes. O(log n + m) in the rows that it holds and the columns that it gives, with
-    /// an allocation for each row that it gives.
+    /// on, up to the limit. Shares the bytes. O(log n + m) in the rows that it holds and the columns that it gives,
+    /// with an allocation for each row that it gives.
     pub fn read(&self, start: &Key, limit: u16) -> Result<Page, NoMemory>
         ensures { IfOk result (λ page. page ≡ page_of_state self.now start.now limit) }
     {
@@ -181,8 +187,8 @@ fn copied_rows(alloc: Global, rows: &BTreeMap<Key, Row>) -> Result<BTreeMap<Key,
 }
 
 impl TryCopy for ViewState {
-    /// Shares the bytes. O(n log n) in the rows, with an allocation for each. Applied to the same deltas, both states stay
-    /// equal.
+    /// Shares the bytes. O(n log n) in the rows, with an allocation for each. Applied to the same deltas, both states
+    /// stay equal.
     fn copy(&self, alloc: Global) -> Result<ViewState, NoMemory> {
         Ok(ViewState {
             alloc,

@@ -11,6 +11,7 @@ use std::alloc::Global;
 use std::test::Fail;
 
 // A commit that leaves a row with this one column at a key, or none, and what the view shows after it.
+#[derive(Clone, Copy)]
 struct Step {
     key: &'static [u8],
     column: Option<&'static [u8]>,
@@ -35,6 +36,38 @@ const fn removed(key: &'static [u8], count: u64, sum: u128) -> Step {
         sum,
     }
 }
+
+// Of rows whose column is at least 5.
+const COME_AND_GO: [Step; 6] = [
+    put(b"a", &[4], 0, 0),
+    put(b"a", &[5], 1, 5),
+    put(b"b", &[7], 2, 12),
+    put(b"a", &[4], 1, 7),
+    removed(b"b", 0, 0),
+    removed(b"c", 0, 0),
+];
+
+// Of each row: nine bytes count 0.
+const LARGE: [Step; 3] = [
+    put(b"a", &[0xff; 8], 1, 18_446_744_073_709_551_615),
+    put(b"b", &[0xff; 8], 2, 36_893_488_147_419_103_230),
+    put(b"c", &[1; 9], 3, 36_893_488_147_419_103_230),
+];
+
+// Of the keys that begin with ab.
+const BEGIN_WITH_AB: [Step; 4] = [
+    put(b"a", &[1], 0, 0),
+    put(b"ab", &[2], 1, 2),
+    put(b"abc", &[3], 2, 5),
+    put(b"b", &[4], 2, 5),
+];
+
+// Of each row.
+const THREE_KEYS: [Step; 3] = [
+    put(b"a", &[1], 1, 1),
+    put(b"c", &[2], 2, 3),
+    put(b"e", &[3], 3, 6),
+];
 
 fn row(alloc: Global, version: u64, column: &'static [u8]) -> Result<Row, Refusal> {
     let columns = Columns::from_vec(Vec::from_array(alloc, [Bytes::from_static(column)])?);
@@ -81,42 +114,23 @@ fn range(test: RowTest) -> ViewSpec {
 
 #[test]
 fn rows_come_and_go(rt: HostRuntime) -> Result<(), Fail> {
-    let steps = [
-        put(b"a", &[4], 0, 0),
-        put(b"a", &[5], 1, 5),
-        put(b"b", &[7], 2, 12),
-        put(b"a", &[4], 1, 7),
-        removed(b"b", 0, 0),
-        removed(b"c", 0, 0),
-    ];
-    let _ = walked(rt.alloc(), range(RowTest::AtLeast(0, 5)), &steps)?;
+    let _ = walked(rt.alloc(), range(RowTest::AtLeast(0, 5)), &COME_AND_GO)?;
     Ok(())
 }
 
 #[test]
 fn large_sums(rt: HostRuntime) -> Result<(), Fail> {
-    let steps = [
-        put(b"a", &[0xff; 8], 1, 18_446_744_073_709_551_615),
-        put(b"b", &[0xff; 8], 2, 36_893_488_147_419_103_230),
-        put(b"c", &[1; 9], 3, 36_893_488_147_419_103_230),
-    ];
-    let _ = walked(rt.alloc(), range(RowTest::Any), &steps)?;
+    let _ = walked(rt.alloc(), range(RowTest::Any), &LARGE)?;
     Ok(())
 }
 
 #[test]
 fn prefixes(rt: HostRuntime) -> Result<(), Fail> {
-    let steps = [
-        put(b"a", &[1], 0, 0),
-        put(b"ab", &[2], 1, 2),
-        put(b"abc", &[3], 2, 5),
-        put(b"b", &[4], 2, 5),
-    ];
     let spec = ViewSpec::Prefix {
         key: Bytes::from_static(b"ab"),
         test: RowTest::Any,
     };
-    let _ = walked(rt.alloc(), spec, &steps)?;
+    let _ = walked(rt.alloc(), spec, &BEGIN_WITH_AB)?;
     Ok(())
 }
 
@@ -138,12 +152,7 @@ fn listed(
 #[test]
 fn pages_and_copies(rt: HostRuntime) -> Result<(), Fail> {
     let alloc = rt.alloc();
-    let steps = [
-        put(b"a", &[1], 1, 1),
-        put(b"c", &[2], 2, 3),
-        put(b"e", &[3], 3, 6),
-    ];
-    let state = walked(alloc, range(RowTest::Any), &steps)?;
+    let state = walked(alloc, range(RowTest::Any), &THREE_KEYS)?;
     let start = Key::new(Bytes::from_static(b"b"))?;
     assert_eq!(rt;
         listed(alloc, &state, start, 1)?.as_slice(),
