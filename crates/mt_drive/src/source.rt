@@ -1,13 +1,12 @@
 //! The lines of what a reader gives.
 
-ghost use Rattle.std.specs.Prelude.{◌≡◌, ◌≢◌, ◌+◌, ◌<◌, false, IfOk, IfErr, IfSome, OnSome, vec_items};
+ghost use Rattle.std.specs.Prelude.{◌≡◌, ◌⊎◌, ◌+◌, ◌<◌, false, IfOk, IfErr, IfSome, OnSome, vec_items};
 ghost use Rattle.std.specs.Option.{option_map};
 ghost use Rattle.std.specs.IoError.{error_kind};
 ghost use Rattle.std.specs.Io.BufRead.{strip_last};
-ghost use Rattle.mt_types.specs.declared.refusal.Refusal.{Refusal};
 ghost use Rattle.mt_drive.specs.Lines.{LosesLine};
 ghost use Rattle.mt_drive.specs.Source.{source_rest, reads_left, lines_left, read_failed, GivesNoMore};
-ghost use Rattle.mt_drive.specs.declared.fault.ScriptFault.TheVariants.{Read as ReadFault, NoMemory, Start};
+ghost use Rattle.mt_drive.specs.declared.fault.ScriptFault.TheVariants.{Read as ReadFault, NoMemory};
 
 use crate::counted::Counted;
 use crate::fault::ScriptFault;
@@ -46,7 +45,7 @@ impl<R: Read> Source<R> {
     fn fault_of(&self, error: &io::Error) -> ScriptFault
         ensures read { result ≡ ReadFault → GivesNoMore self.now }
         ensures memory { error_kind error.now ≡ ErrorKind.OutOfMemory → result ≡ NoMemory }
-        ensures opened { (refusal : Refusal) → result ≢ Start refusal }
+        ensures fault { (result ≡ ReadFault) ⊎ (result ≡ NoMemory) }
     {
         if error.kind() != ErrorKind::OutOfMemory && self.buffered.get_ref().has_failed() {
             ScriptFault::Read
@@ -62,7 +61,7 @@ impl<R: Read> Source<R> {
         ensures within { lines_left self.old < 18446744073709551616 }
         ensures fewer { IfOk result (λ line. OnSome line (lines_left self.new + 1 ≡ lines_left self.old)) }
         ensures read { IfErr result (λ fault. fault ≡ ReadFault → GivesNoMore self.new) }
-        ensures opened { IfErr result (λ fault. (refusal : Refusal) → fault ≢ Start refusal) }
+        ensures fault { IfErr result (λ fault. (fault ≡ ReadFault) ⊎ (fault ≡ NoMemory)) }
     {
         if self.lines_left == 0 {
             return Err(ScriptFault::Read);

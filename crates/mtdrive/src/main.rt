@@ -35,13 +35,7 @@ commas. Other lines print `bad line`.
 The status is 0; 1 where a line was bad; 2 for a bad command line; 3 where reading or writing failed.";
 
 // An option that takes a number within these bounds.
-fn number_option<'a>(
-    alloc: Global,
-    name: &'a str,
-    least: u64,
-    most: u64,
-    help: &'a str,
-) -> Arg<'a>
+fn number_option<'a>(alloc: Global, name: &'a str, least: u64, most: u64, help: &'a str) -> Arg<'a>
     ensures rule { rule_of result ≡ number_rule name.entry.now least most }
     ensures local { result.global ≡ false }
 {
@@ -107,6 +101,7 @@ fn options_given(alloc: Global, words: &[String]) -> Result<Options, Error>
 }
 
 // How a run ends, and what there is to tell of it on standard error.
+#[derive(Drop)]
 struct Ending {
     status: u8,
     fault: Option<ScriptFault>,
