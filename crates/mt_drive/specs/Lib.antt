@@ -4,3 +4,5 @@ pub mod Reading
 pub mod Script
 pub mod Service
 pub mod Showing
+pub mod Sink
+pub mod Source

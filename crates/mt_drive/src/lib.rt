@@ -4,11 +4,11 @@
 pub mod command;
 mod counted;
 pub mod fault;
-mod lines;
 pub mod reading;
 pub mod script;
-mod sending;
 mod service;
 pub mod showing;
+pub mod sink;
+pub mod source;
 #[cfg(test)]
 mod tests;

@@ -1,6 +1,6 @@
 //! The run of a script on an index.
 
-ghost use Rattle.std.specs.Prelude.{◌≡◌, ◌≢◌, ◌+◌, ◌-◌, ◌^◌, ◌<◌, ◌≤◌, [], ◌∷◌, IfOk, IfErr, IfSome, Err};
+ghost use Rattle.std.specs.Prelude.{◌≡◌, ◌≢◌, ◌+◌, ◌-◌, ◌^◌, ◌<◌, ◌≤◌, true, [], ◌∷◌, IfOk, IfErr, IfSome, Err};
 ghost use Rattle.mt_types.specs.Limits.{open_fault};
 ghost use Rattle.mt_types.specs.declared.refusal.Refusal.{Refusal};
 ghost use Rattle.mt_machine.specs.Stands.{Stands};
@@ -9,23 +9,23 @@ ghost use Rattle.mt_drive.specs.Service.{event_service};
 ghost use Rattle.mt_drive.specs.Machine.{Leads};
 ghost use Rattle.mt_drive.specs.Script.{goes_on, bad_lines, Happens, Finishes, Asks, Answers, Played, Broke};
 ghost use Rattle.mt_types.specs.declared.event.Event.TheVariants.{Step};
-ghost use Rattle.mt_drive.specs.declared.fault.ScriptFault.TheVariants.{Start, NoMemory};
+ghost use Rattle.mt_drive.specs.Sink.{sink_writer, write_failed};
+ghost use Rattle.mt_drive.specs.Source.{source_rest, GivesNoMore};
+ghost use Rattle.mt_drive.specs.declared.fault.ScriptFault.TheVariants.{Read as ReadFault, Write as WriteFault, Start, NoMemory};
 
 use crate::command::Command;
-use crate::counted::Counted;
 use crate::fault::{LineError, ScriptFault};
-use crate::lines::next_line;
 use crate::reading::read_command;
-use crate::sending::send;
 use crate::service::{Service, event_service};
+use crate::sink::Sink;
+use crate::source::Source;
 use mt_machine::machine::Machine;
 use mt_machine::options::Options;
 use mt_types::event::{Event, Outcome};
 use mt_types::numbers::CallNo;
 use mt_types::refusal::Refusal;
 use std::alloc::Global;
-use std::io;
-use std::io::{BufRead, BufReader, ErrorKind, Read, Write};
+use std::io::{Read, Write};
 
 // The most steps that a line `finish` makes.
 const MAX_STEPS: usize = 1_000_000;
@@ -93,59 +93,29 @@ fn count(bad: u64, reply: &Option<Outcome>) -> u64
     if reply.is_none() { bad + 1 } else { bad }
 }
 
-// Why a line could not be read: the reader says want of memory, its own or that of the line, by the kind of its error.
-fn fault_of(error: &io::Error) -> ScriptFault
-    ensures { (refusal : Refusal) → result ≢ Start refusal }
-{
-    if error.kind() == ErrorKind::OutOfMemory {
-        ScriptFault::NoMemory
-    } else {
-        ScriptFault::Read
-    }
-}
-
-// Answers the lines that the reader gives, on an empty index.
-fn play<R: BufRead, W: Write>(
+// Answers the lines that the source gives, on an empty index.
+fn play<R: Read, W: Write>(
     machine: &mut Machine,
     alloc: Global,
-    reader: &mut R,
-    writer: &mut W,
+    reader: &mut Source<R>,
+    writer: &mut Sink<W>,
 ) -> Result<u64, ScriptFault>
     requires { Stands machine.old [] }
-    ensures ok { IfOk result (λ bad. Played machine.old.columns (R.remaining reader.old) (W.contents writer.old) bad (W.contents writer.new)) }
-    ensures err { IfErr result (λ fault. Broke machine.old.columns fault (R.remaining reader.old) (W.contents writer.old) (W.contents writer.new)) }
+    ensures ok { IfOk result (λ bad. Played machine.old.columns (source_rest R.remaining reader.old)
+        (W.contents (sink_writer writer.old)) bad (W.contents (sink_writer writer.new))) }
+    ensures err { IfErr result (λ fault. Broke machine.old.columns fault (source_rest R.remaining reader.old)
+        (W.contents (sink_writer writer.old)) (W.contents (sink_writer writer.new))) }
+    ensures read { IfErr result (λ fault. fault ≡ ReadFault → GivesNoMore reader.new) }
+    ensures write { IfErr result (λ fault. fault ≡ WriteFault → write_failed writer.new ≡ true) }
     ensures opened { IfErr result (λ fault. (refusal : Refusal) → fault ≢ Start refusal) }
 {
     let mut bad: u64 = 0;
-    for _ in 0..u64::MAX {
-        let line = match next_line(alloc, reader) {
-            Ok(Some(line)) => line,
-            Ok(None) => return Ok(bad),
-            Err(e) => return Err(fault_of(&e)),
-        };
+    while let Some(line) = reader.next_line(alloc)? {
         let reply = answer(machine, alloc, &line)?;
         bad = count(bad, &reply);
-        send(alloc, writer, &reply)?;
+        writer.send(alloc, &reply)?;
     }
-    Err(ScriptFault::Read)
-}
-
-// The same of any reader, which is read a bounded number of times.
-fn play_from<R: Read + Drop, W: Write>(
-    machine: &mut Machine,
-    alloc: Global,
-    reader: R,
-    writer: &mut W,
-) -> Result<u64, ScriptFault>
-    requires { Stands machine.old [] }
-    ensures ok { IfOk result (λ bad. Played machine.old.columns (R.remaining reader) (W.contents writer.old) bad (W.contents writer.new)) }
-    ensures err { IfErr result (λ fault. Broke machine.old.columns fault (R.remaining reader) (W.contents writer.old) (W.contents writer.new)) }
-    ensures opened { IfErr result (λ fault. (refusal : Refusal) → fault ≢ Start refusal) }
-{
-    match BufReader::new(alloc, Counted::new(reader)) {
-        Ok(mut buffered) => play(machine, alloc, &mut buffered, writer),
-        Err(_) => Err(ScriptFault::NoMemory),
-    }
+    Ok(bad)
 }
 
 /// Answers the lines of a script on an empty index, a line of text for each, and gives the number of bad lines.
@@ -155,27 +125,33 @@ fn play_from<R: Read + Drop, W: Write>(
 /// `bad line`; the begin of a call whose key has more than eight bytes is refused, since there is one layer so far. What a
 /// line says and how an outcome is written is told in `reading` and `showing`. `finish` makes at most 1,000,000 steps.
 ///
-/// The reader is read at most 4,294,967,295 times, in pieces; the writer is given each reply in one piece, and is not
-/// flushed. A line costs its event, or its steps, and some allocations for its words and its reply.
+/// The writer is given each reply in one piece, and is not flushed. A line costs its event, or its steps, and some
+/// allocations for its words and its reply.
 ///
 /// # Errors
 ///
-/// `Start` where the index can't be opened, before anything is read. `Read` where a read fails, or one more than the most
-/// is wanted; `Write` where a write fails or takes nothing; `NoMemory` where a line can't be kept or its reply not be
-/// made. What was written by then are the first bytes of the replies so far, and all of them where a read failed.
-pub fn script<R: Read + Drop, W: Write>(
+/// `Start` where the index can't be opened, before anything is read. `Read` where a read of the source failed, `Write`
+/// where a write of the sink failed or took nothing, `NoMemory` where a line can't be kept or its reply not be made. What
+/// was written by then are the first bytes of the replies so far, and all of them where a read failed.
+pub fn script<R: Read, W: Write>(
     alloc: Global,
     options: Options,
-    reader: R,
-    writer: &mut W,
+    reader: &mut Source<R>,
+    writer: &mut Sink<W>,
 ) -> Result<u64, ScriptFault>
-    ensures answered { IfOk result (λ bad. Played options.columns (R.remaining reader) (W.contents writer.old) bad (W.contents writer.new)) }
-    ensures broke { IfErr result (λ fault. Broke options.columns fault (R.remaining reader) (W.contents writer.old) (W.contents writer.new)) }
-    ensures start { IfSome (open_fault options.columns options.feed options.keep) (λ refusal. (result ≡ Err (Start refusal)) × (writer.new ≡ writer.old)) }
-    ensures opened { IfErr result (λ fault. (refusal : Refusal) → fault ≡ Start refusal → open_fault options.columns options.feed options.keep ≡ Some refusal) }
+    ensures answered { IfOk result (λ bad. Played options.columns (source_rest R.remaining reader.old)
+        (W.contents (sink_writer writer.old)) bad (W.contents (sink_writer writer.new))) }
+    ensures broke { IfErr result (λ fault. Broke options.columns fault (source_rest R.remaining reader.old)
+        (W.contents (sink_writer writer.old)) (W.contents (sink_writer writer.new))) }
+    ensures read { result ≡ Err ReadFault → GivesNoMore reader.new }
+    ensures write { result ≡ Err WriteFault → write_failed writer.new ≡ true }
+    ensures start { IfSome (open_fault options.columns options.feed options.keep)
+        (λ refusal. (result ≡ Err (Start refusal)) × (writer.new ≡ writer.old) × (reader.new ≡ reader.old)) }
+    ensures opened { IfErr result (λ fault. (refusal : Refusal) → fault ≡ Start refusal
+        → open_fault options.columns options.feed options.keep ≡ Some refusal) }
 {
     match Machine::open(alloc, options) {
-        Ok(mut machine) => play_from(&mut machine, alloc, reader, writer),
+        Ok(mut machine) => play(&mut machine, alloc, reader, writer),
         Err(refusal) => Err(ScriptFault::Start(refusal)),
     }
 }

@@ -2,141 +2,106 @@
 
 use crate::fault::ScriptFault;
 use crate::script::script;
+use crate::sink::Sink;
+use crate::source::Source;
 use mt_machine::options::Options;
 use mt_types::refusal::Refusal;
+use std::alloc::AllocError;
 use std::io;
 use std::io::{ErrorKind, Read, Write};
+use thiserror::Error;
 
-const ONE_COLUMN: Options = Options {
-    columns: 1,
-    feed: 4096,
-    keep: 0,
-};
-
-#[test]
-fn empty_index_empty_key(rt: HostRuntime) {
-    let input = b"begin 1 get - all\nstep 1\nstep 1\n".as_slice();
-    let mut out = Vec::new(rt.alloc());
-    let bad = script(rt.alloc(), ONE_COLUMN, input, &mut out);
-    assert!(rt; bad == Ok(0));
-    assert_eq!(rt;
-        out.as_slice(),
-        b"call 1\nmoved\ndone 0 0 absent\n".as_slice()
-    );
+fn options(columns: u64) -> Options {
+    Options {
+        columns,
+        feed: 4096,
+        keep: 0,
+    }
 }
+
+// A script on an index of so many columns, what is written, and how many lines are bad.
+struct Run {
+    columns: u64,
+    script: &'static [u8],
+    written: &'static [u8],
+    bad: u64,
+}
+
+// An empty index; a row that is visible by its commit alone; columns; a full border; what says nothing, the last of it
+// without a line feed.
+const RUNS: [Run; 5] = [
+    Run {
+        columns: 1,
+        script: b"begin 1 get - all\nstep 1\nstep 1\n",
+        written: b"call 1\nmoved\ndone 0 0 absent\n",
+        bad: 0,
+    },
+    Run {
+        columns: 1,
+        script: TWO_CALLS,
+        written: b"call 1\ncall 2\nmoved\nmoved\nmoved\nmoved\ndone 0 0 absent\ncommit 1\n\
+        call 3\nmoved\ndone 1 1 row 1 76\ndone 0 1 put 1\n",
+        bad: 0,
+    },
+    Run {
+        columns: 3,
+        script: b"begin 1 put 61 0=01,2=03\nfinish 1\nbegin 1 put 61 1=02\nfinish 2\nbegin 1 get 61 2,0\n\
+        finish 3\nbegin 1 put 61 1=-,1=00\nbegin 1 put 61 3=00\nbegin 1 put 61 0=\
+        0000000000000000000000000000000000000000000000000000000000000000\
+        000000000000000000000000000000000000000000000000000000000000000000\n\
+        begin 1 range - 10 1\nfinish 4\nbegin 1 remove 61\nfinish 5\nbegin 1 remove 61\nfinish 6\n",
+        written: b"call 1\ndone 0 1 put 1\ncall 2\ndone 1 2 put 2\ncall 3\ndone 2 2 row 2 03,01\n\
+        refused 3\nrefused 3\nrefused 4\ncall 4\ndone 2 2 rows 1 61:2:02\n\
+        call 5\ndone 2 3 removed 3\ncall 6\ndone 3 3 absent\n",
+        bad: 0,
+    },
+    Run {
+        columns: 1,
+        script: b"begin 1 put 01 0=01\nfinish 1\nbegin 1 put 02 0=02\nfinish 2\n\
+        begin 1 put 03 0=03\nfinish 3\nbegin 1 put 04 0=04\nfinish 4\n\
+        begin 1 put 05 0=05\nfinish 5\nbegin 1 put 06 0=06\nfinish 6\n\
+        begin 1 put 07 0=07\nfinish 7\nbegin 1 put 08 0=08\nfinish 8\n\
+        begin 1 put 09 0=09\nfinish 9\nbegin 1 put 0a 0=0a\nfinish 10\n\
+        begin 1 put 0b 0=0b\nfinish 11\nbegin 1 put 0c 0=0c\nfinish 12\n\
+        begin 1 put 0d 0=0d\nfinish 13\nbegin 1 put 0e 0=0e\nfinish 14\n\
+        begin 1 put 0f 0=0f\nfinish 15\nbegin 1 put 10 0=10\nfinish 16\n\
+        begin 1 get 01 all\nfinish 17\nbegin 1 get 313233343536373839 all\n",
+        written: b"call 1\ndone 0 1 put 1\ncall 2\ndone 1 2 put 2\n\
+        call 3\ndone 2 3 put 3\ncall 4\ndone 3 4 put 4\ncall 5\ndone 4 5 put 5\ncall 6\ndone 5 6 put 6\n\
+        call 7\ndone 6 7 put 7\ncall 8\ndone 7 8 put 8\ncall 9\ndone 8 9 put 9\ncall 10\ndone 9 10 put 10\n\
+        call 11\ndone 10 11 put 11\ncall 12\ndone 11 12 put 12\ncall 13\ndone 12 13 put 13\n\
+        call 14\ndone 13 14 put 14\ncall 15\ndone 14 15 put 15\ncall 16\nrefused 6\n\
+        call 17\ndone 15 15 row 1 01\nrefused 2\n",
+        bad: 0,
+    },
+    Run {
+        columns: 1,
+        script: b"st\xffp 1\n\nstep  1\nbegin 1 tidy 61\nstep 1\nbegin 1 get 61 1\nadvance",
+        written: b"bad line\nbad line\nbad line\nbad line\nrefused 9\nrefused 3\nbad line\n",
+        bad: 5,
+    },
+];
 
 const TWO_CALLS: &[u8] =
     b"begin 1 put 61 0=76\nbegin 2 get 61 all\nstep 1\nstep 1\nstep 1\nstep 2\nstep 2\nstep 1\n\
     begin 2 get 61 all\nstep 3\nstep 3\nstep 1\n";
 
-const TWO_CALLS_ANSWERED: &[u8] =
-    b"call 1\ncall 2\nmoved\nmoved\nmoved\nmoved\ndone 0 0 absent\ncommit 1\n\
-    call 3\nmoved\ndone 1 1 row 1 76\ndone 0 1 put 1\n";
-
-#[test]
-fn visible_by_permutation_alone(rt: HostRuntime) {
-    let mut out = Vec::new(rt.alloc());
-    let bad = script(rt.alloc(), ONE_COLUMN, TWO_CALLS, &mut out);
-    assert!(rt; bad == Ok(0));
-    assert_eq!(rt; out.as_slice(), TWO_CALLS_ANSWERED);
-}
-
-const SIXTEEN_PUTS: &[u8] = b"begin 1 put 01 0=01\nfinish 1\nbegin 1 put 02 0=02\nfinish 2\n\
-    begin 1 put 03 0=03\nfinish 3\nbegin 1 put 04 0=04\nfinish 4\n\
-    begin 1 put 05 0=05\nfinish 5\nbegin 1 put 06 0=06\nfinish 6\n\
-    begin 1 put 07 0=07\nfinish 7\nbegin 1 put 08 0=08\nfinish 8\n\
-    begin 1 put 09 0=09\nfinish 9\nbegin 1 put 0a 0=0a\nfinish 10\n\
-    begin 1 put 0b 0=0b\nfinish 11\nbegin 1 put 0c 0=0c\nfinish 12\n\
-    begin 1 put 0d 0=0d\nfinish 13\nbegin 1 put 0e 0=0e\nfinish 14\n\
-    begin 1 put 0f 0=0f\nfinish 15\nbegin 1 put 10 0=10\nfinish 16\n\
-    begin 1 get 01 all\nfinish 17\nbegin 1 get 313233343536373839 all\n";
-
-const SIXTEEN_PUTS_ANSWERED: &[u8] = b"call 1\ndone 0 1 put 1\ncall 2\ndone 1 2 put 2\n\
-    call 3\ndone 2 3 put 3\ncall 4\ndone 3 4 put 4\ncall 5\ndone 4 5 put 5\ncall 6\ndone 5 6 put 6\n\
-    call 7\ndone 6 7 put 7\ncall 8\ndone 7 8 put 8\ncall 9\ndone 8 9 put 9\ncall 10\ndone 9 10 put 10\n\
-    call 11\ndone 10 11 put 11\ncall 12\ndone 11 12 put 12\ncall 13\ndone 12 13 put 13\n\
-    call 14\ndone 13 14 put 14\ncall 15\ndone 14 15 put 15\ncall 16\nrefused 6\n\
-    call 17\ndone 15 15 row 1 01\nrefused 2\n";
-
-#[test]
-fn full_border(rt: HostRuntime) {
-    let mut out = Vec::new(rt.alloc());
-    let bad = script(rt.alloc(), ONE_COLUMN, SIXTEEN_PUTS, &mut out);
-    assert!(rt; bad == Ok(0));
-    assert_eq!(rt; out.as_slice(), SIXTEEN_PUTS_ANSWERED);
-}
-
-const TWO_COLUMNS: Options = Options {
-    columns: 2,
-    feed: 4096,
-    keep: 0,
-};
-
-const PUT_RANGE_REMOVE: &[u8] =
-    b"begin 1 put 61 0=01\nfinish 1\nbegin 1 put 61 1=02\nfinish 2\nbegin 1 range - 10 1\nfinish 3\n\
-    begin 1 remove 61\nfinish 4\nbegin 1 remove 61\nfinish 5\n";
-
-const PUT_RANGE_REMOVE_ANSWERED: &[u8] =
-    b"call 1\ndone 0 1 put 1\ncall 2\ndone 1 2 put 2\ncall 3\ndone 2 2 rows 1 61:2:02\n\
-    call 4\ndone 2 3 removed 3\ncall 5\ndone 3 3 absent\n";
-
-#[test]
-fn put_range_remove(rt: HostRuntime) {
-    let mut out = Vec::new(rt.alloc());
-    let bad = script(rt.alloc(), TWO_COLUMNS, PUT_RANGE_REMOVE, &mut out);
-    assert!(rt; bad == Ok(0));
-    assert_eq!(rt; out.as_slice(), PUT_RANGE_REMOVE_ANSWERED);
-}
-
-const THREE_COLUMNS: Options = Options {
-    columns: 3,
-    feed: 4096,
-    keep: 0,
-};
-
-const COLUMNS: &[u8] =
-    b"begin 1 put 61 0=01,2=03\nfinish 1\nbegin 1 put 61 1=02\nfinish 2\nbegin 1 get 61 2,0\n\
-    finish 3\nbegin 1 put 61 1=-,1=00\nbegin 1 put 61 3=00\nbegin 1 put 61 0=\
-    0000000000000000000000000000000000000000000000000000000000000000\
-    000000000000000000000000000000000000000000000000000000000000000000\n";
-
-const COLUMNS_ANSWERED: &[u8] =
-    b"call 1\ndone 0 1 put 1\ncall 2\ndone 1 2 put 2\ncall 3\ndone 2 2 row 2 03,01\n\
-    refused 3\nrefused 3\nrefused 4\n";
-
-#[test]
-fn columns(rt: HostRuntime) {
-    let mut out = Vec::new(rt.alloc());
-    let bad = script(rt.alloc(), THREE_COLUMNS, COLUMNS, &mut out);
-    assert!(rt; bad == Ok(0));
-    assert_eq!(rt; out.as_slice(), COLUMNS_ANSWERED);
-}
-
-// No text, an empty line, two spaces, what isn't served yet, and a last line without its line feed.
-#[test]
-fn bad_lines_go_on(rt: HostRuntime) {
-    let input =
-        b"st\xffp 1\n\nstep  1\nbegin 1 tidy 61\nstep 1\nbegin 1 get 61 1\nadvance".as_slice();
-    let mut out = Vec::new(rt.alloc());
-    let bad = script(rt.alloc(), ONE_COLUMN, input, &mut out);
-    assert!(rt; bad == Ok(5));
-    assert_eq!(rt;
-        out.as_slice(),
-        b"bad line\nbad line\nbad line\nbad line\nrefused 9\nrefused 3\nbad line\n".as_slice()
-    );
+#[derive(Debug, Error, Drop)]
+enum Fail {
+    #[error("out of memory")]
+    NoMemory(#[from] AllocError),
 }
 
 #[test]
-fn seventeen_columns(rt: HostRuntime) {
-    let options = Options {
-        columns: 17,
-        feed: 4096,
-        keep: 0,
-    };
-    let mut out = Vec::new(rt.alloc());
-    let bad = script(rt.alloc(), options, TWO_CALLS, &mut out);
-    assert!(rt; bad == Err(ScriptFault::Start(Refusal::BadColumn)));
-    assert_eq!(rt; out.len(), 0);
+fn runs(rt: HostRuntime) -> Result<(), Fail> {
+    for run in &RUNS {
+        let mut reader = Source::new(rt.alloc(), run.script)?;
+        let mut writer = Sink::new(Vec::new(rt.alloc()));
+        let bad = script(rt.alloc(), options(run.columns), &mut reader, &mut writer);
+        assert!(rt; bad == Ok(run.bad));
+        assert_eq!(rt; writer.writer().as_slice(), run.written);
+    }
+    Ok(())
 }
 
 // Gives a byte in each call, and fails once all are given.
@@ -157,17 +122,6 @@ impl Read for Failing {
         self.bytes = rest;
         Ok(1)
     }
-}
-
-#[test]
-fn a_reader_that_fails(rt: HostRuntime) {
-    let reader = Failing {
-        bytes: b"begin 1 get - all\nstep 1\nste",
-    };
-    let mut out = Vec::new(rt.alloc());
-    let bad = script(rt.alloc(), ONE_COLUMN, reader, &mut out);
-    assert!(rt; bad == Err(ScriptFault::Read));
-    assert_eq!(rt; out.as_slice(), b"call 1\nmoved\n".as_slice());
 }
 
 // Takes at most five bytes at a time, and none after fifteen.
@@ -192,9 +146,25 @@ impl Write for Narrow {
 }
 
 #[test]
-fn a_writer_that_takes_no_more(rt: HostRuntime) {
-    let mut narrow = Narrow { taken: 0 };
-    let bad = script(rt.alloc(), ONE_COLUMN, TWO_CALLS, &mut narrow);
+fn faults(rt: HostRuntime) -> Result<(), Fail> {
+    let mut reader = Source::new(rt.alloc(), TWO_CALLS)?;
+    let mut writer = Sink::new(Vec::new(rt.alloc()));
+    let bad = script(rt.alloc(), options(17), &mut reader, &mut writer);
+    assert!(rt; bad == Err(ScriptFault::Start(Refusal::BadColumn)));
+    assert_eq!(rt; writer.writer().len(), 0);
+
+    let failing = Failing {
+        bytes: b"begin 1 get - all\nstep 1\nste",
+    };
+    let mut reader = Source::new(rt.alloc(), failing)?;
+    let bad = script(rt.alloc(), options(1), &mut reader, &mut writer);
+    assert!(rt; bad == Err(ScriptFault::Read));
+    assert_eq!(rt; writer.writer().as_slice(), b"call 1\nmoved\n".as_slice());
+
+    let mut reader = Source::new(rt.alloc(), TWO_CALLS)?;
+    let mut writer = Sink::new(Narrow { taken: 0 });
+    let bad = script(rt.alloc(), options(1), &mut reader, &mut writer);
     assert!(rt; bad == Err(ScriptFault::Write));
-    assert_eq!(rt; narrow.taken, 19);
+    assert_eq!(rt; writer.writer().taken, 19);
+    Ok(())
 }

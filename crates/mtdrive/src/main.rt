@@ -1,19 +1,23 @@
 //! Answers a script of the index: lines of events on standard input, a line of text for each on standard output.
 #![tactic(auto)]
 
-ghost use Rattle.std.specs.Prelude.{◌≡◌, codes};
-ghost use Rattle.clap.specs.Words.{found_of, one_text};
-ghost use Rattle.mtdrive.specs.CommandLine.{IsNumber, status_of};
+ghost use Rattle.std.specs.Prelude.{◌≡◌, false, codes, map, string_bytes, IfOk};
+ghost use Rattle.clap.specs.Words.{app_of, found_of, one_text, rule_of};
+ghost use Rattle.mt_drive.specs.Sink.{sink_writer};
+ghost use Rattle.mt_drive.specs.Source.{source_rest};
+ghost use Rattle.mtdrive.specs.CommandLine.{number_rule, mtdrive_app, IsNumber, AreFound, AreSaid, status_of, Answered};
 
 use clap::builder::ValueParser;
 use clap::error::ErrorKind as FaultKind;
 use clap::{Arg, ArgMatches, Command, Error};
 use mt_drive::fault::ScriptFault;
 use mt_drive::script::script;
+use mt_drive::sink::Sink;
+use mt_drive::source::Source;
 use mt_machine::options::Options;
 use mt_types::limits::{MAX_COLUMNS, MAX_FEED, MAX_KEEP};
 use std::alloc::{AllocError, Global};
-use std::io::ErrorKind;
+use std::io::{ErrorKind, Read, Write};
 use std::process::ExitCode;
 use std::{env, io};
 
@@ -31,13 +35,10 @@ commas. Other lines print `bad line`.
 The status is 0; 1 where a line was bad; 2 for a bad command line; 3 where reading or writing failed.";
 
 // An option that takes a number within these bounds.
-fn number_option<'a>(
-    alloc: Global,
-    name: &'a str,
-    least: u64,
-    most: u64,
-    help: &'a str,
-) -> Arg<'a> {
+fn number_option<'a>(alloc: Global, name: &'a str, least: u64, most: u64, help: &'a str) -> Arg<'a>
+    ensures rule { rule_of result ≡ number_rule name.entry.now least most }
+    ensures local { result.global ≡ false }
+{
     Arg::new(alloc, name)
         .long(name)
         .value_name("N")
@@ -45,7 +46,9 @@ fn number_option<'a>(
         .help(help)
 }
 
-fn command<'a>(alloc: Global) -> Result<Command<'a>, AllocError> {
+fn command<'a>(alloc: Global) -> Result<Command<'a>, AllocError>
+    ensures { IfOk result (λ command. app_of command ≡ mtdrive_app) }
+{
     let columns = "How many columns a row has, 1 to 16 [default: 1]";
     let feed = "How many commits the log holds for the slowest reader, 1 to 65536 [default: 4096]";
     let keep = "How many of the last commits the log keeps, 0 to 65536 [default: 0]";
@@ -68,9 +71,7 @@ fn number(matches: &ArgMatches<'_>, name: &str, otherwise: u64) -> u64
 }
 
 fn options_of(matches: &ArgMatches<'_>) -> Options
-    ensures columns { IsNumber (one_text (found_of matches.now) (codes "columns")) 1 result.columns }
-    ensures feed { IsNumber (one_text (found_of matches.now) (codes "feed")) 4096 result.feed }
-    ensures keep { IsNumber (one_text (found_of matches.now) (codes "keep")) 0 result.keep }
+    ensures { AreFound matches.now result }
 {
     Options {
         columns: number(matches, "columns", 1),
@@ -92,17 +93,36 @@ fn status_of(played: &Result<u64, ScriptFault>) -> u8
 }
 
 // What the command line says, or the text to print in place of a run.
-fn options_given(alloc: Global, words: &[String]) -> Result<Options, Error> {
+fn options_given(alloc: Global, words: &[String]) -> Result<Options, Error>
+    ensures { IfOk result (λ options. AreSaid (map string_bytes words.now) options) }
+{
     let matches = command(alloc)?.try_get_matches_from(words)?;
     Ok(options_of(&matches))
 }
 
-fn play(rt: &(impl Input + Print + Eprint + AllocGlobal), options: Options) -> io::Result<u8> {
-    let played = script(rt.alloc(), options, rt.reader(), &mut io::writer(rt));
-    if let Err(fault) = &played {
-        eprintln!(rt; "mtdrive: {fault}")?;
-    }
-    Ok(status_of(&played))
+// How a run ends, and what there is to tell of it on standard error.
+#[derive(Drop)]
+struct Ending {
+    status: u8,
+    fault: Option<ScriptFault>,
+}
+
+// Answers the script of the source as the words of the command line ask.
+fn answer<R: Read, W: Write>(
+    alloc: Global,
+    words: &[String],
+    reader: &mut Source<R>,
+    writer: &mut Sink<W>,
+) -> Result<Ending, Error>
+    ensures { IfOk result (λ ending. Answered (map string_bytes words.now) ending (source_rest R.remaining reader.old)
+        (W.contents (sink_writer writer.old)) (W.contents (sink_writer writer.new))) }
+{
+    let options = options_given(alloc, words)?;
+    let played = script(alloc, options, reader, writer);
+    Ok(Ending {
+        status: status_of(&played),
+        fault: played.err(),
+    })
 }
 
 fn run(rt: &HostRuntime) -> io::Result<u8> {
@@ -110,8 +130,15 @@ fn run(rt: &HostRuntime) -> io::Result<u8> {
     for word in env::args(rt)? {
         words.push(word)?;
     }
-    match options_given(rt.alloc(), words.as_slice()) {
-        Ok(options) => play(rt, options),
+    let mut reader = Source::new(rt.alloc(), rt.reader())?;
+    let mut writer = Sink::new(io::writer(rt));
+    match answer(rt.alloc(), words.as_slice(), &mut reader, &mut writer) {
+        Ok(ending) => {
+            if let Some(fault) = ending.fault {
+                eprintln!(rt; "mtdrive: {fault}")?;
+            }
+            Ok(ending.status)
+        }
         Err(fault) if fault.kind() == FaultKind::OutOfMemory => Err(ErrorKind::OutOfMemory.into()),
         Err(fault) => {
             fault.print(rt)?;
