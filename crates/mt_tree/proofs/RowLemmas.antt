@@ -235,7 +235,7 @@ module _ (b : BorderView) (sound : IsBorder b) (rest : List ℕ) where
           by_rank true g = absurd (content_not entry.content g)
           by_rank false g = let same : at_place ≡ place = cc in omega (arith, same, few)
 
-  stands_at : (found : Found) → found_for rest b.live ≡ found → IsFoundAt rest b.live found
+  pub stands_at : (found : Found) → found_for rest b.live ≡ found → IsFoundAt rest b.live found
   stands_at (Absent place) e = absent_within place e
   stands_at (RowFound place) e =
       let f = found_one (slice_number rest) (class_of (length rest)) (drop 8 rest) b.live (RowFound place) e (λ k clash. cc) in

@@ -1,5 +1,5 @@
 -- What a descent sees at a node on its way to the rest of a key, and what it then knows of the tree.
-use Rattle.std.specs.Prelude.{ℕ, ◌≡◌, ◌≢◌, ◌<◌, ◌≤◌, ◌-◌, ◌⊎◌, ◌↔◌, if◌then◌else◌, false, List, ◌∷◌, length, drop, slice_get, Option, Some, None, IsSome}
+use Rattle.std.specs.Prelude.{ℕ, ◌≡◌, ◌≢◌, ◌<◌, ◌≤◌, ◌-◌, ◌⊎◌, ◌↔◌, if◌then◌else◌, Bool, false, List, ◌∷◌, length, drop, slice_get, Option, Some, None, IsSome}
 use Rattle.mt_types.specs.declared.numbers.NodeNo.{NodeNo}
 use Rattle.mt_types.specs.declared.row.Row.{Row}
 use Rattle.mt_slice.specs.Place.{Place, first_slice, under, place_of, slice_number}
@@ -68,6 +68,12 @@ abbrev pub node_visit : List ℕ → Node → Visit
 node_visit rest (Head h) = visit_head h
 node_visit rest (Interior i) = visit_interior (slice_number rest) i
 node_visit rest (Border b) = visit_border rest b
+
+-- the node is marked deleted
+abbrev pub is_marked : Node → Bool
+is_marked (Head h) = h.version.deleted
+is_marked (Interior i) = i.version.deleted
+is_marked (Border b) = b.version.deleted
 
 -- the node, if it is an interior that is not marked deleted, has a child for the slice
 pub record MayVisitNode (node : Node) (slice : ℕ) : Type 0 where

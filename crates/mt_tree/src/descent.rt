@@ -1,13 +1,13 @@
 //! How a call goes down the tree to a key, and what it knows on the way.
 
-ghost use Rattle.std.specs.Prelude.{◌≡◌, ◌<◌, ◌≤◌, length, drop, false, IsSome, IsSomeAnd};
+ghost use Rattle.std.specs.Prelude.{◌≡◌, ◌<◌, ◌≤◌, length, drop, true, false, IsSome, IsSomeAnd};
 ghost use Rattle.mt_slice.specs.Place.{slice_number};
 ghost use Rattle.mt_border.specs.Order.{IsBorder};
 ghost use Rattle.mt_interior.specs.Head.{IsHead};
 ghost use Rattle.mt_interior.specs.Interior.{IsInterior};
 ghost use Rattle.mt_arena.specs.Node.{node_at, border_at, IsNode};
 ghost use Rattle.mt_arena.specs.Arena.{IsArena};
-ghost use Rattle.mt_tree.specs.Descent.{visit_head, visit_interior, visit_border, node_visit, found_for, MayVisit, MayVisitNode, LeadsOn, TellsVisit, IsFoundAt, TellsRow};
+ghost use Rattle.mt_tree.specs.Descent.{is_marked, visit_head, visit_interior, visit_border, node_visit, found_for, MayVisit, MayVisitNode, LeadsOn, TellsVisit, IsFoundAt, TellsRow};
 
 use crate::tree::Tree;
 use crate::visit::Visit;
@@ -20,6 +20,7 @@ use mt_types::numbers::NodeNo;
 // From a head to the root.
 fn visit_head(head: &Head) -> Visit
     ensures value { result ≡ visit_head head.now }
+    ensures again { result ≡ Visit.Again → head.now.version.deleted ≡ true }
     ensures sound { IsHead head.now }
 {
     if head.is_deleted() {
@@ -32,6 +33,7 @@ fn visit_head(head: &Head) -> Visit
 fn visit_interior(interior: &Interior, slice: u64) -> Visit
     requires { interior.now.version.deleted ≡ false → (0 < length interior.now.children) × (interior.now.low ≤ slice) }
     ensures value { result ≡ visit_interior slice interior.now }
+    ensures again { result ≡ Visit.Again → interior.now.version.deleted ≡ true }
     ensures sound { IsInterior interior.now }
 {
     if interior.is_deleted() {
@@ -52,6 +54,7 @@ fn find(border: &Border, rest: &[u8]) -> Found
 // From a border to the right, where the slice stands there or beyond, or to the layer below, where a link leads on.
 fn visit_border(border: &Border, rest: &[u8]) -> Visit
     ensures value { result ≡ visit_border rest.now border.now }
+    ensures again { result ≡ Visit.Again → border.now.version.deleted ≡ true }
     ensures sound { IsBorder border.now }
 {
     if border.is_deleted() {
@@ -72,6 +75,7 @@ fn visit_border(border: &Border, rest: &[u8]) -> Visit
 pub fn visit_node(node: &Node, rest: &[u8]) -> Visit
     requires { MayVisitNode node.now (slice_number rest.now) }
     ensures value { result ≡ node_visit rest.now node.now }
+    ensures again { result ≡ Visit.Again → is_marked node.now ≡ true }
     ensures sound { IsNode node.now }
 {
     match node {
@@ -93,6 +97,7 @@ impl Tree {
     pub fn visit(&self, number: NodeNo, rest: &[u8]) -> Visit
         requires { MayVisit self.now number.0 (slice_number rest.now) }
         ensures value { IsSomeAnd (node_at self.now.nodes number.0) (λ node. result ≡ node_visit rest.now node) }
+        ensures again { result ≡ Visit.Again → IsSomeAnd (node_at self.now.nodes number.0) (λ node. is_marked node ≡ true) }
         ensures leads { LeadsOn self.now number.0 rest.now result }
         ensures tells { TellsVisit self.now number.0 rest.now result }
         ensures arena { IsArena self.now }
