@@ -6,6 +6,7 @@ use Rattle.mt_types.specs.declared.row.Row.{Row}
 use Rattle.mt_types.specs.declared.numbers.NodeNo.{NodeNo}
 use Rattle.mt_word.specs.Version.{VersionView}
 use Rattle.mt_word.specs.declared.permutation_word.TheConstants.{SLOTS}
+use Rattle.mt_word.specs.declared.version_word.TheConstants.{MAX_INSERTS}
 use Rattle.mt_border.specs.Entry.{entry_row, entry_suffix, at_version, with_row, with_link}
 use Rattle.mt_border.specs.Table.{TableView, blank_slot, first_changed, changed_at}
 use Rattle.mt_border.specs.declared.entry.Entry.{Entry}
@@ -96,7 +97,7 @@ suffix_at place live = first_suffix (drop place live)
 
 -- a filling would raise a counter that is at its greatest value
 abbrev pub fill_is_spent : BorderView → Bool
-fill_is_spent b = first_held b.unused && (b.version.vinsert == 2 ^ 56 - 1)
+fill_is_spent b = first_held b.unused && (b.version.vinsert == MAX_INSERTS)
 
 -- the version, after a slot was filled that held a key before, or did not
 abbrev pub filled_version : Bool → VersionView → VersionView

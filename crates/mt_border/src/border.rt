@@ -4,6 +4,7 @@ ghost use Rattle.std.specs.Prelude.{◌≡◌, ℕ, ◌+◌, ◌-◌, ◌*◌, �
 ghost use Rattle.std.specs.List.{list_any, prefix_len};
 ghost use Rattle.std.specs.Bool.{IsFalse};
 ghost use Rattle.mt_word.specs.declared.permutation_word.TheConstants.{SLOTS};
+ghost use Rattle.mt_word.specs.declared.version_word.TheConstants.{MAX_INSERTS, MAX_SPLITS};
 ghost use Rattle.mt_word.specs.Version.{IsVersion};
 ghost use Rattle.mt_border.specs.Entry.{IsEntry, entry_rank};
 ghost use Rattle.mt_border.specs.Border.{new_border, with_filled, with_shown, with_hidden, with_value, with_link_at, with_entries, with_split, with_right, with_lock, with_deleted, right_for, row_at, suffix_at, fill_is_spent, filled_version, next_row};
@@ -56,7 +57,7 @@ impl Model for Border {
 fn version_filled(version: Version, held_key: bool) -> Result<Version, Refusal>
     ensures ok { IfOk result (λ raised. raised ≡ filled_version held_key version) }
     ensures whole { IfOk result IsVersion }
-    ensures spent { IsErr result ↔ ((held_key ≡ true) × (version.vinsert ≡ 2 ^ 56 - 1)) }
+    ensures spent { IsErr result ↔ ((held_key ≡ true) × (version.vinsert ≡ MAX_INSERTS)) }
     ensures only { IfErr result (λ refusal. refusal ≡ Refusal.Spent) }
 {
     let mut raised = version;
@@ -69,7 +70,7 @@ fn version_filled(version: Version, held_key: bool) -> Result<Version, Refusal>
 
 // The version after a split.
 fn version_split(version: Version) -> Version
-    requires { version.vsplit < 2 ^ 64 - 1 }
+    requires { version.vsplit < MAX_SPLITS }
     ensures { result ≡ record version { vsplit = version.vsplit + 1 } }
 {
     let mut raised = version;
@@ -202,8 +203,8 @@ impl Border {
 
     /// Whether the counter of splits is at its greatest value, 2^64 - 1. Constant cost.
     pub fn is_split_spent(&self) -> bool
-        ensures spent { IsTrue result ↔ (self.now.version.vsplit ≡ 2 ^ 64 - 1) }
-        ensures left { IsFalse result ↔ (self.now.version.vsplit < 2 ^ 64 - 1) }
+        ensures spent { IsTrue result ↔ (self.now.version.vsplit ≡ MAX_SPLITS) }
+        ensures left { IsFalse result ↔ (self.now.version.vsplit < MAX_SPLITS) }
         ensures sound { IsBorder self.now }
     {
         self.version.is_split_spent()
@@ -399,7 +400,7 @@ impl Border {
         requires within { keep ≤ length self.old.live }
         requires above_low { self.old.low < right.low }
         requires above_kept { AreBelow right.low (take keep self.old.live) }
-        requires unspent { self.old.version.vsplit < 2 ^ 64 - 1 }
+        requires unspent { self.old.version.vsplit < MAX_SPLITS }
         ensures value { self.new ≡ with_split self.old keep right }
         ensures sound { IsBorder self.new }
     {

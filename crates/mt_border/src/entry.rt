@@ -37,6 +37,7 @@ fn each_byte(bytes: &Bytes) -> &[u8]
     ensures value { result.now ≡ bytes.now }
     ensures bytes { AreBytes bytes.now }
 {
+    // Of a variable the proof knows that its items are bytes.
     let read = bytes.as_slice();
     read
 }

@@ -34,9 +34,11 @@ VisitsHaveOutcomes = (show : Row → Row) (limit : ℕ) (prefix : List ℕ) (at 
 
 -- a right answer by places is a right answer by keys, of bytes
 abbrev pub AnswersAreOfKeys : Type 0
-AnswersAreOfKeys = (show : Row → Row) (past : List Arena) (start : List ℕ) (limit : ℕ) (pairs : List (List ℕ × Row)) → AreBytes start → KeysAreBytes pairs →
+AnswersAreOfKeys = (show : Row → Row) (past : List Arena) (start : List ℕ) (limit : ℕ) (pairs : List (List ℕ × Row)) →
+    AreBytes start → KeysAreBytes pairs →
     AnswersRange (Stood show past) (AllHave past) (place_of start) limit (as_places pairs) →
-    IsRangeAnswer (λ key row. Stood show past (place_of key) row) (λ key. AreBytes key × AllHave past (place_of key)) start limit pairs
+    IsRangeAnswer (λ key row. Stood show past (place_of key) row)
+    (λ key. AreBytes key × AllHave past (place_of key)) start limit pairs
 
 -- what a scan reads of a key whose row nobody changed is that row
 abbrev pub SteadyRowsAreRead : Type 0

@@ -4,6 +4,7 @@ use Rattle.mt_slice.specs.Place.{place_of}
 use Rattle.mt_types.specs.declared.row.Row.{Row}
 use Rattle.mt_types.specs.declared.numbers.NodeNo.{NodeNo}
 use Rattle.mt_word.specs.declared.permutation_word.TheConstants.{SLOTS}
+use Rattle.mt_word.specs.declared.version_word.TheConstants.{MAX_SPLITS}
 use Rattle.mt_border.specs.Entry.{entry_row}
 use Rattle.mt_border.specs.Border.{BorderView, next_row, row_at, with_shown}
 use Rattle.mt_border.specs.Order.{IsBorder, AreBelow}
@@ -55,7 +56,7 @@ pub record IsUpperHalf (b half : BorderView) (keep : ℕ) : Type 0 where
   pub right : half.right ≡ b.right
   pub above_low : b.low < half.low
   pub above_kept : AreBelow half.low (take keep b.live)
-  pub unspent : b.version.vsplit < 2 ^ 64 - 1
+  pub unspent : b.version.vsplit < MAX_SPLITS
 
 -- the chart then: the border is on, in some layer, whose head is not marked deleted where it names the border; the
 -- half, of this low, was unknown, and is on in that layer from then on, but no head or interior may name it

@@ -2,6 +2,7 @@
 
 ghost use Rattle.std.specs.Prelude.{◌≡◌, ◌<◌, ◌-◌, ◌^◌, ◌↔◌, length, IsTrue, IsSome};
 ghost use Rattle.mt_word.specs.declared.permutation_word.TheConstants.{SLOTS};
+ghost use Rattle.mt_word.specs.declared.version_word.TheConstants.{MAX_SPLITS};
 ghost use Rattle.mt_border.specs.Entry.{entry_suffix};
 
 use super::*;
@@ -85,7 +86,7 @@ fn ten_and_five(alloc: Global) -> Result<Border, Fail> {
 // Cuts a full border in two: fills a new one, of this number, with the upper entries, and links it.
 fn split(alloc: Global, border: &mut Border, node: NodeNo) -> Result<Border, Fail>
     requires full { length border.old.live ≡ SLOTS }
-    requires unspent { border.old.version.vsplit < 2 ^ 64 - 1 }
+    requires unspent { border.old.version.vsplit < MAX_SPLITS }
 {
     let cut = border.cut_place();
     let low = border.entry(cut).slice;
