@@ -10,63 +10,50 @@ use mt_types::view::{Page, RowTest, ViewSpec};
 use std::alloc::Global;
 use std::test::Fail;
 
-// A commit that leaves a row with this one column at a key, or none, and what the view shows after it.
-#[derive(Clone, Copy)]
-struct Step {
-    key: &'static [u8],
-    column: Option<&'static [u8]>,
-    count: u64,
-    sum: u128,
-}
-
-const fn put(key: &'static [u8], column: &'static [u8], count: u64, sum: u128) -> Step {
-    Step {
-        key,
-        column: Some(column),
-        count,
-        sum,
-    }
-}
-
-const fn removed(key: &'static [u8], count: u64, sum: u128) -> Step {
-    Step {
-        key,
-        column: None,
-        count,
-        sum,
-    }
-}
+// A commit that leaves a row with this one column at a key, or no row where it has no bytes; and what the view then
+// shows: how many rows, and the sum of their amounts.
+type Step = (&'static [u8], &'static [u8], u64, u128);
 
 // Of rows whose column is at least 5.
 const COME_AND_GO: [Step; 6] = [
-    put(b"a", &[4], 0, 0),
-    put(b"a", &[5], 1, 5),
-    put(b"b", &[7], 2, 12),
-    put(b"a", &[4], 1, 7),
-    removed(b"b", 0, 0),
-    removed(b"c", 0, 0),
+    (b"a", b"\x04", 0, 0),
+    (b"a", b"\x05", 1, 5),
+    (b"b", b"\x07", 2, 12),
+    (b"a", b"\x04", 1, 7),
+    (b"b", b"", 0, 0),
+    (b"c", b"", 0, 0),
 ];
 
 // Of each row: nine bytes count 0.
 const LARGE: [Step; 3] = [
-    put(b"a", &[0xff; 8], 1, 18_446_744_073_709_551_615),
-    put(b"b", &[0xff; 8], 2, 36_893_488_147_419_103_230),
-    put(b"c", &[1; 9], 3, 36_893_488_147_419_103_230),
+    (
+        b"a",
+        b"\xff\xff\xff\xff\xff\xff\xff\xff",
+        1,
+        18_446_744_073_709_551_615,
+    ),
+    (
+        b"b",
+        b"\xff\xff\xff\xff\xff\xff\xff\xff",
+        2,
+        36_893_488_147_419_103_230,
+    ),
+    (b"c", b"123456789", 3, 36_893_488_147_419_103_230),
 ];
 
 // Of the keys that begin with ab.
 const BEGIN_WITH_AB: [Step; 4] = [
-    put(b"a", &[1], 0, 0),
-    put(b"ab", &[2], 1, 2),
-    put(b"abc", &[3], 2, 5),
-    put(b"b", &[4], 2, 5),
+    (b"a", b"\x01", 0, 0),
+    (b"ab", b"\x02", 1, 2),
+    (b"abc", b"\x03", 2, 5),
+    (b"b", b"\x04", 2, 5),
 ];
 
 // Of each row.
 const THREE_KEYS: [Step; 3] = [
-    put(b"a", &[1], 1, 1),
-    put(b"c", &[2], 2, 3),
-    put(b"e", &[3], 3, 6),
+    (b"a", b"\x01", 1, 1),
+    (b"c", b"\x02", 2, 3),
+    (b"e", b"\x03", 3, 6),
 ];
 
 fn row(alloc: Global, version: u64, column: &'static [u8]) -> Result<Row, Refusal> {
@@ -76,33 +63,41 @@ fn row(alloc: Global, version: u64, column: &'static [u8]) -> Result<Row, Refusa
 
 // A state doesn't look at what a delta says of the row before.
 fn delta(alloc: Global, number: u64, step: &Step) -> Result<Delta, Refusal> {
-    let after = match step.column {
-        Some(column) => Some(row(alloc, number, column)?),
-        None => None,
+    let (key, column, _, _) = *step;
+    let after = if column.is_empty() {
+        None
+    } else {
+        Some(row(alloc, number, column)?)
     };
     Ok(Delta {
         number,
-        key: Key::new(Bytes::from_static(step.key))?,
+        key: Key::new(Bytes::from_static(key))?,
         before: None,
         after,
     })
 }
 
 fn shows(page: &Page, number: u64, step: &Step) -> bool {
-    let sums = page.sums.as_slice();
-    page.at == number && page.count == step.count && sums == [step.sum].as_slice()
+    let (_, _, count, sum) = *step;
+    page.at == number && page.count == count && page.sums.as_slice() == [sum].as_slice()
 }
 
-// The state after these commits from the first on. Refused `Behind` at the first after which it shows something else.
+// Takes the state on by a commit. Refused `Behind` where it then shows something else.
+fn take_on(alloc: Global, state: &mut ViewState, number: u64, step: &Step) -> Result<(), Refusal> {
+    state.apply(&delta(alloc, number, step)?)?;
+    let page = state.read(&Key::new(Bytes::new())?, 10)?;
+    if shows(&page, number, step) {
+        Ok(())
+    } else {
+        Err(Refusal::Behind(number))
+    }
+}
+
+// The state after these commits from the first on.
 fn walked(alloc: Global, spec: ViewSpec, steps: &[Step]) -> Result<ViewState, Refusal> {
     let mut state = ViewState::open(alloc, 1, spec)?;
-    let first = Key::new(Bytes::new())?;
     for (index, step) in steps.iter().enumerate() {
-        let number = index as u64 + 1;
-        state.apply(&delta(alloc, number, step)?)?;
-        if !shows(&state.read(&first, 10)?, number, step) {
-            return Err(Refusal::Behind(number));
-        }
+        take_on(alloc, &mut state, index as u64 + 1, step)?;
     }
     Ok(state)
 }
@@ -113,54 +108,34 @@ fn range(test: RowTest) -> ViewSpec {
 }
 
 #[test]
-fn rows_come_and_go(rt: HostRuntime) -> Result<(), Fail> {
+fn states_follow_commits(rt: HostRuntime) -> Result<(), Fail> {
     let _ = walked(rt.alloc(), range(RowTest::AtLeast(0, 5)), &COME_AND_GO)?;
-    Ok(())
-}
-
-#[test]
-fn large_sums(rt: HostRuntime) -> Result<(), Fail> {
     let _ = walked(rt.alloc(), range(RowTest::Any), &LARGE)?;
+    let key = Bytes::from_static(b"ab");
+    let test = RowTest::Any;
+    let _ = walked(rt.alloc(), ViewSpec::Prefix { key, test }, &BEGIN_WITH_AB)?;
+    Ok(())
+}
+
+// The number of rows that the state shows from key b on, one at most, and the version of the last.
+fn first_from_b(state: &ViewState) -> Result<(usize, u64), Refusal> {
+    let page = state.read(&Key::new(Bytes::from_static(b"b"))?, 1)?;
+    let rows = page.rows.as_slice();
+    Ok((rows.len(), rows.last().map_or(0, |(_, row)| row.version)))
+}
+
+#[test]
+fn page_from_a_key(rt: HostRuntime) -> Result<(), Fail> {
+    let state = walked(rt.alloc(), range(RowTest::Any), &THREE_KEYS)?;
+    assert_eq!(rt; first_from_b(&state)?, (1, 2));
     Ok(())
 }
 
 #[test]
-fn prefixes(rt: HostRuntime) -> Result<(), Fail> {
-    let spec = ViewSpec::Prefix {
-        key: Bytes::from_static(b"ab"),
-        test: RowTest::Any,
-    };
-    let _ = walked(rt.alloc(), spec, &BEGIN_WITH_AB)?;
-    Ok(())
-}
-
-// The keys' last bytes and the versions of the rows that the state shows from a key on.
-fn listed(
-    alloc: Global,
-    state: &ViewState,
-    start: Key,
-    limit: u16,
-) -> Result<Vec<(u8, u64)>, Refusal> {
-    let page = state.read(&start, limit)?;
-    let mut listed = Vec::new(alloc);
-    for (key, row) in page.rows.as_slice() {
-        listed.push((key.as_slice().last().copied().unwrap_or(0), row.version))?;
-    }
-    Ok(listed)
-}
-
-#[test]
-fn pages_and_copies(rt: HostRuntime) -> Result<(), Fail> {
-    let alloc = rt.alloc();
-    let state = walked(alloc, range(RowTest::Any), &THREE_KEYS)?;
-    let start = Key::new(Bytes::from_static(b"b"))?;
-    assert_eq!(rt;
-        listed(alloc, &state, start, 1)?.as_slice(),
-        [(b'c', 2)].as_slice()
-    );
-    let mut copied = state.copy(alloc)?;
-    copied.apply(&delta(alloc, 4, &removed(b"c", 2, 4))?)?;
+fn copies_go_on(rt: HostRuntime) -> Result<(), Fail> {
+    let state = walked(rt.alloc(), range(RowTest::Any), &THREE_KEYS)?;
+    let mut copied = state.copy(rt.alloc())?;
+    take_on(rt.alloc(), &mut copied, 4, &(b"c", b"", 2, 4))?;
     assert_eq!(rt; (state.at(), state.count()), (3, 3));
-    assert_eq!(rt; (copied.at(), copied.count()), (4, 2));
     Ok(())
 }
