@@ -15,7 +15,8 @@ use std::alloc::Global;
 
 /// What stands before the first stop, and what after it.
 fn halves(text: &[u8], stop: u8) -> Option<(&[u8], &[u8])>
-    ensures found { MatchOption result (word_at stop text.now ≡ None) (λ x. word_at stop text.now ≡ Some (x.0.now, x.1.now)) }
+    ensures found { MatchOption result (word_at stop text.now ≡ None)
+        (λ x. word_at stop text.now ≡ Some (x.0.now, x.1.now)) }
     ensures shorter { IfSome result (λ x. length x.1.now < length text.now) }
 {
     for (i, b) in text.iter().enumerate() {
@@ -196,8 +197,8 @@ fn range(alloc: Global, text: &[u8]) -> Result<Request, LineError>
     })
 }
 
-/// The request that a text says: `get KEY COLS`, `put KEY SETS`, `remove KEY` or `range START LIMIT COLS`, its words parted
-/// by one space. Costs a look at each byte, and an allocation for each key, each list and each column.
+/// The request that a text says: `get KEY COLS`, `put KEY SETS`, `remove KEY` or `range START LIMIT COLS`, its words
+/// parted by one space. Costs a look at each byte, and an allocation for each key, each list and each column.
 #[tactic(auto, unfolding(crate::specs::Reading::request_of))]
 pub fn read_request(alloc: Global, text: &[u8]) -> Result<Request, LineError>
     ensures { Gives (λ r. r) result (request_of text.now) }

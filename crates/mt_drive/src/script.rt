@@ -72,7 +72,8 @@ fn ask(machine: &mut Machine, alloc: Global, event: &Event) -> Option<Outcome>
 
 // What a line is answered.
 fn answer(machine: &mut Machine, alloc: Global, line: &[u8]) -> Result<Option<Outcome>, ScriptFault>
-    ensures stands { IfOk result (λ reply. Leads machine.old (λ past h. Answers (command_of line.now) past reply h) machine.new) }
+    ensures stands { IfOk result (λ reply. Leads machine.old
+        (λ past h. Answers (command_of line.now) past reply h) machine.new) }
     ensures columns { machine.new.columns ≡ machine.old.columns }
     ensures err { IfErr result (λ fault. (fault ≡ NoMemory) × (machine.new ≡ machine.old)) }
 {
@@ -122,8 +123,9 @@ fn play<R: Read, W: Write>(
 ///
 /// A line is `begin PASS REQUEST`, `step CALL` or `finish CALL`; a request is `get KEY COLS`, `put KEY SETS`,
 /// `remove KEY` or `range START LIMIT COLS`. A line of other bytes, or of what the index doesn't serve yet, is answered
-/// `bad line`; the begin of a call whose key has more than eight bytes is refused, since there is one layer so far. What a
-/// line says and how an outcome is written is told in `reading` and `showing`. `finish` makes at most 1,000,000 steps.
+/// `bad line`; the begin of a call whose key has more than eight bytes is refused, since there is one layer so far.
+/// What a line says and how an outcome is written is told in `reading` and `showing`. `finish` makes at most 1,000,000
+/// steps.
 ///
 /// The writer is given each reply in one piece, and is not flushed. A line costs its event, or its steps, and some
 /// allocations for its words and its reply.
@@ -131,8 +133,8 @@ fn play<R: Read, W: Write>(
 /// # Errors
 ///
 /// `Start` where the index can't be opened, before anything is read. `Read` where a read of the source failed, `Write`
-/// where a write of the sink failed or took nothing, `NoMemory` where a line can't be kept or its reply not be made. What
-/// was written by then are the first bytes of the replies so far, and all of them where a read failed.
+/// where a write of the sink failed or took nothing, `NoMemory` where a line can't be kept or its reply not be made.
+/// What was written by then are the first bytes of the replies so far, and all of them where a read failed.
 pub fn script<R: Read, W: Write>(
     alloc: Global,
     options: Options,

@@ -147,8 +147,8 @@ fn push_reply(alloc: Global, out: &mut String, reply: &Reply) -> Result<(), Allo
     push_answer(alloc, out, &reply.answer)
 }
 
-/// Writes the text of an outcome at the end, without a line feed. On an error a part of it may stand there. Costs what the
-/// text is long.
+/// Writes the text of an outcome at the end, without a line feed. On an error a part of it may stand there. Costs what
+/// the text is long.
 pub fn push_outcome(alloc: Global, out: &mut String, outcome: &Outcome) -> Result<(), AllocError>
     ensures { OnOk result (string_bytes out.new ≡ string_bytes out.old ++ outcome_text outcome.now) }
 {

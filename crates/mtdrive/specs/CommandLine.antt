@@ -14,13 +14,19 @@ use Rattle.mtdrive.specs.declared.Ending.{Ending}
 
 -- --NAME N, a number within these bounds
 abbrev pub number_rule : List ℕ → ℕ → ℕ → Rule
-number_rule name least most = record (new_rule name) { long = Some name; value_names = 1; parser = Some (Unsigned least most) }
+number_rule name least most = record (new_rule name) {
+  long = Some name;
+  value_names = 1;
+  parser = Some (Unsigned least most);
+}
 
 -- the options of mtdrive
 abbrev pub mtdrive_app : App
 mtdrive_app =
     with_rule
-    (with_rule (with_rule (new_app (codes "mtdrive")) (number_rule (codes "columns") 1 16)) (number_rule (codes "feed") 1 65536))
+    (with_rule
+    (with_rule (new_app (codes "mtdrive")) (number_rule (codes "columns") 1 16))
+    (number_rule (codes "feed") 1 65536))
     (number_rule (codes "keep") 0 65536)
 
 -- decimal digits of a number of 64 bits
@@ -42,7 +48,8 @@ pub record AreFound (matches : ArgMatches) (options : Options) : Type 0 where
 abbrev pub AreSaid : List (List ℕ) → Options → Type 0
 AreSaid words options = (matches : ArgMatches) × HasMatchesOf mtdrive_app words matches × AreFound matches options
 
--- 0 where each line was answered, 1 where one was bad, 2 where the index can't be opened so, 3 where the script broke off
+-- 0 where each line was answered, 1 where one was bad, 2 where the index can't be opened so, 3 where the script
+-- broke off
 abbrev pub status_of : Result ℕ ScriptFault → ℕ
 status_of (Ok bad) = if bad == 0 then 0 else 1
 status_of (Err (Start refusal)) = 2
