@@ -55,7 +55,7 @@ applied past (x ∷ later) until call reply note e takes place =
     let is : apply_first ≡ x = ap newest e in
     let before : past ≡ later ++ end = ap older e in
     let here : takes_on first_view (later ++ end) x ≡ true =
-        subst (λ (y : Happening). takes_on first_view (later ++ end) y ≡ true) is (subst (λ (z : History). takes_on first_view z apply_first ≡ true) before takes) in
+    subst (λ (y : Happening). takes_on first_view (later ++ end) y ≡ true) is (subst (λ (z : History). takes_on first_view z apply_first ≡ true) before takes) in
     let one : one_if (takes_on first_view (later ++ end) x) ≡ 1 = ap one_if here in
     omega (arith, place, one)
 

@@ -5,6 +5,7 @@ ghost use Rattle.std.proofs.Common.{rules};
 ghost use Rattle.mt_promise.specs.ExactLists.{same_items, same_pairs, same_options};
 ghost use Rattle.mt_promise.specs.ExactValues.{same_rows, same_changes, same_deltas, same_pages, same_requests, same_events, same_answers, same_replies, same_outcomes};
 
+use bytes::Bytes;
 use mt_types::event::{Answer, Event, Outcome, Reply, Request, TidyRule};
 use mt_types::items::Items;
 use mt_types::key::Key;
@@ -12,7 +13,6 @@ use mt_types::numbers::{CallNo, NodeNo, PassNo, ViewNo};
 use mt_types::refusal::Refusal;
 use mt_types::row::{Change, Delta, Row};
 use mt_types::view::{Page, RowTest, ViewSpec};
-use bytes::Bytes;
 
 /// A value of which `==` says exactly whether another is the same, as each contract sees it.
 pub trait Exact: Eq {
