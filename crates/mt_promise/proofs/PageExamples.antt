@@ -1,5 +1,5 @@
 -- The small histories of wrong pages against the promise.
-use Rattle.std.proofs.Common.{◌≡◌, ℕ, ◌+◌, true, false, List, [], ◌∷◌, ◌++◌, ap, sym, subst, refl, ◌∙◌, arith}
+use Rattle.std.proofs.Common.{◌≡◌, ℕ, ◌+◌, true, false, [], ◌∷◌, ◌++◌, ap, sym, subst, refl, arith}
 use Rattle.std.proofs.lemmas.Bool.{false≢true}
 use Rattle.mt_promise.proofs.PageLemmas.{legal_views}
 use Rattle.mt_promise.specs.History.{History, Happening, happening}
@@ -8,8 +8,7 @@ use Rattle.mt_promise.specs.Examples.{PageAfterDropIsRefuted, PageLeftBehindIsRe
 use Rattle.mt_types.specs.declared.numbers.CallNo.{CallNo}
 use Rattle.mt_types.specs.declared.numbers.ViewNo.{ViewNo}
 use Rattle.mt_types.specs.declared.event.Event.{Event}
-use Rattle.mt_types.specs.declared.event.Event.TheVariants.{Step, Apply, ViewRead, ViewDrop, Collect}
-use Rattle.mt_types.specs.declared.event.Outcome.{Outcome}
+use Rattle.mt_types.specs.declared.event.Event.TheVariants.{Step, Apply, ViewDrop, Collect}
 use Rattle.mt_types.specs.declared.event.Outcome.TheVariants.{Done, Applied, Dropped}
 use Rattle.mt_types.specs.declared.event.Reply.{Reply}
 use Rattle.mt_types.specs.declared.view.Page.{Page}

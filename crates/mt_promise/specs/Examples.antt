@@ -49,17 +49,21 @@ done pass call from to answer =
 
 -- a put and a get begin, and the put comes to the border
 abbrev pub two_begun : History
-two_begun = told [] (begins 1 put 1 ∷ begins 2 get_all 2 ∷ steps 1 Moved ∷ steps 1 Moved ∷ steps 1 Moved ∷ steps 2 Moved ∷ [])
+two_begun =
+    told [] (begins 1 put 1 ∷ begins 2 get_all 2 ∷ steps 1 Moved ∷ steps 1 Moved ∷ steps 1 Moved ∷ steps 2 Moved ∷ [])
 
--- the row is visible by its commit alone: a get before it finds nothing, a get after it finds the row, before the put is done
+-- the row is visible by its commit alone: a get before it finds nothing, a get after it finds the row, before the put
+--     is done
 abbrev pub visible_by_commit_alone : History
 visible_by_commit_alone =
-    told two_begun (done 2 2 0 0 Absent ∷ steps 1 (Commit 1) ∷ begins 2 get_all 3 ∷ steps 3 Moved ∷ done 2 3 1 1 (Found row) ∷ done 1 1 0 1 (Stored 1) ∷ [])
+    told two_begun (done 2 2 0 0 Absent ∷ steps 1 (Commit 1) ∷ begins 2 get_all 3 ∷ steps 3 Moved ∷
+    done 2 3 1 1 (Found row) ∷ done 1 1 0 1 (Stored 1) ∷ [])
 
 -- a get that begins after the put is done finds nothing
 abbrev pub late_absence : History
 late_absence =
-    told two_begun (done 2 2 0 0 Absent ∷ steps 1 (Commit 1) ∷ done 1 1 0 1 (Stored 1) ∷ begins 2 get_all 3 ∷ steps 3 Moved ∷ done 2 3 1 1 Absent ∷ [])
+    told two_begun (done 2 2 0 0 Absent ∷ steps 1 (Commit 1) ∷ done 1 1 0 1 (Stored 1) ∷ begins 2 get_all 3 ∷
+    steps 3 Moved ∷ done 2 3 1 1 Absent ∷ [])
 
 -- a get finds the row before the commit
 abbrev pub early_row : History
@@ -85,7 +89,8 @@ at_least_five = RangeOf [] None (AtLeast 0 5)
 -- a put of one amount, from its begin to its end
 abbrev pub put_amount : ℕ → ℕ → ℕ → List Happening
 put_amount call number amount =
-    begins 1 (Put key ((0, amount ∷ []) ∷ [])) call ∷ steps call (Commit number) ∷ done 1 call (number - 1) number (Stored number) ∷ []
+    begins 1 (Put key ((0, amount ∷ []) ∷ [])) call ∷ steps call (Commit number) ∷
+    done 1 call (number - 1) number (Stored number) ∷ []
 
 -- a row comes into the view with the amount 5 and goes out with the amount 4, and the 5 is left in the sum
 abbrev pub amount_left : History

@@ -44,14 +44,16 @@ pub record AtSomeMoment (before past : History) (P : Moment → Type 0) : Type 0
 
 -- at each such moment
 abbrev pub AtEachMoment : History → History → (Moment → Type 0) → Type 0
-AtEachMoment before past P = (newer then : History) → past ≡ newer ++ then → length before ≤ length then → P (moment then)
+AtEachMoment before past P =
+    (newer then : History) → past ≡ newer ++ then → length before ≤ length then → P (moment then)
 
 -- each finished get replies with the row, or the absence, that its key had at some moment of that call
 abbrev pub GetsAreRight : ℕ → History → Type 0
 GetsAreRight C h =
     (key asked : List ℕ) (reply : Reply) (before past : History) → IsFinished h (Get key asked) reply before past →
     ((reply.answer ≡ Absent) × AtSomeMoment before past (λ m. get (rows C m) key ≡ None))
-    ⊎ ((row : Row) × (reply.answer ≡ Found (shown asked row)) × AtSomeMoment before past (λ m. get (rows C m) key ≡ Some row))
+    ⊎ ((row : Row) × (reply.answer ≡ Found (shown asked row))
+    × AtSomeMoment before past (λ m. get (rows C m) key ≡ Some row))
 
 -- the row of a key was shown so at some moment of a call
 abbrev pub WasShown : ℕ → History → History → List ℕ → List ℕ → Row → Type 0
@@ -62,10 +64,12 @@ WasShown C before past asked key answer =
 abbrev pub WasThereThroughout : ℕ → History → History → List ℕ → Type 0
 WasThereThroughout C before past key = AtEachMoment before past (λ m. IsSome (get (rows C m) key))
 
--- each finished range gives every key that was there throughout exactly once, in order, and only pairs true during the call
+-- each finished range gives every key that was there throughout exactly once, in order, and only pairs true during the
+--     call
 abbrev pub RangesAreRight : ℕ → History → Type 0
 RangesAreRight C h =
-    (start asked : List ℕ) (limit : ℕ) (reply : Reply) (before past : History) → IsFinished h (Range start limit asked) reply before past →
+    (start asked : List ℕ) (limit : ℕ) (reply : Reply) (before past : History) →
+    IsFinished h (Range start limit asked) reply before past →
     (pairs : List (List ℕ × Row)) × (reply.answer ≡ RowsAnswer pairs)
     × IsRangeAnswer (WasShown C before past asked) (WasThereThroughout C before past) start limit pairs
 
@@ -105,8 +109,8 @@ abbrev pub applies : ViewNo → History → History → ℕ
 applies view past [] = 0
 applies view past (x ∷ later) = applies view past later + one_if (takes_on view (later ++ past) x)
 
--- A view of this number stands at so many commits: a build that has finished gave it, to this specification; it opened at a
---     number of commits that there were at some moment of the build; it wasn't dropped since; and it stands as many
+-- A view of this number stands at so many commits: a build that has finished gave it, to this specification; it opened
+--     at a number of commits that there were at some moment of the build; it wasn't dropped since; and it stands as many
 --     commits further as it was taken on since.
 pub record StandsAt (past : History) (view : ViewNo) (spec : ViewSpec) (at : ℕ) : Type 0 where
   pub reply : Reply
@@ -117,17 +121,19 @@ pub record StandsAt (past : History) (view : ViewNo) (spec : ViewSpec) (at : ℕ
   pub opened_from : reply.from ≤ built.end_note
   pub opened_to : built.end_note ≤ reply.to
   pub kept : NoneDrops view built.later
-  pub place : at ≡ built.end_note + applies view (happening (Step built.number) (Done reply) built.end_note ∷ until) built.later
+  pub place : at ≡ built.end_note
+      + applies view (happening (Step built.number) (Done reply) built.end_note ∷ until) built.later
 
 -- the page is what the specification gives afresh on the rows after the page's number of commits
-pub record ShowsAfresh (C : ℕ) (past : History) (spec : ViewSpec) (start : List ℕ) (limit : ℕ) (page : Page) : Type 0 where
+pub record ShowsAfresh (C : ℕ) (past : History) (spec : ViewSpec) (start : List ℕ) (limit : ℕ)
+    (page : Page) : Type 0 where
   pub reached : page.at ≤ length (moment past).commits
   pub count : page.count ≡ length (afresh spec (after C (take page.at (moment past).commits)))
   pub sums : page.sums ≡ column_sums 0 C (afresh spec (after C (take page.at (moment past).commits)))
   pub rows : page.rows ≡ page_from start limit (afresh spec (after C (take page.at (moment past).commits)))
 
--- Each page is of a view that stands, at some number n of commits, and is exactly its filter and sums over the rows after
---     the first n commits.
+-- Each page is of a view that stands, at some number n of commits, and is exactly its filter and sums over the rows
+--     after the first n commits.
 abbrev pub ViewsAreRight : ℕ → History → Type 0
 ViewsAreRight C h =
     (view : ViewNo) (floor : ℕ) (start : List ℕ) (limit : ℕ) (page : Page) (note : ℕ) (later past : History) →

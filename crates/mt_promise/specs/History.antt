@@ -132,7 +132,8 @@ after_begin m pass request _ = m
 
 abbrev pub move_view : Option StandingView → List StandingView → List StandingView
 move_view None views = views
-move_view (Some moved) views = map (λ (v : StandingView). if v.number == moved.number then record v { at = v.at + 1 } else v) views
+move_view (Some moved) views =
+    map (λ (v : StandingView). if v.number == moved.number then record v { at = v.at + 1 } else v) views
 
 abbrev pub after_apply : Moment → ℕ → Outcome → Moment
 after_apply m view (Applied number) = record m { views = move_view (meant_view view m.views) m.views }

@@ -59,7 +59,8 @@ MayBegin m None outcome = IsOrLacksMemory (Call (record { 0 = m.begun + 1 })) ou
 -- a commit has the next number, and is the only one of its call
 abbrev pub MayCommit : ℕ → History → OpenCall → Request → ℕ → Type 0
 MayCommit C past call (Put key sets) number = (number ≡ length (moment past).commits + 1) × (call.committed ≡ None)
-MayCommit C past call (Remove key) number = (number ≡ length (moment past).commits + 1) × (call.committed ≡ None) × Stands C key (moment past)
+MayCommit C past call (Remove key) number =
+    (number ≡ length (moment past).commits + 1) × (call.committed ≡ None) × Stands C key (moment past)
 MayCommit C past call _ number = ⊥
 
 -- a range and a build read the log from the commits of their begin on
@@ -76,7 +77,8 @@ reads_log (Tidy key) = false
 abbrev pub held_from : Moment → ℕ
 held_from m =
     least (length m.commits)
-    (map (λ (v : StandingView). v.at) m.views ++ map (λ (call : OpenCall). call.from) (filter (λ call. reads_log call.request) m.calls))
+    (map (λ (v : StandingView). v.at) m.views
+    ++ map (λ (call : OpenCall). call.from) (filter (λ call. reads_log call.request) m.calls))
 
 -- the refusals that can end a call that has begun
 abbrev pub MayEnd : History → ℕ → Request → Refusal → Type 0
@@ -131,14 +133,16 @@ MayShow C m v start limit None outcome = IsOrLacksMemory (View (page_of C m v st
 
 abbrev pub MayRead : ℕ → Moment → Option StandingView → ℕ → List ℕ → ℕ → Outcome → Type 0
 MayRead C m None floor start limit outcome = outcome ≡ Refused NoSuchView
-MayRead C m (Some v) floor start limit outcome = MayShow C m v start limit (refused_if (nat_lt v.at floor) (Behind v.at)) outcome
+MayRead C m (Some v) floor start limit outcome =
+    MayShow C m v start limit (refused_if (nat_lt v.at floor) (Behind v.at)) outcome
 
 abbrev pub MayReadView : ℕ → Moment → Option Refusal → ℕ → ℕ → List ℕ → ℕ → Outcome → Type 0
 MayReadView C m (Some refusal) view floor start limit outcome = outcome ≡ Refused refusal
 MayReadView C m None view floor start limit outcome = MayRead C m (view_of view m.views) floor start limit outcome
 
 abbrev pub MayAdvance : Moment → Outcome → Type 0
-MayAdvance m outcome = MatchBool (nat_lt m.epoch greatest_number) (outcome ≡ Epoch (m.epoch + 1)) (outcome ≡ Refused Spent)
+MayAdvance m outcome =
+    MatchBool (nat_lt m.epoch greatest_number) (outcome ≡ Epoch (m.epoch + 1)) (outcome ≡ Refused Spent)
 
 abbrev pub MayDrop : Option StandingView → Outcome → Type 0
 MayDrop None outcome = outcome ≡ Refused NoSuchView
@@ -150,9 +154,11 @@ IsFreed outcome = (count : ℕ) × (outcome ≡ Freed count)
 -- the outcome that an event may have after this past
 abbrev pub MayHappen : ℕ → History → Event → Outcome → ℕ → Type 0
 MayHappen C past (Begin pass request) outcome opens =
-    MayBegin (moment past) (begin_fault C (moment past).begun (length (moment past).calls) (view_places (moment past)) request) outcome
+    let m = moment past in
+    MayBegin m (begin_fault C m.begun (length m.calls) (view_places m) request) outcome
 MayHappen C past (Step call) outcome opens = MayStepAt C past (call_of call.0 (moment past).calls) outcome opens
-MayHappen C past (Apply view) outcome opens = MayApply (moment past) view.0 (meant_view view.0 (moment past).views) outcome
+MayHappen C past (Apply view) outcome opens =
+    MayApply (moment past) view.0 (meant_view view.0 (moment past).views) outcome
 MayHappen C past (ViewRead view floor start limit) outcome opens =
     MayReadView C (moment past) (page_fault start limit) view.0 floor start limit outcome
 MayHappen C past (ViewDrop view) outcome opens = MayDrop (view_of view.0 (moment past).views) outcome

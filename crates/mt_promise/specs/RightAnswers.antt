@@ -22,10 +22,12 @@ Lacks C key m = get (rows C m) key ≡ None
 abbrev pub Stands : ℕ → List ℕ → Moment → Type 0
 Stands C key m = IsSome (get (rows C m) key)
 
--- the pairs of a range answer, asked from start on, at most limit of them, by a call that began when so much had happened
+-- the pairs of a range answer, asked from start on, at most limit of them, by a call that began when so much had
+--     happened
 abbrev pub RightRange : ℕ → ℕ → History → List ℕ → List ℕ → ℕ → List (List ℕ × Row) → Type 0
 RightRange C began past start asked limit pairs =
-    IsRangeAnswer (λ key answer. Sometime began (Shows C key asked answer) past) (λ key. Throughout began (Stands C key) past) start limit pairs
+    IsRangeAnswer (λ key answer. Sometime began (Shows C key asked answer) past)
+        (λ key. Throughout began (Stands C key) past) start limit pairs
 
 -- the answer of this call is right, given after this past
 abbrev pub RightAnswer : ℕ → History → OpenCall → Request → Answer → ℕ → Type 0
@@ -34,7 +36,8 @@ RightAnswer C past call (Get key asked) (Found row) opens = Sometime call.began 
 RightAnswer C past call (Put key sets) (Stored number) opens = call.committed ≡ Some number
 RightAnswer C past call (Remove key) (Removed number) opens = call.committed ≡ Some number
 RightAnswer C past call (Remove key) Absent opens = (call.committed ≡ None) × Sometime call.began (Lacks C key) past
-RightAnswer C past call (Range start limit asked) (RowsAnswer pairs) opens = RightRange C call.began past start asked limit pairs
+RightAnswer C past call (Range start limit asked) (RowsAnswer pairs) opens =
+    RightRange C call.began past start asked limit pairs
 RightAnswer C past call (Tidy key) (Tidied rule) opens = Unit {0}
 RightAnswer C past call (Build spec) (Built number) opens =
     (number.0 ≡ (moment past).built + 1) × (call.from ≤ opens) × (opens ≤ length (moment past).commits)
