@@ -1,0 +1,94 @@
+-- A step that changes one border, which the call owns, or which is neither locked nor a spare.
+use Rattle.std.proofs.Common.{ℕ, ◌≡◌, ◌≢◌, ◌⊎◌, inl, inr, List, [], ◌∷◌, Option, Some, None, IsSome, true, false, refl, sym, ap, subst, ◌∙◌}
+use Rattle.std.specs.Option.{option_and_then}
+use Rattle.mt_types.specs.declared.row.Row.{Row}
+use Rattle.mt_border.specs.Border.{BorderView}
+use Rattle.mt_arena.specs.Node.{node_at, border_at, border_of, Updates}
+use Rattle.mt_arena.specs.Arena.{ArenaView, with_border_changed}
+use Rattle.mt_arena.specs.declared.node.Node.{Node}
+use Rattle.mt_arena.specs.declared.node.Node.TheVariants.{Border}
+use Rattle.mt_arena.proofs.NodeLemmas.{updates-with_node, node-from_border}
+use Rattle.mt_chart.specs.Tree.{Among, first, later}
+use Rattle.mt_chart.specs.Chart.{Spot}
+use Rattle.mt_chart.proofs.Basics.{same_number}
+use Rattle.mt_chart.proofs.HeldNodes.{evolves_same}
+use Rattle.mt_tree.specs.Keeping.{IsIndexAt}
+use Rattle.mt_tree.proofs.SeenLemmas.{changed-border}
+use Rattle.mt_commit.specs.Log.{LogView}
+use Rattle.mt_chart.specs.Steps.{SameContent}
+use Rattle.mt_tree.specs.Seen.{arena_seen}
+use Rattle.mt_calls.specs.Step.{Changes}
+use Rattle.mt_calls.proofs.FrameLemmas.{is_among, taken_back}
+use Rattle.mt_calls.specs.World.{World, IsWorld, RowsAreOfKeys, IsLocked, IsTaken, NotAmong, Goes}
+
+-- ---- rows of keys
+pub keys_same : (a after : ArenaView) → SameContent (arena_seen a) (arena_seen after) → RowsAreOfKeys a → RowsAreOfKeys after
+keys_same a after same keys = record { key_of = λ place row has. keys.key_of place row ((same place row).0 has) }
+
+-- a change of one key's row, which is a row of that key of bytes
+pub keys_changed : (a after : ArenaView) (log left : LogView) (key : List ℕ) (before then : Option Row) (number : ℕ) → Changes a after log left key before then number → RowsAreOfKeys a → RowsAreOfKeys after
+keys_changed a after log left key before then number change keys = record {
+  key_of = λ place row has. elim ((change.content place row).0 has) [
+    | inl new ↦ record { key = key; bytes = change.bytes; fits = change.fits; is = sym new.0 }
+    | inr old ↦ keys.key_of place row old.0
+  ];
+}
+
+-- ---- one border is changed
+module _ (a : ArenaView) (n : ℕ) (b : BorderView) (change : BorderView → BorderView) (named : border_at a.nodes n ≡ Some b) where
+  some_node : IsSome (node_at a.nodes n)
+  some_node = subst (λ (x : Option Node). IsSome x) (sym (node-from_border a.nodes n b named)) refl
+
+  updated : Updates a.nodes (with_border_changed a n change).nodes n (Some (Border (change b)))
+  updated = subst (λ (x : ArenaView). Updates a.nodes x.nodes n (Some (Border (change b)))) (sym (changed-border a n b change named)) (updates-with_node a.nodes n (Border (change b)) some_node)
+
+  pub now_named : border_at (with_border_changed a n change).nodes n ≡ Some (change b)
+  now_named = ap (option_and_then border_of) updated.changed
+
+  pub others_named : (other : ℕ) → other ≢ n → node_at (with_border_changed a n change).nodes other ≡ node_at a.nodes other
+  others_named other apart = updated.others other apart
+
+  -- what the step leaves
+  pub goes_border : (now : ℕ) (w : World) (owned owns : List ℕ) (Then : World → Type 0) → IsWorld a now w → IsIndexAt (with_border_changed a n change) now w.twins w.chart → RowsAreOfKeys (with_border_changed a n change)
+      → ((other : ℕ) → IsTaken a w other → NotAmong other owned → other ≢ n) → ((other : ℕ) → Among other owns → Among other owned ⊎ (other ≡ n))
+      → ((other : ℕ) → other ≢ n → Among other owned → Among other owns) → (((change b).version.locked ≡ true) ⊎ (w.chart n ≡ None) → Among n owns) → Then w
+      → Goes now a (with_border_changed a n change) w owned owns Then
+  goes_border now w owned owns Then world index keys free fewer more mine truth = record {
+    next = w;
+    world = record { index = index; keys = keys };
+    evolves = λ begun before. evolves_same begun w.chart;
+    leaves = λ other taken apart. (
+      record { node = others_named other (free other taken apart); spot = refl },
+      λ i. elim (fewer other i) [ inl j ↦ apart j | inr e ↦ free other taken apart e ],
+    );
+    takes = λ number taken. elim (same_number number n) [
+      | inl e ↦ inl (subst (λ (m : ℕ). Among m owns) (sym e) (mine (elim taken [
+        | inl locked ↦ inl (subst (λ (x : Option Node). IsLocked x) (ap (λ (m : ℕ). node_at (with_border_changed a n change).nodes m) e ∙ updated.changed) locked)
+        | inr spare ↦ inr (ap w.chart (sym e) ∙ spare.1)
+      ])))
+      | inr differ ↦ elim (is_among number owned) [
+        | inl i ↦ inl (more number differ i)
+        | inr out ↦ inr (taken_back a (with_border_changed a n change) w w number (record { node = others_named number differ; spot = refl }) taken, out)
+      ]
+    ];
+    true = truth;
+  }
+
+  -- a border that is not locked, and that the chart knows, is nobody's
+  pub unlocked_free : (w : World) (owned : List ℕ) → b.version.locked ≡ false → IsSome (w.chart n) → (other : ℕ) → IsTaken a w other → NotAmong other owned → other ≢ n
+  unlocked_free w owned unlocked known other (inl locked) apart e =
+      let here : b.version.locked ≡ true = subst (λ (x : Option Node). IsLocked x) (ap (λ (m : ℕ). node_at a.nodes m) e ∙ node-from_border a.nodes n b named) locked in
+      let clash : false ≡ true = sym unlocked ∙ here in cc
+  unlocked_free w owned unlocked known other (inr spare) apart e =
+      let none : w.chart n ≡ None = ap w.chart (sym e) ∙ spare.1 in
+      let some : IsSome (let nothing : Option Spot = None in nothing) = subst (λ (x : Option Spot). IsSome x) none known in
+      cc
+
+-- what the call owns is no other's
+pub own_free : (a : ArenaView) (n : ℕ) (w : World) (other : ℕ) → IsTaken a w other → NotAmong other (n ∷ []) → other ≢ n
+own_free a n w other taken apart e = apart (subst (λ (m : ℕ). Among m (n ∷ [])) (sym e) first)
+
+-- one number that is owned
+pub among_one : (other n : ℕ) → Among other (n ∷ []) → other ≡ n
+among_one other n first = refl
+among_one other n (later i) = elim i [ ]

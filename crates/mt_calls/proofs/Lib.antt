@@ -1,0 +1,9 @@
+pub mod WayLemmas
+pub mod FrameLemmas
+pub mod FoundLemmas
+pub mod BorderLemmas
+pub mod GetLemmas
+pub mod WriteLemmas
+pub mod RangeLemmas
+pub mod WorkLemmas
+pub mod NewWorks

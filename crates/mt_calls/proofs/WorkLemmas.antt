@@ -1,0 +1,121 @@
+-- What others' steps leave of each kind of call, and what each kind owns.
+use Rattle.std.proofs.Common.{ℕ, ◌≡◌, inl, inr, List, [], ◌∷◌, Option, Some, IsSome, true, sym, ap, subst, ◌∙◌}
+use Rattle.std.specs.Option.{option_map, option_and_then}
+use Rattle.mt_commit.specs.Log.{LogView}
+use Rattle.mt_border.specs.Border.{BorderView}
+use Rattle.mt_arena.specs.Node.{border_at, border_of}
+use Rattle.mt_arena.specs.Arena.{ArenaView}
+use Rattle.mt_arena.specs.declared.node.Node.{Node}
+use Rattle.mt_arena.proofs.NodeLemmas.{node-from_border}
+use Rattle.mt_chart.specs.Tree.{Arena, Among, first, later}
+use Rattle.mt_chart.specs.Chart.{Spot, Evolves}
+use Rattle.mt_chart.specs.Walk.{others}
+use Rattle.mt_chart.proofs.HeldNodes.{holds_kept}
+use Rattle.mt_tree.specs.Seen.{arena_seen, node_seen}
+use Rattle.mt_types.specs.Rows.{shown}
+use Rattle.mt_slice.specs.Place.{place_of}
+use Rattle.mt_chart.specs.ScanRun.{Stood, AllHave}
+use Rattle.mt_chart.specs.KeyAnswer.{as_places}
+use Rattle.mt_chart.proofs.Ranges.{range_kept}
+use Rattle.mt_calls.specs.declared.ranging.Range.{Range}
+use Rattle.mt_calls.specs.Ranging.{range_request, RangeIsTrue}
+use Rattle.mt_calls.specs.declared.way.Way.{Way}
+use Rattle.mt_calls.specs.declared.getting.Get.{Get}
+use Rattle.mt_calls.specs.declared.writing.Write.{Write}
+use Rattle.mt_calls.specs.declared.writing.Edit.{Edit}
+use Rattle.mt_calls.specs.declared.writing.Stage.{Stage}
+use Rattle.mt_calls.specs.declared.writing.Stage.TheVariants.{Seeks, Locked, Filled, Made, Taken, Stored, Failed}
+use Rattle.mt_calls.specs.declared.progress.Progress.{Progress}
+use Rattle.mt_calls.specs.declared.work.Work.{Work}
+use Rattle.mt_calls.specs.declared.work.Work.TheVariants.{Get as GetWork, Write as WriteWork, Range as RangeWork}
+use Rattle.mt_calls.specs.World.{World, IsLocked, IsTaken, IsSame}
+use Rattle.mt_calls.specs.Way.{IsOnWay}
+use Rattle.mt_calls.specs.Step.{Held, Truth, StepLaw, nothing}
+use Rattle.mt_calls.specs.Getting.{GetIsTrue, get_request}
+use Rattle.mt_calls.specs.Writing.{StageIsTrue, stage_held, IsLockedAt, IsLockedBorder, WriteIsTrue, write_request, write_held}
+use Rattle.mt_calls.specs.Works.{request_of, held, IsTrue}
+
+-- ---- a step of one kind is a step of a call
+pub step_get : (C : ℕ) (a after : ArenaView) (log left : LogView) (work : Work) (get : Get) (p : Progress) (then : Held) (Then : Truth) → work ≡ GetWork get → StepLaw C a after log left (get_request get) nothing p then (GetIsTrue get) Then
+    → StepLaw C a after log left (request_of work) (held work) p then (IsTrue C work) Then
+step_get C a after log left work get p then Then is law = subst (λ (x : Work). StepLaw C a after log left (request_of x) (held x) p then (IsTrue C x) Then) (sym is) law
+
+pub step_write : (C : ℕ) (a after : ArenaView) (log left : LogView) (work : Work) (write : Write) (p : Progress) (then : Held) (Then : Truth) → work ≡ WriteWork write → StepLaw C a after log left (write_request write) (write_held write) p then (WriteIsTrue C write) Then
+    → StepLaw C a after log left (request_of work) (held work) p then (IsTrue C work) Then
+step_write C a after log left work write p then Then is law = subst (λ (x : Work). StepLaw C a after log left (request_of x) (held x) p then (IsTrue C x) Then) (sym is) law
+
+pub step_range : (C : ℕ) (a after : ArenaView) (log left : LogView) (work : Work) (range : Range) (p : Progress) (then : Held) (Then : Truth) → work ≡ RangeWork range → StepLaw C a after log left (range_request range) nothing p then (RangeIsTrue range) Then
+    → StepLaw C a after log left (request_of work) (held work) p then (IsTrue C work) Then
+step_range C a after log left work range p then Then is law = subst (λ (x : Work). StepLaw C a after log left (request_of x) (held x) p then (IsTrue C x) Then) (sym is) law
+
+-- ---- what others' steps leave
+module _ (a after : ArenaView) (w next : World) where
+  -- a number that is left as it is names the same border
+  same_border : (number : ℕ) (b : BorderView) → IsSame a after w next number → border_at a.nodes number ≡ Some b → border_at after.nodes number ≡ Some b
+  same_border number b same named = ap (option_and_then border_of) same.node ∙ named
+
+  way_stays : (begun : ℕ) (key : List ℕ) (way : Way) → Evolves begun w.chart next.chart → IsOnWay begun key way w → IsOnWay begun key way next
+  way_stays begun key way evolves stands = record { layer = stands.layer; held = holds_kept begun way.node.0 _ _ w.chart next.chart evolves stands.held }
+
+  locked_at_stays : (key : List ℕ) (way : Way) (b : BorderView) → IsSame a after w next way.node.0 → IsLockedAt a key way b w → IsLockedAt after key way b next
+  locked_at_stays key way b same at = record {
+    layer = at.layer;
+    named = same_border way.node.0 b same at.named;
+    stands = record {
+      stands = record {
+        posted = at.stands.stands.posted;
+        place = same.spot ∙ at.stands.stands.place;
+        node = ap (option_map node_seen) same.node ∙ at.stands.stands.node;
+      };
+      from_low = at.stands.from_low;
+      to_right = at.stands.to_right;
+    };
+    alive = at.alive;
+    last = at.last;
+    locked = at.locked;
+  }
+
+  locked_stays : (number : ℕ) → IsSame a after w next number → IsLockedBorder a w number → IsLockedBorder after next number
+  locked_stays number same at = record { b = at.b; named = same_border number at.b same at.named; known = subst (λ (x : Option Spot). IsSome x) (sym same.spot) at.known; locked = at.locked }
+
+  module _ (C begun moves : ℕ) (past : List Arena) (evolves : Evolves begun w.chart next.chart) where
+    stage_stays : (key : List ℕ) (edit : Edit) (way : Way) (stage : Stage) → ((number : ℕ) → Among number (stage_held way.node.0 stage).owns → IsSame a after w next number) → StageIsTrue C key edit way stage begun a w → StageIsTrue C key edit way stage begun after next
+    stage_stays key edit way Seeks same truth = way_stays begun key way evolves truth
+    stage_stays key edit way Locked same truth = let (b, at) = truth in (b, locked_at_stays key way b (same way.node.0 first) at)
+    stage_stays key edit way (Filled place stored logged) same truth = let (b, at, f) = truth in (b, locked_at_stays key way b (same way.node.0 first) at, f)
+    stage_stays key edit way (Made place stored columns logged) same truth = let (b, at, f) = truth in (b, locked_at_stays key way b (same way.node.0 first) at, f)
+    stage_stays key edit way (Taken place stored before) same truth = let (b, at, f) = truth in (b, locked_at_stays key way b (same way.node.0 first) at, f)
+    stage_stays key edit way (Stored number) same truth = locked_stays way.node.0 (same way.node.0 first) truth
+    stage_stays key edit way (Failed refusal) same truth = (locked_stays way.node.0 (same way.node.0 first) truth.0, truth.1)
+
+    -- the law of others' steps: where they leave what a call owns, what is true of it stays true
+    pub stays : (work : Work) → ((number : ℕ) → Among number (held work).owns → IsSame a after w next number) → IsTrue C work begun moves past a w → IsTrue C work begun moves (arena_seen a ∷ past) after next
+    stays (GetWork get) same truth = (way_stays begun get.key get.way evolves truth.0, others evolves truth.1)
+    stays (WriteWork write) same truth = stage_stays write.key write.edit write.way write.stage same truth
+    stays (RangeWork range) same truth = record {
+      bytes = truth.bytes;
+      limit = truth.limit;
+      asked = truth.asked;
+      scans = range_kept begun w.chart next.chart (Stood (shown range.columns) (arena_seen a ∷ past)) (Stood (shown range.columns) (arena_seen after ∷ (arena_seen a ∷ past))) (AllHave (arena_seen a ∷ past)) (AllHave (arena_seen after ∷ (arena_seen a ∷ past)))
+          (place_of range.start) range.limit range.scan.prefix range.node.0 range.scan.at (as_places range.scan.taken) evolves (λ key v h. inr h) (λ key t. t.1) truth.scans;
+    }
+
+-- ---- what a call owns is taken
+border_taken : (a : ArenaView) (w : World) (n number : ℕ) (b : BorderView) → border_at a.nodes n ≡ Some b → b.version.locked ≡ true → Among number (n ∷ []) → IsTaken a w number
+border_taken a w n number b named locked first = inl (subst (λ (x : Option Node). IsLocked x) (sym (node-from_border a.nodes n b named)) locked)
+border_taken a w n number b named locked (later i) = elim i [ ]
+
+module _ (C begun moves : ℕ) (past : List Arena) (a : ArenaView) (w : World) where
+  stage_taken : (key : List ℕ) (edit : Edit) (way : Way) (stage : Stage) → StageIsTrue C key edit way stage begun a w → (number : ℕ) → Among number (stage_held way.node.0 stage).owns → IsTaken a w number
+  stage_taken key edit way Seeks truth number i = elim i [ ]
+  stage_taken key edit way Locked truth number i = let (b, at) = truth in border_taken a w way.node.0 number b at.named at.locked i
+  stage_taken key edit way (Filled place stored logged) truth number i = let (b, at, f) = truth in border_taken a w way.node.0 number b at.named at.locked i
+  stage_taken key edit way (Made place stored columns logged) truth number i = let (b, at, f) = truth in border_taken a w way.node.0 number b at.named at.locked i
+  stage_taken key edit way (Taken place stored before) truth number i = let (b, at, f) = truth in border_taken a w way.node.0 number b at.named at.locked i
+  stage_taken key edit way (Stored commit) truth number i = border_taken a w way.node.0 number truth.b truth.named truth.locked i
+  stage_taken key edit way (Failed refusal) truth number i = border_taken a w way.node.0 number truth.0.b truth.0.named truth.0.locked i
+
+  pub owned_taken : (work : Work) → IsTrue C work begun moves past a w → (number : ℕ) → Among number (held work).owns → IsTaken a w number
+  owned_taken (GetWork get) truth number i = elim i [ ]
+  owned_taken (WriteWork write) truth number i = stage_taken write.key write.edit write.way write.stage truth number i
+  owned_taken (RangeWork range) truth number i = elim i [ ]

@@ -1,0 +1,626 @@
+-- The steps of a put or remove.
+use Rattle.std.proofs.Common.{ℕ, ◌≡◌, ◌≢◌, ◌≤◌, ◌<◌, ◌+◌, ◌*◌, ◌⊎◌, ◌↔◌, inl, inr, List, [], ◌∷◌, length, drop, Option, Some, None, IsSome, Bool, true, false, refl, sym, ap, subst, ◌∙◌, arith}
+use Rattle.std.specs.Option.{option_map}
+use Rattle.mt_types.specs.declared.row.Row.{Row}
+use Rattle.mt_types.specs.declared.limits.TheConstants.{MAX_KEY_BYTES}
+use Rattle.mt_types.specs.declared.event.Request.TheVariants.{Put as PutRequest}
+use Rattle.mt_types.specs.declared.event.Answer.{Answer}
+use Rattle.mt_types.specs.declared.event.Answer.TheVariants.{Absent as AbsentAnswer}
+use Rattle.mt_promise.specs.Legal.{is_get}
+use Rattle.mt_types.specs.declared.refusal.Refusal.{Refusal}
+use Rattle.mt_slice.specs.Place.{Place, AreBytes, place_of, under, first_slice, slice_number}
+use Rattle.mt_slice.specs.Classes.{class_of, place_at}
+use Rattle.mt_slice.specs.declared.slice_class.Class.{Class}
+use Rattle.mt_slice.specs.declared.slice_class.Class.TheVariants.{Len, Long as LongClass}
+use Rattle.mt_slice.proofs.PlaceOn.{place_of-place_at}
+use Rattle.mt_slice.proofs.Slices.{bytes-drop}
+use Rattle.mt_commit.specs.Log.{LogView, newest, with_delta}
+use Rattle.mt_word.specs.Version.{VersionView}
+use Rattle.mt_border.specs.Border.{BorderView, with_lock, with_filled, with_hidden, with_shown, with_value, filled_version, first_held, row_at}
+use Rattle.mt_border.specs.Entry.{entry_of_row, entry_row, entry_class, content_class, content_of, content_row}
+use Rattle.mt_border.specs.Find.{found_in}
+use Rattle.mt_border.specs.Order.{IsBorder}
+use Rattle.mt_border.specs.Table.{first_changed}
+use Rattle.mt_border.specs.declared.entry.Entry.{Entry}
+use Rattle.mt_border.specs.declared.entry.RightLink.{RightLink}
+use Rattle.mt_border.specs.declared.slot_table.Slot.{Slot}
+use Rattle.mt_border.specs.declared.found.Found.TheVariants.{Absent, Row as RowFound}
+use Rattle.mt_border.proofs.BorderLemmas.{filled_deleted}
+use Rattle.mt_border.proofs.ShowLemmas.{IsBeforeRight, IsBetween, between_from_absent, filled_shown, filled_row, row_of_row}
+use Rattle.mt_arena.specs.Node.{border_at}
+use Rattle.mt_arena.specs.Arena.{ArenaView, with_border_changed}
+use Rattle.mt_chart.specs.Tree.{first, Arena, BorderNode, Has, Below, before_right}
+use Rattle.mt_chart.specs.Chart.{Chart, OnBorder, spot, Spot, at_level, on}
+use Rattle.mt_chart.specs.Steps.{SameContent}
+use Rattle.mt_chart.specs.TreeLaws.{IsWhere}
+use Rattle.mt_tree.specs.Seen.{arena_seen, border_seen, right_seen, content_place, entry_place}
+use Rattle.mt_tree.specs.Keeping.{KeepsTree, IsOnIn, IsIndexAt}
+use Rattle.mt_tree.specs.Descent.{IsLast, found_for, row_found}
+use Rattle.mt_tree.specs.BorderSteps.{ShowsNext, HidesRowAt, SetsRowAt}
+use Rattle.mt_tree.proofs.DescentLemmas.{slice_of_place}
+use Rattle.mt_tree.proofs.SeenLemmas.{seen-border}
+use Rattle.mt_calls.specs.declared.way.Way.{Way}
+use Rattle.mt_calls.specs.declared.way.Went.{Went}
+use Rattle.mt_calls.specs.declared.way.Went.TheVariants.{To, Here}
+use Rattle.mt_calls.specs.declared.writing.Edit.{Edit}
+use Rattle.mt_calls.specs.declared.writing.Edit.TheVariants.{Put as PutEdit, Remove as RemoveEdit}
+use Rattle.mt_calls.specs.declared.writing.Stage.{Stage}
+use Rattle.mt_calls.specs.declared.writing.Stage.TheVariants.{Seeks, Locked, Filled, Made, Taken, Stored, Failed}
+use Rattle.mt_calls.specs.declared.progress.Progress.{Progress}
+use Rattle.mt_calls.specs.declared.progress.Progress.TheVariants.{Moved, Waits, Committed, Answered, Refused}
+use Rattle.mt_calls.specs.World.{World, IsWorld, RowsAreOfKeys, Goes}
+use Rattle.mt_calls.specs.Way.{rest_of, prefix_of, IsLayerOf, IsOnWay, IsAtPlace, GoesTo, Visits}
+use Rattle.mt_calls.specs.Step.{Held, Truth, Stepped, StepLaw, RowIs, IsQuiet, put_row, Commits, Changes, MayRefuse, IsRight}
+use Rattle.mt_calls.specs.Writing.{edit_request, written_answer, stage_held, IsLockedAt, IsLockedBorder, IsFilled, IsMade, IsFound, StageIsTrue, new_entry, Fills, Prepares, PreparesRemove, LacksRow, put_delta, remove_delta}
+use Rattle.mt_calls.proofs.FrameLemmas.{goes_same, quiet_same}
+use Rattle.std.specs.Prelude.{IsSomeAnd, IsTrue}
+use Rattle.mt_calls.proofs.FoundLemmas.{some_at}
+use Rattle.mt_tree.proofs.RowLemmas.{stands_at, tells_row}
+use Rattle.mt_calls.proofs.WayLemmas.{starts}
+use Rattle.mt_calls.proofs.GetLemmas.{found_is_row}
+use Rattle.mt_calls.proofs.BorderLemmas.{now_named, keys_same, keys_changed, goes_border, unlocked_free, own_free, among_one}
+
+-- no write is a get
+pub no_get : (key : List ℕ) (edit : Edit) → IsTrue (is_get (edit_request key edit)) → ⊥
+no_get key (PutEdit sets) get = (let clash : false ≡ true = get in cc)
+no_get key RemoveEdit get = (let clash : false ≡ true = get in cc)
+
+-- ---- on its way
+module _ (C : ℕ) (a : ArenaView) (key : List ℕ) (edit : Edit) (way : Way) (went : Went) (visits : Visits a key way went) where
+  -- the law from one stage to another, on its way
+  abbrev SeekLaw : ArenaView → LogView → Progress → Way → Stage → Stage → Type 0
+  SeekLaw after log p next old new = StepLaw C a after log log (edit_request key edit) (stage_held way.node.0 old) p (stage_held next.node.0 new) (λ begun moves past x w. StageIsTrue C key edit way old begun x w) (λ begun moves past x w. StageIsTrue C key edit next new begun x w)
+
+  -- the stage is that of a call on its way
+  both_seek : (after : ArenaView) (log : LogView) (p : Progress) (next : Way) (stage : Stage) → stage ≡ Seeks → SeekLaw after log p next Seeks Seeks → SeekLaw after log p next stage stage
+  both_seek after log p next stage seeks law = subst (λ (s : Stage). SeekLaw after log p next s s) (sym seeks) law
+
+  pub seek_again : (stage : Stage) → stage ≡ Seeks → (log : LogView) → SeekLaw a log Waits (record { node = record { 0 = 0 }; layer = 0 }) stage stage
+  seek_again stage seeks log = both_seek a log Waits _ stage seeks (record {
+    steps = λ now begun moves past w world before truth. record {
+      goes = goes_same now a w _ [] [] refl world (starts a now w begun key world);
+      does = (quiet_same a log, refl);
+      reserved = refl;
+      feed = refl;
+      holders = refl;
+      may = tt;
+    };
+  })
+
+  pub seek_moves : (next : Way) → went ≡ To next → (stage : Stage) → stage ≡ Seeks → (log : LogView) → SeekLaw a log Moved next stage stage
+  seek_moves next is stage seeks log = both_seek a log Moved next stage seeks (record {
+    steps = λ now begun moves past w world before truth. record {
+      goes = goes_same now a w _ [] [] refl world (subst (λ (t : Went). GoesTo a begun key way w t) is (visits.goes now w begun world truth)).0;
+      does = (quiet_same a log, refl);
+      reserved = refl;
+      feed = refl;
+      holders = refl;
+      may = λ get. absurd (no_get key edit get);
+    };
+  })
+
+  pub seek_waits : (stage : Stage) → stage ≡ Seeks → (log : LogView) → SeekLaw a log Waits way stage stage
+  seek_waits stage seeks log = both_seek a log Waits way stage seeks (record {
+    steps = λ now begun moves past w world before truth. record {
+      goes = goes_same now a w _ [] [] refl world truth;
+      does = (quiet_same a log, refl);
+      reserved = refl;
+      feed = refl;
+      holders = refl;
+      may = tt;
+    };
+  })
+
+-- ---- the border of the key, once it is changed but for what stands in it
+locked_at-changed : (a : ArenaView) (key : List ℕ) (way : Way) (b : BorderView) (w : World) (change : BorderView → BorderView) → border_at a.nodes way.node.0 ≡ Some b → IsLayerOf key way
+    → IsWhere (arena_seen a) w.chart way.node.0 (prefix_of key way) (border_seen b) (place_of (rest_of key way)) → IsLast (found_for (rest_of key way) b.live)
+    → (change b).low ≡ b.low → (change b).right ≡ b.right → (change b).live ≡ b.live → (change b).version.deleted ≡ false → (change b).version.locked ≡ true
+    → IsLockedAt (with_border_changed a way.node.0 change) key way (change b) w
+locked_at-changed a key way b w change named layer stands ends low right live alive locked =
+    let now_is = now_named a way.node.0 b change named in
+    record {
+      layer = layer;
+      named = now_is;
+      stands = record {
+        stands = record {
+          posted = stands.stands.posted;
+          place = subst (λ (l : ℕ). w.chart way.node.0 ≡ Some (spot (at_level 0) (prefix_of key way) l (on stands.stands.posted))) (sym low) stands.stands.place;
+          node = seen-border (with_border_changed a way.node.0 change) way.node.0 (change b) now_is;
+        };
+        from_low = subst (λ (l : ℕ). l ≤ first_slice (place_of (rest_of key way))) (sym low) stands.from_low;
+        to_right = subst (λ (r : Option RightLink). Below (first_slice (place_of (rest_of key way))) (option_map right_seen r)) (sym right) stands.to_right;
+      };
+      alive = alive;
+      last = subst (λ (l : List Entry). IsLast (found_for (rest_of key way) l)) (sym live) ends;
+      locked = locked;
+    }
+
+filled_locked : (held : Bool) (v : VersionView) → (filled_version held v).locked ≡ v.locked
+filled_locked true v = refl
+filled_locked false v = refl
+
+-- a border that is on is known
+known_on : (arena : Arena) (chart : Chart) (number : ℕ) (prefix : List ℕ) (node : BorderNode) → OnBorder arena chart number prefix node → IsSome (chart number)
+known_on arena chart number prefix node stands = subst (λ (x : Option Spot). IsSome x) (sym stands.place) refl
+
+-- ---- the lock
+module _ (C : ℕ) (a : ArenaView) (key : List ℕ) (edit : Edit) (way : Way) (went : Went) (visits : Visits a key way went) where
+  abbrev lock : BorderView → BorderView
+  lock b = with_lock b true
+
+  pub seek_locks : (b : BorderView) → border_at a.nodes way.node.0 ≡ Some b → b.version.locked ≡ false → went ≡ Here → KeepsTree a (with_border_changed a way.node.0 lock) → (stage : Stage) → stage ≡ Seeks → (log : LogView)
+      → StepLaw C a (with_border_changed a way.node.0 lock) log log (edit_request key edit) (stage_held way.node.0 stage) Moved (stage_held way.node.0 Locked) (λ begun moves past x w. StageIsTrue C key edit way stage begun x w) (λ begun moves past x w. StageIsTrue C key edit way Locked begun x w)
+  seek_locks b named unlocked is keeps stage seeks log =
+      subst (λ (s : Stage). StepLaw C a (with_border_changed a way.node.0 lock) log log (edit_request key edit) (stage_held way.node.0 s) Moved (stage_held way.node.0 Locked) (λ begun moves past x w. StageIsTrue C key edit way s begun x w) (λ begun moves past x w. StageIsTrue C key edit way Locked begun x w)) (sym seeks) (record {
+        steps = λ now begun moves past w world before truth.
+            let at : IsAtPlace a key way w = subst (λ (t : Went). GoesTo a begun key way w t) is (visits.goes now w begun world truth) in
+            let same : at.here.border ≡ b = (let both : ◌≡◌ {A = Option BorderView} (Some at.here.border) (Some b) = sym at.here.named ∙ named in cc) in
+            let stands = subst (λ (x : BorderView). IsWhere (arena_seen a) w.chart way.node.0 (prefix_of key way) (border_seen x) (place_of (rest_of key way))) same at.here.stands in
+            let kept = keeps.keeps now w.twins w.chart world.index in
+            record {
+              goes = goes_border a way.node.0 b lock named now w [] (way.node.0 ∷ []) _ world kept.index (keys_same a (with_border_changed a way.node.0 lock) kept.content world.keys)
+                  (unlocked_free a way.node.0 b lock named w [] unlocked (known_on (arena_seen a) w.chart way.node.0 (prefix_of key way) (border_seen b) stands.stands))
+                  (λ other i. inr (among_one other way.node.0 i)) (λ other ne i. elim i [ ]) (λ locked. first) (
+                    lock b,
+                    locked_at-changed a key way b w lock named at.layer stands (subst (λ (x : BorderView). IsLast (found_for (rest_of key way) x.live)) same at.last) refl refl refl
+                        (ap (λ (x : BorderView). x.version.deleted) (sym same) ∙ at.alive) refl,
+                  );
+              does = (record { content = kept.content; trimmed = refl; deltas = refl }, refl);
+              reserved = refl;
+              feed = refl;
+              holders = refl;
+              may = λ get. absurd (no_get key edit get);
+            };
+      })
+
+-- what a write answers is right
+answer_right : (past : List Arena) (a : ArenaView) (key : List ℕ) (edit : Edit) (number : ℕ) → IsRight past a (edit_request key edit) (Some number) (written_answer edit number)
+answer_right past a key (PutEdit sets) number = refl
+answer_right past a key RemoveEdit number = refl
+
+-- ---- entries of a key
+class_of_content : (class : Class) (suffix : List ℕ) (row : Row) → content_class (content_of class suffix row) ≡ class
+class_of_content (Len n) suffix row = refl
+class_of_content LongClass suffix row = refl
+
+place_of_content : (slice : ℕ) (class : Class) (suffix : List ℕ) (row : Row) → content_place slice (content_of class suffix row) ≡ place_at slice class (place_of suffix)
+place_of_content slice (Len n) suffix row = refl
+place_of_content slice LongClass suffix row = refl
+
+row_of_content : (class : Class) (suffix : List ℕ) (row : Row) → content_row (content_of class suffix row) ≡ Some row
+row_of_content (Len n) suffix row = refl
+row_of_content LongClass suffix row = refl
+
+entry_place_is : (rest : List ℕ) (row : Row) → entry_place (entry_of_row rest row) ≡ place_of rest
+entry_place_is rest row = place_of_content (slice_number rest) (class_of (length rest)) (drop 8 rest) row ∙ sym (place_of-place_at rest)
+
+left_of_right : (slice : ℕ) (right : Option RightLink) → Below slice (option_map right_seen right) → IsBeforeRight slice right
+left_of_right slice None h = tt
+left_of_right slice (Some link) h = elim h [ before_right less ↦ less ]
+
+-- the first unused slot, once it is filled
+record NextSlot (slots : List Slot) (entry : Entry) : Type 0 where
+  pub slot : Slot
+  pub more : List Slot
+  pub is : first_changed (λ (s : Slot). record s { entry = entry }) slots ≡ slot ∷ more
+  pub holds : slot.entry ≡ entry
+
+next_slot : (slots : List Slot) (entry : Entry) → 0 < length slots → NextSlot slots entry
+next_slot [] entry some = absurd (omega arith)
+next_slot (s ∷ slots) entry some = record { slot = record s { entry = entry }; more = slots; is = refl; holds = refl }
+
+-- ---- ready
+module _ (C : ℕ) (a : ArenaView) (log : LogView) (key : List ℕ) (sets : List (ℕ × List ℕ)) (way : Way) where
+  abbrev ReadyLaw : ArenaView → LogView → Stage → Type 0
+  ReadyLaw after left stage = StepLaw C a after log left (PutRequest key sets) (stage_held way.node.0 Locked) Moved (stage_held way.node.0 stage) (λ begun moves past x w. StageIsTrue C key (PutEdit sets) way Locked begun x w) (λ begun moves past x w. StageIsTrue C key (PutEdit sets) way stage begun x w)
+
+  filled_is : (b : BorderView) (place : ℕ) (stored : List ℕ) (logged : List (List ℕ)) (after : ArenaView) (left : LogView) → (f : Fills C key sets way a log place stored logged after left) → f.b ≡ b
+      → b.version.deleted ≡ false → b.low ≤ slice_number (rest_of key way) → IsBeforeRight (slice_number (rest_of key way)) b.right
+      → IsFilled C key (PutEdit sets) way (with_filled b (new_entry key way logged)) place stored logged
+  filled_is b place stored logged after left f same alive low right =
+      let entry = new_entry key way logged in
+      let rest = rest_of key way in
+      let row : Row = record { version = 0; columns = logged } in
+      let sound : IsBorder b = subst IsBorder same f.sound in
+      let whole : IsBorder (with_filled b entry) = subst (λ (x : BorderView). IsBorder (with_filled x entry)) same f.whole in
+      let room : length b.live < 15 = subst (λ (x : BorderView). length x.live < 15) same f.room in
+      let absent : found_for rest b.live ≡ Absent place = subst (λ (x : BorderView). found_for rest x.live ≡ Absent place) same f.absent in
+      let class : entry_class entry ≡ class_of (length rest) = class_of_content (class_of (length rest)) (drop 8 rest) row in
+      let between : IsBetween _ place b.live = between_from_absent (slice_number rest) (class_of (length rest)) (drop 8 rest) b.live place sound.ordered absent in
+      let slots = sound.slots in
+      let next = next_slot b.unused entry (omega (arith, slots, room)) in
+      record {
+        bytes = f.bytes;
+        fits = f.fits;
+        sound = whole;
+        stored_is = f.stored_is;
+        absent = absent;
+        sets = sets;
+        is_put = refl;
+        columns = f.columns;
+        shows = λ version. record {
+          room = room;
+          within = between.within;
+          row = filled_row b entry room (row_of_row (class_of (length rest)) (drop 8 rest) row) sound;
+          sound = filled_shown b entry (drop 8 rest) place version room alive (subst (λ (c : Class). found_in (slice_number rest) c (drop 8 rest) b.live ≡ Absent place) (sym class) absent) low right sound whole;
+        };
+        slot = next.slot;
+        slots = next.more;
+        unused = next.is;
+        entry = next.holds;
+      }
+
+  ready : (stage : Stage) (after : ArenaView) (left : LogView) → Prepares C key sets way a log stage after left → ReadyLaw after left stage
+  ready (Filled place stored logged) after left f = record {
+    steps = λ now begun moves past w world before truth.
+        let (b, at) = truth in
+        let same : f.b ≡ b = (let both : ◌≡◌ {A = Option BorderView} (Some f.b) (Some b) = sym f.named ∙ at.named in cc) in
+        let entry = new_entry key way logged in
+        let fill : BorderView → BorderView = λ (x : BorderView). with_filled x entry in
+        let slices = slice_of_place (rest_of key way) in
+        let low : b.low ≤ slice_number (rest_of key way) = subst (λ (s : ℕ). b.low ≤ s) slices at.stands.from_low in
+        let right = left_of_right (slice_number (rest_of key way)) b.right (subst (λ (s : ℕ). Below s (option_map right_seen b.right)) slices at.stands.to_right) in
+        let kept = f.keeps.keeps now w.twins w.chart world.index in
+        subst (λ (x : ArenaView). Stepped C now moves past a x log left w (PutRequest key sets) (stage_held way.node.0 Locked) Moved (stage_held way.node.0 (Filled place stored logged)) (λ m next. StageIsTrue C key (PutEdit sets) way (Filled place stored logged) begun x next)) (sym f.filled)
+        (record {
+          goes = goes_border a way.node.0 b fill at.named now w (way.node.0 ∷ []) (way.node.0 ∷ []) _ world (subst (λ (x : ArenaView). IsIndexAt x now w.twins w.chart) f.filled kept.index)
+              (subst (λ (x : ArenaView). RowsAreOfKeys x) f.filled (keys_same a after kept.content world.keys))
+              (own_free a way.node.0 w) (λ other i. inl i) (λ other ne i. i) (λ locked. first) (
+                fill b,
+                locked_at-changed a key way b w fill at.named at.layer at.stands at.last refl refl refl (filled_deleted (first_held b.unused) b.version ∙ at.alive) (filled_locked (first_held b.unused) b.version ∙ at.locked),
+                filled_is b place stored logged after left f same at.alive low right,
+              );
+          does = (record { content = subst (λ (x : ArenaView). SameContent (arena_seen a) (arena_seen x)) f.filled kept.content; trimmed = ap (λ (l : LogView). l.held_after) f.reserved; deltas = ap (λ (l : LogView). l.deltas) f.reserved }, refl);
+          reserved = let more = ap (λ (l : LogView). l.reserved) f.reserved in omega (arith, more);
+          feed = ap (λ (l : LogView). l.feed) f.reserved;
+          holders = ap (λ (l : LogView). l.holders) f.reserved;
+          may = λ get. absurd (let clash : false ≡ true = get in cc);
+        });
+  }
+  ready (Made place stored columns logged) after left f = record {
+    steps = λ now begun moves past w world before truth.
+        let (b, at) = truth in
+        let same : f.b ≡ b = (let both : ◌≡◌ {A = Option BorderView} (Some f.b) (Some b) = sym f.named ∙ at.named in cc) in
+        subst (λ (x : ArenaView). Stepped C now moves past a x log left w (PutRequest key sets) (stage_held way.node.0 Locked) Moved (stage_held way.node.0 (Made place stored columns logged)) (λ m next. StageIsTrue C key (PutEdit sets) way (Made place stored columns logged) begun x next)) (sym f.same)
+        (record {
+          goes = goes_same now a w _ (way.node.0 ∷ []) (way.node.0 ∷ []) refl world (b, at, subst (λ (x : BorderView). IsMade C key (PutEdit sets) way x place stored columns logged) same f.made);
+          does = (record { content = λ k row. ((λ h. h), (λ h. h)); trimmed = ap (λ (l : LogView). l.held_after) f.reserved; deltas = ap (λ (l : LogView). l.deltas) f.reserved }, refl);
+          reserved = let more = ap (λ (l : LogView). l.reserved) f.reserved in omega (arith, more);
+          feed = ap (λ (l : LogView). l.feed) f.reserved;
+          holders = ap (λ (l : LogView). l.holders) f.reserved;
+          may = λ get. absurd (let clash : false ≡ true = get in cc);
+        });
+  }
+  ready (Failed refusal) after left f = record {
+    steps = λ now begun moves past w world before truth.
+        let (b, at) = truth in
+        subst (λ (x : ArenaView). Stepped C now moves past a x log left w (PutRequest key sets) (stage_held way.node.0 Locked) Moved (stage_held way.node.0 (Failed refusal)) (λ m next. StageIsTrue C key (PutEdit sets) way (Failed refusal) begun x next)) (sym f.1)
+        (subst (λ (l : LogView). Stepped C now moves past a a log l w (PutRequest key sets) (stage_held way.node.0 Locked) Moved (stage_held way.node.0 (Failed refusal)) (λ m next. StageIsTrue C key (PutEdit sets) way (Failed refusal) begun a next)) (sym f.2)
+        (record {
+          goes = goes_same now a w _ (way.node.0 ∷ []) (way.node.0 ∷ []) refl world (record { b = b; named = at.named; known = known_on (arena_seen a) w.chart way.node.0 (prefix_of key way) (border_seen b) at.stands.stands; locked = at.locked }, f.0);
+          does = (quiet_same a log, refl);
+          reserved = refl;
+          feed = refl;
+          holders = refl;
+          may = λ get. absurd (let clash : false ≡ true = get in cc);
+        }));
+  }
+  ready Seeks after left f = absurd f
+  ready Locked after left f = absurd f
+  ready (Taken place stored before) after left f = absurd f
+  ready (Stored number) after left f = absurd f
+
+  pub readies : (stage old : Stage) (edit : Edit) (after : ArenaView) (left : LogView) → old ≡ Locked → edit ≡ PutEdit sets → Prepares C key sets way a log stage after left
+      → StepLaw C a after log left (edit_request key edit) (stage_held way.node.0 old) Moved (stage_held way.node.0 stage) (λ begun moves past x w. StageIsTrue C key edit way old begun x w) (λ begun moves past x w. StageIsTrue C key edit way stage begun x w)
+  readies stage old edit after left is is_put p =
+      subst (λ (e : Edit). StepLaw C a after log left (edit_request key e) (stage_held way.node.0 old) Moved (stage_held way.node.0 stage) (λ begun moves past x w. StageIsTrue C key e way old begun x w) (λ begun moves past x w. StageIsTrue C key e way stage begun x w)) (sym is_put)
+      (subst (λ (s : Stage). StepLaw C a after log left (PutRequest key sets) (stage_held way.node.0 s) Moved (stage_held way.node.0 stage) (λ begun moves past x w. StageIsTrue C key (PutEdit sets) way s begun x w) (λ begun moves past x w. StageIsTrue C key (PutEdit sets) way stage begun x w)) (sym is)
+      (ready stage after left p))
+
+-- ---- the commit
+module _ (C : ℕ) (a : ArenaView) (log : LogView) (key : List ℕ) (edit : Edit) (way : Way) where
+  abbrev rest : List ℕ
+  rest = rest_of key way
+
+  -- the place of the key's rest, in its layer, is the key's
+  key_place : IsLayerOf key way → (place : Place) → place ≡ place_of rest → under (prefix_of key way) place ≡ place_of key
+  key_place layer place is = ap (under (prefix_of key way)) is ∙ sym layer.under
+
+  on_in : (b : BorderView) (w : World) → IsLockedAt a key way b w → IsOnIn w.chart way.node.0 (prefix_of key way)
+  on_in b w at = record { low = b.low; posted = at.stands.stands.posted; place = at.stands.stands.place }
+
+  -- what the border has is what the tree has
+  stood_is : (b : BorderView) (w : World) (now : ℕ) → AreBytes key → IsBorder b → IsWorld a now w → IsLockedAt a key way b w → RowIs a key (row_found b.live (found_for rest b.live))
+  stood_is b w now bytes sound world at =
+      found_is_row a key way now w rest (found_for rest b.live) b refl at.named refl (tells_row a way.node.0 rest b at.named sound (bytes-drop (8 * way.layer) key bytes)) world
+      (record { layer = at.layer; here = record { border = b; named = at.named; stands = at.stands }; alive = at.alive; last = at.last })
+
+  abbrev CommitLaw : ArenaView → LogView → ℕ → Stage → Type 0
+  CommitLaw after left number stage = StepLaw C a after log left (edit_request key edit) (stage_held way.node.0 stage) (Committed number) (stage_held way.node.0 (Stored number)) (λ begun moves past x w. StageIsTrue C key edit way stage begun x w) (λ begun moves past x w. StageIsTrue C key edit way (Stored number) begun x w)
+
+  -- another row at the key, or none, in place of what stood there
+  changes : (after : ArenaView) (before then : Option Row) (place : Place) (number : ℕ) (left : LogView) → AreBytes key → length key ≤ MAX_KEY_BYTES → IsLayerOf key way → RowIs a key before → place ≡ place_of rest
+      → ((other : Place) (shown : Row) → Has (arena_seen after) other shown ↔ (((other ≡ under (prefix_of key way) place) × (then ≡ Some shown)) ⊎ (Has (arena_seen a) other shown × (other ≢ under (prefix_of key way) place))))
+      → number ≡ newest log + 1 → left ≡ with_delta log (record { number = number; key = key; before = before; after = then })
+      → Changes a after log left key before then number
+  changes after before then place number left bytes fits layer stood at content next appended = record {
+    bytes = bytes;
+    fits = fits;
+    stood = stood;
+    is_next = next;
+    content = λ other shown.
+        subst (λ (p : Place). Has (arena_seen after) other shown ↔ (((other ≡ p) × (then ≡ Some shown)) ⊎ (Has (arena_seen a) other shown × (other ≢ p)))) (key_place layer place at) (content other shown);
+    logged = appended;
+  }
+
+  -- a row is there exactly where it is the new one, or stands elsewhere
+  replaced_content : (after : ArenaView) (place : Place) (row : Row)
+      → ((other : Place) (shown : Row) → Has (arena_seen after) other shown ↔ (((other ≡ place) × (shown ≡ row)) ⊎ (Has (arena_seen a) other shown × (other ≢ place))))
+      → (other : Place) (shown : Row) → Has (arena_seen after) other shown ↔ (((other ≡ place) × (Some row ≡ Some shown)) ⊎ (Has (arena_seen a) other shown × (other ≢ place)))
+  replaced_content after place row h other shown = (
+    (λ has. elim ((h other shown).0 has) [ inl here ↦ inl (here.0, ap Some (sym here.1)) | inr there ↦ inr there ]),
+    (λ either. (h other shown).1 (elim either [ inl here ↦ inl (here.0, one_row here.1) | inr there ↦ inr there ])),
+  )
+    where
+      one_row : {x y : Row} → ◌≡◌ {A = Option Row} (Some x) (Some y) → y ≡ x
+      one_row e = cc
+
+  removed_content : (after : ArenaView) (place : Place)
+      → ((other : Place) (shown : Row) → Has (arena_seen after) other shown ↔ (Has (arena_seen a) other shown × (other ≢ place)))
+      → (other : Place) (shown : Row) → Has (arena_seen after) other shown ↔ (((other ≡ place) × (None ≡ Some shown)) ⊎ (Has (arena_seen a) other shown × (other ≢ place)))
+  removed_content after place h other shown = (
+    (λ has. inr ((h other shown).0 has)),
+    (λ either. (h other shown).1 (elim either [ inl here ↦ absurd (never here.1) | inr there ↦ there ])),
+  )
+    where
+      never : {x : Row} → ◌≡◌ {A = Option Row} None (Some x) → ⊥
+      never e = cc
+
+  shown_content : (after : ArenaView) (place : Place) (row : Row) → ((r : Row) → Has (arena_seen a) place r → ⊥)
+      → ((other : Place) (shown : Row) → Has (arena_seen after) other shown ↔ (((other ≡ place) × (shown ≡ row)) ⊎ Has (arena_seen a) other shown))
+      → (other : Place) (shown : Row) → Has (arena_seen after) other shown ↔ (((other ≡ place) × (shown ≡ row)) ⊎ (Has (arena_seen a) other shown × (other ≢ place)))
+  shown_content after place row none adds other shown = (
+    (λ has. elim ((adds other shown).0 has) [
+      | inl here ↦ inl here
+      | inr there ↦ inr (there, λ same. none shown (subst (λ (p : Place). Has (arena_seen a) p shown) same there))
+    ]),
+    (λ either. (adds other shown).1 (elim either [ inl here ↦ inl here | inr there ↦ inr there.0 ])),
+  )
+
+  pub shows : (place : ℕ) (stored : List ℕ) (logged : List (List ℕ)) (number : ℕ) (after : ArenaView) (left : LogView) → number ≡ newest log + 1 → after ≡ with_border_changed a way.node.0 (λ b. with_shown b place (newest log + 1)) → ShowsNext a after way.node.0 (newest log + 1)
+      → left ≡ with_delta log (put_delta (newest log + 1) stored None logged) → 1 ≤ log.reserved → CommitLaw after left number (Filled place stored logged)
+  shows place stored logged number after left next is shown appended room = record {
+    steps = λ now begun moves past w world before truth.
+        let (b, at, f) = truth in
+        let commit = newest log + 1 in
+        let row : Row = record { version = 0; columns = logged } in
+        let show : BorderView → BorderView = λ (x : BorderView). with_shown x place commit in
+        let has_row : entry_row f.slot.entry ≡ Some row = ap entry_row f.entry ∙ row_of_content (class_of (length rest)) (drop 8 rest) row in
+        let adds = (shown.shows b f.slot f.slots row at.named f.unused has_row).adds now w.twins w.chart (prefix_of key way) world.index (on_in b w at) in
+        let place_is : entry_place f.slot.entry ≡ place_of rest = ap entry_place f.entry ∙ entry_place_is rest row in
+        let stood : RowIs a key None = subst (λ (r : Option Row). RowIs a key r) (ap (row_found b.live) f.absent) (stood_is b w now f.bytes f.sound world at) in
+        let nothing_there : (r : Row) → Has (arena_seen a) (under (prefix_of key way) (entry_place f.slot.entry)) r → ⊥ =
+        λ r has. no_row r ((stood r).0 (subst (λ (p : Place). Has (arena_seen a) p r) (key_place at.layer (entry_place f.slot.entry) place_is) has)) in
+        let row_is : record { version = commit; columns = logged } ≡ put_row C number f.sets None = ap (λ (n : ℕ). record { version = n; columns = logged }) (sym next) ∙ ap (λ (c : List (List ℕ)). record { version = number; columns = c }) f.columns in
+        let named = subst (λ (x : ArenaView). border_at x.nodes way.node.0 ≡ Some (show b)) (sym is) (now_named a way.node.0 b show at.named) in
+        let done : Changes a after log left key None (Some (put_row C number f.sets None)) number =
+        changes after None (Some (put_row C number f.sets None)) (entry_place f.slot.entry) number left f.bytes f.fits at.layer stood place_is
+        (subst (λ (r : Row). (other : Place) (shown : Row) → Has (arena_seen after) other shown ↔ (((other ≡ under (prefix_of key way) (entry_place f.slot.entry)) × (Some r ≡ Some shown)) ⊎ (Has (arena_seen a) other shown × (other ≢ under (prefix_of key way) (entry_place f.slot.entry))))) row_is
+        (replaced_content after (under (prefix_of key way) (entry_place f.slot.entry)) (record { version = commit; columns = logged })
+        (shown_content after (under (prefix_of key way) (entry_place f.slot.entry)) (record { version = commit; columns = logged }) nothing_there adds.1)))
+        next
+        (appended ∙ (ap (λ (n : ℕ). with_delta log (put_delta n stored None logged)) (sym next) ∙ (ap (λ (k : List ℕ). with_delta log (put_delta number k None logged)) f.stored_is
+        ∙ ap (λ (c : List (List ℕ)). with_delta log (put_delta number key None c)) f.columns))) in
+        record {
+          goes = subst (λ (x : ArenaView). Goes now a x w (way.node.0 ∷ []) (way.node.0 ∷ []) (λ next. StageIsTrue C key edit way (Stored number) begun after next)) (sym is)
+              (goes_border a way.node.0 b show at.named now w (way.node.0 ∷ []) (way.node.0 ∷ []) _ world (subst (λ (x : ArenaView). IsIndexAt x now w.twins w.chart) is adds.0)
+              (subst (λ (x : ArenaView). RowsAreOfKeys x) is (keys_changed a after log left key None (Some (put_row C number f.sets None)) number done world.keys)) (own_free a way.node.0 w) (λ other i. inl i) (λ other ne i. i) (λ locked. first)
+              (record { b = show b; named = named; known = known_on (arena_seen a) w.chart way.node.0 (prefix_of key way) (border_seen b) at.stands.stands; locked = at.locked }));
+          does = (
+            subst (λ (e : Edit). Commits C a after log left (edit_request key e) number) (sym f.is_put) (
+              None,
+              done,
+            ),
+            refl,
+            refl,
+          );
+          reserved = let less = ap (λ (l : LogView). l.reserved) appended in omega (arith, less, room);
+          feed = ap (λ (l : LogView). l.feed) appended;
+          holders = ap (λ (l : LogView). l.holders) appended;
+          may = tt;
+        };
+  }
+    where
+      no_row : (r : Row) → ◌≡◌ {A = Option Row} None (Some r) → ⊥
+      no_row r e = cc
+
+  pub writes : (place : ℕ) (stored : List ℕ) (columns logged : List (List ℕ)) (number : ℕ) (after : ArenaView) (left : LogView) → number ≡ newest log + 1
+      → after ≡ with_border_changed a way.node.0 (λ b. with_value b place (record { version = newest log + 1; columns = columns })) → SetsRowAt a after way.node.0 place (record { version = newest log + 1; columns = columns })
+      → IsSomeAnd (border_at a.nodes way.node.0) (λ b. left ≡ with_delta log (put_delta (newest log + 1) stored (row_at place b.live) logged)) → 1 ≤ log.reserved → CommitLaw after left number (Made place stored columns logged)
+  writes place stored columns logged number after left next is written logs room = record {
+    steps = λ now begun moves past w world before truth.
+        let (b, at, f) = truth in
+        let commit = newest log + 1 in
+        let row : Row = record { version = commit; columns = columns } in
+        let write : BorderView → BorderView = λ (x : BorderView). with_value x place row in
+        let e = stands_at b f.sound rest (RowFound place) f.there in
+        let replaces = (written.sets b e.entry at.named e.stands).replaces now w.twins w.chart (prefix_of key way) world.index (on_in b w at) in
+        let appended : left ≡ with_delta log (put_delta commit stored (row_at place b.live) logged) = some_at _ (border_at a.nodes way.node.0) b logs at.named in
+        let stood : RowIs a key (row_at place b.live) = subst (λ (r : Option Row). RowIs a key r) (ap (row_found b.live) f.there) (stood_is b w now f.bytes f.sound world at) in
+        let row_is : row ≡ put_row C number f.sets (row_at place b.live) = ap (λ (n : ℕ). record { version = n; columns = columns }) (sym next) ∙ ap (λ (c : List (List ℕ)). record { version = number; columns = c }) f.made in
+        let named = subst (λ (x : ArenaView). border_at x.nodes way.node.0 ≡ Some (write b)) (sym is) (now_named a way.node.0 b write at.named) in
+        let done : Changes a after log left key (row_at place b.live) (Some (put_row C number f.sets (row_at place b.live))) number =
+        changes after (row_at place b.live) (Some (put_row C number f.sets (row_at place b.live))) (entry_place e.entry) number left f.bytes f.fits at.layer stood e.of_rest
+        (subst (λ (r : Row). (other : Place) (shown : Row) → Has (arena_seen after) other shown ↔ (((other ≡ under (prefix_of key way) (entry_place e.entry)) × (Some r ≡ Some shown)) ⊎ (Has (arena_seen a) other shown × (other ≢ under (prefix_of key way) (entry_place e.entry))))) row_is
+        (replaced_content after (under (prefix_of key way) (entry_place e.entry)) row replaces.1))
+        next
+        (appended ∙ (ap (λ (n : ℕ). with_delta log (put_delta n stored (row_at place b.live) logged)) (sym next) ∙ (ap (λ (k : List ℕ). with_delta log (put_delta number k (row_at place b.live) logged)) f.stored_is
+        ∙ ap (λ (c : List (List ℕ)). with_delta log (put_delta number key (row_at place b.live) c)) (f.copied ∙ f.made)))) in
+        record {
+          goes = subst (λ (x : ArenaView). Goes now a x w (way.node.0 ∷ []) (way.node.0 ∷ []) (λ next. StageIsTrue C key edit way (Stored number) begun after next)) (sym is)
+              (goes_border a way.node.0 b write at.named now w (way.node.0 ∷ []) (way.node.0 ∷ []) _ world (subst (λ (x : ArenaView). IsIndexAt x now w.twins w.chart) is replaces.0)
+              (subst (λ (x : ArenaView). RowsAreOfKeys x) is (keys_changed a after log left key (row_at place b.live) (Some (put_row C number f.sets (row_at place b.live))) number done world.keys)) (own_free a way.node.0 w) (λ other i. inl i) (λ other ne i. i) (λ locked. first)
+              (record { b = write b; named = named; known = known_on (arena_seen a) w.chart way.node.0 (prefix_of key way) (border_seen b) at.stands.stands; locked = at.locked }));
+          does = (
+            subst (λ (e : Edit). Commits C a after log left (edit_request key e) number) (sym f.is_put) (
+              row_at place b.live,
+              done,
+            ),
+            refl,
+            refl,
+          );
+          reserved = let less = ap (λ (l : LogView). l.reserved) appended in omega (arith, less, room);
+          feed = ap (λ (l : LogView). l.feed) appended;
+          holders = ap (λ (l : LogView). l.holders) appended;
+          may = tt;
+        };
+  }
+
+  pub hides : (place : ℕ) (stored : List ℕ) (before : Row) (number : ℕ) (after : ArenaView) (left : LogView) → number ≡ newest log + 1
+      → after ≡ with_border_changed a way.node.0 (λ b. with_hidden b place) → HidesRowAt a after way.node.0 place
+      → left ≡ with_delta log (remove_delta (newest log + 1) stored before) → 1 ≤ log.reserved → CommitLaw after left number (Taken place stored before)
+  hides place stored before number after left next is hidden appended room = record {
+    steps = λ now begun moves past w world early truth.
+        let (b, at, f) = truth in
+        let hide : BorderView → BorderView = λ (x : BorderView). with_hidden x place in
+        let e = stands_at b f.sound rest (RowFound place) f.there in
+        let removes = (hidden.hides b e.entry at.named e.stands).removes now w.twins w.chart (prefix_of key way) world.index (on_in b w at) in
+        let stood : RowIs a key (Some before) = subst (λ (r : Option Row). RowIs a key r) (ap (row_found b.live) f.there ∙ f.copied) (stood_is b w now f.bytes f.sound world at) in
+        let named = subst (λ (x : ArenaView). border_at x.nodes way.node.0 ≡ Some (hide b)) (sym is) (now_named a way.node.0 b hide at.named) in
+        let done : Changes a after log left key (Some before) None number =
+        changes after (Some before) None (entry_place e.entry) number left f.bytes f.fits at.layer stood e.of_rest
+        (removed_content after (under (prefix_of key way) (entry_place e.entry)) removes.1)
+        next
+        (appended ∙ (ap (λ (n : ℕ). with_delta log (remove_delta n stored before)) (sym next) ∙ ap (λ (k : List ℕ). with_delta log (remove_delta number k before)) f.stored_is)) in
+        record {
+          goes = subst (λ (x : ArenaView). Goes now a x w (way.node.0 ∷ []) (way.node.0 ∷ []) (λ next. StageIsTrue C key edit way (Stored number) begun after next)) (sym is)
+              (goes_border a way.node.0 b hide at.named now w (way.node.0 ∷ []) (way.node.0 ∷ []) _ world (subst (λ (x : ArenaView). IsIndexAt x now w.twins w.chart) is removes.0)
+              (subst (λ (x : ArenaView). RowsAreOfKeys x) is (keys_changed a after log left key (Some before) None number done world.keys)) (own_free a way.node.0 w) (λ other i. inl i) (λ other ne i. i) (λ locked. first)
+              (record { b = hide b; named = named; known = known_on (arena_seen a) w.chart way.node.0 (prefix_of key way) (border_seen b) at.stands.stands; locked = at.locked }));
+          does = (
+            subst (λ (x : Edit). Commits C a after log left (edit_request key x) number) (sym f.is_remove) (
+              before,
+              done,
+            ),
+            refl,
+            refl,
+          );
+          reserved = let less = ap (λ (l : LogView). l.reserved) appended in omega (arith, less, room);
+          feed = ap (λ (l : LogView). l.feed) appended;
+          holders = ap (λ (l : LogView). l.holders) appended;
+          may = tt;
+        };
+  }
+
+  abbrev EndLaw : ArenaView → Progress → Held → Truth → Stage → Type 0
+  EndLaw after p then Then stage = StepLaw C a after log log (edit_request key edit) (stage_held way.node.0 stage) p then (λ begun moves past x w. StageIsTrue C key edit way stage begun x w) Then
+
+  abbrev unlock : BorderView → BorderView
+  unlock b = with_lock b false
+
+  -- a remove is ready, or it fails
+  take : (stage : Stage) (left : LogView) → edit ≡ RemoveEdit → PreparesRemove key way a log (Some stage) left
+      → StepLaw C a a log left (edit_request key edit) (stage_held way.node.0 Locked) Moved (stage_held way.node.0 stage) (λ begun moves past x w. StageIsTrue C key edit way Locked begun x w) (λ begun moves past x w. StageIsTrue C key edit way stage begun x w)
+  take (Taken place stored before) left is_remove f = record {
+    steps = λ now begun moves past w world early truth.
+        let (b, at) = truth in
+        let same : f.b ≡ b = (let both : ◌≡◌ {A = Option BorderView} (Some f.b) (Some b) = sym f.named ∙ at.named in cc) in
+        record {
+          goes = goes_same now a w _ (way.node.0 ∷ []) (way.node.0 ∷ []) refl world (b, at, subst (λ (e : Edit). IsFound key e way b place stored before) (sym is_remove) (subst (λ (x : BorderView). IsFound key RemoveEdit way x place stored before) same f.found));
+          does = (record { content = λ k row. ((λ h. h), (λ h. h)); trimmed = ap (λ (l : LogView). l.held_after) f.reserved; deltas = ap (λ (l : LogView). l.deltas) f.reserved }, refl);
+          reserved = let more = ap (λ (l : LogView). l.reserved) f.reserved in omega (arith, more);
+          feed = ap (λ (l : LogView). l.feed) f.reserved;
+          holders = ap (λ (l : LogView). l.holders) f.reserved;
+          may = λ get. absurd (no_get key edit get);
+        };
+  }
+  take (Failed refusal) left is_remove f =
+      subst (λ (l : LogView). StepLaw C a a log l (edit_request key edit) (stage_held way.node.0 Locked) Moved (stage_held way.node.0 (Failed refusal)) (λ begun moves past x w. StageIsTrue C key edit way Locked begun x w) (λ begun moves past x w. StageIsTrue C key edit way (Failed refusal) begun x w)) (sym f.1) (record {
+        steps = λ now begun moves past w world before truth.
+            let (b, at) = truth in
+            record {
+              goes = goes_same now a w _ (way.node.0 ∷ []) (way.node.0 ∷ []) refl world (
+                record { b = b; named = at.named; known = known_on (arena_seen a) w.chart way.node.0 (prefix_of key way) (border_seen b) at.stands.stands; locked = at.locked },
+                subst (λ (e : Edit). MayRefuse (edit_request key e) refusal) (sym is_remove) f.0,
+              );
+              does = (quiet_same a log, refl);
+              reserved = refl;
+              feed = refl;
+              holders = refl;
+              may = λ get. absurd (no_get key edit get);
+            };
+      })
+  take Seeks left is_remove f = absurd f
+  take Locked left is_remove f = absurd f
+  take (Filled place stored logged) left is_remove f = absurd f
+  take (Made place stored columns logged) left is_remove f = absurd f
+  take (Stored number) left is_remove f = absurd f
+
+  pub takes : (stage old : Stage) (left : LogView) → old ≡ Locked → edit ≡ RemoveEdit → PreparesRemove key way a log (Some stage) left
+      → StepLaw C a a log left (edit_request key edit) (stage_held way.node.0 old) Moved (stage_held way.node.0 stage) (λ begun moves past x w. StageIsTrue C key edit way old begun x w) (λ begun moves past x w. StageIsTrue C key edit way stage begun x w)
+  takes stage old left is is_remove p =
+      subst (λ (s : Stage). StepLaw C a a log left (edit_request key edit) (stage_held way.node.0 s) Moved (stage_held way.node.0 stage) (λ begun moves past x w. StageIsTrue C key edit way s begun x w) (λ begun moves past x w. StageIsTrue C key edit way stage begun x w)) (sym is)
+      (take stage left is_remove p)
+
+  -- ---- the end
+  ends : (then : Held) (committed : Option ℕ) (now : ℕ) (w : World) (after : ArenaView) → after ≡ with_border_changed a way.node.0 unlock → KeepsTree a after → IsWorld a now w → IsLockedBorder a w way.node.0
+      → Goes now a after w (way.node.0 ∷ []) [] (λ next. Unit {0}) × IsQuiet a after log log
+  ends then committed now w after is keeps world at =
+      let kept = keeps.keeps now w.twins w.chart world.index in (
+        subst (λ (x : ArenaView). Goes now a x w (way.node.0 ∷ []) [] (λ next. Unit {0})) (sym is)
+            (goes_border a way.node.0 at.b unlock at.named now w (way.node.0 ∷ []) [] _ world (subst (λ (x : ArenaView). IsIndexAt x now w.twins w.chart) is kept.index)
+            (subst (λ (x : ArenaView). RowsAreOfKeys x) is (keys_same a after kept.content world.keys))
+            (own_free a way.node.0 w) (λ other i. elim i [ ]) (λ other ne i. absurd (ne (among_one other way.node.0 i))) (λ taken. absurd (elim taken [ inl locked ↦ (let clash : false ≡ true = locked in cc) | inr none ↦ (let some : IsSome (let nothing : Option Spot = None in nothing) = subst (λ (x : Option Spot). IsSome x) none at.known in cc) ])) tt),
+        record { content = kept.content; trimmed = refl; deltas = refl },
+      )
+
+  pub answers : (number : ℕ) (answer : Answer) → answer ≡ written_answer edit number → (then : Held) (Then : Truth) (after : ArenaView) → after ≡ with_border_changed a way.node.0 unlock → KeepsTree a after → EndLaw after (Answered answer) then Then (Stored number)
+  answers number answer answer_is then Then after is keeps = record {
+    steps = λ now begun moves past w world before truth.
+        let (goes, quiet) = ends then None now w after is keeps world truth in
+        record { goes = goes; does = (quiet, subst (λ (x : Answer). IsRight past a (edit_request key edit) (Some number) x) (sym answer_is) (answer_right past a key edit number)); reserved = refl; feed = refl; holders = refl; may = tt };
+  }
+
+  -- a remove that finds no row ends
+  pub lacks : (then : Held) (Then : Truth) (after : ArenaView) → edit ≡ RemoveEdit → after ≡ with_border_changed a way.node.0 unlock → KeepsTree a after → LacksRow key way a → (left : LogView) → left ≡ log
+      → StepLaw C a after log left (edit_request key edit) (stage_held way.node.0 Locked) (Answered AbsentAnswer) then (λ begun moves past x w. StageIsTrue C key edit way Locked begun x w) Then
+  lacks then Then after is_remove is keeps lacking left same_log = subst (λ (l : LogView). StepLaw C a after log l (edit_request key edit) (stage_held way.node.0 Locked) (Answered AbsentAnswer) then (λ begun moves past x w. StageIsTrue C key edit way Locked begun x w) Then) (sym same_log) (record {
+    steps = λ now begun moves past w world before truth.
+        let (b, at) = truth in
+        let same : lacking.b ≡ b = (let both : ◌≡◌ {A = Option BorderView} (Some lacking.b) (Some b) = sym lacking.named ∙ at.named in cc) in
+        let (goes, quiet) = ends then None now w after is keeps world (record { b = b; named = at.named; known = known_on (arena_seen a) w.chart way.node.0 (prefix_of key way) (border_seen b) at.stands.stands; locked = at.locked }) in
+        let stood = stood_is b w now lacking.bytes (subst IsBorder same lacking.sound) world at in
+        let none : row_found b.live (found_for rest b.live) ≡ None = subst (λ (x : BorderView). row_found x.live (found_for rest x.live) ≡ None) same lacking.none in
+        record {
+          goes = goes;
+          does = (quiet, subst (λ (e : Edit). IsRight past a (edit_request key e) None AbsentAnswer) (sym is_remove) (refl, lacking.bytes, subst (λ (r : Option Row). RowIs a key r) none stood));
+          reserved = refl;
+          feed = refl;
+          holders = refl;
+          may = tt;
+        };
+  })
+
+  pub refuses : (refusal : Refusal) (then : Held) (Then : Truth) (after : ArenaView) → after ≡ with_border_changed a way.node.0 unlock → KeepsTree a after → EndLaw after (Refused refusal) then Then (Failed refusal)
+  refuses refusal then Then after is keeps = record {
+    steps = λ now begun moves past w world before truth.
+        let (goes, quiet) = ends then None now w after is keeps world truth.0 in
+        record { goes = goes; does = (quiet, refl, truth.1); reserved = refl; feed = refl; holders = refl; may = tt };
+  }
+
+-- at the place of a key there is a border
+pub has_border_here : (a : ArenaView) (key : List ℕ) (way : Way) (went : Went) → Visits a key way went → (now begun : ℕ) (w : World) → IsWorld a now w → IsOnWay begun key way w → went ≡ Here → IsSome (border_at a.nodes way.node.0)
+has_border_here a key way went visits now begun w world way_on is =
+    let place = subst (λ (t : Went). GoesTo a begun key way w t) is (visits.goes now w begun world way_on) in
+    subst (λ (b : Option BorderView). IsSome b) (sym place.here.named) refl
+
+-- a law of one stage is one of the stage that is the same
+pub at_stage : (C : ℕ) (a after : ArenaView) (log left : LogView) (key : List ℕ) (edit : Edit) (way : Way) (p : Progress) (then : Held) (Then : Truth) (stage old : Stage) → old ≡ stage
+    → StepLaw C a after log left (edit_request key edit) (stage_held way.node.0 stage) p then (λ begun moves past x w. StageIsTrue C key edit way stage begun x w) Then
+    → StepLaw C a after log left (edit_request key edit) (stage_held way.node.0 old) p then (λ begun moves past x w. StageIsTrue C key edit way old begun x w) Then
+at_stage C a after log left key edit way p then Then stage old is law =
+    subst (λ (s : Stage). StepLaw C a after log left (edit_request key edit) (stage_held way.node.0 s) p then (λ begun moves past x w. StageIsTrue C key edit way s begun x w) Then) (sym is) law
+
+-- the room that a stage has reserved is there
+pub room_at : (number : ℕ) (log : LogView) (stage old : Stage) → old ≡ stage → (stage_held number old).reserves ≤ log.reserved → (stage_held number stage).reserves ≤ log.reserved
+room_at number log stage old is room = subst (λ (s : Stage). (stage_held number s).reserves ≤ log.reserved) is room

@@ -1,0 +1,43 @@
+use Rattle.std.proofs.Common.{ℕ, subst}
+use Rattle.mt_calls.specs.Ranging.{Seeks}
+use Rattle.mt_calls.proofs.RangeLemmas.{range_may, range_waits, range_moves, range_border, range_keys, range_goes, range_tops, range_answers, range_fails}
+use Rattle.mt_calls.proofs.ranging.Range.step.Goals as goal
+
+pub seek-requires : goal.seek-requires
+seek-requires c = let may = c.requires.1 in range_may c.args.tree.now c.args.self.now may.now may.begun may.moves may.past may.w may.world may.true c.slice.result c.slice.ensures
+
+pub border-border-requires : goal.border-border-requires
+border-border-requires c =
+    let may = c.requires.1 in
+    range_border c.args.tree.now c.args.self.now c.seek.result (subst (λ (s : ℕ). Seeks c.args.tree.now c.args.self.now.node.0 s c.seek.result) c.slice.ensures c.seek.ensures) may.now may.begun may.moves may.past may.w may.world may.true c.in-Here.is
+
+pub visit-requires : goal.visit-requires
+visit-requires c =
+    let may = c.requires.1 in
+    range_keys c.args.tree.now c.args.self.now c.seek.result (subst (λ (s : ℕ). Seeks c.args.tree.now c.args.self.now.node.0 s c.seek.result) c.slice.ensures c.seek.ensures)
+    c.border-border.result.now c.border-border.ensures.value c.in-Here.is may.now may.begun may.moves may.past may.w may.world may.true
+
+pub returns-in-Again-clause-steps : goal.returns-in-Again-clause-steps
+returns-in-Again-clause-steps c = λ C log. range_waits c.args.tree.now c.args.self.now c.restart.new.self c.restart.ensures log C
+
+pub returns-in-To-clause-steps : goal.returns-in-To-clause-steps
+returns-in-To-clause-steps c = λ C log.
+    range_moves c.args.tree.now c.args.self.now c.seek.result (subst (λ (s : ℕ). Seeks c.args.tree.now c.args.self.now.node.0 s c.seek.result) c.slice.ensures c.seek.ensures) c.in-To.next c.in-To.is log C
+
+pub returns-in-Ok-To-clause-steps : goal.returns-in-Ok-To-clause-steps
+returns-in-Ok-To-clause-steps c = λ C log.
+    range_goes c.args.tree.now c.args.self.now c.seek.result (subst (λ (s : ℕ). Seeks c.args.tree.now c.args.self.now.node.0 s c.seek.result) c.slice.ensures c.seek.ensures)
+    c.border-border.result.now c.border-border.ensures.value c.in-Here.is c.len-sound.ensures.sound c.in-Ok-To.field-0 c.visit.new.self c.in-Ok-To.ensures.visited c.in-Ok-To.ensures.limit c.in-Ok-To.ensures.asked c.in-Ok-To.next c.in-Ok-To.field-0-is log C
+
+pub returns-in-Ok-Top-clause-steps : goal.returns-in-Ok-Top-clause-steps
+returns-in-Ok-Top-clause-steps c = λ C log.
+    range_tops c.args.tree.now c.args.self.now c.seek.result (subst (λ (s : ℕ). Seeks c.args.tree.now c.args.self.now.node.0 s c.seek.result) c.slice.ensures c.seek.ensures)
+    c.border-border.result.now c.border-border.ensures.value c.in-Here.is c.len-sound.ensures.sound c.in-Ok-Top.field-0 c.visit.new.self c.in-Ok-Top.ensures.visited c.in-Ok-Top.ensures.limit c.in-Ok-Top.ensures.asked c.in-Ok-Top.ensures.home c.in-Ok-Top.field-0-is log C
+
+pub returns-in-Ok-Done-clause-steps : goal.returns-in-Ok-Done-clause-steps
+returns-in-Ok-Done-clause-steps c = λ C log.
+    range_answers c.args.tree.now c.args.self.now c.seek.result (subst (λ (s : ℕ). Seeks c.args.tree.now c.args.self.now.node.0 s c.seek.result) c.slice.ensures c.seek.ensures)
+    c.border-border.result.now c.border-border.ensures.value c.in-Here.is c.len-sound.ensures.sound c.in-Ok-Done.field-0 c.visit.new.self c.in-Ok-Done.ensures.visited c.in-Ok-Done.field-0-is c.take_pairs.result c.take_pairs.ensures.value c.take_pairs.ensures.bytes _ log C
+
+pub returns-in-Err-clause-steps : goal.returns-in-Err-clause-steps
+returns-in-Err-clause-steps c = λ C log. range_fails c.args.tree.now c.args.self.now _ log C

@@ -1,0 +1,11 @@
+use Rattle.mt_calls.proofs.WorkLemmas.{step_get, step_write, step_range}
+use Rattle.mt_calls.proofs.work.Work.step.Goals as goal
+
+pub returns-in-Get-clause-steps : goal.returns-in-Get-clause-steps
+returns-in-Get-clause-steps c = step_get c.args.columns c.args.tree.now c.args.tree.now c.args.log.now c.args.log.now c.args.self.now c.in-Get.get _ _ _ c.in-Get.is (c.step.ensures.steps c.args.columns c.args.log.now)
+
+pub returns-in-Write-clause-steps : goal.returns-in-Write-clause-steps
+returns-in-Write-clause-steps c = step_write c.args.columns c.args.tree.now c.step-in-Write.new.tree c.args.log.now c.step-in-Write.new.log c.args.self.now c.in-Write.write _ _ _ c.in-Write.is c.step-in-Write.ensures.steps
+
+pub returns-in-Range-clause-steps : goal.returns-in-Range-clause-steps
+returns-in-Range-clause-steps c = step_range c.args.columns c.args.tree.now c.args.tree.now c.args.log.now c.args.log.now c.args.self.now c.in-Range.range _ _ _ c.in-Range.is (c.step-in-Range.ensures.steps c.args.columns c.args.log.now)

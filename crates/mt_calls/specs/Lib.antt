@@ -1,0 +1,8 @@
+-- What the contracts cite: the world and the law of a step first, then each kind of call.
+pub mod World
+pub mod Step
+pub mod Way
+pub mod Getting
+pub mod Writing
+pub mod Ranging
+pub mod Works

@@ -1,0 +1,58 @@
+-- What is true of a range.
+use Rattle.std.specs.Prelude.{ℕ, ◌≡◌, List, ◌∷◌, Some, false}
+use Rattle.mt_types.specs.Rows.{shown}
+use Rattle.mt_types.specs.declared.event.Request.{Request}
+use Rattle.mt_types.specs.declared.event.Request.TheVariants.{Range as RangeRequest}
+use Rattle.mt_slice.specs.Place.{AreBytes, place_of}
+use Rattle.mt_border.specs.Border.{BorderView}
+use Rattle.mt_arena.specs.Node.{border_at}
+use Rattle.mt_arena.specs.Arena.{ArenaView}
+use Rattle.mt_chart.specs.Tree.{Arena, Below}
+use Rattle.mt_chart.specs.Chart.{Chart, Holds}
+use Rattle.mt_chart.specs.Steps.{Twin}
+use Rattle.mt_chart.specs.Scan.{OpenRange}
+use Rattle.mt_chart.specs.ScanRun.{Stood, AllHave}
+use Rattle.mt_chart.specs.KeyAnswer.{as_places}
+use Rattle.mt_tree.specs.Seen.{arena_seen, border_seen}
+use Rattle.mt_tree.specs.Keeping.{IsIndexAt}
+use Rattle.mt_calls.specs.declared.ranging.Range.{Range}
+use Rattle.mt_calls.specs.declared.ranging.Sought.{Sought}
+use Rattle.mt_calls.specs.declared.ranging.Sought.TheVariants.{Again, To, Here}
+use Rattle.mt_calls.specs.World.{World}
+
+abbrev pub range_request : Range → Request
+range_request range = RangeRequest range.start range.limit range.columns
+
+-- a range that began in the epoch holds the node where it stands, and all before its cursor is done, by the arenas of its moments
+pub record RangeIsTrue (range : Range) (begun moves : ℕ) (past : List Arena) (a : ArenaView) (w : World) : Type 0 where
+  pub bytes : AreBytes range.start
+  pub limit : range.scan.limit ≡ range.limit
+  pub asked : range.scan.asked ≡ range.columns
+  pub scans : OpenRange w.chart begun (Stood (shown range.columns) (arena_seen a ∷ past)) (AllHave (arena_seen a ∷ past)) (place_of range.start) range.limit
+      range.scan.prefix range.node.0 range.scan.at (as_places range.scan.taken)
+
+-- a call may hold the node for this slice
+pub record IsHeldFor (a : ArenaView) (number slice : ℕ) : Type 0 where
+  pub now : ℕ
+  pub twins : List Twin
+  pub chart : Chart
+  pub begun : ℕ
+  pub prefix : List ℕ
+  pub index : IsIndexAt a now twins chart
+  pub holds : Holds chart begun number prefix slice
+
+-- the border is the one in whose interval the slice is, and is not marked deleted
+pub record IsAtSlice (a : ArenaView) (number slice : ℕ) : Type 0 where
+  pub border : BorderView
+  pub named : border_at a.nodes number ≡ Some border
+  pub alive : border.version.deleted ≡ false
+  pub to_right : Below slice (border_seen border).right
+
+abbrev pub KnowsOfSlice : ArenaView → Chart → ℕ → ℕ → List ℕ → ℕ → Sought → Type 0
+KnowsOfSlice a chart begun number prefix slice Again = Unit {0}
+KnowsOfSlice a chart begun number prefix slice (To next) = Holds chart begun next.0 prefix slice
+KnowsOfSlice a chart begun number prefix slice Here = IsAtSlice a number slice
+
+-- a call that holds the node for a slice knows this after the visit
+pub record Seeks (a : ArenaView) (number slice : ℕ) (sought : Sought) : Type 0 where
+  pub leads : (now : ℕ) (twins : List Twin) (chart : Chart) (begun : ℕ) (prefix : List ℕ) → IsIndexAt a now twins chart → Holds chart begun number prefix slice → KnowsOfSlice a chart begun number prefix slice sought

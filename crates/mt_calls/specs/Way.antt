@@ -1,0 +1,51 @@
+-- A call on its way to the border of its key.
+use Rattle.std.specs.Prelude.{ℕ, ◌≡◌, ◌≤◌, ◌*◌, List, length, false}
+use Rattle.mt_slice.specs.Place.{place_of, under, slices_above, rest_at, slice_number}
+use Rattle.mt_arena.specs.Arena.{ArenaView}
+use Rattle.mt_chart.specs.Chart.{Holds}
+use Rattle.mt_chart.specs.Walk.{Moves}
+use Rattle.mt_tree.specs.Seen.{arena_seen}
+use Rattle.mt_tree.specs.Descent.{IsHere, IsLast, MayVisit, found_for}
+use Rattle.mt_calls.specs.declared.way.Way.{Way}
+use Rattle.mt_calls.specs.declared.way.Went.{Went}
+use Rattle.mt_calls.specs.declared.way.Went.TheVariants.{Again, To, Here}
+use Rattle.mt_calls.specs.World.{World, IsWorld}
+
+-- the slices of the layers above the layer where a call stands, and what they have left of the key
+abbrev pub prefix_of : List ℕ → Way → List ℕ
+prefix_of key way = slices_above way.layer key
+
+abbrev pub rest_of : List ℕ → Way → List ℕ
+rest_of key way = rest_at way.layer key
+
+-- the layer is one of the key's
+pub record IsLayerOf (key : List ℕ) (way : Way) : Type 0 where
+  pub within : 8 * way.layer ≤ length key
+  pub under : place_of key ≡ under (prefix_of key way) (place_of (rest_of key way))
+
+-- a call that began in the epoch holds the node where it stands, for its key's slice in the layer
+pub record IsOnWay (begun : ℕ) (key : List ℕ) (way : Way) (w : World) : Type 0 where
+  pub layer : IsLayerOf key way
+  pub held : Holds w.chart begun way.node.0 (prefix_of key way) (slice_number (rest_of key way))
+
+-- it stands at the border where its key's entry is, if there is one: the border is not marked deleted, and no link leads on
+pub record IsAtPlace (a : ArenaView) (key : List ℕ) (way : Way) (w : World) : Type 0 where
+  pub layer : IsLayerOf key way
+  pub here : IsHere a w.chart way.node.0 (prefix_of key way) (rest_of key way)
+  pub alive : here.border.version.deleted ≡ false
+  pub last : IsLast (found_for (rest_of key way) here.border.live)
+
+-- what a visit leads to
+abbrev pub GoesTo : ArenaView → ℕ → List ℕ → Way → World → Went → Type 0
+GoesTo a begun key way w Again = Unit {0}
+GoesTo a begun key way w (To next) = IsOnWay begun key next w × Moves (arena_seen a) way.node.0 next.node.0
+GoesTo a begun key way w Here = IsAtPlace a key way w
+
+-- what a call must know before it visits the node where it stands
+pub record MayGo (a : ArenaView) (key : List ℕ) (way : Way) : Type 0 where
+  pub within : 8 * way.layer ≤ length key
+  pub may : MayVisit a way.node.0 (slice_number (rest_of key way))
+
+-- what a visit tells, in each world in which the call holds the node
+pub record Visits (a : ArenaView) (key : List ℕ) (way : Way) (went : Went) : Type 0 where
+  pub goes : (now : ℕ) (w : World) (begun : ℕ) → IsWorld a now w → IsOnWay begun key way w → GoesTo a begun key way w went

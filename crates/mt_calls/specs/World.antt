@@ -1,0 +1,69 @@
+-- What the proofs know of the tree between two steps, and what a step of one call leaves of it to the others.
+use Rattle.std.specs.Prelude.{ℕ, ◌≡◌, ◌≤◌, ◌⊎◌, List, length, Option, Some, None, IsSome, Bool, true}
+use Rattle.mt_types.specs.declared.limits.TheConstants.{MAX_KEY_BYTES}
+use Rattle.mt_types.specs.declared.row.Row.{Row}
+use Rattle.mt_slice.specs.Place.{Place, AreBytes, place_of}
+use Rattle.mt_arena.specs.Node.{node_at}
+use Rattle.mt_arena.specs.Arena.{ArenaView}
+use Rattle.mt_arena.specs.declared.node.Node.{Node}
+use Rattle.mt_arena.specs.declared.node.Node.TheVariants.{Head, Interior, Border}
+use Rattle.mt_chart.specs.Tree.{Among, Has}
+use Rattle.mt_chart.specs.Chart.{Chart, Evolves}
+use Rattle.mt_chart.specs.Steps.{Twin}
+use Rattle.mt_tree.specs.Seen.{arena_seen}
+use Rattle.mt_tree.specs.Keeping.{IsIndexAt}
+
+-- what the proofs know beside the arena: where each node stands, and which interiors are being split
+pub record World : Type 0 where
+  pub twins : List Twin
+  pub chart : Chart
+
+-- the place is that of a key, of bytes and not too long
+pub record IsKeyPlace (place : Place) : Type 0 where
+  pub key : List ℕ
+  pub bytes : AreBytes key
+  pub fits : length key ≤ MAX_KEY_BYTES
+  pub is : place_of key ≡ place
+
+-- each row that the tree has is at the place of a key
+pub record RowsAreOfKeys (a : ArenaView) : Type 0 where
+  pub key_of : (place : Place) (row : Row) → Has (arena_seen a) place row → IsKeyPlace place
+
+-- the tree is an index in an epoch, in this world
+pub record IsWorld (a : ArenaView) (now : ℕ) (w : World) : Type 0 where
+  pub index : IsIndexAt a now w.twins w.chart
+  pub keys : RowsAreOfKeys a
+
+-- the node is locked
+abbrev pub is_locked : Node → Bool
+is_locked (Head head) = head.version.locked
+is_locked (Interior interior) = interior.version.locked
+is_locked (Border border) = border.version.locked
+
+abbrev pub IsLocked : Option Node → Type 0
+IsLocked None = ⊥
+IsLocked (Some node) = is_locked node ≡ true
+
+-- a number is taken: it names a locked node, or a spare, which the chart doesn't know
+abbrev pub IsTaken : ArenaView → World → ℕ → Type 0
+IsTaken a w number = IsLocked (node_at a.nodes number) ⊎ (IsSome (node_at a.nodes number) × (w.chart number ≡ None))
+
+-- the number names the same node, which stands where it stood
+pub record IsSame (a after : ArenaView) (w next : World) (number : ℕ) : Type 0 where
+  pub node : node_at after.nodes number ≡ node_at a.nodes number
+  pub spot : next.chart number ≡ w.chart number
+
+-- not one of these numbers
+abbrev pub NotAmong : ℕ → List ℕ → Type 0
+NotAmong number numbers = Among number numbers → ⊥
+
+-- what a step of one call leaves, which owned these numbers and then owns those: there is a next world in which the tree is an index;
+-- all that calls rely on stays; each number that is taken by another call is as it was, and is not this call's; and what is then to be true
+-- of this call is. And what is then taken is this call's, or was taken and was not this call's: no call leaves a lock or a spare behind.
+pub record Goes (now : ℕ) (a after : ArenaView) (w : World) (owned owns : List ℕ) (Then : World → Type 0) : Type 0 where
+  pub next : World
+  pub world : IsWorld after now next
+  pub evolves : (begun : ℕ) → begun ≤ now → Evolves begun w.chart next.chart
+  pub leaves : (other : ℕ) → IsTaken a w other → NotAmong other owned → IsSame a after w next other × NotAmong other owns
+  pub takes : (number : ℕ) → IsTaken after next number → Among number owns ⊎ (IsTaken a w number × NotAmong number owned)
+  pub true : Then next

@@ -1,0 +1,29 @@
+//! The columns that a put makes.
+
+ghost use Rattle.std.specs.Prelude.{◌≡◌, IfOk};
+ghost use Rattle.std.specs.Option.{option_copied};
+ghost use Rattle.mt_types.specs.Rows.{new_columns, columns_before};
+
+use mt_types::columns::{empty_columns, write_sets};
+use mt_types::copying::TryCopy;
+use mt_types::items::Items;
+use mt_types::refusal::NoMemory;
+use mt_types::row::{Columns, Row, Sets};
+use std::alloc::Global;
+
+/// The columns that a put makes of the row that stands, or of none. Shares the bytes. Costs two allocations.
+pub fn made_columns(
+    alloc: Global,
+    count: u8,
+    old: Option<&Row>,
+    sets: &Sets,
+) -> Result<Columns, NoMemory>
+    ensures { IfOk result (λ columns. columns ≡ new_columns sets.now 0 (columns_before count (option_copied old.entry))) }
+{
+    let mut columns = match old {
+        None => empty_columns(alloc, count)?,
+        Some(row) => row.columns.copy(alloc)?.into_vec(),
+    };
+    write_sets(&mut columns, sets.copy(alloc)?);
+    Ok(Items::from_vec(columns))
+}

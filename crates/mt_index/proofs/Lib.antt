@@ -1,0 +1,6 @@
+pub mod NumberLemmas
+pub mod ListLemmas
+pub mod PairedLemmas
+pub mod PastLemmas
+pub mod StepStands
+pub mod EventStands

@@ -1,0 +1,430 @@
+-- A step of one call leads from a machine that stands at a history to one that stands at the next.
+use Rattle.std.proofs.Common.{ℕ, ◌≡◌, ◌≢◌, ◌≤◌, ◌+◌, ◌⊎◌, ◌↔◌, inl, inr, cond, List, [], ◌∷◌, ◌++◌, length, reverse, Option, Some, None, refl, sym, ap, subst, ◌∙◌, arith}
+use Rattle.std.specs.FinMap as map
+use Rattle.std.specs.FinMap.{get}
+use Rattle.std.specs.Cmp.{IsTotalOrder}
+use Rattle.std.specs.Cmp.Lexicographic.{nat_list_cmp_total}
+use Rattle.std.specs.declared.cmp.Ordering.{Ordering}
+use Rattle.std.specs.declared.cmp.Ordering.TheVariants.{Less, Equal, Greater}
+use Rattle.std.specs.Ordering.{is_eq}
+use Rattle.std.proofs.lemmas.Cmp.{tied_itself}
+use Rattle.std.proofs.lemmas.List.{length-append}
+use Rattle.mt_types.specs.Keys.{key_cmp}
+use Rattle.mt_types.specs.Rows.{Rows, after, after_change}
+use Rattle.mt_types.specs.declared.row.Row.{Row}
+use Rattle.mt_types.specs.declared.row.Delta.{Delta}
+use Rattle.mt_types.specs.declared.row.Change.{Change}
+use Rattle.mt_types.specs.declared.event.Event.{Event}
+use Rattle.mt_types.specs.declared.event.Event.TheVariants.{Step}
+use Rattle.mt_types.specs.declared.event.Answer.{Answer}
+use Rattle.mt_types.specs.declared.event.Answer.TheVariants.{Absent, Found as FoundAnswer, Stored as StoredAnswer, Removed, Rows as RowsAnswer, Tidied, Built}
+use Rattle.mt_types.specs.declared.event.Outcome.{Outcome}
+use Rattle.mt_types.specs.declared.event.Outcome.TheVariants.{Commit}
+use Rattle.mt_types.specs.declared.refusal.Refusal.{Refusal}
+use Rattle.mt_types.specs.declared.refusal.Refusal.TheVariants.{NoMemory, KeyTooLong, BadColumn, ColumnTooLong, BadLimit, ArenaFull, FeedFull, TooManyCalls, NoSuchCall, TooManyViews, NoSuchView, Behind, BadRange, Spent, WrongPass}
+use Rattle.mt_promise.specs.History.{History, Happening, Moment, OpenCall, happening, moment, rows, call_of, without_call, replace_call, after_step, after_call_step, change_of}
+use Rattle.mt_promise.specs.RightAnswers.{RightAnswer, Lacks, Shows}
+use Rattle.mt_promise.specs.Legal.{MayStepAt, MayStep, MayEnd, MayCommit}
+use Rattle.mt_promise.proofs.HistoryLemmas.{after-append, Sometime-here}
+use Rattle.mt_slice.specs.Place.{AreBytes, place_of}
+use Rattle.mt_slice.proofs.Canonical.{same_from_place_of}
+use Rattle.mt_commit.specs.Log.{LogView, newest, with_delta}
+use Rattle.mt_commit.specs.Deltas.{Fits, FitsNewestFirst, with_row}
+use Rattle.mt_commit.proofs.RowLemmas.{appending_fits, get-with_row}
+use Rattle.mt_arena.specs.Arena.{ArenaView}
+use Rattle.mt_chart.specs.Tree.{Arena, Among}
+use Rattle.mt_chart.proofs.Basics.{same_number}
+use Rattle.mt_tree.specs.Seen.{arena_seen, HasRow}
+use Rattle.mt_index.specs.declared.calls.Call.{Call}
+use Rattle.mt_calls.specs.declared.work.Work.{Work}
+use Rattle.mt_calls.specs.declared.work.Work.TheVariants.{Get as GetWork, Write as WriteWork, Range as RangeWork}
+use Rattle.mt_calls.specs.World.{IsTaken, World, IsSame, Goes, NotAmong}
+use Rattle.mt_calls.specs.Step.{RowIs, IsQuiet, Changes, IsRight, MayRefuse}
+use Rattle.mt_calls.specs.declared.writing.Edit.{Edit}
+use Rattle.mt_calls.specs.declared.writing.Edit.TheVariants.{Put as PutEdit, Remove as RemoveEdit}
+use Rattle.mt_calls.specs.Writing.{edit_request}
+use Rattle.mt_calls.specs.Works.{request_of, held, IsTrue}
+use Rattle.mt_index.specs.Paired.{Paired}
+use Rattle.mt_index.specs.Calls.{call_at, with_changed, with_work, without, AreApart, all_reserved}
+use Rattle.mt_index.specs.Stands.{AllOwned, MachineView, CallStands, HasRowsOf, IsPast, Stands}
+use Rattle.mt_index.proofs.PastLemmas.{past_more, right_range}
+use Rattle.mt_index.proofs.NumberLemmas.{Entries}
+use Rattle.mt_index.proofs.PairedLemmas.{Others, Found, paired-change, paired-without, paired-each, paired-one}
+use Rattle.mt_index.proofs.ListLemmas.{among_kept, among_new, among_left, among_at, among_changed, among_without}
+use Rattle.mt_calls.proofs.WorkLemmas.{stays, owned_taken}
+
+abbrev pub step_event : ℕ → Event
+step_event n = Step (record { 0 = n })
+
+-- two options that hold the same rows are one
+pub same_option : {A : Type 0} (x y : Option A) → ((r : A) → (x ≡ Some r) → (y ≡ Some r)) → ((r : A) → (y ≡ Some r) → (x ≡ Some r)) → x ≡ y
+same_option None None f g = refl
+same_option None (Some y) f g = g y refl
+same_option (Some x) y f g = sym (f x refl)
+
+-- the row that the tree has at a key is that of the history
+row_is : (s : MachineView) (h : History) (st : Stands s h) (key : List ℕ) (there : Option Row) → AreBytes key → RowIs s.tree key there → get (rows s.columns (moment h)) key ≡ there
+row_is s h st key there bytes is = same_option _ _ (λ r e. (is r).0 ((st.content key bytes r).1 e)) (λ r e. (st.content key bytes r).0 ((is r).1 e))
+
+-- ---- a row at a key of the history's rows
+key_order : IsTotalOrder key_cmp
+key_order = nat_list_cmp_total
+
+key_apart : map.IsAntisymmetric key_cmp
+key_apart = map.slice_cmp-IsAntisymmetric map.nat_cmp-IsAntisymmetric
+
+put_get : (rs : Rows) (key q : List ℕ) (then : Option Row) → ((q ≡ key) × (get (with_row key then rs) q ≡ then)) ⊎ ((q ≢ key) × (get (with_row key then rs) q ≡ get rs q))
+put_get rs key q then = elim (key_cmp q key) as (λ r. key_cmp q key ≡ r → ((q ≡ key) × (get (with_row key then rs) q ≡ then)) ⊎ ((q ≢ key) × (get (with_row key then rs) q ≡ get rs q))) [
+  | Less ↦ λ e. inr (apart e (λ c. let clash : Less ≡ Equal = c in cc), get-with_row key then rs q ∙ ap (λ o. cond (is_eq o) then (get rs q)) e)
+  | Equal ↦ λ e. inl (key_apart q key e, get-with_row key then rs q ∙ ap (λ o. cond (is_eq o) then (get rs q)) e)
+  | Greater ↦ λ e. inr (apart e (λ c. let clash : Greater ≡ Equal = c in cc), get-with_row key then rs q ∙ ap (λ o. cond (is_eq o) then (get rs q)) e)
+] refl
+  where
+    apart : {o : Ordering} → key_cmp q key ≡ o → (o ≡ Equal → ⊥) → q ≢ key
+    apart e never same = never (sym e ∙ ap (λ (k : List ℕ). key_cmp k key) same ∙ itself)
+      where
+        itself : key_cmp key key ≡ Equal
+        itself = tied_itself key_order key
+
+-- ---- refusals and answers, by the kind of the call
+-- a write may end so
+end_write : (past : History) (began : ℕ) (key : List ℕ) (edit : Edit) (refusal : Refusal) → MayRefuse (edit_request key edit) refusal → MayEnd past began (edit_request key edit) refusal
+end_write past began key (PutEdit sets) NoMemory m = tt
+end_write past began key (PutEdit sets) ArenaFull m = tt
+end_write past began key (PutEdit sets) Spent m = tt
+end_write past began key (PutEdit sets) KeyTooLong m = absurd m
+end_write past began key (PutEdit sets) BadColumn m = absurd m
+end_write past began key (PutEdit sets) ColumnTooLong m = absurd m
+end_write past began key (PutEdit sets) BadLimit m = absurd m
+end_write past began key (PutEdit sets) (FeedFull slowest) m = absurd m
+end_write past began key (PutEdit sets) TooManyCalls m = absurd m
+end_write past began key (PutEdit sets) NoSuchCall m = absurd m
+end_write past began key (PutEdit sets) TooManyViews m = absurd m
+end_write past began key (PutEdit sets) NoSuchView m = absurd m
+end_write past began key (PutEdit sets) (Behind at) m = absurd m
+end_write past began key (PutEdit sets) BadRange m = absurd m
+end_write past began key (PutEdit sets) WrongPass m = absurd m
+end_write past began key RemoveEdit NoMemory m = tt
+end_write past began key RemoveEdit ArenaFull m = absurd m
+end_write past began key RemoveEdit Spent m = tt
+end_write past began key RemoveEdit KeyTooLong m = absurd m
+end_write past began key RemoveEdit BadColumn m = absurd m
+end_write past began key RemoveEdit ColumnTooLong m = absurd m
+end_write past began key RemoveEdit BadLimit m = absurd m
+end_write past began key RemoveEdit (FeedFull slowest) m = absurd m
+end_write past began key RemoveEdit TooManyCalls m = absurd m
+end_write past began key RemoveEdit NoSuchCall m = absurd m
+end_write past began key RemoveEdit TooManyViews m = absurd m
+end_write past began key RemoveEdit NoSuchView m = absurd m
+end_write past began key RemoveEdit (Behind at) m = absurd m
+end_write past began key RemoveEdit BadRange m = absurd m
+end_write past began key RemoveEdit WrongPass m = absurd m
+
+pub may_end : (past : History) (began : ℕ) (work : Work) (refusal : Refusal) → MayRefuse (request_of work) refusal → MayEnd past began (request_of work) refusal
+may_end past began (WriteWork g) refusal m = end_write past began g.key g.edit refusal m
+may_end past began (GetWork g) NoMemory m = tt
+may_end past began (GetWork g) ArenaFull m = absurd m
+may_end past began (GetWork g) Spent m = absurd m
+may_end past began (GetWork g) KeyTooLong m = absurd m
+may_end past began (GetWork g) BadColumn m = absurd m
+may_end past began (GetWork g) ColumnTooLong m = absurd m
+may_end past began (GetWork g) BadLimit m = absurd m
+may_end past began (GetWork g) (FeedFull slowest) m = absurd m
+may_end past began (GetWork g) TooManyCalls m = absurd m
+may_end past began (GetWork g) NoSuchCall m = absurd m
+may_end past began (GetWork g) TooManyViews m = absurd m
+may_end past began (GetWork g) NoSuchView m = absurd m
+may_end past began (GetWork g) (Behind at) m = absurd m
+may_end past began (GetWork g) BadRange m = absurd m
+may_end past began (GetWork g) WrongPass m = absurd m
+may_end past began (RangeWork g) NoMemory m = tt
+may_end past began (RangeWork g) ArenaFull m = absurd m
+may_end past began (RangeWork g) Spent m = absurd m
+may_end past began (RangeWork g) KeyTooLong m = absurd m
+may_end past began (RangeWork g) BadColumn m = absurd m
+may_end past began (RangeWork g) ColumnTooLong m = absurd m
+may_end past began (RangeWork g) BadLimit m = absurd m
+may_end past began (RangeWork g) (FeedFull slowest) m = absurd m
+may_end past began (RangeWork g) TooManyCalls m = absurd m
+may_end past began (RangeWork g) NoSuchCall m = absurd m
+may_end past began (RangeWork g) TooManyViews m = absurd m
+may_end past began (RangeWork g) NoSuchView m = absurd m
+may_end past began (RangeWork g) (Behind at) m = absurd m
+may_end past began (RangeWork g) BadRange m = absurd m
+may_end past began (RangeWork g) WrongPass m = absurd m
+
+-- and what it answers is right
+answer_write : (s : MachineView) (h : History) (st : Stands s h) (call : OpenCall) (key : List ℕ) (edit : Edit) (committed : Option ℕ) (answer : Answer) (past : List Arena) → call.began ≤ length h → call.committed ≡ committed → IsRight past s.tree (edit_request key edit) committed answer
+    → RightAnswer s.columns h call (edit_request key edit) answer 0
+answer_write s h st call key (PutEdit sets) committed Absent past began is m = absurd m
+answer_write s h st call key (PutEdit sets) committed (FoundAnswer row) past began is m = absurd m
+answer_write s h st call key (PutEdit sets) committed (StoredAnswer number) past began is m = is ∙ m
+answer_write s h st call key (PutEdit sets) committed (Removed number) past began is m = absurd m
+answer_write s h st call key (PutEdit sets) committed (RowsAnswer pairs) past began is m = absurd m
+answer_write s h st call key (PutEdit sets) committed (Tidied rule) past began is m = absurd m
+answer_write s h st call key (PutEdit sets) committed (Built view) past began is m = absurd m
+answer_write s h st call key RemoveEdit committed Absent past began is (none, bytes, there) = (is ∙ none, Sometime-here call.began (Lacks s.columns key) h began (row_is s h st key None bytes there))
+answer_write s h st call key RemoveEdit committed (FoundAnswer row) past began is m = absurd m
+answer_write s h st call key RemoveEdit committed (StoredAnswer number) past began is m = absurd m
+answer_write s h st call key RemoveEdit committed (Removed number) past began is m = is ∙ m
+answer_write s h st call key RemoveEdit committed (RowsAnswer pairs) past began is m = absurd m
+answer_write s h st call key RemoveEdit committed (Tidied rule) past began is m = absurd m
+answer_write s h st call key RemoveEdit committed (Built view) past began is m = absurd m
+
+pub right_answer : (s : MachineView) (h : History) (st : Stands s h) (call : OpenCall) (work : Work) (answer : Answer) → call.began ≤ length h → call.committed ≡ (held work).committed → (past : List Arena) → IsPast s.columns call.began h (arena_seen s.tree ∷ past) → IsRight past s.tree (request_of work) (held work).committed answer
+    → RightAnswer s.columns h call (request_of work) answer 0
+right_answer s h st call (WriteWork g) answer began committed past passed m = answer_write s h st call g.key g.edit (held (WriteWork g)).committed answer past began committed m
+right_answer s h st call (GetWork g) Absent began committed past passed (bytes, is) = Sometime-here call.began (Lacks s.columns g.key) h began (row_is s h st g.key None bytes is)
+right_answer s h st call (GetWork g) (FoundAnswer row) began committed past passed (bytes, there, is, shows) = Sometime-here call.began (Shows s.columns g.key g.columns row) h began (there, row_is s h st g.key (Some there) bytes is, shows)
+right_answer s h st call (GetWork g) (StoredAnswer number) began committed past passed m = absurd m
+right_answer s h st call (GetWork g) (Removed number) began committed past passed m = absurd m
+right_answer s h st call (GetWork g) (RowsAnswer pairs) began committed past passed m = absurd m
+right_answer s h st call (GetWork g) (Tidied rule) began committed past passed m = absurd m
+right_answer s h st call (GetWork g) (Built view) began committed past passed m = absurd m
+right_answer s h st call (RangeWork g) Absent began committed past passed m = absurd m
+right_answer s h st call (RangeWork g) (FoundAnswer row) began committed past passed m = absurd m
+right_answer s h st call (RangeWork g) (StoredAnswer number) began committed past passed m = absurd m
+right_answer s h st call (RangeWork g) (Removed number) began committed past passed m = absurd m
+right_answer s h st call (RangeWork g) (RowsAnswer pairs) began committed past passed m = right_range s.columns call.began h (arena_seen s.tree ∷ past) g.start g.columns g.limit pairs began passed st.keys m
+right_answer s h st call (RangeWork g) (Tidied rule) began committed past passed m = absurd m
+right_answer s h st call (RangeWork g) (Built view) began committed past passed m = absurd m
+
+-- ---- the list of calls: one step of one call leaves what is true of the others, and keeps what they own apart
+module _ (s : MachineView) (h : History) (n : ℕ) (kept : Call) (st : Stands s h) (at : call_at n s.calls.calls ≡ Some kept) (f : Found (CallStands s.columns s.epoch s.tree st.w h) n kept (moment h).calls)
+    (after_tree : ArenaView) (work : Work) (owns : List ℕ) (Then : World → Type 0) (goes : Goes s.epoch s.tree after_tree st.w (held kept.work).owns owns Then) where
+  abbrev before : ℕ × Call → OpenCall → Type 0
+  before = CallStands s.columns s.epoch s.tree st.w h
+
+  pub others_left : (k : ℕ × Call) → Among k s.calls.calls → k.0 ≢ n → (c : OpenCall) → before k c → (number : ℕ) → Among number (held k.1.work).owns → IsSame s.tree after_tree st.w goes.next number × NotAmong number owns
+  others_left k i ne c r number owned =
+      goes.leaves number (owned_taken s.columns k.1.epoch c.moves r.past s.tree st.w k.1.work r.true number owned)
+      (λ mine. st.apart (n, kept) k (among_at n kept s.calls.calls at) i (λ e. ne (sym e)) number mine owned)
+
+  pub others_stand : (x : Happening) → HasRowsOf s.columns after_tree (x ∷ h) → Others n s.calls.calls before (CallStands s.columns s.epoch after_tree goes.next (x ∷ h))
+  others_stand x content k c i ne r = record {
+    pass = r.pass;
+    request = r.request;
+    from = r.from;
+    began = let b = r.began in omega arith;
+    epoch = r.epoch;
+    committed = r.committed;
+    past = arena_seen s.tree ∷ r.past;
+    passed = let b = r.began in past_more s.columns c.began x h after_tree (arena_seen s.tree ∷ r.past) (omega arith) content r.passed;
+    true = stays s.tree after_tree st.w goes.next s.columns k.1.epoch c.moves r.past (goes.evolves k.1.epoch r.epoch) k.1.work (λ number owned. (others_left k i ne c r number owned).0) r.true;
+  }
+
+  each : (k : ℕ × Call) → Among k s.calls.calls → (c : OpenCall) × before k c
+  each k i = paired-each before 0 s.calls.begun s.calls.calls (moment h).calls st.calls k i
+
+  new_apart : (k : ℕ × Call) → Among k s.calls.calls → k.0 ≢ n → (number : ℕ) → Among number (held k.1.work).owns → NotAmong number owns
+  new_apart k i ne number owned = let (c, r) = each k i in (others_left k i ne c r number owned).1
+
+  pub apart_changed : (held work).owns ≡ owns → AreApart (with_changed (with_work work) n s.calls.calls)
+  apart_changed is one other i j ne number owned =
+      elim (among_changed n kept (with_work work) s.calls.calls at one i) [
+        | inl old_one ↦ elim (among_changed n kept (with_work work) s.calls.calls at other j) [
+          | inl old_other ↦ st.apart one other old_one old_other ne number owned
+          | inr new_other ↦ λ mine. new_apart one old_one (λ e. ne (e ∙ sym (ap (λ (k : ℕ × Call). k.0) new_other))) number owned
+              (subst (λ (l : List ℕ). Among number l) (ap (λ (k : ℕ × Call). (held k.1.work).owns) new_other ∙ is) mine)
+        ]
+        | inr new_one ↦ elim (among_changed n kept (with_work work) s.calls.calls at other j) [
+          | inl old_other ↦ λ mine. new_apart other old_other (λ e. ne (ap (λ (k : ℕ × Call). k.0) new_one ∙ sym e)) number mine
+              (subst (λ (l : List ℕ). Among number l) (ap (λ (k : ℕ × Call). (held k.1.work).owns) new_one ∙ is) owned)
+          | inr new_other ↦ absurd (ne (ap (λ (k : ℕ × Call). k.0) new_one ∙ sym (ap (λ (k : ℕ × Call). k.0) new_other)))
+        ]
+      ]
+
+  -- what was taken and is not this call's is still some other call's
+  still_owned : (number : ℕ) → IsTaken s.tree st.w number → NotAmong number (held kept.work).owns → (k : ℕ × Call) × Among k s.calls.calls × (k.0 ≢ n) × Among number (held k.1.work).owns
+  still_owned number taken out =
+      let (k, i, o) = st.owned number taken in
+      elim (same_number k.0 n) [
+        | inl e ↦ absurd (let one = paired-one before 0 s.calls.begun s.calls.calls (moment h).calls st.calls k i in
+            let both : Some k.1 ≡ Some kept = sym one ∙ (ap (λ (m : ℕ). call_at m s.calls.calls) e ∙ at) in
+            let same : k.1 ≡ kept = cc in
+            out (subst (λ (c : Call). Among number (held c.work).owns) same o))
+        | inr ne ↦ (k, i, ne, o)
+      ]
+
+  pub owned_on : (held work).owns ≡ owns → AllOwned after_tree goes.next (with_changed (with_work work) n s.calls.calls)
+  owned_on is number taken = elim (goes.takes number taken) [
+    | inl mine ↦ ((n, with_work work kept), among_new (with_work work) n kept s.calls.calls at, subst (λ (l : List ℕ). Among number l) (sym is) mine)
+    | inr old ↦ (let (k, i, ne, o) = still_owned number old.0 old.1 in (k, among_kept (with_work work) n s.calls.calls k i ne, o))
+  ]
+
+  pub owned_end : owns ≡ [] → AllOwned after_tree goes.next (without n s.calls.calls)
+  owned_end none number taken = elim (goes.takes number taken) [
+    | inl mine ↦ absurd (nobody number (subst (λ (l : List ℕ). Among number l) none mine))
+    | inr old ↦ (let (k, i, ne, o) = still_owned number old.0 old.1 in (k, among_left n s.calls.calls k i ne, o))
+  ]
+    where
+      nobody : (number : ℕ) → Among number [] → ⊥
+      nobody number i = elim i [ ]
+
+-- what is left apart where a call ends
+pub apart_without : (n : ℕ) (ks : Entries) → AreApart ks → AreApart (without n ks)
+apart_without n ks apart one other i j ne number owned = apart one other (among_without n ks one i) (among_without n ks other j) ne number owned
+
+-- ---- the machine after a step of a call
+abbrev pub next_seen : MachineView → ArenaView → LogView → Entries → MachineView
+next_seen s after left ks = record { columns = s.columns; epoch = s.epoch; tree = after; log = left; calls = record s.calls { calls = ks } }
+
+module _ (s : MachineView) (h : History) (n : ℕ) (kept : Call) (st : Stands s h) (at : call_at n s.calls.calls ≡ Some kept) (f : Found (CallStands s.columns s.epoch s.tree st.w h) n kept (moment h).calls)
+    (after_tree : ArenaView) (left : LogView) (work : Work) (owns : List ℕ) (Then : World → Type 0) (goes : Goes s.epoch s.tree after_tree st.w (held kept.work).owns owns Then)
+    (request : request_of work ≡ request_of kept.work) (feed : left.feed ≡ s.log.feed) (holders : left.holders ≡ s.log.holders) where
+  abbrev ks : Entries
+  ks = with_changed (with_work work) n s.calls.calls
+
+  abbrev R : History → ℕ × Call → OpenCall → Type 0
+  R history = CallStands s.columns s.epoch after_tree goes.next history
+
+  -- what the step makes of the history
+  then_is : (o : Outcome) (m : Moment) → after_step (moment h) f.call o 0 ≡ m → after_call_step (moment h) (call_of n (moment h).calls) o 0 ≡ m
+  then_is o m e = ap (λ r. after_call_step (moment h) r o 0) f.of ∙ e
+
+  -- the calls, where this one goes on
+  pub calls_on : (o : Outcome) (new : OpenCall) (commits : List Change) → after_step (moment h) f.call o 0 ≡ record (moment h) { commits = commits; calls = replace_call new (moment h).calls }
+      → new.number ≡ f.call.number → new.pass ≡ f.call.pass → new.request ≡ f.call.request → new.began ≡ f.call.began → new.from ≡ f.call.from → new.committed ≡ (held work).committed
+      → HasRowsOf s.columns after_tree (happening (step_event n) o 0 ∷ h) → IsTrue s.columns work kept.epoch new.moves (arena_seen s.tree ∷ f.related.past) after_tree goes.next
+      → Paired (R (happening (step_event n) o 0 ∷ h)) 0 s.calls.begun ks (moment (happening (step_event n) o 0 ∷ h)).calls
+  calls_on o new commits makes number pass asked began from committed content truth =
+      let x : Happening = happening (step_event n) o 0 in
+      let r = f.related in
+      subst (λ cs. Paired (R (x ∷ h)) 0 s.calls.begun ks cs) (sym (ap (λ m. m.calls) (then_is o _ makes)))
+      (paired-change (with_work work) n (CallStands s.columns s.epoch s.tree st.w h) (R (x ∷ h)) 0 s.calls.begun s.calls.calls (moment h).calls kept new (others_stand s h n kept st at f after_tree work owns Then goes x content) st.calls at (number ∙ f.numbered)
+      (record {
+        pass = pass ∙ r.pass;
+        request = asked ∙ r.request ∙ sym request;
+        from = from ∙ r.from;
+        began = let b = r.began in omega (arith, b, began);
+        epoch = r.epoch;
+        committed = committed;
+        past = arena_seen s.tree ∷ r.past;
+        passed = let b = r.began in past_more s.columns new.began x h after_tree (arena_seen s.tree ∷ r.past) (omega (arith, b, began)) content (subst (λ (m : ℕ). IsPast s.columns m h (arena_seen s.tree ∷ r.past)) (sym began) r.passed);
+        true = truth;
+      }))
+
+  -- the calls, where this one ends
+  pub calls_end : (o : Outcome) → (after_step (moment h) f.call o 0).calls ≡ without_call f.call.number (moment h).calls → HasRowsOf s.columns after_tree (happening (step_event n) o 0 ∷ h)
+      → Paired (R (happening (step_event n) o 0 ∷ h)) 0 s.calls.begun (without n s.calls.calls) (moment (happening (step_event n) o 0 ∷ h)).calls
+  calls_end o makes content =
+      let x : Happening = happening (step_event n) o 0 in
+      subst (λ cs. Paired (R (x ∷ h)) 0 s.calls.begun (without n s.calls.calls) cs) (sym (ap (λ m. m.calls) (then_is o _ refl) ∙ makes ∙ ap (λ m. without_call m (moment h).calls) f.numbered))
+      (paired-without n (CallStands s.columns s.epoch s.tree st.w h) (R (x ∷ h)) 0 s.calls.begun s.calls.calls (moment h).calls (others_stand s h n kept st at f after_tree work owns Then goes x content) st.calls)
+
+  -- a step that commits nothing
+  module _ (quiet : IsQuiet s.tree after_tree s.log left) where
+    same_rows : (o : Outcome) → (after_step (moment h) f.call o 0).commits ≡ (moment h).commits → rows s.columns (moment (happening (step_event n) o 0 ∷ h)) ≡ rows s.columns (moment h)
+    same_rows o commits = ap (λ (cs : List Change). after s.columns cs) (ap (λ m. m.commits) (then_is o _ refl) ∙ commits)
+
+    -- the rows are as they were
+    pub content_still : (o : Outcome) → (after_step (moment h) f.call o 0).commits ≡ (moment h).commits → HasRowsOf s.columns after_tree (happening (step_event n) o 0 ∷ h)
+    content_still o commits key bytes row = (
+      (λ has. ap (λ (rs : Rows). get rs key) (same_rows o commits) ∙ (st.content key bytes row).0 ((quiet.content (place_of key) row).0 has)),
+      (λ e. (quiet.content (place_of key) row).1 ((st.content key bytes row).1 (sym (ap (λ (rs : Rows). get rs key) (same_rows o commits)) ∙ e))),
+    )
+
+    pub still : (o : Outcome) (entries : Entries) → MayStep s.columns h f.call o 0 → (after_step (moment h) f.call o 0).commits ≡ (moment h).commits → (after_step (moment h) f.call o 0).begun ≡ (moment h).begun
+        → Paired (R (happening (step_event n) o 0 ∷ h)) 0 s.calls.begun entries (moment (happening (step_event n) o 0 ∷ h)).calls → AreApart entries → AllOwned after_tree goes.next entries → left.reserved ≡ all_reserved entries
+        → Stands (next_seen s after_tree left entries) (happening (step_event n) o 0 ∷ h)
+    still o entries may commits begun calls apart owned reserved =
+        let x : Happening = happening (step_event n) o 0 in
+        let then = then_is o _ refl in
+        let same : (moment (x ∷ h)).commits ≡ (moment h).commits = ap (λ m. m.commits) then ∙ commits in
+        let alike : rows s.columns (moment (x ∷ h)) ≡ rows s.columns (moment h) = ap (λ (cs : List Change). after s.columns cs) same in
+        record {
+          legal = (st.legal, subst (λ z. MayStepAt s.columns h z o 0) (sym f.of) may);
+          commits = ap (λ (m : ℕ). m + length left.deltas) quiet.trimmed ∙ ap (λ (ds : List Delta). s.log.held_after + length ds) quiet.deltas ∙ st.commits ∙ ap length (sym same);
+          begun = st.begun ∙ sym (ap (λ m. m.begun) then ∙ begun);
+          w = goes.next;
+          world = goes.world;
+          content = content_still o commits;
+          keys = λ key row is. st.keys key row (sym (ap (λ (rs : Rows). get rs key) alike) ∙ is);
+          logged = subst (λ (ds : List Delta). FitsNewestFirst (reverse ds) (rows s.columns (moment (x ∷ h)))) (sym quiet.deltas) (subst (λ (rs : Rows). FitsNewestFirst (reverse s.log.deltas) rs) (sym alike) st.logged);
+          unbounded = record { feed = feed ∙ st.unbounded.feed };
+          unheld = holders ∙ st.unheld;
+          calls = calls;
+          apart = apart;
+          owned = owned;
+          reserved = reserved;
+        }
+
+  -- a step that commits
+  module _ (key : List ℕ) (before then : Option Row) (number : ℕ) (changes : Changes s.tree after_tree s.log left key before then number) (change : Change) (asked : change_of f.call.request ≡ change ∷ [])
+      (means : get (rows s.columns (moment h)) key ≡ before → after_change s.columns number change (rows s.columns (moment h)) ≡ with_row key then (rows s.columns (moment h)))
+      (may : number ≡ length (moment h).commits + 1 → get (rows s.columns (moment h)) key ≡ before → MayCommit s.columns h f.call f.call.request number) where
+    abbrev old : Rows
+    old = rows s.columns (moment h)
+
+    abbrev delta : Delta
+    delta = record { number = number; key = key; before = before; after = then }
+
+    abbrev happened : Happening
+    happened = happening (step_event n) (Commit number) 0
+
+    stood : get old key ≡ before
+    stood = row_is s h st key before changes.bytes changes.stood
+
+    next_number : number ≡ length (moment h).commits + 1
+    next_number = changes.is_next ∙ ap (λ (m : ℕ). m + 1) st.commits
+
+    commits_are : (moment (happened ∷ h)).commits ≡ (moment h).commits ++ change ∷ []
+    commits_are = ap (λ m. m.commits) (then_is (Commit number) _ refl) ∙ ap (λ (cs : List Change). (moment h).commits ++ cs) asked
+
+    rows_are : rows s.columns (moment (happened ∷ h)) ≡ with_row key then old
+    rows_are = ap (after s.columns) commits_are ∙ after-append s.columns (moment h).commits change ∙ (ap (λ (m : ℕ). after_change s.columns m change old) (sym next_number) ∙ means stood)
+
+    content_is : (q : List ℕ) → AreBytes q → (r : Row) → HasRow after_tree q r ↔ (get (with_row key then old) q ≡ Some r)
+    content_is q bytes r = elim (put_get old key q then) [
+      | inl (same, found) ↦ (
+        (λ has. elim ((changes.content (place_of q) r).0 has) [
+          | inl (at_key, is) ↦ found ∙ is
+          | inr (there, apart) ↦ absurd (apart (ap place_of same))
+        ]),
+        (λ e. (changes.content (place_of q) r).1 (inl (ap place_of same, sym found ∙ e))),
+      )
+      | inr (differ, found) ↦ (
+        (λ has. elim ((changes.content (place_of q) r).0 has) [
+          | inl (at_key, is) ↦ absurd (differ (same_from_place_of q key bytes changes.bytes at_key))
+          | inr (there, apart) ↦ found ∙ (st.content q bytes r).0 there
+        ]),
+        (λ e. (changes.content (place_of q) r).1 (inr ((st.content q bytes r).1 (sym found ∙ e), λ at_key. differ (same_from_place_of q key bytes changes.bytes at_key)))),
+      )
+    ]
+
+    content_then : HasRowsOf s.columns after_tree (happened ∷ h)
+    content_then q bytes r = subst (λ (rs : Rows). HasRow after_tree q r ↔ (get rs q ≡ Some r)) (sym rows_are) (content_is q bytes r)
+
+    keys_then : (q : List ℕ) (r : Row) → get (rows s.columns (moment (happened ∷ h))) q ≡ Some r → AreBytes q
+    keys_then q r is = elim (put_get old key q then) [
+      | inl (same, found) ↦ subst AreBytes (sym same) changes.bytes
+      | inr (differ, found) ↦ st.keys q r (sym found ∙ (sym (ap (λ (rs : Rows). get rs q) rows_are) ∙ is))
+    ]
+
+    pub commit_stands : (held work).owns ≡ owns → (held work).committed ≡ Some number → IsTrue s.columns work kept.epoch 0 (arena_seen s.tree ∷ f.related.past) after_tree goes.next → left.reserved ≡ all_reserved ks
+        → Stands (next_seen s after_tree left ks) (happened ∷ h)
+    commit_stands same_owns committed truth reserved =
+        let longer : length (s.log.deltas ++ delta ∷ []) ≡ length s.log.deltas + 1 = length-append s.log.deltas (delta ∷ []) in
+        let longer_commits : length ((moment h).commits ++ change ∷ []) ≡ length (moment h).commits + 1 = length-append (moment h).commits (change ∷ []) in
+        let as_many = st.commits in
+        let counted : newest (with_delta s.log delta) ≡ length ((moment h).commits ++ change ∷ []) = omega (arith, longer, longer_commits, as_many) in
+        record {
+          legal = (
+            st.legal,
+            subst (λ z. MayStepAt s.columns h z (Commit number) 0) (sym f.of) (may next_number stood),
+          );
+          commits = ap newest changes.logged ∙ counted ∙ sym (ap length commits_are);
+          begun = st.begun ∙ sym (ap (λ m. m.begun) (then_is (Commit number) _ refl));
+          w = goes.next;
+          world = goes.world;
+          content = content_then;
+          keys = keys_then;
+          logged = subst (λ (l : LogView). Fits l (rows s.columns (moment (happened ∷ h)))) (sym changes.logged)
+              (subst (λ (rs : Rows). Fits (with_delta s.log delta) rs) (sym rows_are) (appending_fits s.log delta old st.logged stood));
+          unbounded = record { feed = feed ∙ st.unbounded.feed };
+          unheld = holders ∙ st.unheld;
+          calls = calls_on (Commit number) (record f.call { committed = Some number; moves = 0 }) _ refl refl refl refl refl refl (sym committed) content_then truth;
+          apart = apart_changed s h n kept st at f after_tree work owns Then goes same_owns;
+          owned = owned_on s h n kept st at f after_tree work owns Then goes same_owns;
+          reserved = reserved;
+        }

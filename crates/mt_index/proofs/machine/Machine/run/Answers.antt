@@ -1,0 +1,61 @@
+use Rattle.std.proofs.Common.{◌≡◌, ◌∙◌, ◌+◌, ◌++◌, ◌∷◌, [], List, take, length, refl, sym, ap, subst}
+use Rattle.std.proofs.lemmas.List.{take_more, take_all}
+use Rattle.mt_types.specs.Limits.{open_fault}
+use Rattle.mt_types.specs.declared.event.Event.{Event}
+use Rattle.mt_types.specs.declared.event.Outcome.{Outcome}
+use Rattle.mt_promise.specs.History.{History, GoesOn, happening}
+use Rattle.mt_promise.specs.Legal.{Legal}
+use Rattle.mt_promise.proofs.KeepLemmas.{keeps_promise}
+use Rattle.mt_promise.proofs.HistoryLemmas.{GoesOn-append, GoesOn-length}
+use Rattle.mt_index.proofs.EventStands.{no_fault}
+use Rattle.mt_index.proofs.machine.Machine.run.Goals as goal
+
+pub loop-event-init : goal.loop-event-init
+loop-event-init c =
+    record {
+      told = ([], rw c.new-outcomes.ensures.items refl, c.in_ok-machine.ensures.opened.1);
+      columns = c.in_ok-machine.ensures.opened.0;
+      opened = no_fault _ _ c.in_ok-machine.machine (open_fault c.args.options.columns c.args.options.feed c.args.options.keep) c.in_ok-machine.ensures.fault;
+    }
+
+-- the history grows by what happened
+pub loop-event-preserved : goal.loop-event-preserved
+loop-event-preserved c =
+    let told = c.loop-event.invariant.told in
+    let h : History = told.0 in
+    let more : take (c.loop-event.event-index + 1) c.args.events.now ≡ take c.loop-event.event-index c.args.events.now ++ c.event-item.result ∷ [] =
+    take_more c.args.events.now c.loop-event.event-index c.event-item.result c.loop-event-test.true
+    ∙ ap (λ (e : Event). take c.loop-event.event-index c.args.events.now ++ e ∷ []) (sym c.event-item.is) in
+    record {
+      columns = c.event-outcome.ensures.columns ∙ c.loop-event.invariant.columns;
+      opened = c.loop-event.invariant.opened;
+      told = (
+        happening c.event-item.result c.event-outcome.result 0 ∷ h,
+        subst (λ (es : List Event). GoesOn [] es c.push.new.self.items (happening c.event-item.result c.event-outcome.result 0 ∷ h)) (sym more)
+            (subst (λ (os : List Outcome). GoesOn [] (take c.loop-event.event-index c.args.events.now ++ c.event-item.result ∷ []) os (happening c.event-item.result c.event-outcome.result 0 ∷ h)) (sym c.in-Ok.ensures.items)
+            (GoesOn-append [] h _ _ c.event-item.result c.event-outcome.result 0 told.1)),
+        c.event-outcome.ensures.stands h told.2,
+      );
+    }
+
+pub returns-clause-legal : goal.returns-clause-legal
+returns-clause-legal c =
+    let told = c.loop-event.invariant.told in
+    let legal = subst (λ C. Legal C told.0) c.loop-event.invariant.columns told.2.legal in
+    let promise = keeps_promise _ told.0 legal in (
+      told.0,
+      record {
+        told = subst (λ (es : List Event). GoesOn [] es c.loop-event.outcomes.items told.0) (take_all c.loop-event.event-index c.args.events.now c.loop-event-test.false) told.1;
+        legal = legal;
+        gets = promise.gets;
+        ranges = promise.ranges;
+        views = promise.views;
+        columns = c.loop-event.invariant.columns;
+        stands = told.2;
+      },
+    )
+
+pub returns-clause-length : goal.returns-clause-length
+returns-clause-length c =
+    let told = c.loop-event.invariant.told in
+    GoesOn-length [] told.0 _ c.loop-event.outcomes.items told.1 ∙ ap length (take_all c.loop-event.event-index c.args.events.now c.loop-event-test.false)

@@ -1,0 +1,14 @@
+use Rattle.std.proofs.Common.{◌≡◌, [], take}
+use Rattle.mt_promise.specs.History.{History, GoesOn}
+use Rattle.mt_types.specs.Limits.{open_fault}
+use Rattle.mt_index.specs.Stands.{Stands}
+use Rattle.std.proofs.Common.{None}
+use Rattle.mt_index.proofs.machine.Machine.run.Given as goal
+
+-- the events so far led from nothing to where the machine stands
+abbrev pub invariant-loop-event : goal.invariant-loop-event
+invariant-loop-event l = record {
+  told : (h : History) × GoesOn [] (take l.event-index l.events) l.outcomes.items h × Stands l.machine h;
+  columns : l.machine.columns ≡ l.fn.options.columns;
+  opened : open_fault l.fn.options.columns l.fn.options.feed l.fn.options.keep ≡ None;
+}

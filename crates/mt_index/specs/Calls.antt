@@ -1,0 +1,66 @@
+-- The calls that are open, as contracts see them.
+use Rattle.std.specs.Prelude.{ℕ, ◌≡◌, ◌≢◌, ◌≤◌, ◌+◌, ◌==◌, if◌then◌else◌, List, [], ◌∷◌, Option, Some, None}
+use Rattle.mt_types.specs.declared.numbers.PassNo.{PassNo}
+use Rattle.mt_commit.specs.Log.{LogView}
+use Rattle.mt_arena.specs.Arena.{ArenaView}
+use Rattle.mt_chart.specs.Tree.{Among}
+use Rattle.mt_index.specs.declared.calls.Call.{Call}
+use Rattle.mt_calls.specs.declared.work.Work.{Work}
+use Rattle.mt_calls.specs.declared.progress.Progress.{Progress}
+use Rattle.mt_calls.specs.World.{NotAmong}
+use Rattle.mt_calls.specs.Step.{StepLaw, MayStep}
+use Rattle.mt_calls.specs.Works.{request_of, held, IsTrue}
+
+pub record CallsView : Type 0 where
+  pub begun : ℕ  -- how many calls have begun
+  pub calls : List (ℕ × Call)  -- those that are open with their numbers, in the order of their begins
+
+-- the open call of this number
+abbrev pub call_at : ℕ → List (ℕ × Call) → Option Call
+call_at number [] = None
+call_at number (entry ∷ entries) = if entry.0 == number then Some entry.1 else call_at number entries
+
+-- the calls, of which this one is changed
+abbrev pub with_changed : (Call → Call) → ℕ → List (ℕ × Call) → List (ℕ × Call)
+with_changed change number [] = []
+with_changed change number (entry ∷ entries) =
+    if entry.0 == number then (entry.0, change entry.1) ∷ entries else entry ∷ with_changed change number entries
+
+-- a call that has come so far
+abbrev pub with_work : Work → Call → Call
+with_work work call = record call { work = work }
+
+-- the calls, once this one has ended
+abbrev pub without : ℕ → List (ℕ × Call) → List (ℕ × Call)
+without number [] = []
+without number (entry ∷ entries) = if entry.0 == number then entries else entry ∷ without number entries
+
+-- no call has a number above that of the last that began
+abbrev pub AreBegun : ℕ → List (ℕ × Call) → Type 0
+AreBegun begun [] = Unit {0}
+AreBegun begun (entry ∷ entries) = (entry.0 ≤ begun) × AreBegun begun entries
+
+-- no number is owned by two calls
+abbrev pub AreApart : List (ℕ × Call) → Type 0
+AreApart calls = (one other : ℕ × Call) → Among one calls → Among other calls → one.0 ≢ other.0 → (number : ℕ) → Among number (held one.1.work).owns → NotAmong number (held other.1.work).owns
+
+-- for how many deltas the calls have reserved room
+abbrev pub all_reserved : List (ℕ × Call) → ℕ
+all_reserved [] = 0
+all_reserved (entry ∷ entries) = (held entry.1.work).reserves + all_reserved entries
+
+-- the call of this number may step
+abbrev pub MayStepOf : ℕ → ArenaView → LogView → Option Call → Type 0
+MayStepOf C a log None = Unit {0}
+MayStepOf C a log (Some call) = MayStep a log (held call.work) (IsTrue C call.work)
+
+-- a step of the call of this number: it comes so far
+pub record StepsCall (C number : ℕ) (old new : CallsView) (a after : ArenaView) (log left : LogView) (pass : PassNo) (from : ℕ) (p : Progress) : Type 0 where
+  pub call : Call
+  pub is_open : call_at number old.calls ≡ Some call
+  pub work : Work
+  pub same_request : request_of work ≡ request_of call.work
+  pub law : StepLaw C a after log left (request_of call.work) (held call.work) p (held work) (IsTrue C call.work) (IsTrue C work)
+  pub changed : new ≡ record old { calls = with_changed (with_work work) number old.calls }
+  pub pass_is : pass ≡ call.pass
+  pub from_is : from ≡ call.from

@@ -1,0 +1,154 @@
+-- The machine as contracts see it, and at which histories it stands.
+use Rattle.std.specs.Prelude.{ℕ, ◌+◌, ◌≡◌, ◌≤◌, ◌⊎◌, ◌↔◌, List, [], ◌∷◌, ◌++◌, length, Option, Some, None}
+use Rattle.std.specs.FinMap.{get}
+use Rattle.mt_types.specs.declared.numbers.PassNo.{PassNo}
+use Rattle.mt_types.specs.declared.event.Event.{Event}
+use Rattle.mt_types.specs.declared.event.Event.TheVariants.{Begin, Step}
+use Rattle.mt_types.specs.declared.event.Request.{Request}
+use Rattle.mt_types.specs.declared.event.Outcome.{Outcome}
+use Rattle.mt_types.specs.declared.event.Outcome.TheVariants.{Call as Called, Moved, Again, Commit, Done, Refused}
+use Rattle.mt_types.specs.declared.refusal.Refusal.{Refusal}
+use Rattle.mt_types.specs.declared.refusal.Refusal.TheVariants.{NoMemory, NoSuchCall}
+use Rattle.mt_types.specs.declared.row.Row.{Row}
+use Rattle.mt_promise.specs.History.{History, OpenCall, moment, rows, Sometime, Throughout, GoesOn}
+use Rattle.mt_promise.specs.Headline.{GetsAreRight, RangesAreRight, ViewsAreRight}
+use Rattle.mt_promise.specs.Legal.{Legal, begin_fault}
+use Rattle.mt_types.specs.Rows.{shown}
+use Rattle.mt_promise.specs.RightAnswers.{Shows, Stands as IsThere}
+use Rattle.mt_slice.specs.Place.{AreBytes, place_of}
+use Rattle.mt_commit.specs.Log.{LogView, newest}
+use Rattle.mt_commit.specs.Deltas.{Fits}
+use Rattle.mt_arena.specs.Arena.{ArenaView}
+use Rattle.mt_chart.specs.Tree.{Arena, Among}
+use Rattle.mt_chart.specs.ScanRun.{Stood, AllHave}
+use Rattle.mt_tree.specs.Seen.{arena_seen, HasRow}
+use Rattle.mt_index.specs.declared.calls.Call.{Call}
+use Rattle.mt_calls.specs.declared.work.Work.{Work}
+use Rattle.mt_calls.specs.declared.progress.Progress.{Progress}
+use Rattle.mt_calls.specs.declared.progress.Progress.TheVariants.{Moved as WentOn, Waits, Committed, Answered, Refused as EndsRefused}
+use Rattle.mt_calls.specs.World.{World, IsWorld, IsTaken}
+use Rattle.mt_calls.specs.Step.{IsUnbounded}
+use Rattle.mt_calls.specs.Works.{request_of, held, IsTrue, IsNew, IsServedRequest}
+use Rattle.mt_index.specs.Paired.{Paired}
+use Rattle.mt_index.specs.Calls.{CallsView, call_at, without, AreApart, all_reserved, StepsCall}
+
+-- the machine as contracts see it
+pub record MachineView : Type 0 where
+  pub columns : ℕ
+  pub epoch : ℕ  -- the present one
+  pub tree : ArenaView
+  pub log : LogView
+  pub calls : CallsView
+
+-- what is taken, a locked node or a spare, is owned by an open call
+abbrev pub AllOwned : ArenaView → World → List (ℕ × Call) → Type 0
+AllOwned a w calls = (number : ℕ) → IsTaken a w number → (k : ℕ × Call) × Among k calls × Among number (held k.1.work).owns
+
+-- the tree has exactly the rows that the history has come to
+abbrev pub HasRowsOf : ℕ → ArenaView → History → Type 0
+HasRowsOf C a h = (key : List ℕ) → AreBytes key → (row : Row) → HasRow a key row ↔ (get (rows C (moment h)) key ≡ Some row)
+
+-- the moments of a call that began when so much had happened, as arenas: a row that one of them has was there at some moment since, and a
+-- key that was there at each moment since has a row in each of them
+pub record IsPast (C began : ℕ) (h : History) (arenas : List Arena) : Type 0 where
+  pub stood : (asked key : List ℕ) (row : Row) → AreBytes key → Stood (shown asked) arenas (place_of key) row → Sometime began (Shows C key asked row) h
+  pub throughout : (key : List ℕ) → AreBytes key → Throughout began (IsThere C key) h → AllHave arenas (place_of key)
+
+-- the machine's record of a call is true after a history
+pub record CallStands (C now : ℕ) (a : ArenaView) (w : World) (h : History) (kept : ℕ × Call) (call : OpenCall) : Type 0 where
+  pub pass : call.pass ≡ kept.1.pass.0
+  pub request : call.request ≡ request_of kept.1.work
+  pub from : call.from ≡ kept.1.from
+  pub began : call.began ≤ length h
+  pub epoch : kept.1.epoch ≤ now
+  pub committed : call.committed ≡ (held kept.1.work).committed
+  pub past : List Arena
+  pub passed : IsPast C call.began h (arena_seen a ∷ past)
+  pub true : IsTrue C kept.1.work kept.1.epoch call.moves past a w
+
+-- the machine stands at a history: it is one to which this history may have led
+pub record Stands (s : MachineView) (h : History) : Type 0 where
+  -- each outcome was one that its event may have
+  pub legal : Legal s.columns h
+  pub commits : newest s.log ≡ length (moment h).commits
+  pub begun : s.calls.begun ≡ (moment h).begun
+  -- the tree is an index, in some world, and has exactly the rows of the history, and the log their changes
+  pub w : World
+  pub world : IsWorld s.tree s.epoch w
+  pub content : HasRowsOf s.columns s.tree h
+  pub keys : (key : List ℕ) (row : Row) → get (rows s.columns (moment h)) key ≡ Some row → AreBytes key
+  pub logged : Fits s.log (rows s.columns (moment h))
+  pub unbounded : IsUnbounded s.log
+  -- no call holds it yet
+  pub unheld : s.log.holders ≡ []
+  -- the open calls are those of the history, what is said of each is true, and no number is owned by two
+  pub calls : Paired (CallStands s.columns s.epoch s.tree w h) 0 s.calls.begun s.calls.calls (moment h).calls
+  pub apart : AreApart s.calls.calls
+  pub owned : AllOwned s.tree w s.calls.calls
+  pub reserved : s.log.reserved ≡ all_reserved s.calls.calls
+
+-- the events that it serves: begins of such requests, and steps
+abbrev pub IsServed : Event → Type 0
+IsServed (Begin pass request) = IsServedRequest request
+IsServed (Step call) = Unit {0}
+IsServed _ = ⊥
+
+-- what a step answers
+abbrev pub outcome_of : ℕ → PassNo → ℕ → ℕ → Progress → Outcome
+outcome_of number pass from to WentOn = Moved
+outcome_of number pass from to Waits = Again
+outcome_of number pass from to (Committed commit) = Commit commit
+outcome_of number pass from to (Answered answer) = Done (record { pass = pass; call = record { 0 = number }; from = from; to = to; answer = answer })
+outcome_of number pass from to (EndsRefused refusal) = Refused refusal
+
+-- the calls, once the step has answered so
+abbrev pub calls_after : ℕ → Progress → CallsView → CallsView
+calls_after number (Answered answer) calls = record calls { calls = without number calls.calls }
+calls_after number (EndsRefused refusal) calls = record calls { calls = without number calls.calls }
+calls_after number WentOn calls = calls
+calls_after number Waits calls = calls
+calls_after number (Committed commit) calls = calls
+
+-- a step of the call of this number leads from one machine to the next, with this outcome
+pub record StepsOpen (s : MachineView) (number : ℕ) (outcome : Outcome) (t : MachineView) : Type 0 where
+  pub pass : PassNo
+  pub from : ℕ
+  pub p : Progress
+  pub calls : CallsView
+  pub tree : ArenaView
+  pub log : LogView
+  pub steps : StepsCall s.columns number s.calls calls s.tree tree s.log log pass from p
+  pub is_outcome : outcome ≡ outcome_of number pass from (newest log) p
+  pub is_next : t ≡ record { columns = s.columns; epoch = s.epoch; tree = tree; log = log; calls = calls_after number p calls }
+
+abbrev pub Steps : MachineView → ℕ → Outcome → MachineView → Type 0
+Steps s number outcome t = ((call_at number s.calls.calls ≡ None) × (outcome ≡ Refused NoSuchCall) × (t ≡ s)) ⊎ StepsOpen s number outcome t
+
+-- why a call can't begin
+abbrev pub fault_of : MachineView → Request → Option Refusal
+fault_of s request = begin_fault s.columns s.calls.begun (length s.calls.calls) 0 request
+
+-- the machine, once one more call has begun
+abbrev pub with_call : MachineView → PassNo → Work → MachineView
+with_call s pass work =
+    let call : Call = record { pass = pass; from = newest s.log; epoch = s.epoch; work = work } in
+    record s { calls = record { begun = s.calls.begun + 1; calls = s.calls.calls ++ (s.calls.begun + 1, call) ∷ [] } }
+
+-- a begin leads from one machine to the next, with this outcome
+abbrev pub Begins : MachineView → PassNo → Request → Outcome → MachineView → Type 0
+Begins s pass request (Called number) t =
+    (fault_of s request ≡ None) × (number ≡ record { 0 = s.calls.begun + 1 }) × (work : Work) × (request_of work ≡ request) × IsNew s.columns work × (t ≡ with_call s pass work)
+Begins s pass request (Refused refusal) t =
+    ((fault_of s request ≡ Some refusal) ⊎ ((fault_of s request ≡ None) × (refusal ≡ NoMemory))) × (t ≡ s)
+Begins s pass request _ t = ⊥
+
+-- These events, with these outcomes, led from an empty index of C columns to this machine; each outcome was one that its
+-- event may have; so each get, each range and each page of a view is right; and the machine can go on from there.
+pub record IsRun (C : ℕ) (events : List Event) (outcomes : List Outcome) (machine : MachineView) (h : History) : Type 0 where
+  pub told : GoesOn [] events outcomes h
+  pub legal : Legal C h
+  pub gets : GetsAreRight C h
+  pub ranges : RangesAreRight C h
+  pub views : ViewsAreRight C h
+  pub columns : machine.columns ≡ C
+  pub stands : Stands machine h

@@ -1,0 +1,9 @@
+//! The index as a machine of atomic steps: calls begin, each goes on by steps of one node visit, and any number of them
+//! are interleaved in any order.
+#![tactic(auto)]
+
+mod calls;
+pub mod machine;
+pub mod options;
+#[cfg(test)]
+mod tests;

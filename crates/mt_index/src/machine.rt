@@ -1,0 +1,194 @@
+//! The machine over the whole tree: events in, outcomes out, one visit of one node an event.
+
+ghost use Rattle.std.specs.Prelude.{◌≡◌, [], ◌∷◌, length, IfOk, IfErr, MatchOption, All, Some, None, Err};
+ghost use Rattle.mt_types.specs.Limits.{open_fault};
+ghost use Rattle.mt_promise.specs.History.{History, happening, moment};
+ghost use Rattle.mt_promise.specs.Legal.{begin_fault};
+ghost use Rattle.mt_calls.specs.Works.{IsServedRequest};
+ghost use Rattle.mt_index.specs.Stands.{Stands, IsServed, Begins, Steps, IsRun};
+
+use crate::calls::{Call, Calls, Stepped};
+use crate::options::Options;
+use mt_calls::progress::Progress;
+use mt_calls::work::work_of;
+use mt_commit::log::Log;
+use mt_tree::Tree;
+use mt_types::event::{Event, Outcome, Reply, Request};
+use mt_types::limits::{MAX_OPEN_CALLS, open_fault, request_fault};
+use mt_types::numbers::{CallNo, PassNo};
+use mt_types::refusal::Refusal;
+use std::alloc::Global;
+use std::marker::Model;
+
+/// An index over the whole tree, which is driven by events.
+#[derive(Drop)]
+pub struct Machine {
+    columns: u8,
+    epoch: u64,
+    tree: Tree,
+    log: Log,
+    calls: Calls,
+}
+
+impl Model for Machine {
+    ghost use Rattle.mt_promise.specs.History.{History};
+    ghost use Rattle.mt_index.specs.Stands.{MachineView, Stands};
+    ghost use Rattle.std.specs.Coded.{codes};
+    ghost use Rattle.mt_scan.specs.CursorCode.{place_code};
+
+    ghost Value = { MachineView };
+
+    ghost coded = { Prim.hlevel (codes, place_code) };
+
+    ghost view = { λ m. record { columns = m.columns; epoch = m.epoch; tree = m.tree; log = m.log; calls = m.calls } };
+
+    ghost invariant = { λ m. (h : History) × Stands (record { columns = m.columns; epoch = m.epoch; tree = m.tree; log = m.log; calls = m.calls }) h };
+}
+
+// Why a call can't begin.
+fn begin_fault(columns: u8, begun: u64, opened: usize, request: &Request) -> Option<Refusal>
+    requires { IsServedRequest request.now }
+    ensures { result ≡ begin_fault columns begun opened 0 request.now }
+{
+    if let Some(refusal) = request_fault(columns, request) {
+        return Some(refusal);
+    }
+    if begun == u64::MAX {
+        return Some(Refusal::Spent);
+    }
+    (opened >= MAX_OPEN_CALLS).then_some(Refusal::TooManyCalls)
+}
+
+impl Machine {
+    /// An empty index: a head and a border without entries.
+    ///
+    /// # Errors
+    ///
+    /// `BadColumn` where there are to be no columns or more than 16, `BadLimit` where `feed` or `keep` is out of its bounds,
+    /// and else `NoMemory` for want of it.
+    pub fn open(alloc: Global, options: Options) -> Result<Machine, Refusal>
+        ensures opened { IfOk result (λ machine. (machine.columns ≡ options.columns) × Stands machine []) }
+        ensures fault { MatchOption (open_fault options.columns options.feed options.keep) (IfErr result (λ refusal. refusal ≡ Refusal.NoMemory)) (λ refusal. result ≡ Err refusal) }
+    {
+        if let Some(refusal) = open_fault(options.columns, options.feed, options.keep) {
+            return Err(refusal);
+        }
+        Ok(Machine {
+            columns: options.columns as u8,
+            epoch: 0,
+            tree: Tree::open(alloc)?,
+            log: Log::open(alloc, u64::MAX, u64::MAX),
+            calls: Calls::new(alloc),
+        })
+    }
+
+    /// How many calls are open.
+    pub fn open_calls(&self) -> usize
+        ensures { (h : History) → Stands self.now h → result ≡ length (moment h).calls }
+    {
+        self.calls.len()
+    }
+
+    fn begin(&mut self, alloc: Global, pass: PassNo, request: &Request) -> Outcome
+        requires { IsServedRequest request.now }
+        ensures begins { Begins self.old pass request.now result self.new }
+    {
+        let begun = self.calls.begun();
+        if let Some(refusal) = begin_fault(self.columns, begun, self.calls.len(), request) {
+            return Outcome::Refused(refusal);
+        }
+        let Ok(work) = work_of(alloc, self.columns, request) else {
+            return Outcome::Refused(Refusal::NoMemory);
+        };
+        let call = Call {
+            pass,
+            from: self.log.number(),
+            epoch: self.epoch,
+            work,
+        };
+        match self.calls.begin(call) {
+            Ok(number) => Outcome::Call(CallNo(number)),
+            Err(_) => Outcome::Refused(Refusal::NoMemory),
+        }
+    }
+
+    fn step(&mut self, alloc: Global, number: u64) -> Outcome
+        ensures steps { Steps self.old number result self.new }
+    {
+        let Some(stepped) = self
+            .calls
+            .step(alloc, self.columns, number, &mut self.tree, &mut self.log)
+        else {
+            return Outcome::Refused(Refusal::NoSuchCall);
+        };
+        let Stepped {
+            pass,
+            from,
+            progress,
+        } = stepped;
+        match progress {
+            Progress::Moved => Outcome::Moved,
+            Progress::Waits => Outcome::Again,
+            Progress::Committed(commit) => Outcome::Commit(commit),
+            Progress::Answered(answer) => {
+                self.calls.end(number);
+                Outcome::Done(Reply {
+                    pass,
+                    call: CallNo(number),
+                    from,
+                    to: self.log.number(),
+                    answer,
+                })
+            }
+            Progress::Refused(refusal) => {
+                self.calls.end(number);
+                Outcome::Refused(refusal)
+            }
+        }
+    }
+
+    /// One event, and what came of it. Wherever the machine stands, it then stands where this has happened too, and that
+    /// is legal: `stands` says so of each history.
+    ///
+    /// A begin costs some allocations, and a step the visit of one node and at most some allocations; each of them finds
+    /// its call at the cost of a way down the tree of open calls.
+    pub fn event(&mut self, alloc: Global, event: &Event) -> Outcome
+        requires { IsServed event.now }
+        ensures stands { (h : History) → Stands self.old h → Stands self.new (happening event.now result 0 ∷ h) }
+        ensures columns { self.new.columns ≡ self.old.columns }
+    {
+        match event {
+            Event::Begin(pass, request) => self.begin(alloc, *pass, request),
+            Event::Step(call) => self.step(alloc, call.0),
+            _ => unreachable!(),
+        }
+    }
+
+    /// The outcomes of these events, one for each in their order, on an empty index, and the machine that they lead to.
+    ///
+    /// Costs what the events cost, and an allocation for the list of outcomes that doubles as it grows.
+    ///
+    /// # Errors
+    ///
+    /// Those of `Machine::open`, and `NoMemory` where the list of outcomes can't grow.
+    pub fn run(
+        alloc: Global,
+        options: Options,
+        events: &[Event],
+    ) -> Result<(Machine, Vec<Outcome>), Refusal>
+        requires { All IsServed events.now }
+        ensures legal { IfOk result (λ run. (h : History) × IsRun options.columns events.now run.1.items run.0 h) }
+        ensures length { IfOk result (λ run. length run.1.items ≡ length events.now) }
+        ensures fault { MatchOption (open_fault options.columns options.feed options.keep) (IfErr result (λ refusal. refusal ≡ Refusal.NoMemory)) (λ refusal. result ≡ Err refusal) }
+    {
+        let mut machine = Machine::open(alloc, options)?;
+        let mut outcomes = Vec::new(alloc);
+        for event in events {
+            let outcome = machine.event(alloc, event);
+            let Ok(()) = outcomes.push(outcome) else {
+                return Err(Refusal::NoMemory);
+            };
+        }
+        Ok((machine, outcomes))
+    }
+}

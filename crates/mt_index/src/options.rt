@@ -1,0 +1,12 @@
+//! How an index is opened.
+
+/// What an index is opened with.
+#[derive(Clone, Copy, Debug, PartialEq, Eq)]
+pub struct Options {
+    /// How many columns a row has: 1 to 16.
+    pub columns: u64,
+    /// How many commits the log may hold for the slowest that reads it: 1 to 65,536. It has no effect yet.
+    pub feed: u64,
+    /// How many of the last commits the log keeps for nobody: at most 65,536. It has no effect yet.
+    pub keep: u64,
+}
