@@ -1,5 +1,5 @@
 -- What a contract sees of a `Border`, and what each call makes of it.
-use Rattle.std.specs.Prelude.{ℕ, ◌+◌, ◌-◌, ◌^◌, ◌==◌, nat_le, Bool, true, false, ◌&&◌, if◌then◌else◌, List, [], ◌∷◌, ◌++◌, length, map, take, drop, replicate}
+use Rattle.std.specs.Prelude.{ℕ, ◌+◌, ◌==◌, nat_le, Bool, true, false, ◌&&◌, if◌then◌else◌, List, [], ◌∷◌, ◌++◌, length, map, take, drop, replicate}
 use Rattle.std.specs.Prelude.{Option, Some, None}
 use Rattle.std.specs.List.{remove}
 use Rattle.mt_types.specs.declared.row.Row.{Row}

@@ -1,5 +1,5 @@
 -- What a caller must know of a border before it changes it, and what the change then is to the tree.
-use Rattle.std.specs.Prelude.{ℕ, ◌≡◌, ◌≢◌, ◌<◌, ◌≤◌, ◌-◌, ◌^◌, length, take, drop, slice_get, IsSome, Some, None, List, [], ◌∷◌, true, false}
+use Rattle.std.specs.Prelude.{ℕ, ◌≡◌, ◌≢◌, ◌<◌, ◌≤◌, length, take, drop, slice_get, IsSome, Some, None, List, [], ◌∷◌, true, false}
 use Rattle.mt_slice.specs.Place.{place_of}
 use Rattle.mt_types.specs.declared.row.Row.{Row}
 use Rattle.mt_types.specs.declared.numbers.NodeNo.{NodeNo}
