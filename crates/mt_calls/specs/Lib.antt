@@ -6,3 +6,4 @@ pub mod Getting
 pub mod Writing
 pub mod Ranging
 pub mod Works
+pub mod Causes

@@ -3,6 +3,7 @@
 ghost use Rattle.std.specs.Prelude.{◌≡◌, ℕ};
 ghost use Rattle.mt_commit.specs.Log.{LogView};
 ghost use Rattle.mt_calls.specs.Step.{StepLaw, MayStep, nothing};
+ghost use Rattle.mt_calls.specs.Causes.{IsMarkedAt, ReadWaits};
 ghost use Rattle.mt_calls.specs.Ranging.{range_request, RangeIsTrue, IsHeldFor, Seeks};
 
 use crate::progress::Progress;
@@ -39,7 +40,8 @@ pub struct Range {
 // Visits a node on the way to a slice of its layer. No link leads on from a slice alone.
 fn seek(tree: &Tree, number: NodeNo, slice: u64) -> Sought
     requires { IsHeldFor tree.now number.0 slice }
-    ensures { Seeks tree.now number.0 slice result }
+    ensures seeks { Seeks tree.now number.0 slice result }
+    ensures again { result ≡ Sought.Again → IsMarkedAt tree.now number.0 }
 {
     match tree.visit(number, &slice.to_be_bytes()) {
         Visit::Again => Sought::Again,
@@ -55,6 +57,7 @@ impl Range {
         requires { (log : LogView) × MayStep tree.now log nothing (RangeIsTrue self.old) }
         ensures request { range_request self.new ≡ range_request self.old }
         ensures steps { (C : ℕ) (log : LogView) → StepLaw C tree.now tree.now log log (range_request self.old) nothing result nothing (RangeIsTrue self.old) (RangeIsTrue self.new) }
+        ensures waits { ReadWaits tree.now self.old.node.0 result }
     {
         match seek(tree, self.node, self.scan.slice()) {
             Sought::Again => {

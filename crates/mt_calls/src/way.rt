@@ -5,6 +5,7 @@ ghost use Rattle.mt_types.specs.declared.limits.TheConstants.{MAX_KEY_BYTES};
 ghost use Rattle.mt_slice.specs.Place.{rest_at, AreBytes};
 ghost use Rattle.mt_arena.specs.Arena.{IsArena};
 ghost use Rattle.mt_calls.specs.Way.{MayGo, Visits};
+ghost use Rattle.mt_calls.specs.Causes.{IsMarkedAt};
 
 use mt_slice::{SLICE_BYTES, key_bytes};
 use mt_tree::{TOP, Tree, Visit};
@@ -51,6 +52,7 @@ impl Way {
     pub fn visit(&self, tree: &Tree, key: &Key) -> Went
         requires { MayGo tree.now key.now self.now }
         ensures visits { Visits tree.now key.now self.now result }
+        ensures again { result ≡ Went.Again → IsMarkedAt tree.now self.now.node.0 }
         ensures sound { IsArena tree.now }
         ensures bytes { AreBytes key.now }
     {

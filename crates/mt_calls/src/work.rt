@@ -2,6 +2,7 @@
 
 ghost use Rattle.std.specs.Prelude.{◌≡◌, IfOk};
 ghost use Rattle.mt_calls.specs.Step.{StepLaw, MayStep};
+ghost use Rattle.mt_calls.specs.Causes.{WorkWaits};
 ghost use Rattle.mt_calls.specs.Works.{request_of, held, IsTrue, IsNew, IsServedRequest};
 
 use crate::getting::Get;
@@ -32,6 +33,7 @@ impl Work {
         requires { MayStep tree.old log.old (held self.old) (IsTrue columns self.old) }
         ensures request { request_of self.new ≡ request_of self.old }
         ensures steps { StepLaw columns tree.old tree.new log.old log.new (request_of self.old) (held self.old) result (held self.new) (IsTrue columns self.old) (IsTrue columns self.new) }
+        ensures waits { WorkWaits tree.old self.old result }
     {
         match self {
             Work::Get(get) => get.step(alloc, tree),

@@ -11,6 +11,7 @@ ghost use Rattle.mt_arena.specs.Node.{border_at};
 ghost use Rattle.mt_arena.specs.Arena.{with_border_changed};
 ghost use Rattle.mt_tree.specs.Descent.{found_for};
 ghost use Rattle.mt_tree.specs.BorderSteps.{MayShowAt, ShowsNext, HasRowAt, HidesRowAt, SetsRowAt};
+ghost use Rattle.mt_calls.specs.Causes.{WriteWaits};
 ghost use Rattle.mt_calls.specs.Way.{rest_of};
 ghost use Rattle.mt_calls.specs.Step.{StepLaw, MayStep, MayRefuse, IsUnbounded};
 ghost use Rattle.mt_calls.specs.Writing.{write_request, write_held, written_answer, WriteIsTrue, StageIsTrue, stage_held, Prepares, PreparesRemove, put_delta, remove_delta};
@@ -345,6 +346,7 @@ impl Write {
         requires seeks { self.old.stage ≡ Stage.Seeks }
         ensures request { write_request self.new ≡ write_request self.old }
         ensures steps { (C : ℕ) (log : LogView) → StepLaw C tree.old tree.new log log (write_request self.old) (write_held self.old) result (write_held self.new) (WriteIsTrue C self.old) (WriteIsTrue C self.new) }
+        ensures waits { WriteWaits tree.old self.old.way.node.0 result }
     {
         match self.way.visit(tree, &self.key) {
             Went::Again => {
@@ -371,6 +373,7 @@ impl Write {
         requires { MayStep tree.old log.old (write_held self.old) (WriteIsTrue columns self.old) }
         ensures request { write_request self.new ≡ write_request self.old }
         ensures steps { StepLaw columns tree.old tree.new log.old log.new (write_request self.old) (write_held self.old) result (write_held self.new) (WriteIsTrue columns self.old) (WriteIsTrue columns self.new) }
+        ensures waits { WriteWaits tree.old self.old.way.node.0 result }
     {
         let number = self.way.node;
         match mem::replace(&mut self.stage, Stage::Seeks) {

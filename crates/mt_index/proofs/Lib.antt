@@ -4,3 +4,4 @@ pub mod PairedLemmas
 pub mod PastLemmas
 pub mod StepStands
 pub mod EventStands
+pub mod CauseLemmas

@@ -1,3 +1,4 @@
 pub mod Calls
 pub mod Paired
 pub mod Stands
+pub mod Causes

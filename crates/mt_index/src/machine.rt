@@ -5,6 +5,7 @@ ghost use Rattle.mt_types.specs.Limits.{open_fault};
 ghost use Rattle.mt_promise.specs.History.{History, happening, moment};
 ghost use Rattle.mt_promise.specs.Legal.{begin_fault};
 ghost use Rattle.mt_calls.specs.Works.{IsServedRequest};
+ghost use Rattle.mt_index.specs.Causes.{IsCaused};
 ghost use Rattle.mt_index.specs.Stands.{Stands, IsServed, Begins, Steps, IsRun};
 
 use crate::calls::{Call, Calls, Stepped};
@@ -148,13 +149,14 @@ impl Machine {
     }
 
     /// One event, and what came of it. Wherever the machine stands, it then stands where this has happened too, and that
-    /// is legal: `stands` says so of each history.
+    /// is legal: `stands` says so of each history. Why a call waits, which a history doesn't show, is the clause `caused`.
     ///
     /// A begin costs some allocations, and a step the visit of one node and at most some allocations; each of them finds
     /// its call at the cost of a way down the tree of open calls.
     pub fn event(&mut self, alloc: Global, event: &Event) -> Outcome
         requires { IsServed event.now }
         ensures stands { (h : History) → Stands self.old h → Stands self.new (happening event.now result 0 ∷ h) }
+        ensures caused { IsCaused self.old event.now result }
         ensures columns { self.new.columns ≡ self.old.columns }
     {
         match event {

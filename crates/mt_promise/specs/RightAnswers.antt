@@ -27,7 +27,7 @@ Stands C key m = IsSome (get (rows C m) key)
 abbrev pub RightRange : ℕ → ℕ → History → List ℕ → List ℕ → ℕ → List (List ℕ × Row) → Type 0
 RightRange C began past start asked limit pairs =
     IsRangeAnswer (λ key answer. Sometime began (Shows C key asked answer) past)
-        (λ key. Throughout began (Stands C key) past) start limit pairs
+    (λ key. Throughout began (Stands C key) past) start limit pairs
 
 -- the answer of this call is right, given after this past
 abbrev pub RightAnswer : ℕ → History → OpenCall → Request → Answer → ℕ → Type 0

@@ -9,12 +9,12 @@ seek-requires c = let may = c.requires.1 in range_may c.args.tree.now c.args.sel
 pub border-border-requires : goal.border-border-requires
 border-border-requires c =
     let may = c.requires.1 in
-    range_border c.args.tree.now c.args.self.now c.seek.result (subst (λ (s : ℕ). Seeks c.args.tree.now c.args.self.now.node.0 s c.seek.result) c.slice.ensures c.seek.ensures) may.now may.begun may.moves may.past may.w may.world may.true c.in-Here.is
+    range_border c.args.tree.now c.args.self.now c.seek.result (subst (λ (s : ℕ). Seeks c.args.tree.now c.args.self.now.node.0 s c.seek.result) c.slice.ensures c.seek.ensures.seeks) may.now may.begun may.moves may.past may.w may.world may.true c.in-Here.is
 
 pub visit-requires : goal.visit-requires
 visit-requires c =
     let may = c.requires.1 in
-    range_keys c.args.tree.now c.args.self.now c.seek.result (subst (λ (s : ℕ). Seeks c.args.tree.now c.args.self.now.node.0 s c.seek.result) c.slice.ensures c.seek.ensures)
+    range_keys c.args.tree.now c.args.self.now c.seek.result (subst (λ (s : ℕ). Seeks c.args.tree.now c.args.self.now.node.0 s c.seek.result) c.slice.ensures c.seek.ensures.seeks)
     c.border-border.result.now c.border-border.ensures.value c.in-Here.is may.now may.begun may.moves may.past may.w may.world may.true
 
 pub returns-in-Again-clause-steps : goal.returns-in-Again-clause-steps
@@ -22,21 +22,21 @@ returns-in-Again-clause-steps c = λ C log. range_waits c.args.tree.now c.args.s
 
 pub returns-in-To-clause-steps : goal.returns-in-To-clause-steps
 returns-in-To-clause-steps c = λ C log.
-    range_moves c.args.tree.now c.args.self.now c.seek.result (subst (λ (s : ℕ). Seeks c.args.tree.now c.args.self.now.node.0 s c.seek.result) c.slice.ensures c.seek.ensures) c.in-To.next c.in-To.is log C
+    range_moves c.args.tree.now c.args.self.now c.seek.result (subst (λ (s : ℕ). Seeks c.args.tree.now c.args.self.now.node.0 s c.seek.result) c.slice.ensures c.seek.ensures.seeks) c.in-To.next c.in-To.is log C
 
 pub returns-in-Ok-To-clause-steps : goal.returns-in-Ok-To-clause-steps
 returns-in-Ok-To-clause-steps c = λ C log.
-    range_goes c.args.tree.now c.args.self.now c.seek.result (subst (λ (s : ℕ). Seeks c.args.tree.now c.args.self.now.node.0 s c.seek.result) c.slice.ensures c.seek.ensures)
+    range_goes c.args.tree.now c.args.self.now c.seek.result (subst (λ (s : ℕ). Seeks c.args.tree.now c.args.self.now.node.0 s c.seek.result) c.slice.ensures c.seek.ensures.seeks)
     c.border-border.result.now c.border-border.ensures.value c.in-Here.is c.len-sound.ensures.sound c.in-Ok-To.field-0 c.visit.new.self c.in-Ok-To.ensures.visited c.in-Ok-To.ensures.limit c.in-Ok-To.ensures.asked c.in-Ok-To.next c.in-Ok-To.field-0-is log C
 
 pub returns-in-Ok-Top-clause-steps : goal.returns-in-Ok-Top-clause-steps
 returns-in-Ok-Top-clause-steps c = λ C log.
-    range_tops c.args.tree.now c.args.self.now c.seek.result (subst (λ (s : ℕ). Seeks c.args.tree.now c.args.self.now.node.0 s c.seek.result) c.slice.ensures c.seek.ensures)
+    range_tops c.args.tree.now c.args.self.now c.seek.result (subst (λ (s : ℕ). Seeks c.args.tree.now c.args.self.now.node.0 s c.seek.result) c.slice.ensures c.seek.ensures.seeks)
     c.border-border.result.now c.border-border.ensures.value c.in-Here.is c.len-sound.ensures.sound c.in-Ok-Top.field-0 c.visit.new.self c.in-Ok-Top.ensures.visited c.in-Ok-Top.ensures.limit c.in-Ok-Top.ensures.asked c.in-Ok-Top.ensures.home c.in-Ok-Top.field-0-is log C
 
 pub returns-in-Ok-Done-clause-steps : goal.returns-in-Ok-Done-clause-steps
 returns-in-Ok-Done-clause-steps c = λ C log.
-    range_answers c.args.tree.now c.args.self.now c.seek.result (subst (λ (s : ℕ). Seeks c.args.tree.now c.args.self.now.node.0 s c.seek.result) c.slice.ensures c.seek.ensures)
+    range_answers c.args.tree.now c.args.self.now c.seek.result (subst (λ (s : ℕ). Seeks c.args.tree.now c.args.self.now.node.0 s c.seek.result) c.slice.ensures c.seek.ensures.seeks)
     c.border-border.result.now c.border-border.ensures.value c.in-Here.is c.len-sound.ensures.sound c.in-Ok-Done.field-0 c.visit.new.self c.in-Ok-Done.ensures.visited c.in-Ok-Done.field-0-is c.take_pairs.result c.take_pairs.ensures.value c.take_pairs.ensures.bytes _ log C
 
 pub returns-in-Err-clause-steps : goal.returns-in-Err-clause-steps

@@ -1,0 +1,32 @@
+-- Why a call waits: what a history doesn't show.
+use Rattle.std.specs.Prelude.{ℕ, ◌≡◌, ◌⊎◌, IsSomeAnd, true}
+use Rattle.mt_arena.specs.Node.{node_at, border_at}
+use Rattle.mt_arena.specs.Arena.{ArenaView}
+use Rattle.mt_tree.specs.Descent.{is_marked}
+use Rattle.mt_calls.specs.declared.progress.Progress.{Progress}
+use Rattle.mt_calls.specs.declared.progress.Progress.TheVariants.{Moved, Waits, Committed, Answered, Refused}
+use Rattle.mt_calls.specs.declared.work.Work.{Work}
+use Rattle.mt_calls.specs.declared.work.Work.TheVariants.{Get, Write, Range}
+
+-- the number names a node that is marked deleted
+abbrev pub IsMarkedAt : ArenaView → ℕ → Type 0
+IsMarkedAt a number = IsSomeAnd (node_at a.nodes number) (λ node. is_marked node ≡ true)
+
+-- the number names a border that is locked
+abbrev pub IsLockedAlready : ArenaView → ℕ → Type 0
+IsLockedAlready a number = IsSomeAnd (border_at a.nodes number) (λ b. b.version.locked ≡ true)
+
+-- a get or range waits only where the node that it visits is marked deleted: never at a lock
+abbrev pub ReadWaits : ArenaView → ℕ → Progress → Type 0
+ReadWaits a number Waits = IsMarkedAt a number
+ReadWaits a number _ = Unit {0}
+
+-- a put or remove waits only where the node that it visits is marked deleted, or is a border that is locked
+abbrev pub WriteWaits : ArenaView → ℕ → Progress → Type 0
+WriteWaits a number Waits = IsMarkedAt a number ⊎ IsLockedAlready a number
+WriteWaits a number _ = Unit {0}
+
+abbrev pub WorkWaits : ArenaView → Work → Progress → Type 0
+WorkWaits a (Get get) p = ReadWaits a get.way.node.0 p
+WorkWaits a (Write write) p = WriteWaits a write.way.node.0 p
+WorkWaits a (Range range) p = ReadWaits a range.node.0 p
