@@ -3,13 +3,14 @@ use Rattle.std.proofs.Common.{ℕ, ◌≡◌, ◌≢◌, ◌⊎◌, inl, inr, Li
 use Rattle.std.specs.Option.{option_and_then}
 use Rattle.mt_types.specs.declared.row.Row.{Row}
 use Rattle.mt_border.specs.Border.{BorderView}
-use Rattle.mt_arena.specs.Node.{node_at, border_at, border_of, Updates}
+use Rattle.mt_arena.specs.Node.{node_at, head_at, head_of, border_at, border_of, Updates}
+use Rattle.mt_interior.specs.Head.{HeadView}
 use Rattle.mt_arena.specs.Arena.{ArenaView, with_border_changed}
 use Rattle.mt_arena.specs.declared.node.Node.{Node}
 use Rattle.mt_arena.specs.declared.node.Node.TheVariants.{Border}
 use Rattle.mt_arena.proofs.NodeLemmas.{updates-with_node, node-from_border}
 use Rattle.mt_chart.specs.Tree.{Among, first, later}
-use Rattle.mt_chart.specs.Chart.{Spot}
+use Rattle.mt_chart.specs.Chart.{Chart, Spot, OnHead}
 use Rattle.mt_chart.proofs.Basics.{same_number}
 use Rattle.mt_chart.proofs.HeldNodes.{evolves_same}
 use Rattle.mt_tree.specs.Keeping.{IsIndexAt}
@@ -19,7 +20,7 @@ use Rattle.mt_chart.specs.Steps.{SameContent}
 use Rattle.mt_tree.specs.Seen.{arena_seen}
 use Rattle.mt_calls.specs.Step.{Changes}
 use Rattle.mt_calls.proofs.FrameLemmas.{is_among, taken_back}
-use Rattle.mt_calls.specs.World.{World, IsWorld, RowsAreOfKeys, IsLocked, IsTaken, NotAmong, Goes}
+use Rattle.mt_calls.specs.World.{World, IsWorld, RowsAreOfKeys, HeadsAreAlive, IsLocked, IsTaken, NotAmong, Goes}
 
 -- ---- rows of keys
 pub keys_same : (a after : ArenaView) → SameContent (arena_seen a) (arena_seen after) → RowsAreOfKeys a → RowsAreOfKeys after
@@ -48,6 +49,16 @@ module _ (a : ArenaView) (n : ℕ) (b : BorderView) (change : BorderView → Bor
   pub others_named : (other : ℕ) → other ≢ n → node_at (with_border_changed a n change).nodes other ≡ node_at a.nodes other
   others_named other apart = updated.others other apart
 
+  -- heads are as they were
+  pub heads_changed : (chart : Chart) → HeadsAreAlive a chart → HeadsAreAlive (with_border_changed a n change) chart
+  heads_changed chart heads = record {
+    alive = λ number prefix head on is. elim (same_number number n) [
+      | inl e ↦ (let none : head_at (with_border_changed a n change).nodes number ≡ None = ap (λ (m : ℕ). head_at (with_border_changed a n change).nodes m) e ∙ ap (option_and_then head_of) updated.changed in
+        let clash : ◌≡◌ {A = Option HeadView} None (Some head) = sym none ∙ is in cc)
+      | inr differ ↦ heads.alive number prefix head on (sym (ap (option_and_then head_of) (others_named number differ)) ∙ is)
+    ];
+  }
+
   -- what the step leaves
   pub goes_border : (now : ℕ) (w : World) (owned owns : List ℕ) (Then : World → Type 0) → IsWorld a now w → IsIndexAt (with_border_changed a n change) now w.twins w.chart → RowsAreOfKeys (with_border_changed a n change)
       → ((other : ℕ) → IsTaken a w other → NotAmong other owned → other ≢ n) → ((other : ℕ) → Among other owns → Among other owned ⊎ (other ≡ n))
@@ -55,7 +66,7 @@ module _ (a : ArenaView) (n : ℕ) (b : BorderView) (change : BorderView → Bor
       → Goes now a (with_border_changed a n change) w owned owns Then
   goes_border now w owned owns Then world index keys free fewer more mine truth = record {
     next = w;
-    world = record { index = index; keys = keys };
+    world = record { index = index; keys = keys; heads = heads_changed w.chart world.heads };
     evolves = λ begun before. evolves_same begun w.chart;
     leaves = λ other taken apart. (
       record { node = others_named other (free other taken apart); spot = refl },
@@ -87,6 +98,9 @@ module _ (a : ArenaView) (n : ℕ) (b : BorderView) (change : BorderView → Bor
 -- what the call owns is no other's
 pub own_free : (a : ArenaView) (n : ℕ) (w : World) (other : ℕ) → IsTaken a w other → NotAmong other (n ∷ []) → other ≢ n
 own_free a n w other taken apart e = apart (subst (λ (m : ℕ). Among m (n ∷ [])) (sym e) first)
+
+pub mine_free : (a : ArenaView) (n : ℕ) (w : World) (owned : List ℕ) → Among n owned → (other : ℕ) → IsTaken a w other → NotAmong other owned → other ≢ n
+mine_free a n w owned mine other taken apart e = apart (subst (λ (m : ℕ). Among m owned) (sym e) mine)
 
 -- one number that is owned
 pub among_one : (other n : ℕ) → Among other (n ∷ []) → other ≡ n

@@ -2,8 +2,6 @@ pub mod WayLemmas
 pub mod FrameLemmas
 pub mod FoundLemmas
 pub mod BorderLemmas
+pub mod SplitLemmas
 pub mod GetLemmas
-pub mod WriteLemmas
 pub mod RangeLemmas
-pub mod WorkLemmas
-pub mod NewWorks

@@ -5,8 +5,6 @@ use Rattle.mt_arena.specs.Arena.{ArenaView}
 use Rattle.mt_tree.specs.Descent.{is_marked}
 use Rattle.mt_calls.specs.declared.progress.Progress.{Progress}
 use Rattle.mt_calls.specs.declared.progress.Progress.TheVariants.{Moved, Waits, Committed, Answered, Refused}
-use Rattle.mt_calls.specs.declared.work.Work.{Work}
-use Rattle.mt_calls.specs.declared.work.Work.TheVariants.{Get, Write, Range}
 
 -- the number names a node that is marked deleted
 abbrev pub IsMarkedAt : ArenaView → ℕ → Type 0
@@ -20,13 +18,3 @@ IsLockedAlready a number = IsSomeAnd (border_at a.nodes number) (λ b. b.version
 abbrev pub ReadWaits : ArenaView → ℕ → Progress → Type 0
 ReadWaits a number Waits = IsMarkedAt a number
 ReadWaits a number _ = Unit {0}
-
--- a put or remove waits only where the node that it visits is marked deleted, or is a border that is locked
-abbrev pub WriteWaits : ArenaView → ℕ → Progress → Type 0
-WriteWaits a number Waits = IsMarkedAt a number ⊎ IsLockedAlready a number
-WriteWaits a number _ = Unit {0}
-
-abbrev pub WorkWaits : ArenaView → Work → Progress → Type 0
-WorkWaits a (Get get) p = ReadWaits a get.way.node.0 p
-WorkWaits a (Write write) p = WriteWaits a write.way.node.0 p
-WorkWaits a (Range range) p = ReadWaits a range.node.0 p

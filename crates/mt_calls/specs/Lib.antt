@@ -3,7 +3,5 @@ pub mod World
 pub mod Step
 pub mod Way
 pub mod Getting
-pub mod Writing
 pub mod Ranging
-pub mod Works
 pub mod Causes

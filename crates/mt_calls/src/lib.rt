@@ -1,11 +1,7 @@
-//! The calls of the index over the whole tree: each kind of call is a work, which has a record of how far it is, and a step
-//! that visits one node.
+//! The calls of the index over the whole tree: the law of a step, the way down the tree, gets and ranges.
 #![tactic(auto)]
 
-mod columns;
 pub mod getting;
 pub mod progress;
 pub mod ranging;
 pub mod way;
-pub mod work;
-pub mod writing;

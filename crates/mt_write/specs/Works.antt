@@ -4,12 +4,12 @@ use Rattle.mt_types.specs.declared.event.Request.{Request}
 use Rattle.mt_types.specs.declared.event.Request.TheVariants.{Get as GetRequest, Put as PutRequest, Remove as RemoveRequest, Range as RangeRequest}
 use Rattle.mt_arena.specs.Arena.{ArenaView}
 use Rattle.mt_chart.specs.Tree.{Arena}
-use Rattle.mt_calls.specs.declared.work.Work.{Work}
-use Rattle.mt_calls.specs.declared.work.Work.TheVariants.{Get, Write, Range}
+use Rattle.mt_write.specs.declared.work.Work.{Work}
+use Rattle.mt_write.specs.declared.work.Work.TheVariants.{Get, Write, Range}
 use Rattle.mt_calls.specs.World.{World, IsWorld}
 use Rattle.mt_calls.specs.Step.{Held, nothing}
 use Rattle.mt_calls.specs.Getting.{get_request, GetIsTrue}
-use Rattle.mt_calls.specs.Writing.{write_request, write_held, WriteIsTrue}
+use Rattle.mt_write.specs.Writing.{write_request, write_held, WriteIsTrue}
 use Rattle.mt_calls.specs.Ranging.{range_request, RangeIsTrue}
 
 abbrev pub request_of : Work → Request

@@ -2,14 +2,14 @@
 
 ghost use Rattle.std.specs.Prelude.{◌≡◌, IfOk};
 ghost use Rattle.mt_calls.specs.Step.{StepLaw, MayStep};
-ghost use Rattle.mt_calls.specs.Causes.{WorkWaits};
-ghost use Rattle.mt_calls.specs.Works.{request_of, held, IsTrue, IsNew, IsServedRequest};
+ghost use Rattle.mt_write.specs.Causes.{WorkWaits};
+ghost use Rattle.mt_write.specs.Works.{request_of, held, IsTrue, IsNew, IsServedRequest};
 
-use crate::getting::Get;
-use crate::progress::Progress;
-use crate::ranging::Range;
-use crate::way::{START, rest_of};
 use crate::writing::{Edit, Stage, Write};
+use mt_calls::getting::Get;
+use mt_calls::progress::Progress;
+use mt_calls::ranging::Range;
+use mt_calls::way::{START, rest_of};
 use mt_commit::log::Log;
 use mt_scan::Scan;
 use mt_tree::{TOP, Tree};

@@ -1,7 +1,7 @@
 use Rattle.std.proofs.Common.{ℕ, List, [], ap, sym, subst, ◌∙◌}
 use Rattle.mt_slice.specs.Place.{AreBytes, place_of}
-use Rattle.mt_calls.proofs.NewWorks.{new_get, new_range}
-use Rattle.mt_calls.proofs.work.work_of.Goals as goal
+use Rattle.mt_write.proofs.NewWorks.{new_get, new_range}
+use Rattle.mt_write.proofs.work.work_of.Goals as goal
 
 pub returns-in_ok-copy-in-Get-clause-new : goal.returns-in_ok-copy-in-Get-clause-new
 returns-in_ok-copy-in-Get-clause-new c = new_get c.args.columns c.in-Ok.key c.in_ok-copy-in-Get.field-0

@@ -1,5 +1,5 @@
 -- What is true of a put or remove, at each of its stages.
-use Rattle.std.specs.Prelude.{ℕ, ◌≡◌, ◌<◌, ◌≤◌, ◌+◌, List, [], ◌∷◌, length, Option, Some, None, IsSome, true, false}
+use Rattle.std.specs.Prelude.{ℕ, ◌≡◌, ◌≢◌, ◌<◌, ◌≤◌, ◌+◌, ◌⊎◌, List, [], ◌∷◌, length, drop, slice_get, Option, Some, None, IsSome, true, false}
 use Rattle.mt_types.specs.declared.limits.TheConstants.{MAX_KEY_BYTES}
 use Rattle.mt_types.specs.declared.row.Row.{Row}
 use Rattle.mt_types.specs.declared.row.Delta.{Delta}
@@ -7,31 +7,40 @@ use Rattle.mt_types.specs.declared.event.Request.{Request}
 use Rattle.mt_types.specs.declared.event.Request.TheVariants.{Put as PutRequest, Remove as RemoveRequest}
 use Rattle.mt_types.specs.declared.event.Answer.{Answer}
 use Rattle.mt_types.specs.declared.event.Answer.TheVariants.{Stored as StoredAnswer, Removed}
-use Rattle.mt_slice.specs.Place.{AreBytes, place_of}
+use Rattle.mt_slice.specs.Place.{AreBytes, place_of, slice_number}
+use Rattle.mt_types.specs.declared.numbers.NodeNo.{NodeNo}
+use Rattle.mt_word.specs.declared.permutation_word.TheConstants.{SLOTS}
+use Rattle.mt_word.specs.declared.version_word.TheConstants.{MAX_SPLITS}
 use Rattle.mt_commit.specs.Log.{LogView}
-use Rattle.mt_border.specs.Border.{BorderView, row_at, with_filled}
+use Rattle.mt_border.specs.Border.{BorderView, row_at, with_filled, with_entries, new_border}
+use Rattle.mt_border.specs.Cut.{IsCut}
+use Rattle.mt_border.specs.declared.found.Found.{Found}
+use Rattle.mt_arena.specs.declared.node.Node.TheVariants.{Border}
+use Rattle.mt_chart.specs.Tree.{Among}
 use Rattle.mt_border.specs.Entry.{entry_of_row}
 use Rattle.mt_border.specs.Order.{IsBorder}
 use Rattle.mt_border.specs.declared.entry.Entry.{Entry}
 use Rattle.mt_border.specs.declared.slot_table.Slot.{Slot}
 use Rattle.mt_border.specs.declared.found.Found.TheVariants.{Absent, Row as RowFound}
-use Rattle.mt_arena.specs.Node.{border_at}
+use Rattle.mt_arena.specs.Node.{node_at, border_at, Updates}
 use Rattle.mt_arena.specs.Arena.{ArenaView, with_border_changed}
 use Rattle.mt_chart.specs.Tree.{Arena}
 use Rattle.mt_chart.specs.TreeLaws.{IsWhere}
 use Rattle.mt_tree.specs.Seen.{arena_seen, border_seen}
-use Rattle.mt_tree.specs.Keeping.{KeepsTree}
+use Rattle.mt_tree.specs.Keeping.{KeepsTree, IsUnknown}
 use Rattle.mt_tree.specs.Descent.{IsLast, found_for, row_found}
 use Rattle.mt_tree.specs.BorderSteps.{MayShowAt}
 use Rattle.mt_calls.specs.declared.way.Way.{Way}
-use Rattle.mt_calls.specs.declared.writing.Write.{Write}
-use Rattle.mt_calls.specs.declared.writing.Edit.{Edit}
-use Rattle.mt_calls.specs.declared.writing.Edit.TheVariants.{Put as PutEdit, Remove as RemoveEdit}
-use Rattle.mt_calls.specs.declared.writing.Stage.{Stage}
-use Rattle.mt_calls.specs.declared.writing.Stage.TheVariants.{Seeks, Locked, Filled, Made, Taken, Stored, Failed}
+use Rattle.mt_write.specs.declared.writing.Write.{Write}
+use Rattle.mt_write.specs.declared.writing.Edit.{Edit}
+use Rattle.mt_write.specs.declared.writing.Edit.TheVariants.{Put as PutEdit, Remove as RemoveEdit}
+use Rattle.mt_write.specs.declared.writing.Stage.{Stage}
+use Rattle.mt_write.specs.declared.writing.Stage.TheVariants.{Seeks, Locked, Spared, HalfFilled, Halved, Filled, Made, Taken, Stored, Failed}
+use Rattle.mt_write.specs.declared.writing.Split.{Split}
 use Rattle.mt_calls.specs.World.{World}
 use Rattle.mt_calls.specs.Way.{prefix_of, rest_of, IsLayerOf, IsOnWay}
-use Rattle.mt_calls.specs.Step.{Held, nothing, MayRefuse, columns_after}
+use Rattle.mt_calls.specs.declared.progress.Progress.{Progress}
+use Rattle.mt_calls.specs.Step.{Held, nothing, MayRefuse, StepLaw, MayStep, columns_after}
 
 abbrev pub edit_request : List ℕ → Edit → Request
 edit_request key (PutEdit sets) = PutRequest key sets
@@ -45,15 +54,28 @@ abbrev pub written_answer : Edit → ℕ → Answer
 written_answer (PutEdit sets) number = StoredAnswer number
 written_answer RemoveEdit number = Removed number
 
+-- the border that a write has locked, or the two halves of the border that it has split
+abbrev pub owned : ℕ → Option Split → List ℕ
+owned number None = number ∷ []
+owned number (Some split) = split.half.0 ∷ split.left.0 ∷ []
+
+-- the two halves differ
+abbrev pub AreTwo : Option Split → Type 0
+AreTwo None = Unit {0}
+AreTwo (Some split) = split.left.0 ≢ split.half.0
+
 -- what a write has: from the lock on its border, and from a stage that is ready on room in the log
 abbrev pub stage_held : ℕ → Stage → Held
 stage_held number Seeks = nothing
 stage_held number Locked = record { owns = number ∷ []; reserves = 0; committed = None }
-stage_held number (Filled place stored logged) = record { owns = number ∷ []; reserves = 1; committed = None }
+stage_held number (Spared half cut entries) = record { owns = half.0 ∷ number ∷ []; reserves = 0; committed = None }
+stage_held number (HalfFilled half cut) = record { owns = half.0 ∷ number ∷ []; reserves = 0; committed = None }
+stage_held number (Halved split) = record { owns = owned number (Some split); reserves = 0; committed = None }
+stage_held number (Filled place stored logged split) = record { owns = owned number split; reserves = 1; committed = None }
 stage_held number (Made place stored columns logged) = record { owns = number ∷ []; reserves = 1; committed = None }
 stage_held number (Taken place stored before) = record { owns = number ∷ []; reserves = 1; committed = None }
-stage_held number (Stored commit) = record { owns = number ∷ []; reserves = 0; committed = Some commit }
-stage_held number (Failed refusal) = record { owns = number ∷ []; reserves = 0; committed = None }
+stage_held number (Stored commit split) = record { owns = owned number split; reserves = 0; committed = Some commit }
+stage_held number (Failed refusal split) = record { owns = owned number split; reserves = 0; committed = None }
 
 abbrev pub write_held : Write → Held
 write_held write = stage_held write.way.node.0 write.stage
@@ -73,6 +95,50 @@ pub record IsLockedBorder (a : ArenaView) (w : World) (number : ℕ) : Type 0 wh
   pub named : border_at a.nodes number ≡ Some b
   pub known : IsSome (w.chart number)
   pub locked : b.version.locked ≡ true
+
+-- it has locked its border, or both halves of the border that it has split
+pub record HasLocked (a : ArenaView) (w : World) (number : ℕ) (split : Option Split) : Type 0 where
+  pub locked : (other : ℕ) → Among other (owned number split) → IsLockedBorder a w other
+  pub own : Among number (owned number split)
+  pub two : AreTwo split
+
+-- the number names this border, which is locked, and which the chart doesn't know
+pub record IsSpare (a : ArenaView) (w : World) (number : ℕ) (b : BorderView) : Type 0 where
+  pub named : border_at a.nodes number ≡ Some b
+  pub unknown : w.chart number ≡ None
+  pub locked : b.version.locked ≡ true
+
+-- no entry is found
+abbrev pub IsAbsent : Found → Type 0
+IsAbsent (Absent place) = Unit {0}
+IsAbsent _ = ⊥
+
+-- the border is full, has no entry of the key, and may be cut in two at a place
+pub record IsCutAt (key : List ℕ) (edit : Edit) (way : Way) (b : BorderView) (cut : ℕ) : Type 0 where
+  pub sound : IsBorder b
+  pub full : length b.live ≡ SLOTS
+  pub place : IsCut b.live cut
+  pub middle : Entry
+  pub is_middle : slice_get b.live cut ≡ Some middle
+  pub unspent : b.version.vsplit < MAX_SPLITS
+  pub absent : IsAbsent (found_for (rest_of key way) b.live)
+  pub sets : List (ℕ × List ℕ)
+  pub is_put : edit ≡ PutEdit sets
+
+-- the half of a border, from a place on, before it is filled
+abbrev pub empty_half : BorderView → Entry → BorderView
+empty_half b middle = new_border b.layer middle.slice true
+
+-- and once it is
+abbrev pub upper_half : BorderView → ℕ → Entry → BorderView
+upper_half b cut middle = with_entries (empty_half b middle) (drop cut b.live) b.right
+
+-- the half of a border where the key belongs has room, and no entry of the key
+pub record IsHalf (key : List ℕ) (edit : Edit) (way : Way) (b : BorderView) : Type 0 where
+  pub room : length b.live < SLOTS
+  pub absent : IsAbsent (found_for (rest_of key way) b.live)
+  pub sets : List (ℕ × List ℕ)
+  pub is_put : edit ≡ PutEdit sets
 
 -- the entry of a key with these columns, before its commit
 abbrev pub new_entry : List ℕ → Way → List (List ℕ) → Entry
@@ -119,14 +185,28 @@ pub record IsFound (key : List ℕ) (edit : Edit) (way : Way) (b : BorderView) (
 abbrev pub StageIsTrue : ℕ → List ℕ → Edit → Way → Stage → ℕ → ArenaView → World → Type 0
 StageIsTrue C key edit way Seeks begun a w = IsOnWay begun key way w
 StageIsTrue C key edit way Locked begun a w = (b : BorderView) × IsLockedAt a key way b w
-StageIsTrue C key edit way (Filled place stored logged) begun a w = (b : BorderView) × IsLockedAt a key way b w × IsFilled C key edit way b place stored logged
+StageIsTrue C key edit way (Spared half cut entries) begun a w = (b : BorderView) × IsLockedAt a key way b w × (c : IsCutAt key edit way b cut) × IsSpare a w half.0 (empty_half b c.middle) × (entries ≡ drop cut b.live)
+StageIsTrue C key edit way (HalfFilled half cut) begun a w = (b : BorderView) × IsLockedAt a key way b w × (c : IsCutAt key edit way b cut) × IsSpare a w half.0 (upper_half b cut c.middle)
+StageIsTrue C key edit way (Halved split) begun a w = (b : BorderView) × IsLockedAt a key way b w × IsHalf key edit way b × HasLocked a w way.node.0 (Some split)
+StageIsTrue C key edit way (Filled place stored logged split) begun a w = (b : BorderView) × IsLockedAt a key way b w × IsFilled C key edit way b place stored logged × HasLocked a w way.node.0 split
 StageIsTrue C key edit way (Made place stored columns logged) begun a w = (b : BorderView) × IsLockedAt a key way b w × IsMade C key edit way b place stored columns logged
 StageIsTrue C key edit way (Taken place stored before) begun a w = (b : BorderView) × IsLockedAt a key way b w × IsFound key edit way b place stored before
-StageIsTrue C key edit way (Stored number) begun a w = IsLockedBorder a w way.node.0
-StageIsTrue C key edit way (Failed refusal) begun a w = IsLockedBorder a w way.node.0 × MayRefuse (edit_request key edit) refusal
+StageIsTrue C key edit way (Stored number split) begun a w = HasLocked a w way.node.0 split
+StageIsTrue C key edit way (Failed refusal split) begun a w = HasLocked a w way.node.0 split × MayRefuse (edit_request key edit) refusal
 
 abbrev pub WriteIsTrue : ℕ → Write → ℕ → ℕ → List Arena → ArenaView → World → Type 0
 WriteIsTrue C write begun moves past a w = StageIsTrue C write.key write.edit write.way write.stage begun a w
+
+-- what a step asks, and its law, of a write that is at a stage
+abbrev pub MayStage : ℕ → ArenaView → LogView → Write → Stage → Type 0
+MayStage C a log write stage = MayStep a log (stage_held write.way.node.0 stage) (λ begun moves past x w. StageIsTrue C write.key write.edit write.way stage begun x w)
+
+abbrev pub StageLaw : ℕ → ArenaView → ArenaView → LogView → LogView → Write → Stage → Progress → Write → Type 0
+StageLaw C a after log left write stage p then = StepLaw C a after log left (write_request write) (stage_held write.way.node.0 stage) p (write_held then) (λ begun moves past x w. StageIsTrue C write.key write.edit write.way stage begun x w) (WriteIsTrue C then)
+
+-- the way leads on to the half of a border where the key belongs, by the low of the upper half
+abbrev pub IsHalfOf : List ℕ → Way → NodeNo → ℕ → Way → Type 0
+IsHalfOf key way half low goal = ((slice_number (rest_of key way) < low) × (goal ≡ way)) ⊎ ((low ≤ slice_number (rest_of key way)) × (goal ≡ record { node = half; layer = way.layer }))
 
 -- the room for one delta more
 abbrev pub with_room : LogView → LogView
@@ -139,7 +219,7 @@ pub record Fills (C : ℕ) (key : List ℕ) (sets : List (ℕ × List ℕ)) (way
   pub bytes : AreBytes key
   pub fits : length key ≤ MAX_KEY_BYTES
   pub sound : IsBorder b
-  pub room : length b.live < 15
+  pub room : length b.live < SLOTS
   pub absent : found_for (rest_of key way) b.live ≡ Absent place
   pub stored_is : stored ≡ key
   pub columns : logged ≡ columns_after C sets None
@@ -147,6 +227,17 @@ pub record Fills (C : ℕ) (key : List ℕ) (sets : List (ℕ × List ℕ)) (way
   pub whole : IsBorder (with_filled b (new_entry key way logged))
   pub keeps : KeepsTree a after
   pub reserved : left ≡ with_room log
+
+-- or a half for the border, which is full
+pub record Spares (key : List ℕ) (sets : List (ℕ × List ℕ)) (way : Way) (a : ArenaView) (half cut : ℕ) (entries : List Entry) (after : ArenaView) : Type 0 where
+  pub b : BorderView
+  pub named : border_at a.nodes way.node.0 ≡ Some b
+  pub cut_at : IsCutAt key (PutEdit sets) way b cut
+  pub vacant : node_at a.nodes half ≡ None
+  pub updates : Updates a.nodes after.nodes half (Some (Border (empty_half b cut_at.middle)))
+  pub unknown : IsUnknown a half
+  pub keeps : KeepsTree a after
+  pub copied : entries ≡ drop cut b.live
 
 -- or the columns that the row is to have
 pub record Makes (C : ℕ) (key : List ℕ) (sets : List (ℕ × List ℕ)) (way : Way) (a : ArenaView) (log : LogView) (place : ℕ) (stored : List ℕ) (columns logged : List (List ℕ)) (after : ArenaView) (left : LogView) : Type 0 where
@@ -156,11 +247,18 @@ pub record Makes (C : ℕ) (key : List ℕ) (sets : List (ℕ × List ℕ)) (way
   pub same : after ≡ a
   pub reserved : left ≡ with_room log
 
-abbrev pub Prepares : ℕ → List ℕ → List (ℕ × List ℕ) → Way → ArenaView → LogView → Stage → ArenaView → LogView → Type 0
-Prepares C key sets way a log (Filled place stored logged) after left = Fills C key sets way a log place stored logged after left
-Prepares C key sets way a log (Made place stored columns logged) after left = Makes C key sets way a log place stored columns logged after left
-Prepares C key sets way a log (Failed refusal) after left = MayRefuse (PutRequest key sets) refusal × (after ≡ a) × (left ≡ log)
-Prepares C key sets way a log _ after left = ⊥
+-- a put of these sets
+abbrev pub SomeSets : Edit → (List (ℕ × List ℕ) → Type 0) → Type 0
+SomeSets (PutEdit sets) P = P sets
+SomeSets RemoveEdit P = ⊥
+
+-- A put is ready, or it fails. It has split its border already, into these halves, or not.
+abbrev pub Prepares : ℕ → List ℕ → List (ℕ × List ℕ) → Way → ArenaView → LogView → Option Split → Stage → ArenaView → LogView → Type 0
+Prepares C key sets way a log split (Spared half cut entries) after left = (split ≡ None) × Spares key sets way a half.0 cut entries after × (left ≡ log)
+Prepares C key sets way a log split (Filled place stored logged halves) after left = (halves ≡ split) × Fills C key sets way a log place stored logged after left
+Prepares C key sets way a log split (Made place stored columns logged) after left = (split ≡ None) × Makes C key sets way a log place stored columns logged after left
+Prepares C key sets way a log split (Failed refusal halves) after left = (halves ≡ split) × MayRefuse (PutRequest key sets) refusal × (after ≡ a) × (left ≡ log)
+Prepares C key sets way a log split _ after left = ⊥
 
 -- the delta of a put's commit
 abbrev pub put_delta : ℕ → List ℕ → Option Row → List (List ℕ) → Delta
@@ -184,7 +282,7 @@ pub record LacksRow (key : List ℕ) (way : Way) (a : ArenaView) : Type 0 where
 abbrev pub PreparesRemove : List ℕ → Way → ArenaView → LogView → Option Stage → LogView → Type 0
 PreparesRemove key way a log None left = LacksRow key way a × (left ≡ log)
 PreparesRemove key way a log (Some (Taken place stored before)) left = Takes key way a log place stored before left
-PreparesRemove key way a log (Some (Failed refusal)) left = MayRefuse (RemoveRequest key) refusal × (left ≡ log)
+PreparesRemove key way a log (Some (Failed refusal split)) left = (split ≡ None) × MayRefuse (RemoveRequest key) refusal × (left ≡ log)
 PreparesRemove key way a log _ left = ⊥
 
 -- the delta of a remove's commit

@@ -1,14 +1,14 @@
 -- What is true of a call that begins.
 use Rattle.std.proofs.Common.{ℕ, ◌≡◌, List, [], ◌∷◌, refl, sym, subst}
 use Rattle.mt_tree.specs.Seen.{arena_seen}
-use Rattle.mt_calls.specs.declared.work.Work.TheVariants.{Get as GetWork, Range as RangeWork}
+use Rattle.mt_write.specs.declared.work.Work.TheVariants.{Get as GetWork, Range as RangeWork}
 use Rattle.mt_types.specs.Rows.{shown}
 use Rattle.mt_slice.specs.Place.{AreBytes, place_of}
 use Rattle.mt_chart.specs.ScanRun.{Stood, AllHave}
 use Rattle.mt_chart.proofs.Ranges.{range_begins}
 use Rattle.mt_scan.specs.Scan.{ScanView}
-use Rattle.mt_calls.specs.declared.work.Work.TheVariants.{Get as GetWork, Range as RangeWork}
-use Rattle.mt_calls.specs.Works.{IsNew}
+use Rattle.mt_write.specs.declared.work.Work.TheVariants.{Get as GetWork, Range as RangeWork}
+use Rattle.mt_write.specs.Works.{IsNew}
 use Rattle.mt_calls.proofs.WayLemmas.{starts}
 use Rattle.mt_calls.proofs.FrameLemmas.{trail_begins}
 

@@ -1,5 +1,5 @@
 -- What others' steps leave of each kind of call, and what each kind owns.
-use Rattle.std.proofs.Common.{ℕ, ◌≡◌, inl, inr, List, [], ◌∷◌, Option, Some, IsSome, true, sym, ap, subst, ◌∙◌}
+use Rattle.std.proofs.Common.{ℕ, ◌≡◌, inl, inr, List, [], ◌∷◌, Option, Some, IsSome, true, refl, sym, ap, subst, ◌∙◌}
 use Rattle.std.specs.Option.{option_map, option_and_then}
 use Rattle.mt_commit.specs.Log.{LogView}
 use Rattle.mt_border.specs.Border.{BorderView}
@@ -21,19 +21,20 @@ use Rattle.mt_calls.specs.declared.ranging.Range.{Range}
 use Rattle.mt_calls.specs.Ranging.{range_request, RangeIsTrue}
 use Rattle.mt_calls.specs.declared.way.Way.{Way}
 use Rattle.mt_calls.specs.declared.getting.Get.{Get}
-use Rattle.mt_calls.specs.declared.writing.Write.{Write}
-use Rattle.mt_calls.specs.declared.writing.Edit.{Edit}
-use Rattle.mt_calls.specs.declared.writing.Stage.{Stage}
-use Rattle.mt_calls.specs.declared.writing.Stage.TheVariants.{Seeks, Locked, Filled, Made, Taken, Stored, Failed}
+use Rattle.mt_write.specs.declared.writing.Write.{Write}
+use Rattle.mt_write.specs.declared.writing.Edit.{Edit}
+use Rattle.mt_write.specs.declared.writing.Stage.{Stage}
+use Rattle.mt_write.specs.declared.writing.Stage.TheVariants.{Seeks, Locked, Spared, HalfFilled, Halved, Filled, Made, Taken, Stored, Failed}
+use Rattle.mt_write.specs.declared.writing.Split.{Split}
 use Rattle.mt_calls.specs.declared.progress.Progress.{Progress}
-use Rattle.mt_calls.specs.declared.work.Work.{Work}
-use Rattle.mt_calls.specs.declared.work.Work.TheVariants.{Get as GetWork, Write as WriteWork, Range as RangeWork}
+use Rattle.mt_write.specs.declared.work.Work.{Work}
+use Rattle.mt_write.specs.declared.work.Work.TheVariants.{Get as GetWork, Write as WriteWork, Range as RangeWork}
 use Rattle.mt_calls.specs.World.{World, IsLocked, IsTaken, IsSame}
 use Rattle.mt_calls.specs.Way.{IsOnWay}
 use Rattle.mt_calls.specs.Step.{Held, Truth, StepLaw, nothing}
 use Rattle.mt_calls.specs.Getting.{GetIsTrue, get_request}
-use Rattle.mt_calls.specs.Writing.{StageIsTrue, stage_held, IsLockedAt, IsLockedBorder, WriteIsTrue, write_request, write_held}
-use Rattle.mt_calls.specs.Works.{request_of, held, IsTrue}
+use Rattle.mt_write.specs.Writing.{StageIsTrue, stage_held, IsLockedAt, IsLockedBorder, HasLocked, IsSpare, owned, WriteIsTrue, write_request, write_held}
+use Rattle.mt_write.specs.Works.{request_of, held, IsTrue}
 
 -- ---- a step of one kind is a step of a call
 pub step_get : (C : ℕ) (a after : ArenaView) (log left : LogView) (work : Work) (get : Get) (p : Progress) (then : Held) (Then : Truth) → work ≡ GetWork get → StepLaw C a after log left (get_request get) nothing p then (GetIsTrue get) Then
@@ -57,7 +58,7 @@ module _ (a after : ArenaView) (w next : World) where
   way_stays : (begun : ℕ) (key : List ℕ) (way : Way) → Evolves begun w.chart next.chart → IsOnWay begun key way w → IsOnWay begun key way next
   way_stays begun key way evolves stands = record { layer = stands.layer; held = holds_kept begun way.node.0 _ _ w.chart next.chart evolves stands.held }
 
-  locked_at_stays : (key : List ℕ) (way : Way) (b : BorderView) → IsSame a after w next way.node.0 → IsLockedAt a key way b w → IsLockedAt after key way b next
+  pub locked_at_stays : (key : List ℕ) (way : Way) (b : BorderView) → IsSame a after w next way.node.0 → IsLockedAt a key way b w → IsLockedAt after key way b next
   locked_at_stays key way b same at = record {
     layer = at.layer;
     named = same_border way.node.0 b same at.named;
@@ -78,15 +79,24 @@ module _ (a after : ArenaView) (w next : World) where
   locked_stays : (number : ℕ) → IsSame a after w next number → IsLockedBorder a w number → IsLockedBorder after next number
   locked_stays number same at = record { b = at.b; named = same_border number at.b same at.named; known = subst (λ (x : Option Spot). IsSome x) (sym same.spot) at.known; locked = at.locked }
 
+  spare_stays : (number : ℕ) (b : BorderView) → IsSame a after w next number → IsSpare a w number b → IsSpare after next number b
+  spare_stays number b same s = record { named = same_border number b same s.named; unknown = same.spot ∙ s.unknown; locked = s.locked }
+
+  has_locked_stays : (number : ℕ) (split : Option Split) → ((other : ℕ) → Among other (owned number split) → IsSame a after w next other) → HasLocked a w number split → HasLocked after next number split
+  has_locked_stays number split same has = record { locked = λ other i. locked_stays other (same other i) (has.locked other i); own = has.own; two = has.two }
+
   module _ (C begun moves : ℕ) (past : List Arena) (evolves : Evolves begun w.chart next.chart) where
     stage_stays : (key : List ℕ) (edit : Edit) (way : Way) (stage : Stage) → ((number : ℕ) → Among number (stage_held way.node.0 stage).owns → IsSame a after w next number) → StageIsTrue C key edit way stage begun a w → StageIsTrue C key edit way stage begun after next
     stage_stays key edit way Seeks same truth = way_stays begun key way evolves truth
     stage_stays key edit way Locked same truth = let (b, at) = truth in (b, locked_at_stays key way b (same way.node.0 first) at)
-    stage_stays key edit way (Filled place stored logged) same truth = let (b, at, f) = truth in (b, locked_at_stays key way b (same way.node.0 first) at, f)
+    stage_stays key edit way (Spared half cut entries) same truth = let (b, at, c, s, e) = truth in (b, locked_at_stays key way b (same way.node.0 (later first)) at, c, spare_stays half.0 _ (same half.0 first) s, e)
+    stage_stays key edit way (HalfFilled half cut) same truth = let (b, at, c, s) = truth in (b, locked_at_stays key way b (same way.node.0 (later first)) at, c, spare_stays half.0 _ (same half.0 first) s)
+    stage_stays key edit way (Halved split) same truth = let (b, at, h, has) = truth in (b, locked_at_stays key way b (same way.node.0 has.own) at, h, has_locked_stays way.node.0 (Some split) same has)
+    stage_stays key edit way (Filled place stored logged split) same truth = let (b, at, f, has) = truth in (b, locked_at_stays key way b (same way.node.0 has.own) at, f, has_locked_stays way.node.0 split same has)
     stage_stays key edit way (Made place stored columns logged) same truth = let (b, at, f) = truth in (b, locked_at_stays key way b (same way.node.0 first) at, f)
     stage_stays key edit way (Taken place stored before) same truth = let (b, at, f) = truth in (b, locked_at_stays key way b (same way.node.0 first) at, f)
-    stage_stays key edit way (Stored number) same truth = locked_stays way.node.0 (same way.node.0 first) truth
-    stage_stays key edit way (Failed refusal) same truth = (locked_stays way.node.0 (same way.node.0 first) truth.0, truth.1)
+    stage_stays key edit way (Stored number split) same truth = has_locked_stays way.node.0 split same truth
+    stage_stays key edit way (Failed refusal split) same truth = (has_locked_stays way.node.0 split same truth.0, truth.1)
 
     -- the law of others' steps: where they leave what a call owns, what is true of it stays true
     pub stays : (work : Work) → ((number : ℕ) → Among number (held work).owns → IsSame a after w next number) → IsTrue C work begun moves past a w → IsTrue C work begun moves (arena_seen a ∷ past) after next
@@ -106,14 +116,24 @@ border_taken a w n number b named locked first = inl (subst (λ (x : Option Node
 border_taken a w n number b named locked (later i) = elim i [ ]
 
 module _ (C begun moves : ℕ) (past : List Arena) (a : ArenaView) (w : World) where
+  all_taken : (n : ℕ) (split : Option Split) → HasLocked a w n split → (number : ℕ) → Among number (owned n split) → IsTaken a w number
+  all_taken n split has number i = let k = has.locked number i in inl (subst (λ (x : Option Node). IsLocked x) (sym (node-from_border a.nodes number k.b k.named)) k.locked)
+
+  spare_taken : (half n number : ℕ) (u : BorderView) → IsSpare a w half u → (b : BorderView) → border_at a.nodes n ≡ Some b → b.version.locked ≡ true → Among number (half ∷ n ∷ []) → IsTaken a w number
+  spare_taken half n number u s b named locked first = inr (subst (λ (x : Option Node). IsSome x) (sym (node-from_border a.nodes half u s.named)) refl, s.unknown)
+  spare_taken half n number u s b named locked (later i) = border_taken a w n number b named locked i
+
   stage_taken : (key : List ℕ) (edit : Edit) (way : Way) (stage : Stage) → StageIsTrue C key edit way stage begun a w → (number : ℕ) → Among number (stage_held way.node.0 stage).owns → IsTaken a w number
   stage_taken key edit way Seeks truth number i = elim i [ ]
   stage_taken key edit way Locked truth number i = let (b, at) = truth in border_taken a w way.node.0 number b at.named at.locked i
-  stage_taken key edit way (Filled place stored logged) truth number i = let (b, at, f) = truth in border_taken a w way.node.0 number b at.named at.locked i
+  stage_taken key edit way (Spared half cut entries) truth number i = let (b, at, c, s, e) = truth in spare_taken half.0 way.node.0 number _ s b at.named at.locked i
+  stage_taken key edit way (HalfFilled half cut) truth number i = let (b, at, c, s) = truth in spare_taken half.0 way.node.0 number _ s b at.named at.locked i
+  stage_taken key edit way (Halved split) truth number i = let (b, at, h, has) = truth in all_taken way.node.0 (Some split) has number i
+  stage_taken key edit way (Filled place stored logged split) truth number i = let (b, at, f, has) = truth in all_taken way.node.0 split has number i
   stage_taken key edit way (Made place stored columns logged) truth number i = let (b, at, f) = truth in border_taken a w way.node.0 number b at.named at.locked i
   stage_taken key edit way (Taken place stored before) truth number i = let (b, at, f) = truth in border_taken a w way.node.0 number b at.named at.locked i
-  stage_taken key edit way (Stored commit) truth number i = border_taken a w way.node.0 number truth.b truth.named truth.locked i
-  stage_taken key edit way (Failed refusal) truth number i = border_taken a w way.node.0 number truth.0.b truth.0.named truth.0.locked i
+  stage_taken key edit way (Stored commit split) truth number i = all_taken way.node.0 split truth number i
+  stage_taken key edit way (Failed refusal split) truth number i = all_taken way.node.0 split truth.0 number i
 
   pub owned_taken : (work : Work) → IsTrue C work begun moves past a w → (number : ℕ) → Among number (held work).owns → IsTaken a w number
   owned_taken (GetWork get) truth number i = elim i [ ]

@@ -1,5 +1,5 @@
-use Rattle.mt_calls.proofs.WorkLemmas.{step_get, step_write, step_range}
-use Rattle.mt_calls.proofs.work.Work.step.Goals as goal
+use Rattle.mt_write.proofs.WorkLemmas.{step_get, step_write, step_range}
+use Rattle.mt_write.proofs.work.Work.step.Goals as goal
 
 pub returns-in-Get-clause-steps : goal.returns-in-Get-clause-steps
 returns-in-Get-clause-steps c = step_get c.args.columns c.args.tree.now c.args.tree.now c.args.log.now c.args.log.now c.args.self.now c.in-Get.get _ _ _ c.in-Get.is (c.step.ensures.steps c.args.columns c.args.log.now)

@@ -16,6 +16,7 @@ use Rattle.mt_slice.proofs.PlaceOn.{place_of-place_at}
 use Rattle.mt_slice.proofs.Slices.{bytes-drop}
 use Rattle.mt_commit.specs.Log.{LogView, newest, with_delta}
 use Rattle.mt_word.specs.Version.{VersionView}
+use Rattle.mt_word.specs.declared.permutation_word.TheConstants.{SLOTS}
 use Rattle.mt_border.specs.Border.{BorderView, with_lock, with_filled, with_hidden, with_shown, with_value, filled_version, first_held, row_at}
 use Rattle.mt_border.specs.Entry.{entry_of_row, entry_row, entry_class, content_class, content_of, content_row}
 use Rattle.mt_border.specs.Find.{found_in}
@@ -27,7 +28,12 @@ use Rattle.mt_border.specs.declared.slot_table.Slot.{Slot}
 use Rattle.mt_border.specs.declared.found.Found.TheVariants.{Absent, Row as RowFound}
 use Rattle.mt_border.proofs.BorderLemmas.{filled_deleted}
 use Rattle.mt_border.proofs.ShowLemmas.{IsBeforeRight, IsBetween, between_from_absent, filled_shown, filled_row, row_of_row}
-use Rattle.mt_arena.specs.Node.{border_at}
+use Rattle.std.specs.Option.{option_and_then}
+use Rattle.mt_arena.specs.Node.{node_at, border_at, border_of}
+use Rattle.mt_arena.specs.declared.node.Node.TheVariants.{Border}
+use Rattle.mt_chart.proofs.Basics.{same_number}
+use Rattle.mt_calls.proofs.SplitLemmas.{goes_occupied}
+use Rattle.mt_write.proofs.WorkLemmas.{locked_at_stays}
 use Rattle.mt_arena.specs.Arena.{ArenaView, with_border_changed}
 use Rattle.mt_chart.specs.Tree.{first, Arena, BorderNode, Has, Below, before_right}
 use Rattle.mt_chart.specs.Chart.{Chart, OnBorder, spot, Spot, at_level, on}
@@ -42,23 +48,24 @@ use Rattle.mt_tree.proofs.SeenLemmas.{seen-border}
 use Rattle.mt_calls.specs.declared.way.Way.{Way}
 use Rattle.mt_calls.specs.declared.way.Went.{Went}
 use Rattle.mt_calls.specs.declared.way.Went.TheVariants.{To, Here}
-use Rattle.mt_calls.specs.declared.writing.Edit.{Edit}
-use Rattle.mt_calls.specs.declared.writing.Edit.TheVariants.{Put as PutEdit, Remove as RemoveEdit}
-use Rattle.mt_calls.specs.declared.writing.Stage.{Stage}
-use Rattle.mt_calls.specs.declared.writing.Stage.TheVariants.{Seeks, Locked, Filled, Made, Taken, Stored, Failed}
+use Rattle.mt_write.specs.declared.writing.Edit.{Edit}
+use Rattle.mt_write.specs.declared.writing.Edit.TheVariants.{Put as PutEdit, Remove as RemoveEdit}
+use Rattle.mt_write.specs.declared.writing.Stage.{Stage}
+use Rattle.mt_write.specs.declared.writing.Stage.TheVariants.{Seeks, Locked, Spared, HalfFilled, Halved, Filled, Made, Taken, Stored, Failed}
+use Rattle.mt_write.specs.declared.writing.Split.{Split}
 use Rattle.mt_calls.specs.declared.progress.Progress.{Progress}
 use Rattle.mt_calls.specs.declared.progress.Progress.TheVariants.{Moved, Waits, Committed, Answered, Refused}
 use Rattle.mt_calls.specs.World.{World, IsWorld, RowsAreOfKeys, Goes}
 use Rattle.mt_calls.specs.Way.{rest_of, prefix_of, IsLayerOf, IsOnWay, IsAtPlace, GoesTo, Visits}
-use Rattle.mt_calls.specs.Step.{Held, Truth, Stepped, StepLaw, RowIs, IsQuiet, put_row, Commits, Changes, MayRefuse, IsRight}
-use Rattle.mt_calls.specs.Writing.{edit_request, written_answer, stage_held, IsLockedAt, IsLockedBorder, IsFilled, IsMade, IsFound, StageIsTrue, new_entry, Fills, Prepares, PreparesRemove, LacksRow, put_delta, remove_delta}
+use Rattle.mt_calls.specs.Step.{Held, Truth, Stepped, StepLaw, MayStep, RowIs, IsQuiet, put_row, Commits, Changes, MayRefuse, IsRight}
+use Rattle.mt_write.specs.Writing.{edit_request, written_answer, stage_held, IsLockedAt, IsLockedBorder, HasLocked, IsSpare, IsCutAt, IsHalf, IsAbsent, empty_half, upper_half, owned, SomeSets, Spares, IsFilled, IsMade, IsFound, StageIsTrue, new_entry, Fills, Prepares, PreparesRemove, LacksRow, put_delta, remove_delta}
 use Rattle.mt_calls.proofs.FrameLemmas.{goes_same, quiet_same}
 use Rattle.std.specs.Prelude.{IsSomeAnd, IsTrue}
 use Rattle.mt_calls.proofs.FoundLemmas.{some_at}
 use Rattle.mt_tree.proofs.RowLemmas.{stands_at, tells_row}
 use Rattle.mt_calls.proofs.WayLemmas.{starts}
 use Rattle.mt_calls.proofs.GetLemmas.{found_is_row}
-use Rattle.mt_calls.proofs.BorderLemmas.{now_named, keys_same, keys_changed, goes_border, unlocked_free, own_free, among_one}
+use Rattle.mt_calls.proofs.BorderLemmas.{now_named, others_named, keys_same, keys_changed, goes_border, unlocked_free, own_free, mine_free, among_one}
 
 -- no write is a get
 pub no_get : (key : List ℕ) (edit : Edit) → IsTrue (is_get (edit_request key edit)) → ⊥
@@ -209,6 +216,30 @@ next_slot : (slots : List Slot) (entry : Entry) → 0 < length slots → NextSlo
 next_slot [] entry some = absurd (omega arith)
 next_slot (s ∷ slots) entry some = record { slot = record s { entry = entry }; more = slots; is = refl; holds = refl }
 
+-- ---- what is locked
+alone : (a : ArenaView) (key : List ℕ) (way : Way) (b : BorderView) (w : World) → IsLockedAt a key way b w → HasLocked a w way.node.0 None
+alone a key way b w at = record {
+  locked = λ other i. subst (λ (m : ℕ). IsLockedBorder a w m) (sym (among_one other way.node.0 i)) (record { b = b; named = at.named; known = known_on (arena_seen a) w.chart way.node.0 (prefix_of key way) (border_seen b) at.stands.stands; locked = at.locked });
+  own = first;
+  two = tt;
+}
+
+pub other_locked : (a : ArenaView) (n : ℕ) (b : BorderView) (change : BorderView → BorderView) (named : border_at a.nodes n ≡ Some b) (w : World) (other : ℕ) → other ≢ n → IsLockedBorder a w other → IsLockedBorder (with_border_changed a n change) w other
+other_locked a n b change named w other differ k = record { b = k.b; named = ap (option_and_then border_of) (others_named a n b change named other differ) ∙ k.named; known = k.known; locked = k.locked }
+
+has_changed : (a : ArenaView) (n : ℕ) (b : BorderView) (change : BorderView → BorderView) (named : border_at a.nodes n ≡ Some b) (w : World) (split : Option Split) → (change b).version.locked ≡ true → HasLocked a w n split → HasLocked (with_border_changed a n change) w n split
+has_changed a n b change named w split locked has = record {
+  locked = λ other i. elim (same_number other n) [
+    | inl e ↦ subst (λ (m : ℕ). IsLockedBorder (with_border_changed a n change) w m) (sym e) (record { b = change b; named = now_named a n b change named; known = (has.locked n has.own).known; locked = locked })
+    | inr differ ↦ other_locked a n b change named w other differ (has.locked other i)
+  ];
+  own = has.own;
+  two = has.two;
+}
+
+vacant_border : (a : ArenaView) (n : ℕ) (b : BorderView) → node_at a.nodes n ≡ None → border_at a.nodes n ≡ Some b → ⊥
+vacant_border a n b vacant named = (let clash : ◌≡◌ {A = Option BorderView} None (Some b) = sym (ap (option_and_then border_of) vacant) ∙ named in cc)
+
 -- ---- ready
 module _ (C : ℕ) (a : ArenaView) (log : LogView) (key : List ℕ) (sets : List (ℕ × List ℕ)) (way : Way) where
   abbrev ReadyLaw : ArenaView → LogView → Stage → Type 0
@@ -223,7 +254,7 @@ module _ (C : ℕ) (a : ArenaView) (log : LogView) (key : List ℕ) (sets : List
       let row : Row = record { version = 0; columns = logged } in
       let sound : IsBorder b = subst IsBorder same f.sound in
       let whole : IsBorder (with_filled b entry) = subst (λ (x : BorderView). IsBorder (with_filled x entry)) same f.whole in
-      let room : length b.live < 15 = subst (λ (x : BorderView). length x.live < 15) same f.room in
+      let room : length b.live < SLOTS = subst (λ (x : BorderView). length x.live < SLOTS) same f.room in
       let absent : found_for rest b.live ≡ Absent place = subst (λ (x : BorderView). found_for rest x.live ≡ Absent place) same f.absent in
       let class : entry_class entry ≡ class_of (length rest) = class_of_content (class_of (length rest)) (drop 8 rest) row in
       let between : IsBetween _ place b.live = between_from_absent (slice_number rest) (class_of (length rest)) (drop 8 rest) b.live place sound.ordered absent in
@@ -250,34 +281,75 @@ module _ (C : ℕ) (a : ArenaView) (log : LogView) (key : List ℕ) (sets : List
         entry = next.holds;
       }
 
-  ready : (stage : Stage) (after : ArenaView) (left : LogView) → Prepares C key sets way a log stage after left → ReadyLaw after left stage
-  ready (Filled place stored logged) after left f = record {
+  ready_fill : (split : Option Split) (place : ℕ) (stored : List ℕ) (logged : List (List ℕ)) (after : ArenaView) (left : LogView) → Fills C key sets way a log place stored logged after left → (now begun moves : ℕ) (past : List Arena) (w : World) → IsWorld a now w → (b : BorderView) → IsLockedAt a key way b w → HasLocked a w way.node.0 split
+      → Stepped C now moves past a after log left w (PutRequest key sets) (record { owns = owned way.node.0 split; reserves = 0; committed = None }) Moved (stage_held way.node.0 (Filled place stored logged split)) (λ m next. StageIsTrue C key (PutEdit sets) way (Filled place stored logged split) begun after next)
+  ready_fill split place stored logged after left f now begun moves past w world b at has =
+      let same : f.b ≡ b = (let both : ◌≡◌ {A = Option BorderView} (Some f.b) (Some b) = sym f.named ∙ at.named in cc) in
+      let entry = new_entry key way logged in
+      let fill : BorderView → BorderView = λ (x : BorderView). with_filled x entry in
+      let slices = slice_of_place (rest_of key way) in
+      let low : b.low ≤ slice_number (rest_of key way) = subst (λ (s : ℕ). b.low ≤ s) slices at.stands.from_low in
+      let right = left_of_right (slice_number (rest_of key way)) b.right (subst (λ (s : ℕ). Below s (option_map right_seen b.right)) slices at.stands.to_right) in
+      let kept = f.keeps.keeps now w.twins w.chart world.index in
+      subst (λ (x : ArenaView). Stepped C now moves past a x log left w (PutRequest key sets) (record { owns = owned way.node.0 split; reserves = 0; committed = None }) Moved (stage_held way.node.0 (Filled place stored logged split)) (λ m next. StageIsTrue C key (PutEdit sets) way (Filled place stored logged split) begun x next)) (sym f.filled)
+      (record {
+        goes = goes_border a way.node.0 b fill at.named now w (owned way.node.0 split) (owned way.node.0 split) _ world (subst (λ (x : ArenaView). IsIndexAt x now w.twins w.chart) f.filled kept.index)
+            (subst (λ (x : ArenaView). RowsAreOfKeys x) f.filled (keys_same a after kept.content world.keys))
+            (mine_free a way.node.0 w (owned way.node.0 split) has.own) (λ other i. inl i) (λ other ne i. i) (λ locked. has.own) (
+              fill b,
+              locked_at-changed a key way b w fill at.named at.layer at.stands at.last refl refl refl (filled_deleted (first_held b.unused) b.version ∙ at.alive) (filled_locked (first_held b.unused) b.version ∙ at.locked),
+              filled_is b place stored logged after left f same at.alive low right,
+              has_changed a way.node.0 b fill at.named w split (filled_locked (first_held b.unused) b.version ∙ at.locked) has,
+            );
+        does = (record { content = subst (λ (x : ArenaView). SameContent (arena_seen a) (arena_seen x)) f.filled kept.content; trimmed = ap (λ (l : LogView). l.held_after) f.reserved; deltas = ap (λ (l : LogView). l.deltas) f.reserved }, refl);
+        reserved = let more = ap (λ (l : LogView). l.reserved) f.reserved in omega (arith, more);
+        feed = ap (λ (l : LogView). l.feed) f.reserved;
+        holders = ap (λ (l : LogView). l.holders) f.reserved;
+        may = λ get. absurd (let clash : false ≡ true = get in cc);
+      })
+
+  ready_fail : (split : Option Split) (refusal : Refusal) (after : ArenaView) (left : LogView) → MayRefuse (PutRequest key sets) refusal × (after ≡ a) × (left ≡ log) → (now begun moves : ℕ) (past : List Arena) (w : World) → IsWorld a now w → HasLocked a w way.node.0 split
+      → Stepped C now moves past a after log left w (PutRequest key sets) (record { owns = owned way.node.0 split; reserves = 0; committed = None }) Moved (stage_held way.node.0 (Failed refusal split)) (λ m next. StageIsTrue C key (PutEdit sets) way (Failed refusal split) begun after next)
+  ready_fail split refusal after left f now begun moves past w world has =
+      subst (λ (x : ArenaView). Stepped C now moves past a x log left w (PutRequest key sets) (record { owns = owned way.node.0 split; reserves = 0; committed = None }) Moved (stage_held way.node.0 (Failed refusal split)) (λ m next. StageIsTrue C key (PutEdit sets) way (Failed refusal split) begun x next)) (sym f.1)
+      (subst (λ (l : LogView). Stepped C now moves past a a log l w (PutRequest key sets) (record { owns = owned way.node.0 split; reserves = 0; committed = None }) Moved (stage_held way.node.0 (Failed refusal split)) (λ m next. StageIsTrue C key (PutEdit sets) way (Failed refusal split) begun a next)) (sym f.2)
+      (record {
+        goes = goes_same now a w _ (owned way.node.0 split) (owned way.node.0 split) refl world (has, f.0);
+        does = (quiet_same a log, refl);
+        reserved = refl;
+        feed = refl;
+        holders = refl;
+        may = λ get. absurd (let clash : false ≡ true = get in cc);
+      }))
+
+  ready : (stage : Stage) (after : ArenaView) (left : LogView) → Prepares C key sets way a log None stage after left → ReadyLaw after left stage
+  ready (Filled place stored logged split) after left (none, f) = subst (λ (s : Option Split). ReadyLaw after left (Filled place stored logged s)) (sym none) (record {
+    steps = λ now begun moves past w world before truth. let (b, at) = truth in ready_fill None place stored logged after left f now begun moves past w world b at (alone a key way b w at);
+  })
+  ready (Spared half cut entries) after left (none, f, same_log) = record {
     steps = λ now begun moves past w world before truth.
-        let (b, at) = truth in
-        let same : f.b ≡ b = (let both : ◌≡◌ {A = Option BorderView} (Some f.b) (Some b) = sym f.named ∙ at.named in cc) in
-        let entry = new_entry key way logged in
-        let fill : BorderView → BorderView = λ (x : BorderView). with_filled x entry in
-        let slices = slice_of_place (rest_of key way) in
-        let low : b.low ≤ slice_number (rest_of key way) = subst (λ (s : ℕ). b.low ≤ s) slices at.stands.from_low in
-        let right = left_of_right (slice_number (rest_of key way)) b.right (subst (λ (s : ℕ). Below s (option_map right_seen b.right)) slices at.stands.to_right) in
-        let kept = f.keeps.keeps now w.twins w.chart world.index in
-        subst (λ (x : ArenaView). Stepped C now moves past a x log left w (PutRequest key sets) (stage_held way.node.0 Locked) Moved (stage_held way.node.0 (Filled place stored logged)) (λ m next. StageIsTrue C key (PutEdit sets) way (Filled place stored logged) begun x next)) (sym f.filled)
+        let (b, was) = truth in
+        let same : f.b ≡ b = (let both : ◌≡◌ {A = Option BorderView} (Some f.b) (Some b) = sym f.named ∙ was.named in cc) in
+        let at : IsLockedAt a key way f.b w = subst (λ (x : BorderView). IsLockedAt a key way x w) (sym same) was in
+        let differ : way.node.0 ≢ half.0 = λ e. vacant_border a half.0 f.b f.vacant (ap (λ (m : ℕ). border_at a.nodes m) (sym e) ∙ at.named) in
+        let now_is : border_at after.nodes half.0 ≡ Some (empty_half f.b f.cut_at.middle) = ap (option_and_then border_of) f.updates.changed in
+        subst (λ (l : LogView). Stepped C now moves past a after log l w (PutRequest key sets) (stage_held way.node.0 Locked) Moved (stage_held way.node.0 (Spared half cut entries)) (λ m next. StageIsTrue C key (PutEdit sets) way (Spared half cut entries) begun after next)) (sym same_log)
         (record {
-          goes = goes_border a way.node.0 b fill at.named now w (way.node.0 ∷ []) (way.node.0 ∷ []) _ world (subst (λ (x : ArenaView). IsIndexAt x now w.twins w.chart) f.filled kept.index)
-              (subst (λ (x : ArenaView). RowsAreOfKeys x) f.filled (keys_same a after kept.content world.keys))
-              (own_free a way.node.0 w) (λ other i. inl i) (λ other ne i. i) (λ locked. first) (
-                fill b,
-                locked_at-changed a key way b w fill at.named at.layer at.stands at.last refl refl refl (filled_deleted (first_held b.unused) b.version ∙ at.alive) (filled_locked (first_held b.unused) b.version ∙ at.locked),
-                filled_is b place stored logged after left f same at.alive low right,
-              );
-          does = (record { content = subst (λ (x : ArenaView). SameContent (arena_seen a) (arena_seen x)) f.filled kept.content; trimmed = ap (λ (l : LogView). l.held_after) f.reserved; deltas = ap (λ (l : LogView). l.deltas) f.reserved }, refl);
-          reserved = let more = ap (λ (l : LogView). l.reserved) f.reserved in omega (arith, more);
-          feed = ap (λ (l : LogView). l.feed) f.reserved;
-          holders = ap (λ (l : LogView). l.holders) f.reserved;
+          goes = goes_occupied now a after w half.0 (Border (empty_half f.b f.cut_at.middle)) (way.node.0 ∷ []) _ f.vacant f.updates f.unknown f.keeps world (
+            f.b,
+            locked_at_stays a after w w key way f.b (record { node = f.updates.others way.node.0 differ; spot = refl }) at,
+            f.cut_at,
+            record { named = now_is; unknown = f.unknown.unknown now w.twins w.chart world.index; locked = refl },
+            f.copied,
+          );
+          does = (record { content = (f.keeps.keeps now w.twins w.chart world.index).content; trimmed = refl; deltas = refl }, refl);
+          reserved = refl;
+          feed = refl;
+          holders = refl;
           may = λ get. absurd (let clash : false ≡ true = get in cc);
         });
   }
-  ready (Made place stored columns logged) after left f = record {
+  ready (Made place stored columns logged) after left (none, f) = record {
     steps = λ now begun moves past w world before truth.
         let (b, at) = truth in
         let same : f.b ≡ b = (let both : ◌≡◌ {A = Option BorderView} (Some f.b) (Some b) = sym f.named ∙ at.named in cc) in
@@ -291,31 +363,48 @@ module _ (C : ℕ) (a : ArenaView) (log : LogView) (key : List ℕ) (sets : List
           may = λ get. absurd (let clash : false ≡ true = get in cc);
         });
   }
-  ready (Failed refusal) after left f = record {
-    steps = λ now begun moves past w world before truth.
-        let (b, at) = truth in
-        subst (λ (x : ArenaView). Stepped C now moves past a x log left w (PutRequest key sets) (stage_held way.node.0 Locked) Moved (stage_held way.node.0 (Failed refusal)) (λ m next. StageIsTrue C key (PutEdit sets) way (Failed refusal) begun x next)) (sym f.1)
-        (subst (λ (l : LogView). Stepped C now moves past a a log l w (PutRequest key sets) (stage_held way.node.0 Locked) Moved (stage_held way.node.0 (Failed refusal)) (λ m next. StageIsTrue C key (PutEdit sets) way (Failed refusal) begun a next)) (sym f.2)
-        (record {
-          goes = goes_same now a w _ (way.node.0 ∷ []) (way.node.0 ∷ []) refl world (record { b = b; named = at.named; known = known_on (arena_seen a) w.chart way.node.0 (prefix_of key way) (border_seen b) at.stands.stands; locked = at.locked }, f.0);
-          does = (quiet_same a log, refl);
-          reserved = refl;
-          feed = refl;
-          holders = refl;
-          may = λ get. absurd (let clash : false ≡ true = get in cc);
-        }));
-  }
+  ready (Failed refusal split) after left (none, may, same, same_log) = subst (λ (s : Option Split). ReadyLaw after left (Failed refusal s)) (sym none) (record {
+    steps = λ now begun moves past w world before truth. let (b, at) = truth in ready_fail None refusal after left (may, same, same_log) now begun moves past w world (alone a key way b w at);
+  })
+  ready (HalfFilled half cut) after left f = absurd f
+  ready (Halved split) after left f = absurd f
   ready Seeks after left f = absurd f
   ready Locked after left f = absurd f
   ready (Taken place stored before) after left f = absurd f
-  ready (Stored number) after left f = absurd f
+  ready (Stored number split) after left f = absurd f
 
-  pub readies : (stage old : Stage) (edit : Edit) (after : ArenaView) (left : LogView) → old ≡ Locked → edit ≡ PutEdit sets → Prepares C key sets way a log stage after left
+  pub readies : (stage old : Stage) (edit : Edit) (after : ArenaView) (left : LogView) → old ≡ Locked → edit ≡ PutEdit sets → Prepares C key sets way a log None stage after left
       → StepLaw C a after log left (edit_request key edit) (stage_held way.node.0 old) Moved (stage_held way.node.0 stage) (λ begun moves past x w. StageIsTrue C key edit way old begun x w) (λ begun moves past x w. StageIsTrue C key edit way stage begun x w)
   readies stage old edit after left is is_put p =
       subst (λ (e : Edit). StepLaw C a after log left (edit_request key e) (stage_held way.node.0 old) Moved (stage_held way.node.0 stage) (λ begun moves past x w. StageIsTrue C key e way old begun x w) (λ begun moves past x w. StageIsTrue C key e way stage begun x w)) (sym is_put)
       (subst (λ (s : Stage). StepLaw C a after log left (PutRequest key sets) (stage_held way.node.0 s) Moved (stage_held way.node.0 stage) (λ begun moves past x w. StageIsTrue C key (PutEdit sets) way s begun x w) (λ begun moves past x w. StageIsTrue C key (PutEdit sets) way stage begun x w)) (sym is)
       (ready stage after left p))
+
+-- ---- ready in a half
+one_or_none : {x : Split} → ◌≡◌ {A = Option Split} (Some x) None → ⊥
+one_or_none e = cc
+
+half_ready : (C : ℕ) (a : ArenaView) (log : LogView) (key : List ℕ) (sets : List (ℕ × List ℕ)) (way : Way) (split : Split) (stage : Stage) (after : ArenaView) (left : LogView) → Prepares C key sets way a log (Some split) stage after left
+    → StepLaw C a after log left (PutRequest key sets) (stage_held way.node.0 (Halved split)) Moved (stage_held way.node.0 stage) (λ begun moves past x w. StageIsTrue C key (PutEdit sets) way (Halved split) begun x w) (λ begun moves past x w. StageIsTrue C key (PutEdit sets) way stage begun x w)
+half_ready C a log key sets way split (Filled place stored logged halves) after left (is, f) = subst (λ (s : Option Split). StepLaw C a after log left (PutRequest key sets) (stage_held way.node.0 (Halved split)) Moved (stage_held way.node.0 (Filled place stored logged s)) (λ begun moves past x w. StageIsTrue C key (PutEdit sets) way (Halved split) begun x w) (λ begun moves past x w. StageIsTrue C key (PutEdit sets) way (Filled place stored logged s) begun x w)) (sym is) (record {
+  steps = λ now begun moves past w world before truth. let (b, at, h, has) = truth in ready_fill C a log key sets way (Some split) place stored logged after left f now begun moves past w world b at has;
+})
+half_ready C a log key sets way split (Failed refusal halves) after left (is, may, same, same_log) = subst (λ (s : Option Split). StepLaw C a after log left (PutRequest key sets) (stage_held way.node.0 (Halved split)) Moved (stage_held way.node.0 (Failed refusal s)) (λ begun moves past x w. StageIsTrue C key (PutEdit sets) way (Halved split) begun x w) (λ begun moves past x w. StageIsTrue C key (PutEdit sets) way (Failed refusal s) begun x w)) (sym is) (record {
+  steps = λ now begun moves past w world before truth. let (b, at, h, has) = truth in ready_fail C a log key sets way (Some split) refusal after left (may, same, same_log) now begun moves past w world has;
+})
+half_ready C a log key sets way split Seeks after left f = absurd f
+half_ready C a log key sets way split Locked after left f = absurd f
+half_ready C a log key sets way split (Spared half cut entries) after left (is, f, same_log) = absurd (one_or_none is)
+half_ready C a log key sets way split (HalfFilled half cut) after left f = absurd f
+half_ready C a log key sets way split (Halved s) after left f = absurd f
+half_ready C a log key sets way split (Made place stored columns logged) after left (is, f) = absurd (one_or_none is)
+half_ready C a log key sets way split (Taken place stored before) after left f = absurd f
+half_ready C a log key sets way split (Stored number s) after left f = absurd f
+
+pub half_readies : (C : ℕ) (a : ArenaView) (log : LogView) (key : List ℕ) (edit : Edit) (way : Way) (split : Split) (stage : Stage) (after : ArenaView) (left : LogView) → SomeSets edit (λ sets. Prepares C key sets way a log (Some split) stage after left)
+    → StepLaw C a after log left (edit_request key edit) (stage_held way.node.0 (Halved split)) Moved (stage_held way.node.0 stage) (λ begun moves past x w. StageIsTrue C key edit way (Halved split) begun x w) (λ begun moves past x w. StageIsTrue C key edit way stage begun x w)
+half_readies C a log key (PutEdit sets) way split stage after left p = half_ready C a log key sets way split stage after left p
+half_readies C a log key RemoveEdit way split stage after left p = absurd p
 
 -- ---- the commit
 module _ (C : ℕ) (a : ArenaView) (log : LogView) (key : List ℕ) (edit : Edit) (way : Way) where
@@ -335,8 +424,8 @@ module _ (C : ℕ) (a : ArenaView) (log : LogView) (key : List ℕ) (edit : Edit
       found_is_row a key way now w rest (found_for rest b.live) b refl at.named refl (tells_row a way.node.0 rest b at.named sound (bytes-drop (8 * way.layer) key bytes)) world
       (record { layer = at.layer; here = record { border = b; named = at.named; stands = at.stands }; alive = at.alive; last = at.last })
 
-  abbrev CommitLaw : ArenaView → LogView → ℕ → Stage → Type 0
-  CommitLaw after left number stage = StepLaw C a after log left (edit_request key edit) (stage_held way.node.0 stage) (Committed number) (stage_held way.node.0 (Stored number)) (λ begun moves past x w. StageIsTrue C key edit way stage begun x w) (λ begun moves past x w. StageIsTrue C key edit way (Stored number) begun x w)
+  abbrev CommitLaw : ArenaView → LogView → ℕ → Option Split → Stage → Type 0
+  CommitLaw after left number split stage = StepLaw C a after log left (edit_request key edit) (stage_held way.node.0 stage) (Committed number) (stage_held way.node.0 (Stored number split)) (λ begun moves past x w. StageIsTrue C key edit way stage begun x w) (λ begun moves past x w. StageIsTrue C key edit way (Stored number split) begun x w)
 
   -- another row at the key, or none, in place of what stood there
   changes : (after : ArenaView) (before then : Option Row) (place : Place) (number : ℕ) (left : LogView) → AreBytes key → length key ≤ MAX_KEY_BYTES → IsLayerOf key way → RowIs a key before → place ≡ place_of rest
@@ -387,11 +476,11 @@ module _ (C : ℕ) (a : ArenaView) (log : LogView) (key : List ℕ) (edit : Edit
     (λ either. (adds other shown).1 (elim either [ inl here ↦ inl here | inr there ↦ inr there.0 ])),
   )
 
-  pub shows : (place : ℕ) (stored : List ℕ) (logged : List (List ℕ)) (number : ℕ) (after : ArenaView) (left : LogView) → number ≡ newest log + 1 → after ≡ with_border_changed a way.node.0 (λ b. with_shown b place (newest log + 1)) → ShowsNext a after way.node.0 (newest log + 1)
-      → left ≡ with_delta log (put_delta (newest log + 1) stored None logged) → 1 ≤ log.reserved → CommitLaw after left number (Filled place stored logged)
-  shows place stored logged number after left next is shown appended room = record {
+  pub shows : (split : Option Split) (place : ℕ) (stored : List ℕ) (logged : List (List ℕ)) (number : ℕ) (after : ArenaView) (left : LogView) → number ≡ newest log + 1 → after ≡ with_border_changed a way.node.0 (λ b. with_shown b place (newest log + 1)) → ShowsNext a after way.node.0 (newest log + 1)
+      → left ≡ with_delta log (put_delta (newest log + 1) stored None logged) → 1 ≤ log.reserved → CommitLaw after left number split (Filled place stored logged split)
+  shows split place stored logged number after left next is shown appended room = record {
     steps = λ now begun moves past w world before truth.
-        let (b, at, f) = truth in
+        let (b, at, f, has) = truth in
         let commit = newest log + 1 in
         let row : Row = record { version = 0; columns = logged } in
         let show : BorderView → BorderView = λ (x : BorderView). with_shown x place commit in
@@ -402,7 +491,6 @@ module _ (C : ℕ) (a : ArenaView) (log : LogView) (key : List ℕ) (edit : Edit
         let nothing_there : (r : Row) → Has (arena_seen a) (under (prefix_of key way) (entry_place f.slot.entry)) r → ⊥ =
         λ r has. no_row r ((stood r).0 (subst (λ (p : Place). Has (arena_seen a) p r) (key_place at.layer (entry_place f.slot.entry) place_is) has)) in
         let row_is : record { version = commit; columns = logged } ≡ put_row C number f.sets None = ap (λ (n : ℕ). record { version = n; columns = logged }) (sym next) ∙ ap (λ (c : List (List ℕ)). record { version = number; columns = c }) f.columns in
-        let named = subst (λ (x : ArenaView). border_at x.nodes way.node.0 ≡ Some (show b)) (sym is) (now_named a way.node.0 b show at.named) in
         let done : Changes a after log left key None (Some (put_row C number f.sets None)) number =
         changes after None (Some (put_row C number f.sets None)) (entry_place f.slot.entry) number left f.bytes f.fits at.layer stood place_is
         (subst (λ (r : Row). (other : Place) (shown : Row) → Has (arena_seen after) other shown ↔ (((other ≡ under (prefix_of key way) (entry_place f.slot.entry)) × (Some r ≡ Some shown)) ⊎ (Has (arena_seen a) other shown × (other ≢ under (prefix_of key way) (entry_place f.slot.entry))))) row_is
@@ -412,10 +500,10 @@ module _ (C : ℕ) (a : ArenaView) (log : LogView) (key : List ℕ) (edit : Edit
         (appended ∙ (ap (λ (n : ℕ). with_delta log (put_delta n stored None logged)) (sym next) ∙ (ap (λ (k : List ℕ). with_delta log (put_delta number k None logged)) f.stored_is
         ∙ ap (λ (c : List (List ℕ)). with_delta log (put_delta number key None c)) f.columns))) in
         record {
-          goes = subst (λ (x : ArenaView). Goes now a x w (way.node.0 ∷ []) (way.node.0 ∷ []) (λ next. StageIsTrue C key edit way (Stored number) begun after next)) (sym is)
-              (goes_border a way.node.0 b show at.named now w (way.node.0 ∷ []) (way.node.0 ∷ []) _ world (subst (λ (x : ArenaView). IsIndexAt x now w.twins w.chart) is adds.0)
-              (subst (λ (x : ArenaView). RowsAreOfKeys x) is (keys_changed a after log left key None (Some (put_row C number f.sets None)) number done world.keys)) (own_free a way.node.0 w) (λ other i. inl i) (λ other ne i. i) (λ locked. first)
-              (record { b = show b; named = named; known = known_on (arena_seen a) w.chart way.node.0 (prefix_of key way) (border_seen b) at.stands.stands; locked = at.locked }));
+          goes = subst (λ (x : ArenaView). Goes now a x w (owned way.node.0 split) (owned way.node.0 split) (λ next. StageIsTrue C key edit way (Stored number split) begun after next)) (sym is)
+              (goes_border a way.node.0 b show at.named now w (owned way.node.0 split) (owned way.node.0 split) _ world (subst (λ (x : ArenaView). IsIndexAt x now w.twins w.chart) is adds.0)
+              (subst (λ (x : ArenaView). RowsAreOfKeys x) is (keys_changed a after log left key None (Some (put_row C number f.sets None)) number done world.keys)) (mine_free a way.node.0 w (owned way.node.0 split) has.own) (λ other i. inl i) (λ other ne i. i) (λ locked. has.own)
+              (subst (λ (x : ArenaView). HasLocked x w way.node.0 split) (sym is) (has_changed a way.node.0 b show at.named w split at.locked has)));
           does = (
             subst (λ (e : Edit). Commits C a after log left (edit_request key e) number) (sym f.is_put) (
               None,
@@ -436,7 +524,7 @@ module _ (C : ℕ) (a : ArenaView) (log : LogView) (key : List ℕ) (edit : Edit
 
   pub writes : (place : ℕ) (stored : List ℕ) (columns logged : List (List ℕ)) (number : ℕ) (after : ArenaView) (left : LogView) → number ≡ newest log + 1
       → after ≡ with_border_changed a way.node.0 (λ b. with_value b place (record { version = newest log + 1; columns = columns })) → SetsRowAt a after way.node.0 place (record { version = newest log + 1; columns = columns })
-      → IsSomeAnd (border_at a.nodes way.node.0) (λ b. left ≡ with_delta log (put_delta (newest log + 1) stored (row_at place b.live) logged)) → 1 ≤ log.reserved → CommitLaw after left number (Made place stored columns logged)
+      → IsSomeAnd (border_at a.nodes way.node.0) (λ b. left ≡ with_delta log (put_delta (newest log + 1) stored (row_at place b.live) logged)) → 1 ≤ log.reserved → CommitLaw after left number None (Made place stored columns logged)
   writes place stored columns logged number after left next is written logs room = record {
     steps = λ now begun moves past w world before truth.
         let (b, at, f) = truth in
@@ -448,7 +536,6 @@ module _ (C : ℕ) (a : ArenaView) (log : LogView) (key : List ℕ) (edit : Edit
         let appended : left ≡ with_delta log (put_delta commit stored (row_at place b.live) logged) = some_at _ (border_at a.nodes way.node.0) b logs at.named in
         let stood : RowIs a key (row_at place b.live) = subst (λ (r : Option Row). RowIs a key r) (ap (row_found b.live) f.there) (stood_is b w now f.bytes f.sound world at) in
         let row_is : row ≡ put_row C number f.sets (row_at place b.live) = ap (λ (n : ℕ). record { version = n; columns = columns }) (sym next) ∙ ap (λ (c : List (List ℕ)). record { version = number; columns = c }) f.made in
-        let named = subst (λ (x : ArenaView). border_at x.nodes way.node.0 ≡ Some (write b)) (sym is) (now_named a way.node.0 b write at.named) in
         let done : Changes a after log left key (row_at place b.live) (Some (put_row C number f.sets (row_at place b.live))) number =
         changes after (row_at place b.live) (Some (put_row C number f.sets (row_at place b.live))) (entry_place e.entry) number left f.bytes f.fits at.layer stood e.of_rest
         (subst (λ (r : Row). (other : Place) (shown : Row) → Has (arena_seen after) other shown ↔ (((other ≡ under (prefix_of key way) (entry_place e.entry)) × (Some r ≡ Some shown)) ⊎ (Has (arena_seen a) other shown × (other ≢ under (prefix_of key way) (entry_place e.entry))))) row_is
@@ -457,10 +544,10 @@ module _ (C : ℕ) (a : ArenaView) (log : LogView) (key : List ℕ) (edit : Edit
         (appended ∙ (ap (λ (n : ℕ). with_delta log (put_delta n stored (row_at place b.live) logged)) (sym next) ∙ (ap (λ (k : List ℕ). with_delta log (put_delta number k (row_at place b.live) logged)) f.stored_is
         ∙ ap (λ (c : List (List ℕ)). with_delta log (put_delta number key (row_at place b.live) c)) (f.copied ∙ f.made)))) in
         record {
-          goes = subst (λ (x : ArenaView). Goes now a x w (way.node.0 ∷ []) (way.node.0 ∷ []) (λ next. StageIsTrue C key edit way (Stored number) begun after next)) (sym is)
+          goes = subst (λ (x : ArenaView). Goes now a x w (way.node.0 ∷ []) (way.node.0 ∷ []) (λ next. StageIsTrue C key edit way (Stored number None) begun after next)) (sym is)
               (goes_border a way.node.0 b write at.named now w (way.node.0 ∷ []) (way.node.0 ∷ []) _ world (subst (λ (x : ArenaView). IsIndexAt x now w.twins w.chart) is replaces.0)
               (subst (λ (x : ArenaView). RowsAreOfKeys x) is (keys_changed a after log left key (row_at place b.live) (Some (put_row C number f.sets (row_at place b.live))) number done world.keys)) (own_free a way.node.0 w) (λ other i. inl i) (λ other ne i. i) (λ locked. first)
-              (record { b = write b; named = named; known = known_on (arena_seen a) w.chart way.node.0 (prefix_of key way) (border_seen b) at.stands.stands; locked = at.locked }));
+              (subst (λ (x : ArenaView). HasLocked x w way.node.0 None) (sym is) (has_changed a way.node.0 b write at.named w None at.locked (alone a key way b w at))));
           does = (
             subst (λ (e : Edit). Commits C a after log left (edit_request key e) number) (sym f.is_put) (
               row_at place b.live,
@@ -478,7 +565,7 @@ module _ (C : ℕ) (a : ArenaView) (log : LogView) (key : List ℕ) (edit : Edit
 
   pub hides : (place : ℕ) (stored : List ℕ) (before : Row) (number : ℕ) (after : ArenaView) (left : LogView) → number ≡ newest log + 1
       → after ≡ with_border_changed a way.node.0 (λ b. with_hidden b place) → HidesRowAt a after way.node.0 place
-      → left ≡ with_delta log (remove_delta (newest log + 1) stored before) → 1 ≤ log.reserved → CommitLaw after left number (Taken place stored before)
+      → left ≡ with_delta log (remove_delta (newest log + 1) stored before) → 1 ≤ log.reserved → CommitLaw after left number None (Taken place stored before)
   hides place stored before number after left next is hidden appended room = record {
     steps = λ now begun moves past w world early truth.
         let (b, at, f) = truth in
@@ -486,17 +573,16 @@ module _ (C : ℕ) (a : ArenaView) (log : LogView) (key : List ℕ) (edit : Edit
         let e = stands_at b f.sound rest (RowFound place) f.there in
         let removes = (hidden.hides b e.entry at.named e.stands).removes now w.twins w.chart (prefix_of key way) world.index (on_in b w at) in
         let stood : RowIs a key (Some before) = subst (λ (r : Option Row). RowIs a key r) (ap (row_found b.live) f.there ∙ f.copied) (stood_is b w now f.bytes f.sound world at) in
-        let named = subst (λ (x : ArenaView). border_at x.nodes way.node.0 ≡ Some (hide b)) (sym is) (now_named a way.node.0 b hide at.named) in
         let done : Changes a after log left key (Some before) None number =
         changes after (Some before) None (entry_place e.entry) number left f.bytes f.fits at.layer stood e.of_rest
         (removed_content after (under (prefix_of key way) (entry_place e.entry)) removes.1)
         next
         (appended ∙ (ap (λ (n : ℕ). with_delta log (remove_delta n stored before)) (sym next) ∙ ap (λ (k : List ℕ). with_delta log (remove_delta number k before)) f.stored_is)) in
         record {
-          goes = subst (λ (x : ArenaView). Goes now a x w (way.node.0 ∷ []) (way.node.0 ∷ []) (λ next. StageIsTrue C key edit way (Stored number) begun after next)) (sym is)
+          goes = subst (λ (x : ArenaView). Goes now a x w (way.node.0 ∷ []) (way.node.0 ∷ []) (λ next. StageIsTrue C key edit way (Stored number None) begun after next)) (sym is)
               (goes_border a way.node.0 b hide at.named now w (way.node.0 ∷ []) (way.node.0 ∷ []) _ world (subst (λ (x : ArenaView). IsIndexAt x now w.twins w.chart) is removes.0)
               (subst (λ (x : ArenaView). RowsAreOfKeys x) is (keys_changed a after log left key (Some before) None number done world.keys)) (own_free a way.node.0 w) (λ other i. inl i) (λ other ne i. i) (λ locked. first)
-              (record { b = hide b; named = named; known = known_on (arena_seen a) w.chart way.node.0 (prefix_of key way) (border_seen b) at.stands.stands; locked = at.locked }));
+              (subst (λ (x : ArenaView). HasLocked x w way.node.0 None) (sym is) (has_changed a way.node.0 b hide at.named w None at.locked (alone a key way b w at))));
           does = (
             subst (λ (x : Edit). Commits C a after log left (edit_request key x) number) (sym f.is_remove) (
               before,
@@ -534,14 +620,15 @@ module _ (C : ℕ) (a : ArenaView) (log : LogView) (key : List ℕ) (edit : Edit
           may = λ get. absurd (no_get key edit get);
         };
   }
-  take (Failed refusal) left is_remove f =
-      subst (λ (l : LogView). StepLaw C a a log l (edit_request key edit) (stage_held way.node.0 Locked) Moved (stage_held way.node.0 (Failed refusal)) (λ begun moves past x w. StageIsTrue C key edit way Locked begun x w) (λ begun moves past x w. StageIsTrue C key edit way (Failed refusal) begun x w)) (sym f.1) (record {
+  take (Failed refusal split) left is_remove (none, may, same_log) =
+      subst (λ (s : Option Split). StepLaw C a a log left (edit_request key edit) (stage_held way.node.0 Locked) Moved (stage_held way.node.0 (Failed refusal s)) (λ begun moves past x w. StageIsTrue C key edit way Locked begun x w) (λ begun moves past x w. StageIsTrue C key edit way (Failed refusal s) begun x w)) (sym none)
+      (subst (λ (l : LogView). StepLaw C a a log l (edit_request key edit) (stage_held way.node.0 Locked) Moved (stage_held way.node.0 (Failed refusal None)) (λ begun moves past x w. StageIsTrue C key edit way Locked begun x w) (λ begun moves past x w. StageIsTrue C key edit way (Failed refusal None) begun x w)) (sym same_log) (record {
         steps = λ now begun moves past w world before truth.
             let (b, at) = truth in
             record {
               goes = goes_same now a w _ (way.node.0 ∷ []) (way.node.0 ∷ []) refl world (
-                record { b = b; named = at.named; known = known_on (arena_seen a) w.chart way.node.0 (prefix_of key way) (border_seen b) at.stands.stands; locked = at.locked },
-                subst (λ (e : Edit). MayRefuse (edit_request key e) refusal) (sym is_remove) f.0,
+                alone a key way b w at,
+                subst (λ (e : Edit). MayRefuse (edit_request key e) refusal) (sym is_remove) may,
               );
               does = (quiet_same a log, refl);
               reserved = refl;
@@ -549,12 +636,15 @@ module _ (C : ℕ) (a : ArenaView) (log : LogView) (key : List ℕ) (edit : Edit
               holders = refl;
               may = λ get. absurd (no_get key edit get);
             };
-      })
+      }))
   take Seeks left is_remove f = absurd f
   take Locked left is_remove f = absurd f
-  take (Filled place stored logged) left is_remove f = absurd f
+  take (Spared half cut entries) left is_remove f = absurd f
+  take (HalfFilled half cut) left is_remove f = absurd f
+  take (Halved split) left is_remove f = absurd f
+  take (Filled place stored logged split) left is_remove f = absurd f
   take (Made place stored columns logged) left is_remove f = absurd f
-  take (Stored number) left is_remove f = absurd f
+  take (Stored number split) left is_remove f = absurd f
 
   pub takes : (stage old : Stage) (left : LogView) → old ≡ Locked → edit ≡ RemoveEdit → PreparesRemove key way a log (Some stage) left
       → StepLaw C a a log left (edit_request key edit) (stage_held way.node.0 old) Moved (stage_held way.node.0 stage) (λ begun moves past x w. StageIsTrue C key edit way old begun x w) (λ begun moves past x w. StageIsTrue C key edit way stage begun x w)
@@ -574,10 +664,10 @@ module _ (C : ℕ) (a : ArenaView) (log : LogView) (key : List ℕ) (edit : Edit
         record { content = kept.content; trimmed = refl; deltas = refl },
       )
 
-  pub answers : (number : ℕ) (answer : Answer) → answer ≡ written_answer edit number → (then : Held) (Then : Truth) (after : ArenaView) → after ≡ with_border_changed a way.node.0 unlock → KeepsTree a after → EndLaw after (Answered answer) then Then (Stored number)
+  pub answers : (number : ℕ) (answer : Answer) → answer ≡ written_answer edit number → (then : Held) (Then : Truth) (after : ArenaView) → after ≡ with_border_changed a way.node.0 unlock → KeepsTree a after → EndLaw after (Answered answer) then Then (Stored number None)
   answers number answer answer_is then Then after is keeps = record {
     steps = λ now begun moves past w world before truth.
-        let (goes, quiet) = ends then None now w after is keeps world truth in
+        let (goes, quiet) = ends then None now w after is keeps world (truth.locked way.node.0 first) in
         record { goes = goes; does = (quiet, subst (λ (x : Answer). IsRight past a (edit_request key edit) (Some number) x) (sym answer_is) (answer_right past a key edit number)); reserved = refl; feed = refl; holders = refl; may = tt };
   }
 
@@ -601,10 +691,10 @@ module _ (C : ℕ) (a : ArenaView) (log : LogView) (key : List ℕ) (edit : Edit
         };
   })
 
-  pub refuses : (refusal : Refusal) (then : Held) (Then : Truth) (after : ArenaView) → after ≡ with_border_changed a way.node.0 unlock → KeepsTree a after → EndLaw after (Refused refusal) then Then (Failed refusal)
+  pub refuses : (refusal : Refusal) (then : Held) (Then : Truth) (after : ArenaView) → after ≡ with_border_changed a way.node.0 unlock → KeepsTree a after → EndLaw after (Refused refusal) then Then (Failed refusal None)
   refuses refusal then Then after is keeps = record {
     steps = λ now begun moves past w world before truth.
-        let (goes, quiet) = ends then None now w after is keeps world truth.0 in
+        let (goes, quiet) = ends then None now w after is keeps world (truth.0.locked way.node.0 first) in
         record { goes = goes; does = (quiet, refl, truth.1); reserved = refl; feed = refl; holders = refl; may = tt };
   }
 
@@ -624,3 +714,8 @@ at_stage C a after log left key edit way p then Then stage old is law =
 -- the room that a stage has reserved is there
 pub room_at : (number : ℕ) (log : LogView) (stage old : Stage) → old ≡ stage → (stage_held number old).reserves ≤ log.reserved → (stage_held number stage).reserves ≤ log.reserved
 room_at number log stage old is room = subst (λ (s : Stage). (stage_held number s).reserves ≤ log.reserved) is room
+
+-- what a step asks at one stage it asks at the stage that is the same
+pub may_at : (C : ℕ) (a : ArenaView) (log : LogView) (key : List ℕ) (edit : Edit) (way : Way) (stage old : Stage) → old ≡ stage
+    → MayStep a log (stage_held way.node.0 old) (λ begun moves past x w. StageIsTrue C key edit way old begun x w) → MayStep a log (stage_held way.node.0 stage) (λ begun moves past x w. StageIsTrue C key edit way stage begun x w)
+may_at C a log key edit way stage old is may = subst (λ (s : Stage). MayStep a log (stage_held way.node.0 s) (λ begun moves past x w. StageIsTrue C key edit way s begun x w)) is may

@@ -1,14 +1,14 @@
 use Rattle.std.proofs.Common.{◌∙◌, sym, subst}
-use Rattle.mt_calls.specs.declared.writing.Stage.{Stage}
-use Rattle.mt_calls.specs.declared.writing.Stage.TheVariants.{Locked}
+use Rattle.mt_write.specs.declared.writing.Stage.{Stage}
+use Rattle.mt_write.specs.declared.writing.Stage.TheVariants.{Locked}
 use Rattle.mt_calls.specs.declared.progress.Progress.TheVariants.{Moved}
 use Rattle.mt_arena.specs.Arena.{ArenaView}
 use Rattle.mt_tree.specs.Keeping.{KeepsTree}
 use Rattle.mt_calls.specs.Step.{StepLaw}
-use Rattle.mt_calls.specs.Writing.{StageIsTrue, write_request, write_held, stage_held, WriteIsTrue}
+use Rattle.mt_write.specs.Writing.{StageIsTrue, write_request, write_held, stage_held, WriteIsTrue}
 use Rattle.mt_calls.proofs.GetLemmas.{may_go}
-use Rattle.mt_calls.proofs.WriteLemmas.{seek_again, seek_moves, seek_waits, seek_locks, has_border_here}
-use Rattle.mt_calls.proofs.writing.Write.seek.Goals as goal
+use Rattle.mt_write.proofs.WriteLemmas.{seek_again, seek_moves, seek_waits, seek_locks, has_border_here}
+use Rattle.mt_write.proofs.writing.Write.seek.Goals as goal
 
 pub visit-requires : goal.visit-requires
 visit-requires c =

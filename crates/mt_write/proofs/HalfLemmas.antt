@@ -1,0 +1,304 @@
+-- The steps of a split in a write: the half is filled, it is linked, and once the write is done the left half is unlocked.
+use Rattle.std.proofs.Common.{ℕ, ◌≡◌, ◌≢◌, ◌≤◌, ◌<◌, ◌⊎◌, inl, inr, List, [], ◌∷◌, length, take, drop, Option, Some, None, IsSome, true, false, refl, sym, ap, subst, ◌∙◌, arith}
+use Rattle.std.specs.Prelude.{IsSomeAnd}
+use Rattle.std.specs.Option.{option_map, option_and_then}
+use Rattle.std.proofs.lemmas.List.{length-take-le, length-drop}
+use Rattle.std.proofs.lemmas.List.Elements.{All-take, All-drop}
+use Rattle.mt_slice.specs.Place.{place_of, first_slice, slice_number}
+use Rattle.mt_slice.specs.Classes.{class_of}
+use Rattle.mt_commit.specs.Log.{LogView}
+use Rattle.mt_types.specs.declared.numbers.NodeNo.{NodeNo}
+use Rattle.mt_types.specs.declared.refusal.Refusal.{Refusal}
+use Rattle.mt_border.specs.Border.{BorderView, with_entries, with_split, with_lock}
+use Rattle.mt_border.specs.Entry.{entry_rank, rank_at}
+use Rattle.mt_border.specs.declared.entry.Entry.{Entry}
+use Rattle.mt_border.specs.declared.entry.RightLink.{RightLink}
+use Rattle.mt_border.proofs.SplitLemmas.{cut_upper, cut_above_low, cut_above_kept}
+use Rattle.mt_arena.specs.Node.{border_at, border_of, node_at}
+use Rattle.mt_arena.specs.Arena.{ArenaView, with_border_changed}
+use Rattle.mt_chart.specs.Tree.{Among, first, later, before_right, Below}
+use Rattle.mt_chart.specs.Chart.{spot, Spot, at_level, on}
+use Rattle.mt_chart.proofs.Basics.{same_number}
+use Rattle.mt_tree.specs.Seen.{arena_seen, border_seen, right_seen}
+use Rattle.mt_tree.specs.Spares.{MayFill}
+use Rattle.mt_tree.specs.Keeping.{KeepsTree, KeepsUnknown, IsIndexAt}
+use Rattle.mt_tree.specs.Descent.{found_for}
+use Rattle.mt_tree.specs.BorderSteps.{IsUpperHalf, LinksHalfAt}
+use Rattle.mt_tree.proofs.DescentLemmas.{slice_of_place}
+use Rattle.mt_tree.proofs.SeenLemmas.{seen-border}
+use Rattle.mt_calls.specs.declared.way.Way.{Way}
+use Rattle.mt_write.specs.declared.writing.Edit.{Edit}
+use Rattle.mt_write.specs.declared.writing.Split.{Split}
+use Rattle.mt_write.specs.declared.writing.Stage.TheVariants.{Spared, HalfFilled, Halved, Stored, Failed}
+use Rattle.mt_calls.specs.declared.progress.Progress.TheVariants.{Moved}
+use Rattle.mt_calls.specs.World.{World, IsWorld, RowsAreOfKeys, Goes}
+use Rattle.mt_calls.specs.Way.{rest_of, prefix_of}
+use Rattle.mt_calls.specs.Step.{StepLaw, Stepped, IsQuiet}
+use Rattle.mt_write.specs.Writing.{edit_request, stage_held, StageIsTrue, IsLockedAt, IsLockedBorder, HasLocked, IsSpare, IsCutAt, IsHalf, IsAbsent, IsHalfOf, empty_half, upper_half}
+use Rattle.mt_calls.proofs.FoundLemmas.{some_at, some_and}
+use Rattle.mt_write.proofs.AbsentLemmas.{none_has, absent_part, absent_last}
+use Rattle.mt_calls.proofs.BorderLemmas.{now_named, others_named, goes_border, keys_same, mine_free}
+use Rattle.mt_calls.proofs.SplitLemmas.{goes_filled, goes_linked, with_spot, spot_changes}
+use Rattle.mt_write.proofs.WorkLemmas.{locked_at_stays}
+use Rattle.mt_write.proofs.WriteLemmas.{no_get, other_locked}
+
+-- ---- before the steps
+pub half_may_fill : (key : List ℕ) (edit : Edit) (way : Way) (b : BorderView) (cut : ℕ) (c : IsCutAt key edit way b cut) → MayFill (empty_half b c.middle) (drop cut b.live) b.right
+half_may_fill key edit way b cut c = record { empty = refl; fresh = refl; sound = cut_upper b cut c.middle true c.sound c.full c.place c.is_middle }
+
+pub half_is_upper : (key : List ℕ) (edit : Edit) (way : Way) (b : BorderView) (cut : ℕ) (c : IsCutAt key edit way b cut) → IsUpperHalf b (upper_half b cut c.middle) cut
+half_is_upper key edit way b cut c = record {
+  within = let full = c.full in let last = c.place.last in omega (arith, full, last);
+  upper = refl;
+  right = refl;
+  above_low = cut_above_low b cut c.middle c.sound c.full c.place c.is_middle;
+  above_kept = cut_above_kept b cut c.middle c.sound c.full c.place c.is_middle;
+  unspent = c.unspent;
+}
+
+module _ (C : ℕ) (a : ArenaView) (log : LogView) (key : List ℕ) (edit : Edit) (way : Way) (half : NodeNo) (cut : ℕ) where
+  abbrev n : ℕ
+  n = way.node.0
+
+  -- a border of the tree and a spare differ
+  differ : (b u : BorderView) (w : World) → IsLockedAt a key way b w → IsSpare a w half.0 u → n ≢ half.0
+  differ b u w at s e = (let clash : ◌≡◌ {A = Option Spot} None (Some (spot (at_level 0) (prefix_of key way) b.low (on at.stands.stands.posted))) = sym s.unknown ∙ (ap w.chart (sym e) ∙ at.stands.stands.place) in cc)
+
+  -- ---- the half is filled
+  pub fills_half : (entries : List Entry) (after : ArenaView) → IsSomeAnd (border_at a.nodes n) (λ b. after ≡ with_border_changed a half.0 (λ spare. with_entries spare entries b.right)) → KeepsUnknown a after half.0
+      → StepLaw C a after log log (edit_request key edit) (stage_held n (Spared half cut entries)) Moved (stage_held n (HalfFilled half cut)) (λ begun moves past x w. StageIsTrue C key edit way (Spared half cut entries) begun x w) (λ begun moves past x w. StageIsTrue C key edit way (HalfFilled half cut) begun x w)
+  fills_half entries after filled keeps = record {
+    steps = λ now begun moves past w world before truth.
+        let (b, at, c, s, copied) = truth in
+        let is : after ≡ with_border_changed a half.0 (λ spare. with_entries spare entries b.right) = some_at _ (border_at a.nodes n) b filled at.named in
+        let change : BorderView → BorderView = λ x. with_entries x entries b.right in
+        let new : ArenaView = with_border_changed a half.0 change in
+        let made : change (empty_half b c.middle) ≡ upper_half b cut c.middle = ap (λ (es : List Entry). with_entries (empty_half b c.middle) es b.right) copied in
+        let keeps_new : KeepsUnknown a new half.0 = subst (λ (x : ArenaView). KeepsUnknown a x half.0) is keeps in
+        subst (λ (x : ArenaView). Stepped C now moves past a x log log w (edit_request key edit) (stage_held n (Spared half cut entries)) Moved (stage_held n (HalfFilled half cut)) (λ m next. StageIsTrue C key edit way (HalfFilled half cut) begun x next)) (sym is) (record {
+          goes = goes_filled now a w half.0 (empty_half b c.middle) change (half.0 ∷ n ∷ []) _ s.named keeps_new first s.unknown world (
+            b,
+            locked_at_stays a new w w key way b (record { node = others_named a half.0 (empty_half b c.middle) change s.named n (differ b (empty_half b c.middle) w at s); spot = refl }) at,
+            c,
+            record { named = now_named a half.0 (empty_half b c.middle) change s.named ∙ ap Some made; unknown = s.unknown; locked = refl },
+          );
+          does = (record { content = (keeps_new.keeps now w.twins w.chart world.index s.unknown).content; trimmed = refl; deltas = refl }, refl);
+          reserved = refl;
+          feed = refl;
+          holders = refl;
+          may = λ get. absurd (no_get key edit get);
+        });
+  }
+
+  -- ---- the half is linked
+  abbrev link : ℕ → BorderView → BorderView
+  link low b = with_split b cut (record { low = low; node = half })
+
+  abbrev halves : Split
+  halves = record { left = way.node; half = half }
+
+  abbrev LinkLaw : ArenaView → Way → Type 0
+  LinkLaw after goal = StepLaw C a after log log (edit_request key edit) (stage_held n (HalfFilled half cut)) Moved (stage_held goal.node.0 (Halved halves)) (λ begun moves past x w. StageIsTrue C key edit way (HalfFilled half cut) begun x w) (λ begun moves past x w. StageIsTrue C key edit goal (Halved halves) begun x w)
+
+  -- what holds once it is linked, in the world that knows it
+  module _ (w : World) (b : BorderView) (at : IsLockedAt a key way b w) (c : IsCutAt key edit way b cut) (s : IsSpare a w half.0 (upper_half b cut c.middle)) where
+    abbrev low : ℕ
+    low = c.middle.slice
+
+    abbrev new : ArenaView
+    new = with_border_changed a n (link low)
+
+    abbrev place : Spot
+    place = spot (at_level 0) (prefix_of key way) low (on false)
+
+    abbrev next : World
+    next = record { twins = w.twins; chart = with_spot w.chart half.0 place }
+
+    apart : n ≢ half.0
+    apart = differ b (upper_half b cut c.middle) w at s
+
+    left_spot : next.chart n ≡ Some (spot (at_level 0) (prefix_of key way) b.low (on at.stands.stands.posted))
+    left_spot = (spot_changes w.chart half.0 place).rest n apart ∙ at.stands.stands.place
+
+    half_named : border_at new.nodes half.0 ≡ Some (upper_half b cut c.middle)
+    half_named = ap (option_and_then border_of) (others_named a n b (link low) at.named half.0 (λ e. apart (sym e))) ∙ s.named
+
+    left_locked : IsLockedBorder new next n
+    left_locked = record { b = link low b; named = now_named a n b (link low) at.named; known = subst (λ (x : Option Spot). IsSome x) (sym left_spot) refl; locked = at.locked }
+
+    half_locked : IsLockedBorder new next half.0
+    half_locked = record { b = upper_half b cut c.middle; named = half_named; known = subst (λ (x : Option Spot). IsSome x) (sym (spot_changes w.chart half.0 place).now) refl; locked = refl }
+
+    both_locked : (other : ℕ) → Among other (half.0 ∷ n ∷ []) → IsLockedBorder new next other
+    both_locked other first = half_locked
+    both_locked other (later first) = left_locked
+    both_locked other (later (later i)) = elim i [ ]
+
+    left_absent : IsAbsent (found_for (rest_of key way) (take cut b.live))
+    left_absent = absent_part (rest_of key way) (take cut b.live) (All-take (λ (e : Entry). entry_rank e ≢ rank_at (slice_number (rest_of key way)) (class_of (length (rest_of key way)))) cut b.live (none_has (rest_of key way) b.live c.sound.ordered c.absent))
+
+    half_absent : IsAbsent (found_for (rest_of key way) (drop cut b.live))
+    half_absent = absent_part (rest_of key way) (drop cut b.live) (All-drop (λ (e : Entry). entry_rank e ≢ rank_at (slice_number (rest_of key way)) (class_of (length (rest_of key way)))) cut b.live (none_has (rest_of key way) b.live c.sound.ordered c.absent))
+
+    pub at_left : slice_number (rest_of key way) < low → IsLockedAt new key way (link low b) next × IsHalf key edit way (link low b) × HasLocked new next n (Some halves)
+    at_left less = (
+      record {
+        layer = at.layer;
+        named = now_named a n b (link low) at.named;
+        stands = record {
+          stands = record { posted = at.stands.stands.posted; place = left_spot; node = seen-border new n (link low b) (now_named a n b (link low) at.named) };
+          from_low = at.stands.from_low;
+          to_right = before_right (subst (λ (m : ℕ). m < low) (sym (slice_of_place (rest_of key way))) less);
+        };
+        alive = at.alive;
+        last = absent_last _ left_absent;
+        locked = at.locked;
+      },
+      record {
+        room = let full = c.full in let last = c.place.last in let short = length-take-le cut b.live (omega (arith, full, last)) in omega (arith, short, last);
+        absent = left_absent;
+        sets = c.sets;
+        is_put = c.is_put;
+      },
+      record { locked = both_locked; own = later first; two = apart },
+    )
+
+    pub at_half : low ≤ slice_number (rest_of key way)
+        → IsLockedAt new key (record { node = half; layer = way.layer }) (upper_half b cut c.middle) next × IsHalf key edit (record { node = half; layer = way.layer }) (upper_half b cut c.middle) × HasLocked new next half.0 (Some halves)
+    at_half from = (
+      record {
+        layer = record { within = at.layer.within; under = at.layer.under };
+        named = half_named;
+        stands = record {
+          stands = record { posted = false; place = (spot_changes w.chart half.0 place).now; node = seen-border new half.0 (upper_half b cut c.middle) half_named };
+          from_low = subst (λ (m : ℕ). low ≤ m) (sym (slice_of_place (rest_of key way))) from;
+          to_right = at.stands.to_right;
+        };
+        alive = refl;
+        last = absent_last _ half_absent;
+        locked = refl;
+      },
+      record {
+        room = let full = c.full in let start = c.place.first in let rest = length-drop cut b.live in omega (arith, full, start, rest);
+        absent = half_absent;
+        sets = c.sets;
+        is_put = c.is_put;
+      },
+      record { locked = both_locked; own = first; two = apart },
+    )
+
+  module _ (goal : Way) (after : ArenaView) (value : IsSomeAnd (border_at a.nodes half.0) (λ upper. after ≡ with_border_changed a n (λ b. with_split b cut (record { low = upper.low; node = half })))) (links : LinksHalfAt a after n half.0) where
+    link_law : ((begun : ℕ) (w : World) (b : BorderView) (at : IsLockedAt a key way b w) (c : IsCutAt key edit way b cut) (s : IsSpare a w half.0 (upper_half b cut c.middle))
+        → StageIsTrue C key edit goal (Halved halves) begun (with_border_changed a n (link c.middle.slice)) (record { twins = w.twins; chart = with_spot w.chart half.0 (spot (at_level 0) (prefix_of key way) c.middle.slice (on false)) }))
+        → LinkLaw after goal
+    link_law then = record {
+      steps = λ now begun moves past w world before truth.
+          let (b, at, c, s) = truth in
+          let is : after ≡ with_border_changed a n (link c.middle.slice) = some_at _ (border_at a.nodes half.0) (upper_half b cut c.middle) value s.named in
+          let (goes, content) = goes_linked now a w n half.0 b (upper_half b cut c.middle) (prefix_of key way) (link c.middle.slice) (half.0 ∷ n ∷ [])
+          (λ next. StageIsTrue C key edit goal (Halved halves) begun (with_border_changed a n (link c.middle.slice)) next) at.named s.named
+          (subst (λ (x : ArenaView). LinksHalfAt a x n half.0) is links) (record { low = b.low; posted = at.stands.stands.posted; place = at.stands.stands.place })
+          s.unknown (later first) first world (then begun w b at c s) in
+          subst (λ (x : ArenaView). Stepped C now moves past a x log log w (edit_request key edit) (stage_held n (HalfFilled half cut)) Moved (stage_held goal.node.0 (Halved halves)) (λ m next. StageIsTrue C key edit goal (Halved halves) begun x next)) (sym is) (record {
+            goes = goes;
+            does = (record { content = content; trimmed = refl; deltas = refl }, refl);
+            reserved = refl;
+            feed = refl;
+            holders = refl;
+            may = λ get. absurd (no_get key edit get);
+          });
+    }
+
+  -- the low of the half, as it was read
+  low_read : (w : World) (b : BorderView) (c : IsCutAt key edit way b cut) → IsSpare a w half.0 (upper_half b cut c.middle) → (r : BorderView) → border_at a.nodes half.0 ≡ Some r → r.low ≡ c.middle.slice
+  low_read w b c s r read = (let both : ◌≡◌ {A = Option BorderView} (Some r) (Some (upper_half b cut c.middle)) = sym read ∙ s.named in let same : r ≡ upper_half b cut c.middle = cc in ap (λ (x : BorderView). x.low) same)
+
+  links_left : (after : ArenaView) → IsSomeAnd (border_at a.nodes half.0) (λ upper. after ≡ with_border_changed a n (λ b. with_split b cut (record { low = upper.low; node = half }))) → LinksHalfAt a after n half.0
+      → (r : BorderView) → border_at a.nodes half.0 ≡ Some r → slice_number (rest_of key way) < r.low → LinkLaw after way
+  links_left after value links r read less = link_law way after value links
+      (λ begun w b at c s. let (stands, is_half, has) = at_left w b at c s (subst (λ (m : ℕ). slice_number (rest_of key way) < m) (low_read w b c s r read) less) in (link c.middle.slice b, stands, is_half, has))
+
+  links_right : (after : ArenaView) → IsSomeAnd (border_at a.nodes half.0) (λ upper. after ≡ with_border_changed a n (λ b. with_split b cut (record { low = upper.low; node = half }))) → LinksHalfAt a after n half.0
+      → (r : BorderView) → border_at a.nodes half.0 ≡ Some r → r.low ≤ slice_number (rest_of key way) → LinkLaw after (record { node = half; layer = way.layer })
+  links_right after value links r read from = link_law (record { node = half; layer = way.layer }) after value links
+      (λ begun w b at c s. let (stands, is_half, has) = at_half w b at c s (subst (λ (m : ℕ). m ≤ slice_number (rest_of key way)) (low_read w b c s r read) from) in (upper_half b cut c.middle, stands, is_half, has))
+
+  pub links : (goal : Way) (after : ArenaView) → IsSomeAnd (border_at a.nodes half.0) (λ upper. after ≡ with_border_changed a n (λ b. with_split b cut (record { low = upper.low; node = half }))) → LinksHalfAt a after n half.0
+      → IsSomeAnd (border_at a.nodes half.0) (λ upper. IsHalfOf key way half upper.low goal) → LinkLaw after goal
+  links goal after value linked either =
+      let (r, read, one) = some_and _ (border_at a.nodes half.0) either in
+      elim one [
+        | inl left ↦ subst (λ (g : Way). LinkLaw after g) (sym left.1) (links_left after value linked r read left.0)
+        | inr right ↦ subst (λ (g : Way). LinkLaw after g) (sym right.1) (links_right after value linked r read right.0)
+      ]
+
+-- ---- the left half is unlocked
+module _ (C : ℕ) (a : ArenaView) (log : LogView) (key : List ℕ) (edit : Edit) (way : Way) (split : Split) (after : ArenaView) (is : after ≡ with_border_changed a split.left.0 (λ b. with_lock b false)) (keeps : KeepsTree a after) where
+  abbrev on_half : Way
+  on_half = record { node = split.half; layer = way.layer }
+
+  among_two : (other : ℕ) → Among other (split.half.0 ∷ split.left.0 ∷ []) → other ≢ split.left.0 → Among other (split.half.0 ∷ [])
+  among_two other first ne = first
+  among_two other (later first) ne = absurd (ne refl)
+  among_two other (later (later i)) ne = elim i [ ]
+
+  widen : (other : ℕ) → Among other (split.half.0 ∷ []) → Among other (split.half.0 ∷ split.left.0 ∷ [])
+  widen other first = first
+  widen other (later i) = elim i [ ]
+
+  only : (x : ArenaView) (w : World) → IsLockedBorder x w split.half.0 → (other : ℕ) → Among other (split.half.0 ∷ []) → IsLockedBorder x w other
+  only x w k other first = k
+  only x w k other (later i) = elim i [ ]
+
+  unlocks : (now : ℕ) (w : World) (Then : World → Type 0) → IsWorld a now w → HasLocked a w way.node.0 (Some split) → (HasLocked after w split.half.0 None → Then w)
+      → Goes now a after w (split.half.0 ∷ split.left.0 ∷ []) (split.half.0 ∷ []) Then × IsQuiet a after log log
+  unlocks now w Then world has then =
+      let kept = keeps.keeps now w.twins w.chart world.index in
+      let left = has.locked split.left.0 (later first) in
+      let unlock : BorderView → BorderView = λ x. with_lock x false in
+      let new : ArenaView = with_border_changed a split.left.0 unlock in
+      let half : IsLockedBorder new w split.half.0 = other_locked a split.left.0 left.b unlock left.named w split.half.0 (λ e. has.two (sym e)) (has.locked split.half.0 first) in
+      let truth : HasLocked after w split.half.0 None = subst (λ (x : ArenaView). HasLocked x w split.half.0 None) (sym is) (record { locked = only new w half; own = first; two = tt }) in (
+        subst (λ (x : ArenaView). Goes now a x w (split.half.0 ∷ split.left.0 ∷ []) (split.half.0 ∷ []) Then) (sym is)
+            (goes_border a split.left.0 left.b unlock left.named now w (split.half.0 ∷ split.left.0 ∷ []) (split.half.0 ∷ []) Then world (subst (λ (x : ArenaView). IsIndexAt x now w.twins w.chart) is kept.index)
+            (subst (λ (x : ArenaView). RowsAreOfKeys x) is (keys_same a after kept.content world.keys))
+            (mine_free a split.left.0 w (split.half.0 ∷ split.left.0 ∷ []) (later first)) (λ other i. inl (widen other i)) (λ other ne i. among_two other i ne)
+            (λ taken. absurd (elim taken [ inl locked ↦ (let clash : false ≡ true = locked in cc) | inr none ↦ (let some : IsSome (let nothing : Option Spot = None in nothing) = subst (λ (x : Option Spot). IsSome x) none left.known in cc) ])) (then truth)),
+        record { content = kept.content; trimmed = refl; deltas = refl },
+      )
+
+  pub unlocks_stored : (number : ℕ) → StepLaw C a after log log (edit_request key edit) (stage_held way.node.0 (Stored number (Some split))) Moved (stage_held split.half.0 (Stored number None)) (λ begun moves past x w. StageIsTrue C key edit way (Stored number (Some split)) begun x w) (λ begun moves past x w. StageIsTrue C key edit on_half (Stored number None) begun x w)
+  unlocks_stored number = record {
+    steps = λ now begun moves past w world before truth.
+        let (goes, quiet) = unlocks now w (λ next. HasLocked after next split.half.0 None) world truth (λ has. has) in
+        record { goes = goes; does = (quiet, refl); reserved = refl; feed = refl; holders = refl; may = λ get. absurd (no_get key edit get) };
+  }
+
+  pub unlocks_failed : (refusal : Refusal) → StepLaw C a after log log (edit_request key edit) (stage_held way.node.0 (Failed refusal (Some split))) Moved (stage_held split.half.0 (Failed refusal None)) (λ begun moves past x w. StageIsTrue C key edit way (Failed refusal (Some split)) begun x w) (λ begun moves past x w. StageIsTrue C key edit on_half (Failed refusal None) begun x w)
+  unlocks_failed refusal = record {
+    steps = λ now begun moves past w world before truth.
+        let (goes, quiet) = unlocks now w (λ next. StageIsTrue C key edit on_half (Failed refusal None) begun after next) world truth.0 (λ has. (has, truth.1)) in
+        record { goes = goes; does = (quiet, refl); reserved = refl; feed = refl; holders = refl; may = λ get. absurd (no_get key edit get) };
+  }
+
+-- ---- what the calls of a step ask for
+module _ (C begun : ℕ) (a : ArenaView) (w : World) (key : List ℕ) (edit : Edit) (way : Way) (half : NodeNo) (cut : ℕ) where
+  pub spared_fill : (entries : List Entry) → StageIsTrue C key edit way (Spared half cut entries) begun a w → IsSomeAnd (border_at a.nodes way.node.0) (λ b. IsSomeAnd (border_at a.nodes half.0) (λ spare. MayFill spare entries b.right))
+  spared_fill entries truth =
+      let (b, at, c, s, copied) = truth in
+      subst (λ (o : Option BorderView). IsSomeAnd o (λ x. IsSomeAnd (border_at a.nodes half.0) (λ spare. MayFill spare entries x.right))) (sym at.named)
+      (subst (λ (o : Option BorderView). IsSomeAnd o (λ spare. MayFill spare entries b.right)) (sym s.named)
+      (subst (λ (es : List Entry). MayFill (empty_half b c.middle) es b.right) (sym copied) (half_may_fill key edit way b cut c)))
+
+  pub filled_link : StageIsTrue C key edit way (HalfFilled half cut) begun a w → IsSomeAnd (border_at a.nodes way.node.0) (λ b. IsSomeAnd (border_at a.nodes half.0) (λ upper. IsUpperHalf b upper cut))
+  filled_link truth =
+      let (b, at, c, s) = truth in
+      subst (λ (o : Option BorderView). IsSomeAnd o (λ x. IsSomeAnd (border_at a.nodes half.0) (λ upper. IsUpperHalf x upper cut))) (sym at.named)
+      (subst (λ (o : Option BorderView). IsSomeAnd o (λ upper. IsUpperHalf b upper cut)) (sym s.named) (half_is_upper key edit way b cut c))
+
+-- the left half is locked
+pub left_is_locked : (a : ArenaView) (w : World) (number : ℕ) (split : Option Split) (halves : Split) → split ≡ Some halves → HasLocked a w number split → IsSomeAnd (border_at a.nodes halves.left.0) (λ b. b.version.locked ≡ true)
+left_is_locked a w number split halves is has =
+    let both : HasLocked a w number (Some halves) = subst (λ (s : Option Split). HasLocked a w number s) is has in
+    let left = both.locked halves.left.0 (later first) in
+    subst (λ (o : Option BorderView). IsSomeAnd o (λ b. b.version.locked ≡ true)) (sym left.named) left.locked

@@ -1,0 +1,5 @@
+pub mod AbsentLemmas
+pub mod WriteLemmas
+pub mod HalfLemmas
+pub mod WorkLemmas
+pub mod NewWorks

@@ -1,0 +1,122 @@
+//! The split of a full border: a half is spared, filled and linked, and the new row goes where its key belongs.
+
+ghost use Rattle.std.specs.Prelude.{◌≡◌, ℕ, ◌≤◌, ◌*◌, length, MatchResult, IsSomeAnd, Some};
+ghost use Rattle.mt_types.specs.declared.event.Request.TheVariants.{Put as PutRequest};
+ghost use Rattle.mt_commit.specs.Log.{LogView};
+ghost use Rattle.mt_border.specs.Border.{with_entries, with_split};
+ghost use Rattle.mt_word.specs.declared.permutation_word.TheConstants.{SLOTS};
+ghost use Rattle.mt_arena.specs.Node.{border_at};
+ghost use Rattle.mt_arena.specs.Arena.{with_border_changed};
+ghost use Rattle.mt_tree.specs.Descent.{found_for};
+ghost use Rattle.mt_tree.specs.Keeping.{KeepsUnknown};
+ghost use Rattle.mt_tree.specs.Spares.{MayFill};
+ghost use Rattle.mt_tree.specs.BorderSteps.{IsUpperHalf, LinksHalfAt};
+ghost use Rattle.mt_calls.specs.Way.{rest_of};
+ghost use Rattle.mt_calls.specs.Step.{MayRefuse, IsUnbounded};
+ghost use Rattle.mt_write.specs.Writing.{Prepares, IsAbsent, IsHalf, SomeSets, IsHalfOf};
+
+use crate::ready::fill;
+use crate::writing::{Edit, Split, Stage};
+use mt_arena::Node;
+use mt_border::{Border, Entry, Found};
+use mt_calls::way::{Way, rest_of};
+use mt_commit::log::Log;
+use mt_slice::slice_of;
+use mt_tree::Tree;
+use mt_types::items::Items;
+use mt_types::key::Key;
+use mt_types::numbers::NodeNo;
+use mt_types::refusal::Refusal;
+use mt_types::row::Sets;
+use std::alloc::Global;
+
+// Spares a border for the upper half of one that is full.
+pub fn spare(
+    alloc: Global,
+    tree: &mut Tree,
+    way: Way,
+    key: &Key,
+    sets: &Sets,
+) -> Result<Stage, Refusal>
+    requires full { IsSomeAnd (border_at tree.old.nodes way.node.0) (λ b. (length b.live ≡ SLOTS) × IsAbsent (found_for (rest_of key.now way) b.live)) }
+    ensures { MatchResult result (λ stage. (C : ℕ) (log : LogView) → Prepares C key.now sets.now way tree.old log None stage tree.new log) (λ refusal. MayRefuse (PutRequest key.now sets.now) refusal × (tree.new ≡ tree.old)) }
+{
+    let border = tree.border(way.node);
+    if border.is_split_spent() {
+        return Err(Refusal::Spent);
+    }
+    let cut = border.cut_place();
+    let low = border.entry(cut).slice;
+    let layer = border.layer();
+    let entries = border.copy_upper(alloc, cut)?;
+    let half = tree.occupy(Node::Border(Border::new_locked(alloc, layer, low)))?;
+    Ok(Stage::Spared { half, cut, entries })
+}
+
+// The half that is spared takes the entries that were copied, and the right link of the left half.
+pub fn fill_spare(tree: &mut Tree, left: NodeNo, half: NodeNo, entries: Items<Entry>)
+    requires fill { IsSomeAnd (border_at tree.old.nodes left.0) (λ b. IsSomeAnd (border_at tree.old.nodes half.0) (λ spare. MayFill spare entries b.right)) }
+    ensures filled { IsSomeAnd (border_at tree.old.nodes left.0) (λ b. tree.new ≡ with_border_changed tree.old half.0 (λ spare. with_entries spare entries b.right)) }
+    ensures keeps { KeepsUnknown tree.old tree.new half.0 }
+{
+    let right = tree.border(left).right();
+    tree.fill_border(half, entries, right);
+}
+
+// The half is linked. Gives the half where the key belongs.
+pub fn link_halves(tree: &mut Tree, way: Way, key: &Key, half: NodeNo, cut: usize) -> Way
+    requires within { 8 * way.layer ≤ length key.now }
+    requires upper { IsSomeAnd (border_at tree.old.nodes way.node.0) (λ b. IsSomeAnd (border_at tree.old.nodes half.0) (λ upper. IsUpperHalf b upper cut)) }
+    ensures linked { IsSomeAnd (border_at tree.old.nodes half.0) (λ upper. tree.new ≡ with_border_changed tree.old way.node.0 (λ b. with_split b cut (record { low = upper.low; node = half }))) }
+    ensures links { LinksHalfAt tree.old tree.new way.node.0 half.0 }
+    ensures way { IsSomeAnd (border_at tree.old.nodes half.0) (λ upper. IsHalfOf key.now way half upper.low result) }
+{
+    let (slice, _) = slice_of(rest_of(key, way.layer));
+    let low = tree.border(half).low();
+    tree.link_half(way.node, half, cut);
+    if slice < low {
+        return way;
+    }
+    Way {
+        node: half,
+        layer: way.layer,
+    }
+}
+
+// Writes a new row into the first unused slot of a half.
+pub fn fill_half(
+    alloc: Global,
+    columns: u8,
+    tree: &mut Tree,
+    log: &mut Log,
+    way: Way,
+    split: Split,
+    key: &Key,
+    edit: &Edit,
+) -> Stage
+    requires within { 8 * way.layer ≤ length key.now }
+    requires half { IsSomeAnd (border_at tree.old.nodes way.node.0) (IsHalf key.now edit.now way) }
+    requires unbounded { IsUnbounded log.old }
+    ensures { SomeSets edit.now (λ sets. Prepares columns key.now sets way tree.old log.old (Some split) result tree.new log.new) }
+{
+    let Edit::Put(sets) = edit else {
+        unreachable!();
+    };
+    let Found::Absent(place) = tree.find(way.node, rest_of(key, way.layer)) else {
+        unreachable!();
+    };
+    match fill(
+        alloc,
+        columns,
+        tree,
+        log,
+        way,
+        place,
+        key,
+        sets,
+        Some(split),
+    ) {
+        Ok(stage) => stage,
+        Err(refusal) => Stage::Failed(refusal, Some(split)),
+    }
+}

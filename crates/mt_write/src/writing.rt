@@ -1,0 +1,291 @@
+//! A put or a remove: on its way to its key's border, which it locks, where it makes ready, commits, and unlocks.
+
+ghost use Rattle.std.specs.Prelude.{◌≡◌, ℕ};
+ghost use Rattle.mt_commit.specs.Log.{LogView};
+ghost use Rattle.mt_write.specs.Causes.{WriteWaits};
+ghost use Rattle.mt_calls.specs.Step.{StepLaw, MayStep};
+ghost use Rattle.mt_write.specs.Writing.{write_request, write_held, written_answer, WriteIsTrue, StageLaw, MayStage};
+
+use crate::commit::{hide, overwrite, show};
+use crate::ready::{prepare, prepare_remove};
+use crate::splitting::{fill_half, fill_spare, link_halves};
+use mt_border::Entry;
+use mt_calls::progress::Progress;
+use mt_calls::way::{START, Way, Went};
+use mt_commit::log::Log;
+use mt_tree::Tree;
+use mt_types::event::Answer;
+use mt_types::items::Items;
+use mt_types::key::Key;
+use mt_types::numbers::NodeNo;
+use mt_types::refusal::Refusal;
+use mt_types::row::{Columns, Row, Sets};
+use std::alloc::Global;
+use std::mem;
+
+/// What a write does to the row of its key.
+#[derive(Drop)]
+pub enum Edit {
+    /// It gives columns new bytes.
+    Put(Sets),
+    /// It removes the row.
+    Remove,
+}
+
+/// The two halves of a border that a write has split.
+#[derive(Clone, Copy)]
+pub struct Split {
+    pub left: NodeNo,
+    pub half: NodeNo,
+}
+
+/// How far a write is.
+#[derive(Drop)]
+pub enum Stage {
+    /// It is on its way.
+    Seeks,
+    /// It has locked its key's border.
+    Locked,
+    /// The border is full. A border is spared for its upper half, whose entries are copied.
+    Spared {
+        half: NodeNo,
+        cut: usize,
+        entries: Items<Entry>,
+    },
+    /// The half has the entries from the cut on.
+    HalfFilled {
+        half: NodeNo,
+        cut: usize,
+    },
+    /// The border is split, and its key belongs to the half where it stands.
+    Halved(Split),
+    /// Its row is in the first unused slot, to be shown at a place.
+    Filled {
+        place: usize,
+        key: Key,
+        /// The row's columns once more, for the log.
+        logged: Columns,
+        split: Option<Split>,
+    },
+    /// The columns are made that the row at a place is to have.
+    Made {
+        place: usize,
+        key: Key,
+        columns: Columns,
+        /// The same columns, for the log.
+        logged: Columns,
+    },
+    /// The row at a place is to be removed.
+    Taken {
+        place: usize,
+        key: Key,
+        /// A copy of the row, for the log.
+        before: Row,
+    },
+    /// It has made the commit of this number.
+    Stored(u64, Option<Split>),
+    /// It is to end refused.
+    Failed(Refusal, Option<Split>),
+}
+
+/// A put or a remove of a key's row.
+#[derive(Drop)]
+pub struct Write {
+    pub key: Key,
+    pub edit: Edit,
+    pub way: Way,
+    pub stage: Stage,
+}
+
+// What a write answers that has made its commit.
+fn written(edit: &Edit, commit: u64) -> Answer
+    ensures { result ≡ written_answer edit.now commit }
+{
+    match edit {
+        Edit::Put(_) => Answer::Stored(commit),
+        Edit::Remove => Answer::Removed(commit),
+    }
+}
+
+impl Write {
+    // On its way to the border, and its lock there.
+    fn seek(&mut self, tree: &mut Tree) -> Progress
+        requires may { (C : ℕ) × (log : LogView) × MayStep tree.old log (write_held self.old) (WriteIsTrue C self.old) }
+        requires seeks { self.old.stage ≡ Stage.Seeks }
+        ensures request { write_request self.new ≡ write_request self.old }
+        ensures steps { (C : ℕ) (log : LogView) → StepLaw C tree.old tree.new log log (write_request self.old) (write_held self.old) result (write_held self.new) (WriteIsTrue C self.old) (WriteIsTrue C self.new) }
+        ensures waits { WriteWaits tree.old self.old.way.node.0 result }
+    {
+        match self.way.visit(tree, &self.key) {
+            Went::Again => {
+                self.way = START;
+                Progress::Waits
+            }
+            Went::To(next) => {
+                self.way = next;
+                Progress::Moved
+            }
+            Went::Here => {
+                if tree.border(self.way.node).is_locked() {
+                    return Progress::Waits;
+                }
+                tree.lock_border(self.way.node);
+                self.stage = Stage::Locked;
+                Progress::Moved
+            }
+        }
+    }
+
+    // At its border, which it has locked: makes ready, or ends where there is no row to remove.
+    fn make_ready(&mut self, alloc: Global, columns: u8, tree: &mut Tree, log: &mut Log) -> Progress
+        requires may { MayStage columns tree.old log.old self.old (Stage.Locked) }
+        ensures request { write_request self.new ≡ write_request self.old }
+        ensures steps { StageLaw columns tree.old tree.new log.old log.new self.old (Stage.Locked) result self.new }
+        ensures waits { WriteWaits tree.old self.old.way.node.0 result }
+    {
+        let number = self.way.node;
+        match &self.edit {
+            Edit::Put(sets) => {
+                self.stage = prepare(alloc, columns, tree, log, self.way, &self.key, sets);
+                Progress::Moved
+            }
+            Edit::Remove => {
+                let Some(stage) = prepare_remove(alloc, tree, log, self.way, &self.key) else {
+                    tree.unlock_border(number);
+                    return Progress::Answered(Answer::Absent);
+                };
+                self.stage = stage;
+                Progress::Moved
+            }
+        }
+    }
+
+    // The spared half is filled.
+    fn fill_spared(
+        &mut self,
+        tree: &mut Tree,
+        half: NodeNo,
+        cut: usize,
+        entries: Items<Entry>,
+    ) -> Progress
+        requires may { (C : ℕ) × (log : LogView) × MayStage C tree.old log self.old (Stage.Spared half cut entries) }
+        ensures request { write_request self.new ≡ write_request self.old }
+        ensures steps { (C : ℕ) (log : LogView) → StageLaw C tree.old tree.new log log self.old (Stage.Spared half cut entries) result self.new }
+        ensures waits { WriteWaits tree.old self.old.way.node.0 result }
+    {
+        fill_spare(tree, self.way.node, half, entries);
+        self.stage = Stage::HalfFilled { half, cut };
+        Progress::Moved
+    }
+
+    // The half is linked, and the call stands where its key belongs.
+    fn link(&mut self, tree: &mut Tree, half: NodeNo, cut: usize) -> Progress
+        requires may { (C : ℕ) × (log : LogView) × MayStage C tree.old log self.old (Stage.HalfFilled half cut) }
+        ensures request { write_request self.new ≡ write_request self.old }
+        ensures steps { (C : ℕ) (log : LogView) → StageLaw C tree.old tree.new log log self.old (Stage.HalfFilled half cut) result self.new }
+        ensures waits { WriteWaits tree.old self.old.way.node.0 result }
+    {
+        let left = self.way.node;
+        self.way = link_halves(tree, self.way, &self.key, half, cut);
+        self.stage = Stage::Halved(Split { left, half });
+        Progress::Moved
+    }
+
+    // The half where its key belongs takes the new row, which isn't shown yet.
+    fn fill_in_half(
+        &mut self,
+        alloc: Global,
+        columns: u8,
+        tree: &mut Tree,
+        log: &mut Log,
+        split: Split,
+    ) -> Progress
+        requires may { MayStage columns tree.old log.old self.old (Stage.Halved split) }
+        ensures request { write_request self.new ≡ write_request self.old }
+        ensures steps { StageLaw columns tree.old tree.new log.old log.new self.old (Stage.Halved split) result self.new }
+        ensures waits { WriteWaits tree.old self.old.way.node.0 result }
+    {
+        self.stage = fill_half(
+            alloc, columns, tree, log, self.way, split, &self.key, &self.edit,
+        );
+        Progress::Moved
+    }
+
+    // Unlocks the left half, where its border was split, and goes on with the other; else it unlocks its border, and answers.
+    fn end_stored(&mut self, tree: &mut Tree, commit: u64, split: Option<Split>) -> Progress
+        requires may { (C : ℕ) × (log : LogView) × MayStage C tree.old log self.old (Stage.Stored commit split) }
+        ensures request { write_request self.new ≡ write_request self.old }
+        ensures steps { (C : ℕ) (log : LogView) → StageLaw C tree.old tree.new log log self.old (Stage.Stored commit split) result self.new }
+        ensures waits { WriteWaits tree.old self.old.way.node.0 result }
+    {
+        let Some(split) = split else {
+            tree.unlock_border(self.way.node);
+            return Progress::Answered(written(&self.edit, commit));
+        };
+        tree.unlock_border(split.left);
+        self.way.node = split.half;
+        self.stage = Stage::Stored(commit, None);
+        Progress::Moved
+    }
+
+    // The same, where it is to end refused.
+    fn end_failed(&mut self, tree: &mut Tree, refusal: Refusal, split: Option<Split>) -> Progress
+        requires may { (C : ℕ) × (log : LogView) × MayStage C tree.old log self.old (Stage.Failed refusal split) }
+        ensures request { write_request self.new ≡ write_request self.old }
+        ensures steps { (C : ℕ) (log : LogView) → StageLaw C tree.old tree.new log log self.old (Stage.Failed refusal split) result self.new }
+        ensures waits { WriteWaits tree.old self.old.way.node.0 result }
+    {
+        let Some(split) = split else {
+            tree.unlock_border(self.way.node);
+            return Progress::Refused(refusal);
+        };
+        tree.unlock_border(split.left);
+        self.way.node = split.half;
+        self.stage = Stage::Failed(refusal, None);
+        Progress::Moved
+    }
+
+    /// Visits one node.
+    pub fn step(&mut self, alloc: Global, columns: u8, tree: &mut Tree, log: &mut Log) -> Progress
+        requires { MayStep tree.old log.old (write_held self.old) (WriteIsTrue columns self.old) }
+        ensures request { write_request self.new ≡ write_request self.old }
+        ensures steps { StepLaw columns tree.old tree.new log.old log.new (write_request self.old) (write_held self.old) result (write_held self.new) (WriteIsTrue columns self.old) (WriteIsTrue columns self.new) }
+        ensures waits { WriteWaits tree.old self.old.way.node.0 result }
+    {
+        let number = self.way.node;
+        match mem::replace(&mut self.stage, Stage::Seeks) {
+            Stage::Seeks => self.seek(tree),
+            Stage::Locked => self.make_ready(alloc, columns, tree, log),
+            Stage::Spared { half, cut, entries } => self.fill_spared(tree, half, cut, entries),
+            Stage::HalfFilled { half, cut } => self.link(tree, half, cut),
+            Stage::Halved(split) => self.fill_in_half(alloc, columns, tree, log, split),
+            Stage::Filled {
+                place,
+                key,
+                logged,
+                split,
+            } => {
+                let commit = show(tree, log, number, place, key, logged);
+                self.stage = Stage::Stored(commit, split);
+                Progress::Committed(commit)
+            }
+            Stage::Made {
+                place,
+                key,
+                columns,
+                logged,
+            } => {
+                let commit = overwrite(tree, log, number, place, key, columns, logged);
+                self.stage = Stage::Stored(commit, None);
+                Progress::Committed(commit)
+            }
+            Stage::Taken { place, key, before } => {
+                let commit = hide(tree, log, number, place, key, before);
+                self.stage = Stage::Stored(commit, None);
+                Progress::Committed(commit)
+            }
+            Stage::Stored(commit, split) => self.end_stored(tree, commit, split),
+            Stage::Failed(refusal, split) => self.end_failed(tree, refusal, split),
+        }
+    }
+}
