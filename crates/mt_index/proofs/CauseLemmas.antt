@@ -6,7 +6,7 @@ use Rattle.mt_types.specs.declared.event.Event.TheVariants.{Step}
 use Rattle.mt_types.specs.declared.event.Outcome.{Outcome}
 use Rattle.mt_calls.specs.declared.progress.Progress.{Progress}
 use Rattle.mt_calls.specs.declared.progress.Progress.TheVariants.{Moved, Waits, Committed, Answered, Refused}
-use Rattle.mt_calls.specs.Causes.{WorkWaits}
+use Rattle.mt_write.specs.Causes.{WorkWaits}
 use Rattle.mt_index.specs.declared.calls.Call.{Call}
 use Rattle.mt_index.specs.Calls.{call_at}
 use Rattle.mt_index.specs.Causes.{WaitsFor, IsCaused}

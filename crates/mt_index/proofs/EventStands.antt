@@ -26,31 +26,32 @@ use Rattle.mt_arena.specs.Arena.{ArenaView}
 use Rattle.mt_chart.specs.Tree.{Among, Has}
 use Rattle.mt_chart.specs.Tree.{Node as PlainNode, head}
 use Rattle.mt_chart.specs.Chart.{Chart, Spot}
-use Rattle.mt_interior.specs.Head.{new_head}
+use Rattle.mt_interior.specs.Head.{HeadView, new_head}
 use Rattle.mt_tree.specs.Seen.{head_seen}
 use Rattle.mt_tree.proofs.SeenLemmas.{seen-head}
 use Rattle.mt_index.specs.declared.calls.Call.{Call}
-use Rattle.mt_calls.specs.declared.work.Work.{Work}
-use Rattle.mt_calls.specs.declared.work.Work.TheVariants.{Get as GetWork, Write as WriteWork, Range as RangeWork}
+use Rattle.mt_write.specs.declared.work.Work.{Work}
+use Rattle.mt_write.specs.declared.work.Work.TheVariants.{Get as GetWork, Write as WriteWork, Range as RangeWork}
 use Rattle.mt_slice.specs.Place.{Place}
 use Rattle.mt_index.specs.declared.calls.Call.{Call}
-use Rattle.mt_calls.specs.declared.work.Work.{Work}
-use Rattle.mt_calls.specs.declared.work.Work.TheVariants.{Get as GetWork, Write as WriteWork, Range as RangeWork}
+use Rattle.mt_write.specs.declared.work.Work.{Work}
+use Rattle.mt_write.specs.declared.work.Work.TheVariants.{Get as GetWork, Write as WriteWork, Range as RangeWork}
 use Rattle.mt_calls.specs.declared.progress.Progress.{Progress}
 use Rattle.mt_calls.specs.declared.progress.Progress.TheVariants.{Moved, Waits, Committed, Answered, Refused}
 use Rattle.mt_arena.specs.declared.node.Node.{Node}
-use Rattle.mt_arena.specs.Node.{node_at}
+use Rattle.std.specs.Option.{option_and_then}
+use Rattle.mt_arena.specs.Node.{node_at, head_at, head_of}
 use Rattle.mt_arena.proofs.NodeLemmas.{node-from_head, node-from_border}
 use Rattle.mt_chart.proofs.Basics.{same_number}
 use Rattle.mt_tree.specs.NewTree.{IsNewTree}
-use Rattle.mt_calls.specs.World.{IsLocked, IsTaken, World, IsWorld, RowsAreOfKeys, Goes}
+use Rattle.mt_calls.specs.World.{IsLocked, IsTaken, World, IsWorld, RowsAreOfKeys, HeadsAreAlive, Goes}
 use Rattle.mt_calls.specs.Step.{Held, IsQuiet, Stepped, Commits, put_row}
 use Rattle.mt_types.specs.declared.row.Change.TheVariants.{Put as PutChange, Drop}
-use Rattle.mt_calls.specs.declared.writing.Write.{Write}
-use Rattle.mt_calls.specs.declared.writing.Edit.{Edit}
-use Rattle.mt_calls.specs.declared.writing.Edit.TheVariants.{Put as PutEdit, Remove as RemoveEdit}
-use Rattle.mt_calls.specs.Writing.{edit_request}
-use Rattle.mt_calls.specs.Works.{request_of, held, IsTrue, IsNew, IsServedRequest}
+use Rattle.mt_write.specs.declared.writing.Write.{Write}
+use Rattle.mt_write.specs.declared.writing.Edit.{Edit}
+use Rattle.mt_write.specs.declared.writing.Edit.TheVariants.{Put as PutEdit, Remove as RemoveEdit}
+use Rattle.mt_write.specs.Writing.{edit_request}
+use Rattle.mt_write.specs.Works.{request_of, held, IsTrue, IsNew, IsServedRequest}
 use Rattle.mt_index.specs.Paired.{Paired}
 use Rattle.mt_index.specs.Calls.{CallsView, call_at, with_changed, with_work, without, all_reserved, StepsCall, MayStepOf}
 use Rattle.mt_index.specs.Stands.{MachineView, CallStands, HasRowsOf, IsPast, Stands, StepsOpen, Steps, outcome_of, calls_after, Begins, fault_of, with_call}
@@ -353,7 +354,22 @@ begun-stands C epoch a log calls new pass from request work served none is is_ne
 pub new_keys : (a : ArenaView) → ((place : Place) (row : Row) → Has (arena_seen a) place row → ⊥) → RowsAreOfKeys a
 new_keys a empty = record { key_of = λ place row has. absurd (empty place row has) }
 
--- a new tree has no suffix
+-- and its only head is not marked deleted
+pub new_heads : (a : ArenaView) → IsNewTree a → (chart : Chart) → HeadsAreAlive a chart
+new_heads a new chart = record {
+  alive = λ number prefix head place is. elim (same_number number 0) [
+    | inl e ↦ (let both : ◌≡◌ {A = Option HeadView} (Some (new_head new.root 0 false)) (Some head) = sym new.top ∙ (ap (λ (m : ℕ). head_at a.nodes m) (sym e) ∙ is) in
+      let same : new_head new.root 0 false ≡ head = cc in ap (λ (h : HeadView). h.version.deleted) (sym same))
+    | inr apart ↦ elim (same_number number new.root.0) [
+      | inl e ↦ no_head (sym (ap (option_and_then head_of) (ap (λ (m : ℕ). node_at a.nodes m) e ∙ node-from_border a.nodes new.root.0 _ new.below)) ∙ is)
+      | inr other ↦ no_head (sym (ap (option_and_then head_of) (new.rest number apart other)) ∙ is)
+    ]
+  ];
+}
+  where
+    no_head : {head : HeadView} → ◌≡◌ {A = Option HeadView} None (Some head) → head.version.deleted ≡ false
+    no_head e = cc
+
 -- and nothing in it is locked
 pub new_unlocked : (a : ArenaView) → IsNewTree a → (number : ℕ) → IsLocked (node_at a.nodes number) → ⊥
 new_unlocked a new number locked = elim (same_number number 0) [

@@ -4,7 +4,7 @@ use Rattle.std.proofs.lemmas.Bool.Decides.{eqb_tells}
 use Rattle.mt_chart.specs.Tree.{Among, first, later}
 use Rattle.mt_chart.proofs.Entries.{among_cases}
 use Rattle.mt_index.specs.declared.calls.Call.{Call}
-use Rattle.mt_calls.specs.Works.{held}
+use Rattle.mt_write.specs.Works.{held}
 use Rattle.mt_index.specs.Calls.{call_at, with_changed, without, all_reserved}
 use Rattle.mt_index.proofs.NumberLemmas.{Entries}
 

@@ -36,14 +36,14 @@ use Rattle.mt_chart.specs.Tree.{Arena, Among}
 use Rattle.mt_chart.proofs.Basics.{same_number}
 use Rattle.mt_tree.specs.Seen.{arena_seen, HasRow}
 use Rattle.mt_index.specs.declared.calls.Call.{Call}
-use Rattle.mt_calls.specs.declared.work.Work.{Work}
-use Rattle.mt_calls.specs.declared.work.Work.TheVariants.{Get as GetWork, Write as WriteWork, Range as RangeWork}
+use Rattle.mt_write.specs.declared.work.Work.{Work}
+use Rattle.mt_write.specs.declared.work.Work.TheVariants.{Get as GetWork, Write as WriteWork, Range as RangeWork}
 use Rattle.mt_calls.specs.World.{IsTaken, World, IsSame, Goes, NotAmong}
 use Rattle.mt_calls.specs.Step.{RowIs, IsQuiet, Changes, IsRight, MayRefuse}
-use Rattle.mt_calls.specs.declared.writing.Edit.{Edit}
-use Rattle.mt_calls.specs.declared.writing.Edit.TheVariants.{Put as PutEdit, Remove as RemoveEdit}
-use Rattle.mt_calls.specs.Writing.{edit_request}
-use Rattle.mt_calls.specs.Works.{request_of, held, IsTrue}
+use Rattle.mt_write.specs.declared.writing.Edit.{Edit}
+use Rattle.mt_write.specs.declared.writing.Edit.TheVariants.{Put as PutEdit, Remove as RemoveEdit}
+use Rattle.mt_write.specs.Writing.{edit_request}
+use Rattle.mt_write.specs.Works.{request_of, held, IsTrue}
 use Rattle.mt_index.specs.Paired.{Paired}
 use Rattle.mt_index.specs.Calls.{call_at, with_changed, with_work, without, AreApart, all_reserved}
 use Rattle.mt_index.specs.Stands.{AllOwned, MachineView, CallStands, HasRowsOf, IsPast, Stands}
@@ -51,7 +51,7 @@ use Rattle.mt_index.proofs.PastLemmas.{past_more, right_range}
 use Rattle.mt_index.proofs.NumberLemmas.{Entries}
 use Rattle.mt_index.proofs.PairedLemmas.{Others, Found, paired-change, paired-without, paired-each, paired-one}
 use Rattle.mt_index.proofs.ListLemmas.{among_kept, among_new, among_left, among_at, among_changed, among_without}
-use Rattle.mt_calls.proofs.WorkLemmas.{stays, owned_taken}
+use Rattle.mt_write.proofs.WorkLemmas.{stays, owned_taken}
 
 abbrev pub step_event : ℕ → Event
 step_event n = Step (record { 0 = n })

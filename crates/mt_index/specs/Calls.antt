@@ -5,12 +5,12 @@ use Rattle.mt_commit.specs.Log.{LogView}
 use Rattle.mt_arena.specs.Arena.{ArenaView}
 use Rattle.mt_chart.specs.Tree.{Among}
 use Rattle.mt_index.specs.declared.calls.Call.{Call}
-use Rattle.mt_calls.specs.declared.work.Work.{Work}
+use Rattle.mt_write.specs.declared.work.Work.{Work}
 use Rattle.mt_calls.specs.declared.progress.Progress.{Progress}
 use Rattle.mt_calls.specs.World.{NotAmong}
 use Rattle.mt_calls.specs.Step.{StepLaw, MayStep}
-use Rattle.mt_calls.specs.Causes.{WorkWaits}
-use Rattle.mt_calls.specs.Works.{request_of, held, IsTrue}
+use Rattle.mt_write.specs.Causes.{WorkWaits}
+use Rattle.mt_write.specs.Works.{request_of, held, IsTrue}
 
 pub record CallsView : Type 0 where
   pub begun : ℕ  -- how many calls have begun

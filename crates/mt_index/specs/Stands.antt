@@ -23,12 +23,12 @@ use Rattle.mt_chart.specs.Tree.{Arena, Among}
 use Rattle.mt_chart.specs.ScanRun.{Stood, AllHave}
 use Rattle.mt_tree.specs.Seen.{arena_seen, HasRow}
 use Rattle.mt_index.specs.declared.calls.Call.{Call}
-use Rattle.mt_calls.specs.declared.work.Work.{Work}
+use Rattle.mt_write.specs.declared.work.Work.{Work}
 use Rattle.mt_calls.specs.declared.progress.Progress.{Progress}
 use Rattle.mt_calls.specs.declared.progress.Progress.TheVariants.{Moved as WentOn, Waits, Committed, Answered, Refused as EndsRefused}
 use Rattle.mt_calls.specs.World.{World, IsWorld, IsTaken}
 use Rattle.mt_calls.specs.Step.{IsUnbounded}
-use Rattle.mt_calls.specs.Works.{request_of, held, IsTrue, IsNew, IsServedRequest}
+use Rattle.mt_write.specs.Works.{request_of, held, IsTrue, IsNew, IsServedRequest}
 use Rattle.mt_index.specs.Paired.{Paired}
 use Rattle.mt_index.specs.Calls.{CallsView, call_at, without, AreApart, all_reserved, StepsCall}
 

@@ -4,7 +4,7 @@ ghost use Rattle.std.specs.Prelude.{◌≡◌, ◌+◌, ◌-◌, ◌^◌, ◌<�
 ghost use Rattle.mt_index.specs.Calls.{call_at, without, MayStepOf, StepsCall};
 
 use mt_calls::progress::Progress;
-use mt_calls::work::Work;
+use mt_write::work::Work;
 use mt_commit::log::Log;
 use mt_tree::Tree;
 use mt_types::numbers::PassNo;

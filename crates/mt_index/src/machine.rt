@@ -4,14 +4,14 @@ ghost use Rattle.std.specs.Prelude.{◌≡◌, [], ◌∷◌, length, IfOk, IfEr
 ghost use Rattle.mt_types.specs.Limits.{open_fault};
 ghost use Rattle.mt_promise.specs.History.{History, happening, moment};
 ghost use Rattle.mt_promise.specs.Legal.{begin_fault};
-ghost use Rattle.mt_calls.specs.Works.{IsServedRequest};
+ghost use Rattle.mt_write.specs.Works.{IsServedRequest};
 ghost use Rattle.mt_index.specs.Causes.{IsCaused};
 ghost use Rattle.mt_index.specs.Stands.{Stands, IsServed, Begins, Steps, IsRun};
 
 use crate::calls::{Call, Calls, Stepped};
 use crate::options::Options;
 use mt_calls::progress::Progress;
-use mt_calls::work::work_of;
+use mt_write::work::work_of;
 use mt_commit::log::Log;
 use mt_tree::Tree;
 use mt_types::event::{Event, Outcome, Reply, Request};
