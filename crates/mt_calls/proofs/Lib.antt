@@ -3,5 +3,6 @@ pub mod FrameLemmas
 pub mod FoundLemmas
 pub mod BorderLemmas
 pub mod SplitLemmas
+pub mod LayerLemmas
 pub mod GetLemmas
 pub mod RangeLemmas

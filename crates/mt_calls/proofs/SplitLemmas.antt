@@ -36,7 +36,7 @@ no_top : {level low other_low : ℕ} {prefix other : List ℕ} {standing stands 
 no_top e = cc
 
 -- what the chart doesn't know is no head of the tree
-heads_occupied : (a after : ArenaView) (w : World) (number : ℕ) (node : Node) → Updates a.nodes after.nodes number (Some node) → w.chart number ≡ None → HeadsAreAlive a w.chart → HeadsAreAlive after w.chart
+pub heads_occupied : (a after : ArenaView) (w : World) (number : ℕ) (node : Option Node) → Updates a.nodes after.nodes number node → w.chart number ≡ None → HeadsAreAlive a w.chart → HeadsAreAlive after w.chart
 heads_occupied a after w number node updates unknown heads = record {
   alive = λ other prefix head place is. elim (same_number other number) [
     | inl e ↦ absurd (not_known (sym unknown ∙ (ap w.chart (sym e) ∙ place)))
@@ -51,7 +51,7 @@ goes_occupied now a after w number node owned Then vacant updates unknown keeps 
     let kept = keeps.keeps now w.twins w.chart world.index in
     record {
       next = w;
-      world = record { index = kept.index; keys = keys_same a after kept.content world.keys; heads = heads_occupied a after w number node updates (unknown.unknown now w.twins w.chart world.index) world.heads };
+      world = record { index = kept.index; keys = keys_same a after kept.content world.keys; heads = heads_occupied a after w number (Some node) updates (unknown.unknown now w.twins w.chart world.index) world.heads };
       evolves = kept.evolves;
       leaves = λ other taken apart.
           let differ = vacant_free a w number other vacant taken in
