@@ -54,7 +54,7 @@ module _ (a : ArenaView) (n : ℕ) (b : BorderView) (change : BorderView → Bor
   heads_changed chart heads = record {
     alive = λ number prefix head on is. elim (same_number number n) [
       | inl e ↦ (let none : head_at (with_border_changed a n change).nodes number ≡ None = ap (λ (m : ℕ). head_at (with_border_changed a n change).nodes m) e ∙ ap (option_and_then head_of) updated.changed in
-        let clash : ◌≡◌ {A = Option HeadView} None (Some head) = sym none ∙ is in cc)
+          let clash : ◌≡◌ {A = Option HeadView} None (Some head) = sym none ∙ is in cc)
       | inr differ ↦ heads.alive number prefix head on (sym (ap (option_and_then head_of) (others_named number differ)) ∙ is)
     ];
   }

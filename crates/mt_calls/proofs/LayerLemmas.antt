@@ -1,4 +1,4 @@
--- What the steps that make a new layer leave: two changes in one step, a spare given back or changed, and the link to the layer.
+-- What the steps that make a new layer leave: two spares, a spare given back or changed, and the link to the layer.
 use Rattle.std.proofs.Common.{ℕ, ◌≡◌, ◌≢◌, inl, inr, true, false, List, [], ◌∷◌, slice_get, Option, Some, None, IsSome, refl, sym, ap, subst, ◌∙◌}
 use Rattle.std.specs.Option.{option_and_then}
 use Rattle.mt_types.specs.declared.numbers.NodeNo.{NodeNo}
@@ -14,58 +14,90 @@ use Rattle.mt_chart.specs.Chart.{on, at_level, top, Spot, spot, Chart}
 use Rattle.mt_chart.specs.Steps.{SameContent}
 use Rattle.mt_chart.proofs.Basics.{same_number}
 use Rattle.mt_chart.proofs.Entries.{among_cases}
-use Rattle.mt_chart.proofs.HeldNodes.{evolves_same, evolves_again}
+use Rattle.mt_chart.proofs.HeldNodes.{evolves_again}
 use Rattle.mt_tree.specs.Seen.{arena_seen}
-use Rattle.mt_tree.specs.Keeping.{KeepsTree, KeepsUnknown, IsOnIn}
+use Rattle.mt_tree.specs.Keeping.{KeepsTree, KeepsUnknown, IsUnknown, IsOnIn}
 use Rattle.mt_tree.specs.BorderSteps.{MakesLayerAt}
 use Rattle.mt_calls.specs.World.{World, IsWorld, HeadsAreAlive, IsLocked, IsTaken, IsSame, NotAmong, Goes}
 use Rattle.mt_calls.proofs.FrameLemmas.{is_among, taken_back}
 use Rattle.mt_calls.proofs.BorderLemmas.{keys_same, heads_changed, others_named, now_named}
-use Rattle.mt_calls.proofs.SplitLemmas.{heads_occupied, with_spot, spot_changes}
+use Rattle.mt_calls.proofs.SplitLemmas.{vacant_free, heads_occupied, with_spot, spot_changes}
 
--- ---- two changes in one step
-taken_on : (a after : ArenaView) (w next : World) (number : ℕ) → IsSame a after w next number → IsTaken a w number → IsTaken after next number
-taken_on a after w next number same = taken_back after a next w number (record { node = sym same.node; spot = sym same.spot })
+-- ---- two spares
+-- the same rows, by two changes
+pub content_twice : (a mid after : ArenaView) → SameContent (arena_seen a) (arena_seen mid) → SameContent (arena_seen mid) (arena_seen after) → SameContent (arena_seen a) (arena_seen after)
+content_twice a mid after one two = λ place row. ((λ has. (one place row).0 ((two place row).0 has)), (λ has. (two place row).1 ((one place row).1 has)))
 
-pub goes_both : (now : ℕ) (a mid after : ArenaView) (w : World) (owned owns then_owns : List ℕ) (Mid Then : World → Type 0) → (g : Goes now a mid w owned owns Mid) → Goes now mid after g.next owns then_owns Then → Goes now a after w owned then_owns Then
-goes_both now a mid after w owned owns then_owns Mid Then g h = record {
-  next = h.next;
-  world = h.world;
-  evolves = λ begun before. evolves_again begun w.chart g.next.chart h.next.chart (g.evolves begun before) (h.evolves begun before);
-  leaves = λ other taken apart.
-      let (same, out) = g.leaves other taken apart in
-      let (again, out_again) = h.leaves other (taken_on a mid w g.next other same taken) out in
-      (record { node = again.node ∙ same.node; spot = again.spot ∙ same.spot }, out_again);
-  takes = λ number taken. elim (h.takes number taken) [
-    | inl i ↦ inl i
-    | inr old ↦ elim (g.takes number old.0) [ inl i ↦ absurd (old.1 i) | inr older ↦ inr older ]
-  ];
-  true = h.true;
-}
+module _ (now : ℕ) (a mid after : ArenaView) (w : World) (one two : ℕ) (node_one node_two : Node) (owned : List ℕ) (Then : World → Type 0) (vacant_one : node_at a.nodes one ≡ None) (updates_one : Updates a.nodes mid.nodes one (Some node_one)) (unknown_one : IsUnknown a one)
+    (keeps_one : KeepsTree a mid) (vacant_two : node_at mid.nodes two ≡ None) (updates_two : Updates mid.nodes after.nodes two (Some node_two)) (unknown_two : IsUnknown mid two) (keeps_two : KeepsTree mid after) (world : IsWorld a now w) where
+  pub two_apart : one ≢ two
+  two_apart e = (let clash : ◌≡◌ {A = Option Node} None (Some node_one) = sym vacant_two ∙ (ap (λ (m : ℕ). node_at mid.nodes m) (sym e) ∙ updates_one.changed) in cc)
 
--- ---- a spare is given back
-pub goes_given_back : (now : ℕ) (a after : ArenaView) (w : World) (number : ℕ) (owned : List ℕ) (Then : World → Type 0) → Updates a.nodes after.nodes number None → KeepsUnknown a after number → w.chart number ≡ None
-    → IsWorld a now w → Then w → Goes now a after w (number ∷ owned) owned Then
-goes_given_back now a after w number owned Then updates keeps unknown world truth =
-    let kept = keeps.keeps now w.twins w.chart world.index unknown in
-    record {
-      next = w;
-      world = record { index = kept.index; keys = keys_same a after kept.content world.keys; heads = heads_occupied a after w number None updates unknown world.heads };
-      evolves = kept.evolves;
-      leaves = λ other taken apart. (record { node = updates.others other (λ e. apart (subst (λ (m : ℕ). Among m (number ∷ owned)) (sym e) first)); spot = refl }, λ i. apart (later i));
-      takes = λ other taken. elim (same_number other number) [
-        | inl e ↦ absurd (nothing_taken other (ap (λ (m : ℕ). node_at after.nodes m) e ∙ updates.changed) taken)
-        | inr differ ↦ elim (is_among other owned) [
-          | inl i ↦ inl i
-          | inr out ↦ inr (taken_back a after w w other (record { node = updates.others other differ; spot = refl }) taken, λ i. elim (among_cases other number owned i) [ inl e ↦ differ e | inr j ↦ out j ])
-        ]
-      ];
-      true = truth;
-    }
+  pub others_same : (other : ℕ) → other ≢ one → other ≢ two → node_at after.nodes other ≡ node_at a.nodes other
+  others_same other ne_one ne_two = updates_two.others other ne_two ∙ updates_one.others other ne_one
+
+  vacant_first : node_at a.nodes two ≡ None
+  vacant_first = sym (updates_one.others two (λ e. two_apart (sym e))) ∙ vacant_two
+
+  -- once two spares are occupied, the call owns both
+  pub goes_two : Then w → Goes now a after w owned (two ∷ one ∷ owned) Then × SameContent (arena_seen a) (arena_seen after)
+  goes_two truth =
+      let kept = keeps_one.keeps now w.twins w.chart world.index in
+      let again = keeps_two.keeps now w.twins w.chart kept.index in
+      let content = content_twice a mid after kept.content again.content in (
+        record {
+          next = w;
+          world = record {
+            index = again.index;
+            keys = keys_same a after content world.keys;
+            heads = heads_occupied mid after w two (Some node_two) updates_two (unknown_two.unknown now w.twins w.chart kept.index) (heads_occupied a mid w one (Some node_one) updates_one (unknown_one.unknown now w.twins w.chart world.index) world.heads);
+          };
+          evolves = λ begun before. evolves_again begun w.chart w.chart w.chart (kept.evolves begun before) (again.evolves begun before);
+          leaves = λ other taken apart.
+              let not_one = vacant_free a w one other vacant_one taken in
+              let not_two = vacant_free a w two other vacant_first taken in
+              (record { node = others_same other not_one not_two; spot = refl }, λ i. neither other not_one not_two apart i);
+          takes = λ other taken. elim (same_number other two) [
+            | inl e ↦ inl (subst (λ (m : ℕ). Among other (m ∷ (one ∷ owned))) e first)
+            | inr not_two ↦ elim (same_number other one) [
+              | inl e ↦ inl (later (subst (λ (m : ℕ). Among other (m ∷ owned)) e first))
+              | inr not_one ↦ elim (is_among other owned) [ inl i ↦ inl (later (later i)) | inr out ↦ inr (taken_back a after w w other (record { node = others_same other not_one not_two; spot = refl }) taken, out) ]
+            ]
+          ];
+          true = truth;
+        },
+        content,
+      )
+    where
+      neither : (other : ℕ) → other ≢ one → other ≢ two → NotAmong other owned → Among other (two ∷ one ∷ owned) → ⊥
+      neither other not_one not_two apart first = not_two refl
+      neither other not_one not_two apart (later first) = not_one refl
+      neither other not_one not_two apart (later (later i)) = apart i
+
+-- ---- a spare that is given back in the same step
+pub goes_given_back : (now : ℕ) (a mid after : ArenaView) (w : World) (number : ℕ) (node : Node) (owned : List ℕ) (Then : World → Type 0) → node_at a.nodes number ≡ None → Updates a.nodes mid.nodes number (Some node) → IsUnknown a number → KeepsTree a mid
+    → Updates mid.nodes after.nodes number None → KeepsUnknown mid after number → IsWorld a now w → Then w → Goes now a after w owned owned Then × SameContent (arena_seen a) (arena_seen after)
+goes_given_back now a mid after w number node owned Then vacant updates unknown keeps back keeps_back world truth =
+    let kept = keeps.keeps now w.twins w.chart world.index in
+    let unknown_now = unknown.unknown now w.twins w.chart world.index in
+    let again = keeps_back.keeps now w.twins w.chart kept.index unknown_now in
+    let content = content_twice a mid after kept.content again.content in (
+      record {
+        next = w;
+        world = record { index = again.index; keys = keys_same a after content world.keys; heads = heads_occupied mid after w number None back unknown_now (heads_occupied a mid w number (Some node) updates unknown_now world.heads) };
+        evolves = λ begun before. evolves_again begun w.chart w.chart w.chart (kept.evolves begun before) (again.evolves begun before);
+        leaves = λ other taken apart. (record { node = same other; spot = refl }, apart);
+        takes = λ other taken. elim (is_among other owned) [ inl i ↦ inl i | inr out ↦ inr (taken_back a after w w other (record { node = same other; spot = refl }) taken, out) ];
+        true = truth;
+      },
+      content,
+    )
   where
-    nothing_taken : (other : ℕ) → node_at after.nodes other ≡ None → IsTaken after w other → ⊥
-    nothing_taken other none (inl locked) = subst (λ (x : Option Node). IsLocked x) none locked
-    nothing_taken other none (inr spare) = (let some : IsSome (let nothing : Option Node = None in nothing) = subst (λ (x : Option Node). IsSome x) none spare.0 in cc)
+    same : (other : ℕ) → node_at after.nodes other ≡ node_at a.nodes other
+    same other = elim (same_number other number) [
+      | inl e ↦ ap (λ (m : ℕ). node_at after.nodes m) e ∙ (back.changed ∙ (sym vacant ∙ ap (λ (m : ℕ). node_at a.nodes m) (sym e)))
+      | inr ne ↦ back.others other ne ∙ updates.others other ne
+    ]
 
 -- ---- a spare that the call owns is changed
 pub goes_spare_changed : (now : ℕ) (a after : ArenaView) (w : World) (number : ℕ) (node : Node) (owned : List ℕ) (Then : World → Type 0) → Updates a.nodes after.nodes number (Some node) → KeepsTree a after → w.chart number ≡ None → Among number owned
@@ -149,7 +181,7 @@ module _ (now : ℕ) (a : ArenaView) (w : World) (n head : ℕ) (root : NodeNo) 
   heads_layered = record {
     alive = λ number other h standing is. elim (same_number number head) [
       | inl e ↦ (let both : ◌≡◌ {A = Option HeadView} (Some (new_head root 0 false)) (Some h) = sym is_head ∙ (sym (ap (option_and_then head_of) head_now) ∙ (ap (λ (m : ℕ). head_at new.nodes m) (sym e) ∙ is)) in
-        let same : new_head root 0 false ≡ h = cc in ap (λ (x : HeadView). x.version.deleted) (sym same))
+          let same : new_head root 0 false ≡ h = cc in ap (λ (x : HeadView). x.version.deleted) (sym same))
       | inr ne_head ↦ elim (same_number number root.0) [
         | inl e ↦ absurd (no_head (root_spot below) other (sym root_placed ∙ (ap next.chart (sym e) ∙ standing)))
         | inr ne_root ↦ (heads_changed a n b change named w.chart world.heads).alive number other h (sym (others_placed number ne_head ne_root) ∙ standing) is

@@ -24,7 +24,7 @@ eqb-ne a b ne = elim (eqb_tells a b) [ inl p ↦ absurd (ne p.1) | inr p ↦ p.0
 
 -- ---- a spare
 -- a number that names nothing is nobody's
-vacant_free : (a : ArenaView) (w : World) (number other : ℕ) → node_at a.nodes number ≡ None → IsTaken a w other → other ≢ number
+pub vacant_free : (a : ArenaView) (w : World) (number other : ℕ) → node_at a.nodes number ≡ None → IsTaken a w other → other ≢ number
 vacant_free a w number other vacant (inl locked) e = subst (λ (x : Option Node). IsLocked x) (ap (λ (m : ℕ). node_at a.nodes m) e ∙ vacant) locked
 vacant_free a w number other vacant (inr spare) e =
     let some : IsSome (let nothing : Option Node = None in nothing) = subst (λ (x : Option Node). IsSome x) (ap (λ (m : ℕ). node_at a.nodes m) e ∙ vacant) spare.0 in cc

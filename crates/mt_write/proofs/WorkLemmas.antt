@@ -1,12 +1,12 @@
 -- What others' steps leave of each kind of call, and what each kind owns.
-use Rattle.std.proofs.Common.{ℕ, ◌≡◌, inl, inr, List, [], ◌∷◌, Option, Some, IsSome, true, refl, sym, ap, subst, ◌∙◌}
+use Rattle.std.proofs.Common.{ℕ, ◌≡◌, inl, inr, List, [], ◌∷◌, Option, Some, IsSome, Bool, true, false, refl, sym, ap, subst, ◌∙◌}
 use Rattle.std.specs.Option.{option_map, option_and_then}
 use Rattle.mt_commit.specs.Log.{LogView}
 use Rattle.mt_border.specs.Border.{BorderView}
-use Rattle.mt_arena.specs.Node.{border_at, border_of}
+use Rattle.mt_arena.specs.Node.{head_of, border_at, border_of}
 use Rattle.mt_arena.specs.Arena.{ArenaView}
 use Rattle.mt_arena.specs.declared.node.Node.{Node}
-use Rattle.mt_arena.proofs.NodeLemmas.{node-from_border}
+use Rattle.mt_arena.proofs.NodeLemmas.{node-from_head, node-from_border}
 use Rattle.mt_chart.specs.Tree.{Arena, Among, first, later}
 use Rattle.mt_chart.specs.Chart.{Spot, Evolves}
 use Rattle.mt_chart.specs.Walk.{others}
@@ -24,8 +24,9 @@ use Rattle.mt_calls.specs.declared.getting.Get.{Get}
 use Rattle.mt_write.specs.declared.writing.Write.{Write}
 use Rattle.mt_write.specs.declared.writing.Edit.{Edit}
 use Rattle.mt_write.specs.declared.writing.Stage.{Stage}
-use Rattle.mt_write.specs.declared.writing.Stage.TheVariants.{Seeks, Locked, Spared, HalfFilled, Halved, Filled, Made, Taken, Stored, Failed}
+use Rattle.mt_write.specs.declared.writing.Stage.TheVariants.{Seeks, Locked, Spared, HalfFilled, Halved, LayerSpared, LayerFilled, LayerReady, Layered, Filled, Made, Taken, Stored, Failed}
 use Rattle.mt_write.specs.declared.writing.Split.{Split}
+use Rattle.mt_write.specs.declared.writing.Layer.{Layer}
 use Rattle.mt_calls.specs.declared.progress.Progress.{Progress}
 use Rattle.mt_write.specs.declared.work.Work.{Work}
 use Rattle.mt_write.specs.declared.work.Work.TheVariants.{Get as GetWork, Write as WriteWork, Range as RangeWork}
@@ -33,7 +34,7 @@ use Rattle.mt_calls.specs.World.{World, IsLocked, IsTaken, IsSame}
 use Rattle.mt_calls.specs.Way.{IsOnWay}
 use Rattle.mt_calls.specs.Step.{Held, Truth, StepLaw, nothing}
 use Rattle.mt_calls.specs.Getting.{GetIsTrue, get_request}
-use Rattle.mt_write.specs.Writing.{StageIsTrue, stage_held, IsLockedAt, IsLockedBorder, HasLocked, IsSpare, owned, WriteIsTrue, write_request, write_held}
+use Rattle.mt_write.specs.Writing.{StageIsTrue, stage_held, IsLockedAt, IsLockedBorder, HasLocked, HasLayer, IsSpare, owned, layer_owned, way_below, WriteIsTrue, write_request, write_held}
 use Rattle.mt_write.specs.Works.{request_of, held, IsTrue}
 
 -- ---- a step of one kind is a step of a call
@@ -82,6 +83,14 @@ module _ (a after : ArenaView) (w next : World) where
   spare_stays : (number : ℕ) (b : BorderView) → IsSame a after w next number → IsSpare a w number b → IsSpare after next number b
   spare_stays number b same s = record { named = same_border number b same s.named; unknown = same.spot ∙ s.unknown; locked = s.locked }
 
+  layer_stays : (layer : Layer) (locked : Bool) (root : BorderView) → IsSame a after w next layer.head.0 → IsSame a after w next layer.root.0 → HasLayer a w layer locked root → HasLayer after next layer locked root
+  layer_stays layer locked root head_same root_same has = record {
+    head = ap (option_and_then head_of) head_same.node ∙ has.head;
+    is_root = same_border layer.root.0 root root_same has.is_root;
+    head_unknown = head_same.spot ∙ has.head_unknown;
+    root_unknown = root_same.spot ∙ has.root_unknown;
+  }
+
   has_locked_stays : (number : ℕ) (split : Option Split) → ((other : ℕ) → Among other (owned number split) → IsSame a after w next other) → HasLocked a w number split → HasLocked after next number split
   has_locked_stays number split same has = record { locked = λ other i. locked_stays other (same other i) (has.locked other i); own = has.own; two = has.two }
 
@@ -92,6 +101,10 @@ module _ (a after : ArenaView) (w next : World) where
     stage_stays key edit way (Spared half cut entries) same truth = let (b, at, c, s, e) = truth in (b, locked_at_stays key way b (same way.node.0 (later first)) at, c, spare_stays half.0 _ (same half.0 first) s, e)
     stage_stays key edit way (HalfFilled half cut) same truth = let (b, at, c, s) = truth in (b, locked_at_stays key way b (same way.node.0 (later first)) at, c, spare_stays half.0 _ (same half.0 first) s)
     stage_stays key edit way (Halved split) same truth = let (b, at, h, has) = truth in (b, locked_at_stays key way b (same way.node.0 has.own) at, h, has_locked_stays way.node.0 (Some split) same has)
+    stage_stays key edit way (LayerSpared layer entries) same truth = let (b, at, f) = truth in (b, locked_at_stays key way b (same way.node.0 (later (later first))) at, record { number = f.number; at = f.at; has = layer_stays layer true _ (same layer.head.0 first) (same layer.root.0 (later first)) f.has; moved = f.moved; whole = f.whole })
+    stage_stays key edit way (LayerFilled layer) same truth = let (b, at, f) = truth in (b, locked_at_stays key way b (same way.node.0 (later (later first))) at, record { number = f.number; at = f.at; has = layer_stays layer true _ (same layer.head.0 first) (same layer.root.0 (later first)) f.has })
+    stage_stays key edit way (LayerReady layer) same truth = let (b, at, f) = truth in (b, locked_at_stays key way b (same way.node.0 (later (later first))) at, record { number = f.number; at = f.at; has = layer_stays layer false _ (same layer.head.0 first) (same layer.root.0 (later first)) f.has })
+    stage_stays key edit way (Layered head) same truth = (locked_stays way.node.0 (same way.node.0 first) truth.0, way_stays begun key (way_below way head) evolves truth.1)
     stage_stays key edit way (Filled place stored logged split) same truth = let (b, at, f, has) = truth in (b, locked_at_stays key way b (same way.node.0 has.own) at, f, has_locked_stays way.node.0 split same has)
     stage_stays key edit way (Made place stored columns logged) same truth = let (b, at, f) = truth in (b, locked_at_stays key way b (same way.node.0 first) at, f)
     stage_stays key edit way (Taken place stored before) same truth = let (b, at, f) = truth in (b, locked_at_stays key way b (same way.node.0 first) at, f)
@@ -123,12 +136,21 @@ module _ (C begun moves : ℕ) (past : List Arena) (a : ArenaView) (w : World) w
   spare_taken half n number u s b named locked first = inr (subst (λ (x : Option Node). IsSome x) (sym (node-from_border a.nodes half u s.named)) refl, s.unknown)
   spare_taken half n number u s b named locked (later i) = border_taken a w n number b named locked i
 
+  layer_taken : (n number : ℕ) (layer : Layer) (locked : Bool) (root : BorderView) → HasLayer a w layer locked root → (b : BorderView) → border_at a.nodes n ≡ Some b → b.version.locked ≡ true → Among number (layer_owned n layer) → IsTaken a w number
+  layer_taken n number layer locked root has b named is_locked first = inr (subst (λ (x : Option Node). IsSome x) (sym (node-from_head a.nodes layer.head.0 _ has.head)) refl, has.head_unknown)
+  layer_taken n number layer locked root has b named is_locked (later first) = inr (subst (λ (x : Option Node). IsSome x) (sym (node-from_border a.nodes layer.root.0 root has.is_root)) refl, has.root_unknown)
+  layer_taken n number layer locked root has b named is_locked (later (later i)) = border_taken a w n number b named is_locked i
+
   stage_taken : (key : List ℕ) (edit : Edit) (way : Way) (stage : Stage) → StageIsTrue C key edit way stage begun a w → (number : ℕ) → Among number (stage_held way.node.0 stage).owns → IsTaken a w number
   stage_taken key edit way Seeks truth number i = elim i [ ]
   stage_taken key edit way Locked truth number i = let (b, at) = truth in border_taken a w way.node.0 number b at.named at.locked i
   stage_taken key edit way (Spared half cut entries) truth number i = let (b, at, c, s, e) = truth in spare_taken half.0 way.node.0 number _ s b at.named at.locked i
   stage_taken key edit way (HalfFilled half cut) truth number i = let (b, at, c, s) = truth in spare_taken half.0 way.node.0 number _ s b at.named at.locked i
   stage_taken key edit way (Halved split) truth number i = let (b, at, h, has) = truth in all_taken way.node.0 (Some split) has number i
+  stage_taken key edit way (LayerSpared layer entries) truth number i = let (b, at, f) = truth in layer_taken way.node.0 number layer true _ f.has b at.named at.locked i
+  stage_taken key edit way (LayerFilled layer) truth number i = let (b, at, f) = truth in layer_taken way.node.0 number layer true _ f.has b at.named at.locked i
+  stage_taken key edit way (LayerReady layer) truth number i = let (b, at, f) = truth in layer_taken way.node.0 number layer false _ f.has b at.named at.locked i
+  stage_taken key edit way (Layered head) truth number i = border_taken a w way.node.0 number truth.0.b truth.0.named truth.0.locked i
   stage_taken key edit way (Filled place stored logged split) truth number i = let (b, at, f, has) = truth in all_taken way.node.0 split has number i
   stage_taken key edit way (Made place stored columns logged) truth number i = let (b, at, f) = truth in border_taken a w way.node.0 number b at.named at.locked i
   stage_taken key edit way (Taken place stored before) truth number i = let (b, at, f) = truth in border_taken a w way.node.0 number b at.named at.locked i

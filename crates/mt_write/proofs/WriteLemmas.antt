@@ -33,6 +33,8 @@ use Rattle.mt_arena.specs.Node.{node_at, border_at, border_of}
 use Rattle.mt_arena.specs.declared.node.Node.TheVariants.{Border}
 use Rattle.mt_chart.proofs.Basics.{same_number}
 use Rattle.mt_calls.proofs.SplitLemmas.{goes_occupied}
+use Rattle.mt_calls.proofs.LayerLemmas.{goes_given_back}
+use Rattle.mt_write.proofs.SpareLemmas.{has_locked_back, spares_go}
 use Rattle.mt_write.proofs.WorkLemmas.{locked_at_stays}
 use Rattle.mt_arena.specs.Arena.{ArenaView, with_border_changed}
 use Rattle.mt_chart.specs.Tree.{first, Arena, BorderNode, Has, Below, before_right}
@@ -51,14 +53,14 @@ use Rattle.mt_calls.specs.declared.way.Went.TheVariants.{To, Here}
 use Rattle.mt_write.specs.declared.writing.Edit.{Edit}
 use Rattle.mt_write.specs.declared.writing.Edit.TheVariants.{Put as PutEdit, Remove as RemoveEdit}
 use Rattle.mt_write.specs.declared.writing.Stage.{Stage}
-use Rattle.mt_write.specs.declared.writing.Stage.TheVariants.{Seeks, Locked, Spared, HalfFilled, Halved, Filled, Made, Taken, Stored, Failed}
+use Rattle.mt_write.specs.declared.writing.Stage.TheVariants.{Seeks, Locked, Spared, HalfFilled, Halved, LayerSpared, LayerFilled, LayerReady, Layered, Filled, Made, Taken, Stored, Failed}
 use Rattle.mt_write.specs.declared.writing.Split.{Split}
 use Rattle.mt_calls.specs.declared.progress.Progress.{Progress}
 use Rattle.mt_calls.specs.declared.progress.Progress.TheVariants.{Moved, Waits, Committed, Answered, Refused}
 use Rattle.mt_calls.specs.World.{World, IsWorld, RowsAreOfKeys, Goes}
 use Rattle.mt_calls.specs.Way.{rest_of, prefix_of, IsLayerOf, IsOnWay, IsAtPlace, GoesTo, Visits}
 use Rattle.mt_calls.specs.Step.{Held, Truth, Stepped, StepLaw, MayStep, RowIs, IsQuiet, put_row, Commits, Changes, MayRefuse, IsRight}
-use Rattle.mt_write.specs.Writing.{edit_request, written_answer, stage_held, IsLockedAt, IsLockedBorder, HasLocked, IsSpare, IsCutAt, IsHalf, IsAbsent, empty_half, upper_half, owned, SomeSets, Spares, IsFilled, IsMade, IsFound, StageIsTrue, new_entry, Fills, Prepares, PreparesRemove, LacksRow, put_delta, remove_delta}
+use Rattle.mt_write.specs.Writing.{edit_request, written_answer, stage_held, IsLockedAt, IsLockedBorder, HasLocked, IsSpare, IsCutAt, IsHalf, IsAbsent, empty_half, upper_half, owned, SomeSets, Spares, IsBack, IsFilled, IsMade, IsFound, StageIsTrue, new_entry, Fills, Prepares, PreparesRemove, LacksRow, put_delta, remove_delta}
 use Rattle.mt_calls.proofs.FrameLemmas.{goes_same, quiet_same}
 use Rattle.std.specs.Prelude.{IsSomeAnd, IsTrue}
 use Rattle.mt_calls.proofs.FoundLemmas.{some_at}
@@ -194,11 +196,11 @@ place_of_content : (slice : ℕ) (class : Class) (suffix : List ℕ) (row : Row)
 place_of_content slice (Len n) suffix row = refl
 place_of_content slice LongClass suffix row = refl
 
-row_of_content : (class : Class) (suffix : List ℕ) (row : Row) → content_row (content_of class suffix row) ≡ Some row
+pub row_of_content : (class : Class) (suffix : List ℕ) (row : Row) → content_row (content_of class suffix row) ≡ Some row
 row_of_content (Len n) suffix row = refl
 row_of_content LongClass suffix row = refl
 
-entry_place_is : (rest : List ℕ) (row : Row) → entry_place (entry_of_row rest row) ≡ place_of rest
+pub entry_place_is : (rest : List ℕ) (row : Row) → entry_place (entry_of_row rest row) ≡ place_of rest
 entry_place_is rest row = place_of_content (slice_number rest) (class_of (length rest)) (drop 8 rest) row ∙ sym (place_of-place_at rest)
 
 left_of_right : (slice : ℕ) (right : Option RightLink) → Below slice (option_map right_seen right) → IsBeforeRight slice right
@@ -308,19 +310,31 @@ module _ (C : ℕ) (a : ArenaView) (log : LogView) (key : List ℕ) (sets : List
         may = λ get. absurd (let clash : false ≡ true = get in cc);
       })
 
-  ready_fail : (split : Option Split) (refusal : Refusal) (after : ArenaView) (left : LogView) → MayRefuse (PutRequest key sets) refusal × (after ≡ a) × (left ≡ log) → (now begun moves : ℕ) (past : List Arena) (w : World) → IsWorld a now w → HasLocked a w way.node.0 split
-      → Stepped C now moves past a after log left w (PutRequest key sets) (record { owns = owned way.node.0 split; reserves = 0; committed = None }) Moved (stage_held way.node.0 (Failed refusal split)) (λ m next. StageIsTrue C key (PutEdit sets) way (Failed refusal split) begun after next)
-  ready_fail split refusal after left f now begun moves past w world has =
-      subst (λ (x : ArenaView). Stepped C now moves past a x log left w (PutRequest key sets) (record { owns = owned way.node.0 split; reserves = 0; committed = None }) Moved (stage_held way.node.0 (Failed refusal split)) (λ m next. StageIsTrue C key (PutEdit sets) way (Failed refusal split) begun x next)) (sym f.1)
-      (subst (λ (l : LogView). Stepped C now moves past a a log l w (PutRequest key sets) (record { owns = owned way.node.0 split; reserves = 0; committed = None }) Moved (stage_held way.node.0 (Failed refusal split)) (λ m next. StageIsTrue C key (PutEdit sets) way (Failed refusal split) begun a next)) (sym f.2)
-      (record {
-        goes = goes_same now a w _ (owned way.node.0 split) (owned way.node.0 split) refl world (has, f.0);
-        does = (quiet_same a log, refl);
-        reserved = refl;
-        feed = refl;
-        holders = refl;
-        may = λ get. absurd (let clash : false ≡ true = get in cc);
-      }))
+  abbrev FailStep : ArenaView → LogView → Option Split → Refusal → ℕ → ℕ → ℕ → List Arena → World → Type 0
+  FailStep after left split refusal now begun moves past w =
+      Stepped C now moves past a after log left w (PutRequest key sets) (record { owns = owned way.node.0 split; reserves = 0; committed = None }) Moved (stage_held way.node.0 (Failed refusal split)) (λ m next. StageIsTrue C key (PutEdit sets) way (Failed refusal split) begun after next)
+
+  ready_fail : (split : Option Split) (refusal : Refusal) (after : ArenaView) (left : LogView) → MayRefuse (PutRequest key sets) refusal × IsBack a after × (left ≡ log) → (now begun moves : ℕ) (past : List Arena) (w : World) → IsWorld a now w → HasLocked a w way.node.0 split → FailStep after left split refusal now begun moves past w
+  ready_fail split refusal after left (may, back, same_log) now begun moves past w world has = subst (λ (l : LogView). FailStep after l split refusal now begun moves past w) (sym same_log) (elim back [
+    | inl same ↦ subst (λ (x : ArenaView). FailStep x log split refusal now begun moves past w) (sym same) (record {
+      goes = goes_same now a w _ (owned way.node.0 split) (owned way.node.0 split) refl world (has, may);
+      does = (quiet_same a log, refl);
+      reserved = refl;
+      feed = refl;
+      holders = refl;
+      may = λ get. absurd (let clash : false ≡ true = get in cc);
+    })
+    | inr gave ↦ (let o = gave.occupied in
+        let (goes, content) = goes_given_back now a gave.between after w gave.number gave.node (owned way.node.0 split) (λ next. StageIsTrue C key (PutEdit sets) way (Failed refusal split) begun after next) o.vacant o.updates o.unknown o.keeps gave.back gave.keeps world
+        (has_locked_back a gave.between after w way.node.0 split gave.number gave.node o.vacant o.updates gave.back has, may) in record {
+          goes = goes;
+          does = (record { content = content; trimmed = refl; deltas = refl }, refl);
+          reserved = refl;
+          feed = refl;
+          holders = refl;
+          may = λ get. absurd (let clash : false ≡ true = get in cc);
+        })
+  ])
 
   ready : (stage : Stage) (after : ArenaView) (left : LogView) → Prepares C key sets way a log None stage after left → ReadyLaw after left stage
   ready (Filled place stored logged split) after left (none, f) = subst (λ (s : Option Split). ReadyLaw after left (Filled place stored logged s)) (sym none) (record {
@@ -331,18 +345,33 @@ module _ (C : ℕ) (a : ArenaView) (log : LogView) (key : List ℕ) (sets : List
         let (b, was) = truth in
         let same : f.b ≡ b = (let both : ◌≡◌ {A = Option BorderView} (Some f.b) (Some b) = sym f.named ∙ was.named in cc) in
         let at : IsLockedAt a key way f.b w = subst (λ (x : BorderView). IsLockedAt a key way x w) (sym same) was in
-        let differ : way.node.0 ≢ half.0 = λ e. vacant_border a half.0 f.b f.vacant (ap (λ (m : ℕ). border_at a.nodes m) (sym e) ∙ at.named) in
-        let now_is : border_at after.nodes half.0 ≡ Some (empty_half f.b f.cut_at.middle) = ap (option_and_then border_of) f.updates.changed in
+        let differ : way.node.0 ≢ half.0 = λ e. vacant_border a half.0 f.b f.occupied.vacant (ap (λ (m : ℕ). border_at a.nodes m) (sym e) ∙ at.named) in
+        let now_is : border_at after.nodes half.0 ≡ Some (empty_half f.b f.cut_at.middle) = ap (option_and_then border_of) f.occupied.updates.changed in
         subst (λ (l : LogView). Stepped C now moves past a after log l w (PutRequest key sets) (stage_held way.node.0 Locked) Moved (stage_held way.node.0 (Spared half cut entries)) (λ m next. StageIsTrue C key (PutEdit sets) way (Spared half cut entries) begun after next)) (sym same_log)
         (record {
-          goes = goes_occupied now a after w half.0 (Border (empty_half f.b f.cut_at.middle)) (way.node.0 ∷ []) _ f.vacant f.updates f.unknown f.keeps world (
+          goes = goes_occupied now a after w half.0 (Border (empty_half f.b f.cut_at.middle)) (way.node.0 ∷ []) _ f.occupied.vacant f.occupied.updates f.occupied.unknown f.occupied.keeps world (
             f.b,
-            locked_at_stays a after w w key way f.b (record { node = f.updates.others way.node.0 differ; spot = refl }) at,
+            locked_at_stays a after w w key way f.b (record { node = f.occupied.updates.others way.node.0 differ; spot = refl }) at,
             f.cut_at,
-            record { named = now_is; unknown = f.unknown.unknown now w.twins w.chart world.index; locked = refl },
+            record { named = now_is; unknown = f.occupied.unknown.unknown now w.twins w.chart world.index; locked = refl },
             f.copied,
           );
-          does = (record { content = (f.keeps.keeps now w.twins w.chart world.index).content; trimmed = refl; deltas = refl }, refl);
+          does = (record { content = (f.occupied.keeps.keeps now w.twins w.chart world.index).content; trimmed = refl; deltas = refl }, refl);
+          reserved = refl;
+          feed = refl;
+          holders = refl;
+          may = λ get. absurd (let clash : false ≡ true = get in cc);
+        });
+  }
+  ready (LayerSpared layer entries) after left (none, f, same_log) = record {
+    steps = λ now begun moves past w world before truth.
+        let (b, was) = truth in
+        let same : f.b ≡ b = (let both : ◌≡◌ {A = Option BorderView} (Some f.b) (Some b) = sym f.named ∙ was.named in cc) in
+        let at : IsLockedAt a key way f.b w = subst (λ (x : BorderView). IsLockedAt a key way x w) (sym same) was in
+        let (goes, content) = spares_go now begun a after w key way layer entries f world at in
+        subst (λ (l : LogView). Stepped C now moves past a after log l w (PutRequest key sets) (stage_held way.node.0 Locked) Moved (stage_held way.node.0 (LayerSpared layer entries)) (λ m next. StageIsTrue C key (PutEdit sets) way (LayerSpared layer entries) begun after next)) (sym same_log) (record {
+          goes = goes;
+          does = (record { content = content; trimmed = refl; deltas = refl }, refl);
           reserved = refl;
           feed = refl;
           holders = refl;
@@ -367,6 +396,9 @@ module _ (C : ℕ) (a : ArenaView) (log : LogView) (key : List ℕ) (sets : List
     steps = λ now begun moves past w world before truth. let (b, at) = truth in ready_fail None refusal after left (may, same, same_log) now begun moves past w world (alone a key way b w at);
   })
   ready (HalfFilled half cut) after left f = absurd f
+  ready (LayerFilled layer) after left f = absurd f
+  ready (LayerReady layer) after left f = absurd f
+  ready (Layered head) after left f = absurd f
   ready (Halved split) after left f = absurd f
   ready Seeks after left f = absurd f
   ready Locked after left f = absurd f
@@ -396,6 +428,10 @@ half_ready C a log key sets way split Seeks after left f = absurd f
 half_ready C a log key sets way split Locked after left f = absurd f
 half_ready C a log key sets way split (Spared half cut entries) after left (is, f, same_log) = absurd (one_or_none is)
 half_ready C a log key sets way split (HalfFilled half cut) after left f = absurd f
+half_ready C a log key sets way split (LayerSpared layer entries) after left (is, f, same_log) = absurd (one_or_none is)
+half_ready C a log key sets way split (LayerFilled layer) after left f = absurd f
+half_ready C a log key sets way split (LayerReady layer) after left f = absurd f
+half_ready C a log key sets way split (Layered head) after left f = absurd f
 half_ready C a log key sets way split (Halved s) after left f = absurd f
 half_ready C a log key sets way split (Made place stored columns logged) after left (is, f) = absurd (one_or_none is)
 half_ready C a log key sets way split (Taken place stored before) after left f = absurd f
@@ -641,6 +677,10 @@ module _ (C : ℕ) (a : ArenaView) (log : LogView) (key : List ℕ) (edit : Edit
   take Locked left is_remove f = absurd f
   take (Spared half cut entries) left is_remove f = absurd f
   take (HalfFilled half cut) left is_remove f = absurd f
+  take (LayerSpared layer entries) left is_remove f = absurd f
+  take (LayerFilled layer) left is_remove f = absurd f
+  take (LayerReady layer) left is_remove f = absurd f
+  take (Layered head) left is_remove f = absurd f
   take (Halved split) left is_remove f = absurd f
   take (Filled place stored logged split) left is_remove f = absurd f
   take (Made place stored columns logged) left is_remove f = absurd f
@@ -653,21 +693,21 @@ module _ (C : ℕ) (a : ArenaView) (log : LogView) (key : List ℕ) (edit : Edit
       (take stage left is_remove p)
 
   -- ---- the end
-  ends : (then : Held) (committed : Option ℕ) (now : ℕ) (w : World) (after : ArenaView) → after ≡ with_border_changed a way.node.0 unlock → KeepsTree a after → IsWorld a now w → IsLockedBorder a w way.node.0
-      → Goes now a after w (way.node.0 ∷ []) [] (λ next. Unit {0}) × IsQuiet a after log log
-  ends then committed now w after is keeps world at =
+  pub ends : (Then : World → Type 0) (now : ℕ) (w : World) (after : ArenaView) → after ≡ with_border_changed a way.node.0 unlock → KeepsTree a after → IsWorld a now w → IsLockedBorder a w way.node.0 → Then w
+      → Goes now a after w (way.node.0 ∷ []) [] Then × IsQuiet a after log log
+  ends Then now w after is keeps world at truth =
       let kept = keeps.keeps now w.twins w.chart world.index in (
-        subst (λ (x : ArenaView). Goes now a x w (way.node.0 ∷ []) [] (λ next. Unit {0})) (sym is)
+        subst (λ (x : ArenaView). Goes now a x w (way.node.0 ∷ []) [] Then) (sym is)
             (goes_border a way.node.0 at.b unlock at.named now w (way.node.0 ∷ []) [] _ world (subst (λ (x : ArenaView). IsIndexAt x now w.twins w.chart) is kept.index)
             (subst (λ (x : ArenaView). RowsAreOfKeys x) is (keys_same a after kept.content world.keys))
-            (own_free a way.node.0 w) (λ other i. elim i [ ]) (λ other ne i. absurd (ne (among_one other way.node.0 i))) (λ taken. absurd (elim taken [ inl locked ↦ (let clash : false ≡ true = locked in cc) | inr none ↦ (let some : IsSome (let nothing : Option Spot = None in nothing) = subst (λ (x : Option Spot). IsSome x) none at.known in cc) ])) tt),
+            (own_free a way.node.0 w) (λ other i. elim i [ ]) (λ other ne i. absurd (ne (among_one other way.node.0 i))) (λ taken. absurd (elim taken [ inl locked ↦ (let clash : false ≡ true = locked in cc) | inr none ↦ (let some : IsSome (let nothing : Option Spot = None in nothing) = subst (λ (x : Option Spot). IsSome x) none at.known in cc) ])) truth),
         record { content = kept.content; trimmed = refl; deltas = refl },
       )
 
   pub answers : (number : ℕ) (answer : Answer) → answer ≡ written_answer edit number → (then : Held) (Then : Truth) (after : ArenaView) → after ≡ with_border_changed a way.node.0 unlock → KeepsTree a after → EndLaw after (Answered answer) then Then (Stored number None)
   answers number answer answer_is then Then after is keeps = record {
     steps = λ now begun moves past w world before truth.
-        let (goes, quiet) = ends then None now w after is keeps world (truth.locked way.node.0 first) in
+        let (goes, quiet) = ends (λ next. Unit {0}) now w after is keeps world (truth.locked way.node.0 first) tt in
         record { goes = goes; does = (quiet, subst (λ (x : Answer). IsRight past a (edit_request key edit) (Some number) x) (sym answer_is) (answer_right past a key edit number)); reserved = refl; feed = refl; holders = refl; may = tt };
   }
 
@@ -678,7 +718,7 @@ module _ (C : ℕ) (a : ArenaView) (log : LogView) (key : List ℕ) (edit : Edit
     steps = λ now begun moves past w world before truth.
         let (b, at) = truth in
         let same : lacking.b ≡ b = (let both : ◌≡◌ {A = Option BorderView} (Some lacking.b) (Some b) = sym lacking.named ∙ at.named in cc) in
-        let (goes, quiet) = ends then None now w after is keeps world (record { b = b; named = at.named; known = known_on (arena_seen a) w.chart way.node.0 (prefix_of key way) (border_seen b) at.stands.stands; locked = at.locked }) in
+        let (goes, quiet) = ends (λ next. Unit {0}) now w after is keeps world (record { b = b; named = at.named; known = known_on (arena_seen a) w.chart way.node.0 (prefix_of key way) (border_seen b) at.stands.stands; locked = at.locked }) tt in
         let stood = stood_is b w now lacking.bytes (subst IsBorder same lacking.sound) world at in
         let none : row_found b.live (found_for rest b.live) ≡ None = subst (λ (x : BorderView). row_found x.live (found_for rest x.live) ≡ None) same lacking.none in
         record {
@@ -694,7 +734,7 @@ module _ (C : ℕ) (a : ArenaView) (log : LogView) (key : List ℕ) (edit : Edit
   pub refuses : (refusal : Refusal) (then : Held) (Then : Truth) (after : ArenaView) → after ≡ with_border_changed a way.node.0 unlock → KeepsTree a after → EndLaw after (Refused refusal) then Then (Failed refusal None)
   refuses refusal then Then after is keeps = record {
     steps = λ now begun moves past w world before truth.
-        let (goes, quiet) = ends then None now w after is keeps world (truth.0.locked way.node.0 first) in
+        let (goes, quiet) = ends (λ next. Unit {0}) now w after is keeps world (truth.0.locked way.node.0 first) tt in
         record { goes = goes; does = (quiet, refl, truth.1); reserved = refl; feed = refl; holders = refl; may = tt };
   }
 

@@ -1,5 +1,5 @@
 -- What is true of a put or remove, at each of its stages.
-use Rattle.std.specs.Prelude.{ℕ, ◌≡◌, ◌≢◌, ◌<◌, ◌≤◌, ◌+◌, ◌⊎◌, List, [], ◌∷◌, length, drop, slice_get, Option, Some, None, IsSome, true, false}
+use Rattle.std.specs.Prelude.{ℕ, ◌≡◌, ◌≢◌, ◌<◌, ◌≤◌, ◌+◌, ◌⊎◌, List, [], ◌∷◌, length, drop, slice_get, Option, Some, None, IsSome, Bool, true, false}
 use Rattle.mt_types.specs.declared.limits.TheConstants.{MAX_KEY_BYTES}
 use Rattle.mt_types.specs.declared.row.Row.{Row}
 use Rattle.mt_types.specs.declared.row.Delta.{Delta}
@@ -15,28 +15,32 @@ use Rattle.mt_commit.specs.Log.{LogView}
 use Rattle.mt_border.specs.Border.{BorderView, row_at, with_filled, with_entries, new_border}
 use Rattle.mt_border.specs.Cut.{IsCut}
 use Rattle.mt_border.specs.declared.found.Found.{Found}
-use Rattle.mt_arena.specs.declared.node.Node.TheVariants.{Border}
+use Rattle.mt_arena.specs.declared.node.Node.TheVariants.{Border, Head}
 use Rattle.mt_chart.specs.Tree.{Among}
-use Rattle.mt_border.specs.Entry.{entry_of_row}
+use Rattle.mt_border.specs.Entry.{IsEntry, entry_of_row}
 use Rattle.mt_border.specs.Order.{IsBorder}
 use Rattle.mt_border.specs.declared.entry.Entry.{Entry}
+use Rattle.mt_border.specs.declared.entry.Content.TheVariants.{Long}
 use Rattle.mt_border.specs.declared.slot_table.Slot.{Slot}
 use Rattle.mt_border.specs.declared.found.Found.TheVariants.{Absent, Row as RowFound}
-use Rattle.mt_arena.specs.Node.{node_at, border_at, Updates}
+use Rattle.mt_arena.specs.Node.{node_at, head_at, border_at, Updates}
+use Rattle.mt_arena.specs.declared.node.Node.{Node}
+use Rattle.mt_interior.specs.Head.{new_head}
 use Rattle.mt_arena.specs.Arena.{ArenaView, with_border_changed}
 use Rattle.mt_chart.specs.Tree.{Arena}
 use Rattle.mt_chart.specs.TreeLaws.{IsWhere}
 use Rattle.mt_tree.specs.Seen.{arena_seen, border_seen}
-use Rattle.mt_tree.specs.Keeping.{KeepsTree, IsUnknown}
-use Rattle.mt_tree.specs.Descent.{IsLast, found_for, row_found}
+use Rattle.mt_tree.specs.Keeping.{KeepsTree, KeepsUnknown, IsUnknown}
+use Rattle.mt_tree.specs.Descent.{IsLast, HasOtherSuffix, found_for, row_found}
 use Rattle.mt_tree.specs.BorderSteps.{MayShowAt}
 use Rattle.mt_calls.specs.declared.way.Way.{Way}
 use Rattle.mt_write.specs.declared.writing.Write.{Write}
 use Rattle.mt_write.specs.declared.writing.Edit.{Edit}
 use Rattle.mt_write.specs.declared.writing.Edit.TheVariants.{Put as PutEdit, Remove as RemoveEdit}
 use Rattle.mt_write.specs.declared.writing.Stage.{Stage}
-use Rattle.mt_write.specs.declared.writing.Stage.TheVariants.{Seeks, Locked, Spared, HalfFilled, Halved, Filled, Made, Taken, Stored, Failed}
+use Rattle.mt_write.specs.declared.writing.Stage.TheVariants.{Seeks, Locked, Spared, HalfFilled, Halved, LayerSpared, LayerFilled, LayerReady, Layered, Filled, Made, Taken, Stored, Failed}
 use Rattle.mt_write.specs.declared.writing.Split.{Split}
+use Rattle.mt_write.specs.declared.writing.Layer.{Layer}
 use Rattle.mt_calls.specs.World.{World}
 use Rattle.mt_calls.specs.Way.{prefix_of, rest_of, IsLayerOf, IsOnWay}
 use Rattle.mt_calls.specs.declared.progress.Progress.{Progress}
@@ -64,6 +68,10 @@ abbrev pub AreTwo : Option Split → Type 0
 AreTwo None = Unit {0}
 AreTwo (Some split) = split.left.0 ≢ split.half.0
 
+-- the border, and the head and the root of the layer that it makes below it
+abbrev pub layer_owned : ℕ → Layer → List ℕ
+layer_owned number layer = layer.head.0 ∷ layer.root.0 ∷ number ∷ []
+
 -- what a write has: from the lock on its border, and from a stage that is ready on room in the log
 abbrev pub stage_held : ℕ → Stage → Held
 stage_held number Seeks = nothing
@@ -71,6 +79,10 @@ stage_held number Locked = record { owns = number ∷ []; reserves = 0; committe
 stage_held number (Spared half cut entries) = record { owns = half.0 ∷ number ∷ []; reserves = 0; committed = None }
 stage_held number (HalfFilled half cut) = record { owns = half.0 ∷ number ∷ []; reserves = 0; committed = None }
 stage_held number (Halved split) = record { owns = owned number (Some split); reserves = 0; committed = None }
+stage_held number (LayerSpared layer entries) = record { owns = layer_owned number layer; reserves = 0; committed = None }
+stage_held number (LayerFilled layer) = record { owns = layer_owned number layer; reserves = 0; committed = None }
+stage_held number (LayerReady layer) = record { owns = layer_owned number layer; reserves = 0; committed = None }
+stage_held number (Layered head) = record { owns = number ∷ []; reserves = 0; committed = None }
 stage_held number (Filled place stored logged split) = record { owns = owned number split; reserves = 1; committed = None }
 stage_held number (Made place stored columns logged) = record { owns = number ∷ []; reserves = 1; committed = None }
 stage_held number (Taken place stored before) = record { owns = number ∷ []; reserves = 1; committed = None }
@@ -140,6 +152,51 @@ pub record IsHalf (key : List ℕ) (edit : Edit) (way : Way) (b : BorderView) : 
   pub sets : List (ℕ × List ℕ)
   pub is_put : edit ≡ PutEdit sets
 
+-- the entry at a place of the border is of another key that goes on after the same slice
+pub record IsLayerAt (key : List ℕ) (way : Way) (b : BorderView) (place : ℕ) : Type 0 where
+  pub sound : IsBorder b
+  pub other : HasOtherSuffix (rest_of key way) b.live place
+
+-- that key's entry, one layer deeper
+abbrev pub moved_entry : (key : List ℕ) (way : Way) (b : BorderView) (place : ℕ) → IsLayerAt key way b place → Entry
+moved_entry key way b place at = entry_of_row at.other.suffix at.other.row
+
+-- the root of a layer that has this entry alone
+abbrev pub lone_root : ℕ → Entry → BorderView
+lone_root number entry = with_entries (new_border number 0 false) (entry ∷ []) None
+
+-- the entry at a place is of a key that goes on after its slice
+abbrev pub HoldsLong : BorderView → ℕ → Type 0
+HoldsLong b place = (slice : ℕ) × (suffix : List ℕ) × (row : Row) × (slice_get b.live place ≡ Some (record { slice = slice; content = Long suffix row }))
+
+-- these entries are that key's alone, one layer deeper
+abbrev pub MovesLong : BorderView → ℕ → List Entry → Type 0
+MovesLong b place entries = (slice : ℕ) (suffix : List ℕ) (row : Row) → slice_get b.live place ≡ Some (record { slice = slice; content = Long suffix row }) → (entries ≡ entry_of_row suffix row ∷ []) × IsEntry (entry_of_row suffix row)
+
+-- the head and the root of a layer, which the chart doesn't know
+pub record HasLayer (a : ArenaView) (w : World) (layer : Layer) (locked : Bool) (root : BorderView) : Type 0 where
+  pub head : head_at a.nodes layer.head.0 ≡ Some (new_head layer.root 0 locked)
+  pub is_root : border_at a.nodes layer.root.0 ≡ Some root
+  pub head_unknown : w.chart layer.head.0 ≡ None
+  pub root_unknown : w.chart layer.root.0 ≡ None
+
+-- the layer's root is to be filled, or is filled with the entry of the other key
+pub record IsToFill (a : ArenaView) (w : World) (key : List ℕ) (way : Way) (b : BorderView) (layer : Layer) (entries : List Entry) : Type 0 where
+  pub number : ℕ
+  pub at : IsLayerAt key way b layer.place
+  pub has : HasLayer a w layer true (new_border number 0 false)
+  pub moved : entries ≡ moved_entry key way b layer.place at ∷ []
+  pub whole : IsEntry (moved_entry key way b layer.place at)
+
+pub record IsToLink (a : ArenaView) (w : World) (key : List ℕ) (way : Way) (b : BorderView) (layer : Layer) (locked : Bool) : Type 0 where
+  pub number : ℕ
+  pub at : IsLayerAt key way b layer.place
+  pub has : HasLayer a w layer locked (lone_root number (moved_entry key way b layer.place at))
+
+-- the way of the key into the layer of a head
+abbrev pub way_below : Way → NodeNo → Way
+way_below way head = record { node = head; layer = way.layer + 1 }
+
 -- the entry of a key with these columns, before its commit
 abbrev pub new_entry : List ℕ → Way → List (List ℕ) → Entry
 new_entry key way columns = entry_of_row (rest_of key way) (record { version = 0; columns = columns })
@@ -188,6 +245,10 @@ StageIsTrue C key edit way Locked begun a w = (b : BorderView) × IsLockedAt a k
 StageIsTrue C key edit way (Spared half cut entries) begun a w = (b : BorderView) × IsLockedAt a key way b w × (c : IsCutAt key edit way b cut) × IsSpare a w half.0 (empty_half b c.middle) × (entries ≡ drop cut b.live)
 StageIsTrue C key edit way (HalfFilled half cut) begun a w = (b : BorderView) × IsLockedAt a key way b w × (c : IsCutAt key edit way b cut) × IsSpare a w half.0 (upper_half b cut c.middle)
 StageIsTrue C key edit way (Halved split) begun a w = (b : BorderView) × IsLockedAt a key way b w × IsHalf key edit way b × HasLocked a w way.node.0 (Some split)
+StageIsTrue C key edit way (LayerSpared layer entries) begun a w = (b : BorderView) × IsLockedAt a key way b w × IsToFill a w key way b layer entries
+StageIsTrue C key edit way (LayerFilled layer) begun a w = (b : BorderView) × IsLockedAt a key way b w × IsToLink a w key way b layer true
+StageIsTrue C key edit way (LayerReady layer) begun a w = (b : BorderView) × IsLockedAt a key way b w × IsToLink a w key way b layer false
+StageIsTrue C key edit way (Layered head) begun a w = IsLockedBorder a w way.node.0 × IsOnWay begun key (way_below way head) w
 StageIsTrue C key edit way (Filled place stored logged split) begun a w = (b : BorderView) × IsLockedAt a key way b w × IsFilled C key edit way b place stored logged × HasLocked a w way.node.0 split
 StageIsTrue C key edit way (Made place stored columns logged) begun a w = (b : BorderView) × IsLockedAt a key way b w × IsMade C key edit way b place stored columns logged
 StageIsTrue C key edit way (Taken place stored before) begun a w = (b : BorderView) × IsLockedAt a key way b w × IsFound key edit way b place stored before
@@ -228,16 +289,44 @@ pub record Fills (C : ℕ) (key : List ℕ) (sets : List (ℕ × List ℕ)) (way
   pub keeps : KeepsTree a after
   pub reserved : left ≡ with_room log
 
+-- a number that named nothing names this node, a spare
+pub record Occupies (a after : ArenaView) (number : ℕ) (node : Node) : Type 0 where
+  pub vacant : node_at a.nodes number ≡ None
+  pub updates : Updates a.nodes after.nodes number (Some node)
+  pub unknown : IsUnknown a number
+  pub keeps : KeepsTree a after
+
+-- the tree is what it was, or a number was occupied and given back
+pub record GaveBack (a after : ArenaView) : Type 0 where
+  pub number : ℕ
+  pub node : Node
+  pub between : ArenaView
+  pub occupied : Occupies a between number node
+  pub back : Updates between.nodes after.nodes number None
+  pub keeps : KeepsUnknown between after number
+
+abbrev pub IsBack : ArenaView → ArenaView → Type 0
+IsBack a after = (after ≡ a) ⊎ GaveBack a after
+
 -- or a half for the border, which is full
 pub record Spares (key : List ℕ) (sets : List (ℕ × List ℕ)) (way : Way) (a : ArenaView) (half cut : ℕ) (entries : List Entry) (after : ArenaView) : Type 0 where
   pub b : BorderView
   pub named : border_at a.nodes way.node.0 ≡ Some b
   pub cut_at : IsCutAt key (PutEdit sets) way b cut
-  pub vacant : node_at a.nodes half ≡ None
-  pub updates : Updates a.nodes after.nodes half (Some (Border (empty_half b cut_at.middle)))
-  pub unknown : IsUnknown a half
-  pub keeps : KeepsTree a after
+  pub occupied : Occupies a after half (Border (empty_half b cut_at.middle))
   pub copied : entries ≡ drop cut b.live
+
+-- or the head and the root of a layer, for a key that has another's slice
+pub record LayerSpares (key : List ℕ) (way : Way) (a : ArenaView) (layer : Layer) (entries : List Entry) (after : ArenaView) : Type 0 where
+  pub b : BorderView
+  pub named : border_at a.nodes way.node.0 ≡ Some b
+  pub at : IsLayerAt key way b layer.place
+  pub number : ℕ
+  pub between : ArenaView
+  pub root : Occupies a between layer.root.0 (Border (new_border number 0 false))
+  pub head : Occupies between after layer.head.0 (Head (new_head layer.root 0 true))
+  pub moved : entries ≡ moved_entry key way b layer.place at ∷ []
+  pub whole : IsEntry (moved_entry key way b layer.place at)
 
 -- or the columns that the row is to have
 pub record Makes (C : ℕ) (key : List ℕ) (sets : List (ℕ × List ℕ)) (way : Way) (a : ArenaView) (log : LogView) (place : ℕ) (stored : List ℕ) (columns logged : List (List ℕ)) (after : ArenaView) (left : LogView) : Type 0 where
@@ -255,9 +344,10 @@ SomeSets RemoveEdit P = ⊥
 -- A put is ready, or it fails. It has split its border already, into these halves, or not.
 abbrev pub Prepares : ℕ → List ℕ → List (ℕ × List ℕ) → Way → ArenaView → LogView → Option Split → Stage → ArenaView → LogView → Type 0
 Prepares C key sets way a log split (Spared half cut entries) after left = (split ≡ None) × Spares key sets way a half.0 cut entries after × (left ≡ log)
+Prepares C key sets way a log split (LayerSpared layer entries) after left = (split ≡ None) × LayerSpares key way a layer entries after × (left ≡ log)
 Prepares C key sets way a log split (Filled place stored logged halves) after left = (halves ≡ split) × Fills C key sets way a log place stored logged after left
 Prepares C key sets way a log split (Made place stored columns logged) after left = (split ≡ None) × Makes C key sets way a log place stored columns logged after left
-Prepares C key sets way a log split (Failed refusal halves) after left = (halves ≡ split) × MayRefuse (PutRequest key sets) refusal × (after ≡ a) × (left ≡ log)
+Prepares C key sets way a log split (Failed refusal halves) after left = (halves ≡ split) × MayRefuse (PutRequest key sets) refusal × IsBack a after × (left ≡ log)
 Prepares C key sets way a log split _ after left = ⊥
 
 -- the delta of a put's commit

@@ -3,6 +3,7 @@
 
 mod columns;
 mod commit;
+mod layering;
 mod ready;
 mod splitting;
 pub mod work;

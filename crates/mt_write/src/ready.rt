@@ -8,12 +8,13 @@ ghost use Rattle.mt_border.specs.Entry.{entry_of_row};
 ghost use Rattle.mt_border.specs.declared.found.Found.TheVariants.{Absent as AbsentFound, Row as RowFound};
 ghost use Rattle.mt_word.specs.declared.permutation_word.TheConstants.{SLOTS};
 ghost use Rattle.mt_arena.specs.Node.{border_at};
-ghost use Rattle.mt_tree.specs.Descent.{found_for};
+ghost use Rattle.mt_tree.specs.Descent.{IsLast, found_for};
 ghost use Rattle.mt_calls.specs.Way.{rest_of};
 ghost use Rattle.mt_calls.specs.Step.{MayRefuse, IsUnbounded};
-ghost use Rattle.mt_write.specs.Writing.{Prepares, PreparesRemove};
+ghost use Rattle.mt_write.specs.Writing.{Prepares, PreparesRemove, IsBack};
 
 use crate::columns::made_columns;
+use crate::layering::spare_layer;
 use crate::splitting::spare;
 use crate::writing::{Split, Stage};
 use mt_border::{Entry, Found};
@@ -57,7 +58,7 @@ pub fn fill(
     requires within { 8 * way.layer ≤ length key.now }
     requires absent { IsSomeAnd (border_at tree.old.nodes way.node.0) (λ b. (length b.live < SLOTS) × (found_for (rest_of key.now way) b.live ≡ AbsentFound place)) }
     requires unbounded { IsUnbounded log.old }
-    ensures { MatchResult result (λ stage. Prepares columns key.now sets.now way tree.old log.old split stage tree.new log.new) (λ refusal. MayRefuse (PutRequest key.now sets.now) refusal × (tree.new ≡ tree.old) × (log.new ≡ log.old)) }
+    ensures { MatchResult result (λ stage. Prepares columns key.now sets.now way tree.old log.old split stage tree.new log.new) (λ refusal. MayRefuse (PutRequest key.now sets.now) refusal × IsBack tree.old tree.new × (log.new ≡ log.old)) }
 {
     let _sound = tree.border(way.node).len();
     let made = made_columns(alloc, columns, None, sets)?;
@@ -122,7 +123,7 @@ pub fn prepare(
     sets: &Sets,
 ) -> Stage
     requires within { 8 * way.layer ≤ length key.now }
-    requires border { IsSome (border_at tree.old.nodes way.node.0) }
+    requires last { IsSomeAnd (border_at tree.old.nodes way.node.0) (λ b. IsLast (found_for (rest_of key.now way) b.live)) }
     requires unbounded { IsUnbounded log.old }
     ensures { Prepares columns key.now sets.now way tree.old log.old None result tree.new log.new }
 {
@@ -135,7 +136,8 @@ pub fn prepare(
                 fill(alloc, columns, tree, log, way, place, key, sets, None)
             }
         }
-        Found::OtherSuffix(_) | Found::Link(_, _) => Err(Refusal::ArenaFull),
+        Found::OtherSuffix(place) => spare_layer(alloc, tree, way, place, key, sets),
+        Found::Link(_, _) => unreachable!(),
     };
     match made {
         Ok(stage) => stage,

@@ -13,7 +13,7 @@ ghost use Rattle.mt_tree.specs.Spares.{MayFill};
 ghost use Rattle.mt_tree.specs.BorderSteps.{IsUpperHalf, LinksHalfAt};
 ghost use Rattle.mt_calls.specs.Way.{rest_of};
 ghost use Rattle.mt_calls.specs.Step.{MayRefuse, IsUnbounded};
-ghost use Rattle.mt_write.specs.Writing.{Prepares, IsAbsent, IsHalf, SomeSets, IsHalfOf};
+ghost use Rattle.mt_write.specs.Writing.{Prepares, IsBack, IsAbsent, IsHalf, SomeSets, IsHalfOf};
 
 use crate::ready::fill;
 use crate::writing::{Edit, Split, Stage};
@@ -39,7 +39,7 @@ pub fn spare(
     sets: &Sets,
 ) -> Result<Stage, Refusal>
     requires full { IsSomeAnd (border_at tree.old.nodes way.node.0) (λ b. (length b.live ≡ SLOTS) × IsAbsent (found_for (rest_of key.now way) b.live)) }
-    ensures { MatchResult result (λ stage. (C : ℕ) (log : LogView) → Prepares C key.now sets.now way tree.old log None stage tree.new log) (λ refusal. MayRefuse (PutRequest key.now sets.now) refusal × (tree.new ≡ tree.old)) }
+    ensures { MatchResult result (λ stage. (C : ℕ) (log : LogView) → Prepares C key.now sets.now way tree.old log None stage tree.new log) (λ refusal. MayRefuse (PutRequest key.now sets.now) refusal × IsBack tree.old tree.new) }
 {
     let border = tree.border(way.node);
     if border.is_split_spent() {

@@ -11,7 +11,7 @@ use crate::ready::{prepare, prepare_remove};
 use crate::splitting::{fill_half, fill_spare, link_halves};
 use mt_border::Entry;
 use mt_calls::progress::Progress;
-use mt_calls::way::{START, Way, Went};
+use mt_calls::way::{START, Way, Went, rest_of};
 use mt_commit::log::Log;
 use mt_tree::Tree;
 use mt_types::event::Answer;
@@ -39,6 +39,14 @@ pub struct Split {
     pub half: NodeNo,
 }
 
+/// A layer that a put makes below the entry at a place of its border: its head, and the border that is its root.
+#[derive(Clone, Copy)]
+pub struct Layer {
+    pub place: usize,
+    pub head: NodeNo,
+    pub root: NodeNo,
+}
+
 /// How far a write is.
 #[derive(Drop)]
 pub enum Stage {
@@ -59,6 +67,17 @@ pub enum Stage {
     },
     /// The border is split, and its key belongs to the half where it stands.
     Halved(Split),
+    /// Another key has the slice of its key. A head and a border are spared for a layer, and the other key's entry there is made.
+    LayerSpared {
+        layer: Layer,
+        entries: Items<Entry>,
+    },
+    /// The layer's root has the other key's entry.
+    LayerFilled(Layer),
+    /// The layer is to be linked.
+    LayerReady(Layer),
+    /// The layer of this head is linked, and the call is to go on there.
+    Layered(NodeNo),
     /// Its row is in the first unused slot, to be shown at a place.
     Filled {
         place: usize,
@@ -211,6 +230,59 @@ impl Write {
         Progress::Moved
     }
 
+    // The root of a new layer takes the other key's entry.
+    fn fill_root(&mut self, tree: &mut Tree, layer: Layer, entries: Items<Entry>) -> Progress
+        requires may { (C : ℕ) × (log : LogView) × MayStage C tree.old log self.old (Stage.LayerSpared layer entries) }
+        ensures request { write_request self.new ≡ write_request self.old }
+        ensures steps { (C : ℕ) (log : LogView) → StageLaw C tree.old tree.new log log self.old (Stage.LayerSpared layer entries) result self.new }
+        ensures waits { WriteWaits tree.old self.old.way.node.0 result }
+    {
+        tree.fill_border(layer.root, entries, None);
+        self.stage = Stage::LayerFilled(layer);
+        Progress::Moved
+    }
+
+    // The head of a new layer is unlocked.
+    fn unlock_head(&mut self, tree: &mut Tree, layer: Layer) -> Progress
+        requires may { (C : ℕ) × (log : LogView) × MayStage C tree.old log self.old (Stage.LayerFilled layer) }
+        ensures request { write_request self.new ≡ write_request self.old }
+        ensures steps { (C : ℕ) (log : LogView) → StageLaw C tree.old tree.new log log self.old (Stage.LayerFilled layer) result self.new }
+        ensures waits { WriteWaits tree.old self.old.way.node.0 result }
+    {
+        tree.unlock_head(layer.head);
+        self.stage = Stage::LayerReady(layer);
+        Progress::Moved
+    }
+
+    // The entry of the other key becomes a link to the new layer.
+    fn link_layer(&mut self, tree: &mut Tree, layer: Layer) -> Progress
+        requires may { (C : ℕ) × (log : LogView) × MayStage C tree.old log self.old (Stage.LayerReady layer) }
+        ensures request { write_request self.new ≡ write_request self.old }
+        ensures steps { (C : ℕ) (log : LogView) → StageLaw C tree.old tree.new log log self.old (Stage.LayerReady layer) result self.new }
+        ensures waits { WriteWaits tree.old self.old.way.node.0 result }
+    {
+        tree.make_link(self.way.node, layer.place, layer.head);
+        self.stage = Stage::Layered(layer.head);
+        Progress::Moved
+    }
+
+    // Unlocks its border, and goes on in the new layer.
+    fn go_below(&mut self, tree: &mut Tree, head: NodeNo) -> Progress
+        requires may { (C : ℕ) × (log : LogView) × MayStage C tree.old log self.old (Stage.Layered head) }
+        ensures request { write_request self.new ≡ write_request self.old }
+        ensures steps { (C : ℕ) (log : LogView) → StageLaw C tree.old tree.new log log self.old (Stage.Layered head) result self.new }
+        ensures waits { WriteWaits tree.old self.old.way.node.0 result }
+    {
+        let _bytes = rest_of(&self.key, self.way.layer);
+        tree.unlock_border(self.way.node);
+        self.way = Way {
+            node: head,
+            layer: self.way.layer + 1,
+        };
+        self.stage = Stage::Seeks;
+        Progress::Moved
+    }
+
     // Unlocks the left half, where its border was split, and goes on with the other; else it unlocks its border, and answers.
     fn end_stored(&mut self, tree: &mut Tree, commit: u64, split: Option<Split>) -> Progress
         requires may { (C : ℕ) × (log : LogView) × MayStage C tree.old log self.old (Stage.Stored commit split) }
@@ -259,6 +331,10 @@ impl Write {
             Stage::Spared { half, cut, entries } => self.fill_spared(tree, half, cut, entries),
             Stage::HalfFilled { half, cut } => self.link(tree, half, cut),
             Stage::Halved(split) => self.fill_in_half(alloc, columns, tree, log, split),
+            Stage::LayerSpared { layer, entries } => self.fill_root(tree, layer, entries),
+            Stage::LayerFilled(layer) => self.unlock_head(tree, layer),
+            Stage::LayerReady(layer) => self.link_layer(tree, layer),
+            Stage::Layered(head) => self.go_below(tree, head),
             Stage::Filled {
                 place,
                 key,

@@ -34,7 +34,6 @@ returns-in-Locked-clause-steps c =
     at_stage c.args.columns c.args.tree.now c.make_ready.new.tree c.args.log.now c.make_ready.new.log c.args.self.now.key c.args.self.now.edit c.args.self.now.way c.make_ready.result _ _ _ c.args.self.now.stage
     (sym c.replace.ensures.value ∙ c.in-Locked.is) c.make_ready.ensures.steps
 
-
 pub returns-in-Spared-clause-steps : goal.returns-in-Spared-clause-steps
 returns-in-Spared-clause-steps c =
     at_stage c.args.columns c.args.tree.now c.fill_spared.new.tree c.args.log.now c.args.log.now c.args.self.now.key c.args.self.now.edit c.args.self.now.way c.fill_spared.result _ _ _ c.args.self.now.stage
@@ -60,3 +59,22 @@ returns-in-Halved-clause-steps c =
     at_stage c.args.columns c.args.tree.now c.fill_in_half.new.tree c.args.log.now c.fill_in_half.new.log c.args.self.now.key c.args.self.now.edit c.args.self.now.way c.fill_in_half.result _ _ _ c.args.self.now.stage
     (sym c.replace.ensures.value ∙ c.in-Halved.is) c.fill_in_half.ensures.steps
 
+pub returns-in-LayerSpared-clause-steps : goal.returns-in-LayerSpared-clause-steps
+returns-in-LayerSpared-clause-steps c =
+    at_stage c.args.columns c.args.tree.now c.fill_root.new.tree c.args.log.now c.args.log.now c.args.self.now.key c.args.self.now.edit c.args.self.now.way c.fill_root.result _ _ _ c.args.self.now.stage
+    (sym c.replace.ensures.value ∙ c.in-LayerSpared.is) (c.fill_root.ensures.steps c.args.columns c.args.log.now)
+
+pub returns-in-LayerFilled-clause-steps : goal.returns-in-LayerFilled-clause-steps
+returns-in-LayerFilled-clause-steps c =
+    at_stage c.args.columns c.args.tree.now c.unlock_head.new.tree c.args.log.now c.args.log.now c.args.self.now.key c.args.self.now.edit c.args.self.now.way c.unlock_head.result _ _ _ c.args.self.now.stage
+    (sym c.replace.ensures.value ∙ c.in-LayerFilled.is) (c.unlock_head.ensures.steps c.args.columns c.args.log.now)
+
+pub returns-in-LayerReady-clause-steps : goal.returns-in-LayerReady-clause-steps
+returns-in-LayerReady-clause-steps c =
+    at_stage c.args.columns c.args.tree.now c.link_layer.new.tree c.args.log.now c.args.log.now c.args.self.now.key c.args.self.now.edit c.args.self.now.way c.link_layer.result _ _ _ c.args.self.now.stage
+    (sym c.replace.ensures.value ∙ c.in-LayerReady.is) (c.link_layer.ensures.steps c.args.columns c.args.log.now)
+
+pub returns-in-Layered-clause-steps : goal.returns-in-Layered-clause-steps
+returns-in-Layered-clause-steps c =
+    at_stage c.args.columns c.args.tree.now c.go_below.new.tree c.args.log.now c.args.log.now c.args.self.now.key c.args.self.now.edit c.args.self.now.way c.go_below.result _ _ _ c.args.self.now.stage
+    (sym c.replace.ensures.value ∙ c.in-Layered.is) (c.go_below.ensures.steps c.args.columns c.args.log.now)

@@ -1,0 +1,243 @@
+-- The steps of a new layer in a put: its head and root are spared, the root is filled, the head is unlocked, the link is made, and the put
+-- goes on there.
+use Rattle.std.proofs.Common.{ℕ, zero, suc, ◌≡◌, ◌≢◌, ◌≤◌, ◌<◌, ◌+◌, ◌^◌, ◌⊎◌, inl, inr, List, [], ◌∷◌, length, drop, replicate, slice_get, slice_index_or, Option, Some, None, IsSome, Bool, true, false, refl, sym, ap, subst, ◌∙◌, arith, add-one}
+use Rattle.std.specs.Prelude.{IsSomeAnd}
+use Rattle.std.proofs.lemmas.List.Elements.{All-drop, All-replicate}
+use Rattle.mt_border.specs.Table.{blank_slot}
+use Rattle.mt_border.specs.declared.slot_table.Slot.{Slot}
+use Rattle.std.specs.Option.{option_map, option_and_then}
+use Rattle.mt_types.specs.declared.numbers.NodeNo.{NodeNo}
+use Rattle.mt_types.specs.declared.row.Row.{Row}
+use Rattle.mt_slice.specs.Place.{place_of, slice_number, slices_above, rest_at}
+use Rattle.mt_slice.specs.Classes.{class_of}
+use Rattle.mt_commit.specs.Log.{LogView}
+use Rattle.mt_border.specs.Border.{BorderView, with_entries, with_lock, with_link_at, new_border}
+use Rattle.mt_border.specs.Entry.{IsEntry, entry_of_row, entry_row}
+use Rattle.mt_border.specs.Order.{IsBorder, AreEntries}
+use Rattle.mt_border.specs.declared.entry.Content.TheVariants.{Long}
+use Rattle.mt_border.specs.declared.entry.Entry.{Entry}
+use Rattle.mt_interior.specs.Head.{HeadView, new_head, with_lock as with_head_lock}
+use Rattle.mt_arena.specs.Node.{node_at, head_at, head_of, border_at, border_of, Updates}
+use Rattle.mt_arena.specs.Arena.{ArenaView, with_border_changed, with_head_changed}
+use Rattle.mt_arena.specs.declared.node.Node.{Node}
+use Rattle.mt_arena.specs.declared.node.Node.TheVariants.{Head, Border}
+use Rattle.mt_arena.proofs.NodeLemmas.{updates-with_node, node-from_head, node-from_border}
+use Rattle.mt_chart.specs.Tree.{Among, first, later}
+use Rattle.mt_chart.specs.Chart.{spot, Spot, at_level, top, on, gone, Holds}
+use Rattle.mt_chart.specs.Steps.{SameContent}
+use Rattle.mt_tree.specs.Seen.{arena_seen, border_seen}
+use Rattle.mt_tree.specs.Spares.{MayFill}
+use Rattle.mt_tree.specs.Keeping.{KeepsTree, KeepsUnknown, IsOnIn}
+use Rattle.mt_tree.specs.Descent.{HasOtherSuffix}
+use Rattle.mt_tree.specs.BorderSteps.{HasLayerFor, MakesLayerAt}
+use Rattle.mt_tree.proofs.SeenLemmas.{changed-head}
+use Rattle.mt_calls.specs.declared.way.Way.{Way}
+use Rattle.mt_calls.specs.declared.progress.Progress.TheVariants.{Moved}
+use Rattle.mt_calls.specs.World.{World, IsWorld, Goes}
+use Rattle.mt_calls.specs.Way.{rest_of, prefix_of, IsLayerOf, IsOnWay}
+use Rattle.mt_calls.specs.Step.{StepLaw, Stepped, IsQuiet}
+use Rattle.mt_calls.proofs.WayLemmas.{layer_below}
+use Rattle.mt_calls.proofs.BorderLemmas.{now_named, others_named}
+use Rattle.mt_calls.proofs.SplitLemmas.{goes_filled}
+use Rattle.mt_calls.proofs.LayerLemmas.{goes_spare_changed, goes_layered, head_apart, layered, head_placed, others_placed}
+use Rattle.mt_calls.proofs.FoundLemmas.{some_at}
+use Rattle.mt_write.specs.declared.writing.Edit.{Edit}
+use Rattle.mt_write.specs.declared.writing.Layer.{Layer}
+use Rattle.mt_write.specs.declared.writing.Stage.{Stage}
+use Rattle.mt_write.specs.declared.writing.Stage.TheVariants.{Seeks, LayerSpared, LayerFilled, LayerReady, Layered}
+use Rattle.mt_write.specs.Writing.{edit_request, stage_held, layer_owned, StageIsTrue, IsLockedAt, IsLockedBorder, IsLayerAt, HasLayer, IsToFill, IsToLink, moved_entry, lone_root, way_below}
+use Rattle.mt_write.proofs.WorkLemmas.{locked_at_stays}
+use Rattle.mt_write.proofs.WriteLemmas.{no_get, row_of_content, entry_place_is, ends}
+
+-- ---- a border of one entry
+one_ordered : (entry : Entry) (i j : ℕ) → i < j → j < 1 → ⊥
+one_ordered entry i j less within = omega (arith, less, within)
+
+each_one : (P : Entry → Type 0) (entry : Entry) → P entry → (i : ℕ) (d : Entry) → i < 1 → P (slice_index_or (entry ∷ []) i d)
+each_one P entry holds zero d within = holds
+each_one P entry holds (suc i) d within = absurd (omega (arith, within))
+
+pub lone_sound : (number : ℕ) (entry : Entry) → IsEntry entry → IsBorder (lone_root number entry)
+lone_sound number entry whole = record {
+  slots = refl;
+  low_fits = omega arith;
+  ordered = record { pairs = λ i j d less within. absurd (one_ordered entry i j less within) };
+  entries = record { each = each_one IsEntry entry whole };
+  held_back = record { each = All-drop (λ (slot : Slot). IsEntry slot.entry) 1 (replicate 15 blank_slot) (All-replicate (λ (slot : Slot). IsEntry slot.entry) 15 blank_slot (record { slice_fits = omega arith; content = tt })) };
+  from_low = record { each = each_one (λ (e : Entry). 0 ≤ e.slice) entry (omega arith) };
+  left_of = tt;
+  deleted_empty = λ deleted. cc;
+  border = refl;
+  counters = record { vinsert_fits = omega arith; vsplit_fits = omega arith };
+}
+
+-- ---- before the steps
+pub layer_may_fill : (number : ℕ) (entry : Entry) → IsEntry entry → MayFill (new_border number 0 false) (entry ∷ []) None
+layer_may_fill number entry whole = record { empty = refl; fresh = refl; sound = lone_sound number entry whole }
+
+-- ---- the steps
+module _ (C : ℕ) (a : ArenaView) (log : LogView) (key : List ℕ) (edit : Edit) (way : Way) (layer : Layer) where
+  abbrev n : ℕ
+  n = way.node.0
+
+  abbrev LayerLaw : ArenaView → Stage → Stage → Type 0
+  LayerLaw after old new = StepLaw C a after log log (edit_request key edit) (stage_held n old) Moved (stage_held n new) (λ begun moves past x w. StageIsTrue C key edit way old begun x w) (λ begun moves past x w. StageIsTrue C key edit way new begun x w)
+
+  -- a border of the tree is no spare
+  apart_spare : (b : BorderView) (w : World) (number : ℕ) → IsLockedAt a key way b w → w.chart number ≡ None → n ≢ number
+  apart_spare b w number at unknown e = (let clash : ◌≡◌ {A = Option Spot} None (Some (spot (at_level 0) (prefix_of key way) b.low (on at.stands.stands.posted))) = sym unknown ∙ (ap w.chart (sym e) ∙ at.stands.stands.place) in cc)
+
+  -- the root is filled
+  pub fills_root : (entries : List Entry) (after : ArenaView) → after ≡ with_border_changed a layer.root.0 (λ b. with_entries b entries None) → KeepsUnknown a after layer.root.0 → LayerLaw after (LayerSpared layer entries) (LayerFilled layer)
+  fills_root entries after is keeps = record {
+    steps = λ now begun moves past w world before truth.
+        let (b, at, f) = truth in
+        let entry : Entry = moved_entry key way b layer.place f.at in
+        let old : BorderView = new_border f.number 0 false in
+        let change : BorderView → BorderView = λ x. with_entries x entries None in
+        let new : ArenaView = with_border_changed a layer.root.0 change in
+        let made : change old ≡ lone_root f.number entry = ap (λ (es : List Entry). with_entries old es None) f.moved in
+        let two : layer.root.0 ≢ layer.head.0 = head_apart a layer.head.0 layer.root.0 _ old f.has.head f.has.is_root in
+        let keeps_new : KeepsUnknown a new layer.root.0 = subst (λ (x : ArenaView). KeepsUnknown a x layer.root.0) is keeps in
+        subst (λ (x : ArenaView). Stepped C now moves past a x log log w (edit_request key edit) (stage_held n (LayerSpared layer entries)) Moved (stage_held n (LayerFilled layer)) (λ m next. StageIsTrue C key edit way (LayerFilled layer) begun x next)) (sym is) (record {
+          goes = goes_filled now a w layer.root.0 old change (layer_owned n layer) _ f.has.is_root keeps_new (later first) f.has.root_unknown world (
+            b,
+            locked_at_stays a new w w key way b (record { node = others_named a layer.root.0 old change f.has.is_root n (apart_spare b w layer.root.0 at f.has.root_unknown); spot = refl }) at,
+            record {
+              number = f.number;
+              at = f.at;
+              has = record {
+                head = ap (option_and_then head_of) (others_named a layer.root.0 old change f.has.is_root layer.head.0 (λ e. two (sym e))) ∙ f.has.head;
+                is_root = now_named a layer.root.0 old change f.has.is_root ∙ ap Some made;
+                head_unknown = f.has.head_unknown;
+                root_unknown = f.has.root_unknown;
+              };
+            },
+          );
+          does = (record { content = (keeps_new.keeps now w.twins w.chart world.index f.has.root_unknown).content; trimmed = refl; deltas = refl }, refl);
+          reserved = refl;
+          feed = refl;
+          holders = refl;
+          may = λ get. absurd (no_get key edit get);
+        });
+  }
+
+  -- the head is unlocked
+  head_updates : (h : HeadView) (change : HeadView → HeadView) → head_at a.nodes layer.head.0 ≡ Some h → Updates a.nodes (with_head_changed a layer.head.0 change).nodes layer.head.0 (Some (Head (change h)))
+  head_updates h change is = subst (λ (x : ArenaView). Updates a.nodes x.nodes layer.head.0 (Some (Head (change h)))) (sym (changed-head a layer.head.0 h change is))
+      (updates-with_node a.nodes layer.head.0 (Head (change h)) (subst (λ (x : Option Node). IsSome x) (sym (node-from_head a.nodes layer.head.0 h is)) refl))
+
+  pub unlocks_head : (after : ArenaView) → after ≡ with_head_changed a layer.head.0 (λ head. with_head_lock head false) → KeepsTree a after → LayerLaw after (LayerFilled layer) (LayerReady layer)
+  unlocks_head after is keeps = record {
+    steps = λ now begun moves past w world before truth.
+        let (b, at, f) = truth in
+        let unlock : HeadView → HeadView = λ head. with_head_lock head false in
+        let new : ArenaView = with_head_changed a layer.head.0 unlock in
+        let updates = head_updates (new_head layer.root 0 true) unlock f.has.head in
+        let root : BorderView = lone_root f.number (moved_entry key way b layer.place f.at) in
+        let two : layer.root.0 ≢ layer.head.0 = head_apart a layer.head.0 layer.root.0 _ root f.has.head f.has.is_root in
+        let keeps_new : KeepsTree a new = subst (λ (x : ArenaView). KeepsTree a x) is keeps in
+        subst (λ (x : ArenaView). Stepped C now moves past a x log log w (edit_request key edit) (stage_held n (LayerFilled layer)) Moved (stage_held n (LayerReady layer)) (λ m next. StageIsTrue C key edit way (LayerReady layer) begun x next)) (sym is) (record {
+          goes = goes_spare_changed now a new w layer.head.0 (Head (new_head layer.root 0 false)) (layer_owned n layer) _ updates keeps_new f.has.head_unknown first world (
+            b,
+            locked_at_stays a new w w key way b (record { node = updates.others n (apart_spare b w layer.head.0 at f.has.head_unknown); spot = refl }) at,
+            record {
+              number = f.number;
+              at = f.at;
+              has = record {
+                head = ap (option_and_then head_of) updates.changed;
+                is_root = ap (option_and_then border_of) (updates.others layer.root.0 two) ∙ f.has.is_root;
+                head_unknown = f.has.head_unknown;
+                root_unknown = f.has.root_unknown;
+              };
+            },
+          );
+          does = (record { content = (keeps_new.keeps now w.twins w.chart world.index).content; trimmed = refl; deltas = refl }, refl);
+          reserved = refl;
+          feed = refl;
+          holders = refl;
+          may = λ get. absurd (no_get key edit get);
+        });
+  }
+
+  -- the link is made
+  pub links_layer : (after : ArenaView) → after ≡ with_border_changed a n (λ b. with_link_at b layer.place layer.head) → MakesLayerAt a after n layer.place layer.head.0 → LayerLaw after (LayerReady layer) (Layered layer.head)
+  links_layer after is makes = record {
+    steps = λ now begun moves past w world before truth.
+        let (b, at, f) = truth in
+        let link : BorderView → BorderView = λ x. with_link_at x layer.place layer.head in
+        let new : ArenaView = with_border_changed a n link in
+        let entry : Entry = record { slice = slice_number (rest_of key way); content = Long f.at.other.suffix f.at.other.row } in
+        let root : BorderView = lone_root f.number (moved_entry key way b layer.place f.at) in
+        let below : List ℕ = slice_number (rest_of key way) ∷ prefix_of key way in
+        let next : World = layered w layer.head.0 layer.root.0 below in
+        let no_head : n ≢ layer.head.0 = apart_spare b w layer.head.0 at f.has.head_unknown in
+        let no_root : n ≢ layer.root.0 = apart_spare b w layer.root.0 at f.has.root_unknown in
+        let placed = head_placed now a w n layer.head.0 layer.root b root (prefix_of key way) layer.place entry link at.named f.at.other.stands f.has.head f.has.is_root refl no_head no_root f.has.head_unknown f.has.root_unknown world in
+        let kept = others_placed now a w n layer.head.0 layer.root b root (prefix_of key way) layer.place entry link at.named f.at.other.stands f.has.head f.has.is_root refl no_head no_root f.has.head_unknown f.has.root_unknown world n no_head no_root in
+        let held : (slice : ℕ) → Holds next.chart begun layer.head.0 below slice = λ slice. record { role = top; low = 0; standing = on true; place = placed; at_most = omega arith; since = λ epoch gone_is. absurd (let clash : on true ≡ gone epoch = gone_is in cc) } in
+        let (goes, content) = goes_layered now a w n layer.head.0 layer.root b root (prefix_of key way) layer.place entry link at.named f.at.other.stands f.has.head f.has.is_root refl no_head no_root f.has.head_unknown f.has.root_unknown world
+        (subst (λ (x : ArenaView). MakesLayerAt a x n layer.place layer.head.0) is makes) (record { low = b.low; posted = at.stands.stands.posted; place = at.stands.stands.place }) (λ next. StageIsTrue C key edit way (Layered layer.head) begun new next) (
+          record { b = link b; named = now_named a n b link at.named; known = subst (λ (x : Option Spot). IsSome x) (sym (kept ∙ at.stands.stands.place)) refl; locked = at.locked },
+          record {
+            layer = layer_below key way layer.head f.at.other.goes_on at.layer;
+            held = subst (λ (m : ℕ). Holds next.chart begun layer.head.0 (slices_above m key) (slice_number (rest_at (way.layer + 1) key))) (sym (add-one way.layer)) (held (slice_number (rest_at (way.layer + 1) key)));
+          },
+        ) in
+        subst (λ (x : ArenaView). Stepped C now moves past a x log log w (edit_request key edit) (stage_held n (LayerReady layer)) Moved (stage_held n (Layered layer.head)) (λ m next. StageIsTrue C key edit way (Layered layer.head) begun x next)) (sym is) (record {
+          goes = goes;
+          does = (record { content = content; trimmed = refl; deltas = refl }, refl);
+          reserved = refl;
+          feed = refl;
+          holders = refl;
+          may = λ get. absurd (no_get key edit get);
+        });
+  }
+
+-- the border is unlocked, and the call goes on in the layer
+pub goes_below : (C : ℕ) (a : ArenaView) (log : LogView) (key : List ℕ) (edit : Edit) (way : Way) (head : NodeNo) (after : ArenaView) → after ≡ with_border_changed a way.node.0 (λ b. with_lock b false) → KeepsTree a after
+    → StepLaw C a after log log (edit_request key edit) (stage_held way.node.0 (Layered head)) Moved (stage_held head.0 Seeks) (λ begun moves past x w. StageIsTrue C key edit way (Layered head) begun x w) (λ begun moves past x w. StageIsTrue C key edit (way_below way head) Seeks begun x w)
+goes_below C a log key edit way head after is keeps = record {
+  steps = λ now begun moves past w world before truth.
+      let (goes, quiet) = ends C a log key edit way (λ next. IsOnWay begun key (way_below way head) next) now w after is keeps world truth.0 truth.1 in
+      record { goes = goes; does = (quiet, refl); reserved = refl; feed = refl; holders = refl; may = λ get. absurd (no_get key edit get) };
+}
+
+-- ---- what the calls of a step ask for
+module _ (C begun : ℕ) (a : ArenaView) (w : World) (key : List ℕ) (edit : Edit) (way : Way) (layer : Layer) where
+  pub spared_root : (entries : List Entry) → StageIsTrue C key edit way (LayerSpared layer entries) begun a w → IsSomeAnd (border_at a.nodes layer.root.0) (λ b. MayFill b entries None)
+  spared_root entries truth =
+      let (b, at, f) = truth in
+      subst (λ (o : Option BorderView). IsSomeAnd o (λ x. MayFill x entries None)) (sym f.has.is_root)
+      (subst (λ (es : List Entry). MayFill (new_border f.number 0 false) es None) (sym f.moved) (layer_may_fill f.number (moved_entry key way b layer.place f.at) f.whole))
+
+  pub filled_head : StageIsTrue C key edit way (LayerFilled layer) begun a w → IsSomeAnd (head_at a.nodes layer.head.0) (λ head. head.version.locked ≡ true)
+  filled_head truth = let (b, at, f) = truth in subst (λ (o : Option HeadView). IsSomeAnd o (λ head. head.version.locked ≡ true)) (sym f.has.head) refl
+
+  pub ready_link : StageIsTrue C key edit way (LayerReady layer) begun a w → IsSomeAnd (border_at a.nodes way.node.0) (λ b. HasLayerFor a.nodes b layer.place layer.head.0)
+  ready_link truth =
+      let (b, at, f) = truth in
+      let suffix = f.at.other.suffix in
+      let row = f.at.other.row in
+      subst (λ (o : Option BorderView). IsSomeAnd o (λ x. HasLayerFor a.nodes x layer.place layer.head.0)) (sym at.named) (record {
+        slice = slice_number (rest_of key way);
+        suffix = suffix;
+        row = row;
+        layer_head = new_head layer.root 0 false;
+        layer_root = lone_root f.number (entry_of_row suffix row);
+        entry = entry_of_row suffix row;
+        long = f.at.other.stands;
+        is_head = f.has.head;
+        level = refl;
+        is_root = f.has.is_root;
+        alive = refl;
+        low = refl;
+        right = refl;
+        alone = refl;
+        same_row = row_of_content (class_of (length suffix)) (drop 8 suffix) row;
+        same_place = entry_place_is suffix row;
+      })
+
+-- the border that the call has locked
+pub layered_locked : (C begun : ℕ) (a : ArenaView) (w : World) (key : List ℕ) (edit : Edit) (way : Way) (head : NodeNo) → StageIsTrue C key edit way (Layered head) begun a w → IsSomeAnd (border_at a.nodes way.node.0) (λ b. b.version.locked ≡ true)
+layered_locked C begun a w key edit way head truth = subst (λ (o : Option BorderView). IsSomeAnd o (λ b. b.version.locked ≡ true)) (sym truth.0.named) truth.0.locked

@@ -1,0 +1,64 @@
+-- What the spares of a new layer leave of the border that the call has locked.
+use Rattle.std.proofs.Common.{ℕ, ◌≡◌, ◌≢◌, inl, inr, true, false, List, [], ◌∷◌, Option, Some, None, refl, sym, ap, ◌∙◌}
+use Rattle.std.specs.Option.{option_and_then}
+use Rattle.mt_border.specs.Border.{BorderView, new_border}
+use Rattle.mt_border.specs.declared.entry.Entry.{Entry}
+use Rattle.mt_interior.specs.Head.{new_head}
+use Rattle.mt_arena.specs.Node.{node_at, head_of, border_at, border_of, Updates}
+use Rattle.mt_arena.specs.Arena.{ArenaView}
+use Rattle.mt_arena.specs.declared.node.Node.{Node}
+use Rattle.mt_arena.specs.declared.node.Node.TheVariants.{Head, Border}
+use Rattle.mt_chart.specs.Steps.{SameContent}
+use Rattle.mt_chart.proofs.Basics.{same_number}
+use Rattle.mt_tree.specs.Seen.{arena_seen}
+use Rattle.mt_calls.specs.declared.way.Way.{Way}
+use Rattle.mt_calls.specs.World.{World, IsWorld, Goes}
+use Rattle.mt_calls.proofs.LayerLemmas.{goes_two, others_same, two_apart}
+use Rattle.mt_write.specs.declared.writing.Split.{Split}
+use Rattle.mt_write.specs.declared.writing.Layer.{Layer}
+use Rattle.mt_write.specs.Writing.{IsLockedAt, IsLockedBorder, HasLocked, LayerSpares, IsToFill, layer_owned}
+use Rattle.mt_write.proofs.WorkLemmas.{locked_at_stays}
+
+-- what names nothing is no border
+pub vacant_border : (a : ArenaView) (n : ℕ) (b : BorderView) → node_at a.nodes n ≡ None → border_at a.nodes n ≡ Some b → ⊥
+vacant_border a n b vacant named = (let clash : ◌≡◌ {A = Option BorderView} None (Some b) = sym (ap (option_and_then border_of) vacant) ∙ named in cc)
+
+-- what the call has locked, where a spare was occupied and given back
+pub has_locked_back : (a between after : ArenaView) (w : World) (n : ℕ) (split : Option Split) (number : ℕ) (node : Node) → node_at a.nodes number ≡ None → Updates a.nodes between.nodes number (Some node) → Updates between.nodes after.nodes number None
+    → HasLocked a w n split → HasLocked after w n split
+has_locked_back a between after w n split number node vacant updates back has = record {
+  locked = λ other i.
+      let k = has.locked other i in
+      let differ : other ≢ number = λ e. vacant_border a number k.b vacant (ap (λ (m : ℕ). border_at a.nodes m) (sym e) ∙ k.named) in
+      record { b = k.b; named = ap (option_and_then border_of) (back.others other differ ∙ updates.others other differ) ∙ k.named; known = k.known; locked = k.locked };
+  own = has.own;
+  two = has.two;
+}
+
+-- once both spares of a layer are occupied
+pub spares_go : (now begun : ℕ) (a after : ArenaView) (w : World) (key : List ℕ) (way : Way) (layer : Layer) (entries : List Entry) (f : LayerSpares key way a layer entries after) → IsWorld a now w → IsLockedAt a key way f.b w
+    → Goes now a after w (way.node.0 ∷ []) (layer_owned way.node.0 layer) (λ next. (b : BorderView) × IsLockedAt after key way b next × IsToFill after next key way b layer entries) × SameContent (arena_seen a) (arena_seen after)
+spares_go now begun a after w key way layer entries f world at =
+    let one = f.root in
+    let two = f.head in
+    let apart = two_apart now a f.between after w layer.root.0 layer.head.0 (Border (new_border f.number 0 false)) (Head (new_head layer.root 0 true)) [] (λ next. IsWorld a now w) one.vacant one.updates one.unknown one.keeps two.vacant two.updates two.unknown two.keeps world in
+    let kept = one.keeps.keeps now w.twins w.chart world.index in
+    let not_root : way.node.0 ≢ layer.root.0 = λ e. vacant_border a layer.root.0 f.b one.vacant (ap (λ (m : ℕ). border_at a.nodes m) (sym e) ∙ at.named) in
+    let not_head : way.node.0 ≢ layer.head.0 = λ e. vacant_border f.between layer.head.0 f.b two.vacant (ap (λ (m : ℕ). border_at f.between.nodes m) (sym e) ∙ (ap (option_and_then border_of) (one.updates.others way.node.0 not_root) ∙ at.named)) in
+    goes_two now a f.between after w layer.root.0 layer.head.0 (Border (new_border f.number 0 false)) (Head (new_head layer.root 0 true)) (way.node.0 ∷ []) (λ next. (b : BorderView) × IsLockedAt after key way b next × IsToFill after next key way b layer entries)
+    one.vacant one.updates one.unknown one.keeps two.vacant two.updates two.unknown two.keeps world (
+      f.b,
+      locked_at_stays a after w w key way f.b (record { node = two.updates.others way.node.0 not_head ∙ one.updates.others way.node.0 not_root; spot = refl }) at,
+      record {
+        number = f.number;
+        at = f.at;
+        has = record {
+          head = ap (option_and_then head_of) two.updates.changed;
+          is_root = ap (option_and_then border_of) (two.updates.others layer.root.0 apart ∙ one.updates.changed);
+          head_unknown = two.unknown.unknown now w.twins w.chart kept.index;
+          root_unknown = one.unknown.unknown now w.twins w.chart world.index;
+        };
+        moved = f.moved;
+        whole = f.whole;
+      },
+    )

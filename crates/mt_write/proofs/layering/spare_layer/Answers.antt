@@ -1,0 +1,40 @@
+use Rattle.std.proofs.Common.{Some, ◌+◌, refl, subst}
+use Rattle.mt_slice.specs.Place.{slice_number}
+use Rattle.mt_border.specs.Border.{BorderView}
+use Rattle.mt_interior.specs.Head.{HeadView}
+use Rattle.mt_arena.specs.Node.{Updates}
+use Rattle.mt_arena.specs.declared.node.Node.TheVariants.{Border, Head}
+use Rattle.mt_calls.specs.Way.{rest_of}
+use Rattle.mt_calls.proofs.FoundLemmas.{some_at}
+use Rattle.mt_write.proofs.layering.spare_layer.Goals as goal
+
+pub returns-in-Ok : goal.returns-in-Ok
+returns-in-Ok c = λ C log.
+    let b = c.border-border.result.now in
+    let named = c.border-border.ensures.value in
+    let other = some_at _ _ b c.requires.other named in
+    let moves = c.in_ok-entries.ensures (slice_number (rest_of c.args.key.now c.args.way)) other.suffix other.row other.stands in (
+      refl,
+      record {
+        b = b;
+        named = named;
+        at = record { sound = c.len-sound.ensures.sound; other = other };
+        number = c.args.way.layer + 1;
+        between = c.occupy.new.self;
+        root = record {
+          vacant = c.in_ok-root.ensures.vacant;
+          updates = subst (λ (x : BorderView). Updates c.args.tree.now.nodes c.occupy.new.self.nodes c.in_ok-root.root.0 (Some (Border x))) c.new.ensures.value c.in_ok-root.ensures.updates;
+          unknown = c.in_ok-root.ensures.unknown;
+          keeps = c.in_ok-root.ensures.keeps;
+        };
+        head = record {
+          vacant = c.in-Ok.ensures.vacant;
+          updates = subst (λ (x : HeadView). Updates c.occupy.new.self.nodes c.occupy-2.new.self.nodes c.in-Ok.head.0 (Some (Head x))) c.new_locked.ensures.value c.in-Ok.ensures.updates;
+          unknown = c.in-Ok.ensures.unknown;
+          keeps = c.in-Ok.ensures.keeps;
+        };
+        moved = moves.0;
+        whole = moves.1;
+      },
+      refl,
+    )

@@ -1,0 +1,75 @@
+//! A new layer, for a key that goes on after a slice that another key has: a head and a border are spared, the border takes the other
+//! key's row, one layer deeper.
+
+ghost use Rattle.std.specs.Prelude.{◌≡◌, ℕ, ◌≤◌, ◌*◌, List, [], ◌∷◌, length, slice_get, MatchResult, IfOk, IsSomeAnd, Some, None};
+ghost use Rattle.mt_types.specs.declared.event.Request.TheVariants.{Put as PutRequest};
+ghost use Rattle.mt_types.specs.declared.row.Row.{Row as RowView};
+ghost use Rattle.mt_commit.specs.Log.{LogView};
+ghost use Rattle.mt_border.specs.Entry.{IsEntry, entry_of_row};
+ghost use Rattle.mt_border.specs.declared.entry.Content.TheVariants.{Long as LongContent};
+ghost use Rattle.mt_arena.specs.Node.{border_at};
+ghost use Rattle.mt_tree.specs.Descent.{HasOtherSuffix};
+ghost use Rattle.mt_calls.specs.Way.{rest_of};
+ghost use Rattle.mt_calls.specs.Step.{MayRefuse};
+ghost use Rattle.mt_write.specs.Writing.{Prepares, IsBack, HoldsLong, MovesLong};
+
+use crate::writing::{Layer, Stage};
+use mt_arena::Node;
+use mt_border::{Border, Content, Entry};
+use mt_calls::way::{Way, rest_of};
+use mt_interior::Head;
+use mt_tree::Tree;
+use mt_types::copying::TryCopy;
+use mt_types::items::Items;
+use mt_types::key::Key;
+use mt_types::refusal::{NoMemory, Refusal};
+use mt_types::row::Sets;
+use std::alloc::Global;
+
+// The entry of the key at a place, which goes on after its slice, one layer deeper, and alone.
+fn moved(alloc: Global, border: &Border, place: usize) -> Result<Items<Entry>, NoMemory>
+    requires long { HoldsLong border.now place }
+    ensures { IfOk result (λ entries. MovesLong border.now place entries) }
+{
+    let Content::Long(suffix, row) = &border.entry(place).content else {
+        unreachable!();
+    };
+    let entry = Entry::of_row(suffix.copy(alloc)?.into_bytes(), row.copy(alloc)?)?;
+    let mut entries = Vec::with_capacity(alloc, 1)?;
+    entries.push(entry)?;
+    Ok(Items::from_vec(entries))
+}
+
+// Spares a head and a border for a layer below the entry at a place, both or none.
+pub fn spare_layer(
+    alloc: Global,
+    tree: &mut Tree,
+    way: Way,
+    place: usize,
+    key: &Key,
+    sets: &Sets,
+) -> Result<Stage, Refusal>
+    requires within { 8 * way.layer ≤ length key.now }
+    requires other { IsSomeAnd (border_at tree.old.nodes way.node.0) (λ b. HasOtherSuffix (rest_of key.now way) b.live place) }
+    ensures { MatchResult result (λ stage. (C : ℕ) (log : LogView) → Prepares C key.now sets.now way tree.old log None stage tree.new log) (λ refusal. MayRefuse (PutRequest key.now sets.now) refusal × IsBack tree.old tree.new) }
+{
+    if tree.free_numbers() < 2 {
+        return Err(Refusal::ArenaFull);
+    }
+    let border = tree.border(way.node);
+    let _sound = border.len();
+    let _bytes = rest_of(key, way.layer);
+    let layer = (way.layer + 1) as u8;
+    let entries = moved(alloc, border, place)?;
+    let root = tree.occupy(Node::Border(Border::new(alloc, layer, 0)))?;
+    match tree.occupy(Node::Head(Head::new_locked(root, 0))) {
+        Ok(head) => Ok(Stage::LayerSpared {
+            layer: Layer { place, head, root },
+            entries,
+        }),
+        Err(refusal) => {
+            tree.give_back(root);
+            Err(refusal)
+        }
+    }
+}
