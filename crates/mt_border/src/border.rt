@@ -210,6 +210,15 @@ impl Border {
         self.version.is_split_spent()
     }
 
+    /// Whether a fill of the first unused slot is refused: that slot held a key, and the counter of insertions is at its
+    /// greatest value, 2^56 - 1. Constant cost.
+    pub fn is_fill_spent(&self) -> bool
+        requires { length self.now.live < SLOTS }
+        ensures { IsTrue result ↔ IsTrue (fill_is_spent self.now) }
+    {
+        self.table.first_unused().held_key && self.version.is_insert_spent()
+    }
+
     /// The live entry at a place. Constant cost.
     #[inline]
     pub fn entry(&self, place: usize) -> &Entry

@@ -1,3 +1,4 @@
+pub mod CauseLemmas
 pub mod AbsentLemmas
 pub mod SpareLemmas
 pub mod WriteLemmas

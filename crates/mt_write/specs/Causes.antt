@@ -1,11 +1,32 @@
--- Why a call waits: what a history doesn't show.
-use Rattle.std.specs.Prelude.{ℕ, ◌⊎◌}
+-- Why a call waits, and why it fails: what a history doesn't show.
+use Rattle.std.specs.Prelude.{ℕ, ◌≡◌, ◌==◌, ◌+◌, ◌⊎◌, nat_lt, if◌then◌else◌, List, length, Option, Some, None, IsSomeAnd, Result, Err, MatchResult}
+use Rattle.std.specs.Option.{option_or}
+use Rattle.mt_types.specs.Limits.{refused_if}
+use Rattle.mt_types.specs.declared.limits.TheConstants.{MAX_NODES}
+use Rattle.mt_types.specs.declared.refusal.Refusal.{Refusal}
+use Rattle.mt_types.specs.declared.refusal.Refusal.TheVariants.{NoMemory, ArenaFull, Spent}
+use Rattle.mt_word.specs.declared.permutation_word.TheConstants.{SLOTS}
+use Rattle.mt_word.specs.declared.version_word.TheConstants.{MAX_SPLITS}
+use Rattle.mt_commit.specs.Log.{LogView, reserve_fault}
+use Rattle.mt_border.specs.Border.{BorderView, fill_is_spent}
+use Rattle.mt_border.specs.declared.found.Found.{Found}
+use Rattle.mt_border.specs.declared.found.Found.TheVariants.{Absent, Row, OtherSuffix}
+use Rattle.mt_arena.specs.Node.{border_at, occupied}
+use Rattle.mt_tree.specs.Descent.{found_for}
 use Rattle.mt_arena.specs.Arena.{ArenaView}
 use Rattle.mt_calls.specs.declared.progress.Progress.{Progress}
-use Rattle.mt_calls.specs.declared.progress.Progress.TheVariants.{Waits}
+use Rattle.mt_calls.specs.declared.progress.Progress.TheVariants.{Moved, Waits, Committed, Answered, Refused}
+use Rattle.mt_calls.specs.declared.way.Way.{Way}
+use Rattle.mt_calls.specs.Way.{rest_of}
 use Rattle.mt_calls.specs.Causes.{IsMarkedAt, IsLockedAlready, ReadWaits}
 use Rattle.mt_write.specs.declared.work.Work.{Work}
 use Rattle.mt_write.specs.declared.work.Work.TheVariants.{Get, Write, Range}
+use Rattle.mt_write.specs.declared.writing.Write.{Write as WriteView}
+use Rattle.mt_write.specs.declared.writing.Edit.{Edit}
+use Rattle.mt_write.specs.declared.writing.Edit.TheVariants.{Put, Remove}
+use Rattle.mt_write.specs.declared.writing.Split.{Split}
+use Rattle.mt_write.specs.declared.writing.Stage.{Stage}
+use Rattle.mt_write.specs.declared.writing.Stage.TheVariants.{Locked, Halved, Failed}
 
 -- a put or remove waits only where the node that it visits is marked deleted, or is a border that is locked
 abbrev pub WriteWaits : ArenaView → ℕ → Progress → Type 0
@@ -16,3 +37,69 @@ abbrev pub WorkWaits : ArenaView → Work → Progress → Type 0
 WorkWaits a (Get get) p = ReadWaits a get.way.node.0 p
 WorkWaits a (Write write) p = WriteWaits a write.way.node.0 p
 WorkWaits a (Range range) p = ReadWaits a range.node.0 p
+
+-- ---- why a put or remove fails, unless memory is wanting
+-- a new row can't be made ready where the slot's counter of insertions would rise and is spent, or no commit's number is left
+abbrev pub fill_fault : LogView → BorderView → Option Refusal
+fill_fault log b = option_or (refused_if (fill_is_spent b) Spent) (reserve_fault log)
+
+-- a full border can't be split where its counter of splits is spent, or no number is left for the half
+abbrev pub split_fault : ArenaView → BorderView → Option Refusal
+split_fault a b = option_or (refused_if (b.version.vsplit == MAX_SPLITS) Spent) (refused_if (occupied a.nodes == MAX_NODES) ArenaFull)
+
+-- a layer can't be made where fewer than two numbers are left
+abbrev pub layer_fault : ArenaView → Option Refusal
+layer_fault a = refused_if (nat_lt MAX_NODES (occupied a.nodes + 2)) ArenaFull
+
+-- by what is found at the border for the key
+abbrev pub put_fault : ArenaView → LogView → BorderView → Found → Option Refusal
+put_fault a log b (Absent place) = if length b.live == SLOTS then split_fault a b else fill_fault log b
+put_fault a log b (Row place) = reserve_fault log
+put_fault a log b (OtherSuffix place) = layer_fault a
+put_fault a log b _ = None
+
+abbrev pub remove_fault : LogView → Found → Option Refusal
+remove_fault log (Row place) = reserve_fault log
+remove_fault log _ = None
+
+abbrev pub edit_fault : ArenaView → LogView → Edit → BorderView → Found → Option Refusal
+edit_fault a log (Put sets) b found = put_fault a log b found
+edit_fault a log Remove b found = remove_fault log found
+
+-- it doesn't fail, and isn't refused
+abbrev pub IsNotFailed : Stage → Type 0
+IsNotFailed (Failed refusal split) = ⊥
+IsNotFailed _ = Unit {0}
+
+abbrev pub IsNotRefused : Progress → Type 0
+IsNotRefused (Refused refusal) = ⊥
+IsNotRefused _ = Unit {0}
+
+-- what is to be made ready is refused for a fault, if there is one, and else only for want of memory
+abbrev pub ReadyFor : Option Refusal → Result Stage Refusal → Type 0
+ReadyFor None result = MatchResult result IsNotFailed (λ refusal. refusal ≡ NoMemory)
+ReadyFor (Some fault) result = result ≡ Err fault
+
+-- a write fails for a fault, if there is one, and else only for want of memory
+abbrev pub FailsBy : Option Refusal → Option Split → Stage → Type 0
+FailsBy None split (Failed refusal halves) = refusal ≡ NoMemory
+FailsBy None split stage = Unit {0}
+FailsBy (Some fault) split stage = stage ≡ Failed fault split
+
+-- of a remove that may find no row
+abbrev pub RemoveFailsBy : Option Refusal → Option Stage → Type 0
+RemoveFailsBy fault None = fault ≡ None
+RemoveFailsBy fault (Some stage) = FailsBy fault None stage
+
+-- WHY A PUT OR REMOVE FAILS. It fails only in the step that makes ready at the border that it has locked, or at the half where its key belongs,
+-- for a fault there, and for want of memory only where there is none. It is refused only where it had failed, for that.
+abbrev pub StageFails : ArenaView → LogView → List ℕ → Edit → Way → Stage → Progress → Stage → Type 0
+StageFails a log key edit way Locked (Answered answer) new = IsSomeAnd (border_at a.nodes way.node.0) (λ b. edit_fault a log edit b (found_for (rest_of key way) b.live) ≡ None)
+StageFails a log key edit way Locked p new = IsNotRefused p × IsSomeAnd (border_at a.nodes way.node.0) (λ b. FailsBy (edit_fault a log edit b (found_for (rest_of key way) b.live)) None new)
+StageFails a log key edit way (Halved split) p new = IsNotRefused p × IsSomeAnd (border_at a.nodes way.node.0) (λ b. FailsBy (fill_fault log b) (Some split) new)
+StageFails a log key edit way (Failed refusal split) (Refused refused) new = refused ≡ refusal
+StageFails a log key edit way (Failed refusal split) p new = (p ≡ Moved) × (new ≡ Failed refusal None)
+StageFails a log key edit way stage p new = IsNotRefused p × IsNotFailed new
+
+abbrev pub WriteFails : ArenaView → LogView → WriteView → Progress → WriteView → Type 0
+WriteFails a log write p new = StageFails a log write.key write.edit write.way write.stage p new.stage

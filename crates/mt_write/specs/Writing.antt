@@ -289,6 +289,19 @@ pub record Fills (C : ℕ) (key : List ℕ) (sets : List (ℕ × List ℕ)) (way
   pub keeps : KeepsTree a after
   pub reserved : left ≡ with_room log
 
+-- the first unused slot of a border holds the new row of a key, whose columns are made for the log too
+pub record FillsNew (C : ℕ) (key : List ℕ) (sets : List (ℕ × List ℕ)) (way : Way) (a : ArenaView) (stored : List ℕ) (logged : List (List ℕ)) (after : ArenaView) : Type 0 where
+  pub b : BorderView
+  pub named : border_at a.nodes way.node.0 ≡ Some b
+  pub bytes : AreBytes key
+  pub fits : length key ≤ MAX_KEY_BYTES
+  pub sound : IsBorder b
+  pub stored_is : stored ≡ key
+  pub columns : logged ≡ columns_after C sets None
+  pub filled : after ≡ with_border_changed a way.node.0 (λ b. with_filled b (new_entry key way logged))
+  pub whole : IsBorder (with_filled b (new_entry key way logged))
+  pub keeps : KeepsTree a after
+
 -- a number that named nothing names this node, a spare
 pub record Occupies (a after : ArenaView) (number : ℕ) (node : Node) : Type 0 where
   pub vacant : node_at a.nodes number ≡ None

@@ -13,6 +13,7 @@ ghost use Rattle.mt_tree.specs.Spares.{MayFill};
 ghost use Rattle.mt_tree.specs.BorderSteps.{IsUpperHalf, LinksHalfAt};
 ghost use Rattle.mt_calls.specs.Way.{rest_of};
 ghost use Rattle.mt_calls.specs.Step.{MayRefuse, IsUnbounded};
+ghost use Rattle.mt_write.specs.Causes.{fill_fault, split_fault, ReadyFor, FailsBy};
 ghost use Rattle.mt_write.specs.Writing.{Prepares, IsBack, IsAbsent, IsHalf, SomeSets, IsHalfOf};
 
 use crate::ready::fill;
@@ -39,11 +40,15 @@ pub fn spare(
     sets: &Sets,
 ) -> Result<Stage, Refusal>
     requires full { IsSomeAnd (border_at tree.old.nodes way.node.0) (λ b. (length b.live ≡ SLOTS) × IsAbsent (found_for (rest_of key.now way) b.live)) }
-    ensures { MatchResult result (λ stage. (C : ℕ) (log : LogView) → Prepares C key.now sets.now way tree.old log None stage tree.new log) (λ refusal. MayRefuse (PutRequest key.now sets.now) refusal × IsBack tree.old tree.new) }
+    ensures ready { MatchResult result (λ stage. (C : ℕ) (log : LogView) → Prepares C key.now sets.now way tree.old log None stage tree.new log) (λ refusal. MayRefuse (PutRequest key.now sets.now) refusal × IsBack tree.old tree.new) }
+    ensures fault { IsSomeAnd (border_at tree.old.nodes way.node.0) (λ b. ReadyFor (split_fault tree.old b) result) }
 {
     let border = tree.border(way.node);
     if border.is_split_spent() {
         return Err(Refusal::Spent);
+    }
+    if tree.free_numbers() == 0 {
+        return Err(Refusal::ArenaFull);
     }
     let cut = border.cut_place();
     let low = border.entry(cut).slice;
@@ -97,7 +102,8 @@ pub fn fill_half(
     requires within { 8 * way.layer ≤ length key.now }
     requires half { IsSomeAnd (border_at tree.old.nodes way.node.0) (IsHalf key.now edit.now way) }
     requires unbounded { IsUnbounded log.old }
-    ensures { SomeSets edit.now (λ sets. Prepares columns key.now sets way tree.old log.old (Some split) result tree.new log.new) }
+    ensures fault { IsSomeAnd (border_at tree.old.nodes way.node.0) (λ b. FailsBy (fill_fault log.old b) (Some split) result) }
+    ensures ready { SomeSets edit.now (λ sets. Prepares columns key.now sets way tree.old log.old (Some split) result tree.new log.new) }
 {
     let Edit::Put(sets) = edit else {
         unreachable!();

@@ -2,7 +2,7 @@
 
 ghost use Rattle.std.specs.Prelude.{◌≡◌, ℕ};
 ghost use Rattle.mt_commit.specs.Log.{LogView};
-ghost use Rattle.mt_write.specs.Causes.{WriteWaits};
+ghost use Rattle.mt_write.specs.Causes.{WriteWaits, WriteFails, StageFails, IsNotRefused, IsNotFailed};
 ghost use Rattle.mt_calls.specs.Step.{StepLaw, MayStep};
 ghost use Rattle.mt_write.specs.Writing.{write_request, write_held, written_answer, WriteIsTrue, StageLaw, MayStage};
 
@@ -134,6 +134,7 @@ impl Write {
         ensures request { write_request self.new ≡ write_request self.old }
         ensures steps { (C : ℕ) (log : LogView) → StepLaw C tree.old tree.new log log (write_request self.old) (write_held self.old) result (write_held self.new) (WriteIsTrue C self.old) (WriteIsTrue C self.new) }
         ensures waits { WriteWaits tree.old self.old.way.node.0 result }
+        ensures fails { IsNotRefused result × IsNotFailed self.new.stage }
     {
         match self.way.visit(tree, &self.key) {
             Went::Again => {
@@ -161,6 +162,7 @@ impl Write {
         ensures request { write_request self.new ≡ write_request self.old }
         ensures steps { StageLaw columns tree.old tree.new log.old log.new self.old (Stage.Locked) result self.new }
         ensures waits { WriteWaits tree.old self.old.way.node.0 result }
+        ensures fails { StageFails tree.old log.old self.old.key self.old.edit self.old.way Stage.Locked result self.new.stage }
     {
         let number = self.way.node;
         match &self.edit {
@@ -191,6 +193,7 @@ impl Write {
         ensures request { write_request self.new ≡ write_request self.old }
         ensures steps { (C : ℕ) (log : LogView) → StageLaw C tree.old tree.new log log self.old (Stage.Spared half cut entries) result self.new }
         ensures waits { WriteWaits tree.old self.old.way.node.0 result }
+        ensures fails { IsNotRefused result × IsNotFailed self.new.stage }
     {
         fill_spare(tree, self.way.node, half, entries);
         self.stage = Stage::HalfFilled { half, cut };
@@ -203,6 +206,7 @@ impl Write {
         ensures request { write_request self.new ≡ write_request self.old }
         ensures steps { (C : ℕ) (log : LogView) → StageLaw C tree.old tree.new log log self.old (Stage.HalfFilled half cut) result self.new }
         ensures waits { WriteWaits tree.old self.old.way.node.0 result }
+        ensures fails { IsNotRefused result × IsNotFailed self.new.stage }
     {
         let left = self.way.node;
         self.way = link_halves(tree, self.way, &self.key, half, cut);
@@ -223,6 +227,7 @@ impl Write {
         ensures request { write_request self.new ≡ write_request self.old }
         ensures steps { StageLaw columns tree.old tree.new log.old log.new self.old (Stage.Halved split) result self.new }
         ensures waits { WriteWaits tree.old self.old.way.node.0 result }
+        ensures fails { StageFails tree.old log.old self.old.key self.old.edit self.old.way (Stage.Halved split) result self.new.stage }
     {
         self.stage = fill_half(
             alloc, columns, tree, log, self.way, split, &self.key, &self.edit,
@@ -236,6 +241,7 @@ impl Write {
         ensures request { write_request self.new ≡ write_request self.old }
         ensures steps { (C : ℕ) (log : LogView) → StageLaw C tree.old tree.new log log self.old (Stage.LayerSpared layer entries) result self.new }
         ensures waits { WriteWaits tree.old self.old.way.node.0 result }
+        ensures fails { IsNotRefused result × IsNotFailed self.new.stage }
     {
         tree.fill_border(layer.root, entries, None);
         self.stage = Stage::LayerFilled(layer);
@@ -248,6 +254,7 @@ impl Write {
         ensures request { write_request self.new ≡ write_request self.old }
         ensures steps { (C : ℕ) (log : LogView) → StageLaw C tree.old tree.new log log self.old (Stage.LayerFilled layer) result self.new }
         ensures waits { WriteWaits tree.old self.old.way.node.0 result }
+        ensures fails { IsNotRefused result × IsNotFailed self.new.stage }
     {
         tree.unlock_head(layer.head);
         self.stage = Stage::LayerReady(layer);
@@ -260,6 +267,7 @@ impl Write {
         ensures request { write_request self.new ≡ write_request self.old }
         ensures steps { (C : ℕ) (log : LogView) → StageLaw C tree.old tree.new log log self.old (Stage.LayerReady layer) result self.new }
         ensures waits { WriteWaits tree.old self.old.way.node.0 result }
+        ensures fails { IsNotRefused result × IsNotFailed self.new.stage }
     {
         tree.make_link(self.way.node, layer.place, layer.head);
         self.stage = Stage::Layered(layer.head);
@@ -272,6 +280,7 @@ impl Write {
         ensures request { write_request self.new ≡ write_request self.old }
         ensures steps { (C : ℕ) (log : LogView) → StageLaw C tree.old tree.new log log self.old (Stage.Layered head) result self.new }
         ensures waits { WriteWaits tree.old self.old.way.node.0 result }
+        ensures fails { IsNotRefused result × IsNotFailed self.new.stage }
     {
         let _bytes = rest_of(&self.key, self.way.layer);
         tree.unlock_border(self.way.node);
@@ -286,9 +295,11 @@ impl Write {
     // Unlocks the left half, where its border was split, and goes on with the other; else it unlocks its border, and answers.
     fn end_stored(&mut self, tree: &mut Tree, commit: u64, split: Option<Split>) -> Progress
         requires may { (C : ℕ) × (log : LogView) × MayStage C tree.old log self.old (Stage.Stored commit split) }
+        requires idle { self.old.stage ≡ Stage.Seeks }
         ensures request { write_request self.new ≡ write_request self.old }
         ensures steps { (C : ℕ) (log : LogView) → StageLaw C tree.old tree.new log log self.old (Stage.Stored commit split) result self.new }
         ensures waits { WriteWaits tree.old self.old.way.node.0 result }
+        ensures fails { IsNotRefused result × IsNotFailed self.new.stage }
     {
         let Some(split) = split else {
             tree.unlock_border(self.way.node);
@@ -306,6 +317,7 @@ impl Write {
         ensures request { write_request self.new ≡ write_request self.old }
         ensures steps { (C : ℕ) (log : LogView) → StageLaw C tree.old tree.new log log self.old (Stage.Failed refusal split) result self.new }
         ensures waits { WriteWaits tree.old self.old.way.node.0 result }
+        ensures fails { (log : LogView) → StageFails tree.old log self.old.key self.old.edit self.old.way (Stage.Failed refusal split) result self.new.stage }
     {
         let Some(split) = split else {
             tree.unlock_border(self.way.node);
@@ -323,6 +335,7 @@ impl Write {
         ensures request { write_request self.new ≡ write_request self.old }
         ensures steps { StepLaw columns tree.old tree.new log.old log.new (write_request self.old) (write_held self.old) result (write_held self.new) (WriteIsTrue columns self.old) (WriteIsTrue columns self.new) }
         ensures waits { WriteWaits tree.old self.old.way.node.0 result }
+        ensures fails { WriteFails tree.old log.old self.old result self.new }
     {
         let number = self.way.node;
         match mem::replace(&mut self.stage, Stage::Seeks) {

@@ -8,8 +8,8 @@ use Rattle.mt_calls.specs.Way.{rest_of}
 use Rattle.mt_calls.proofs.FoundLemmas.{some_at}
 use Rattle.mt_write.proofs.layering.spare_layer.Goals as goal
 
-pub returns-in-Ok : goal.returns-in-Ok
-returns-in-Ok c = λ C log.
+pub returns-in-Ok-clause-ready : goal.returns-in-Ok-clause-ready
+returns-in-Ok-clause-ready c = λ C log.
     let b = c.border-border.result.now in
     let named = c.border-border.ensures.value in
     let other = some_at _ _ b c.requires.other named in

@@ -5,8 +5,8 @@ use Rattle.mt_arena.specs.declared.node.Node.TheVariants.{Border}
 use Rattle.mt_calls.proofs.FoundLemmas.{some_at}
 use Rattle.mt_write.proofs.splitting.spare.Goals as goal
 
-pub returns : goal.returns
-returns c = λ C log.
+pub returns-clause-ready : goal.returns-clause-ready
+returns-clause-ready c = λ C log.
     let b = c.border-border.result.now in
     let named = c.border-border.ensures.value in
     let full = some_at _ _ b c.requires.full named in (

@@ -1,4 +1,6 @@
-use Rattle.std.proofs.Common.{◌∙◌, sym}
+use Rattle.std.proofs.Common.{◌∙◌, sym, subst}
+use Rattle.mt_write.specs.declared.writing.Stage.{Stage}
+use Rattle.mt_write.specs.Causes.{StageFails}
 use Rattle.mt_write.proofs.WriteLemmas.{shows, writes, hides, at_stage, may_at, room_at}
 use Rattle.mt_write.proofs.writing.Write.step.Goals as goal
 
@@ -78,3 +80,8 @@ pub returns-in-Layered-clause-steps : goal.returns-in-Layered-clause-steps
 returns-in-Layered-clause-steps c =
     at_stage c.args.columns c.args.tree.now c.go_below.new.tree c.args.log.now c.args.log.now c.args.self.now.key c.args.self.now.edit c.args.self.now.way c.go_below.result _ _ _ c.args.self.now.stage
     (sym c.replace.ensures.value ∙ c.in-Layered.is) (c.go_below.ensures.steps c.args.columns c.args.log.now)
+
+pub returns-in-Failed-clause-fails : goal.returns-in-Failed-clause-fails
+returns-in-Failed-clause-fails c =
+    subst (λ (s : Stage). StageFails c.args.tree.now c.args.log.now c.args.self.now.key c.args.self.now.edit c.args.self.now.way s c.end_failed.result c.end_failed.new.self.stage) (sym (sym c.replace.ensures.value ∙ c.in-Failed.is))
+    (c.end_failed.ensures.fails c.args.log.now)
