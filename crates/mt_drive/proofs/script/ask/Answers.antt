@@ -1,4 +1,4 @@
-use Rattle.std.proofs.Common.{◌∷◌, refl, sym, ◌∙◌, true}
+use Rattle.std.proofs.Common.{◌∷◌, refl, sym, ◌∙◌}
 use Rattle.mt_promise.specs.History.{happening}
 use Rattle.mt_drive.proofs.script.ask.Goals as goal
 

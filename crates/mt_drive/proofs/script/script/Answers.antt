@@ -1,5 +1,4 @@
 use Rattle.std.proofs.Common.{IfOk, IfErr, ℕ, subst}
-use Rattle.mt_types.specs.Limits.{open_fault}
 use Rattle.mt_drive.specs.Script.{Played, Broke}
 use Rattle.mt_drive.specs.Source.{source_rest}
 use Rattle.mt_drive.specs.Sink.{sink_writer}
