@@ -6,16 +6,13 @@ use Rattle.std.specs.Cmp.{nat_cmp_is, ranks}
 use Rattle.std.specs.Map.{lookup, set_value, remove_entry}
 use Rattle.std.specs.Ordering.{nat_cmp, is_eq, match_ordering, MatchOrdering}
 use Rattle.std.specs.BTreeMap.{insert_entry, is_at}
-use Rattle.std.proofs.lemmas.Bool.{eq-eqb}
+use Rattle.std.proofs.lemmas.Bool.{eq-eqb, ne_eqb}
 use Rattle.std.proofs.lemmas.Bool.Decides.{eqb_tells}
 use Rattle.mt_index.specs.declared.calls.Call.{Call}
 use Rattle.mt_index.specs.Calls.{call_at, with_changed, without, AreBegun}
 
 abbrev pub Entries : Type 0
 Entries = List (ℕ × Call)
-
-pub eqb-ne : (a b : ℕ) → a ≢ b → (a == b) ≡ false
-eqb-ne a b ne = elim (eqb_tells a b) [ inl p ↦ absurd (ne p.1) | inr p ↦ p.0 ]
 
 -- ---- what is made of a first entry
 module _ (number : ℕ) (entry : ℕ × Call) (entries : Entries) where
@@ -52,9 +49,9 @@ module _ (number : ℕ) (entry : ℕ × Call) (entries : Entries) where
 at_number : (number other : ℕ) → is_eq (nat_cmp number other) ≡ (other == number)
 at_number number other =
     elim (nat_cmp number other) as (λ order. MatchOrdering order (number < other) (number ≡ other) (other < number) → is_eq order ≡ eqb other number) [
-      | Less ↦ λ below. sym (eqb-ne other number (λ e. omega arith))
+      | Less ↦ λ below. sym (ne_eqb other number (λ e. omega arith))
       | Equal ↦ λ same. sym (eq-eqb other number (sym same))
-      | Greater ↦ λ above. sym (eqb-ne other number (λ e. omega arith))
+      | Greater ↦ λ above. sym (ne_eqb other number (λ e. omega arith))
     ] (ranks number other)
 
 -- what the map finds is the call of the number

@@ -1,13 +1,13 @@
 -- The machine's calls and the history's, paired one by one, and what each change leaves.
 use Rattle.std.proofs.Common.{◌≡◌, ◌<◌, ◌≢◌, ◌≤◌, ◌+◌, ◌==◌, ℕ, suc, Bool, true, false, not, cond, List, [], ◌∷◌, ◌++◌, length, Some, None, sym, ◌∙◌, ap, subst, refl, arith, inl, inr}
-use Rattle.std.proofs.lemmas.Bool.{eq-eqb}
+use Rattle.std.proofs.lemmas.Bool.{eq-eqb, ne_eqb}
 use Rattle.std.proofs.lemmas.Bool.Decides.{eqb_tells}
 use Rattle.mt_chart.specs.Tree.{Among, first, later}
 use Rattle.mt_promise.specs.History.{OpenCall, call_of, without_call, replace_call}
 use Rattle.mt_index.specs.declared.calls.Call.{Call}
 use Rattle.mt_index.specs.Calls.{call_at, with_changed, without}
 use Rattle.mt_index.specs.Paired.{Paired}
-use Rattle.mt_index.proofs.NumberLemmas.{Entries, eqb-ne, call_at-here, call_at-there, found-here, found-there, changed-here, changed-there, without-here, without-there}
+use Rattle.mt_index.proofs.NumberLemmas.{Entries, call_at-here, call_at-there, found-here, found-there, changed-here, changed-there, without-here, without-there}
 
 abbrev pub Relation : Type 1
 Relation = ℕ × Call → OpenCall → Type 0
@@ -93,7 +93,7 @@ replace-above : (R : Relation) (low high : ℕ) (ks : Entries) (cs : List OpenCa
 replace-above R low high [] [] new s le = refl
 replace-above R low high (k ∷ ks) (c ∷ cs) new s le =
     let b = s.0 in
-    ap (λ t. cond t new c ∷ replace_call new cs) (eqb-ne c.number new.number (omega arith))
+    ap (λ t. cond t new c ∷ replace_call new cs) (ne_eqb c.number new.number (omega arith))
     ∙ ap (λ (t : List OpenCall). c ∷ t) (replace-above R c.number high ks cs new s.3 (omega arith))
 replace-above R low high [] (c ∷ cs) new s le = absurd s
 replace-above R low high (k ∷ ks) [] new s le = absurd s
@@ -102,7 +102,7 @@ without-above : (R : Relation) (low high n : ℕ) (ks : Entries) (cs : List Open
 without-above R low high n [] [] s le = refl
 without-above R low high n (k ∷ ks) (c ∷ cs) s le =
     let b = s.0 in
-    ap (λ t. cond (not t) (c ∷ without_call n cs) (without_call n cs)) (eqb-ne c.number n (omega arith))
+    ap (λ t. cond (not t) (c ∷ without_call n cs) (without_call n cs)) (ne_eqb c.number n (omega arith))
     ∙ ap (λ (t : List OpenCall). c ∷ t) (without-above R c.number high n ks cs s.3 (omega arith))
 without-above R low high n [] (c ∷ cs) s le = absurd s
 without-above R low high n (k ∷ ks) [] s le = absurd s
@@ -128,7 +128,7 @@ paired-change change n R R' low high (k ∷ ks) (c ∷ cs) kept new f s e i t =
             subst (λ (m : ℕ). Paired R' m high ks cs) (at ∙ sym i) (paired-above n R R' c.number high ks cs (fewer n k ks R R' f) (omega arith) s.3),
           ))
       | inr p ↦
-          let there : (c.number == new.number) ≡ false = eqb-ne c.number new.number (λ z. p.1 (sym s.1 ∙ z ∙ i)) in
+          let there : (c.number == new.number) ≡ false = ne_eqb c.number new.number (λ z. p.1 (sym s.1 ∙ z ∙ i)) in
           subst (λ (ks' : Entries). Paired R' low high ks' (replace_call new (c ∷ cs))) (sym (changed-there n k ks p.0 change))
           (subst (λ (cs' : List OpenCall). Paired R' low high (k ∷ with_changed change n ks) cs')
           (sym (ap (λ b. cond b new c ∷ replace_call new cs) there))
@@ -151,7 +151,7 @@ paired-without n R R' low high (k ∷ ks) (c ∷ cs) f s =
           (sym (ap (λ b. cond (not b) (c ∷ without_call n cs) (without_call n cs)) (eq-eqb c.number n at) ∙ without-above R c.number high n ks cs s.3 (omega arith)))
           (paired-wider R' c.number low high ks cs (omega arith) (paired-above n R R' c.number high ks cs (fewer n k ks R R' f) (omega arith) s.3)))
       | inr p ↦
-          let there : (c.number == n) ≡ false = eqb-ne c.number n (λ z. p.1 (sym s.1 ∙ z)) in
+          let there : (c.number == n) ≡ false = ne_eqb c.number n (λ z. p.1 (sym s.1 ∙ z)) in
           subst (λ (ks' : Entries). Paired R' low high ks' (without_call n (c ∷ cs))) (sym (without-there n k ks p.0))
           (subst (λ (cs' : List OpenCall). Paired R' low high (k ∷ without n ks) cs')
           (sym (ap (λ b. cond (not b) (c ∷ without_call n cs) (without_call n cs)) there))
@@ -182,4 +182,4 @@ paired-one R low high (j ∷ ks) (c ∷ cs) s k (later i) =
     let above = paired-low R c.number high ks cs s.3 k i in
     let e = s.1 in
     let differ : j.0 ≢ k.0 = omega (arith, above, e) in
-    call_at-there k.0 j ks (eqb-ne j.0 k.0 differ) ∙ paired-one R c.number high ks cs s.3 k i
+    call_at-there k.0 j ks (ne_eqb j.0 k.0 differ) ∙ paired-one R c.number high ks cs s.3 k i
