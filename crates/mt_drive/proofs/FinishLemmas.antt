@@ -8,7 +8,7 @@ use Rattle.mt_types.specs.declared.event.Event.TheVariants.{Step}
 use Rattle.mt_types.specs.declared.event.Outcome.{Outcome}
 use Rattle.mt_promise.specs.History.{History, GoesOn}
 use Rattle.mt_promise.proofs.HistoryLemmas.{GoesOn-append}
-use Rattle.mt_machine.specs.Seen.{Seen}
+use Rattle.mt_index.specs.Stands.{MachineView}
 use Rattle.mt_drive.specs.Machine.{Leads}
 use Rattle.mt_drive.specs.Script.{goes_on, AllGoOn, Happens, Steps, Finishes}
 
@@ -19,7 +19,7 @@ pub record Passes (n : ℕ) (past : History) (call : CallNo) (h : History) : Typ
   pub count : length outcomes + 1 ≡ n
   pub stepped : Steps past call outcomes h
 
-pub Passes-none : (s : Seen) (call : CallNo) → Leads s (λ past h. Passes 1 past call h) s
+pub Passes-none : (s : MachineView) (call : CallNo) → Leads s (λ past h. Passes 1 past call h) s
 Passes-none s call past stands = (past, record { outcomes = []; go_on = All-nil (λ (o : Outcome). goes_on o ≡ true); count = refl; stepped = refl }, stands)
 
 Steps-push : (past between h : History) (call : CallNo) (outcomes : List Outcome) (outcome : Outcome) → Steps past call outcomes between → Happens between (Step call) outcome h → Steps past call (outcomes ++ outcome ∷ []) h
@@ -28,7 +28,7 @@ Steps-push past between h call outcomes outcome stepped one =
     (subst (λ (t : History). GoesOn past (map (λ (o : Outcome). Step call) outcomes ++ Step call ∷ []) (outcomes ++ outcome ∷ []) t) (sym one.1)
     (GoesOn-append past between _ outcomes (Step call) outcome one.0 stepped))
 
-pub Passes-more : (s between t : Seen) (n : ℕ) (call : CallNo) (outcome : Outcome) → Leads s (λ past h. Passes n past call h) between → Leads between (λ past h. Happens past (Step call) outcome h) t → goes_on outcome ≡ true
+pub Passes-more : (s between t : MachineView) (n : ℕ) (call : CallNo) (outcome : Outcome) → Leads s (λ past h. Passes n past call h) between → Leads between (λ past h. Happens past (Step call) outcome h) t → goes_on outcome ≡ true
     → Leads s (λ past h. Passes (n + 1) past call h) t
 Passes-more s between t n call outcome so_far step on past stands =
     let led = so_far past stands in
@@ -44,7 +44,7 @@ Passes-more s between t n call outcome so_far step on past stands =
       more.2,
     )
 
-pub Passes-end : (s between t : Seen) (n : ℕ) (call : CallNo) (outcome : Outcome) → Leads s (λ past h. Passes n past call h) between → Leads between (λ past h. Happens past (Step call) outcome h) t
+pub Passes-end : (s between t : MachineView) (n : ℕ) (call : CallNo) (outcome : Outcome) → Leads s (λ past h. Passes n past call h) between → Leads between (λ past h. Happens past (Step call) outcome h) t
     → n < 1000001 → (goes_on outcome ≡ true → n ≡ 1000000) → Leads s (λ past h. Finishes past call outcome h) t
 Passes-end s between t n call outcome so_far step few ended past stands =
     let led = so_far past stands in

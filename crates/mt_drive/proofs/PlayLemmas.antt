@@ -4,8 +4,7 @@ use Rattle.std.specs.Io.KnownBytes.{Appends}
 use Rattle.mt_promise.specs.History.{History}
 use Rattle.mt_promise.specs.Legal.{Legal}
 use Rattle.mt_promise.proofs.KeepLemmas.{keeps_promise}
-use Rattle.mt_machine.specs.Seen.{Seen}
-use Rattle.mt_machine.specs.Stands.{Stands}
+use Rattle.mt_index.specs.Stands.{MachineView, Stands}
 use Rattle.mt_drive.specs.declared.fault.ScriptFault.{ScriptFault}
 use Rattle.mt_drive.specs.declared.fault.ScriptFault.TheVariants.{Read, Write, NoMemory}
 use Rattle.mt_drive.specs.Lines.{lines_of, LosesLine}
@@ -90,7 +89,7 @@ AnswersAll-push past between h (l ∷ ls) [] line reply all one = absurd all
 AnswersAll-push past between h (l ∷ ls) (r ∷ rs) line reply all one = (all.0, all.1, AnswersAll-push all.0 between h ls rs line reply all.2 one)
 
 -- lines that were answered so far on an empty index of C columns, which left the machine s
-pub record Playing (C : ℕ) (input old : Option (List ℕ)) (bad : ℕ) (s : Seen) (now new : Option (List ℕ)) : Type 0 where
+pub record Playing (C : ℕ) (input old : Option (List ℕ)) (bad : ℕ) (s : MachineView) (now new : Option (List ℕ)) : Type 0 where
   pub lines : List (List ℕ)
   pub replies : List Reply
   pub h : History
@@ -101,10 +100,10 @@ pub record Playing (C : ℕ) (input old : Option (List ℕ)) (bad : ℕ) (s : Se
   pub written : Appends old new (output_of replies)
   pub counted : bad ≡ bad_lines replies
 
-legal_of : {C : ℕ} {input old : Option (List ℕ)} {bad : ℕ} {s : Seen} {now new : Option (List ℕ)} → (p : Playing C input old bad s now new) → Legal C p.h
+legal_of : {C : ℕ} {input old : Option (List ℕ)} {bad : ℕ} {s : MachineView} {now new : Option (List ℕ)} → (p : Playing C input old bad s now new) → Legal C p.h
 legal_of p = subst (λ n. Legal n p.h) p.columns p.stands.legal
 
-pub Playing-none : (s : Seen) (input old : Option (List ℕ)) → Stands s [] → Playing s.columns input old 0 s input old
+pub Playing-none : (s : MachineView) (input old : Option (List ℕ)) → Stands s [] → Playing s.columns input old 0 s input old
 Playing-none s input old stands = record {
   lines = [];
   replies = [];
@@ -118,14 +117,14 @@ Playing-none s input old stands = record {
 }
 
 -- a line more is read and answered
-answered_more : {C : ℕ} {input old : Option (List ℕ)} {bad : ℕ} {s : Seen} {now new : Option (List ℕ)} (t : Seen) (next : Option (List ℕ)) (line : List ℕ) (reply : Reply) → (p : Playing C input old bad s now new)
+answered_more : {C : ℕ} {input old : Option (List ℕ)} {bad : ℕ} {s : MachineView} {now new : Option (List ℕ)} (t : MachineView) (next : Option (List ℕ)) (line : List ℕ) (reply : Reply) → (p : Playing C input old bad s now new)
     → Leads s (λ past h. Answers (command_of line) past reply h) t → t.columns ≡ s.columns
     → (h : History) × AnswersAll [] (p.lines ++ line ∷ []) (p.replies ++ reply ∷ []) h × Stands t h × Legal C h
 answered_more t next line reply p leads columns =
     let led = leads p.h p.stands in
     (led.0, AnswersAll-push [] p.h led.0 p.lines p.replies line reply p.answered led.1, led.2, subst (λ n. Legal n led.0) (columns ∙ p.columns) led.2.legal)
 
-pub Playing-more : {C : ℕ} {input old : Option (List ℕ)} {bad : ℕ} {s : Seen} {now new : Option (List ℕ)} (t : Seen) (next out : Option (List ℕ)) (more : ℕ) (line : List ℕ) (reply : Reply) → (p : Playing C input old bad s now new)
+pub Playing-more : {C : ℕ} {input old : Option (List ℕ)} {bad : ℕ} {s : MachineView} {now new : Option (List ℕ)} (t : MachineView) (next out : Option (List ℕ)) (more : ℕ) (line : List ℕ) (reply : Reply) → (p : Playing C input old bad s now new)
     → IfSome now (λ xs. LosesLine xs next (Some line)) → Leads s (λ past h. Answers (command_of line) past reply h) t → t.columns ≡ s.columns
     → Appends new out (reply_line reply) → more ≡ bad + bad_lines (reply ∷ []) → Playing C input old more t next out
 Playing-more {C} {input} {old} {bad} {s} {now} {new} t next out more line reply p lost leads columns sent counted =
@@ -141,7 +140,7 @@ Playing-more {C} {input} {old} {bad} {s} {now} {new} t next out more line reply 
       counted = counted ∙ ap (λ n. n + bad_lines (reply ∷ [])) p.counted ∙ sym (bad-push p.replies reply);
     }
 
-pub Played-end : {C : ℕ} {input old : Option (List ℕ)} {bad : ℕ} {s : Seen} {now new : Option (List ℕ)} (next : Option (List ℕ)) → Playing C input old bad s now new
+pub Played-end : {C : ℕ} {input old : Option (List ℕ)} {bad : ℕ} {s : MachineView} {now new : Option (List ℕ)} (next : Option (List ℕ)) → Playing C input old bad s now new
     → IfSome now (λ xs. LosesLine xs next None) → Played C input old bad new
 Played-end {C} {input} {old} {bad} {s} {now} {new} next p lost = record {
   lines = p.lines;
@@ -155,7 +154,7 @@ Played-end {C} {input} {old} {bad} {s} {now} {new} next p lost = record {
   counted = p.counted;
 }
 
-pub Broke-between : (fault : ScriptFault) {C : ℕ} {input old : Option (List ℕ)} {bad : ℕ} {s : Seen} {now new : Option (List ℕ)} → Playing C input old bad s now new → Broke C fault input old new
+pub Broke-between : (fault : ScriptFault) {C : ℕ} {input old : Option (List ℕ)} {bad : ℕ} {s : MachineView} {now new : Option (List ℕ)} → Playing C input old bad s now new → Broke C fault input old new
 Broke-between fault {C} {input} {old} {bad} {s} {now} {new} p =
     let front : (more : List (List ℕ)) × IfSome input (λ xs. lines_of xs ≡ p.lines ++ more) = Goes-front input now p.lines p.read in record {
       lines = p.lines;
@@ -173,7 +172,7 @@ Broke-between fault {C} {input} {old} {bad} {s} {now} {new} p =
       whole = λ read. refl;
     }
 
-pub Broke-sending : (fault : ScriptFault) {C : ℕ} {input old : Option (List ℕ)} {bad : ℕ} {s : Seen} {now new : Option (List ℕ)} (t : Seen) (next out : Option (List ℕ)) (line : List ℕ) (reply : Reply) (sent unsent : List ℕ)
+pub Broke-sending : (fault : ScriptFault) {C : ℕ} {input old : Option (List ℕ)} {bad : ℕ} {s : MachineView} {now new : Option (List ℕ)} (t : MachineView) (next out : Option (List ℕ)) (line : List ℕ) (reply : Reply) (sent unsent : List ℕ)
     → (p : Playing C input old bad s now new) → IfSome now (λ xs. LosesLine xs next (Some line)) → Leads s (λ past h. Answers (command_of line) past reply h) t → t.columns ≡ s.columns
     → reply_line reply ≡ sent ++ unsent → Appends new out sent → (fault ≡ Write) ⊎ (fault ≡ NoMemory) → Broke C fault input old out
 Broke-sending fault {C} {input} {old} {bad} {s} {now} {new} t next out line reply sent unsent p lost leads columns split went cause =

@@ -2,7 +2,6 @@ pub mod Lines
 pub mod Machine
 pub mod Reading
 pub mod Script
-pub mod Service
 pub mod Showing
 pub mod Sink
 pub mod Source

@@ -3,21 +3,20 @@ use Rattle.std.specs.Prelude.{◌≡◌, ℕ, ◌<◌, Bool, true, false, List, 
 use Rattle.std.specs.List.{flat_map, count_by}
 use Rattle.std.specs.Io.KnownBytes.{Appends}
 use Rattle.mt_types.specs.declared.numbers.CallNo.{CallNo}
-use Rattle.mt_types.specs.declared.refusal.Refusal.TheVariants.{KeyTooLong}
+use Rattle.mt_types.specs.declared.refusal.Refusal.{Refusal}
+use Rattle.mt_types.specs.declared.refusal.Refusal.TheVariants.{NoMemory as WantOfMemory}
 use Rattle.mt_types.specs.declared.event.Event.{Event}
 use Rattle.mt_types.specs.declared.event.Event.TheVariants.{Step}
 use Rattle.mt_types.specs.declared.event.Outcome.{Outcome}
-use Rattle.mt_types.specs.declared.event.Outcome.TheVariants.{Moved, Commit, Refused}
+use Rattle.mt_types.specs.declared.event.Outcome.TheVariants.{Moved, Commit}
 use Rattle.mt_promise.specs.History.{History, GoesOn}
 use Rattle.mt_promise.specs.Legal.{Legal}
 use Rattle.mt_promise.specs.Headline.{KeepsPromise}
+use Rattle.mt_index.specs.Stands.{IsServed}
 use Rattle.mt_drive.specs.declared.fault.ScriptFault.{ScriptFault}
-use Rattle.mt_drive.specs.declared.fault.ScriptFault.TheVariants.{Read}
-use Rattle.mt_drive.specs.declared.service.Service.{Service}
-use Rattle.mt_drive.specs.declared.service.Service.TheVariants.{Served, TooLong, Unknown}
+use Rattle.mt_drive.specs.declared.fault.ScriptFault.TheVariants.{Read, Start, NoMemory}
 use Rattle.mt_drive.specs.declared.command.Command.{Command}
 use Rattle.mt_drive.specs.declared.command.Command.TheVariants.{Once, Finish}
-use Rattle.mt_drive.specs.Service.{event_service}
 use Rattle.mt_drive.specs.Lines.{lines_of}
 use Rattle.mt_drive.specs.Reading.{command_of}
 use Rattle.mt_drive.specs.Showing.{outcome_text}
@@ -45,6 +44,11 @@ is_bad (Some outcome) = false
 abbrev pub bad_lines : List Reply → ℕ
 bad_lines replies = count_by is_bad replies
 
+-- why a script can't start: want of memory, or the limit that the options of the index break
+abbrev pub start_fault : Refusal → ScriptFault
+start_fault WantOfMemory = NoMemory
+start_fault limit = Start limit
+
 -- a call that answers so hasn't finished
 abbrev pub goes_on : Outcome → Bool
 goes_on Moved = true
@@ -70,16 +74,15 @@ pub record Finishes (past : History) (call : CallNo) (outcome : Outcome) (h : Hi
   pub stepped : Steps past call (before ++ outcome ∷ []) h
   pub ended : goes_on outcome ≡ true → length before ≡ 999999
 
--- an event that a line says: what isn't served is refused or a bad line, and nothing happens
-abbrev pub Asks : Service → Event → History → Reply → History → Type 0
-Asks Served event past reply h = (outcome : Outcome) × (reply ≡ Some outcome) × Happens past event outcome h
-Asks TooLong event past reply h = (reply ≡ Some (Refused KeyTooLong)) × (h ≡ past)
-Asks Unknown event past reply h = (reply ≡ None) × (h ≡ past)
+-- an event that a line says: where the index serves it, it happens; else the line is bad, and nothing happens
+abbrev pub Asks : Event → History → Reply → History → Type 0
+Asks event past (Some outcome) h = IsServed event × Happens past event outcome h
+Asks event past None h = ¬ IsServed event × (h ≡ past)
 
 -- what a line says was answered so after this past, and led to this history
 abbrev pub Answers : Option Command → History → Reply → History → Type 0
 Answers None past reply h = (reply ≡ None) × (h ≡ past)
-Answers (Some (Once event)) past reply h = Asks (event_service event) event past reply h
+Answers (Some (Once event)) past reply h = Asks event past reply h
 Answers (Some (Finish call)) past reply h = (outcome : Outcome) × (reply ≡ Some outcome) × Finishes past call outcome h
 
 -- these lines, one after the other, were answered so, each by one reply

@@ -6,7 +6,6 @@ mod counted;
 pub mod fault;
 pub mod reading;
 pub mod script;
-mod service;
 pub mod showing;
 pub mod sink;
 pub mod source;

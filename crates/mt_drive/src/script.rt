@@ -3,11 +3,10 @@
 ghost use Rattle.std.specs.Prelude.{◌≡◌, ◌≢◌, ◌+◌, ◌-◌, ◌^◌, ◌<◌, ◌≤◌, true, [], ◌∷◌, IfOk, IfErr, IfSome, Err};
 ghost use Rattle.mt_types.specs.Limits.{open_fault};
 ghost use Rattle.mt_types.specs.declared.refusal.Refusal.{Refusal};
-ghost use Rattle.mt_machine.specs.Stands.{Stands};
+ghost use Rattle.mt_index.specs.Stands.{Stands};
 ghost use Rattle.mt_drive.specs.Reading.{command_of};
-ghost use Rattle.mt_drive.specs.Service.{event_service};
 ghost use Rattle.mt_drive.specs.Machine.{Leads};
-ghost use Rattle.mt_drive.specs.Script.{goes_on, bad_lines, Happens, Finishes, Asks, Answers, Played, Broke};
+ghost use Rattle.mt_drive.specs.Script.{goes_on, bad_lines, start_fault, Happens, Finishes, Asks, Answers, Played, Broke};
 ghost use Rattle.mt_types.specs.declared.event.Event.TheVariants.{Step};
 ghost use Rattle.mt_drive.specs.Sink.{sink_writer, write_failed};
 ghost use Rattle.mt_drive.specs.Source.{source_rest, GivesNoMore};
@@ -16,11 +15,10 @@ ghost use Rattle.mt_drive.specs.declared.fault.ScriptFault.TheVariants.{Read as 
 use crate::command::Command;
 use crate::fault::{LineError, ScriptFault};
 use crate::reading::read_command;
-use crate::service::{Service, event_service};
 use crate::sink::Sink;
 use crate::source::Source;
-use mt_machine::machine::Machine;
-use mt_machine::options::Options;
+use mt_index::machine::{Machine, is_served};
+use mt_index::options::Options;
 use mt_types::event::{Event, Outcome};
 use mt_types::numbers::CallNo;
 use mt_types::refusal::Refusal;
@@ -60,13 +58,13 @@ fn finish(machine: &mut Machine, alloc: Global, call: CallNo) -> Outcome
 
 // One event, where the index serves it.
 fn ask(machine: &mut Machine, alloc: Global, event: &Event) -> Option<Outcome>
-    ensures stands { Leads machine.old (λ past h. Asks (event_service event.now) event.now past result h) machine.new }
+    ensures stands { Leads machine.old (λ past h. Asks event.now past result h) machine.new }
     ensures columns { machine.new.columns ≡ machine.old.columns }
 {
-    match event_service(event) {
-        Service::Served => Some(machine.event(alloc, event)),
-        Service::TooLong => Some(Outcome::Refused(Refusal::KeyTooLong)),
-        Service::Unknown => None,
+    if is_served(event) {
+        Some(machine.event(alloc, event))
+    } else {
+        None
     }
 }
 
@@ -119,22 +117,32 @@ fn play<R: Read, W: Write>(
     Ok(bad)
 }
 
+// Why a script can't start: want of memory, or the limit that the options of the index break.
+fn start_fault(refusal: Refusal) -> ScriptFault
+    ensures { result ≡ start_fault refusal }
+{
+    match refusal {
+        Refusal::NoMemory => ScriptFault::NoMemory,
+        limit => ScriptFault::Start(limit),
+    }
+}
+
 /// Answers the lines of a script on an empty index, a line of text for each, and gives the number of bad lines.
 ///
 /// A line is `begin PASS REQUEST`, `step CALL` or `finish CALL`; a request is `get KEY COLS`, `put KEY SETS`,
 /// `remove KEY` or `range START LIMIT COLS`. A line of other bytes, or of what the index doesn't serve yet, is answered
-/// `bad line`; the begin of a call whose key has more than eight bytes is refused, since there is one layer so far.
-/// What a line says and how an outcome is written is told in `reading` and `showing`. `finish` makes at most 1,000,000
-/// steps.
+/// `bad line`. What a line says and how an outcome is written is told in `reading` and `showing`. `finish` makes at most
+/// 1,000,000 steps.
 ///
 /// The writer is given each reply in one piece, and is not flushed. A line costs its event, or its steps, and some
 /// allocations for its words and its reply.
 ///
 /// # Errors
 ///
-/// `Start` where the index can't be opened, before anything is read. `Read` where a read of the source failed, `Write`
-/// where a write of the sink failed or took nothing, `NoMemory` where a line can't be kept or its reply not be made.
-/// What was written by then are the first bytes of the replies so far, and all of them where a read failed.
+/// `Start` where the options break a limit, before anything is read. `Read` where a read of the source failed, `Write`
+/// where a write of the sink failed or took nothing, `NoMemory` where there is none for the empty index, to keep a line or
+/// to make its reply. What was written by then are the first bytes of the replies so far, and all of them where a read
+/// failed.
 pub fn script<R: Read, W: Write>(
     alloc: Global,
     options: Options,
@@ -154,6 +162,6 @@ pub fn script<R: Read, W: Write>(
 {
     match Machine::open(alloc, options) {
         Ok(mut machine) => play(&mut machine, alloc, reader, writer),
-        Err(refusal) => Err(ScriptFault::Start(refusal)),
+        Err(refusal) => Err(start_fault(refusal)),
     }
 }

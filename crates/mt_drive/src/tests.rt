@@ -4,7 +4,7 @@ use crate::fault::ScriptFault;
 use crate::script::script;
 use crate::sink::Sink;
 use crate::source::Source;
-use mt_machine::options::Options;
+use mt_index::options::Options;
 use mt_types::refusal::Refusal;
 use std::alloc::AllocError;
 use std::io;
@@ -27,9 +27,9 @@ struct Run {
     bad: u64,
 }
 
-// An empty index; a row that is visible by its commit alone; columns; a full border; what says nothing, the last of it
-// without a line feed.
-const RUNS: [Run; 5] = [
+// An empty index; a row that is visible by its commit alone; columns; a full border; two long keys of one slice; what says
+// nothing, the last of it without a line feed.
+const RUNS: [Run; 6] = [
     Run {
         columns: 1,
         script: b"begin 1 get - all\nstep 1\nstep 1\n",
@@ -65,13 +65,22 @@ const RUNS: [Run; 5] = [
         begin 1 put 0b 0=0b\nfinish 11\nbegin 1 put 0c 0=0c\nfinish 12\n\
         begin 1 put 0d 0=0d\nfinish 13\nbegin 1 put 0e 0=0e\nfinish 14\n\
         begin 1 put 0f 0=0f\nfinish 15\nbegin 1 put 10 0=10\nfinish 16\n\
-        begin 1 get 01 all\nfinish 17\nbegin 1 get 313233343536373839 all\n",
+        begin 1 get 01 all\nfinish 17\n",
         written: b"call 1\ndone 0 1 put 1\ncall 2\ndone 1 2 put 2\n\
         call 3\ndone 2 3 put 3\ncall 4\ndone 3 4 put 4\ncall 5\ndone 4 5 put 5\ncall 6\ndone 5 6 put 6\n\
         call 7\ndone 6 7 put 7\ncall 8\ndone 7 8 put 8\ncall 9\ndone 8 9 put 9\ncall 10\ndone 9 10 put 10\n\
         call 11\ndone 10 11 put 11\ncall 12\ndone 11 12 put 12\ncall 13\ndone 12 13 put 13\n\
         call 14\ndone 13 14 put 14\ncall 15\ndone 14 15 put 15\ncall 16\nrefused 6\n\
-        call 17\ndone 15 15 row 1 01\nrefused 2\n",
+        call 17\ndone 15 15 row 1 01\n",
+        bad: 0,
+    },
+    Run {
+        columns: 1,
+        script: b"begin 1 put 30313233343536374142 0=61\nfinish 1\nbegin 1 get 30313233343536374142 all\n\
+        step 2\nstep 2\nbegin 2 put 30313233343536375859 0=62\nfinish 3\n\
+        begin 2 get 30313233343536375859 all\nfinish 4\nbegin 1 range - 10 all\nfinish 5\n",
+        written: b"call 1\ndone 0 1 put 1\ncall 2\nmoved\ndone 1 1 row 1 61\ncall 3\nrefused 6\n\
+        call 4\ndone 1 1 absent\ncall 5\ndone 1 1 rows 1 30313233343536374142:1:61\n",
         bad: 0,
     },
     Run {

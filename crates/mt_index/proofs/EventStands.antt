@@ -33,9 +33,6 @@ use Rattle.mt_index.specs.declared.calls.Call.{Call}
 use Rattle.mt_write.specs.declared.work.Work.{Work}
 use Rattle.mt_write.specs.declared.work.Work.TheVariants.{Get as GetWork, Write as WriteWork, Range as RangeWork}
 use Rattle.mt_slice.specs.Place.{Place}
-use Rattle.mt_index.specs.declared.calls.Call.{Call}
-use Rattle.mt_write.specs.declared.work.Work.{Work}
-use Rattle.mt_write.specs.declared.work.Work.TheVariants.{Get as GetWork, Write as WriteWork, Range as RangeWork}
 use Rattle.mt_calls.specs.declared.progress.Progress.{Progress}
 use Rattle.mt_calls.specs.declared.progress.Progress.TheVariants.{Moved, Waits, Committed, Answered, Refused}
 use Rattle.mt_arena.specs.declared.node.Node.{Node}

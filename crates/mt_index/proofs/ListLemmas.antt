@@ -1,81 +1,102 @@
 -- The list of open calls: what stands in it after a change, and what its calls have reserved.
-use Rattle.std.proofs.Common.{ℕ, ◌≡◌, ◌≢◌, ◌+◌, ◌==◌, ◌⊎◌, inl, inr, cond, true, false, [], ◌∷◌, ◌++◌, Some, refl, sym, ap, subst, ◌∙◌, arith}
+use Rattle.std.proofs.Common.{ℕ, ◌≡◌, ◌≢◌, ◌+◌, ◌⊎◌, inl, inr, [], ◌∷◌, ◌++◌, Some, refl, sym, ap, subst, ◌∙◌, arith}
 use Rattle.std.proofs.lemmas.Bool.Decides.{eqb_tells}
 use Rattle.mt_chart.specs.Tree.{Among, first, later}
 use Rattle.mt_chart.proofs.Entries.{among_cases}
 use Rattle.mt_index.specs.declared.calls.Call.{Call}
 use Rattle.mt_write.specs.Works.{held}
 use Rattle.mt_index.specs.Calls.{call_at, with_changed, without, all_reserved}
-use Rattle.mt_index.proofs.NumberLemmas.{Entries}
+use Rattle.mt_index.proofs.NumberLemmas.{Entries, found-here, found-there, changed-here, changed-there, without-here, without-there}
 
 abbrev pub reserves : Call → ℕ
 reserves call = (held call.work).reserves
 
 module _ (n : ℕ) (kept : Call) where
-  -- of the first entry: it is the call of the number, or that stands behind it
-  module _ (k : ℕ × Call) (ks : Entries) (at : call_at n (k ∷ ks) ≡ Some kept) where
-    here_is : (k.0 == n) ≡ true → k.1 ≡ kept
-    here_is e = let same : Some k.1 ≡ Some kept = sym (ap (λ b. cond b (Some k.1) (call_at n ks)) e) ∙ at in cc
+  pub among_changed : (change : Call → Call) (ks : Entries) → call_at n ks ≡ Some kept → (j : ℕ × Call) → Among j (with_changed change n ks) → Among j ks ⊎ (j ≡ (n, change kept))
+  among_changed change [] at j i = elim i [ ]
+  among_changed change (k ∷ ks) at j i = elim (eqb_tells k.0 n) [
+    | inl p ↦ elim (among_cases j (k.0, change k.1) ks (subst (λ (l : Entries). Among j l) (changed-here n k ks p.0 change) i)) [
+      | inl e ↦ inr (e ∙ (ap (λ (m : ℕ). (m, change k.1)) p.1 ∙ ap (λ (c : Call). (n, change c)) (found-here n k ks p.0 kept at)))
+      | inr more ↦ inl (later more)
+    ]
+    | inr p ↦ elim (among_cases j k (with_changed change n ks) (subst (λ (l : Entries). Among j l) (changed-there n k ks p.0 change) i)) [
+      | inl e ↦ inl (subst (λ (z : ℕ × Call). Among z (k ∷ ks)) (sym e) first)
+      | inr more ↦ elim (among_changed change ks (found-there n k ks p.0 kept at) j more) [ inl old ↦ inl (later old) | inr new ↦ inr new ]
+    ]
+  ]
 
-    behind : (k.0 == n) ≡ false → call_at n ks ≡ Some kept
-    behind e = sym (ap (λ b. cond b (Some k.1) (call_at n ks)) e) ∙ at
+  pub among_new : (change : Call → Call) (ks : Entries) → call_at n ks ≡ Some kept → Among (n, change kept) (with_changed change n ks)
+  among_new change [] at = absurd (cc)
+  among_new change (k ∷ ks) at = elim (eqb_tells k.0 n) [
+    | inl p ↦ (let new : (k.0, change k.1) ≡ (n, change kept) = ap (λ (m : ℕ). (m, change k.1)) p.1 ∙ ap (λ (c : Call). (n, change c)) (found-here n k ks p.0 kept at) in
+        subst (λ (l : Entries). Among (n, change kept) l) (sym (changed-here n k ks p.0 change)) (subst (λ (z : ℕ × Call). Among z ((k.0, change k.1) ∷ ks)) new first))
+    | inr p ↦ subst (λ (l : Entries). Among (n, change kept) l) (sym (changed-there n k ks p.0 change)) (later (among_new change ks (found-there n k ks p.0 kept at)))
+  ]
 
   pub among_at : (ks : Entries) → call_at n ks ≡ Some kept → Among (n, kept) ks
   among_at [] at = absurd (cc)
   among_at (k ∷ ks) at = elim (eqb_tells k.0 n) [
-    | inl p ↦ subst (λ (m : ℕ). Among (m, kept) (k ∷ ks)) p.1 (subst (λ (c : Call). Among (k.0, c) (k ∷ ks)) (here_is k ks at p.0) first)
-    | inr p ↦ later (among_at ks (behind k ks at p.0))
-  ]
-
-  pub among_changed : (change : Call → Call) (ks : Entries) → call_at n ks ≡ Some kept → (j : ℕ × Call) → Among j (with_changed change n ks) → Among j ks ⊎ (j ≡ (n, change kept))
-  among_changed change [] at j i = elim i [ ]
-  among_changed change (k ∷ ks) at j i = elim (eqb_tells k.0 n) [
-    | inl p ↦ elim (among_cases j (k.0, change k.1) ks (subst (λ (l : Entries). Among j l) (ap (λ b. cond b ((k.0, change k.1) ∷ ks) (k ∷ with_changed change n ks)) p.0) i)) [
-      | inl e ↦ inr (e ∙ (ap (λ (m : ℕ). (m, change k.1)) p.1 ∙ ap (λ (c : Call). (n, change c)) (here_is k ks at p.0)))
-      | inr more ↦ inl (later more)
-    ]
-    | inr p ↦ elim (among_cases j k (with_changed change n ks) (subst (λ (l : Entries). Among j l) (ap (λ b. cond b ((k.0, change k.1) ∷ ks) (k ∷ with_changed change n ks)) p.0) i)) [
-      | inl e ↦ inl (subst (λ (z : ℕ × Call). Among z (k ∷ ks)) (sym e) first)
-      | inr more ↦ elim (among_changed change ks (behind k ks at p.0) j more) [ inl old ↦ inl (later old) | inr new ↦ inr new ]
-    ]
+    | inl p ↦ (let same : k ≡ (n, kept) = ap (λ (m : ℕ). (m, k.1)) p.1 ∙ ap (λ (c : Call). (n, c)) (found-here n k ks p.0 kept at) in
+        subst (λ (z : ℕ × Call). Among z (k ∷ ks)) same first)
+    | inr p ↦ later (among_at ks (found-there n k ks p.0 kept at))
   ]
 
   pub reserved_changed : (change : Call → Call) (ks : Entries) → call_at n ks ≡ Some kept → all_reserved (with_changed change n ks) + reserves kept ≡ all_reserved ks + reserves (change kept)
   reserved_changed change [] at = absurd (cc)
   reserved_changed change (k ∷ ks) at = elim (eqb_tells k.0 n) [
-    | inl p ↦ (let list = ap all_reserved (ap (λ b. cond b ((k.0, change k.1) ∷ ks) (k ∷ with_changed change n ks)) p.0) in
-        let old = ap reserves (here_is k ks at p.0) in let new = ap (λ (c : Call). reserves (change c)) (here_is k ks at p.0) in omega (arith, list, old, new))
-    | inr p ↦ (let list = ap all_reserved (ap (λ b. cond b ((k.0, change k.1) ∷ ks) (k ∷ with_changed change n ks)) p.0) in
-        let rest = reserved_changed change ks (behind k ks at p.0) in omega (arith, list, rest))
+    | inl p ↦ (let list = ap all_reserved (changed-here n k ks p.0 change) in let same = found-here n k ks p.0 kept at in
+        let old = ap reserves same in let new = ap (λ (c : Call). reserves (change c)) same in omega (arith, list, old, new))
+    | inr p ↦ (let list = ap all_reserved (changed-there n k ks p.0 change) in
+        let rest = reserved_changed change ks (found-there n k ks p.0 kept at) in omega (arith, list, rest))
   ]
 
   pub reserved_without : (ks : Entries) → call_at n ks ≡ Some kept → all_reserved (without n ks) + reserves kept ≡ all_reserved ks
   reserved_without [] at = absurd (cc)
   reserved_without (k ∷ ks) at = elim (eqb_tells k.0 n) [
-    | inl p ↦ (let list = ap all_reserved (ap (λ b. cond b ks (k ∷ without n ks)) p.0) in let old = ap reserves (here_is k ks at p.0) in omega (arith, list, old))
-    | inr p ↦ (let list = ap all_reserved (ap (λ b. cond b ks (k ∷ without n ks)) p.0) in let rest = reserved_without ks (behind k ks at p.0) in omega (arith, list, rest))
+    | inl p ↦ (let list = ap all_reserved (without-here n k ks p.0) in let old = ap reserves (found-here n k ks p.0 kept at) in omega (arith, list, old))
+    | inr p ↦ (let list = ap all_reserved (without-there n k ks p.0) in let rest = reserved_without ks (found-there n k ks p.0 kept at) in omega (arith, list, rest))
   ]
 
-pub among_without : (n : ℕ) (ks : Entries) (j : ℕ × Call) → Among j (without n ks) → Among j ks
-among_without n [] j i = elim i [ ]
-among_without n (k ∷ ks) j i = elim (eqb_tells k.0 n) [
-  | inl p ↦ later (subst (λ (l : Entries). Among j l) (ap (λ b. cond b ks (k ∷ without n ks)) p.0) i)
-  | inr p ↦ elim (among_cases j k (without n ks) (subst (λ (l : Entries). Among j l) (ap (λ b. cond b ks (k ∷ without n ks)) p.0) i)) [
-    | inl e ↦ subst (λ (z : ℕ × Call). Among z (k ∷ ks)) (sym e) first
-    | inr more ↦ later (among_without n ks j more)
+-- ---- what stays in the list
+module _ (n : ℕ) where
+  pub among_kept : (change : Call → Call) (ks : Entries) (k : ℕ × Call) → Among k ks → k.0 ≢ n → Among k (with_changed change n ks)
+  among_kept change [] k i ne = elim i [ ]
+  among_kept change (j ∷ ks) k i ne = elim (eqb_tells j.0 n) [
+    | inl p ↦ subst (λ (l : Entries). Among k l) (sym (changed-here n j ks p.0 change))
+        (elim (among_cases k j ks i) [ inl e ↦ absurd (ne (ap (λ (z : ℕ × Call). z.0) e ∙ p.1)) | inr more ↦ later more ])
+    | inr p ↦ subst (λ (l : Entries). Among k l) (sym (changed-there n j ks p.0 change))
+        (elim (among_cases k j ks i) [ inl e ↦ subst (λ (z : ℕ × Call). Among z (j ∷ with_changed change n ks)) (sym e) first | inr more ↦ later (among_kept change ks k more ne) ])
   ]
-]
+
+  pub among_left : (ks : Entries) (k : ℕ × Call) → Among k ks → k.0 ≢ n → Among k (without n ks)
+  among_left [] k i ne = elim i [ ]
+  among_left (j ∷ ks) k i ne = elim (eqb_tells j.0 n) [
+    | inl p ↦ subst (λ (l : Entries). Among k l) (sym (without-here n j ks p.0))
+        (elim (among_cases k j ks i) [ inl e ↦ absurd (ne (ap (λ (z : ℕ × Call). z.0) e ∙ p.1)) | inr more ↦ more ])
+    | inr p ↦ subst (λ (l : Entries). Among k l) (sym (without-there n j ks p.0))
+        (elim (among_cases k j ks i) [ inl e ↦ subst (λ (z : ℕ × Call). Among z (j ∷ without n ks)) (sym e) first | inr more ↦ later (among_left ks k more ne) ])
+  ]
+
+  pub among_without : (ks : Entries) (j : ℕ × Call) → Among j (without n ks) → Among j ks
+  among_without [] j i = elim i [ ]
+  among_without (k ∷ ks) j i = elim (eqb_tells k.0 n) [
+    | inl p ↦ later (subst (λ (l : Entries). Among j l) (without-here n k ks p.0) i)
+    | inr p ↦ elim (among_cases j k (without n ks) (subst (λ (l : Entries). Among j l) (without-there n k ks p.0) i)) [
+      | inl e ↦ subst (λ (z : ℕ × Call). Among z (k ∷ ks)) (sym e) first
+      | inr more ↦ later (among_without ks j more)
+    ]
+  ]
 
 -- a call that is changed and then ends has ended
 pub without_changed : (change : Call → Call) (n : ℕ) (ks : Entries) → without n (with_changed change n ks) ≡ without n ks
 without_changed change n [] = refl
 without_changed change n (k ∷ ks) = elim (eqb_tells k.0 n) [
-  | inl p ↦ ap (without n) (ap (λ b. cond b ((k.0, change k.1) ∷ ks) (k ∷ with_changed change n ks)) p.0)
-      ∙ ap (λ b. cond b ks ((k.0, change k.1) ∷ without n ks)) p.0 ∙ sym (ap (λ b. cond b ks (k ∷ without n ks)) p.0)
-  | inr p ↦ ap (without n) (ap (λ b. cond b ((k.0, change k.1) ∷ ks) (k ∷ with_changed change n ks)) p.0)
-      ∙ ap (λ b. cond b (with_changed change n ks) (k ∷ without n (with_changed change n ks))) p.0 ∙ ap (λ (l : Entries). k ∷ l) (without_changed change n ks) ∙ sym (ap (λ b. cond b ks (k ∷ without n ks)) p.0)
+  | inl p ↦ ap (without n) (changed-here n k ks p.0 change) ∙ without-here n (k.0, change k.1) ks p.0 ∙ sym (without-here n k ks p.0)
+  | inr p ↦ ap (without n) (changed-there n k ks p.0 change) ∙ without-there n k (with_changed change n ks) p.0
+      ∙ ap (λ (l : Entries). k ∷ l) (without_changed change n ks) ∙ sym (without-there n k ks p.0)
 ]
 
+-- ---- one call more, at the end
 pub among_append : (ks : Entries) (new j : ℕ × Call) → Among j (ks ++ new ∷ []) → Among j ks ⊎ (j ≡ new)
 among_append [] new j i = elim (among_cases j new [] i) [ inl e ↦ inr e | inr more ↦ elim more [ ] ]
 among_append (k ∷ ks) new j i = elim (among_cases j k (ks ++ new ∷ []) i) [
@@ -86,34 +107,6 @@ among_append (k ∷ ks) new j i = elim (among_cases j k (ks ++ new ∷ []) i) [
 pub reserved_append : (ks : Entries) (new : ℕ × Call) → all_reserved (ks ++ new ∷ []) ≡ all_reserved ks + reserves new.1
 reserved_append [] new = omega arith
 reserved_append (k ∷ ks) new = let rest = reserved_append ks new in omega (arith, rest)
-
--- ---- what stays in the list
-pub among_kept : (change : Call → Call) (n : ℕ) (ks : Entries) (k : ℕ × Call) → Among k ks → k.0 ≢ n → Among k (with_changed change n ks)
-among_kept change n [] k i ne = elim i [ ]
-among_kept change n (j ∷ ks) k i ne = elim (eqb_tells j.0 n) [
-  | inl p ↦ subst (λ (l : Entries). Among k l) (sym (ap (λ b. cond b ((j.0, change j.1) ∷ ks) (j ∷ with_changed change n ks)) p.0))
-      (elim (among_cases k j ks i) [ inl e ↦ absurd (ne (ap (λ (z : ℕ × Call). z.0) e ∙ p.1)) | inr more ↦ later more ])
-  | inr p ↦ subst (λ (l : Entries). Among k l) (sym (ap (λ b. cond b ((j.0, change j.1) ∷ ks) (j ∷ with_changed change n ks)) p.0))
-      (elim (among_cases k j ks i) [ inl e ↦ subst (λ (z : ℕ × Call). Among z (j ∷ with_changed change n ks)) (sym e) first | inr more ↦ later (among_kept change n ks k more ne) ])
-]
-
-pub among_new : (change : Call → Call) (n : ℕ) (kept : Call) (ks : Entries) → call_at n ks ≡ Some kept → Among (n, change kept) (with_changed change n ks)
-among_new change n kept [] at = absurd (cc)
-among_new change n kept (j ∷ ks) at = elim (eqb_tells j.0 n) [
-  | inl p ↦ subst (λ (l : Entries). Among (n, change kept) l) (sym (ap (λ b. cond b ((j.0, change j.1) ∷ ks) (j ∷ with_changed change n ks)) p.0))
-      (subst (λ (m : ℕ). Among (m, change kept) ((j.0, change j.1) ∷ ks)) p.1 (subst (λ (c : Call). Among (j.0, change c) ((j.0, change j.1) ∷ ks)) (here_is n kept j ks at p.0) first))
-  | inr p ↦ subst (λ (l : Entries). Among (n, change kept) l) (sym (ap (λ b. cond b ((j.0, change j.1) ∷ ks) (j ∷ with_changed change n ks)) p.0))
-      (later (among_new change n kept ks (behind n kept j ks at p.0)))
-]
-
-pub among_left : (n : ℕ) (ks : Entries) (k : ℕ × Call) → Among k ks → k.0 ≢ n → Among k (without n ks)
-among_left n [] k i ne = elim i [ ]
-among_left n (j ∷ ks) k i ne = elim (eqb_tells j.0 n) [
-  | inl p ↦ subst (λ (l : Entries). Among k l) (sym (ap (λ b. cond b ks (j ∷ without n ks)) p.0))
-      (elim (among_cases k j ks i) [ inl e ↦ absurd (ne (ap (λ (z : ℕ × Call). z.0) e ∙ p.1)) | inr more ↦ more ])
-  | inr p ↦ subst (λ (l : Entries). Among k l) (sym (ap (λ b. cond b ks (j ∷ without n ks)) p.0))
-      (elim (among_cases k j ks i) [ inl e ↦ subst (λ (z : ℕ × Call). Among z (j ∷ without n ks)) (sym e) first | inr more ↦ later (among_left n ks k more ne) ])
-]
 
 pub among_before : (ks : Entries) (new k : ℕ × Call) → Among k ks → Among k (ks ++ new ∷ [])
 among_before [] new k i = elim i [ ]

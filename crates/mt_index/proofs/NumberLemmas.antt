@@ -1,12 +1,12 @@
 -- Calls by their numbers: what the map of open calls finds, takes in and leaves.
-use Rattle.std.proofs.Common.{◌≡◌, ◌≢◌, ◌<◌, ◌+◌, ◌==◌, ℕ, false, cond, List, [], ◌∷◌, ◌++◌, Some, None, sym, ◌∙◌, ap, subst, refl, arith, inl, inr}
+use Rattle.std.proofs.Common.{◌≡◌, ◌≢◌, ◌<◌, ◌+◌, ◌==◌, ℕ, false, Bool, true, cond, List, [], ◌∷◌, ◌++◌, Some, sym, ◌∙◌, ap, subst, refl, arith, inl, inr}
 use Rattle.std.specs.Prelude.{eqb}
 use Rattle.std.specs.declared.cmp.Ordering.TheVariants.{Less, Equal, Greater}
 use Rattle.std.specs.Cmp.{nat_cmp_is, ranks}
 use Rattle.std.specs.Map.{lookup, set_value, remove_entry}
 use Rattle.std.specs.Ordering.{nat_cmp, is_eq, match_ordering, MatchOrdering}
 use Rattle.std.specs.BTreeMap.{insert_entry, is_at}
-use Rattle.std.proofs.lemmas.Bool.{eq-eqb}
+use Rattle.std.proofs.lemmas.Bool.{eq-eqb, ne_eqb}
 use Rattle.std.proofs.lemmas.Bool.Decides.{eqb_tells}
 use Rattle.mt_index.specs.declared.calls.Call.{Call}
 use Rattle.mt_index.specs.Calls.{call_at, with_changed, without, AreBegun}
@@ -14,16 +14,44 @@ use Rattle.mt_index.specs.Calls.{call_at, with_changed, without, AreBegun}
 abbrev pub Entries : Type 0
 Entries = List (ℕ × Call)
 
-pub eqb-ne : (a b : ℕ) → a ≢ b → (a == b) ≡ false
-eqb-ne a b ne = elim (eqb_tells a b) [ inl p ↦ absurd (ne p.1) | inr p ↦ p.0 ]
+-- ---- what is made of a first entry
+module _ (number : ℕ) (entry : ℕ × Call) (entries : Entries) where
+  -- it has the number
+  module _ (here : (entry.0 == number) ≡ true) where
+    pub call_at-here : call_at number (entry ∷ entries) ≡ Some entry.1
+    call_at-here = ap (λ b. cond b (Some entry.1) (call_at number entries)) here
 
+    pub found-here : (call : Call) → call_at number (entry ∷ entries) ≡ Some call → entry.1 ≡ call
+    found-here call found = let same : Some entry.1 ≡ Some call = sym call_at-here ∙ found in cc
+
+    pub changed-here : (change : Call → Call) → with_changed change number (entry ∷ entries) ≡ (entry.0, change entry.1) ∷ entries
+    changed-here change = ap (λ b. cond b ((entry.0, change entry.1) ∷ entries) (entry ∷ with_changed change number entries)) here
+
+    pub without-here : without number (entry ∷ entries) ≡ entries
+    without-here = ap (λ b. cond b entries (entry ∷ without number entries)) here
+
+  -- it has another
+  module _ (there : (entry.0 == number) ≡ false) where
+    pub call_at-there : call_at number (entry ∷ entries) ≡ call_at number entries
+    call_at-there = ap (λ b. cond b (Some entry.1) (call_at number entries)) there
+
+    pub found-there : (call : Call) → call_at number (entry ∷ entries) ≡ Some call → call_at number entries ≡ Some call
+    found-there call found = sym call_at-there ∙ found
+
+    pub changed-there : (change : Call → Call) → with_changed change number (entry ∷ entries) ≡ entry ∷ with_changed change number entries
+    changed-there change = ap (λ b. cond b ((entry.0, change entry.1) ∷ entries) (entry ∷ with_changed change number entries)) there
+
+    pub without-there : without number (entry ∷ entries) ≡ entry ∷ without number entries
+    without-there = ap (λ b. cond b entries (entry ∷ without number entries)) there
+
+-- ---- what the map does
 -- to be at a key is to have its number
 at_number : (number other : ℕ) → is_eq (nat_cmp number other) ≡ (other == number)
 at_number number other =
     elim (nat_cmp number other) as (λ order. MatchOrdering order (number < other) (number ≡ other) (other < number) → is_eq order ≡ eqb other number) [
-      | Less ↦ λ below. sym (eqb-ne other number (λ e. omega arith))
+      | Less ↦ λ below. sym (ne_eqb other number (λ e. omega arith))
       | Equal ↦ λ same. sym (eq-eqb other number (sym same))
-      | Greater ↦ λ above. sym (eqb-ne other number (λ e. omega arith))
+      | Greater ↦ λ above. sym (ne_eqb other number (λ e. omega arith))
     ] (ranks number other)
 
 -- what the map finds is the call of the number
@@ -54,99 +82,34 @@ pub set-changed : (change : Call → Call) (number : ℕ) (entries : Entries) (o
     → set_value (is_at (nat_cmp number)) entries new ≡ with_changed change number entries
 set-changed change number [] old new found is = refl
 set-changed change number (entry ∷ entries) old new found is =
-    ap (λ here. cond here ((entry.0, new) ∷ entries) (entry ∷ set_value (is_at (nat_cmp number)) entries new)) (at_number number entry.0)
+    let set_here : Bool → Entries = λ here. cond here ((entry.0, new) ∷ entries) (entry ∷ set_value (is_at (nat_cmp number)) entries new) in
+    ap set_here (at_number number entry.0)
     ∙ elim (eqb_tells entry.0 number) [
       | inl p ↦
-          let same : Some entry.1 ≡ Some old = sym (ap (λ b. cond b (Some entry.1) (call_at number entries)) p.0) ∙ found in
-          let one : old ≡ entry.1 = cc in
-          ap (λ here. cond here ((entry.0, new) ∷ entries) (entry ∷ set_value (is_at (nat_cmp number)) entries new)) p.0
-          ∙ ap (λ (c : Call). (entry.0, c) ∷ entries) (is ∙ ap change one)
-          ∙ sym (ap (λ here. cond here ((entry.0, change entry.1) ∷ entries) (entry ∷ with_changed change number entries)) p.0)
+          ap set_here p.0 ∙ ap (λ (c : Call). (entry.0, c) ∷ entries) (is ∙ ap change (sym (found-here number entry entries p.0 old found)))
+          ∙ sym (changed-here number entry entries p.0 change)
       | inr p ↦
-          ap (λ here. cond here ((entry.0, new) ∷ entries) (entry ∷ set_value (is_at (nat_cmp number)) entries new)) p.0
-          ∙ ap (λ (rest : Entries). entry ∷ rest) (set-changed change number entries old new (sym (ap (λ b. cond b (Some entry.1) (call_at number entries)) p.0) ∙ found) is)
-          ∙ sym (ap (λ here. cond here ((entry.0, change entry.1) ∷ entries) (entry ∷ with_changed change number entries)) p.0)
-    ]
-
--- nothing is changed where there is no such call
-pub changed-none : (change : Call → Call) (number : ℕ) (entries : Entries) → call_at number entries ≡ None → with_changed change number entries ≡ entries
-changed-none change number [] found = refl
-changed-none change number (entry ∷ entries) found =
-    elim (eqb_tells entry.0 number) [
-      | inl p ↦
-          let clash : Some entry.1 ≡ None = sym (ap (λ b. cond b (Some entry.1) (call_at number entries)) p.0) ∙ found in
-          absurd (cc)
-      | inr p ↦
-          ap (λ here. cond here ((entry.0, change entry.1) ∷ entries) (entry ∷ with_changed change number entries)) p.0
-          ∙ ap (λ (rest : Entries). entry ∷ rest) (changed-none change number entries (sym (ap (λ b. cond b (Some entry.1) (call_at number entries)) p.0) ∙ found))
+          ap set_here p.0 ∙ ap (λ (rest : Entries). entry ∷ rest) (set-changed change number entries old new (found-there number entry entries p.0 old found) is)
+          ∙ sym (changed-there number entry entries p.0 change)
     ]
 
 -- numbers stay at most those that have begun
 pub begun-changed : (change : Call → Call) (number begun : ℕ) (entries : Entries) → AreBegun begun entries → AreBegun begun (with_changed change number entries)
-begun-changed change number begun [] h = tt
-begun-changed change number begun (entry ∷ entries) h =
+begun-changed change number begun [] below = tt
+begun-changed change number begun (entry ∷ entries) below =
     elim (eqb_tells entry.0 number) [
-      | inl p ↦ subst (AreBegun begun) (sym (ap (λ here. cond here ((entry.0, change entry.1) ∷ entries) (entry ∷ with_changed change number entries)) p.0)) h
-      | inr p ↦ subst (AreBegun begun) (sym (ap (λ here. cond here ((entry.0, change entry.1) ∷ entries) (entry ∷ with_changed change number entries)) p.0)) (h.0, begun-changed change number begun entries h.1)
+      | inl p ↦ subst (AreBegun begun) (sym (changed-here number entry entries p.0 change)) below
+      | inr p ↦ subst (AreBegun begun) (sym (changed-there number entry entries p.0 change)) (below.0, begun-changed change number begun entries below.1)
     ]
 
 pub begun-without : (number begun : ℕ) (entries : Entries) → AreBegun begun entries → AreBegun begun (without number entries)
-begun-without number begun [] h = tt
-begun-without number begun (entry ∷ entries) h =
+begun-without number begun [] below = tt
+begun-without number begun (entry ∷ entries) below =
     elim (eqb_tells entry.0 number) [
-      | inl p ↦ subst (AreBegun begun) (sym (ap (λ here. cond here entries (entry ∷ without number entries)) p.0)) h.1
-      | inr p ↦ subst (AreBegun begun) (sym (ap (λ here. cond here entries (entry ∷ without number entries)) p.0)) (h.0, begun-without number begun entries h.1)
+      | inl p ↦ subst (AreBegun begun) (sym (without-here number entry entries p.0)) below.1
+      | inr p ↦ subst (AreBegun begun) (sym (without-there number entry entries p.0)) (below.0, begun-without number begun entries below.1)
     ]
 
 pub begun-append : (begun : ℕ) (call : Call) (entries : Entries) → AreBegun begun entries → AreBegun (begun + 1) (entries ++ (begun + 1, call) ∷ [])
 begun-append begun call [] h = (omega arith, tt)
 begun-append begun call (entry ∷ entries) h = let low = h.0 in (omega arith, begun-append begun call entries h.1)
-
--- ---- what is found after a change
-pub call_at-changed : (change : Call → Call) (number other : ℕ) (entries : Entries) → other ≢ number → call_at other (with_changed change number entries) ≡ call_at other entries
-call_at-changed change number other [] ne = refl
-call_at-changed change number other (entry ∷ entries) ne =
-    elim (eqb_tells entry.0 number) [
-      | inl p ↦
-          ap (λ here. call_at other (cond here ((entry.0, change entry.1) ∷ entries) (entry ∷ with_changed change number entries))) p.0
-          ∙ ap (λ b. cond b (Some (change entry.1)) (call_at other entries)) (eqb-ne entry.0 other (λ e. ne (sym e ∙ p.1)))
-          ∙ sym (ap (λ b. cond b (Some entry.1) (call_at other entries)) (eqb-ne entry.0 other (λ e. ne (sym e ∙ p.1))))
-      | inr p ↦
-          ap (λ here. call_at other (cond here ((entry.0, change entry.1) ∷ entries) (entry ∷ with_changed change number entries))) p.0
-          ∙ ap (cond (entry.0 == other) (Some entry.1)) (call_at-changed change number other entries ne)
-    ]
-
-pub call_at-without : (number other : ℕ) (entries : Entries) → other ≢ number → call_at other (without number entries) ≡ call_at other entries
-call_at-without number other [] ne = refl
-call_at-without number other (entry ∷ entries) ne =
-    elim (eqb_tells entry.0 number) [
-      | inl p ↦
-          ap (λ here. call_at other (cond here entries (entry ∷ without number entries))) p.0
-          ∙ sym (ap (λ b. cond b (Some entry.1) (call_at other entries)) (eqb-ne entry.0 other (λ e. ne (sym e ∙ p.1))))
-      | inr p ↦
-          ap (λ here. call_at other (cond here entries (entry ∷ without number entries))) p.0
-          ∙ ap (cond (entry.0 == other) (Some entry.1)) (call_at-without number other entries ne)
-    ]
-
-pub call_at-append : (other : ℕ) (entries more : Entries) (call : Call) → call_at other entries ≡ Some call → call_at other (entries ++ more) ≡ Some call
-call_at-append other [] more call found = absurd (cc)
-call_at-append other (entry ∷ entries) more call found =
-    elim (eqb_tells entry.0 other) [
-      | inl p ↦
-          ap (λ b. cond b (Some entry.1) (call_at other (entries ++ more))) p.0
-          ∙ sym (ap (λ b. cond b (Some entry.1) (call_at other entries)) p.0) ∙ found
-      | inr p ↦
-          ap (λ b. cond b (Some entry.1) (call_at other (entries ++ more))) p.0
-          ∙ call_at-append other entries more call (sym (ap (λ b. cond b (Some entry.1) (call_at other entries)) p.0) ∙ found)
-    ]
-
--- a change that changes nothing
-pub changed-same : (number : ℕ) (entries : Entries) → with_changed (λ call. call) number entries ≡ entries
-changed-same number [] = refl
-changed-same number (entry ∷ entries) =
-    elim (eqb_tells entry.0 number) [
-      | inl p ↦ ap (λ here. cond here ((entry.0, entry.1) ∷ entries) (entry ∷ with_changed (λ call. call) number entries)) p.0
-      | inr p ↦
-          ap (λ here. cond here ((entry.0, entry.1) ∷ entries) (entry ∷ with_changed (λ call. call) number entries)) p.0
-          ∙ ap (λ (rest : Entries). entry ∷ rest) (changed-same number entries)
-    ]

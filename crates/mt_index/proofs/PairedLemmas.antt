@@ -1,13 +1,13 @@
 -- The machine's calls and the history's, paired one by one, and what each change leaves.
 use Rattle.std.proofs.Common.{◌≡◌, ◌<◌, ◌≢◌, ◌≤◌, ◌+◌, ◌==◌, ℕ, suc, Bool, true, false, not, cond, List, [], ◌∷◌, ◌++◌, length, Some, None, sym, ◌∙◌, ap, subst, refl, arith, inl, inr}
-use Rattle.std.proofs.lemmas.Bool.{eq-eqb}
+use Rattle.std.proofs.lemmas.Bool.{eq-eqb, ne_eqb}
 use Rattle.std.proofs.lemmas.Bool.Decides.{eqb_tells}
 use Rattle.mt_chart.specs.Tree.{Among, first, later}
 use Rattle.mt_promise.specs.History.{OpenCall, call_of, without_call, replace_call}
 use Rattle.mt_index.specs.declared.calls.Call.{Call}
 use Rattle.mt_index.specs.Calls.{call_at, with_changed, without}
 use Rattle.mt_index.specs.Paired.{Paired}
-use Rattle.mt_index.proofs.NumberLemmas.{Entries, eqb-ne}
+use Rattle.mt_index.proofs.NumberLemmas.{Entries, call_at-here, call_at-there, found-here, found-there, changed-here, changed-there, without-here, without-there}
 
 abbrev pub Relation : Type 1
 Relation = ℕ × Call → OpenCall → Type 0
@@ -70,8 +70,7 @@ paired-some R low high n [] [] kept s e = absurd (cc)
 paired-some R low high n (k ∷ ks) (c ∷ cs) kept s e =
     elim (eqb_tells k.0 n) [
       | inl p ↦
-          let same : Some k.1 ≡ Some kept = sym (ap (λ b. cond b (Some k.1) (call_at n ks)) p.0) ∙ e in
-          let one : k.1 ≡ kept = cc in
+          let one : k.1 ≡ kept = found-here n k ks p.0 kept e in
           record {
             call = c;
             of = ap (λ b. cond b (Some c) (call_of n cs)) (ap (λ m. m == n) s.1 ∙ p.0);
@@ -79,7 +78,7 @@ paired-some R low high n (k ∷ ks) (c ∷ cs) kept s e =
             numbered = s.1 ∙ p.1;
           }
       | inr p ↦
-          let r = paired-some R c.number high n ks cs kept s.3 (sym (ap (λ b. cond b (Some k.1) (call_at n ks)) p.0) ∙ e) in
+          let r = paired-some R c.number high n ks cs kept s.3 (found-there n k ks p.0 kept e) in
           record {
             call = r.call;
             of = ap (λ b. cond b (Some c) (call_of n cs)) (ap (λ m. m == n) s.1 ∙ p.0) ∙ r.of;
@@ -94,7 +93,7 @@ replace-above : (R : Relation) (low high : ℕ) (ks : Entries) (cs : List OpenCa
 replace-above R low high [] [] new s le = refl
 replace-above R low high (k ∷ ks) (c ∷ cs) new s le =
     let b = s.0 in
-    ap (λ t. cond t new c ∷ replace_call new cs) (eqb-ne c.number new.number (omega arith))
+    ap (λ t. cond t new c ∷ replace_call new cs) (ne_eqb c.number new.number (omega arith))
     ∙ ap (λ (t : List OpenCall). c ∷ t) (replace-above R c.number high ks cs new s.3 (omega arith))
 replace-above R low high [] (c ∷ cs) new s le = absurd s
 replace-above R low high (k ∷ ks) [] new s le = absurd s
@@ -103,7 +102,7 @@ without-above : (R : Relation) (low high n : ℕ) (ks : Entries) (cs : List Open
 without-above R low high n [] [] s le = refl
 without-above R low high n (k ∷ ks) (c ∷ cs) s le =
     let b = s.0 in
-    ap (λ t. cond (not t) (c ∷ without_call n cs) (without_call n cs)) (eqb-ne c.number n (omega arith))
+    ap (λ t. cond (not t) (c ∷ without_call n cs) (without_call n cs)) (ne_eqb c.number n (omega arith))
     ∙ ap (λ (t : List OpenCall). c ∷ t) (without-above R c.number high n ks cs s.3 (omega arith))
 without-above R low high n [] (c ∷ cs) s le = absurd s
 without-above R low high n (k ∷ ks) [] s le = absurd s
@@ -117,11 +116,10 @@ paired-change change n R R' low high (k ∷ ks) (c ∷ cs) kept new f s e i t =
     let b = s.0 in
     elim (eqb_tells k.0 n) [
       | inl p ↦
-          let same : Some k.1 ≡ Some kept = sym (ap (λ b. cond b (Some k.1) (call_at n ks)) p.0) ∙ e in
-          let one : kept ≡ k.1 = cc in
+          let one : kept ≡ k.1 = sym (found-here n k ks p.0 kept e) in
           let at : c.number ≡ n = s.1 ∙ p.1 in
           let here : (c.number == new.number) ≡ true = eq-eqb _ _ (at ∙ sym i) in
-          subst (λ (ks' : Entries). Paired R' low high ks' (replace_call new (c ∷ cs))) (sym (ap (λ b. cond b ((k.0, change k.1) ∷ ks) (k ∷ with_changed change n ks)) p.0))
+          subst (λ (ks' : Entries). Paired R' low high ks' (replace_call new (c ∷ cs))) (sym (changed-here n k ks p.0 change))
           (subst (λ (cs' : List OpenCall). Paired R' low high ((k.0, change k.1) ∷ ks) cs')
           (sym (ap (λ b. cond b new c ∷ replace_call new cs) here ∙ ap (λ (t : List OpenCall). new ∷ t) (replace-above R c.number high ks cs new s.3 (omega arith)))) (
             omega arith,
@@ -130,11 +128,11 @@ paired-change change n R R' low high (k ∷ ks) (c ∷ cs) kept new f s e i t =
             subst (λ (m : ℕ). Paired R' m high ks cs) (at ∙ sym i) (paired-above n R R' c.number high ks cs (fewer n k ks R R' f) (omega arith) s.3),
           ))
       | inr p ↦
-          let there : (c.number == new.number) ≡ false = eqb-ne c.number new.number (λ z. p.1 (sym s.1 ∙ z ∙ i)) in
-          subst (λ (ks' : Entries). Paired R' low high ks' (replace_call new (c ∷ cs))) (sym (ap (λ b. cond b ((k.0, change k.1) ∷ ks) (k ∷ with_changed change n ks)) p.0))
+          let there : (c.number == new.number) ≡ false = ne_eqb c.number new.number (λ z. p.1 (sym s.1 ∙ z ∙ i)) in
+          subst (λ (ks' : Entries). Paired R' low high ks' (replace_call new (c ∷ cs))) (sym (changed-there n k ks p.0 change))
           (subst (λ (cs' : List OpenCall). Paired R' low high (k ∷ with_changed change n ks) cs')
           (sym (ap (λ b. cond b new c ∷ replace_call new cs) there))
-          (s.0, s.1, f k c first p.1 s.2, paired-change change n R R' c.number high ks cs kept new (fewer n k ks R R' f) s.3 (sym (ap (λ b. cond b (Some k.1) (call_at n ks)) p.0) ∙ e) i t))
+          (s.0, s.1, f k c first p.1 s.2, paired-change change n R R' c.number high ks cs kept new (fewer n k ks R R' f) s.3 (found-there n k ks p.0 kept e) i t))
     ]
 paired-change change n R R' low high [] (c ∷ cs) kept new f s e i t = absurd s
 paired-change change n R R' low high (k ∷ ks) [] kept new f s e i t = absurd s
@@ -148,13 +146,13 @@ paired-without n R R' low high (k ∷ ks) (c ∷ cs) f s =
     elim (eqb_tells k.0 n) [
       | inl p ↦
           let at : c.number ≡ n = s.1 ∙ p.1 in
-          subst (λ (ks' : Entries). Paired R' low high ks' (without_call n (c ∷ cs))) (sym (ap (λ b. cond b ks (k ∷ without n ks)) p.0))
+          subst (λ (ks' : Entries). Paired R' low high ks' (without_call n (c ∷ cs))) (sym (without-here n k ks p.0))
           (subst (λ (cs' : List OpenCall). Paired R' low high ks cs')
           (sym (ap (λ b. cond (not b) (c ∷ without_call n cs) (without_call n cs)) (eq-eqb c.number n at) ∙ without-above R c.number high n ks cs s.3 (omega arith)))
           (paired-wider R' c.number low high ks cs (omega arith) (paired-above n R R' c.number high ks cs (fewer n k ks R R' f) (omega arith) s.3)))
       | inr p ↦
-          let there : (c.number == n) ≡ false = eqb-ne c.number n (λ z. p.1 (sym s.1 ∙ z)) in
-          subst (λ (ks' : Entries). Paired R' low high ks' (without_call n (c ∷ cs))) (sym (ap (λ b. cond b ks (k ∷ without n ks)) p.0))
+          let there : (c.number == n) ≡ false = ne_eqb c.number n (λ z. p.1 (sym s.1 ∙ z)) in
+          subst (λ (ks' : Entries). Paired R' low high ks' (without_call n (c ∷ cs))) (sym (without-there n k ks p.0))
           (subst (λ (cs' : List OpenCall). Paired R' low high (k ∷ without n ks) cs')
           (sym (ap (λ b. cond (not b) (c ∷ without_call n cs) (without_call n cs)) there))
           (s.0, s.1, f k c first p.1 s.2, paired-without n R R' c.number high ks cs (fewer n k ks R R' f) s.3))
@@ -179,9 +177,9 @@ paired-low R low high (j ∷ ks) (c ∷ cs) s k (later i) = let b = s.0 in let m
 pub paired-one : (R : Relation) (low high : ℕ) (ks : Entries) (cs : List OpenCall) → Paired R low high ks cs → (k : ℕ × Call) → Among k ks → call_at k.0 ks ≡ Some k.1
 paired-one R low high [] cs s k i = elim i [ ]
 paired-one R low high (j ∷ ks) [] s k i = absurd s
-paired-one R low high (j ∷ ks) (c ∷ cs) s k first = ap (λ b. cond b (Some k.1) (call_at k.0 ks)) (eq-eqb k.0 k.0 refl)
+paired-one R low high (j ∷ ks) (c ∷ cs) s k first = call_at-here k.0 k ks (eq-eqb k.0 k.0 refl)
 paired-one R low high (j ∷ ks) (c ∷ cs) s k (later i) =
     let above = paired-low R c.number high ks cs s.3 k i in
     let e = s.1 in
     let differ : j.0 ≢ k.0 = omega (arith, above, e) in
-    ap (λ b. cond b (Some j.1) (call_at k.0 ks)) (eqb-ne j.0 k.0 differ) ∙ paired-one R c.number high ks cs s.3 k i
+    call_at-there k.0 j ks (ne_eqb j.0 k.0 differ) ∙ paired-one R c.number high ks cs s.3 k i

@@ -248,8 +248,8 @@ module _ (s : MachineView) (h : History) (n : ℕ) (kept : Call) (st : Stands s 
 
   pub owned_on : (held work).owns ≡ owns → AllOwned after_tree goes.next (with_changed (with_work work) n s.calls.calls)
   owned_on is number taken = elim (goes.takes number taken) [
-    | inl mine ↦ ((n, with_work work kept), among_new (with_work work) n kept s.calls.calls at, subst (λ (l : List ℕ). Among number l) (sym is) mine)
-    | inr old ↦ (let (k, i, ne, o) = still_owned number old.0 old.1 in (k, among_kept (with_work work) n s.calls.calls k i ne, o))
+    | inl mine ↦ ((n, with_work work kept), among_new n kept (with_work work) s.calls.calls at, subst (λ (l : List ℕ). Among number l) (sym is) mine)
+    | inr old ↦ (let (k, i, ne, o) = still_owned number old.0 old.1 in (k, among_kept n (with_work work) s.calls.calls k i ne, o))
   ]
 
   pub owned_end : owns ≡ [] → AllOwned after_tree goes.next (without n s.calls.calls)

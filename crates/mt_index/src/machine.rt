@@ -1,6 +1,6 @@
 //! The machine over the whole tree: events in, outcomes out, one visit of one node an event.
 
-ghost use Rattle.std.specs.Prelude.{◌≡◌, [], ◌∷◌, length, IfOk, IfErr, MatchOption, All, Some, None, Err};
+ghost use Rattle.std.specs.Prelude.{◌≡◌, ◌↔◌, [], ◌∷◌, IsTrue, length, IfOk, IfErr, MatchOption, All, Some, None, Err};
 ghost use Rattle.mt_types.specs.Limits.{open_fault};
 ghost use Rattle.mt_promise.specs.History.{History, happening, moment};
 ghost use Rattle.mt_promise.specs.Legal.{begin_fault};
@@ -44,6 +44,26 @@ impl Model for Machine {
     ghost view = { λ m. record { columns = m.columns; epoch = m.epoch; tree = m.tree; log = m.log; calls = m.calls } };
 
     ghost invariant = { λ m. (h : History) × Stands (record { columns = m.columns; epoch = m.epoch; tree = m.tree; log = m.log; calls = m.calls }) h };
+}
+
+/// Whether the index serves this event: steps, and begins of gets, puts, removes and ranges.
+pub fn is_served(event: &Event) -> bool
+    ensures { IsTrue result ↔ IsServed event.now }
+{
+    match event {
+        Event::Begin(_, request) => is_served_request(request),
+        Event::Step(_) => true,
+        _ => false,
+    }
+}
+
+fn is_served_request(request: &Request) -> bool
+    ensures { IsTrue result ↔ IsServedRequest request.now }
+{
+    matches!(
+        request,
+        Request::Get { .. } | Request::Put { .. } | Request::Remove { .. } | Request::Range { .. }
+    )
 }
 
 // Why a call can't begin.

@@ -5,7 +5,7 @@ use Rattle.std.specs.Str.Parse.{IsNumeral, digits_value, without_leading_plus}
 use Rattle.clap.specs.Words.{App, HasMatchesOf, Rule, found_of, new_app, new_rule, one_text, with_rule}
 use Rattle.clap.specs.declared.parser.matches.ArgMatches.{ArgMatches}
 use Rattle.clap.specs.declared.builder.value_parser.ValueParser.TheVariants.{Unsigned}
-use Rattle.mt_machine.specs.declared.options.Options.{Options}
+use Rattle.mt_index.specs.declared.options.Options.{Options}
 use Rattle.mt_types.specs.Limits.{open_fault}
 use Rattle.mt_drive.specs.declared.fault.ScriptFault.{ScriptFault}
 use Rattle.mt_drive.specs.declared.fault.ScriptFault.TheVariants.{Read, Write, NoMemory, Start}

@@ -14,7 +14,7 @@ use mt_drive::fault::ScriptFault;
 use mt_drive::script::script;
 use mt_drive::sink::Sink;
 use mt_drive::source::Source;
-use mt_machine::options::Options;
+use mt_index::options::Options;
 use mt_types::limits::{MAX_COLUMNS, MAX_FEED, MAX_KEEP};
 use std::alloc::{AllocError, Global};
 use std::io::{ErrorKind, Read, Write};

@@ -1,0 +1,11 @@
+use Rattle.std.proofs.Common.{◌∷◌, refl, sym, ◌∙◌}
+use Rattle.mt_promise.specs.History.{happening}
+use Rattle.mt_drive.proofs.script.ask.Goals as goal
+
+pub returns-then-is_served-clause-stands : goal.returns-then-is_served-clause-stands
+returns-then-is_served-clause-stands c = λ past stands.
+    (happening c.args.event.now c.event.result 0 ∷ past, (c.is_served.ensures.0 c.if-is_served.true, (0, refl)), c.event.ensures.stands past stands)
+
+pub returns-else-is_served-clause-stands : goal.returns-else-is_served-clause-stands
+returns-else-is_served-clause-stands c = λ past stands.
+    (past, ((λ served. absurd (let t = c.is_served.ensures.1 served in cc (sym t ∙ c.if-is_served.false))), refl), stands)
