@@ -5,7 +5,7 @@ ghost use Rattle.mt_border.specs.Border.{row_at};
 ghost use Rattle.mt_commit.specs.Log.{LogView};
 ghost use Rattle.mt_arena.specs.Node.{border_at};
 ghost use Rattle.mt_calls.specs.Step.{StepLaw, MayStep, nothing};
-ghost use Rattle.mt_calls.specs.Causes.{ReadWaits};
+ghost use Rattle.mt_calls.specs.Causes.{ReadWaits, ReadFails};
 ghost use Rattle.mt_calls.specs.Getting.{get_request, GetIsTrue, Reads};
 
 use crate::progress::Progress;
@@ -68,6 +68,7 @@ impl Get {
         ensures request { get_request self.new ≡ get_request self.old }
         ensures steps { (C : ℕ) (log : LogView) → StepLaw C tree.now tree.now log log (get_request self.old) nothing result nothing (GetIsTrue self.old) (GetIsTrue self.new) }
         ensures waits { ReadWaits tree.now self.old.way.node.0 result }
+        ensures fails { ReadFails tree.now self.old.way.node.0 result }
     {
         match self.way.visit(tree, &self.key) {
             Went::Again => {

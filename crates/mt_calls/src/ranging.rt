@@ -3,7 +3,7 @@
 ghost use Rattle.std.specs.Prelude.{◌≡◌, ℕ};
 ghost use Rattle.mt_commit.specs.Log.{LogView};
 ghost use Rattle.mt_calls.specs.Step.{StepLaw, MayStep, nothing};
-ghost use Rattle.mt_calls.specs.Causes.{IsMarkedAt, ReadWaits};
+ghost use Rattle.mt_calls.specs.Causes.{IsMarkedAt, ReadWaits, ReadFails};
 ghost use Rattle.mt_calls.specs.Ranging.{range_request, RangeIsTrue, IsHeldFor, Seeks};
 
 use crate::progress::Progress;
@@ -58,6 +58,7 @@ impl Range {
         ensures request { range_request self.new ≡ range_request self.old }
         ensures steps { (C : ℕ) (log : LogView) → StepLaw C tree.now tree.now log log (range_request self.old) nothing result nothing (RangeIsTrue self.old) (RangeIsTrue self.new) }
         ensures waits { ReadWaits tree.now self.old.node.0 result }
+        ensures fails { ReadFails tree.now self.old.node.0 result }
     {
         match seek(tree, self.node, self.scan.slice()) {
             Sought::Again => {

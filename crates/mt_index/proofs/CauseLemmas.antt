@@ -1,27 +1,41 @@
--- Why a step of a call answers that it waits.
-use Rattle.std.proofs.Common.{ℕ, ◌≡◌, Option, Some, inl, inr, sym, subst}
+-- Why a step of a call answers that it waits, and why calls fail or are refused.
+use Rattle.std.proofs.Common.{ℕ, ◌≡◌, Option, Some, inl, inr, refl, sym, ap, subst, ◌∙◌}
 use Rattle.mt_types.specs.declared.numbers.CallNo.{CallNo}
 use Rattle.mt_types.specs.declared.numbers.PassNo.{PassNo}
 use Rattle.mt_types.specs.declared.event.Event.TheVariants.{Step}
 use Rattle.mt_types.specs.declared.event.Outcome.{Outcome}
+use Rattle.mt_types.specs.declared.refusal.Refusal.TheVariants.{NoSuchCall}
+use Rattle.mt_commit.specs.Log.{LogView, newest}
+use Rattle.mt_arena.specs.Arena.{ArenaView}
 use Rattle.mt_calls.specs.declared.progress.Progress.{Progress}
 use Rattle.mt_calls.specs.declared.progress.Progress.TheVariants.{Moved, Waits, Committed, Answered, Refused}
-use Rattle.mt_write.specs.Causes.{WorkWaits}
+use Rattle.mt_write.specs.declared.work.Work.{Work}
+use Rattle.mt_write.specs.Causes.{WorkWaits, WorkFails}
+use Rattle.mt_write.proofs.CauseLemmas.{refused_for}
 use Rattle.mt_index.specs.declared.calls.Call.{Call}
-use Rattle.mt_index.specs.Calls.{call_at}
-use Rattle.mt_index.specs.Causes.{WaitsFor, IsCaused}
-use Rattle.mt_index.specs.Stands.{MachineView, Steps, outcome_of}
+use Rattle.mt_index.specs.Calls.{CallsView, call_at, with_changed, with_work}
+use Rattle.mt_index.specs.Causes.{WaitsFor, RefusedFor, IsCaused}
+use Rattle.mt_index.specs.Stands.{MachineView, Steps, outcome_of, calls_after}
+use Rattle.mt_index.proofs.ListLemmas.{changed_at}
 
-by_progress : (s : MachineView) (number : CallNo) (kept : Call) → call_at number.0 s.calls.calls ≡ Some kept → (pass : PassNo) (from to : ℕ) (p : Progress)
-    → WorkWaits s.tree kept.work p → IsCaused s (Step number) (outcome_of number.0 pass from to p)
-by_progress s number kept found pass from to Waits waits = subst (λ (call : Option Call). WaitsFor s call) (sym found) waits
-by_progress s number kept found pass from to Moved waits = tt
-by_progress s number kept found pass from to (Committed commit) waits = tt
-by_progress s number kept found pass from to (Answered answer) waits = tt
-by_progress s number kept found pass from to (Refused refusal) waits = tt
+module _ (s : MachineView) (number : CallNo) (kept : Call) (found : call_at number.0 s.calls.calls ≡ Some kept) (pass : PassNo) (from to : ℕ) (tree : ArenaView) (log : LogView) (work : Work) (calls : CallsView)
+    (changed : calls ≡ record s.calls { calls = with_changed (with_work work) number.0 s.calls.calls }) where
+  abbrev after : Progress → MachineView
+  after p = record { columns = s.columns; epoch = s.epoch; tree = tree; log = log; calls = calls_after number.0 p calls }
 
-pub steps-caused : (s t : MachineView) (number : CallNo) (outcome : Outcome) → Steps s number.0 outcome t → IsCaused s (Step number) outcome
-steps-caused s t number outcome (inl (none, refused, same)) = subst (λ (o : Outcome). IsCaused s (Step number) o) (sym refused) tt
+  by_progress : (p : Progress) → WorkWaits s.tree kept.work p → WorkFails s.tree s.log kept.work p work → IsCaused s (Step number) (outcome_of number.0 pass from to p) (after p)
+  by_progress Waits waits fails = subst (λ (call : Option Call). WaitsFor s call) (sym found) waits
+  by_progress Moved waits fails = λ before new at now.
+      let same : kept ≡ before = (let both : ◌≡◌ {A = Option Call} (Some kept) (Some before) = sym found ∙ at in cc) in
+      let now_is : new ≡ with_work work kept = changed_at (with_work work) number.0 kept new s.calls.calls found (ap (λ (c : CallsView). call_at number.0 c.calls) (sym changed) ∙ now) in
+      subst (λ (b : Call). WorkFails s.tree s.log b.work Moved new.work) same (subst (λ (n : Call). WorkFails s.tree s.log kept.work Moved n.work) (sym now_is) fails)
+  by_progress (Committed commit) waits fails = tt
+  by_progress (Answered answer) waits fails = tt
+  by_progress (Refused refusal) waits fails = subst (λ (call : Option Call). RefusedFor s call refusal) (sym found) (refused_for s.tree s.log kept.work refusal work fails)
+
+pub steps-caused : (s t : MachineView) (number : CallNo) (outcome : Outcome) → Steps s number.0 outcome t → IsCaused s (Step number) outcome t
+steps-caused s t number outcome (inl (none, refused, same)) = subst (λ (o : Outcome). IsCaused s (Step number) o t) (sym refused) (subst (λ (call : Option Call). RefusedFor s call NoSuchCall) (sym none) refl)
 steps-caused s t number outcome (inr went) =
-    subst (λ (o : Outcome). IsCaused s (Step number) o) (sym went.is_outcome)
-    (by_progress s number went.steps.call went.steps.is_open went.pass went.from _ went.p went.steps.waits)
+    subst (λ (o : Outcome). IsCaused s (Step number) o t) (sym went.is_outcome)
+    (subst (λ (m : MachineView). IsCaused s (Step number) (outcome_of number.0 went.pass went.from (newest went.log) went.p) m) (sym went.is_next)
+    (by_progress s number went.steps.call went.steps.is_open went.pass went.from (newest went.log) went.tree went.log went.steps.work went.calls went.steps.changed went.p went.steps.waits went.steps.fails))

@@ -87,6 +87,14 @@ module _ (n : ℕ) where
     ]
   ]
 
+-- what stands at the number of a call that is changed
+pub changed_at : (change : Call → Call) (n : ℕ) (kept new : Call) (ks : Entries) → call_at n ks ≡ Some kept → call_at n (with_changed change n ks) ≡ Some new → new ≡ change kept
+changed_at change n kept new [] at now = absurd (cc)
+changed_at change n kept new (k ∷ ks) at now = elim (eqb_tells k.0 n) [
+  | inl p ↦ sym (found-here n (k.0, change k.1) ks p.0 new (ap (call_at n) (sym (changed-here n k ks p.0 change)) ∙ now)) ∙ ap change (found-here n k ks p.0 kept at)
+  | inr p ↦ changed_at change n kept new ks (found-there n k ks p.0 kept at) (found-there n k (with_changed change n ks) p.0 new (ap (call_at n) (sym (changed-there n k ks p.0 change)) ∙ now))
+]
+
 -- a call that is changed and then ends has ended
 pub without_changed : (change : Call → Call) (n : ℕ) (ks : Entries) → without n (with_changed change n ks) ≡ without n ks
 without_changed change n [] = refl

@@ -9,7 +9,7 @@ use Rattle.mt_write.specs.declared.work.Work.{Work}
 use Rattle.mt_calls.specs.declared.progress.Progress.{Progress}
 use Rattle.mt_calls.specs.World.{NotAmong}
 use Rattle.mt_calls.specs.Step.{StepLaw, MayStep}
-use Rattle.mt_write.specs.Causes.{WorkWaits}
+use Rattle.mt_write.specs.Causes.{WorkWaits, WorkFails}
 use Rattle.mt_write.specs.Works.{request_of, held, IsTrue}
 
 pub record CallsView : Type 0 where
@@ -63,6 +63,7 @@ pub record StepsCall (C number : ℕ) (old new : CallsView) (a after : ArenaView
   pub same_request : request_of work ≡ request_of call.work
   pub law : StepLaw C a after log left (request_of call.work) (held call.work) p (held work) (IsTrue C call.work) (IsTrue C work)
   pub waits : WorkWaits a call.work p
+  pub fails : WorkFails a log call.work p work
   pub changed : new ≡ record old { calls = with_changed (with_work work) number old.calls }
   pub pass_is : pass ≡ call.pass
   pub from_is : from ≡ call.from

@@ -1,11 +1,13 @@
--- Why a call waits: what a history doesn't show.
-use Rattle.std.specs.Prelude.{Option, Some, None}
+-- Why a call waits, fails or is refused: what a history doesn't show.
+use Rattle.std.specs.Prelude.{ℕ, ◌≡◌, Option, Some, None}
+use Rattle.mt_types.specs.declared.refusal.Refusal.{Refusal}
+use Rattle.mt_types.specs.declared.refusal.Refusal.TheVariants.{NoSuchCall}
 use Rattle.mt_types.specs.declared.event.Event.{Event}
 use Rattle.mt_types.specs.declared.event.Event.TheVariants.{Step}
 use Rattle.mt_types.specs.declared.event.Outcome.{Outcome}
-use Rattle.mt_types.specs.declared.event.Outcome.TheVariants.{Again}
-use Rattle.mt_calls.specs.declared.progress.Progress.TheVariants.{Waits}
-use Rattle.mt_write.specs.Causes.{WorkWaits}
+use Rattle.mt_types.specs.declared.event.Outcome.TheVariants.{Again, Moved, Refused}
+use Rattle.mt_calls.specs.declared.progress.Progress.TheVariants.{Moved as WentOn, Waits}
+use Rattle.mt_write.specs.Causes.{WorkWaits, WorkFails, WorkRefuses}
 use Rattle.mt_index.specs.declared.calls.Call.{Call}
 use Rattle.mt_index.specs.Calls.{call_at}
 use Rattle.mt_index.specs.Stands.{MachineView}
@@ -15,8 +17,20 @@ abbrev pub WaitsFor : MachineView → Option Call → Type 0
 WaitsFor s None = ⊥
 WaitsFor s (Some call) = WorkWaits s.tree call.work Waits
 
--- a call waits only where the node that its step visits is marked deleted or, for a put or remove, is a border that is
---     locked; so a get or range never waits at a lock
-abbrev pub IsCaused : MachineView → Event → Outcome → Type 0
-IsCaused s (Step call) Again = WaitsFor s (call_at call.0 s.calls.calls)
-IsCaused s _ outcome = Unit {0}
+-- the call of this number, before its step and after it, where it goes on: a put or remove comes to be failed only for a fault that stands where
+-- it makes ready, and for want of memory only where none stands
+abbrev pub FailsFor : MachineView → ℕ → MachineView → Type 0
+FailsFor s number t = (before after : Call) → call_at number s.calls.calls ≡ Some before → call_at number t.calls.calls ≡ Some after → WorkFails s.tree s.log before.work WentOn after.work
+
+-- the call is refused for what it had failed for; a get or range, for want of memory at a border
+abbrev pub RefusedFor : MachineView → Option Call → Refusal → Type 0
+RefusedFor s None refusal = refusal ≡ NoSuchCall
+RefusedFor s (Some call) refusal = WorkRefuses s.tree call.work refusal
+
+-- WHY A CALL WAITS, FAILS OR IS REFUSED, by the machine before the step and after it. It waits only where the node that its step visits is marked
+-- deleted or, for a put or remove, is a border that is locked: so a get or range never waits at a lock.
+abbrev pub IsCaused : MachineView → Event → Outcome → MachineView → Type 0
+IsCaused s (Step call) Again t = WaitsFor s (call_at call.0 s.calls.calls)
+IsCaused s (Step call) Moved t = FailsFor s call.0 t
+IsCaused s (Step call) (Refused refusal) t = RefusedFor s (call_at call.0 s.calls.calls) refusal
+IsCaused s _ outcome t = Unit {0}

@@ -169,14 +169,15 @@ impl Machine {
     }
 
     /// One event, and what came of it. Wherever the machine stands, it then stands where this has happened too, and that
-    /// is legal: `stands` says so of each history. Why a call waits, which a history doesn't show, is the clause `caused`.
+    /// is legal: `stands` says so of each history. Why a call waits, fails or is refused, which a history
+    /// doesn't show, is the clause `caused`.
     ///
     /// A begin costs some allocations, and a step the visit of one node and at most some allocations; each of them finds
     /// its call at the cost of a way down the tree of open calls.
     pub fn event(&mut self, alloc: Global, event: &Event) -> Outcome
         requires { IsServed event.now }
         ensures stands { (h : History) → Stands self.old h → Stands self.new (happening event.now result 0 ∷ h) }
-        ensures caused { IsCaused self.old event.now result }
+        ensures caused { IsCaused self.old event.now result self.new }
         ensures columns { self.new.columns ≡ self.old.columns }
     {
         match event {

@@ -18,7 +18,7 @@ use Rattle.mt_calls.specs.declared.progress.Progress.{Progress}
 use Rattle.mt_calls.specs.declared.progress.Progress.TheVariants.{Moved, Waits, Committed, Answered, Refused}
 use Rattle.mt_calls.specs.declared.way.Way.{Way}
 use Rattle.mt_calls.specs.Way.{rest_of}
-use Rattle.mt_calls.specs.Causes.{IsMarkedAt, IsLockedAlready, ReadWaits}
+use Rattle.mt_calls.specs.Causes.{IsMarkedAt, IsLockedAlready, ReadWaits, ReadFails}
 use Rattle.mt_write.specs.declared.work.Work.{Work}
 use Rattle.mt_write.specs.declared.work.Work.TheVariants.{Get, Write, Range}
 use Rattle.mt_write.specs.declared.writing.Write.{Write as WriteView}
@@ -97,9 +97,22 @@ abbrev pub StageFails : ArenaView → LogView → List ℕ → Edit → Way → 
 StageFails a log key edit way Locked (Answered answer) new = IsSomeAnd (border_at a.nodes way.node.0) (λ b. edit_fault a log edit b (found_for (rest_of key way) b.live) ≡ None)
 StageFails a log key edit way Locked p new = IsNotRefused p × IsSomeAnd (border_at a.nodes way.node.0) (λ b. FailsBy (edit_fault a log edit b (found_for (rest_of key way) b.live)) None new)
 StageFails a log key edit way (Halved split) p new = IsNotRefused p × IsSomeAnd (border_at a.nodes way.node.0) (λ b. FailsBy (fill_fault log b) (Some split) new)
-StageFails a log key edit way (Failed refusal split) (Refused refused) new = refused ≡ refusal
+StageFails a log key edit way (Failed refusal split) (Refused refused) new = (refused ≡ refusal) × (split ≡ None)
 StageFails a log key edit way (Failed refusal split) p new = (p ≡ Moved) × (new ≡ Failed refusal None)
 StageFails a log key edit way stage p new = IsNotRefused p × IsNotFailed new
 
 abbrev pub WriteFails : ArenaView → LogView → WriteView → Progress → WriteView → Type 0
 WriteFails a log write p new = StageFails a log write.key write.edit write.way write.stage p new.stage
+
+-- the same of each kind of call
+abbrev pub WorkFails : ArenaView → LogView → Work → Progress → Work → Type 0
+WorkFails a log (Get get) p new = ReadFails a get.way.node.0 p
+WorkFails a log (Write write) p (Write new) = WriteFails a log write p new
+WorkFails a log (Write write) p _ = ⊥
+WorkFails a log (Range range) p new = ReadFails a range.node.0 p
+
+-- a call is refused for this: a put or remove for what it had failed for
+abbrev pub WorkRefuses : ArenaView → Work → Refusal → Type 0
+WorkRefuses a (Get get) refusal = ReadFails a get.way.node.0 (Refused refusal)
+WorkRefuses a (Write write) refusal = write.stage ≡ Failed refusal None
+WorkRefuses a (Range range) refusal = ReadFails a range.node.0 (Refused refusal)

@@ -39,6 +39,7 @@ returns-clause-steps c =
       same_request = c.step-progress.ensures.request;
       law = c.step-progress.ensures.steps;
       waits = c.step-progress.ensures.waits;
+      fails = c.step-progress.ensures.fails;
       changed = ap (λ (entries : Entries). record { begun = c.self.inside.begun; calls = entries })
           (written ∙ set-changed (with_work c.step-progress.new.self) c.args.number c.self.inside.calls.entries c.in-Some.call.now new found refl)
           ∙ ap (λ (s : CallsView). record { begun = s.begun; calls = with_changed (with_work c.step-progress.new.self) c.args.number s.calls }) c.self.view_is;

@@ -13,7 +13,7 @@ returns-in-Begin c = record {
       let served = subst IsServed c.in-Begin.is c.requires in
       subst (λ (e : Event). Stands c.begin.new.self (happening e c.begin.result 0 ∷ h)) (sym c.in-Begin.is)
       (begins-stands c.args.self.now c.begin.new.self c.in-Begin.pass c.in-Begin.request c.begin.result h served c.begin.ensures.begins st);
-  caused = subst (λ (e : Event). IsCaused c.args.self.now e c.begin.result) (sym c.in-Begin.is) tt;
+  caused = subst (λ (e : Event). IsCaused c.args.self.now e c.begin.result c.begin.new.self) (sym c.in-Begin.is) tt;
   columns = begins-columns c.args.self.now c.begin.new.self c.in-Begin.pass c.in-Begin.request c.begin.result c.begin.ensures.begins;
 }
 
@@ -22,7 +22,7 @@ returns-in-Step c = record {
   stands = λ h st.
       subst (λ (e : Event). Stands c.step.new.self (happening e c.step.result 0 ∷ h)) (sym c.in-Step.is)
       (steps-stand c.args.self.now c.step.new.self c.in-Step.call.0 c.step.result h c.step.ensures.steps st);
-  caused = subst (λ (e : Event). IsCaused c.args.self.now e c.step.result) (sym c.in-Step.is)
+  caused = subst (λ (e : Event). IsCaused c.args.self.now e c.step.result c.step.new.self) (sym c.in-Step.is)
       (steps-caused c.args.self.now c.step.new.self c.in-Step.call c.step.result c.step.ensures.steps);
   columns = steps-columns c.args.self.now c.step.new.self c.in-Step.call.0 c.step.result c.step.ensures.steps;
 }
