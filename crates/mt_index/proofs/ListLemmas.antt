@@ -11,7 +11,9 @@ use Rattle.mt_index.proofs.NumberLemmas.{Entries, found-here, found-there, chang
 abbrev pub reserves : Call → ℕ
 reserves call = (held call.work).reserves
 
+-- ---- a call of the list is changed, or ends
 module _ (n : ℕ) (kept : Call) where
+  -- what stands in it then stood in it, or is the changed call
   pub among_changed : (change : Call → Call) (ks : Entries) → call_at n ks ≡ Some kept → (j : ℕ × Call) → Among j (with_changed change n ks) → Among j ks ⊎ (j ≡ (n, change kept))
   among_changed change [] at j i = elim i [ ]
   among_changed change (k ∷ ks) at j i = elim (eqb_tells k.0 n) [
@@ -41,6 +43,7 @@ module _ (n : ℕ) (kept : Call) where
     | inr p ↦ later (among_at ks (found-there n k ks p.0 kept at))
   ]
 
+  -- what the calls have reserved then
   pub reserved_changed : (change : Call → Call) (ks : Entries) → call_at n ks ≡ Some kept → all_reserved (with_changed change n ks) + reserves kept ≡ all_reserved ks + reserves (change kept)
   reserved_changed change [] at = absurd (cc)
   reserved_changed change (k ∷ ks) at = elim (eqb_tells k.0 n) [
@@ -77,6 +80,7 @@ module _ (n : ℕ) where
         (elim (among_cases k j ks i) [ inl e ↦ subst (λ (z : ℕ × Call). Among z (j ∷ without n ks)) (sym e) first | inr more ↦ later (among_left ks k more ne) ])
   ]
 
+  -- nothing new stands in it where one has ended
   pub among_without : (ks : Entries) (j : ℕ × Call) → Among j (without n ks) → Among j ks
   among_without [] j i = elim i [ ]
   among_without (k ∷ ks) j i = elim (eqb_tells k.0 n) [

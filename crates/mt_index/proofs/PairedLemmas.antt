@@ -19,6 +19,7 @@ Others n ks R R' = (k : ℕ × Call) (c : OpenCall) → Among k ks → k.0 ≢ n
 fewer : (n : ℕ) (k : ℕ × Call) (ks : Entries) (R R' : Relation) → Others n (k ∷ ks) R R' → Others n ks R R'
 fewer n k ks R R' f j c i ne r = f j c (later i) ne r
 
+-- where all numbers are above n, each call goes over
 pub paired-above : (n : ℕ) (R R' : Relation) (low high : ℕ) (ks : Entries) (cs : List OpenCall) → Others n ks R R' → n ≤ low → Paired R low high ks cs → Paired R' low high ks cs
 paired-above n R R' low high [] [] f le s = s
 paired-above n R R' low high (k ∷ ks) (c ∷ cs) f le s =
@@ -27,12 +28,14 @@ paired-above n R R' low high (k ∷ ks) (c ∷ cs) f le s =
 paired-above n R R' low high [] (c ∷ cs) f le s = absurd s
 paired-above n R R' low high (k ∷ ks) [] f le s = absurd s
 
+-- there are as many on the one side as on the other
 pub paired-length : (R : Relation) (low high : ℕ) (ks : Entries) (cs : List OpenCall) → Paired R low high ks cs → length ks ≡ length cs
 paired-length R low high [] [] s = refl
 paired-length R low high (k ∷ ks) (c ∷ cs) s = ap (λ n. suc n) (paired-length R c.number high ks cs s.3)
 paired-length R low high [] (c ∷ cs) s = absurd s
 paired-length R low high (k ∷ ks) [] s = absurd s
 
+-- numbers that are above low are above what is lower
 paired-wider : (R : Relation) (low low' high : ℕ) (ks : Entries) (cs : List OpenCall) → low' ≤ low → Paired R low high ks cs → Paired R low' high ks cs
 paired-wider R low low' high [] [] le s = omega (arith, s)
 paired-wider R low low' high (k ∷ ks) (c ∷ cs) le s = let b = s.0 in (omega arith, s.1, s.2, s.3)
@@ -89,6 +92,7 @@ paired-some R low high n (k ∷ ks) (c ∷ cs) kept s e =
 paired-some R low high n [] (c ∷ cs) kept s e = absurd s
 paired-some R low high n (k ∷ ks) [] kept s e = absurd s
 
+-- a number that is below all of them names none that could be replaced or end
 replace-above : (R : Relation) (low high : ℕ) (ks : Entries) (cs : List OpenCall) (new : OpenCall) → Paired R low high ks cs → new.number ≤ low → replace_call new cs ≡ cs
 replace-above R low high [] [] new s le = refl
 replace-above R low high (k ∷ ks) (c ∷ cs) new s le =
@@ -160,7 +164,7 @@ paired-without n R R' low high (k ∷ ks) (c ∷ cs) f s =
 paired-without n R R' low high [] (c ∷ cs) f s = absurd s
 paired-without n R R' low high (k ∷ ks) [] f s = absurd s
 
--- what is said of each
+-- what is said of each call of the machine
 pub paired-each : (R : Relation) (low high : ℕ) (ks : Entries) (cs : List OpenCall) → Paired R low high ks cs → (k : ℕ × Call) → Among k ks → (c : OpenCall) × R k c
 paired-each R low high [] cs s k i = elim i [ ]
 paired-each R low high (k ∷ ks) [] s j i = absurd s
