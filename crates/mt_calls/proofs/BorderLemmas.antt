@@ -1,10 +1,12 @@
 -- A step that changes one border, which the call owns, or which is neither locked nor a spare.
 use Rattle.std.proofs.Common.{ℕ, ◌≡◌, ◌≢◌, ◌⊎◌, inl, inr, List, [], ◌∷◌, Option, Some, None, IsSome, true, false, refl, sym, ap, subst, ◌∙◌}
+use Rattle.std.specs.Prelude.{IsSomeAnd}
 use Rattle.std.specs.Option.{option_and_then}
 use Rattle.mt_types.specs.declared.row.Row.{Row}
 use Rattle.mt_border.specs.Border.{BorderView}
-use Rattle.mt_arena.specs.Node.{node_at, head_at, head_of, border_at, border_of, Updates}
+use Rattle.mt_arena.specs.Node.{node_at, head_at, head_of, interior_of, border_at, border_of, Updates}
 use Rattle.mt_interior.specs.Head.{HeadView}
+use Rattle.mt_interior.specs.Interior.{InteriorView}
 use Rattle.mt_arena.specs.Arena.{ArenaView, with_border_changed}
 use Rattle.mt_arena.specs.declared.node.Node.{Node}
 use Rattle.mt_arena.specs.declared.node.Node.TheVariants.{Border}
@@ -16,11 +18,11 @@ use Rattle.mt_chart.proofs.HeldNodes.{evolves_same}
 use Rattle.mt_tree.specs.Keeping.{IsIndexAt}
 use Rattle.mt_tree.proofs.SeenLemmas.{changed-border}
 use Rattle.mt_commit.specs.Log.{LogView}
-use Rattle.mt_chart.specs.Steps.{SameContent}
+use Rattle.mt_chart.specs.Steps.{Twin, SameContent}
 use Rattle.mt_tree.specs.Seen.{arena_seen}
 use Rattle.mt_calls.specs.Step.{Changes}
 use Rattle.mt_calls.proofs.FrameLemmas.{is_among, taken_back}
-use Rattle.mt_calls.specs.World.{World, IsWorld, RowsAreOfKeys, HeadsAreAlive, IsLocked, IsTaken, NotAmong, Goes}
+use Rattle.mt_calls.specs.World.{World, IsWorld, RowsAreOfKeys, HeadsAreAlive, IsLockedInterior, TwinsAreLocked, IsLocked, IsTaken, NotAmong, Goes}
 
 -- ---- rows of keys
 pub keys_same : (a after : ArenaView) → SameContent (arena_seen a) (arena_seen after) → RowsAreOfKeys a → RowsAreOfKeys after
@@ -34,6 +36,14 @@ keys_changed a after log left key before then number change keys = record {
     | inr old ↦ keys.key_of place row old.0
   ];
 }
+
+-- an interior that is named as it was is locked as it was
+pub interior_kept : (a after : ArenaView) (number : ℕ) → node_at after.nodes number ≡ node_at a.nodes number → IsLockedInterior a number → IsLockedInterior after number
+interior_kept a after number same locked = subst (λ (o : Option InteriorView). IsSomeAnd o (λ i. i.version.locked ≡ true)) (ap (option_and_then interior_of) (sym same)) locked
+
+-- the twins are locked still, where each locked interior is
+pub twins_kept : (a after : ArenaView) (twins : List Twin) → ((number : ℕ) → IsLockedInterior a number → IsLockedInterior after number) → TwinsAreLocked a twins → TwinsAreLocked after twins
+twins_kept a after twins kept all = record { locked = λ one other pair. let both = all.locked one other pair in (kept one both.0, kept other both.1) }
 
 -- ---- one border is changed
 module _ (a : ArenaView) (n : ℕ) (b : BorderView) (change : BorderView → BorderView) (named : border_at a.nodes n ≡ Some b) where
@@ -54,10 +64,17 @@ module _ (a : ArenaView) (n : ℕ) (b : BorderView) (change : BorderView → Bor
   heads_changed chart heads = record {
     alive = λ number prefix head on is. elim (same_number number n) [
       | inl e ↦ (let none : head_at (with_border_changed a n change).nodes number ≡ None = ap (λ (m : ℕ). head_at (with_border_changed a n change).nodes m) e ∙ ap (option_and_then head_of) updated.changed in
-        let clash : ◌≡◌ {A = Option HeadView} None (Some head) = sym none ∙ is in cc)
+          let clash : ◌≡◌ {A = Option HeadView} None (Some head) = sym none ∙ is in cc)
       | inr differ ↦ heads.alive number prefix head on (sym (ap (option_and_then head_of) (others_named number differ)) ∙ is)
     ];
   }
+
+  -- and so are interiors
+  pub twins_changed : (twins : List Twin) → TwinsAreLocked a twins → TwinsAreLocked (with_border_changed a n change) twins
+  twins_changed twins all = twins_kept a (with_border_changed a n change) twins (λ number locked. elim (same_number number n) [
+    | inl e ↦ absurd (subst (λ (o : Option InteriorView). IsSomeAnd o (λ i. i.version.locked ≡ true)) (ap (λ (m : ℕ). option_and_then interior_of (node_at a.nodes m)) e ∙ ap (option_and_then interior_of) (node-from_border a.nodes n b named)) locked)
+    | inr differ ↦ interior_kept a (with_border_changed a n change) number (others_named number differ) locked
+  ]) all
 
   -- what the step leaves
   pub goes_border : (now : ℕ) (w : World) (owned owns : List ℕ) (Then : World → Type 0) → IsWorld a now w → IsIndexAt (with_border_changed a n change) now w.twins w.chart → RowsAreOfKeys (with_border_changed a n change)
@@ -66,7 +83,7 @@ module _ (a : ArenaView) (n : ℕ) (b : BorderView) (change : BorderView → Bor
       → Goes now a (with_border_changed a n change) w owned owns Then
   goes_border now w owned owns Then world index keys free fewer more mine truth = record {
     next = w;
-    world = record { index = index; keys = keys; heads = heads_changed w.chart world.heads };
+    world = record { index = index; keys = keys; heads = heads_changed w.chart world.heads; twins = twins_changed w.twins world.twins };
     evolves = λ begun before. evolves_same begun w.chart;
     leaves = λ other taken apart. (
       record { node = others_named other (free other taken apart); spot = refl },

@@ -44,7 +44,7 @@ use Rattle.mt_arena.specs.Node.{node_at, head_at, head_of}
 use Rattle.mt_arena.proofs.NodeLemmas.{node-from_head, node-from_border}
 use Rattle.mt_chart.proofs.Basics.{same_number}
 use Rattle.mt_tree.specs.NewTree.{IsNewTree}
-use Rattle.mt_calls.specs.World.{IsLocked, IsTaken, World, IsWorld, RowsAreOfKeys, HeadsAreAlive, Goes}
+use Rattle.mt_calls.specs.World.{IsLocked, IsTaken, World, IsWorld, RowsAreOfKeys, HeadsAreAlive, TwinsAreLocked, Goes}
 use Rattle.mt_calls.specs.Step.{Held, IsQuiet, Stepped, Commits, put_row}
 use Rattle.mt_types.specs.declared.row.Change.TheVariants.{Put as PutChange, Drop}
 use Rattle.mt_write.specs.declared.writing.Write.{Write}
@@ -354,12 +354,16 @@ begun-stands C epoch a log calls new pass from request work served none is is_ne
 pub new_keys : (a : ArenaView) → ((place : Place) (row : Row) → Has (arena_seen a) place row → ⊥) → RowsAreOfKeys a
 new_keys a empty = record { key_of = λ place row has. absurd (empty place row has) }
 
+-- it has no twins
+pub new_twins : (a : ArenaView) → TwinsAreLocked a []
+new_twins a = record { locked = λ one other pair. elim pair [ ] }
+
 -- and its only head is not marked deleted
 pub new_heads : (a : ArenaView) → IsNewTree a → (chart : Chart) → HeadsAreAlive a chart
 new_heads a new chart = record {
   alive = λ number prefix head place is. elim (same_number number 0) [
     | inl e ↦ (let both : ◌≡◌ {A = Option HeadView} (Some (new_head new.root 0 false)) (Some head) = sym new.top ∙ (ap (λ (m : ℕ). head_at a.nodes m) (sym e) ∙ is) in
-      let same : new_head new.root 0 false ≡ head = cc in ap (λ (h : HeadView). h.version.deleted) (sym same))
+        let same : new_head new.root 0 false ≡ head = cc in ap (λ (h : HeadView). h.version.deleted) (sym same))
     | inr apart ↦ elim (same_number number new.root.0) [
       | inl e ↦ no_head (sym (ap (option_and_then head_of) (ap (λ (m : ℕ). node_at a.nodes m) e ∙ node-from_border a.nodes new.root.0 _ new.below)) ∙ is)
       | inr other ↦ no_head (sym (ap (option_and_then head_of) (new.rest number apart other)) ∙ is)
