@@ -335,7 +335,7 @@ module _ (C : ℕ) (a : ArenaView) (log : LogView) (key : List ℕ) (sets : List
         let now_is : border_at after.nodes half.0 ≡ Some (empty_half f.b f.cut_at.middle) = ap (option_and_then border_of) f.updates.changed in
         subst (λ (l : LogView). Stepped C now moves past a after log l w (PutRequest key sets) (stage_held way.node.0 Locked) Moved (stage_held way.node.0 (Spared half cut entries)) (λ m next. StageIsTrue C key (PutEdit sets) way (Spared half cut entries) begun after next)) (sym same_log)
         (record {
-          goes = goes_occupied now a after w half.0 (Border (empty_half f.b f.cut_at.middle)) (way.node.0 ∷ []) _ f.vacant f.updates f.unknown f.keeps world (
+          goes = goes_occupied now a after w half.0 (Border (empty_half f.b f.cut_at.middle)) (way.node.0 ∷ []) _ f.vacant f.updates f.retired f.unknown f.keeps world (
             f.b,
             locked_at_stays a after w w key way f.b (record { node = f.updates.others way.node.0 differ; spot = refl }) at,
             f.cut_at,

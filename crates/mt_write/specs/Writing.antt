@@ -235,6 +235,7 @@ pub record Spares (key : List ℕ) (sets : List (ℕ × List ℕ)) (way : Way) (
   pub cut_at : IsCutAt key (PutEdit sets) way b cut
   pub vacant : node_at a.nodes half ≡ None
   pub updates : Updates a.nodes after.nodes half (Some (Border (empty_half b cut_at.middle)))
+  pub retired : after.retired ≡ a.retired
   pub unknown : IsUnknown a half
   pub keeps : KeepsTree a after
   pub copied : entries ≡ drop cut b.live
