@@ -1,26 +1,30 @@
 -- A step that changes one border, which the call owns, or which is neither locked nor a spare.
-use Rattle.std.proofs.Common.{ℕ, ◌≡◌, ◌≢◌, ◌⊎◌, inl, inr, List, [], ◌∷◌, Option, Some, None, IsSome, true, false, refl, sym, ap, subst, ◌∙◌}
+use Rattle.std.proofs.Common.{ℕ, ◌≡◌, ◌≢◌, ◌<◌, ◌⊎◌, arith, inl, inr, List, [], ◌∷◌, Option, Some, None, IsSome, true, false, refl, sym, ap, subst, ◌∙◌}
+use Rattle.std.specs.Prelude.{IsSomeAnd}
+use Rattle.std.proofs.lemmas.List.Elements.{All-weaker}
 use Rattle.std.specs.Option.{option_and_then}
 use Rattle.mt_types.specs.declared.row.Row.{Row}
 use Rattle.mt_border.specs.Border.{BorderView}
-use Rattle.mt_arena.specs.Node.{node_at, head_at, head_of, border_at, border_of, Updates}
+use Rattle.mt_arena.specs.Node.{node_at, head_at, head_of, interior_at, interior_of, border_at, border_of, Updates}
 use Rattle.mt_interior.specs.Head.{HeadView}
+use Rattle.mt_interior.specs.Interior.{InteriorView}
 use Rattle.mt_arena.specs.Arena.{ArenaView, with_border_changed}
+use Rattle.mt_arena.specs.declared.retired.Retired.{Retired}
 use Rattle.mt_arena.specs.declared.node.Node.{Node}
 use Rattle.mt_arena.specs.declared.node.Node.TheVariants.{Border}
 use Rattle.mt_arena.proofs.NodeLemmas.{updates-with_node, node-from_border}
 use Rattle.mt_chart.specs.Tree.{Among, first, later}
-use Rattle.mt_chart.specs.Chart.{Chart, Spot, OnHead}
+use Rattle.mt_chart.specs.Chart.{on, gone, Standing, Chart, Spot, spot, OnHead, Later, still_on, still_gone, went, Evolves}
 use Rattle.mt_chart.proofs.Basics.{same_number}
 use Rattle.mt_chart.proofs.HeldNodes.{evolves_same}
 use Rattle.mt_tree.specs.Keeping.{IsIndexAt}
 use Rattle.mt_tree.proofs.SeenLemmas.{changed-border}
 use Rattle.mt_commit.specs.Log.{LogView}
-use Rattle.mt_chart.specs.Steps.{SameContent}
+use Rattle.mt_chart.specs.Steps.{Twin, SameContent}
 use Rattle.mt_tree.specs.Seen.{arena_seen}
 use Rattle.mt_calls.specs.Step.{Changes}
 use Rattle.mt_calls.proofs.FrameLemmas.{is_among, taken_back}
-use Rattle.mt_calls.specs.World.{World, IsWorld, RowsAreOfKeys, HeadsAreAlive, IsLocked, IsTaken, NotAmong, Goes}
+use Rattle.mt_calls.specs.World.{World, IsWorld, RowsAreOfKeys, HeadsAreAlive, IsLockedInterior, TwinsAreLocked, IsGone, RetiredAreGone, IsLocked, IsTaken, NotAmong, Goes}
 
 -- ---- rows of keys
 pub keys_same : (a after : ArenaView) → SameContent (arena_seen a) (arena_seen after) → RowsAreOfKeys a → RowsAreOfKeys after
@@ -34,6 +38,58 @@ keys_changed a after log left key before then number change keys = record {
     | inr old ↦ keys.key_of place row old.0
   ];
 }
+
+-- what is known stays known
+pub known_stays : (chart next : Chart) (number : ℕ) → Evolves 0 chart next → IsSome (chart number) → IsSome (next number)
+known_stays chart next number evolves known = go (chart number) refl known
+  where
+    some : (place : Spot) → next number ≡ Some place → IsSome (next number)
+    some place is = subst (λ (x : Option Spot). IsSome x) (sym is) refl
+
+    go : (place : Option Spot) → chart number ≡ place → IsSome place → IsSome (next number)
+    go None is known = absurd (let clash : false ≡ true = known in cc)
+    go (Some (spot role prefix low standing)) is known = elim (evolves number role prefix low standing is) [
+      | inl (then, place, how) ↦ some _ place
+      | inr (epoch, same, before) ↦ absurd (omega (arith, before))
+    ]
+
+-- an interior that is named as it was is locked as it was
+pub interior_kept : (a after : ArenaView) (chart next : Chart) (number : ℕ) → Evolves 0 chart next → node_at after.nodes number ≡ node_at a.nodes number → IsLockedInterior a chart number → IsLockedInterior after next number
+interior_kept a after chart next number evolves same locked = record {
+  known = known_stays chart next number evolves locked.known;
+  locked = subst (λ (o : Option InteriorView). IsSomeAnd o (λ i. i.version.locked ≡ true)) (ap (option_and_then interior_of) (sym same)) locked.locked;
+}
+
+-- what names no interior is no twin
+pub no_interior : (a : ArenaView) (chart : Chart) (number : ℕ) → interior_at a.nodes number ≡ None → IsLockedInterior a chart number → ⊥
+no_interior a chart number none locked = subst (λ (o : Option InteriorView). IsSomeAnd o (λ i. i.version.locked ≡ true)) none locked.locked
+
+-- the twins are locked still, where each locked interior is
+pub twins_kept : (a after : ArenaView) (chart next : Chart) (twins : List Twin) → ((number : ℕ) → IsLockedInterior a chart number → IsLockedInterior after next number) → TwinsAreLocked a chart twins → TwinsAreLocked after next twins
+twins_kept a after chart next twins kept all = record { locked = λ one other pair. let both = all.locked one other pair in (kept one both.0, kept other both.1) }
+
+-- the same, where one number that is no locked interior comes to name another node
+pub twins_beside : (a after : ArenaView) (chart next : Chart) (twins : List Twin) (number : ℕ) → Evolves 0 chart next → (IsLockedInterior a chart number → ⊥) → ((other : ℕ) → other ≢ number → node_at after.nodes other ≡ node_at a.nodes other) → TwinsAreLocked a chart twins → TwinsAreLocked after next twins
+twins_beside a after chart next twins number evolves free others = twins_kept a after chart next twins (λ other locked. elim (same_number other number) [
+  | inl e ↦ absurd (free (subst (λ (m : ℕ). IsLockedInterior a chart m) e locked))
+  | inr differ ↦ interior_kept a after chart next other evolves (others other differ) locked
+])
+
+-- what is retired is gone still, and no other is retired
+pub retired_kept : (retired : List Retired) (chart next : Chart) → Evolves 0 chart next → RetiredAreGone retired chart → RetiredAreGone retired next
+retired_kept retired chart next evolves all = record { each = All-weaker (λ (node : Retired). IsGone chart node.node.0) (λ (node : Retired). IsGone next node.node.0) (λ node. stays node.node.0) retired all.each }
+  where
+    stays : (number : ℕ) → IsGone chart number → IsGone next number
+    stays number g = go (evolves number g.role g.prefix g.low (gone g.epoch) g.place)
+      where
+        later_gone : {standing then : Standing} → Later 0 standing then → standing ≡ gone g.epoch → then ≡ gone g.epoch
+        later_gone (still_on {posted = posted}) e = absurd (let clash : on posted ≡ gone g.epoch = e in cc)
+        later_gone still_gone e = e
+        later_gone (went {posted = posted} from) e = absurd (let clash : on posted ≡ gone g.epoch = e in cc)
+
+        go : ((then : Standing) × (next number ≡ Some (spot g.role g.prefix g.low then)) × Later 0 (gone g.epoch) then) ⊎ ((epoch : ℕ) × (gone g.epoch ≡ gone epoch) × (epoch < 0)) → IsGone next number
+        go (inl (then, is, how)) = record { role = g.role; prefix = g.prefix; low = g.low; epoch = g.epoch; place = is ∙ ap (λ (s : Standing). Some (spot g.role g.prefix g.low s)) (later_gone how refl) }
+        go (inr (epoch, same, before)) = absurd (omega (arith, before))
 
 -- ---- one border is changed
 module _ (a : ArenaView) (n : ℕ) (b : BorderView) (change : BorderView → BorderView) (named : border_at a.nodes n ≡ Some b) where
@@ -59,6 +115,10 @@ module _ (a : ArenaView) (n : ℕ) (b : BorderView) (change : BorderView → Bor
     ];
   }
 
+  -- and so are interiors
+  pub twins_changed : (chart next : Chart) (twins : List Twin) → Evolves 0 chart next → TwinsAreLocked a chart twins → TwinsAreLocked (with_border_changed a n change) next twins
+  twins_changed chart next twins evolves = twins_beside a (with_border_changed a n change) chart next twins n evolves (no_interior a chart n (ap (option_and_then interior_of) (node-from_border a.nodes n b named))) others_named
+
   -- what the step leaves
   pub goes_border : (now : ℕ) (w : World) (owned owns : List ℕ) (Then : World → Type 0) → IsWorld a now w → IsIndexAt (with_border_changed a n change) now w.twins w.chart → RowsAreOfKeys (with_border_changed a n change)
       → ((other : ℕ) → IsTaken a w other → NotAmong other owned → other ≢ n) → ((other : ℕ) → Among other owns → Among other owned ⊎ (other ≡ n))
@@ -66,7 +126,7 @@ module _ (a : ArenaView) (n : ℕ) (b : BorderView) (change : BorderView → Bor
       → Goes now a (with_border_changed a n change) w owned owns Then
   goes_border now w owned owns Then world index keys free fewer more mine truth = record {
     next = w;
-    world = record { index = index; keys = keys; heads = heads_changed w.chart world.heads };
+    world = record { index = index; keys = keys; heads = heads_changed w.chart world.heads; twins = twins_changed w.chart w.chart w.twins (evolves_same 0 w.chart) world.twins; retired = world.retired };
     evolves = λ begun before. evolves_same begun w.chart;
     leaves = λ other taken apart. (
       record { node = others_named other (free other taken apart); spot = refl },

@@ -1,11 +1,12 @@
 -- What the steps that make a new layer leave: two spares, a spare given back or changed, and the link to the layer.
-use Rattle.std.proofs.Common.{ℕ, ◌≡◌, ◌≢◌, inl, inr, true, false, List, [], ◌∷◌, slice_get, Option, Some, None, IsSome, refl, sym, ap, subst, ◌∙◌}
+use Rattle.std.proofs.Common.{ℕ, ◌≡◌, ◌≢◌, inl, inr, true, false, List, [], ◌∷◌, slice_get, Option, Some, None, IsSome, refl, sym, ap, subst, ◌∙◌, arith}
 use Rattle.std.specs.Option.{option_and_then}
 use Rattle.mt_types.specs.declared.numbers.NodeNo.{NodeNo}
 use Rattle.mt_border.specs.Border.{BorderView}
 use Rattle.mt_border.specs.declared.entry.Entry.{Entry}
 use Rattle.mt_interior.specs.Head.{HeadView, new_head}
-use Rattle.mt_arena.specs.Node.{node_at, head_at, head_of, border_at, border_of, Updates}
+use Rattle.mt_arena.specs.Node.{node_at, head_at, head_of, interior_of, border_at, border_of, Updates}
+use Rattle.mt_arena.specs.declared.retired.Retired.{Retired}
 use Rattle.mt_arena.specs.Arena.{ArenaView, with_border_changed}
 use Rattle.mt_arena.specs.declared.node.Node.{Node}
 use Rattle.mt_arena.proofs.NodeLemmas.{node-from_head, node-from_border}
@@ -14,22 +15,26 @@ use Rattle.mt_chart.specs.Chart.{on, at_level, top, Spot, spot, Chart}
 use Rattle.mt_chart.specs.Steps.{SameContent}
 use Rattle.mt_chart.proofs.Basics.{same_number}
 use Rattle.mt_chart.proofs.Entries.{among_cases}
-use Rattle.mt_chart.proofs.HeldNodes.{evolves_again}
+use Rattle.mt_chart.proofs.HeldNodes.{evolves_same, evolves_again}
 use Rattle.mt_tree.specs.Seen.{arena_seen}
 use Rattle.mt_tree.specs.Keeping.{KeepsTree, KeepsUnknown, IsUnknown, IsOnIn}
 use Rattle.mt_tree.specs.BorderSteps.{MakesLayerAt}
-use Rattle.mt_calls.specs.World.{World, IsWorld, HeadsAreAlive, IsLocked, IsTaken, IsSame, NotAmong, Goes}
+use Rattle.mt_calls.specs.World.{World, IsWorld, HeadsAreAlive, IsLockedInterior, RetiredAreGone, IsLocked, IsTaken, IsSame, NotAmong, Goes}
 use Rattle.mt_calls.proofs.FrameLemmas.{is_among, taken_back}
-use Rattle.mt_calls.proofs.BorderLemmas.{keys_same, heads_changed, others_named, now_named}
+use Rattle.mt_calls.proofs.BorderLemmas.{keys_same, heads_changed, twins_changed, twins_beside, no_interior, retired_kept, others_named, now_named}
 use Rattle.mt_calls.proofs.SplitLemmas.{vacant_free, heads_occupied, with_spot, spot_changes}
 
 -- ---- two spares
+-- what the chart doesn't know is no locked interior of the tree
+unknown_free : (a : ArenaView) (chart : Chart) (number : ℕ) → chart number ≡ None → IsLockedInterior a chart number → ⊥
+unknown_free a chart number unknown locked = (let some : IsSome (let nothing : Option Spot = None in nothing) = subst (λ (x : Option Spot). IsSome x) unknown locked.known in cc)
+
 -- the same rows, by two changes
 pub content_twice : (a mid after : ArenaView) → SameContent (arena_seen a) (arena_seen mid) → SameContent (arena_seen mid) (arena_seen after) → SameContent (arena_seen a) (arena_seen after)
 content_twice a mid after one two = λ place row. ((λ has. (one place row).0 ((two place row).0 has)), (λ has. (two place row).1 ((one place row).1 has)))
 
-module _ (now : ℕ) (a mid after : ArenaView) (w : World) (one two : ℕ) (node_one node_two : Node) (owned : List ℕ) (Then : World → Type 0) (vacant_one : node_at a.nodes one ≡ None) (updates_one : Updates a.nodes mid.nodes one (Some node_one)) (unknown_one : IsUnknown a one)
-    (keeps_one : KeepsTree a mid) (vacant_two : node_at mid.nodes two ≡ None) (updates_two : Updates mid.nodes after.nodes two (Some node_two)) (unknown_two : IsUnknown mid two) (keeps_two : KeepsTree mid after) (world : IsWorld a now w) where
+module _ (now : ℕ) (a mid after : ArenaView) (w : World) (one two : ℕ) (node_one node_two : Node) (owned : List ℕ) (Then : World → Type 0) (vacant_one : node_at a.nodes one ≡ None) (updates_one : Updates a.nodes mid.nodes one (Some node_one)) (retired_one : mid.retired ≡ a.retired) (unknown_one : IsUnknown a one)
+    (keeps_one : KeepsTree a mid) (vacant_two : node_at mid.nodes two ≡ None) (updates_two : Updates mid.nodes after.nodes two (Some node_two)) (retired_two : after.retired ≡ mid.retired) (unknown_two : IsUnknown mid two) (keeps_two : KeepsTree mid after) (world : IsWorld a now w) where
   pub two_apart : one ≢ two
   two_apart e = (let clash : ◌≡◌ {A = Option Node} None (Some node_one) = sym vacant_two ∙ (ap (λ (m : ℕ). node_at mid.nodes m) (sym e) ∙ updates_one.changed) in cc)
 
@@ -51,6 +56,9 @@ module _ (now : ℕ) (a mid after : ArenaView) (w : World) (one two : ℕ) (node
             index = again.index;
             keys = keys_same a after content world.keys;
             heads = heads_occupied mid after w two (Some node_two) updates_two (unknown_two.unknown now w.twins w.chart kept.index) (heads_occupied a mid w one (Some node_one) updates_one (unknown_one.unknown now w.twins w.chart world.index) world.heads);
+            twins = twins_beside mid after w.chart w.chart w.twins two (evolves_same 0 w.chart) (no_interior mid w.chart two (ap (option_and_then interior_of) vacant_two)) updates_two.others
+                (twins_beside a mid w.chart w.chart w.twins one (evolves_same 0 w.chart) (no_interior a w.chart one (ap (option_and_then interior_of) vacant_one)) updates_one.others world.twins);
+            retired = subst (λ (r : List Retired). RetiredAreGone r w.chart) (sym (retired_two ∙ retired_one)) world.retired;
           };
           evolves = λ begun before. evolves_again begun w.chart w.chart w.chart (kept.evolves begun before) (again.evolves begun before);
           leaves = λ other taken apart.
@@ -75,16 +83,23 @@ module _ (now : ℕ) (a mid after : ArenaView) (w : World) (one two : ℕ) (node
       neither other not_one not_two apart (later (later i)) = apart i
 
 -- ---- a spare that is given back in the same step
-pub goes_given_back : (now : ℕ) (a mid after : ArenaView) (w : World) (number : ℕ) (node : Node) (owned : List ℕ) (Then : World → Type 0) → node_at a.nodes number ≡ None → Updates a.nodes mid.nodes number (Some node) → IsUnknown a number → KeepsTree a mid
-    → Updates mid.nodes after.nodes number None → KeepsUnknown mid after number → IsWorld a now w → Then w → Goes now a after w owned owned Then × SameContent (arena_seen a) (arena_seen after)
-goes_given_back now a mid after w number node owned Then vacant updates unknown keeps back keeps_back world truth =
+pub goes_given_back : (now : ℕ) (a mid after : ArenaView) (w : World) (number : ℕ) (node : Node) (owned : List ℕ) (Then : World → Type 0) → node_at a.nodes number ≡ None → Updates a.nodes mid.nodes number (Some node) → mid.retired ≡ a.retired → IsUnknown a number → KeepsTree a mid
+    → Updates mid.nodes after.nodes number None → after.retired ≡ mid.retired → KeepsUnknown mid after number → IsWorld a now w → Then w → Goes now a after w owned owned Then × SameContent (arena_seen a) (arena_seen after)
+goes_given_back now a mid after w number node owned Then vacant updates retired unknown keeps back retired_back keeps_back world truth =
     let kept = keeps.keeps now w.twins w.chart world.index in
     let unknown_now = unknown.unknown now w.twins w.chart world.index in
     let again = keeps_back.keeps now w.twins w.chart kept.index unknown_now in
     let content = content_twice a mid after kept.content again.content in (
       record {
         next = w;
-        world = record { index = again.index; keys = keys_same a after content world.keys; heads = heads_occupied mid after w number None back unknown_now (heads_occupied a mid w number (Some node) updates unknown_now world.heads) };
+        world = record {
+          index = again.index;
+          keys = keys_same a after content world.keys;
+          heads = heads_occupied mid after w number None back unknown_now (heads_occupied a mid w number (Some node) updates unknown_now world.heads);
+          twins = twins_beside mid after w.chart w.chart w.twins number (evolves_same 0 w.chart) (unknown_free mid w.chart number unknown_now) back.others
+              (twins_beside a mid w.chart w.chart w.twins number (evolves_same 0 w.chart) (unknown_free a w.chart number unknown_now) updates.others world.twins);
+          retired = subst (λ (r : List Retired). RetiredAreGone r w.chart) (sym (retired_back ∙ retired)) world.retired;
+        };
         evolves = λ begun before. evolves_again begun w.chart w.chart w.chart (kept.evolves begun before) (again.evolves begun before);
         leaves = λ other taken apart. (record { node = same other; spot = refl }, apart);
         takes = λ other taken. elim (is_among other owned) [ inl i ↦ inl i | inr out ↦ inr (taken_back a after w w other (record { node = same other; spot = refl }) taken, out) ];
@@ -100,13 +115,13 @@ goes_given_back now a mid after w number node owned Then vacant updates unknown 
     ]
 
 -- ---- a spare that the call owns is changed
-pub goes_spare_changed : (now : ℕ) (a after : ArenaView) (w : World) (number : ℕ) (node : Node) (owned : List ℕ) (Then : World → Type 0) → Updates a.nodes after.nodes number (Some node) → KeepsTree a after → w.chart number ≡ None → Among number owned
+pub goes_spare_changed : (now : ℕ) (a after : ArenaView) (w : World) (number : ℕ) (node : Node) (owned : List ℕ) (Then : World → Type 0) → Updates a.nodes after.nodes number (Some node) → after.retired ≡ a.retired → KeepsTree a after → w.chart number ≡ None → Among number owned
     → IsWorld a now w → Then w → Goes now a after w owned owned Then
-goes_spare_changed now a after w number node owned Then updates keeps unknown mine world truth =
+goes_spare_changed now a after w number node owned Then updates retired keeps unknown mine world truth =
     let kept = keeps.keeps now w.twins w.chart world.index in
     record {
       next = w;
-      world = record { index = kept.index; keys = keys_same a after kept.content world.keys; heads = heads_occupied a after w number (Some node) updates unknown world.heads };
+      world = record { index = kept.index; keys = keys_same a after kept.content world.keys; heads = heads_occupied a after w number (Some node) updates unknown world.heads; twins = twins_beside a after w.chart w.chart w.twins number (evolves_same 0 w.chart) (unknown_free a w.chart number unknown) updates.others world.twins; retired = subst (λ (r : List Retired). RetiredAreGone r w.chart) (sym retired) world.retired };
       evolves = kept.evolves;
       leaves = λ other taken apart. (record { node = updates.others other (λ e. apart (subst (λ (m : ℕ). Among m owned) (sym e) mine)); spot = refl }, apart);
       takes = λ other taken. elim (is_among other owned) [
@@ -181,7 +196,7 @@ module _ (now : ℕ) (a : ArenaView) (w : World) (n head : ℕ) (root : NodeNo) 
   heads_layered = record {
     alive = λ number other h standing is. elim (same_number number head) [
       | inl e ↦ (let both : ◌≡◌ {A = Option HeadView} (Some (new_head root 0 false)) (Some h) = sym is_head ∙ (sym (ap (option_and_then head_of) head_now) ∙ (ap (λ (m : ℕ). head_at new.nodes m) (sym e) ∙ is)) in
-          let same : new_head root 0 false ≡ h = cc in ap (λ (x : HeadView). x.version.deleted) (sym same))
+          let same : new_head root 0 false ≡ h = cc in (ap (λ (x : HeadView). x.version.deleted) (sym same), ap (λ (x : HeadView). x.version.locked) (sym same)))
       | inr ne_head ↦ elim (same_number number root.0) [
         | inl e ↦ absurd (no_head (root_spot below) other (sym root_placed ∙ (ap next.chart (sym e) ∙ standing)))
         | inr ne_root ↦ (heads_changed a n b change named w.chart world.heads).alive number other h (sym (others_placed number ne_head ne_root) ∙ standing) is
@@ -198,7 +213,7 @@ module _ (now : ℕ) (a : ArenaView) (w : World) (n head : ℕ) (root : NodeNo) 
       (record { prefix = prefix; stands = on_in; head_unknown = head_unknown; root_unknown = root_unknown; head_charted = head_placed; root_charted = root_placed; others = others_placed }) in (
         record {
           next = next;
-          world = record { index = kept.index; keys = keys_same a new kept.content world.keys; heads = heads_layered };
+          world = record { index = kept.index; keys = keys_same a new kept.content world.keys; heads = heads_layered; twins = twins_changed a n b change named w.chart next.chart w.twins (kept.evolves 0 (omega arith)) world.twins; retired = retired_kept a.retired w.chart next.chart (kept.evolves 0 (omega arith)) world.retired };
           evolves = kept.evolves;
           leaves = λ other taken apart. (
             record {

@@ -1,13 +1,15 @@
 -- What the steps of a split leave, up to its link: a spare is occupied and filled, and the half is linked.
-use Rattle.std.proofs.Common.{ℕ, ◌≡◌, ◌≢◌, ◌==◌, inl, inr, cond, true, false, if◌then◌else◌, List, ◌∷◌, Option, Some, None, IsSome, refl, sym, ap, subst, ◌∙◌}
+use Rattle.std.proofs.Common.{ℕ, ◌≡◌, ◌≢◌, ◌==◌, inl, inr, cond, true, false, if◌then◌else◌, List, ◌∷◌, Option, Some, None, IsSome, refl, sym, ap, subst, ◌∙◌, arith}
 use Rattle.std.proofs.lemmas.Bool.{eq-eqb}
 use Rattle.std.proofs.lemmas.Bool.Decides.{eqb_tells}
 use Rattle.mt_border.specs.Border.{BorderView}
-use Rattle.mt_arena.specs.Node.{node_at, head_of, border_at, Updates}
+use Rattle.mt_arena.specs.Node.{node_at, head_of, interior_of, border_at, Updates}
 use Rattle.mt_arena.specs.Arena.{ArenaView, with_border_changed}
+use Rattle.mt_arena.specs.declared.retired.Retired.{Retired}
 use Rattle.mt_arena.specs.declared.node.Node.{Node}
 use Rattle.mt_chart.specs.Tree.{Among, first, later}
 use Rattle.mt_chart.proofs.Basics.{same_number}
+use Rattle.mt_chart.proofs.HeldNodes.{evolves_same}
 use Rattle.mt_chart.specs.Chart.{on, at_level, top, Spot, spot, Standing, Chart, Changes}
 use Rattle.std.specs.Option.{option_and_then}
 use Rattle.mt_chart.specs.Steps.{SameContent}
@@ -15,8 +17,8 @@ use Rattle.mt_chart.proofs.Entries.{among_cases}
 use Rattle.mt_tree.specs.Seen.{arena_seen}
 use Rattle.mt_tree.specs.Keeping.{KeepsTree, KeepsUnknown, IsUnknown, IsOnIn}
 use Rattle.mt_tree.specs.BorderSteps.{LinksHalfAt}
-use Rattle.mt_calls.specs.World.{World, IsWorld, HeadsAreAlive, IsLocked, IsTaken, IsSame, Goes}
-use Rattle.mt_calls.proofs.BorderLemmas.{goes_border, heads_changed, keys_same, others_named}
+use Rattle.mt_calls.specs.World.{World, IsWorld, HeadsAreAlive, RetiredAreGone, IsLocked, IsTaken, IsSame, Goes}
+use Rattle.mt_calls.proofs.BorderLemmas.{goes_border, heads_changed, twins_changed, twins_beside, no_interior, retired_kept, keys_same, others_named}
 use Rattle.mt_calls.proofs.FrameLemmas.{is_among, taken_back}
 
 pub eqb-ne : (a b : ℕ) → a ≢ b → (a == b) ≡ false
@@ -45,13 +47,13 @@ heads_occupied a after w number node updates unknown heads = record {
 }
 
 -- once a spare is occupied, the call owns it too; it is taken, since the chart doesn't know it
-pub goes_occupied : (now : ℕ) (a after : ArenaView) (w : World) (number : ℕ) (node : Node) (owned : List ℕ) (Then : World → Type 0) → node_at a.nodes number ≡ None → Updates a.nodes after.nodes number (Some node) → IsUnknown a number → KeepsTree a after
+pub goes_occupied : (now : ℕ) (a after : ArenaView) (w : World) (number : ℕ) (node : Node) (owned : List ℕ) (Then : World → Type 0) → node_at a.nodes number ≡ None → Updates a.nodes after.nodes number (Some node) → after.retired ≡ a.retired → IsUnknown a number → KeepsTree a after
     → IsWorld a now w → Then w → Goes now a after w owned (number ∷ owned) Then
-goes_occupied now a after w number node owned Then vacant updates unknown keeps world truth =
+goes_occupied now a after w number node owned Then vacant updates retired unknown keeps world truth =
     let kept = keeps.keeps now w.twins w.chart world.index in
     record {
       next = w;
-      world = record { index = kept.index; keys = keys_same a after kept.content world.keys; heads = heads_occupied a after w number (Some node) updates (unknown.unknown now w.twins w.chart world.index) world.heads };
+      world = record { index = kept.index; keys = keys_same a after kept.content world.keys; heads = heads_occupied a after w number (Some node) updates (unknown.unknown now w.twins w.chart world.index) world.heads; twins = twins_beside a after w.chart w.chart w.twins number (evolves_same 0 w.chart) (no_interior a w.chart number (ap (option_and_then interior_of) vacant)) updates.others world.twins; retired = subst (λ (r : List Retired). RetiredAreGone r w.chart) (sym retired) world.retired };
       evolves = kept.evolves;
       leaves = λ other taken apart.
           let differ = vacant_free a w number other vacant taken in
@@ -104,10 +106,10 @@ pub goes_linked : (now : ℕ) (a : ArenaView) (w : World) (n half : ℕ) (b uppe
 goes_linked now a w n half b upper prefix change owned Then named filled links stands unknown mine spare world truth =
     let place : Spot = spot (at_level 0) prefix upper.low (on false) in
     let changes = spot_changes w.chart half place in
-    let kept = (links.links upper filled).keeps now w.twins w.chart (with_spot w.chart half place) world.index (record { prefix = prefix; stands = stands; unknown = unknown; charted = changes; head_alive = λ number head place is names. world.heads.alive number prefix head place is }) in (
+    let kept = (links.links upper filled).keeps now w.twins w.chart (with_spot w.chart half place) world.index (record { prefix = prefix; stands = stands; unknown = unknown; charted = changes; head_alive = λ number head place is names. (world.heads.alive number prefix head place is).0 }) in (
       record {
         next = record { twins = w.twins; chart = with_spot w.chart half place };
-        world = record { index = kept.index; keys = keys_same a (with_border_changed a n change) kept.content world.keys; heads = heads_linked (with_border_changed a n change) w.chart _ half prefix upper.low changes (heads_changed a n b change named w.chart world.heads) };
+        world = record { index = kept.index; keys = keys_same a (with_border_changed a n change) kept.content world.keys; heads = heads_linked (with_border_changed a n change) w.chart _ half prefix upper.low changes (heads_changed a n b change named w.chart world.heads); twins = twins_changed a n b change named w.chart (with_spot w.chart half place) w.twins (kept.evolves 0 (omega arith)) world.twins; retired = retired_kept a.retired w.chart (with_spot w.chart half place) (kept.evolves 0 (omega arith)) world.retired };
         evolves = kept.evolves;
         leaves = λ other taken apart. (
           record {

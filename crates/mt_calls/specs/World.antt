@@ -1,16 +1,17 @@
 -- What the proofs know of the tree between two steps, and what a step of one call leaves of it to the others.
-use Rattle.std.specs.Prelude.{ℕ, ◌≡◌, ◌≤◌, ◌⊎◌, List, length, Option, Some, None, IsSome, Bool, true, false}
+use Rattle.std.specs.Prelude.{ℕ, ◌≡◌, ◌≤◌, ◌⊎◌, List, length, Option, Some, None, IsSome, IsSomeAnd, All, Bool, true, false}
 use Rattle.mt_types.specs.declared.limits.TheConstants.{MAX_KEY_BYTES}
 use Rattle.mt_types.specs.declared.row.Row.{Row}
 use Rattle.mt_slice.specs.Place.{Place, AreBytes, place_of}
-use Rattle.mt_arena.specs.Node.{node_at, head_at}
+use Rattle.mt_arena.specs.Node.{node_at, head_at, interior_at}
 use Rattle.mt_arena.specs.Arena.{ArenaView}
 use Rattle.mt_interior.specs.Head.{HeadView}
+use Rattle.mt_arena.specs.declared.retired.Retired.{Retired}
 use Rattle.mt_arena.specs.declared.node.Node.{Node}
 use Rattle.mt_arena.specs.declared.node.Node.TheVariants.{Head, Interior, Border}
 use Rattle.mt_chart.specs.Tree.{Among, Has}
-use Rattle.mt_chart.specs.Chart.{Chart, OnHead, Evolves}
-use Rattle.mt_chart.specs.Steps.{Twin}
+use Rattle.mt_chart.specs.Chart.{Role, gone, spot, Chart, OnHead, Evolves}
+use Rattle.mt_chart.specs.Steps.{Twin, AreTwins}
 use Rattle.mt_tree.specs.Seen.{arena_seen}
 use Rattle.mt_tree.specs.Keeping.{IsIndexAt}
 
@@ -30,15 +31,38 @@ pub record IsKeyPlace (place : Place) : Type 0 where
 pub record RowsAreOfKeys (a : ArenaView) : Type 0 where
   pub key_of : (place : Place) (row : Row) → Has (arena_seen a) place row → IsKeyPlace place
 
--- no head of the tree is marked deleted
+-- no head of the tree is marked deleted or locked
 pub record HeadsAreAlive (a : ArenaView) (chart : Chart) : Type 0 where
-  pub alive : (number : ℕ) (prefix : List ℕ) (head : HeadView) → OnHead chart number prefix → head_at a.nodes number ≡ Some head → head.version.deleted ≡ false
+  pub alive : (number : ℕ) (prefix : List ℕ) (head : HeadView) → OnHead chart number prefix → head_at a.nodes number ≡ Some head → (head.version.deleted ≡ false) × (head.version.locked ≡ false)
+
+-- the number names an interior of the tree, which is locked
+pub record IsLockedInterior (a : ArenaView) (chart : Chart) (number : ℕ) : Type 0 where
+  pub known : IsSome (chart number)
+  pub locked : IsSomeAnd (interior_at a.nodes number) (λ interior. interior.version.locked ≡ true)
+
+-- the two halves of each interior that is being split are locked
+pub record TwinsAreLocked (a : ArenaView) (chart : Chart) (twins : List Twin) : Type 0 where
+  pub locked : (one other : ℕ) → AreTwins twins one other → IsLockedInterior a chart one × IsLockedInterior a chart other
+
+-- the number is gone
+pub record IsGone (chart : Chart) (number : ℕ) : Type 0 where
+  pub role : Role
+  pub prefix : List ℕ
+  pub low : ℕ
+  pub epoch : ℕ
+  pub place : chart number ≡ Some (spot role prefix low (gone epoch))
+
+-- what is retired is gone
+pub record RetiredAreGone (retired : List Retired) (chart : Chart) : Type 0 where
+  pub each : All (λ node. IsGone chart node.node.0) retired
 
 -- the tree is an index in an epoch, in this world
 pub record IsWorld (a : ArenaView) (now : ℕ) (w : World) : Type 0 where
   pub index : IsIndexAt a now w.twins w.chart
   pub keys : RowsAreOfKeys a
   pub heads : HeadsAreAlive a w.chart
+  pub twins : TwinsAreLocked a w.chart w.twins
+  pub retired : RetiredAreGone a.retired w.chart
 
 -- the node is locked
 abbrev pub is_locked : Node → Bool

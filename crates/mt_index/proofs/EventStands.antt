@@ -35,13 +35,15 @@ use Rattle.mt_write.specs.declared.work.Work.TheVariants.{Get as GetWork, Write 
 use Rattle.mt_slice.specs.Place.{Place}
 use Rattle.mt_calls.specs.declared.progress.Progress.{Progress}
 use Rattle.mt_calls.specs.declared.progress.Progress.TheVariants.{Moved, Waits, Committed, Answered, Refused}
+use Rattle.std.proofs.lemmas.List.Elements.{All-nil}
+use Rattle.mt_arena.specs.declared.retired.Retired.{Retired}
 use Rattle.mt_arena.specs.declared.node.Node.{Node}
 use Rattle.std.specs.Option.{option_and_then}
 use Rattle.mt_arena.specs.Node.{node_at, head_at, head_of}
 use Rattle.mt_arena.proofs.NodeLemmas.{node-from_head, node-from_border}
 use Rattle.mt_chart.proofs.Basics.{same_number}
 use Rattle.mt_tree.specs.NewTree.{IsNewTree}
-use Rattle.mt_calls.specs.World.{IsLocked, IsTaken, World, IsWorld, RowsAreOfKeys, HeadsAreAlive, Goes}
+use Rattle.mt_calls.specs.World.{IsLocked, IsTaken, World, IsWorld, RowsAreOfKeys, HeadsAreAlive, TwinsAreLocked, IsGone, RetiredAreGone, Goes}
 use Rattle.mt_calls.specs.Step.{Held, IsQuiet, Stepped, Commits, put_row}
 use Rattle.mt_types.specs.declared.row.Change.TheVariants.{Put as PutChange, Drop}
 use Rattle.mt_write.specs.declared.writing.Write.{Write}
@@ -351,12 +353,20 @@ begun-stands C epoch a log calls new pass from request work served none is is_ne
 pub new_keys : (a : ArenaView) → ((place : Place) (row : Row) → Has (arena_seen a) place row → ⊥) → RowsAreOfKeys a
 new_keys a empty = record { key_of = λ place row has. absurd (empty place row has) }
 
--- and its only head is not marked deleted
+-- it has no twins
+pub new_twins : (a : ArenaView) (chart : Chart) → TwinsAreLocked a chart []
+new_twins a chart = record { locked = λ one other pair. elim pair [ ] }
+
+-- nothing is retired
+pub new_retired : (a : ArenaView) → IsNewTree a → (chart : Chart) → RetiredAreGone a.retired chart
+new_retired a new chart = subst (λ (r : List Retired). RetiredAreGone r chart) (sym new.retired) (record { each = All-nil (λ (node : Retired). IsGone chart node.node.0) })
+
+-- and its only head is not marked deleted or locked
 pub new_heads : (a : ArenaView) → IsNewTree a → (chart : Chart) → HeadsAreAlive a chart
 new_heads a new chart = record {
   alive = λ number prefix head place is. elim (same_number number 0) [
     | inl e ↦ (let both : ◌≡◌ {A = Option HeadView} (Some (new_head new.root 0 false)) (Some head) = sym new.top ∙ (ap (λ (m : ℕ). head_at a.nodes m) (sym e) ∙ is) in
-      let same : new_head new.root 0 false ≡ head = cc in ap (λ (h : HeadView). h.version.deleted) (sym same))
+        let same : new_head new.root 0 false ≡ head = cc in (ap (λ (h : HeadView). h.version.deleted) (sym same), ap (λ (h : HeadView). h.version.locked) (sym same)))
     | inr apart ↦ elim (same_number number new.root.0) [
       | inl e ↦ no_head (sym (ap (option_and_then head_of) (ap (λ (m : ℕ). node_at a.nodes m) e ∙ node-from_border a.nodes new.root.0 _ new.below)) ∙ is)
       | inr other ↦ no_head (sym (ap (option_and_then head_of) (new.rest number apart other)) ∙ is)
@@ -364,8 +374,8 @@ new_heads a new chart = record {
   ];
 }
   where
-    no_head : {head : HeadView} → ◌≡◌ {A = Option HeadView} None (Some head) → head.version.deleted ≡ false
-    no_head e = cc
+    no_head : {head : HeadView} → ◌≡◌ {A = Option HeadView} None (Some head) → (head.version.deleted ≡ false) × (head.version.locked ≡ false)
+    no_head e = absurd (cc)
 
 -- and nothing in it is locked
 pub new_unlocked : (a : ArenaView) → IsNewTree a → (number : ℕ) → IsLocked (node_at a.nodes number) → ⊥

@@ -138,7 +138,7 @@ module _ (C : ℕ) (a : ArenaView) (log : LogView) (key : List ℕ) (edit : Edit
         let two : layer.root.0 ≢ layer.head.0 = head_apart a layer.head.0 layer.root.0 _ root f.has.head f.has.is_root in
         let keeps_new : KeepsTree a new = subst (λ (x : ArenaView). KeepsTree a x) is keeps in
         subst (λ (x : ArenaView). Stepped C now moves past a x log log w (edit_request key edit) (stage_held n (LayerFilled layer)) Moved (stage_held n (LayerReady layer)) (λ m next. StageIsTrue C key edit way (LayerReady layer) begun x next)) (sym is) (record {
-          goes = goes_spare_changed now a new w layer.head.0 (Head (new_head layer.root 0 false)) (layer_owned n layer) _ updates keeps_new f.has.head_unknown first world (
+          goes = goes_spare_changed now a new w layer.head.0 (Head (new_head layer.root 0 false)) (layer_owned n layer) _ updates refl keeps_new f.has.head_unknown first world (
             b,
             locked_at_stays a new w w key way b (record { node = updates.others n (apart_spare b w layer.head.0 at f.has.head_unknown); spot = refl }) at,
             record {

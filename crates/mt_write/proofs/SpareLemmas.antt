@@ -41,12 +41,12 @@ pub spares_go : (now begun : ℕ) (a after : ArenaView) (w : World) (key : List 
 spares_go now begun a after w key way layer entries f world at =
     let one = f.root in
     let two = f.head in
-    let apart = two_apart now a f.between after w layer.root.0 layer.head.0 (Border (new_border f.number 0 false)) (Head (new_head layer.root 0 true)) [] (λ next. IsWorld a now w) one.vacant one.updates one.unknown one.keeps two.vacant two.updates two.unknown two.keeps world in
+    let apart = two_apart now a f.between after w layer.root.0 layer.head.0 (Border (new_border f.number 0 false)) (Head (new_head layer.root 0 true)) [] (λ next. IsWorld a now w) one.vacant one.updates one.retired one.unknown one.keeps two.vacant two.updates two.retired two.unknown two.keeps world in
     let kept = one.keeps.keeps now w.twins w.chart world.index in
     let not_root : way.node.0 ≢ layer.root.0 = λ e. vacant_border a layer.root.0 f.b one.vacant (ap (λ (m : ℕ). border_at a.nodes m) (sym e) ∙ at.named) in
     let not_head : way.node.0 ≢ layer.head.0 = λ e. vacant_border f.between layer.head.0 f.b two.vacant (ap (λ (m : ℕ). border_at f.between.nodes m) (sym e) ∙ (ap (option_and_then border_of) (one.updates.others way.node.0 not_root) ∙ at.named)) in
     goes_two now a f.between after w layer.root.0 layer.head.0 (Border (new_border f.number 0 false)) (Head (new_head layer.root 0 true)) (way.node.0 ∷ []) (λ next. (b : BorderView) × IsLockedAt after key way b next × IsToFill after next key way b layer entries)
-    one.vacant one.updates one.unknown one.keeps two.vacant two.updates two.unknown two.keeps world (
+    one.vacant one.updates one.retired one.unknown one.keeps two.vacant two.updates two.retired two.unknown two.keeps world (
       f.b,
       locked_at_stays a after w w key way f.b (record { node = two.updates.others way.node.0 not_head ∙ one.updates.others way.node.0 not_root; spot = refl }) at,
       record {

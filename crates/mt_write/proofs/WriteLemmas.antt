@@ -325,7 +325,7 @@ module _ (C : ℕ) (a : ArenaView) (log : LogView) (key : List ℕ) (sets : List
       may = λ get. absurd (let clash : false ≡ true = get in cc);
     })
     | inr gave ↦ (let o = gave.occupied in
-        let (goes, content) = goes_given_back now a gave.between after w gave.number gave.node (owned way.node.0 split) (λ next. StageIsTrue C key (PutEdit sets) way (Failed refusal split) begun after next) o.vacant o.updates o.unknown o.keeps gave.back gave.keeps world
+        let (goes, content) = goes_given_back now a gave.between after w gave.number gave.node (owned way.node.0 split) (λ next. StageIsTrue C key (PutEdit sets) way (Failed refusal split) begun after next) o.vacant o.updates o.retired o.unknown o.keeps gave.back gave.retired gave.keeps world
         (has_locked_back a gave.between after w way.node.0 split gave.number gave.node o.vacant o.updates gave.back has, may) in record {
           goes = goes;
           does = (record { content = content; trimmed = refl; deltas = refl }, refl);
@@ -349,7 +349,7 @@ module _ (C : ℕ) (a : ArenaView) (log : LogView) (key : List ℕ) (sets : List
         let now_is : border_at after.nodes half.0 ≡ Some (empty_half f.b f.cut_at.middle) = ap (option_and_then border_of) f.occupied.updates.changed in
         subst (λ (l : LogView). Stepped C now moves past a after log l w (PutRequest key sets) (stage_held way.node.0 Locked) Moved (stage_held way.node.0 (Spared half cut entries)) (λ m next. StageIsTrue C key (PutEdit sets) way (Spared half cut entries) begun after next)) (sym same_log)
         (record {
-          goes = goes_occupied now a after w half.0 (Border (empty_half f.b f.cut_at.middle)) (way.node.0 ∷ []) _ f.occupied.vacant f.occupied.updates f.occupied.unknown f.occupied.keeps world (
+          goes = goes_occupied now a after w half.0 (Border (empty_half f.b f.cut_at.middle)) (way.node.0 ∷ []) _ f.occupied.vacant f.occupied.updates f.occupied.retired f.occupied.unknown f.occupied.keeps world (
             f.b,
             locked_at_stays a after w w key way f.b (record { node = f.occupied.updates.others way.node.0 differ; spot = refl }) at,
             f.cut_at,

@@ -306,6 +306,7 @@ pub record FillsNew (C : ℕ) (key : List ℕ) (sets : List (ℕ × List ℕ)) (
 pub record Occupies (a after : ArenaView) (number : ℕ) (node : Node) : Type 0 where
   pub vacant : node_at a.nodes number ≡ None
   pub updates : Updates a.nodes after.nodes number (Some node)
+  pub retired : after.retired ≡ a.retired
   pub unknown : IsUnknown a number
   pub keeps : KeepsTree a after
 
@@ -316,6 +317,7 @@ pub record GaveBack (a after : ArenaView) : Type 0 where
   pub between : ArenaView
   pub occupied : Occupies a between number node
   pub back : Updates between.nodes after.nodes number None
+  pub retired : after.retired ≡ between.retired
   pub keeps : KeepsUnknown between after number
 
 abbrev pub IsBack : ArenaView → ArenaView → Type 0

@@ -24,12 +24,14 @@ returns-in-Ok-clause-ready c = λ C log.
         root = record {
           vacant = c.in_ok-root.ensures.vacant;
           updates = subst (λ (x : BorderView). Updates c.args.tree.now.nodes c.occupy.new.self.nodes c.in_ok-root.root.0 (Some (Border x))) c.new.ensures.value c.in_ok-root.ensures.updates;
+          retired = c.occupy.ensures.retired;
           unknown = c.in_ok-root.ensures.unknown;
           keeps = c.in_ok-root.ensures.keeps;
         };
         head = record {
           vacant = c.in-Ok.ensures.vacant;
           updates = subst (λ (x : HeadView). Updates c.occupy.new.self.nodes c.occupy-2.new.self.nodes c.in-Ok.head.0 (Some (Head x))) c.new_locked.ensures.value c.in-Ok.ensures.updates;
+          retired = c.occupy-2.ensures.retired;
           unknown = c.in-Ok.ensures.unknown;
           keeps = c.in-Ok.ensures.keeps;
         };

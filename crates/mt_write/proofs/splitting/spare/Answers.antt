@@ -29,6 +29,7 @@ returns-clause-ready c = λ C log.
           vacant = c.in_ok-half.ensures.vacant;
           updates = subst (λ (l : ℕ). Updates c.args.tree.now.nodes c.occupy.new.self.nodes c.in_ok-half.half.0 (Some (Border (new_border l c.entry.result.now.slice true)))) c.layer-layer.ensures.value
               (subst (λ (x : BorderView). Updates c.args.tree.now.nodes c.occupy.new.self.nodes c.in_ok-half.half.0 (Some (Border x))) c.new_locked.ensures.value c.in_ok-half.ensures.updates);
+          retired = c.occupy.ensures.retired;
           unknown = c.in_ok-half.ensures.unknown;
           keeps = c.in_ok-half.ensures.keeps;
         };

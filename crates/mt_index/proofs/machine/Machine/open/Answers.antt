@@ -2,14 +2,14 @@ use Rattle.std.proofs.Common.{refl, sym, subst, []}
 use Rattle.mt_slice.specs.Place.{place_of}
 use Rattle.mt_index.specs.Calls.{CallsView}
 use Rattle.mt_index.specs.Stands.{Stands}
-use Rattle.mt_index.proofs.EventStands.{opens-stands, new_keys, new_heads, new_untaken, seen}
+use Rattle.mt_index.proofs.EventStands.{opens-stands, new_keys, new_heads, new_twins, new_retired, new_untaken, seen}
 use Rattle.mt_index.proofs.machine.Machine.open.Goals as goal
 
 pub invariant_of-result : goal.invariant_of-result
 invariant_of-result c = (
   [],
   subst (λ (k : CallsView). Stands (seen c.args.options.columns 0 c.in_ok-open.field-0 c.open-2.result k) []) (sym c.new.ensures)
-      (opens-stands c.args.options.columns c.in_ok-open.field-0 c.open-2.result _ (record { index = c.in_ok-open.ensures.index c.in_ok-open.ensures.new; keys = new_keys c.in_ok-open.field-0 c.in_ok-open.ensures.empty; heads = new_heads c.in_ok-open.field-0 c.in_ok-open.ensures.new _ }) (new_untaken c.in_ok-open.field-0 c.in_ok-open.ensures.new _ _ (record { index = c.in_ok-open.ensures.index c.in_ok-open.ensures.new; keys = new_keys c.in_ok-open.field-0 c.in_ok-open.ensures.empty; heads = new_heads c.in_ok-open.field-0 c.in_ok-open.ensures.new _ })) (λ key row. c.in_ok-open.ensures.empty (place_of key) row) c.open-2.ensures.empty),
+      (opens-stands c.args.options.columns c.in_ok-open.field-0 c.open-2.result _ (record { index = c.in_ok-open.ensures.index c.in_ok-open.ensures.new; keys = new_keys c.in_ok-open.field-0 c.in_ok-open.ensures.empty; heads = new_heads c.in_ok-open.field-0 c.in_ok-open.ensures.new _; twins = new_twins c.in_ok-open.field-0 _; retired = new_retired c.in_ok-open.field-0 c.in_ok-open.ensures.new _ }) (new_untaken c.in_ok-open.field-0 c.in_ok-open.ensures.new _ _ (record { index = c.in_ok-open.ensures.index c.in_ok-open.ensures.new; keys = new_keys c.in_ok-open.field-0 c.in_ok-open.ensures.empty; heads = new_heads c.in_ok-open.field-0 c.in_ok-open.ensures.new _; twins = new_twins c.in_ok-open.field-0 _; retired = new_retired c.in_ok-open.field-0 c.in_ok-open.ensures.new _ })) (λ key row. c.in_ok-open.ensures.empty (place_of key) row) c.open-2.ensures.empty),
 )
 
 pub returns : goal.returns
@@ -18,6 +18,6 @@ returns c = record {
   opened = (
     refl,
     subst (λ (k : CallsView). Stands (seen c.args.options.columns 0 c.in_ok-open.field-0 c.open-2.result k) []) (sym c.new.ensures)
-        (opens-stands c.args.options.columns c.in_ok-open.field-0 c.open-2.result _ (record { index = c.in_ok-open.ensures.index c.in_ok-open.ensures.new; keys = new_keys c.in_ok-open.field-0 c.in_ok-open.ensures.empty; heads = new_heads c.in_ok-open.field-0 c.in_ok-open.ensures.new _ }) (new_untaken c.in_ok-open.field-0 c.in_ok-open.ensures.new _ _ (record { index = c.in_ok-open.ensures.index c.in_ok-open.ensures.new; keys = new_keys c.in_ok-open.field-0 c.in_ok-open.ensures.empty; heads = new_heads c.in_ok-open.field-0 c.in_ok-open.ensures.new _ })) (λ key row. c.in_ok-open.ensures.empty (place_of key) row) c.open-2.ensures.empty),
+        (opens-stands c.args.options.columns c.in_ok-open.field-0 c.open-2.result _ (record { index = c.in_ok-open.ensures.index c.in_ok-open.ensures.new; keys = new_keys c.in_ok-open.field-0 c.in_ok-open.ensures.empty; heads = new_heads c.in_ok-open.field-0 c.in_ok-open.ensures.new _; twins = new_twins c.in_ok-open.field-0 _; retired = new_retired c.in_ok-open.field-0 c.in_ok-open.ensures.new _ }) (new_untaken c.in_ok-open.field-0 c.in_ok-open.ensures.new _ _ (record { index = c.in_ok-open.ensures.index c.in_ok-open.ensures.new; keys = new_keys c.in_ok-open.field-0 c.in_ok-open.ensures.empty; heads = new_heads c.in_ok-open.field-0 c.in_ok-open.ensures.new _; twins = new_twins c.in_ok-open.field-0 _; retired = new_retired c.in_ok-open.field-0 c.in_ok-open.ensures.new _ })) (λ key row. c.in_ok-open.ensures.empty (place_of key) row) c.open-2.ensures.empty),
   );
 }

@@ -1,0 +1,4 @@
+pub mod StepLemmas
+pub mod WalkLemmas
+pub mod RootLemmas
+pub mod PostingLasts

@@ -1,0 +1,336 @@
+-- The steps of a posting that makes a new root: a number is spared and filled, and the head names it, or it is given back.
+use Rattle.std.proofs.Common.{ℕ, ◌≡◌, ◌≢◌, ◌<◌, ◌⊎◌, inl, inr, List, [], ◌∷◌, slice_get, Option, Some, None, IsSome, true, false, refl, sym, ap, subst, ◌∙◌, arith}
+use Rattle.std.specs.Prelude.{IsSomeAnd, All}
+use Rattle.std.specs.Option.{option_and_then}
+use Rattle.std.proofs.lemmas.List.Elements.{All-weaker, All-nil, All-cons}
+use Rattle.std.proofs.lemmas.List.Sorted.{IsNonDecreasingBy-push, IsNonDecreasingBy-short}
+use Rattle.mt_types.specs.declared.numbers.NodeNo.{NodeNo}
+use Rattle.mt_interior.specs.Head.{HeadView, with_root}
+use Rattle.mt_interior.specs.Interior.{InteriorView, IsInterior, with_children, with_lock}
+use Rattle.mt_interior.specs.declared.child.Child.{Child}
+use Rattle.mt_arena.specs.Node.{node_at, head_at, head_of, interior_at, interior_of, border_of, Updates}
+use Rattle.mt_arena.specs.Arena.{ArenaView, with_head_changed, with_interior_changed, without_node}
+use Rattle.mt_arena.specs.declared.retired.Retired.{Retired}
+use Rattle.mt_arena.specs.declared.node.Node.{Node}
+use Rattle.mt_arena.specs.declared.node.Node.TheVariants.{Head, Interior}
+use Rattle.mt_arena.proofs.NodeLemmas.{updates-with_node, updates-without, node-from_head, node-from_interior, node-from_border}
+use Rattle.mt_chart.specs.Tree.{first, later, Among, HeadNode, head}
+use Rattle.mt_chart.specs.Chart.{top, at_level, Standing, on, gone, Spot, spot, Chart, OnHead}
+use Rattle.mt_chart.specs.Steps.{SameContent}
+use Rattle.mt_chart.proofs.Basics.{same_number}
+use Rattle.mt_chart.proofs.Entries.{among_cases}
+use Rattle.mt_chart.proofs.HeldNodes.{evolves_same}
+use Rattle.mt_tree.specs.Seen.{arena_seen}
+use Rattle.mt_tree.specs.Keeping.{KeepsTree, KeepsUnknown, KeepsWhere, KeepsAlong, IsUnknown}
+use Rattle.mt_tree.specs.InteriorSteps.{IsNotGone}
+use Rattle.mt_tree.specs.HeadSteps.{IsRootOver, NamesRootAt}
+use Rattle.mt_tree.proofs.SeenLemmas.{changed-head, head-seen}
+use Rattle.mt_calls.specs.World.{World, IsWorld, HeadsAreAlive, IsGone, IsLocked, IsTaken, IsSame, Goes}
+use Rattle.mt_calls.proofs.BorderLemmas.{known_stays, no_interior}
+use Rattle.mt_calls.proofs.FoundLemmas.{some_at}
+use Rattle.mt_calls.proofs.SplitLemmas.{goes_occupied, with_spot, spot_changes}
+use Rattle.mt_post.specs.declared.posting.Posting.{Posting}
+use Rattle.mt_post.specs.declared.posting.Progressed.TheVariants.{Moved, Ended}
+use Rattle.mt_post.specs.declared.posting.Root.{Root}
+use Rattle.mt_post.specs.declared.posting.Stage.TheVariants.{Walks, RootWanted, RootSpared, RootFilled, RootLate}
+use Rattle.mt_post.specs.Posting.{IsToPost, IsHeadOf, IsSpareInterior, root_children, new_root, root_over, PostingIsTrue, ThenPosts, PostLaw, MayPost}
+use Rattle.mt_post.proofs.StepLemmas.{at_chart, goes_at, heads_beside, interior_now, interior_others, interior_no_head, interior_is_taken, head_is_taken, not_both}
+use Rattle.mt_post.proofs.WalkLemmas.{at_stage, true_at, known_some, from_head, left_out, goes_on, root_place, heads_were}
+
+-- a node's number says which it is
+pub same_node : (one other : NodeNo) → one.0 ≡ other.0 → one ≡ other
+same_node one other e = ap (λ (m : ℕ). record { 0 = m }) e
+
+-- the border that is to be posted stays so where its number does
+pub to_post_stays : (a after : ArenaView) (w next : World) (prefix : List ℕ) (number low : ℕ) → IsSame a after w next number → IsToPost a w prefix number low → IsToPost after next prefix number low
+to_post_stays a after w next prefix number low same t = record { b = t.b; named = ap (option_and_then border_of) same.node ∙ t.named; low_is = t.low_is; locked = t.locked; place = same.spot ∙ t.place }
+
+-- a spare stays one
+pub spare_stays : (a after : ArenaView) (w next : World) (number : ℕ) (i : InteriorView) → IsSame a after w next number → IsSpareInterior a w number i → IsSpareInterior after next number i
+spare_stays a after w next number i same s = record { named = ap (option_and_then interior_of) same.node ∙ s.named; unknown = same.spot ∙ s.unknown }
+
+-- a border of the tree is no spare
+apart_from : (a : ArenaView) (w : World) (prefix : List ℕ) (half low root : ℕ) → IsToPost a w prefix half low → w.chart root ≡ None → half ≢ root
+apart_from a w prefix half low root t unknown e = (let clash : ◌≡◌ {A = Option Spot} None (Some (spot (at_level 0) prefix low (on false))) = sym unknown ∙ (ap w.chart (sym e) ∙ t.place) in cc)
+
+-- nor is it a head
+apart_head : (a : ArenaView) (w : World) (number half : ℕ) {prefix : List ℕ} {low : ℕ} (h : HeadView) → IsToPost a w prefix half low → head_at a.nodes number ≡ Some h → half ≢ number
+apart_head a w number half h t named e = (let clash : ◌≡◌ {A = Option HeadView} None (Some h) = sym (ap (option_and_then head_of) (node-from_border a.nodes half t.b t.named)) ∙ (ap (λ (m : ℕ). head_at a.nodes m) e ∙ named) in cc)
+
+-- what names nothing is not taken
+vacant : (a : ArenaView) (w : World) (number : ℕ) → node_at a.nodes number ≡ None → IsTaken a w number → ⊥
+vacant a w number none (inl locked) = subst (λ (x : Option Node). IsLocked x) none locked
+vacant a w number none (inr spare) = (let clash : false ≡ true = subst (λ (x : Option Node). IsSome x) none spare.0 in cc)
+
+-- the head of the layer is there
+head_there : (a : ArenaView) (w : World) (begun number : ℕ) (prefix : List ℕ) (now : ℕ) → IsWorld a now w → IsHeadOf w begun number prefix → IsSome (head_at a.nodes number)
+head_there a w begun number prefix now world known = go known.standing known.place
+  where
+    some : (node : HeadNode) → arena_seen a number ≡ Some (head node) → IsSome (head_at a.nodes number)
+    some node seen = let (h, named, same) = head-seen a number node seen in subst (λ (x : Option HeadView). IsSome x) (sym named) refl
+
+    go : (standing : Standing) → w.chart number ≡ Some (spot top prefix 0 standing) → IsSome (head_at a.nodes number)
+    go (on posted) place = let u = world.index.tree.heads number prefix 0 posted place in some u.node u.is_node
+    go (gone epoch) place = let (u, is_node, marked) = world.index.tree.gone_heads number prefix 0 epoch place in some u is_node
+
+-- ---- a number is spared, or refused
+module _ (a : ArenaView) (posting : Posting) (old : Root) (is : posting.stage ≡ RootWanted old) where
+  pub spares : (root : NodeNo) (after : ArenaView) → node_at a.nodes root.0 ≡ None → Updates a.nodes after.nodes root.0 (Some (Interior new_root)) → after.retired ≡ a.retired → IsUnknown a root.0 → KeepsTree a after
+      → PostLaw a after posting Moved (record posting { stage = RootSpared old root })
+  spares root after vacant updates retired unknown keeps = at_stage a after posting (RootWanted old) Moved (record posting { stage = RootSpared old root }) is (record {
+    steps = λ now begun w prefix world before border known truth.
+        let out = unknown.unknown now w.twins w.chart world.index in
+        let differ = apart_from a w prefix posting.half.0 posting.low root.0 border out in (
+          goes_occupied now a after w root.0 (Interior new_root) (posting.half.0 ∷ []) _ vacant updates retired unknown keeps world (
+            prefix,
+            record {
+              border = to_post_stays a after w w prefix posting.half.0 posting.low (record { node = updates.others posting.half.0 differ; spot = refl }) border;
+              head = known;
+              stage = (truth, record { named = ap (option_and_then interior_of) updates.changed; unknown = out });
+            },
+          ),
+          (keeps.keeps now w.twins w.chart world.index).content,
+        );
+  })
+
+  pub refused : (after : ArenaView) → after ≡ a → PostLaw a after posting Ended posting
+  refused after same = subst (λ (x : ArenaView). PostLaw a x posting Ended posting) (sym same) (left_out a posting (RootWanted old) refl is)
+
+-- ---- it is filled
+-- a new root over two children is sound
+children_sound : (old : Root) (half : NodeNo) (low : ℕ) → old.level < 1 → IsInterior (with_children new_root (root_children old half low))
+children_sound old half low less = record {
+  least = omega arith;
+  most = omega arith;
+  low_fits = omega arith;
+  few = omega arith;
+  starts = refl;
+  rising = record { lows = IsNonDecreasingBy-push (λ (c : Child). c.low) (record { low = 0; node = old.node; level = old.level } ∷ []) (record { low = low; node = half; level = 0 }) (IsNonDecreasingBy-short (λ (c : Child). c.low) (record { low = 0; node = old.node; level = old.level } ∷ []) (omega arith)) (λ d some. omega arith) };
+  lower = record { each = All-cons (λ (c : Child). c.level < 1) (record { low = 0; node = old.node; level = old.level }) (record { low = low; node = half; level = 0 } ∷ []) less (All-cons (λ (c : Child). c.level < 1) (record { low = low; node = half; level = 0 }) [] (omega arith) (All-nil (λ (c : Child). c.level < 1))) };
+  inner = refl;
+  counters = record { vinsert_fits = omega arith; vsplit_fits = omega arith };
+}
+
+module _ (a : ArenaView) (posting : Posting) (old : Root) (root : NodeNo) (is : posting.stage ≡ RootSpared old root) where
+  abbrev children : List Child
+  children = root_children old posting.half posting.low
+
+  abbrev fill : InteriorView → InteriorView
+  fill i = with_children i children
+
+  abbrev unlock : InteriorView → InteriorView
+  unlock i = with_lock i false
+
+  -- what the calls ask
+  pub may_fill : (may : MayPost a posting) → IsSomeAnd (interior_at a.nodes root.0) (λ i. i.children ≡ []) × IsSomeAnd (interior_at a.nodes root.0) (λ i. IsInterior (with_children i children))
+  may_fill may =
+      let (less, spare) = true_at may.begun a may.w posting (RootSpared old root) is may.true in (
+        subst (λ (o : Option InteriorView). IsSomeAnd o (λ i. i.children ≡ [])) (sym spare.named) refl,
+        subst (λ (o : Option InteriorView). IsSomeAnd o (λ i. IsInterior (with_children i children))) (sym spare.named) (children_sound old posting.half posting.low less),
+      )
+
+  pub may_unlock : (may : MayPost a posting) (between : ArenaView) → between ≡ with_interior_changed a root.0 fill → IsSomeAnd (interior_at between.nodes root.0) (λ i. i.version.locked ≡ true)
+  may_unlock may between value =
+      let (less, spare) = true_at may.begun a may.w posting (RootSpared old root) is may.true in
+      let there : interior_at between.nodes root.0 ≡ Some (fill new_root) = ap (λ (x : ArenaView). interior_at x.nodes root.0) value ∙ interior_now a root.0 new_root fill spare.named in
+      subst (λ (o : Option InteriorView). IsSomeAnd o (λ i. i.version.locked ≡ true)) (sym there) refl
+
+  pub fills : (between after : ArenaView) → between ≡ with_interior_changed a root.0 fill → KeepsTree a between → after ≡ with_interior_changed between root.0 unlock
+      → IsSomeAnd (interior_at between.nodes root.0) (λ i. KeepsWhere between after (λ chart. IsNotGone chart root.0 ⊎ (i.version.deleted ≡ true)))
+      → PostLaw a after posting Moved (record posting { stage = RootFilled old root })
+  fills between after filled keeps unlocked keeps_again = at_stage a after posting (RootSpared old root) Moved (record posting { stage = RootFilled old root }) is (record {
+    steps = λ now begun w prefix world before border known truth.
+        let (less, spare) = truth in
+        let n : ℕ = root.0 in
+        let middle : ArenaView = with_interior_changed a n fill in
+        let new : ArenaView = with_interior_changed middle n unlock in
+        let there : interior_at middle.nodes n ≡ Some (fill new_root) = interior_now a n new_root fill spare.named in
+        let is_new : after ≡ new = unlocked ∙ ap (λ (x : ArenaView). with_interior_changed x n unlock) filled in
+        let kept = (subst (λ (x : ArenaView). KeepsTree a x) filled keeps).keeps now w.twins w.chart world.index in
+        let again = some_at _ (interior_at middle.nodes n) (fill new_root) (subst (λ (x : ArenaView). IsSomeAnd (interior_at x.nodes n) (λ i. KeepsWhere x after (λ chart. IsNotGone chart n ⊎ (i.version.deleted ≡ true)))) filled keeps_again) there in
+        let kept_again = (subst (λ (x : ArenaView). KeepsWhere middle x (λ chart. IsNotGone chart n ⊎ ((fill new_root).version.deleted ≡ true))) is_new again).keeps now w.twins w.chart kept.index
+        (inl (λ role p low epoch e. (let clash : ◌≡◌ {A = Option Spot} None (Some (spot role p low (gone epoch))) = sym spare.unknown ∙ e in cc))) in
+        let others : (other : ℕ) → other ≢ n → node_at new.nodes other ≡ node_at a.nodes other = λ other apart. interior_others middle n (fill new_root) unlock there other apart ∙ interior_others a n new_root fill spare.named other apart in
+        let differ = apart_from a w prefix posting.half.0 posting.low n border spare.unknown in
+        subst (λ (x : ArenaView). Goes now a x w (n ∷ posting.half.0 ∷ []) (n ∷ posting.half.0 ∷ []) (λ next. PostingIsTrue begun (record posting { stage = RootFilled old root }) x next) × SameContent (arena_seen a) (arena_seen x)) (sym is_new)
+        (goes_at now a new w w.chart n (n ∷ posting.half.0 ∷ []) (n ∷ posting.half.0 ∷ []) (λ next. PostingIsTrue begun (record posting { stage = RootFilled old root }) new next) world
+        (record { index = kept_again.index; content = λ key row. ((λ h. (kept.content key row).0 ((kept_again.content key row).0 h)), (λ h. (kept_again.content key row).1 ((kept.content key row).1 h))); evolves = λ b le. evolves_same b w.chart })
+        refl others (λ other apart. refl)
+        (heads_beside a new w.chart w.chart n (λ number p h. h) (interior_no_head middle n (fill new_root) unlock there) others world.heads)
+        (λ locked. (let known_root = locked.known in let clash : false ≡ true = subst (λ (x : Option Spot). IsSome x) spare.unknown known_root in cc))
+        (λ taken apart. apart first) (λ other k. k) (λ other k taken. k) (λ apart taken. apart first) (
+          prefix,
+          record {
+            border = to_post_stays a new w w prefix posting.half.0 posting.low (record { node = others posting.half.0 differ; spot = refl }) border;
+            head = known;
+            stage = (less, record { named = interior_now middle n (fill new_root) unlock there; unknown = spare.unknown });
+          },
+        ));
+  })
+
+-- ---- the head names it, or it comes too late
+module _ (a : ArenaView) (posting : Posting) (old : Root) (root : NodeNo) (is : posting.stage ≡ RootFilled old root) where
+  abbrev n : ℕ
+  n = posting.head.0
+
+  abbrev half : ℕ
+  half = posting.half.0
+
+  abbrev top_root : InteriorView
+  top_root = root_over old posting.half posting.low
+
+  abbrev posted_child : Child
+  posted_child = record { low = posting.low; node = posting.half; level = 0 }
+
+  -- the head is there
+  pub has_head : (may : MayPost a posting) → IsSome (head_at a.nodes n)
+  has_head may = head_there a may.w may.begun n may.true.0 may.now may.world may.true.1.head
+
+  pub too_late : PostLaw a a posting Moved (record posting { stage = RootLate root })
+  too_late = goes_on a posting (RootFilled old root) (RootLate root) refl is (λ now begun w prefix world border known truth. (top_root, truth.1))
+
+  module _ (h : HeadView) (named : head_at a.nodes n ≡ Some h) (alive : h.version.deleted ≡ false) (same_root : h.root ≡ old.node) (same_level : h.level ≡ old.level) where
+    -- what the call asks
+    pub may_name : (may : MayPost a posting) → IsSomeAnd (head_at a.nodes n) (λ head. IsSomeAnd (interior_at a.nodes root.0) (IsRootOver head))
+    may_name may =
+        let (less, spare) = true_at may.begun a may.w posting (RootFilled old root) is may.true in
+        subst (λ (o : Option HeadView). IsSomeAnd o (λ x. IsSomeAnd (interior_at a.nodes root.0) (IsRootOver x))) (sym named)
+        (subst (λ (o : Option InteriorView). IsSomeAnd o (IsRootOver h)) (sym spare.named) (record {
+          low = refl;
+          posted = posted_child;
+          is_border = refl;
+          children = ap (λ (r : NodeNo). record { low = 0; node = r; level = old.level } ∷ posted_child ∷ []) (sym same_root) ∙ ap (λ (l : ℕ). record { low = 0; node = h.root; level = l } ∷ posted_child ∷ []) (sym same_level);
+        }))
+
+    abbrev change : HeadView → HeadView
+    change x = with_root x root 1
+
+    abbrev new : ArenaView
+    new = with_head_changed a n change
+
+    head_updated : Updates a.nodes new.nodes n (Some (Head (change h)))
+    head_updated = subst (λ (x : ArenaView). Updates a.nodes x.nodes n (Some (Head (change h)))) (sym (changed-head a n h change named))
+        (updates-with_node a.nodes n (Head (change h)) (subst (λ (x : Option Node). IsSome x) (sym (node-from_head a.nodes n h named)) refl))
+
+    head_now : head_at new.nodes n ≡ Some (change h)
+    head_now = ap (option_and_then head_of) head_updated.changed
+
+    none_there : interior_at a.nodes n ≡ None
+    none_there = ap (option_and_then interior_of) (node-from_head a.nodes n h named)
+
+    named_so : (now begun : ℕ) (w : World) (prefix : List ℕ) → IsWorld a now w → IsToPost a w prefix half posting.low → IsHeadOf w begun n prefix → IsSpareInterior a w root.0 top_root → KeepsAlong a new (NamesRootAt a n root.0)
+        → Goes now a new w (root.0 ∷ half ∷ []) (half ∷ []) (ThenPosts Ended begun posting new) × SameContent (arena_seen a) (arena_seen new)
+    named_so now begun w prefix world border known spare keeps =
+        let (stands, is_root) = root_place a w.chart begun n posting.low prefix h world.index.tree ((from_head begun prefix posting.low n w known).held) named alive in
+        let half_place : Spot = spot (at_level 0) prefix posting.low (on true) in
+        let root_at : Spot = spot (at_level 1) prefix 0 (on true) in
+        let between : Chart = with_spot w.chart half half_place in
+        let chart : Chart = with_spot between root.0 root_at in
+        let half_charted = spot_changes w.chart half half_place in
+        let root_charted = spot_changes between root.0 root_at in
+        let differ = apart_from a w prefix half posting.low root.0 border spare.unknown in
+        let beside = apart_head a w n half h border named in
+        let is_known = known_some w n _ stands in
+        let kept = keeps.keeps now w.twins w.chart chart world.index (record {
+          root = top_root;
+          posted = posted_child;
+          is_root = spare.named;
+          is_posted = ap (option_and_then (λ i. slice_get i.children 1)) spare.named;
+          prefix = prefix;
+          stands = stands;
+          unnamed = border.place;
+          unknown = spare.unknown;
+          between = between;
+          posted_charted = half_charted;
+          root_charted = root_charted;
+          no_twin = (
+            (λ other pair. no_interior a w.chart n none_there (world.twins.locked other n pair).1),
+            (λ other pair. no_interior a w.chart n none_there (world.twins.locked n other pair).0),
+          );
+        }) in
+        let free = (world.heads.alive n prefix h stands named).1 in
+        goes_at now a new w chart n (root.0 ∷ half ∷ []) (half ∷ []) _ world kept refl head_updated.others
+        (λ other apart. root_charted.rest other (λ e. apart (subst (λ (m : ℕ). Among m (root.0 ∷ half ∷ [])) (sym e) first)) ∙ half_charted.rest other (λ e. apart (subst (λ (m : ℕ). Among m (root.0 ∷ half ∷ [])) (sym e) (later first))))
+        (heads_named w.chart chart (λ number layer place. heads_were w.chart between half 0 posting.low prefix (on true) half_charted number layer (heads_were between chart root.0 1 0 prefix (on true) root_charted number layer place)) world.heads)
+        (no_interior a w.chart n none_there)
+        (λ taken apart. not_both h.version.locked (w.chart n) free is_known (head_is_taken a n h w named taken))
+        (λ other k. later k)
+        (λ other k taken. elim (among_cases other root.0 (half ∷ []) k) [
+          | inl e ↦ absurd (not_both (top_root.version.locked) (chart root.0) refl (known_some (at_chart w chart) root.0 root_at root_charted.now)
+              (interior_is_taken new root.0 top_root (at_chart w chart) (root_named w spare) (subst (λ (m : ℕ). IsTaken new (at_chart w chart) m) e taken)))
+          | inr i ↦ i
+        ])
+        (λ apart taken. not_both h.version.locked (chart n) free (known_stays w.chart chart n (kept.evolves 0 (omega arith)) is_known) (head_is_taken new n (change h) (at_chart w chart) head_now taken))
+        (record {
+          b = border.b;
+          named = ap (option_and_then border_of) (head_updated.others half beside) ∙ border.named;
+          known = known_some (at_chart w chart) half half_place (root_charted.rest half differ ∙ half_charted.now);
+          locked = border.locked;
+        })
+      where
+        root_named : (w : World) → IsSpareInterior a w root.0 top_root → interior_at new.nodes root.0 ≡ Some top_root
+        root_named w spare = ap (option_and_then interior_of) (head_updated.others root.0 apart) ∙ spare.named
+          where
+            apart : root.0 ≢ n
+            apart e = (let clash : ◌≡◌ {A = Option InteriorView} None (Some top_root) = sym none_there ∙ (ap (λ (m : ℕ). interior_at a.nodes m) (sym e) ∙ spare.named) in cc)
+
+        heads_named : (chart next : Chart) → ((number : ℕ) (layer : List ℕ) → OnHead next number layer → OnHead chart number layer) → HeadsAreAlive a chart → HeadsAreAlive new next
+        heads_named chart next were heads = record {
+          alive = λ number layer x place there. elim (same_number number n) [
+            | inl e ↦ (let both : ◌≡◌ {A = Option HeadView} (Some (change h)) (Some x) = sym head_now ∙ (ap (λ (m : ℕ). head_at new.nodes m) (sym e) ∙ there) in
+                let same : change h ≡ x = cc in
+                let old_head = heads.alive n layer h (subst (λ (m : ℕ). OnHead chart m layer) e (were number layer place)) named in
+                (ap (λ (v : HeadView). v.version.deleted) (sym same) ∙ old_head.0, ap (λ (v : HeadView). v.version.locked) (sym same) ∙ old_head.1))
+            | inr apart ↦ heads.alive number layer x (were number layer place) (sym (ap (option_and_then head_of) (head_updated.others number apart)) ∙ there)
+          ];
+        }
+
+    pub names : (after : ArenaView) → IsSomeAnd (interior_at a.nodes root.0) (λ i. after ≡ with_head_changed a n (λ x. with_root x root i.level)) → KeepsAlong a after (NamesRootAt a n root.0) → PostLaw a after posting Ended posting
+    names after value keeps = at_stage a after posting (RootFilled old root) Ended posting is (record {
+      steps = λ now begun w prefix world before border known truth.
+          let same : after ≡ new = some_at _ (interior_at a.nodes root.0) top_root value truth.1.named in
+          subst (λ (x : ArenaView). Goes now a x w (root.0 ∷ half ∷ []) (half ∷ []) (ThenPosts Ended begun posting x) × SameContent (arena_seen a) (arena_seen x)) (sym same)
+          (named_so now begun w prefix world border known truth.1 (subst (λ (x : ArenaView). KeepsAlong a x (NamesRootAt a n root.0)) same keeps));
+    })
+
+-- ---- the number is given back
+module _ (a : ArenaView) (posting : Posting) (root : NodeNo) (is : posting.stage ≡ RootLate root) where
+  is_named : (w : World) (i : InteriorView) → IsSpareInterior a w root.0 i → IsSome (node_at a.nodes root.0)
+  is_named w i spare = subst (λ (x : Option Node). IsSome x) (sym (node-from_interior a.nodes root.0 i spare.named)) refl
+
+  -- what the call asks
+  pub may_give : (may : MayPost a posting) → IsSome (node_at a.nodes root.0) × All (λ retired. retired.node.0 ≢ root.0) a.retired
+  may_give may =
+      let (i, spare) = true_at may.begun a may.w posting (RootLate root) is may.true in (
+        is_named may.w i spare,
+        All-weaker (λ (r : Retired). IsGone may.w.chart r.node.0) (λ (r : Retired). r.node.0 ≢ root.0)
+            (λ r g e. (let clash : ◌≡◌ {A = Option Spot} None (Some (spot g.role g.prefix g.low (gone g.epoch))) = sym spare.unknown ∙ (ap may.w.chart (sym e) ∙ g.place) in cc)) a.retired may.world.retired.each,
+      )
+
+  pub gives_back : (after : ArenaView) → after ≡ without_node a root.0 → KeepsUnknown a after root.0 → PostLaw a after posting Moved (record posting { stage = Walks posting.head })
+  gives_back after value keeps = at_stage a after posting (RootLate root) Moved (record posting { stage = Walks posting.head }) is (record {
+    steps = λ now begun w prefix world before border known truth.
+        let (i, spare) = truth in
+        let n : ℕ = root.0 in
+        let new : ArenaView = without_node a n in
+        let updates : Updates a.nodes new.nodes n None = updates-without a.nodes n (is_named w i spare) in
+        let kept = (subst (λ (x : ArenaView). KeepsUnknown a x n) value keeps).keeps now w.twins w.chart world.index spare.unknown in
+        let differ = apart_from a w prefix posting.half.0 posting.low n border spare.unknown in
+        subst (λ (x : ArenaView). Goes now a x w (n ∷ posting.half.0 ∷ []) (posting.half.0 ∷ []) (λ next. PostingIsTrue begun (record posting { stage = Walks posting.head }) x next) × SameContent (arena_seen a) (arena_seen x)) (sym value)
+        (goes_at now a new w w.chart n (n ∷ posting.half.0 ∷ []) (posting.half.0 ∷ []) (λ next. PostingIsTrue begun (record posting { stage = Walks posting.head }) new next) world kept refl updates.others (λ other apart. refl)
+        (heads_beside a new w.chart w.chart n (λ number p h. h) (ap (option_and_then head_of) updates.changed) updates.others world.heads)
+        (λ locked. (let known_root = locked.known in let clash : false ≡ true = subst (λ (x : Option Spot). IsSome x) spare.unknown known_root in cc))
+        (λ taken apart. apart first) (λ other k. later k)
+        (λ other k taken. elim (among_cases other n (posting.half.0 ∷ []) k) [
+          | inl e ↦ absurd (vacant new w n updates.changed (subst (λ (m : ℕ). IsTaken new w m) e taken))
+          | inr j ↦ j
+        ])
+        (λ apart taken. apart first) (
+          prefix,
+          record {
+            border = to_post_stays a new w w prefix posting.half.0 posting.low (record { node = updates.others posting.half.0 differ; spot = refl }) border;
+            head = known;
+            stage = from_head begun prefix posting.low posting.head.0 w known;
+          },
+        ));
+  })

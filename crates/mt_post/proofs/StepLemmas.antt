@@ -1,0 +1,122 @@
+-- What a step of a posting leaves that changes one node.
+use Rattle.std.proofs.Common.{ℕ, ◌≡◌, ◌≢◌, ◌⊎◌, inl, inr, List, Option, Some, None, IsSome, true, false, refl, sym, ap, subst, ◌∙◌, arith}
+use Rattle.std.specs.Option.{option_and_then}
+use Rattle.mt_border.specs.Border.{BorderView}
+use Rattle.mt_interior.specs.Head.{HeadView}
+use Rattle.mt_interior.specs.Interior.{InteriorView}
+use Rattle.mt_arena.specs.Node.{node_at, head_at, head_of, interior_at, interior_of, border_at, border_of, Updates}
+use Rattle.mt_arena.specs.Arena.{ArenaView, with_interior_changed}
+use Rattle.mt_arena.specs.declared.retired.Retired.{Retired}
+use Rattle.mt_arena.specs.declared.node.Node.{Node}
+use Rattle.mt_arena.specs.declared.node.Node.TheVariants.{Interior}
+use Rattle.mt_arena.proofs.NodeLemmas.{updates-with_node, node-from_head, node-from_interior}
+use Rattle.mt_chart.specs.Tree.{Among}
+use Rattle.mt_chart.specs.Chart.{Chart, Spot, OnHead}
+use Rattle.mt_chart.specs.Steps.{Keeps, SameContent}
+use Rattle.mt_chart.proofs.Basics.{same_number}
+use Rattle.mt_tree.specs.Seen.{arena_seen}
+use Rattle.mt_tree.proofs.SeenLemmas.{changed-interior}
+use Rattle.mt_calls.specs.World.{World, IsWorld, HeadsAreAlive, IsLockedInterior, RetiredAreGone, IsLocked, IsTaken, NotAmong, Goes}
+use Rattle.mt_calls.proofs.FrameLemmas.{is_among, taken_back}
+use Rattle.mt_calls.proofs.BorderLemmas.{keys_same, twins_beside, retired_kept}
+
+-- the same twins, at another chart
+abbrev pub at_chart : World → Chart → World
+at_chart w chart = record { twins = w.twins; chart = chart }
+
+-- The node of one number changes, which no other call has taken, and the places of own numbers.
+pub goes_at : (now : ℕ) (a after : ArenaView) (w : World) (chart : Chart) (n : ℕ) (owned owns : List ℕ) (Then : World → Type 0)
+    → IsWorld a now w → Keeps now w.twins (arena_seen a) (arena_seen after) w.chart chart → after.retired ≡ a.retired
+    → ((other : ℕ) → other ≢ n → node_at after.nodes other ≡ node_at a.nodes other)
+    → ((other : ℕ) → NotAmong other owned → chart other ≡ w.chart other)
+    → HeadsAreAlive after chart
+    → (IsLockedInterior a w.chart n → ⊥)
+    → (IsTaken a w n → NotAmong n owned → ⊥)
+    → ((other : ℕ) → Among other owns → Among other owned)
+    → ((other : ℕ) → Among other owned → IsTaken after (at_chart w chart) other → Among other owns)
+    → (NotAmong n owned → IsTaken after (at_chart w chart) n → ⊥)
+    → Then (at_chart w chart)
+    → Goes now a after w owned owns Then × SameContent (arena_seen a) (arena_seen after)
+goes_at now a after w chart n owned owns Then world kept retired others spots heads free nobody fewer stays not_taken truth = (
+  record {
+    next = at_chart w chart;
+    world = record {
+      index = kept.index;
+      keys = keys_same a after kept.content world.keys;
+      heads = heads;
+      twins = twins_beside a after w.chart chart w.twins n (kept.evolves 0 (omega arith)) free others world.twins;
+      retired = subst (λ (r : List Retired). RetiredAreGone r chart) (sym retired) (retired_kept a.retired w.chart chart (kept.evolves 0 (omega arith)) world.retired);
+    };
+    evolves = kept.evolves;
+    leaves = λ other taken apart. (
+      record {
+        node = others other (λ e. nobody (subst (λ (m : ℕ). IsTaken a w m) e taken) (λ i. apart (subst (λ (m : ℕ). Among m owned) (sym e) i)));
+        spot = spots other apart;
+      },
+      λ i. apart (fewer other i),
+    );
+    takes = λ other taken. elim (is_among other owned) [
+      | inl i ↦ inl (stays other i taken)
+      | inr out ↦ elim (same_number other n) [
+        | inl e ↦ absurd (not_taken (λ i. out (subst (λ (m : ℕ). Among m owned) (sym e) i)) (subst (λ (m : ℕ). IsTaken after (at_chart w chart) m) e taken))
+        | inr differ ↦ inr (taken_back a after w (at_chart w chart) other (record { node = others other differ; spot = spots other out }) taken, out)
+      ]
+    ];
+    true = truth;
+  },
+  kept.content,
+)
+
+-- ---- heads are as they were, where one number that is no head changes
+pub heads_beside : (a after : ArenaView) (chart next : Chart) (n : ℕ) → ((number : ℕ) (prefix : List ℕ) → OnHead next number prefix → OnHead chart number prefix)
+    → head_at after.nodes n ≡ None → ((other : ℕ) → other ≢ n → node_at after.nodes other ≡ node_at a.nodes other) → HeadsAreAlive a chart → HeadsAreAlive after next
+heads_beside a after chart next n were none others heads = record {
+  alive = λ number prefix head place is. elim (same_number number n) [
+    | inl e ↦ absurd (let clash : ◌≡◌ {A = Option HeadView} None (Some head) = sym none ∙ (ap (λ (m : ℕ). head_at after.nodes m) (sym e) ∙ is) in cc)
+    | inr differ ↦ heads.alive number prefix head (were number prefix place) (sym (ap (option_and_then head_of) (others number differ)) ∙ is)
+  ];
+}
+
+-- ---- an interior is changed
+module _ (a : ArenaView) (n : ℕ) (i : InteriorView) (change : InteriorView → InteriorView) (named : interior_at a.nodes n ≡ Some i) where
+  abbrev changed : ArenaView
+  changed = with_interior_changed a n change
+
+  interior_updated : Updates a.nodes changed.nodes n (Some (Interior (change i)))
+  interior_updated = subst (λ (x : ArenaView). Updates a.nodes x.nodes n (Some (Interior (change i)))) (sym (changed-interior a n i change named))
+      (updates-with_node a.nodes n (Interior (change i)) (subst (λ (x : Option Node). IsSome x) (sym (node-from_interior a.nodes n i named)) refl))
+
+  pub interior_now : interior_at changed.nodes n ≡ Some (change i)
+  interior_now = ap (option_and_then interior_of) interior_updated.changed
+
+  pub interior_others : (other : ℕ) → other ≢ n → node_at changed.nodes other ≡ node_at a.nodes other
+  interior_others = interior_updated.others
+
+  pub interior_no_head : head_at changed.nodes n ≡ None
+  interior_no_head = ap (option_and_then head_of) interior_updated.changed
+
+  -- a border is named as it was
+  pub interior_border : (other : ℕ) (b : BorderView) → border_at a.nodes other ≡ Some b → border_at changed.nodes other ≡ Some b
+  interior_border other b is = ap (option_and_then border_of) (interior_others other apart) ∙ is
+    where
+      apart : other ≢ n
+      apart e = (let clash : ◌≡◌ {A = Option BorderView} None (Some b) = sym (ap (option_and_then border_of) (node-from_interior a.nodes n i named)) ∙ (ap (λ (m : ℕ). border_at a.nodes m) (sym e) ∙ is) in cc)
+
+  -- the interior is taken where it is locked, or the chart doesn't know it
+  pub interior_taken : (w : World) → IsTaken changed w n → ((change i).version.locked ≡ true) ⊎ (w.chart n ≡ None)
+  interior_taken w (inl locked) = inl (subst (λ (x : Option Node). IsLocked x) interior_updated.changed locked)
+  interior_taken w (inr spare) = inr spare.1
+
+-- an interior is taken where it is locked, or the chart doesn't know it
+pub interior_is_taken : (a : ArenaView) (n : ℕ) (i : InteriorView) (w : World) → interior_at a.nodes n ≡ Some i → IsTaken a w n → (i.version.locked ≡ true) ⊎ (w.chart n ≡ None)
+interior_is_taken a n i w named (inl locked) = inl (subst (λ (x : Option Node). IsLocked x) (node-from_interior a.nodes n i named) locked)
+interior_is_taken a n i w named (inr spare) = inr spare.1
+
+pub head_is_taken : (a : ArenaView) (n : ℕ) (h : HeadView) (w : World) → head_at a.nodes n ≡ Some h → IsTaken a w n → (h.version.locked ≡ true) ⊎ (w.chart n ≡ None)
+head_is_taken a n h w named (inl locked) = inl (subst (λ (x : Option Node). IsLocked x) (node-from_head a.nodes n h named) locked)
+head_is_taken a n h w named (inr spare) = inr spare.1
+
+-- what is unlocked and known is not taken
+pub not_both : (locked : _) (place : Option Spot) → locked ≡ false → IsSome place → (locked ≡ true) ⊎ (place ≡ None) → ⊥
+not_both locked place free known (inl e) = (let clash : false ≡ true = sym free ∙ e in cc)
+not_both locked place free known (inr e) = (let clash : false ≡ true = subst (λ (x : Option Spot). IsSome x) e known in cc)

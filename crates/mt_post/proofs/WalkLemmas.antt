@@ -1,0 +1,249 @@
+-- The steps of a posting on its way: at a head, and at an interior, which comes to name the border.
+use Rattle.std.proofs.Common.{ℕ, zero, suc, ◌≡◌, ◌≤◌, ◌<◌, ◌⊎◌, inl, inr, List, [], ◌∷◌, length, slice_get, Option, Some, IsSome, true, false, refl, sym, ap, subst, ◌∙◌, arith}
+use Rattle.std.specs.Prelude.{IsSomeAnd}
+use Rattle.std.specs.Option.{option_map}
+use Rattle.mt_types.specs.declared.numbers.NodeNo.{NodeNo}
+use Rattle.mt_border.specs.Border.{BorderView}
+use Rattle.mt_interior.specs.Head.{HeadView}
+use Rattle.mt_interior.specs.Interior.{InteriorView, with_child}
+use Rattle.mt_interior.specs.declared.child.Child.{Child}
+use Rattle.mt_interior.specs.declared.interior.TheConstants.{MAX_CHILDREN}
+use Rattle.mt_arena.specs.Node.{node_at, head_at, interior_at, border_at}
+use Rattle.mt_arena.specs.Arena.{ArenaView, with_interior_changed}
+use Rattle.mt_arena.specs.declared.node.Node.TheVariants.{Border}
+use Rattle.mt_chart.specs.Tree.{head, border as plain_border, first, Among}
+use Rattle.mt_chart.specs.Chart.{Role, top, at_level, Standing, on, gone, Spot, spot, Chart, Holds, IsTree, OnHead, AreChildren, Changes}
+use Rattle.mt_chart.specs.Steps.{SameContent}
+use Rattle.mt_chart.proofs.TreeLemmas.{children_held, free_interiors_on}
+use Rattle.mt_chart.proofs.Basics.{same_number}
+use Rattle.mt_tree.specs.Seen.{arena_seen, head_seen, interior_seen, border_seen, child_seen, children_seen}
+use Rattle.mt_tree.specs.Descent.{MayVisit}
+use Rattle.mt_tree.specs.Keeping.{KeepsAlong}
+use Rattle.mt_tree.specs.InteriorSteps.{PostsAt, IsInLayer, HasRoomFrom}
+use Rattle.mt_tree.proofs.SeenLemmas.{seen-head, seen-interior}
+use Rattle.mt_tree.proofs.HeldLemmas.{held_may_visit}
+use Rattle.mt_tree.proofs.InteriorPlaces.{stands_as}
+use Rattle.mt_tree.proofs.ChildLists.{among_read}
+use Rattle.mt_calls.specs.World.{World, IsWorld, Goes}
+use Rattle.mt_calls.proofs.FrameLemmas.{goes_same}
+use Rattle.mt_calls.proofs.BorderLemmas.{known_stays}
+use Rattle.mt_calls.proofs.FoundLemmas.{some_at}
+use Rattle.mt_calls.proofs.SplitLemmas.{with_spot, spot_changes}
+use Rattle.mt_post.specs.declared.posting.Posting.{Posting}
+use Rattle.mt_post.specs.declared.posting.Progressed.{Progressed}
+use Rattle.mt_post.specs.declared.posting.Progressed.TheVariants.{Moved, Waits, Ended}
+use Rattle.mt_post.specs.declared.posting.Root.{Root}
+use Rattle.mt_post.specs.declared.posting.Stage.{Stage}
+use Rattle.mt_post.specs.declared.posting.Stage.TheVariants.{Walks, RootWanted}
+use Rattle.mt_post.specs.Posting.{stage_owns, owned_after, IsToPost, IsHeadOf, IsFrom, IsWalking, StageIsTrue, PostingIsTrue, IsLockedBorder, ThenPosts, PostLaw, NewPostingIsTrue, MayPost}
+use Rattle.mt_post.proofs.StepLemmas.{at_chart, goes_at, heads_beside, interior_others, interior_no_head, interior_border, interior_taken, interior_is_taken, not_both}
+
+-- ---- the law of a step, of a posting that is at a stage
+pub record StageLaw (a after : ArenaView) (posting : Posting) (stage : Stage) (p : Progressed) (then : Posting) : Type 0 where
+  pub steps : (now begun : ℕ) (w : World) (prefix : List ℕ) → IsWorld a now w → begun ≤ now → IsToPost a w prefix posting.half.0 posting.low → IsHeadOf w begun posting.head.0 prefix
+      → StageIsTrue begun prefix posting.half posting.low stage a w
+      → Goes now a after w (stage_owns posting.half.0 stage) (owned_after p then) (ThenPosts p begun then after) × SameContent (arena_seen a) (arena_seen after)
+
+pub at_stage : (a after : ArenaView) (posting : Posting) (stage : Stage) (p : Progressed) (then : Posting) → posting.stage ≡ stage → StageLaw a after posting stage p then → PostLaw a after posting p then
+at_stage a after posting stage p then is law = record {
+  steps = λ now begun w world before truth.
+      let (prefix, t) = truth in
+      subst (λ (s : Stage). Goes now a after w (stage_owns posting.half.0 s) (owned_after p then) (ThenPosts p begun then after) × SameContent (arena_seen a) (arena_seen after)) (sym is)
+      (law.steps now begun w prefix world before t.border t.head (subst (λ (s : Stage). StageIsTrue begun prefix posting.half posting.low s a w) is t.stage));
+}
+
+-- what is true of the stage where it is
+pub true_at : (begun : ℕ) (a : ArenaView) (w : World) (posting : Posting) (stage : Stage) → posting.stage ≡ stage → (truth : PostingIsTrue begun posting a w) → StageIsTrue begun truth.0 posting.half posting.low stage a w
+true_at begun a w posting stage is truth = subst (λ (s : Stage). StageIsTrue begun truth.0 posting.half posting.low s a w) is truth.1.stage
+
+pub known_some : (w : World) (number : ℕ) (place : Spot) → w.chart number ≡ Some place → IsSome (w.chart number)
+known_some w number place is = subst (λ (x : Option Spot). IsSome x) (sym is) refl
+
+-- the border that was to be posted is locked
+pub still_locked : (a : ArenaView) (w : World) (prefix : List ℕ) (number low : ℕ) → IsToPost a w prefix number low → IsLockedBorder a w number
+still_locked a w prefix number low t = record { b = t.b; named = t.named; known = known_some w number _ t.place; locked = t.locked }
+
+-- from the head it begins its way
+pub from_head : (begun : ℕ) (prefix : List ℕ) (low number : ℕ) (w : World) → IsHeadOf w begun number prefix → IsWalking begun prefix low number w
+from_head begun prefix low number w known = record {
+  held = record { role = top; low = 0; standing = known.standing; place = known.place; at_most = omega arith; since = known.since };
+  inner = tt;
+}
+
+pub new_is_true : (posting : Posting) → posting.stage ≡ Walks posting.head → NewPostingIsTrue posting
+new_is_true posting is = record {
+  begins = λ a w begun prefix border known. (
+    (prefix, record { border = border; head = known; stage = subst (λ (s : Stage). StageIsTrue begun prefix posting.half posting.low s a w) (sym is) (from_head begun prefix posting.low posting.head.0 w known) }),
+    ap (stage_owns posting.half.0) is,
+  );
+}
+
+-- what is a node of a layer's tree is no head
+no_top : {level low other_low : ℕ} {prefix other : List ℕ} {standing stands : Standing} → ◌≡◌ {A = Option Spot} (Some (spot (at_level level) prefix low standing)) (Some (spot top other other_low stands)) → ⊥
+no_top e = cc
+
+-- where another number than a head's is charted, the heads were on
+pub heads_were : (chart next : Chart) (at level low : ℕ) (prefix : List ℕ) (standing : Standing) → Changes chart next at (Some (spot (at_level level) prefix low standing)) → (number : ℕ) (layer : List ℕ) → OnHead next number layer → OnHead chart number layer
+heads_were chart next at level low prefix standing changes number layer place = elim (same_number number at) [
+  | inl e ↦ absurd (no_top (sym changes.now ∙ (ap next (sym e) ∙ place)))
+  | inr differ ↦ sym (changes.rest number differ) ∙ place
+]
+
+-- ---- steps that change nothing
+module _ (a : ArenaView) (posting : Posting) where
+  same_content : SameContent (arena_seen a) (arena_seen a)
+  same_content key row = ((λ h. h), (λ h. h))
+
+  -- the border is left out
+  pub left_out : (stage : Stage) → stage_owns posting.half.0 stage ≡ posting.half.0 ∷ [] → posting.stage ≡ stage → PostLaw a a posting Ended posting
+  left_out stage owns is = at_stage a a posting stage Ended posting is (record {
+    steps = λ now begun w prefix world before border known truth. (goes_same now a w _ (stage_owns posting.half.0 stage) (posting.half.0 ∷ []) owns world (still_locked a w prefix posting.half.0 posting.low border), same_content);
+  })
+
+  module _ (stage next : Stage) (owns : stage_owns posting.half.0 stage ≡ stage_owns posting.half.0 next) (is : posting.stage ≡ stage) where
+    abbrev ThenStage : Type 0
+    ThenStage = (now begun : ℕ) (w : World) (prefix : List ℕ) → IsWorld a now w → IsToPost a w prefix posting.half.0 posting.low → IsHeadOf w begun posting.head.0 prefix
+        → StageIsTrue begun prefix posting.half posting.low stage a w → StageIsTrue begun prefix posting.half posting.low next a w
+
+    pub goes_on : ThenStage → PostLaw a a posting Moved (record posting { stage = next })
+    goes_on then = at_stage a a posting stage Moved (record posting { stage = next }) is (record {
+      steps = λ now begun w prefix world before border known truth.
+          (goes_same now a w _ (stage_owns posting.half.0 stage) (stage_owns posting.half.0 next) owns world (prefix, record { border = border; head = known; stage = then now begun w prefix world border known truth }), same_content);
+    })
+
+    pub waits_on : ThenStage → PostLaw a a posting Waits (record posting { stage = next })
+    waits_on then = at_stage a a posting stage Waits (record posting { stage = next }) is (record {
+      steps = λ now begun w prefix world before border known truth.
+          (goes_same now a w _ (stage_owns posting.half.0 stage) (stage_owns posting.half.0 next) owns world (prefix, record { border = border; head = known; stage = then now begun w prefix world border known truth }), same_content);
+    })
+
+-- ---- at a head
+-- the root of a head that is not marked deleted
+pub root_place : (a : ArenaView) (chart : Chart) (begun node low : ℕ) (prefix : List ℕ) (h : HeadView) → IsTree (arena_seen a) chart → Holds chart begun node prefix low → head_at a.nodes node ≡ Some h → h.version.deleted ≡ false
+    → OnHead chart node prefix × (chart h.root.0 ≡ Some (spot (at_level h.level) prefix 0 (on true)))
+root_place a chart begun node low prefix h tree held named alive = go held.role held.standing held.place
+  where
+    there : arena_seen a node ≡ Some (head (head_seen h))
+    there = seen-head a node h named
+
+    go : (role : Role) (standing : Standing) → chart node ≡ Some (spot role prefix held.low standing) → OnHead chart node prefix × (chart h.root.0 ≡ Some (spot (at_level h.level) prefix 0 (on true)))
+    go top (on posted) place =
+        let u = tree.heads node prefix held.low posted place in
+        let is_node = u.is_node in
+        let at_node = there in
+        let same : u.node ≡ head_seen h = cc in
+        (place ∙ (ap (λ (l : ℕ). Some (spot top prefix l (on posted))) u.low ∙ ap (λ b. Some (spot top prefix 0 (on b))) u.posted), rw same at u.root)
+    go top (gone epoch) place =
+        let (u, is_node, marked) = tree.gone_heads node prefix held.low epoch place in
+        let at_node = there in
+        absurd (let same : u ≡ head_seen h = cc in let clash : u.deleted ≡ false = ap (λ x. x.deleted) same ∙ alive in cc)
+    go (at_level zero) (on posted) place = absurd (let at_node = there in let (u, is_node, l) = tree.borders node prefix held.low posted place in cc)
+    go (at_level zero) (gone epoch) place = absurd (let at_node = there in let (u, is_node, marked) = tree.gone_borders node prefix held.low epoch place in cc)
+    go (at_level (suc below)) standing place = absurd (let at_node = there in let is_node = (tree.interiors node below prefix held.low standing place).is_node in cc)
+
+module _ (a : ArenaView) (posting : Posting) (node : NodeNo) (is : posting.stage ≡ Walks node) where
+  pub head_leads : (h : HeadView) (root : NodeNo) (level : ℕ) → head_at a.nodes node.0 ≡ Some h → h.version.deleted ≡ false → root ≡ h.root → level ≡ h.level → 1 ≤ level → PostLaw a a posting Moved (record posting { stage = Walks root })
+  head_leads h root level named alive same same_level from = goes_on a posting (Walks node) (Walks root) refl is (λ now begun w prefix world border known truth.
+      let (stands, is_root) = root_place a w.chart begun node.0 posting.low prefix h world.index.tree truth.held named alive in
+      record {
+        held = record { role = at_level h.level; low = 0; standing = on true; place = ap (λ (r : NodeNo). w.chart r.0) same ∙ is_root; at_most = omega arith; since = λ epoch e. absurd (let clash : on true ≡ gone epoch = e in cc) };
+        inner = subst (λ (l : ℕ). 1 ≤ l) same_level from;
+      })
+
+  pub head_lacks : (old : Root) → old.level < 1 → PostLaw a a posting Moved (record posting { stage = RootWanted old })
+  head_lacks old less = goes_on a posting (Walks node) (RootWanted old) refl is (λ now begun w prefix world border known truth. less)
+
+  pub head_left_out : PostLaw a a posting Ended posting
+  head_left_out = left_out a posting (Walks node) refl is
+
+  -- ---- at an interior
+  pub held_back : PostLaw a a posting Waits (record posting { stage = Walks posting.head })
+  held_back = waits_on a posting (Walks node) (Walks posting.head) refl is (λ now begun w prefix world border known truth. from_head begun prefix posting.low posting.head.0 w known)
+
+  pub child_leads : (i : InteriorView) (place : ℕ) (child : Child) → interior_at a.nodes node.0 ≡ Some i → i.version.deleted ≡ false → slice_get i.children place ≡ Some child → child.low ≤ posting.low → 1 ≤ child.level
+      → PostLaw a a posting Moved (record posting { stage = Walks child.node })
+  child_leads i place child named alive read from_low from = goes_on a posting (Walks node) (Walks child.node) refl is (λ now begun w prefix world border known truth.
+      let there = seen-interior a node.0 i named in
+      let stands = stands_as (arena_seen a) w.chart node.0 (interior_seen i) world.index.tree there truth.held.role prefix truth.held.low truth.held.standing truth.held.place in
+      let held = children_held (arena_seen a) w.chart world.index.tree begun node.0 posting.low prefix (interior_seen i) (child_seen child) truth.held there alive (among_read i.children place child read) from_low in
+      record { held = held; inner = subst (λ (r : Role). IsFrom 1 r) (sym (role_is w.chart held.role held.standing prefix held.low truth.held.standing stands.below truth.held.low held.place stands.ok)) from })
+    where
+      role_is : (chart : Chart) (role : Role) (standing : Standing) (prefix : List ℕ) (low : ℕ) (namer : Standing) (below least : ℕ) → chart child.node.0 ≡ Some (spot role prefix low standing)
+          → (((epoch : ℕ) × (namer ≡ gone epoch)) × ((interior_seen i).deleted ≡ true)) ⊎ AreChildren chart namer prefix least (suc below) (children_seen i.children) → role ≡ at_level child.level
+      role_is chart role standing prefix low namer below least here (inl marked) = absurd (let clash : false ≡ true = sym alive ∙ marked.1 in cc)
+      role_is chart role standing prefix low namer below least here (inr children) = (let there = (children.each (child_seen child) (among_read i.children place child read)).place in cc)
+
+  -- what may be visited
+  pub may_visit : (may : MayPost a posting) → MayVisit a node.0 posting.low
+  may_visit may =
+      let truth = true_at may.begun a may.w posting (Walks node) is may.true in
+      held_may_visit a may.now may.w.twins may.w.chart may.begun node.0 posting.low may.true.0 may.world.index truth.held
+
+  -- it is no border
+  pub no_border : (may : MayPost a posting) (b : BorderView) → node_at a.nodes node.0 ≡ Some (Border b) → ⊥
+  no_border may b named =
+      let truth = true_at may.begun a may.w posting (Walks node) is may.true in
+      go may.w.chart may.true.0 truth.held.low may.world.index.tree truth.held.role truth.held.standing truth.held.place truth.inner
+    where
+      there : arena_seen a node.0 ≡ Some (plain_border (border_seen b))
+      there = ap (option_map _) named
+
+      go : (chart : Chart) (prefix : List ℕ) (low : ℕ) → IsTree (arena_seen a) chart → (role : Role) (standing : Standing) → chart node.0 ≡ Some (spot role prefix low standing) → IsFrom 1 role → ⊥
+      go chart prefix low tree top (on posted) place inner = (let at_node = there in let is_node = (tree.heads node.0 prefix low posted place).is_node in cc)
+      go chart prefix low tree top (gone epoch) place inner = (let at_node = there in let (u, is_node, marked) = tree.gone_heads node.0 prefix low epoch place in cc)
+      go chart prefix low tree (at_level zero) standing place inner = omega (arith, inner)
+      go chart prefix low tree (at_level (suc below)) standing place inner = (let at_node = there in let is_node = (tree.interiors node.0 below prefix low standing place).is_node in cc)
+
+  -- ---- the interior comes to name the border
+  module _ (i : InteriorView) (named : interior_at a.nodes node.0 ≡ Some i) (alive : i.version.deleted ≡ false) (unlocked : i.version.locked ≡ false) where
+    -- it is on
+    pub in_layer : (begun : ℕ) (chart : Chart) (prefix : List ℕ) → IsTree (arena_seen a) chart → Holds chart begun node.0 prefix posting.low → IsInLayer chart node.0 prefix
+    in_layer begun chart prefix tree held =
+        let there = seen-interior a node.0 i named in
+        let stands = stands_as (arena_seen a) chart node.0 (interior_seen i) tree there held.role prefix held.low held.standing held.place in
+        let place : chart node.0 ≡ Some (spot (at_level (suc stands.below)) prefix held.low held.standing) = held.place ∙ ap (λ (r : Role). Some (spot r prefix held.low held.standing)) stands.is_role in
+        let (posted, is_on) = free_interiors_on (arena_seen a) chart tree node.0 stands.below prefix held.low held.standing (interior_seen i) place there alive unlocked in
+        record { level = suc stands.below; low = held.low; posted = posted; place = place ∙ ap (λ (s : Standing). Some (spot (at_level (suc stands.below)) prefix held.low s)) is_on }
+
+    abbrev names : ℕ → InteriorView → InteriorView
+    names low x = with_child x (record { low = low; node = posting.half; level = 0 })
+
+    pub posts : (after : ArenaView) → IsSomeAnd (border_at a.nodes posting.half.0) (λ border. after ≡ with_interior_changed a node.0 (names border.low)) → KeepsAlong a after (PostsAt node.0 posting.half.0) → PostLaw a after posting Ended posting
+    posts after value keeps = at_stage a after posting (Walks node) Ended posting is (record {
+      steps = λ now begun w prefix world before border known truth.
+          let same : after ≡ with_interior_changed a node.0 (names border.b.low) = some_at _ (border_at a.nodes posting.half.0) border.b value border.named in
+          subst (λ (x : ArenaView). Goes now a x w (posting.half.0 ∷ []) (posting.half.0 ∷ []) (ThenPosts Ended begun posting x) × SameContent (arena_seen a) (arena_seen x)) (sym same)
+          (posted now begun w prefix world border truth (subst (λ (x : ArenaView). KeepsAlong a x (PostsAt node.0 posting.half.0)) same keeps));
+    })
+      where
+        posted : (now begun : ℕ) (w : World) (prefix : List ℕ) → IsWorld a now w → (border : IsToPost a w prefix posting.half.0 posting.low) → IsWalking begun prefix posting.low node.0 w
+            → KeepsAlong a (with_interior_changed a node.0 (names border.b.low)) (PostsAt node.0 posting.half.0)
+            → Goes now a (with_interior_changed a node.0 (names border.b.low)) w (posting.half.0 ∷ []) (posting.half.0 ∷ []) (ThenPosts Ended begun posting (with_interior_changed a node.0 (names border.b.low)))
+            × SameContent (arena_seen a) (arena_seen (with_interior_changed a node.0 (names border.b.low)))
+        posted now begun w prefix world border truth keeps_new =
+            let n : ℕ = node.0 in
+            let change : InteriorView → InteriorView = names border.b.low in
+            let new : ArenaView = with_interior_changed a n change in
+            let place : Spot = spot (at_level 0) prefix posting.low (on true) in
+            let chart : Chart = with_spot w.chart posting.half.0 place in
+            let charted = spot_changes w.chart posting.half.0 place in
+            let stands = in_layer begun w.chart prefix world.index.tree truth.held in
+            let kept = keeps_new.keeps now w.twins w.chart chart world.index (record { prefix = prefix; stands = stands; low = posting.low; unnamed = border.place; charted = charted }) in
+            let is_known = known_some w n _ stands.place in
+            goes_at now a new w chart n (posting.half.0 ∷ []) (posting.half.0 ∷ []) _ world kept refl (interior_others a n i change named)
+            (λ other apart. charted.rest other (λ e. apart (subst (λ (m : ℕ). Among m (posting.half.0 ∷ [])) (sym e) first)))
+            (heads_beside a new w.chart chart n (heads_were w.chart chart posting.half.0 0 posting.low prefix (on true) charted) (interior_no_head a n i change named) (interior_others a n i change named) world.heads)
+            (λ locked. (let clash : false ≡ true = sym unlocked ∙ some_at _ (interior_at a.nodes n) i locked.locked named in cc))
+            (λ taken apart. not_both i.version.locked (w.chart n) unlocked is_known (interior_is_taken a n i w named taken))
+            (λ other k. k) (λ other k taken. k)
+            (λ apart taken. not_both i.version.locked (chart n) unlocked (known_stays w.chart chart n (kept.evolves 0 (omega arith)) is_known) (interior_taken a n i change named (at_chart w chart) taken))
+            (record { b = border.b; named = interior_border a n i change named posting.half.0 border.b border.named; known = known_some (at_chart w chart) posting.half.0 place charted.now; locked = border.locked })
+
+    -- it has room, and its low is at most the border's
+    pub has_room : (may : MayPost a posting) → length i.children < MAX_CHILDREN → IsSomeAnd (border_at a.nodes posting.half.0) (λ border. IsSomeAnd (interior_at a.nodes node.0) (HasRoomFrom border.low))
+    has_room may room =
+        let border = may.true.1.border in
+        let can = (may_visit may).has_child i named alive in
+        subst (λ (o : Option BorderView). IsSomeAnd o (λ b. IsSomeAnd (interior_at a.nodes node.0) (HasRoomFrom b.low))) (sym border.named)
+        (subst (λ (o : Option InteriorView). IsSomeAnd o (HasRoomFrom border.b.low)) (sym named)
+        (record { some = can.0; room = room; from_low = subst (λ (l : ℕ). i.low ≤ l) (sym border.low_is) can.1 }))

@@ -1,0 +1,6 @@
+//! The posting of the right half of a border that was split: an interior above it, or a new root, comes to name it.
+#![tactic(auto)]
+
+mod posting;
+
+pub use posting::{Posting, Progressed, Root, Stage};
