@@ -79,7 +79,7 @@ module _ (a : ArenaView) (get : Get) (went : Went) (sound : IsArena a) (visits :
   pub get_moves : (next : Way) → went ≡ To next → (C : ℕ) (log : LogView) → StepLaw C a a log log (get_request get) nothing Moved nothing (GetIsTrue get) (GetIsTrue (at_way next))
   get_moves next is C log = record {
     steps = λ now begun moves past w world before truth.
-        let (on, move) = subst (λ (t : Went). GoesTo a begun get.key get.way w t) is (visits.goes now w begun world truth.0) in
+        let (on, move, deeper) = subst (λ (t : Went). GoesTo a begun get.key get.way w t) is (visits.goes now w begun world truth.0) in
         let trail : Trail begun w.chart next.node.0 (suc moves) = trail_moves (arena_seen a) world.index.tree truth.1 move in
         record {
           goes = goes_same now a w _ [] [] refl world (on, subst (λ (n : ℕ). Trail begun w.chart next.node.0 n) (sym (add-one moves)) trail);

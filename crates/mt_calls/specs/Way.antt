@@ -1,9 +1,9 @@
 -- A call on its way to the border of its key.
-use Rattle.std.specs.Prelude.{ℕ, ◌≡◌, ◌≤◌, ◌*◌, List, length, false}
+use Rattle.std.specs.Prelude.{ℕ, ◌≡◌, ◌≤◌, ◌+◌, ◌*◌, ◌⊎◌, List, length, false}
 use Rattle.mt_slice.specs.Place.{place_of, under, slices_above, rest_at, slice_number}
 use Rattle.mt_arena.specs.Arena.{ArenaView}
-use Rattle.mt_chart.specs.Chart.{Holds}
-use Rattle.mt_chart.specs.Walk.{Moves}
+use Rattle.mt_chart.specs.Chart.{Holds, top}
+use Rattle.mt_chart.specs.Walk.{Known, Moves}
 use Rattle.mt_tree.specs.Seen.{arena_seen}
 use Rattle.mt_tree.specs.Descent.{IsHere, IsLast, MayVisit, found_for}
 use Rattle.mt_calls.specs.declared.way.Way.{Way}
@@ -35,10 +35,18 @@ pub record IsAtPlace (a : ArenaView) (key : List ℕ) (way : Way) (w : World) : 
   pub alive : here.border.version.deleted ≡ false
   pub last : IsLast (found_for (rest_of key way) here.border.live)
 
+-- the number is the head of the layer of a prefix, and didn't go before the epoch
+abbrev pub IsHeadOf : World → ℕ → ℕ → List ℕ → Type 0
+IsHeadOf w begun number prefix = Known w.chart begun number top prefix 0
+
+-- a way that leads a layer deeper leads to the head of that layer
+abbrev pub LeadsToHead : ℕ → List ℕ → World → Way → Way → Type 0
+LeadsToHead begun key w way next = (next.layer ≡ way.layer) ⊎ ((next.layer ≡ way.layer + 1) × IsHeadOf w begun next.node.0 (prefix_of key next))
+
 -- what a visit leads to
 abbrev pub GoesTo : ArenaView → ℕ → List ℕ → Way → World → Went → Type 0
 GoesTo a begun key way w Again = Unit {0}
-GoesTo a begun key way w (To next) = IsOnWay begun key next w × Moves (arena_seen a) way.node.0 next.node.0
+GoesTo a begun key way w (To next) = IsOnWay begun key next w × Moves (arena_seen a) way.node.0 next.node.0 × LeadsToHead begun key w way next
 GoesTo a begun key way w Here = IsAtPlace a key way w
 
 -- what a call must know before it visits the node where it stands

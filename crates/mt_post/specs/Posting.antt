@@ -116,7 +116,6 @@ pub record MayPost (a : ArenaView) (posting : Posting) : Type 0 where
   pub begun : ℕ
   pub w : World
   pub world : IsWorld a now w
-  pub before : begun ≤ now
   pub true : PostingIsTrue begun posting a w
 
 -- A NEW POSTING is true wherever the border is to be posted, and the head is its layer's

@@ -33,9 +33,9 @@ use Rattle.mt_arena.specs.Arena.{ArenaView}
 use Rattle.mt_chart.specs.Tree.{Among, first, later, Below, no_right, before_right, link}
 use Rattle.mt_chart.specs.Walk.{to_root, to_child as move_to_child, to_right as move_to_right, to_link}
 use Rattle.mt_chart.specs.Tree.{Entry as PlainEntry}
-use Rattle.mt_chart.specs.Chart.{Chart, Holds, OnBorder}
+use Rattle.mt_chart.specs.Chart.{on, gone, Chart, Holds, OnBorder}
 use Rattle.mt_chart.specs.Steps.{Twin}
-use Rattle.mt_chart.proofs.TreeLemmas.{roots_held, children_held, borders_on, rights_held, links_held}
+use Rattle.mt_chart.proofs.TreeLemmas.{roots_held, children_held, borders_on, rights_held}
 use Rattle.mt_tree.specs.Seen.{arena_seen, border_seen, head_seen, interior_seen, child_seen, entry_seen, entries_seen, right_seen}
 use Rattle.mt_tree.specs.Keeping.{IsIndexAt}
 use Rattle.mt_tree.specs.Descent.{visit_head, visit_interior, visit_border, node_visit, to_child, visit_found, to_right, found_for, Knows, LeadsOn, IsHere, IsLast, TellsVisit, MayVisit, MayVisitNode}
@@ -131,7 +131,7 @@ module _ (a : ArenaView) (number : ℕ) (rest : List ℕ) (b : BorderView) (name
         let ranks = rank_tells rest f.entry (all_among IsEntry f.entry b.live sound.entries.each f.stands) f.rank in
         let seen : entry_seen f.entry ≡ record { slice = slice_number rest; content = link top.0 } = at_entry f.entry (slice_number rest) top ranks.0 is in
         let among = subst (λ (p : PlainEntry). Among p (entries_seen b.live)) seen (among_map entry_seen f.entry b.live f.stands) in
-        (class_long (length rest) (sym ranks.1 ∙ ap (λ (c : Content). class_number (content_class c)) is), λ slice. links_held (arena_seen a) chart index.tree begun number (slice_number rest) slice top.0 prefix (border_seen b) stands among)
+        (class_long (length rest) (sym ranks.1 ∙ ap (λ (c : Content). class_number (content_class c)) is), record { standing = on true; place = (index.tree.each_border number prefix (border_seen b) stands).links (slice_number rest) top.0 among; since = λ epoch is. absurd (let clash : on true ≡ gone epoch = is in cc) })
       where
         at_entry : (entry : Entry) (slice : ℕ) (t : NodeNo) → entry.slice ≡ slice → entry.content ≡ Link t → entry_seen entry ≡ record { slice = slice; content = link t.0 }
         at_entry entry slice t x y = rw (x, y) refl

@@ -20,9 +20,9 @@ use Rattle.mt_arena.specs.Arena.{ArenaView}
 use Rattle.mt_arena.specs.declared.node.Node.{Node}
 use Rattle.mt_arena.specs.declared.node.Node.TheVariants.{Head, Interior, Border}
 use Rattle.mt_chart.specs.Tree.{Has, Below as BelowLow}
-use Rattle.mt_chart.specs.Chart.{Chart, Holds}
+use Rattle.mt_chart.specs.Chart.{Chart, Holds, top as head_role}
 use Rattle.mt_chart.specs.Steps.{Twin}
-use Rattle.mt_chart.specs.Walk.{Moves}
+use Rattle.mt_chart.specs.Walk.{Known, Moves}
 use Rattle.mt_chart.specs.ScanRun.{EntriesInOrder}
 use Rattle.mt_chart.specs.TreeLaws.{IsWhere, HasEntry, GoesOnAtALink}
 use Rattle.mt_tree.specs.Seen.{arena_seen, border_seen, entry_place}
@@ -92,12 +92,13 @@ pub record IsHere (a : ArenaView) (chart : Chart) (number : ℕ) (prefix rest : 
   pub named : border_at a.nodes number ≡ Some border
   pub stands : IsWhere (arena_seen a) chart number prefix (border_seen border) (place_of rest)
 
--- what a call knows where a visit leads it: it holds the next node, or it has come to the key's border
+-- what a call knows where a visit leads it: it holds the next node; or it knows the next one as the head of the layer below; or it has
+-- come to the key's border
 abbrev pub Knows : ArenaView → Chart → ℕ → ℕ → List ℕ → List ℕ → Visit → Type 0
 Knows a chart begun number prefix rest Again = Unit {0}
 Knows a chart begun number prefix rest (To next) = Holds chart begun next.0 prefix (slice_number rest)
 Knows a chart begun number prefix rest (Below top) = (8 < length rest)
-    × ((slice : ℕ) → Holds chart begun top.0 (slice_number rest ∷ prefix) slice)
+    × Known chart begun top.0 head_role (slice_number rest ∷ prefix) 0
 Knows a chart begun number prefix rest Here = IsHere a chart number prefix rest
 
 -- A CALL THAT HOLDS THE NODE, for the slice that it seeks in the layer of a prefix, knows this after the visit

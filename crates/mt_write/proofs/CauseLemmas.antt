@@ -8,7 +8,7 @@ use Rattle.mt_write.specs.declared.work.Work.{Work}
 use Rattle.mt_write.specs.declared.work.Work.TheVariants.{Get as GetWork, Write as WriteWork, Range as RangeWork}
 use Rattle.mt_calls.specs.declared.progress.Progress.TheVariants.{Refused}
 use Rattle.mt_write.specs.declared.writing.Stage.{Stage}
-use Rattle.mt_write.specs.declared.writing.Stage.TheVariants.{Seeks, Locked, Spared, HalfFilled, Halved, LayerSpared, LayerFilled, LayerReady, Layered, Filled, Made, Taken, Stored, Failed}
+use Rattle.mt_write.specs.declared.writing.Stage.TheVariants.{Seeks, Locked, Spared, HalfFilled, Halved, Posts, LayerSpared, LayerFilled, LayerReady, Layered, Filled, Made, Taken, Stored, Failed}
 use Rattle.std.specs.Prelude.{ℕ, List, IsSomeAnd}
 use Rattle.mt_commit.specs.Log.{LogView}
 use Rattle.mt_border.specs.Border.{BorderView}
@@ -33,6 +33,7 @@ not_failed split Locked h = tt
 not_failed split (Spared half cut entries) h = tt
 not_failed split (HalfFilled half cut) h = tt
 not_failed split (Halved halves) h = tt
+not_failed split (Posts posting ending) h = tt
 not_failed split (LayerSpared layer entries) h = tt
 not_failed split (LayerFilled layer) h = tt
 not_failed split (LayerReady layer) h = tt
@@ -76,6 +77,7 @@ stage_refused a log key edit way Locked refusal new (never, h) = absurd never
 stage_refused a log key edit way (Spared half cut entries) refusal new (never, h) = absurd never
 stage_refused a log key edit way (HalfFilled half cut) refusal new (never, h) = absurd never
 stage_refused a log key edit way (Halved split) refusal new (never, h) = absurd never
+stage_refused a log key edit way (Posts posting ending) refusal new (never, h) = absurd never
 stage_refused a log key edit way (LayerSpared layer entries) refusal new (never, h) = absurd never
 stage_refused a log key edit way (LayerFilled layer) refusal new (never, h) = absurd never
 stage_refused a log key edit way (LayerReady layer) refusal new (never, h) = absurd never

@@ -34,7 +34,7 @@ use Rattle.mt_calls.specs.declared.progress.Progress.TheVariants.{Moved}
 use Rattle.mt_calls.specs.World.{World, IsWorld, RowsAreOfKeys, Goes}
 use Rattle.mt_calls.specs.Way.{rest_of, prefix_of}
 use Rattle.mt_calls.specs.Step.{StepLaw, Stepped, IsQuiet}
-use Rattle.mt_write.specs.Writing.{edit_request, stage_held, StageIsTrue, IsLockedAt, IsLockedBorder, HasLocked, IsSpare, IsCutAt, IsHalf, IsAbsent, IsHalfOf, empty_half, upper_half}
+use Rattle.mt_write.specs.Writing.{edit_request, stage_held, StageIsTrue, IsLockedAt, IsLockedBorder, HasLocked, IsSplit, IsSpare, IsCutAt, IsHalf, IsAbsent, IsHalfOf, empty_half, upper_half}
 use Rattle.mt_calls.proofs.FoundLemmas.{some_at, some_and}
 use Rattle.mt_write.proofs.AbsentLemmas.{none_has, absent_part, absent_last}
 use Rattle.mt_calls.proofs.BorderLemmas.{now_named, others_named, goes_border, keys_same, mine_free}
@@ -134,13 +134,21 @@ module _ (C : ℕ) (a : ArenaView) (log : LogView) (key : List ℕ) (edit : Edit
     both_locked other (later first) = left_locked
     both_locked other (later (later i)) = elim i [ ]
 
+    are_split : IsSplit (prefix_of key way) new next halves
+    are_split = record {
+      apart = apart;
+      low = low;
+      place = (spot_changes w.chart half.0 place).now;
+      low_is = λ r is. (let both : ◌≡◌ {A = Option BorderView} (Some (upper_half b cut c.middle)) (Some r) = sym half_named ∙ is in let same : upper_half b cut c.middle ≡ r = cc in ap (λ (x : BorderView). x.low) (sym same));
+    }
+
     left_absent : IsAbsent (found_for (rest_of key way) (take cut b.live))
     left_absent = absent_part (rest_of key way) (take cut b.live) (All-take (λ (e : Entry). entry_rank e ≢ rank_at (slice_number (rest_of key way)) (class_of (length (rest_of key way)))) cut b.live (none_has (rest_of key way) b.live c.sound.ordered c.absent))
 
     half_absent : IsAbsent (found_for (rest_of key way) (drop cut b.live))
     half_absent = absent_part (rest_of key way) (drop cut b.live) (All-drop (λ (e : Entry). entry_rank e ≢ rank_at (slice_number (rest_of key way)) (class_of (length (rest_of key way)))) cut b.live (none_has (rest_of key way) b.live c.sound.ordered c.absent))
 
-    pub at_left : slice_number (rest_of key way) < low → IsLockedAt new key way (link low b) next × IsHalf key edit way (link low b) × HasLocked new next n (Some halves)
+    pub at_left : slice_number (rest_of key way) < low → IsLockedAt new key way (link low b) next × IsHalf key edit way (link low b) × HasLocked (prefix_of key way) new next n (Some halves)
     at_left less = (
       record {
         layer = at.layer;
@@ -160,11 +168,11 @@ module _ (C : ℕ) (a : ArenaView) (log : LogView) (key : List ℕ) (edit : Edit
         sets = c.sets;
         is_put = c.is_put;
       },
-      record { locked = both_locked; own = later first; two = apart },
+      record { locked = both_locked; own = later first; halves = are_split },
     )
 
     pub at_half : low ≤ slice_number (rest_of key way)
-        → IsLockedAt new key (record { node = half; layer = way.layer }) (upper_half b cut c.middle) next × IsHalf key edit (record { node = half; layer = way.layer }) (upper_half b cut c.middle) × HasLocked new next half.0 (Some halves)
+        → IsLockedAt new key (record { node = half; layer = way.layer }) (upper_half b cut c.middle) next × IsHalf key edit (record { node = half; layer = way.layer }) (upper_half b cut c.middle) × HasLocked (prefix_of key way) new next half.0 (Some halves)
     at_half from = (
       record {
         layer = record { within = at.layer.within; under = at.layer.under };
@@ -184,7 +192,7 @@ module _ (C : ℕ) (a : ArenaView) (log : LogView) (key : List ℕ) (edit : Edit
         sets = c.sets;
         is_put = c.is_put;
       },
-      record { locked = both_locked; own = first; two = apart },
+      record { locked = both_locked; own = first; halves = are_split },
     )
 
   module _ (goal : Way) (after : ArenaView) (value : IsSomeAnd (border_at a.nodes half.0) (λ upper. after ≡ with_border_changed a n (λ b. with_split b cut (record { low = upper.low; node = half })))) (links : LinksHalfAt a after n half.0) where
@@ -232,54 +240,11 @@ module _ (C : ℕ) (a : ArenaView) (log : LogView) (key : List ℕ) (edit : Edit
         | inr right ↦ subst (λ (g : Way). LinkLaw after g) (sym right.1) (links_right after value linked r read right.0)
       ]
 
--- ---- the left half is unlocked
-module _ (C : ℕ) (a : ArenaView) (log : LogView) (key : List ℕ) (edit : Edit) (way : Way) (split : Split) (after : ArenaView) (is : after ≡ with_border_changed a split.left.0 (λ b. with_lock b false)) (keeps : KeepsTree a after) where
-  abbrev on_half : Way
-  on_half = record { node = split.half; layer = way.layer }
-
-  among_two : (other : ℕ) → Among other (split.half.0 ∷ split.left.0 ∷ []) → other ≢ split.left.0 → Among other (split.half.0 ∷ [])
-  among_two other first ne = first
-  among_two other (later first) ne = absurd (ne refl)
-  among_two other (later (later i)) ne = elim i [ ]
-
-  widen : (other : ℕ) → Among other (split.half.0 ∷ []) → Among other (split.half.0 ∷ split.left.0 ∷ [])
-  widen other first = first
-  widen other (later i) = elim i [ ]
-
-  only : (x : ArenaView) (w : World) → IsLockedBorder x w split.half.0 → (other : ℕ) → Among other (split.half.0 ∷ []) → IsLockedBorder x w other
-  only x w k other first = k
-  only x w k other (later i) = elim i [ ]
-
-  unlocks : (now : ℕ) (w : World) (Then : World → Type 0) → IsWorld a now w → HasLocked a w way.node.0 (Some split) → (HasLocked after w split.half.0 None → Then w)
-      → Goes now a after w (split.half.0 ∷ split.left.0 ∷ []) (split.half.0 ∷ []) Then × IsQuiet a after log log
-  unlocks now w Then world has then =
-      let kept = keeps.keeps now w.twins w.chart world.index in
-      let left = has.locked split.left.0 (later first) in
-      let unlock : BorderView → BorderView = λ x. with_lock x false in
-      let new : ArenaView = with_border_changed a split.left.0 unlock in
-      let half : IsLockedBorder new w split.half.0 = other_locked a split.left.0 left.b unlock left.named w split.half.0 (λ e. has.two (sym e)) (has.locked split.half.0 first) in
-      let truth : HasLocked after w split.half.0 None = subst (λ (x : ArenaView). HasLocked x w split.half.0 None) (sym is) (record { locked = only new w half; own = first; two = tt }) in (
-        subst (λ (x : ArenaView). Goes now a x w (split.half.0 ∷ split.left.0 ∷ []) (split.half.0 ∷ []) Then) (sym is)
-            (goes_border a split.left.0 left.b unlock left.named now w (split.half.0 ∷ split.left.0 ∷ []) (split.half.0 ∷ []) Then world (subst (λ (x : ArenaView). IsIndexAt x now w.twins w.chart) is kept.index)
-            (subst (λ (x : ArenaView). RowsAreOfKeys x) is (keys_same a after kept.content world.keys))
-            (mine_free a split.left.0 w (split.half.0 ∷ split.left.0 ∷ []) (later first)) (λ other i. inl (widen other i)) (λ other ne i. among_two other i ne)
-            (λ taken. absurd (elim taken [ inl locked ↦ (let clash : false ≡ true = locked in cc) | inr none ↦ (let some : IsSome (let nothing : Option Spot = None in nothing) = subst (λ (x : Option Spot). IsSome x) none left.known in cc) ])) (then truth)),
-        record { content = kept.content; trimmed = refl; deltas = refl },
-      )
-
-  pub unlocks_stored : (number : ℕ) → StepLaw C a after log log (edit_request key edit) (stage_held way.node.0 (Stored number (Some split))) Moved (stage_held split.half.0 (Stored number None)) (λ begun moves past x w. StageIsTrue C key edit way (Stored number (Some split)) begun x w) (λ begun moves past x w. StageIsTrue C key edit on_half (Stored number None) begun x w)
-  unlocks_stored number = record {
-    steps = λ now begun moves past w world before truth.
-        let (goes, quiet) = unlocks now w (λ next. HasLocked after next split.half.0 None) world truth (λ has. has) in
-        record { goes = goes; does = (quiet, refl); reserved = refl; feed = refl; holders = refl; may = λ get. absurd (no_get key edit get) };
-  }
-
-  pub unlocks_failed : (refusal : Refusal) → StepLaw C a after log log (edit_request key edit) (stage_held way.node.0 (Failed refusal (Some split))) Moved (stage_held split.half.0 (Failed refusal None)) (λ begun moves past x w. StageIsTrue C key edit way (Failed refusal (Some split)) begun x w) (λ begun moves past x w. StageIsTrue C key edit on_half (Failed refusal None) begun x w)
-  unlocks_failed refusal = record {
-    steps = λ now begun moves past w world before truth.
-        let (goes, quiet) = unlocks now w (λ next. StageIsTrue C key edit on_half (Failed refusal None) begun after next) world truth.0 (λ has. (has, truth.1)) in
-        record { goes = goes; does = (quiet, refl); reserved = refl; feed = refl; holders = refl; may = λ get. absurd (no_get key edit get) };
-  }
+-- the half is in the same layer
+pub half_prefix : (a : ArenaView) (key : List ℕ) (way goal : Way) (half : NodeNo) → IsSomeAnd (border_at a.nodes half.0) (λ upper. IsHalfOf key way half upper.low goal) → prefix_of key way ≡ prefix_of key goal
+half_prefix a key way goal half either =
+    let (r, read, one) = some_and _ (border_at a.nodes half.0) either in
+    elim one [ inl left ↦ ap (prefix_of key) (sym left.1) | inr right ↦ ap (prefix_of key) (sym right.1) ]
 
 -- ---- what the calls of a step ask for
 module _ (C begun : ℕ) (a : ArenaView) (w : World) (key : List ℕ) (edit : Edit) (way : Way) (half : NodeNo) (cut : ℕ) where
@@ -297,8 +262,8 @@ module _ (C begun : ℕ) (a : ArenaView) (w : World) (key : List ℕ) (edit : Ed
       (subst (λ (o : Option BorderView). IsSomeAnd o (λ upper. IsUpperHalf b upper cut)) (sym s.named) (half_is_upper key edit way b cut c))
 
 -- the left half is locked
-pub left_is_locked : (a : ArenaView) (w : World) (number : ℕ) (split : Option Split) (halves : Split) → split ≡ Some halves → HasLocked a w number split → IsSomeAnd (border_at a.nodes halves.left.0) (λ b. b.version.locked ≡ true)
-left_is_locked a w number split halves is has =
-    let both : HasLocked a w number (Some halves) = subst (λ (s : Option Split). HasLocked a w number s) is has in
+pub left_is_locked : (prefix : List ℕ) (a : ArenaView) (w : World) (number : ℕ) (split : Option Split) (halves : Split) → split ≡ Some halves → HasLocked prefix a w number split → IsSomeAnd (border_at a.nodes halves.left.0) (λ b. b.version.locked ≡ true)
+left_is_locked prefix a w number split halves is has =
+    let both : HasLocked prefix a w number (Some halves) = subst (λ (s : Option Split). HasLocked prefix a w number s) is has in
     let left = both.locked halves.left.0 (later first) in
     subst (λ (o : Option BorderView). IsSomeAnd o (λ b. b.version.locked ≡ true)) (sym left.named) left.locked

@@ -34,7 +34,7 @@ use Rattle.mt_tree.proofs.SeenLemmas.{changed-head}
 use Rattle.mt_calls.specs.declared.way.Way.{Way}
 use Rattle.mt_calls.specs.declared.progress.Progress.TheVariants.{Moved}
 use Rattle.mt_calls.specs.World.{World, IsWorld, Goes}
-use Rattle.mt_calls.specs.Way.{rest_of, prefix_of, IsLayerOf, IsOnWay}
+use Rattle.mt_calls.specs.Way.{rest_of, prefix_of, IsLayerOf, IsOnWay, IsHeadOf}
 use Rattle.mt_calls.specs.Step.{StepLaw, Stepped, IsQuiet}
 use Rattle.mt_calls.proofs.WayLemmas.{layer_below}
 use Rattle.mt_calls.proofs.BorderLemmas.{now_named, others_named}
@@ -45,7 +45,7 @@ use Rattle.mt_write.specs.declared.writing.Edit.{Edit}
 use Rattle.mt_write.specs.declared.writing.Layer.{Layer}
 use Rattle.mt_write.specs.declared.writing.Stage.{Stage}
 use Rattle.mt_write.specs.declared.writing.Stage.TheVariants.{Seeks, LayerSpared, LayerFilled, LayerReady, Layered}
-use Rattle.mt_write.specs.Writing.{edit_request, stage_held, layer_owned, StageIsTrue, IsLockedAt, IsLockedBorder, IsLayerAt, HasLayer, IsToFill, IsToLink, moved_entry, lone_root, way_below}
+use Rattle.mt_write.specs.Writing.{edit_request, stage_held, layer_owned, StageIsTrue, HeadedStage, IsLockedAt, IsLockedBorder, IsLayerAt, HasLayer, IsToFill, IsToLink, moved_entry, lone_root, way_below}
 use Rattle.mt_write.proofs.WorkLemmas.{locked_at_stays}
 use Rattle.mt_write.proofs.WriteLemmas.{no_get, row_of_content, entry_place_is, ends}
 
@@ -183,6 +183,7 @@ module _ (C : ℕ) (a : ArenaView) (log : LogView) (key : List ℕ) (edit : Edit
             layer = layer_below key way layer.head f.at.other.goes_on at.layer;
             held = subst (λ (m : ℕ). Holds next.chart begun layer.head.0 (slices_above m key) (slice_number (rest_at (way.layer + 1) key))) (sym (add-one way.layer)) (held (slice_number (rest_at (way.layer + 1) key)));
           },
+          subst (λ (m : ℕ). IsHeadOf next begun layer.head.0 (slices_above m key)) (sym (add-one way.layer)) (record { standing = on true; place = placed; since = λ epoch gone_is. absurd (let clash : on true ≡ gone epoch = gone_is in cc) }),
         ) in
         subst (λ (x : ArenaView). Stepped C now moves past a x log log w (edit_request key edit) (stage_held n (LayerReady layer)) Moved (stage_held n (Layered layer.head)) (λ m next. StageIsTrue C key edit way (Layered layer.head) begun x next)) (sym is) (record {
           goes = goes;
@@ -194,12 +195,12 @@ module _ (C : ℕ) (a : ArenaView) (log : LogView) (key : List ℕ) (edit : Edit
         });
   }
 
--- the border is unlocked, and the call goes on in the layer
-pub goes_below : (C : ℕ) (a : ArenaView) (log : LogView) (key : List ℕ) (edit : Edit) (way : Way) (head : NodeNo) (after : ArenaView) → after ≡ with_border_changed a way.node.0 (λ b. with_lock b false) → KeepsTree a after
-    → StepLaw C a after log log (edit_request key edit) (stage_held way.node.0 (Layered head)) Moved (stage_held head.0 Seeks) (λ begun moves past x w. StageIsTrue C key edit way (Layered head) begun x w) (λ begun moves past x w. StageIsTrue C key edit (way_below way head) Seeks begun x w)
-goes_below C a log key edit way head after is keeps = record {
+-- the border is unlocked, and the call goes on in the layer, whose head it knows
+pub goes_below : (C : ℕ) (a : ArenaView) (log : LogView) (key : List ℕ) (edit : Edit) (way : Way) (old_head head : NodeNo) (after : ArenaView) → after ≡ with_border_changed a way.node.0 (λ b. with_lock b false) → KeepsTree a after
+    → StepLaw C a after log log (edit_request key edit) (stage_held way.node.0 (Layered head)) Moved (stage_held head.0 Seeks) (λ begun moves past x w. HeadedStage C key edit way old_head (Layered head) begun x w) (λ begun moves past x w. HeadedStage C key edit (way_below way head) head Seeks begun x w)
+goes_below C a log key edit way old_head head after is keeps = record {
   steps = λ now begun moves past w world before truth.
-      let (goes, quiet) = ends C a log key edit way (λ next. IsOnWay begun key (way_below way head) next) now w after is keeps world truth.0 truth.1 in
+      let (goes, quiet) = ends C a log key edit way (λ next. HeadedStage C key edit (way_below way head) head Seeks begun after next) now w after is keeps world truth.0.0 (truth.0.1, truth.0.2) in
       record { goes = goes; does = (quiet, refl); reserved = refl; feed = refl; holders = refl; may = λ get. absurd (no_get key edit get) };
 }
 

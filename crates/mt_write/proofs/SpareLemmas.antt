@@ -16,7 +16,7 @@ use Rattle.mt_calls.specs.World.{World, IsWorld, Goes}
 use Rattle.mt_calls.proofs.LayerLemmas.{goes_two, others_same, two_apart}
 use Rattle.mt_write.specs.declared.writing.Split.{Split}
 use Rattle.mt_write.specs.declared.writing.Layer.{Layer}
-use Rattle.mt_write.specs.Writing.{IsLockedAt, IsLockedBorder, HasLocked, LayerSpares, IsToFill, layer_owned}
+use Rattle.mt_write.specs.Writing.{IsLockedAt, IsLockedBorder, HasLocked, AreHalves, LayerSpares, IsToFill, layer_owned}
 use Rattle.mt_write.proofs.WorkLemmas.{locked_at_stays}
 
 -- what names nothing is no border
@@ -24,16 +24,28 @@ pub vacant_border : (a : ArenaView) (n : ℕ) (b : BorderView) → node_at a.nod
 vacant_border a n b vacant named = (let clash : ◌≡◌ {A = Option BorderView} None (Some b) = sym (ap (option_and_then border_of) vacant) ∙ named in cc)
 
 -- what the call has locked, where a spare was occupied and given back
-pub has_locked_back : (a between after : ArenaView) (w : World) (n : ℕ) (split : Option Split) (number : ℕ) (node : Node) → node_at a.nodes number ≡ None → Updates a.nodes between.nodes number (Some node) → Updates between.nodes after.nodes number None
-    → HasLocked a w n split → HasLocked after w n split
-has_locked_back a between after w n split number node vacant updates back has = record {
+pub has_locked_back : (prefix : List ℕ) (a between after : ArenaView) (w : World) (n : ℕ) (split : Option Split) (number : ℕ) (node : Node) → node_at a.nodes number ≡ None → Updates a.nodes between.nodes number (Some node) → Updates between.nodes after.nodes number None
+    → HasLocked prefix a w n split → HasLocked prefix after w n split
+has_locked_back prefix a between after w n split number node vacant updates back has = record {
   locked = λ other i.
       let k = has.locked other i in
       let differ : other ≢ number = λ e. vacant_border a number k.b vacant (ap (λ (m : ℕ). border_at a.nodes m) (sym e) ∙ k.named) in
       record { b = k.b; named = ap (option_and_then border_of) (back.others other differ ∙ updates.others other differ) ∙ k.named; known = k.known; locked = k.locked };
   own = has.own;
-  two = has.two;
+  halves = halves_back split has.halves;
 }
+  where
+    halves_back : (split : Option Split) → AreHalves prefix a w split → AreHalves prefix after w split
+    halves_back None halves = tt
+    halves_back (Some split) halves = record {
+      apart = halves.apart;
+      low = halves.low;
+      place = halves.place;
+      low_is = λ b is. elim (same_number split.half.0 number) [
+        | inl e ↦ absurd (vacant_border after number b back.changed (ap (λ (m : ℕ). border_at after.nodes m) (sym e) ∙ is))
+        | inr differ ↦ halves.low_is b (sym (ap (option_and_then border_of) (back.others split.half.0 differ ∙ updates.others split.half.0 differ)) ∙ is)
+      ];
+    }
 
 -- once both spares of a layer are occupied
 pub spares_go : (now begun : ℕ) (a after : ArenaView) (w : World) (key : List ℕ) (way : Way) (layer : Layer) (entries : List Entry) (f : LayerSpares key way a layer entries after) → IsWorld a now w → IsLockedAt a key way f.b w

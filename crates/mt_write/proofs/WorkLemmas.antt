@@ -1,5 +1,5 @@
 -- What others' steps leave of each kind of call, and what each kind owns.
-use Rattle.std.proofs.Common.{ℕ, ◌≡◌, inl, inr, List, [], ◌∷◌, Option, Some, IsSome, Bool, true, false, refl, sym, ap, subst, ◌∙◌}
+use Rattle.std.proofs.Common.{ℕ, ◌≡◌, inl, inr, List, [], ◌∷◌, Option, Some, None, IsSome, Bool, true, false, refl, sym, ap, subst, ◌∙◌}
 use Rattle.std.specs.Option.{option_map, option_and_then}
 use Rattle.mt_commit.specs.Log.{LogView}
 use Rattle.mt_border.specs.Border.{BorderView}
@@ -24,17 +24,20 @@ use Rattle.mt_calls.specs.declared.getting.Get.{Get}
 use Rattle.mt_write.specs.declared.writing.Write.{Write}
 use Rattle.mt_write.specs.declared.writing.Edit.{Edit}
 use Rattle.mt_write.specs.declared.writing.Stage.{Stage}
-use Rattle.mt_write.specs.declared.writing.Stage.TheVariants.{Seeks, Locked, Spared, HalfFilled, Halved, LayerSpared, LayerFilled, LayerReady, Layered, Filled, Made, Taken, Stored, Failed}
+use Rattle.mt_write.specs.declared.writing.Stage.TheVariants.{Seeks, Locked, Spared, HalfFilled, Halved, Posts, LayerSpared, LayerFilled, LayerReady, Layered, Filled, Made, Taken, Stored, Failed}
 use Rattle.mt_write.specs.declared.writing.Split.{Split}
 use Rattle.mt_write.specs.declared.writing.Layer.{Layer}
 use Rattle.mt_calls.specs.declared.progress.Progress.{Progress}
 use Rattle.mt_write.specs.declared.work.Work.{Work}
 use Rattle.mt_write.specs.declared.work.Work.TheVariants.{Get as GetWork, Write as WriteWork, Range as RangeWork}
 use Rattle.mt_calls.specs.World.{World, IsLocked, IsTaken, IsSame}
-use Rattle.mt_calls.specs.Way.{IsOnWay}
+use Rattle.mt_calls.specs.Way.{IsOnWay, prefix_of}
+use Rattle.mt_chart.specs.Chart.{top}
+use Rattle.mt_chart.proofs.Walk.{known_kept}
+use Rattle.mt_post.proofs.PostingLasts.{posting_stays, posting_taken}
 use Rattle.mt_calls.specs.Step.{Held, Truth, StepLaw, nothing}
 use Rattle.mt_calls.specs.Getting.{GetIsTrue, get_request}
-use Rattle.mt_write.specs.Writing.{StageIsTrue, stage_held, IsLockedAt, IsLockedBorder, HasLocked, HasLayer, IsSpare, owned, layer_owned, way_below, WriteIsTrue, write_request, write_held}
+use Rattle.mt_write.specs.Writing.{StageIsTrue, stage_held, IsLockedAt, IsLockedBorder, HasLocked, AreHalves, HasLayer, IsSpare, owned, layer_owned, way_below, WriteIsTrue, write_request, write_held}
 use Rattle.mt_write.specs.Works.{request_of, held, IsTrue}
 
 -- ---- a step of one kind is a step of a call
@@ -91,8 +94,24 @@ module _ (a after : ArenaView) (w next : World) where
     root_unknown = root_same.spot ∙ has.root_unknown;
   }
 
-  has_locked_stays : (number : ℕ) (split : Option Split) → ((other : ℕ) → Among other (owned number split) → IsSame a after w next other) → HasLocked a w number split → HasLocked after next number split
-  has_locked_stays number split same has = record { locked = λ other i. locked_stays other (same other i) (has.locked other i); own = has.own; two = has.two }
+  halves_stay : (prefix : List ℕ) (split : Option Split) → ((half : Split) → split ≡ Some half → IsSame a after w next half.half.0) → AreHalves prefix a w split → AreHalves prefix after next split
+  halves_stay prefix None same halves = tt
+  halves_stay prefix (Some split) same halves = record {
+    apart = halves.apart;
+    low = halves.low;
+    place = (same split refl).spot ∙ halves.place;
+    low_is = λ b is. halves.low_is b (ap (option_and_then border_of) (sym (same split refl).node) ∙ is);
+  }
+
+  half_owned : (number : ℕ) (split : Option Split) (half : Split) → split ≡ Some half → Among half.half.0 (owned number split)
+  half_owned number split half is = subst (λ (s : Option Split). Among half.half.0 (owned number s)) (sym is) first
+
+  has_locked_stays : (prefix : List ℕ) (number : ℕ) (split : Option Split) → ((other : ℕ) → Among other (owned number split) → IsSame a after w next other) → HasLocked prefix a w number split → HasLocked prefix after next number split
+  has_locked_stays prefix number split same has = record {
+    locked = λ other i. locked_stays other (same other i) (has.locked other i);
+    own = has.own;
+    halves = halves_stay prefix split (λ half is. same half.half.0 (half_owned number split half is)) has.halves;
+  }
 
   module _ (C begun moves : ℕ) (past : List Arena) (evolves : Evolves begun w.chart next.chart) where
     stage_stays : (key : List ℕ) (edit : Edit) (way : Way) (stage : Stage) → ((number : ℕ) → Among number (stage_held way.node.0 stage).owns → IsSame a after w next number) → StageIsTrue C key edit way stage begun a w → StageIsTrue C key edit way stage begun after next
@@ -100,21 +119,22 @@ module _ (a after : ArenaView) (w next : World) where
     stage_stays key edit way Locked same truth = let (b, at) = truth in (b, locked_at_stays key way b (same way.node.0 first) at)
     stage_stays key edit way (Spared half cut entries) same truth = let (b, at, c, s, e) = truth in (b, locked_at_stays key way b (same way.node.0 (later first)) at, c, spare_stays half.0 _ (same half.0 first) s, e)
     stage_stays key edit way (HalfFilled half cut) same truth = let (b, at, c, s) = truth in (b, locked_at_stays key way b (same way.node.0 (later first)) at, c, spare_stays half.0 _ (same half.0 first) s)
-    stage_stays key edit way (Halved split) same truth = let (b, at, h, has) = truth in (b, locked_at_stays key way b (same way.node.0 has.own) at, h, has_locked_stays way.node.0 (Some split) same has)
+    stage_stays key edit way (Halved split) same truth = let (b, at, h, has) = truth in (b, locked_at_stays key way b (same way.node.0 has.own) at, h, has_locked_stays (prefix_of key way) way.node.0 (Some split) same has)
     stage_stays key edit way (LayerSpared layer entries) same truth = let (b, at, f) = truth in (b, locked_at_stays key way b (same way.node.0 (later (later first))) at, record { number = f.number; at = f.at; has = layer_stays layer true _ (same layer.head.0 first) (same layer.root.0 (later first)) f.has; moved = f.moved; whole = f.whole })
     stage_stays key edit way (LayerFilled layer) same truth = let (b, at, f) = truth in (b, locked_at_stays key way b (same way.node.0 (later (later first))) at, record { number = f.number; at = f.at; has = layer_stays layer true _ (same layer.head.0 first) (same layer.root.0 (later first)) f.has })
     stage_stays key edit way (LayerReady layer) same truth = let (b, at, f) = truth in (b, locked_at_stays key way b (same way.node.0 (later (later first))) at, record { number = f.number; at = f.at; has = layer_stays layer false _ (same layer.head.0 first) (same layer.root.0 (later first)) f.has })
-    stage_stays key edit way (Layered head) same truth = (locked_stays way.node.0 (same way.node.0 first) truth.0, way_stays begun key (way_below way head) evolves truth.1)
-    stage_stays key edit way (Filled place stored logged split) same truth = let (b, at, f, has) = truth in (b, locked_at_stays key way b (same way.node.0 has.own) at, f, has_locked_stays way.node.0 split same has)
+    stage_stays key edit way (Layered head) same truth = (locked_stays way.node.0 (same way.node.0 first) truth.0, way_stays begun key (way_below way head) evolves truth.1, known_kept begun head.0 top (prefix_of key (way_below way head)) 0 w.chart next.chart evolves truth.2)
+    stage_stays key edit way (Filled place stored logged split) same truth = let (b, at, f, has) = truth in (b, locked_at_stays key way b (same way.node.0 has.own) at, f, has_locked_stays (prefix_of key way) way.node.0 split same has)
     stage_stays key edit way (Made place stored columns logged) same truth = let (b, at, f) = truth in (b, locked_at_stays key way b (same way.node.0 first) at, f)
     stage_stays key edit way (Taken place stored before) same truth = let (b, at, f) = truth in (b, locked_at_stays key way b (same way.node.0 first) at, f)
-    stage_stays key edit way (Stored number split) same truth = has_locked_stays way.node.0 split same truth
-    stage_stays key edit way (Failed refusal split) same truth = (has_locked_stays way.node.0 split same truth.0, truth.1)
+    stage_stays key edit way (Posts posting ending) same truth = (posting_stays a after w next begun evolves posting same truth.0, truth.1, truth.2)
+    stage_stays key edit way (Stored number split) same truth = has_locked_stays (prefix_of key way) way.node.0 split same truth
+    stage_stays key edit way (Failed refusal split) same truth = (has_locked_stays (prefix_of key way) way.node.0 split same truth.0, truth.1)
 
     -- the law of others' steps: where they leave what a call owns, what is true of it stays true
     pub stays : (work : Work) → ((number : ℕ) → Among number (held work).owns → IsSame a after w next number) → IsTrue C work begun moves past a w → IsTrue C work begun moves (arena_seen a ∷ past) after next
     stays (GetWork get) same truth = (way_stays begun get.key get.way evolves truth.0, others evolves truth.1)
-    stays (WriteWork write) same truth = stage_stays write.key write.edit write.way write.stage same truth
+    stays (WriteWork write) same truth = (stage_stays write.key write.edit write.way write.stage same truth.0, known_kept begun write.head.0 top (prefix_of write.key write.way) 0 w.chart next.chart evolves truth.1)
     stays (RangeWork range) same truth = record {
       bytes = truth.bytes;
       limit = truth.limit;
@@ -129,8 +149,8 @@ border_taken a w n number b named locked first = inl (subst (λ (x : Option Node
 border_taken a w n number b named locked (later i) = elim i [ ]
 
 module _ (C begun moves : ℕ) (past : List Arena) (a : ArenaView) (w : World) where
-  all_taken : (n : ℕ) (split : Option Split) → HasLocked a w n split → (number : ℕ) → Among number (owned n split) → IsTaken a w number
-  all_taken n split has number i = let k = has.locked number i in inl (subst (λ (x : Option Node). IsLocked x) (sym (node-from_border a.nodes number k.b k.named)) k.locked)
+  all_taken : (prefix : List ℕ) (n : ℕ) (split : Option Split) → HasLocked prefix a w n split → (number : ℕ) → Among number (owned n split) → IsTaken a w number
+  all_taken prefix n split has number i = let k = has.locked number i in inl (subst (λ (x : Option Node). IsLocked x) (sym (node-from_border a.nodes number k.b k.named)) k.locked)
 
   spare_taken : (half n number : ℕ) (u : BorderView) → IsSpare a w half u → (b : BorderView) → border_at a.nodes n ≡ Some b → b.version.locked ≡ true → Among number (half ∷ n ∷ []) → IsTaken a w number
   spare_taken half n number u s b named locked first = inr (subst (λ (x : Option Node). IsSome x) (sym (node-from_border a.nodes half u s.named)) refl, s.unknown)
@@ -146,18 +166,19 @@ module _ (C begun moves : ℕ) (past : List Arena) (a : ArenaView) (w : World) w
   stage_taken key edit way Locked truth number i = let (b, at) = truth in border_taken a w way.node.0 number b at.named at.locked i
   stage_taken key edit way (Spared half cut entries) truth number i = let (b, at, c, s, e) = truth in spare_taken half.0 way.node.0 number _ s b at.named at.locked i
   stage_taken key edit way (HalfFilled half cut) truth number i = let (b, at, c, s) = truth in spare_taken half.0 way.node.0 number _ s b at.named at.locked i
-  stage_taken key edit way (Halved split) truth number i = let (b, at, h, has) = truth in all_taken way.node.0 (Some split) has number i
+  stage_taken key edit way (Halved split) truth number i = let (b, at, h, has) = truth in all_taken (prefix_of key way) way.node.0 (Some split) has number i
   stage_taken key edit way (LayerSpared layer entries) truth number i = let (b, at, f) = truth in layer_taken way.node.0 number layer true _ f.has b at.named at.locked i
   stage_taken key edit way (LayerFilled layer) truth number i = let (b, at, f) = truth in layer_taken way.node.0 number layer true _ f.has b at.named at.locked i
   stage_taken key edit way (LayerReady layer) truth number i = let (b, at, f) = truth in layer_taken way.node.0 number layer false _ f.has b at.named at.locked i
   stage_taken key edit way (Layered head) truth number i = border_taken a w way.node.0 number truth.0.b truth.0.named truth.0.locked i
-  stage_taken key edit way (Filled place stored logged split) truth number i = let (b, at, f, has) = truth in all_taken way.node.0 split has number i
+  stage_taken key edit way (Filled place stored logged split) truth number i = let (b, at, f, has) = truth in all_taken (prefix_of key way) way.node.0 split has number i
   stage_taken key edit way (Made place stored columns logged) truth number i = let (b, at, f) = truth in border_taken a w way.node.0 number b at.named at.locked i
   stage_taken key edit way (Taken place stored before) truth number i = let (b, at, f) = truth in border_taken a w way.node.0 number b at.named at.locked i
-  stage_taken key edit way (Stored commit split) truth number i = all_taken way.node.0 split truth number i
-  stage_taken key edit way (Failed refusal split) truth number i = all_taken way.node.0 split truth.0 number i
+  stage_taken key edit way (Posts posting ending) truth number i = posting_taken a w begun posting truth.0 number i
+  stage_taken key edit way (Stored commit split) truth number i = all_taken (prefix_of key way) way.node.0 split truth number i
+  stage_taken key edit way (Failed refusal split) truth number i = all_taken (prefix_of key way) way.node.0 split truth.0 number i
 
   pub owned_taken : (work : Work) → IsTrue C work begun moves past a w → (number : ℕ) → Among number (held work).owns → IsTaken a w number
   owned_taken (GetWork get) truth number i = elim i [ ]
-  owned_taken (WriteWork write) truth number i = stage_taken write.key write.edit write.way write.stage truth number i
+  owned_taken (WriteWork write) truth number i = stage_taken write.key write.edit write.way write.stage truth.0 number i
   owned_taken (RangeWork range) truth number i = elim i [ ]

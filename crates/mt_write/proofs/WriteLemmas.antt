@@ -8,6 +8,7 @@ use Rattle.mt_types.specs.declared.event.Answer.{Answer}
 use Rattle.mt_types.specs.declared.event.Answer.TheVariants.{Absent as AbsentAnswer}
 use Rattle.mt_promise.specs.Legal.{is_get}
 use Rattle.mt_types.specs.declared.refusal.Refusal.{Refusal}
+use Rattle.mt_types.specs.declared.numbers.NodeNo.{NodeNo}
 use Rattle.mt_slice.specs.Place.{Place, AreBytes, place_of, under, first_slice, slice_number}
 use Rattle.mt_slice.specs.Classes.{class_of, place_at}
 use Rattle.mt_slice.specs.declared.slice_class.Class.{Class}
@@ -34,7 +35,7 @@ use Rattle.mt_arena.specs.declared.node.Node.TheVariants.{Border}
 use Rattle.mt_chart.proofs.Basics.{same_number}
 use Rattle.mt_calls.proofs.SplitLemmas.{goes_occupied}
 use Rattle.mt_calls.proofs.LayerLemmas.{goes_given_back}
-use Rattle.mt_write.proofs.SpareLemmas.{has_locked_back, spares_go}
+use Rattle.mt_write.proofs.SpareLemmas.{vacant_border, has_locked_back, spares_go}
 use Rattle.mt_write.proofs.WorkLemmas.{locked_at_stays}
 use Rattle.mt_arena.specs.Arena.{ArenaView, with_border_changed}
 use Rattle.mt_chart.specs.Tree.{first, Arena, BorderNode, Has, Below, before_right}
@@ -53,14 +54,14 @@ use Rattle.mt_calls.specs.declared.way.Went.TheVariants.{To, Here}
 use Rattle.mt_write.specs.declared.writing.Edit.{Edit}
 use Rattle.mt_write.specs.declared.writing.Edit.TheVariants.{Put as PutEdit, Remove as RemoveEdit}
 use Rattle.mt_write.specs.declared.writing.Stage.{Stage}
-use Rattle.mt_write.specs.declared.writing.Stage.TheVariants.{Seeks, Locked, Spared, HalfFilled, Halved, LayerSpared, LayerFilled, LayerReady, Layered, Filled, Made, Taken, Stored, Failed}
+use Rattle.mt_write.specs.declared.writing.Stage.TheVariants.{Seeks, Locked, Spared, HalfFilled, Halved, Posts, LayerSpared, LayerFilled, LayerReady, Layered, Filled, Made, Taken, Stored, Failed}
 use Rattle.mt_write.specs.declared.writing.Split.{Split}
 use Rattle.mt_calls.specs.declared.progress.Progress.{Progress}
 use Rattle.mt_calls.specs.declared.progress.Progress.TheVariants.{Moved, Waits, Committed, Answered, Refused}
 use Rattle.mt_calls.specs.World.{World, IsWorld, RowsAreOfKeys, Goes}
 use Rattle.mt_calls.specs.Way.{rest_of, prefix_of, IsLayerOf, IsOnWay, IsAtPlace, GoesTo, Visits}
 use Rattle.mt_calls.specs.Step.{Held, Truth, Stepped, StepLaw, MayStep, RowIs, IsQuiet, put_row, Commits, Changes, MayRefuse, IsRight}
-use Rattle.mt_write.specs.Writing.{edit_request, written_answer, stage_held, IsLockedAt, IsLockedBorder, HasLocked, IsSpare, IsCutAt, IsHalf, IsAbsent, empty_half, upper_half, owned, SomeSets, Spares, IsBack, IsFilled, IsMade, IsFound, StageIsTrue, new_entry, Fills, Prepares, PreparesRemove, LacksRow, put_delta, remove_delta}
+use Rattle.mt_write.specs.Writing.{edit_request, written_answer, stage_held, IsLockedAt, IsLockedBorder, HasLocked, AreHalves, IsSpare, IsCutAt, IsHalf, IsAbsent, empty_half, upper_half, owned, SomeSets, Spares, IsBack, IsFilled, IsMade, IsFound, StageIsTrue, HeadedStage, new_entry, Fills, Prepares, PreparesRemove, LacksRow, put_delta, remove_delta}
 use Rattle.mt_calls.proofs.FrameLemmas.{goes_same, quiet_same}
 use Rattle.std.specs.Prelude.{IsSomeAnd, IsTrue}
 use Rattle.mt_calls.proofs.FoundLemmas.{some_at}
@@ -219,28 +220,38 @@ next_slot [] entry some = absurd (omega arith)
 next_slot (s ∷ slots) entry some = record { slot = record s { entry = entry }; more = slots; is = refl; holds = refl }
 
 -- ---- what is locked
-alone : (a : ArenaView) (key : List ℕ) (way : Way) (b : BorderView) (w : World) → IsLockedAt a key way b w → HasLocked a w way.node.0 None
+alone : (a : ArenaView) (key : List ℕ) (way : Way) (b : BorderView) (w : World) → IsLockedAt a key way b w → HasLocked (prefix_of key way) a w way.node.0 None
 alone a key way b w at = record {
   locked = λ other i. subst (λ (m : ℕ). IsLockedBorder a w m) (sym (among_one other way.node.0 i)) (record { b = b; named = at.named; known = known_on (arena_seen a) w.chart way.node.0 (prefix_of key way) (border_seen b) at.stands.stands; locked = at.locked });
   own = first;
-  two = tt;
+  halves = tt;
 }
 
 pub other_locked : (a : ArenaView) (n : ℕ) (b : BorderView) (change : BorderView → BorderView) (named : border_at a.nodes n ≡ Some b) (w : World) (other : ℕ) → other ≢ n → IsLockedBorder a w other → IsLockedBorder (with_border_changed a n change) w other
 other_locked a n b change named w other differ k = record { b = k.b; named = ap (option_and_then border_of) (others_named a n b change named other differ) ∙ k.named; known = k.known; locked = k.locked }
 
-has_changed : (a : ArenaView) (n : ℕ) (b : BorderView) (change : BorderView → BorderView) (named : border_at a.nodes n ≡ Some b) (w : World) (split : Option Split) → (change b).version.locked ≡ true → HasLocked a w n split → HasLocked (with_border_changed a n change) w n split
-has_changed a n b change named w split locked has = record {
+halves_changed : (prefix : List ℕ) (a : ArenaView) (n : ℕ) (b : BorderView) (change : BorderView → BorderView) (named : border_at a.nodes n ≡ Some b) (w : World) (split : Option Split) → (change b).low ≡ b.low → AreHalves prefix a w split → AreHalves prefix (with_border_changed a n change) w split
+halves_changed prefix a n b change named w None low halves = tt
+halves_changed prefix a n b change named w (Some split) low halves = record {
+  apart = halves.apart;
+  low = halves.low;
+  place = halves.place;
+  low_is = λ c is. elim (same_number split.half.0 n) [
+    | inl e ↦ (let both : ◌≡◌ {A = Option BorderView} (Some (change b)) (Some c) = sym (now_named a n b change named) ∙ (ap (λ (m : ℕ). border_at (with_border_changed a n change).nodes m) (sym e) ∙ is) in
+        let same : change b ≡ c = cc in ap (λ (x : BorderView). x.low) (sym same) ∙ (low ∙ halves.low_is b (ap (λ (m : ℕ). border_at a.nodes m) e ∙ named)))
+    | inr differ ↦ halves.low_is c (sym (ap (option_and_then border_of) (others_named a n b change named split.half.0 differ)) ∙ is)
+  ];
+}
+
+has_changed : (prefix : List ℕ) (a : ArenaView) (n : ℕ) (b : BorderView) (change : BorderView → BorderView) (named : border_at a.nodes n ≡ Some b) (w : World) (split : Option Split) → (change b).version.locked ≡ true → (change b).low ≡ b.low → HasLocked prefix a w n split → HasLocked prefix (with_border_changed a n change) w n split
+has_changed prefix a n b change named w split locked low has = record {
   locked = λ other i. elim (same_number other n) [
     | inl e ↦ subst (λ (m : ℕ). IsLockedBorder (with_border_changed a n change) w m) (sym e) (record { b = change b; named = now_named a n b change named; known = (has.locked n has.own).known; locked = locked })
     | inr differ ↦ other_locked a n b change named w other differ (has.locked other i)
   ];
   own = has.own;
-  two = has.two;
+  halves = halves_changed prefix a n b change named w split low has.halves;
 }
-
-vacant_border : (a : ArenaView) (n : ℕ) (b : BorderView) → node_at a.nodes n ≡ None → border_at a.nodes n ≡ Some b → ⊥
-vacant_border a n b vacant named = (let clash : ◌≡◌ {A = Option BorderView} None (Some b) = sym (ap (option_and_then border_of) vacant) ∙ named in cc)
 
 -- ---- ready
 module _ (C : ℕ) (a : ArenaView) (log : LogView) (key : List ℕ) (sets : List (ℕ × List ℕ)) (way : Way) where
@@ -283,7 +294,7 @@ module _ (C : ℕ) (a : ArenaView) (log : LogView) (key : List ℕ) (sets : List
         entry = next.holds;
       }
 
-  ready_fill : (split : Option Split) (place : ℕ) (stored : List ℕ) (logged : List (List ℕ)) (after : ArenaView) (left : LogView) → Fills C key sets way a log place stored logged after left → (now begun moves : ℕ) (past : List Arena) (w : World) → IsWorld a now w → (b : BorderView) → IsLockedAt a key way b w → HasLocked a w way.node.0 split
+  ready_fill : (split : Option Split) (place : ℕ) (stored : List ℕ) (logged : List (List ℕ)) (after : ArenaView) (left : LogView) → Fills C key sets way a log place stored logged after left → (now begun moves : ℕ) (past : List Arena) (w : World) → IsWorld a now w → (b : BorderView) → IsLockedAt a key way b w → HasLocked (prefix_of key way) a w way.node.0 split
       → Stepped C now moves past a after log left w (PutRequest key sets) (record { owns = owned way.node.0 split; reserves = 0; committed = None }) Moved (stage_held way.node.0 (Filled place stored logged split)) (λ m next. StageIsTrue C key (PutEdit sets) way (Filled place stored logged split) begun after next)
   ready_fill split place stored logged after left f now begun moves past w world b at has =
       let same : f.b ≡ b = (let both : ◌≡◌ {A = Option BorderView} (Some f.b) (Some b) = sym f.named ∙ at.named in cc) in
@@ -301,7 +312,7 @@ module _ (C : ℕ) (a : ArenaView) (log : LogView) (key : List ℕ) (sets : List
               fill b,
               locked_at-changed a key way b w fill at.named at.layer at.stands at.last refl refl refl (filled_deleted (first_held b.unused) b.version ∙ at.alive) (filled_locked (first_held b.unused) b.version ∙ at.locked),
               filled_is b place stored logged after left f same at.alive low right,
-              has_changed a way.node.0 b fill at.named w split (filled_locked (first_held b.unused) b.version ∙ at.locked) has,
+              has_changed (prefix_of key way) a way.node.0 b fill at.named w split (filled_locked (first_held b.unused) b.version ∙ at.locked) refl has,
             );
         does = (record { content = subst (λ (x : ArenaView). SameContent (arena_seen a) (arena_seen x)) f.filled kept.content; trimmed = ap (λ (l : LogView). l.held_after) f.reserved; deltas = ap (λ (l : LogView). l.deltas) f.reserved }, refl);
         reserved = let more = ap (λ (l : LogView). l.reserved) f.reserved in omega (arith, more);
@@ -314,7 +325,7 @@ module _ (C : ℕ) (a : ArenaView) (log : LogView) (key : List ℕ) (sets : List
   FailStep after left split refusal now begun moves past w =
       Stepped C now moves past a after log left w (PutRequest key sets) (record { owns = owned way.node.0 split; reserves = 0; committed = None }) Moved (stage_held way.node.0 (Failed refusal split)) (λ m next. StageIsTrue C key (PutEdit sets) way (Failed refusal split) begun after next)
 
-  ready_fail : (split : Option Split) (refusal : Refusal) (after : ArenaView) (left : LogView) → MayRefuse (PutRequest key sets) refusal × IsBack a after × (left ≡ log) → (now begun moves : ℕ) (past : List Arena) (w : World) → IsWorld a now w → HasLocked a w way.node.0 split → FailStep after left split refusal now begun moves past w
+  ready_fail : (split : Option Split) (refusal : Refusal) (after : ArenaView) (left : LogView) → MayRefuse (PutRequest key sets) refusal × IsBack a after × (left ≡ log) → (now begun moves : ℕ) (past : List Arena) (w : World) → IsWorld a now w → HasLocked (prefix_of key way) a w way.node.0 split → FailStep after left split refusal now begun moves past w
   ready_fail split refusal after left (may, back, same_log) now begun moves past w world has = subst (λ (l : LogView). FailStep after l split refusal now begun moves past w) (sym same_log) (elim back [
     | inl same ↦ subst (λ (x : ArenaView). FailStep x log split refusal now begun moves past w) (sym same) (record {
       goes = goes_same now a w _ (owned way.node.0 split) (owned way.node.0 split) refl world (has, may);
@@ -326,7 +337,7 @@ module _ (C : ℕ) (a : ArenaView) (log : LogView) (key : List ℕ) (sets : List
     })
     | inr gave ↦ (let o = gave.occupied in
         let (goes, content) = goes_given_back now a gave.between after w gave.number gave.node (owned way.node.0 split) (λ next. StageIsTrue C key (PutEdit sets) way (Failed refusal split) begun after next) o.vacant o.updates o.retired o.unknown o.keeps gave.back gave.retired gave.keeps world
-        (has_locked_back a gave.between after w way.node.0 split gave.number gave.node o.vacant o.updates gave.back has, may) in record {
+        (has_locked_back (prefix_of key way) a gave.between after w way.node.0 split gave.number gave.node o.vacant o.updates gave.back has, may) in record {
           goes = goes;
           does = (record { content = content; trimmed = refl; deltas = refl }, refl);
           reserved = refl;
@@ -396,6 +407,7 @@ module _ (C : ℕ) (a : ArenaView) (log : LogView) (key : List ℕ) (sets : List
     steps = λ now begun moves past w world before truth. let (b, at) = truth in ready_fail None refusal after left (may, same, same_log) now begun moves past w world (alone a key way b w at);
   })
   ready (HalfFilled half cut) after left f = absurd f
+  ready (Posts posting ending) after left f = absurd f
   ready (LayerFilled layer) after left f = absurd f
   ready (LayerReady layer) after left f = absurd f
   ready (Layered head) after left f = absurd f
@@ -428,6 +440,7 @@ half_ready C a log key sets way split Seeks after left f = absurd f
 half_ready C a log key sets way split Locked after left f = absurd f
 half_ready C a log key sets way split (Spared half cut entries) after left (is, f, same_log) = absurd (one_or_none is)
 half_ready C a log key sets way split (HalfFilled half cut) after left f = absurd f
+half_ready C a log key sets way split (Posts posting ending) after left f = absurd f
 half_ready C a log key sets way split (LayerSpared layer entries) after left (is, f, same_log) = absurd (one_or_none is)
 half_ready C a log key sets way split (LayerFilled layer) after left f = absurd f
 half_ready C a log key sets way split (LayerReady layer) after left f = absurd f
@@ -539,7 +552,7 @@ module _ (C : ℕ) (a : ArenaView) (log : LogView) (key : List ℕ) (edit : Edit
           goes = subst (λ (x : ArenaView). Goes now a x w (owned way.node.0 split) (owned way.node.0 split) (λ next. StageIsTrue C key edit way (Stored number split) begun after next)) (sym is)
               (goes_border a way.node.0 b show at.named now w (owned way.node.0 split) (owned way.node.0 split) _ world (subst (λ (x : ArenaView). IsIndexAt x now w.twins w.chart) is adds.0)
               (subst (λ (x : ArenaView). RowsAreOfKeys x) is (keys_changed a after log left key None (Some (put_row C number f.sets None)) number done world.keys)) (mine_free a way.node.0 w (owned way.node.0 split) has.own) (λ other i. inl i) (λ other ne i. i) (λ locked. has.own)
-              (subst (λ (x : ArenaView). HasLocked x w way.node.0 split) (sym is) (has_changed a way.node.0 b show at.named w split at.locked has)));
+              (subst (λ (x : ArenaView). HasLocked (prefix_of key way) x w way.node.0 split) (sym is) (has_changed (prefix_of key way) a way.node.0 b show at.named w split at.locked refl has)));
           does = (
             subst (λ (e : Edit). Commits C a after log left (edit_request key e) number) (sym f.is_put) (
               None,
@@ -583,7 +596,7 @@ module _ (C : ℕ) (a : ArenaView) (log : LogView) (key : List ℕ) (edit : Edit
           goes = subst (λ (x : ArenaView). Goes now a x w (way.node.0 ∷ []) (way.node.0 ∷ []) (λ next. StageIsTrue C key edit way (Stored number None) begun after next)) (sym is)
               (goes_border a way.node.0 b write at.named now w (way.node.0 ∷ []) (way.node.0 ∷ []) _ world (subst (λ (x : ArenaView). IsIndexAt x now w.twins w.chart) is replaces.0)
               (subst (λ (x : ArenaView). RowsAreOfKeys x) is (keys_changed a after log left key (row_at place b.live) (Some (put_row C number f.sets (row_at place b.live))) number done world.keys)) (own_free a way.node.0 w) (λ other i. inl i) (λ other ne i. i) (λ locked. first)
-              (subst (λ (x : ArenaView). HasLocked x w way.node.0 None) (sym is) (has_changed a way.node.0 b write at.named w None at.locked (alone a key way b w at))));
+              (subst (λ (x : ArenaView). HasLocked (prefix_of key way) x w way.node.0 None) (sym is) (has_changed (prefix_of key way) a way.node.0 b write at.named w None at.locked refl (alone a key way b w at))));
           does = (
             subst (λ (e : Edit). Commits C a after log left (edit_request key e) number) (sym f.is_put) (
               row_at place b.live,
@@ -618,7 +631,7 @@ module _ (C : ℕ) (a : ArenaView) (log : LogView) (key : List ℕ) (edit : Edit
           goes = subst (λ (x : ArenaView). Goes now a x w (way.node.0 ∷ []) (way.node.0 ∷ []) (λ next. StageIsTrue C key edit way (Stored number None) begun after next)) (sym is)
               (goes_border a way.node.0 b hide at.named now w (way.node.0 ∷ []) (way.node.0 ∷ []) _ world (subst (λ (x : ArenaView). IsIndexAt x now w.twins w.chart) is removes.0)
               (subst (λ (x : ArenaView). RowsAreOfKeys x) is (keys_changed a after log left key (Some before) None number done world.keys)) (own_free a way.node.0 w) (λ other i. inl i) (λ other ne i. i) (λ locked. first)
-              (subst (λ (x : ArenaView). HasLocked x w way.node.0 None) (sym is) (has_changed a way.node.0 b hide at.named w None at.locked (alone a key way b w at))));
+              (subst (λ (x : ArenaView). HasLocked (prefix_of key way) x w way.node.0 None) (sym is) (has_changed (prefix_of key way) a way.node.0 b hide at.named w None at.locked refl (alone a key way b w at))));
           does = (
             subst (λ (x : Edit). Commits C a after log left (edit_request key x) number) (sym f.is_remove) (
               before,
@@ -677,6 +690,7 @@ module _ (C : ℕ) (a : ArenaView) (log : LogView) (key : List ℕ) (edit : Edit
   take Locked left is_remove f = absurd f
   take (Spared half cut entries) left is_remove f = absurd f
   take (HalfFilled half cut) left is_remove f = absurd f
+  take (Posts posting ending) left is_remove f = absurd f
   take (LayerSpared layer entries) left is_remove f = absurd f
   take (LayerFilled layer) left is_remove f = absurd f
   take (LayerReady layer) left is_remove f = absurd f
@@ -745,17 +759,17 @@ has_border_here a key way went visits now begun w world way_on is =
     subst (λ (b : Option BorderView). IsSome b) (sym place.here.named) refl
 
 -- a law of one stage is one of the stage that is the same
-pub at_stage : (C : ℕ) (a after : ArenaView) (log left : LogView) (key : List ℕ) (edit : Edit) (way : Way) (p : Progress) (then : Held) (Then : Truth) (stage old : Stage) → old ≡ stage
-    → StepLaw C a after log left (edit_request key edit) (stage_held way.node.0 stage) p then (λ begun moves past x w. StageIsTrue C key edit way stage begun x w) Then
-    → StepLaw C a after log left (edit_request key edit) (stage_held way.node.0 old) p then (λ begun moves past x w. StageIsTrue C key edit way old begun x w) Then
-at_stage C a after log left key edit way p then Then stage old is law =
-    subst (λ (s : Stage). StepLaw C a after log left (edit_request key edit) (stage_held way.node.0 s) p then (λ begun moves past x w. StageIsTrue C key edit way s begun x w) Then) (sym is) law
+pub at_stage : (C : ℕ) (a after : ArenaView) (log left : LogView) (key : List ℕ) (edit : Edit) (way : Way) (head : NodeNo) (p : Progress) (then : Held) (Then : Truth) (stage old : Stage) → old ≡ stage
+    → StepLaw C a after log left (edit_request key edit) (stage_held way.node.0 stage) p then (λ begun moves past x w. HeadedStage C key edit way head stage begun x w) Then
+    → StepLaw C a after log left (edit_request key edit) (stage_held way.node.0 old) p then (λ begun moves past x w. HeadedStage C key edit way head old begun x w) Then
+at_stage C a after log left key edit way head p then Then stage old is law =
+    subst (λ (s : Stage). StepLaw C a after log left (edit_request key edit) (stage_held way.node.0 s) p then (λ begun moves past x w. HeadedStage C key edit way head s begun x w) Then) (sym is) law
 
 -- the room that a stage has reserved is there
 pub room_at : (number : ℕ) (log : LogView) (stage old : Stage) → old ≡ stage → (stage_held number old).reserves ≤ log.reserved → (stage_held number stage).reserves ≤ log.reserved
 room_at number log stage old is room = subst (λ (s : Stage). (stage_held number s).reserves ≤ log.reserved) is room
 
 -- what a step asks at one stage it asks at the stage that is the same
-pub may_at : (C : ℕ) (a : ArenaView) (log : LogView) (key : List ℕ) (edit : Edit) (way : Way) (stage old : Stage) → old ≡ stage
-    → MayStep a log (stage_held way.node.0 old) (λ begun moves past x w. StageIsTrue C key edit way old begun x w) → MayStep a log (stage_held way.node.0 stage) (λ begun moves past x w. StageIsTrue C key edit way stage begun x w)
-may_at C a log key edit way stage old is may = subst (λ (s : Stage). MayStep a log (stage_held way.node.0 s) (λ begun moves past x w. StageIsTrue C key edit way s begun x w)) is may
+pub may_at : (C : ℕ) (a : ArenaView) (log : LogView) (key : List ℕ) (edit : Edit) (way : Way) (head : NodeNo) (stage old : Stage) → old ≡ stage
+    → MayStep a log (stage_held way.node.0 old) (λ begun moves past x w. HeadedStage C key edit way head old begun x w) → MayStep a log (stage_held way.node.0 stage) (λ begun moves past x w. HeadedStage C key edit way head stage begun x w)
+may_at C a log key edit way head stage old is may = subst (λ (s : Stage). MayStep a log (stage_held way.node.0 s) (λ begun moves past x w. HeadedStage C key edit way head s begun x w)) is may

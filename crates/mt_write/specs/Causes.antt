@@ -26,16 +26,33 @@ use Rattle.mt_write.specs.declared.writing.Edit.{Edit}
 use Rattle.mt_write.specs.declared.writing.Edit.TheVariants.{Put, Remove}
 use Rattle.mt_write.specs.declared.writing.Split.{Split}
 use Rattle.mt_write.specs.declared.writing.Stage.{Stage}
-use Rattle.mt_write.specs.declared.writing.Stage.TheVariants.{Locked, Halved, Failed}
+use Rattle.mt_write.specs.declared.writing.Stage.TheVariants.{Locked, Halved, Posts, Failed}
+use Rattle.mt_write.specs.declared.writing.Ending.{Ending}
+use Rattle.mt_write.specs.declared.writing.Ending.TheVariants.{Stored as EndStored, Failed as EndFailed}
+use Rattle.mt_post.specs.declared.posting.Posting.{Posting}
+use Rattle.mt_post.specs.declared.posting.Progressed.TheVariants.{Waits as PostAgain}
+use Rattle.mt_post.specs.Causes.{PostWaits}
 
--- a put or remove waits only where the node that it visits is marked deleted, or is a border that is locked
-abbrev pub WriteWaits : ArenaView → ℕ → Progress → Type 0
-WriteWaits a number Waits = IsMarkedAt a number ⊎ IsLockedAlready a number
-WriteWaits a number _ = Unit {0}
+-- a posting waits only at an interior that is marked deleted, or locked
+abbrev pub PostingWaits : ArenaView → Posting → Progress → Type 0
+PostingWaits a posting Waits = PostWaits a posting PostAgain
+PostingWaits a posting _ = Unit {0}
+
+-- else a put or remove waits only where the node that it visits is marked deleted, or is a border that is locked
+abbrev pub BorderWaits : ArenaView → ℕ → Progress → Type 0
+BorderWaits a number Waits = IsMarkedAt a number ⊎ IsLockedAlready a number
+BorderWaits a number _ = Unit {0}
+
+abbrev pub StageWaits : ArenaView → ℕ → Stage → Progress → Type 0
+StageWaits a number (Posts posting ending) p = PostingWaits a posting p
+StageWaits a number stage p = BorderWaits a number p
+
+abbrev pub WriteWaits : ArenaView → WriteView → Progress → Type 0
+WriteWaits a write p = StageWaits a write.way.node.0 write.stage p
 
 abbrev pub WorkWaits : ArenaView → Work → Progress → Type 0
 WorkWaits a (Get get) p = ReadWaits a get.way.node.0 p
-WorkWaits a (Write write) p = WriteWaits a write.way.node.0 p
+WorkWaits a (Write write) p = WriteWaits a write p
 WorkWaits a (Range range) p = ReadWaits a range.node.0 p
 
 -- ---- why a put or remove fails, unless memory is wanting
@@ -91,6 +108,16 @@ abbrev pub RemoveFailsBy : Option Refusal → Option Stage → Type 0
 RemoveFailsBy fault None = fault ≡ None
 RemoveFailsBy fault (Some stage) = FailsBy fault None stage
 
+-- it is to post the right half, and then to end so
+abbrev pub IsPosting : Ending → Stage → Type 0
+IsPosting ending (Posts posting other) = other ≡ ending
+IsPosting ending _ = ⊥
+
+abbrev pub EndsWith : Ending → Stage → Type 0
+EndsWith (EndStored commit) stage = IsNotFailed stage
+EndsWith (EndFailed refusal) (Failed failed split) = failed ≡ refusal
+EndsWith (EndFailed refusal) _ = Unit {0}
+
 -- WHY A PUT OR REMOVE FAILS. It fails only in the step that makes ready at the border that it has locked, or at the half where its key belongs,
 -- for a fault there, and for want of memory only where there is none. It is refused only where it had failed, for that.
 abbrev pub StageFails : ArenaView → LogView → List ℕ → Edit → Way → Stage → Progress → Stage → Type 0
@@ -98,7 +125,8 @@ StageFails a log key edit way Locked (Answered answer) new = IsSomeAnd (border_a
 StageFails a log key edit way Locked p new = IsNotRefused p × IsSomeAnd (border_at a.nodes way.node.0) (λ b. FailsBy (edit_fault a log edit b (found_for (rest_of key way) b.live)) None new)
 StageFails a log key edit way (Halved split) p new = IsNotRefused p × IsSomeAnd (border_at a.nodes way.node.0) (λ b. FailsBy (fill_fault log b) (Some split) new)
 StageFails a log key edit way (Failed refusal split) (Refused refused) new = (refused ≡ refusal) × (split ≡ None)
-StageFails a log key edit way (Failed refusal split) p new = (p ≡ Moved) × (new ≡ Failed refusal None)
+StageFails a log key edit way (Failed refusal split) p new = IsNotRefused p × IsPosting (EndFailed refusal) new
+StageFails a log key edit way (Posts posting ending) p new = IsNotRefused p × EndsWith ending new
 StageFails a log key edit way stage p new = IsNotRefused p × IsNotFailed new
 
 abbrev pub WriteFails : ArenaView → LogView → WriteView → Progress → WriteView → Type 0

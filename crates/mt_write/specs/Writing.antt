@@ -38,11 +38,15 @@ use Rattle.mt_write.specs.declared.writing.Write.{Write}
 use Rattle.mt_write.specs.declared.writing.Edit.{Edit}
 use Rattle.mt_write.specs.declared.writing.Edit.TheVariants.{Put as PutEdit, Remove as RemoveEdit}
 use Rattle.mt_write.specs.declared.writing.Stage.{Stage}
-use Rattle.mt_write.specs.declared.writing.Stage.TheVariants.{Seeks, Locked, Spared, HalfFilled, Halved, LayerSpared, LayerFilled, LayerReady, Layered, Filled, Made, Taken, Stored, Failed}
+use Rattle.mt_write.specs.declared.writing.Stage.TheVariants.{Seeks, Locked, Spared, HalfFilled, Halved, Posts, LayerSpared, LayerFilled, LayerReady, Layered, Filled, Made, Taken, Stored, Failed}
 use Rattle.mt_write.specs.declared.writing.Split.{Split}
+use Rattle.mt_write.specs.declared.writing.Ending.{Ending}
+use Rattle.mt_write.specs.declared.writing.Ending.TheVariants.{Stored as EndStored, Failed as EndFailed}
+use Rattle.mt_post.specs.Posting.{PostingIsTrue, owned as posting_owned}
+use Rattle.mt_chart.specs.Chart.{spot, at_level, on}
 use Rattle.mt_write.specs.declared.writing.Layer.{Layer}
 use Rattle.mt_calls.specs.World.{World}
-use Rattle.mt_calls.specs.Way.{prefix_of, rest_of, IsLayerOf, IsOnWay}
+use Rattle.mt_calls.specs.Way.{prefix_of, rest_of, IsLayerOf, IsOnWay, IsHeadOf}
 use Rattle.mt_calls.specs.declared.progress.Progress.{Progress}
 use Rattle.mt_calls.specs.Step.{Held, nothing, MayRefuse, StepLaw, MayStep, columns_after}
 
@@ -63,14 +67,19 @@ abbrev pub owned : ℕ → Option Split → List ℕ
 owned number None = number ∷ []
 owned number (Some split) = split.half.0 ∷ split.left.0 ∷ []
 
--- the two halves differ
-abbrev pub AreTwo : Option Split → Type 0
-AreTwo None = Unit {0}
-AreTwo (Some split) = split.left.0 ≢ split.half.0
-
 -- the border, and the head and the root of the layer that it makes below it
 abbrev pub layer_owned : ℕ → Layer → List ℕ
 layer_owned number layer = layer.head.0 ∷ layer.root.0 ∷ number ∷ []
+
+-- the commit that a write has made, if it is to answer one
+abbrev pub ending_commit : Ending → Option ℕ
+ending_commit (EndStored commit) = Some commit
+ending_commit (EndFailed refusal) = None
+
+-- the stage from which it ends so
+abbrev pub ending_stage : Ending → Option Split → Stage
+ending_stage (EndStored commit) split = Stored commit split
+ending_stage (EndFailed refusal) split = Failed refusal split
 
 -- what a write has: from the lock on its border, and from a stage that is ready on room in the log
 abbrev pub stage_held : ℕ → Stage → Held
@@ -86,6 +95,7 @@ stage_held number (Layered head) = record { owns = number ∷ []; reserves = 0; 
 stage_held number (Filled place stored logged split) = record { owns = owned number split; reserves = 1; committed = None }
 stage_held number (Made place stored columns logged) = record { owns = number ∷ []; reserves = 1; committed = None }
 stage_held number (Taken place stored before) = record { owns = number ∷ []; reserves = 1; committed = None }
+stage_held number (Posts posting ending) = record { owns = posting_owned posting; reserves = 0; committed = ending_commit ending }
 stage_held number (Stored commit split) = record { owns = owned number split; reserves = 0; committed = Some commit }
 stage_held number (Failed refusal split) = record { owns = owned number split; reserves = 0; committed = None }
 
@@ -108,11 +118,22 @@ pub record IsLockedBorder (a : ArenaView) (w : World) (number : ℕ) : Type 0 wh
   pub known : IsSome (w.chart number)
   pub locked : b.version.locked ≡ true
 
--- it has locked its border, or both halves of the border that it has split
-pub record HasLocked (a : ArenaView) (w : World) (number : ℕ) (split : Option Split) : Type 0 where
+-- the halves of a border that is split: the right one is on in the layer of the prefix from its low on, and nothing may name it yet
+pub record IsSplit (prefix : List ℕ) (a : ArenaView) (w : World) (split : Split) : Type 0 where
+  pub apart : split.left.0 ≢ split.half.0
+  pub low : ℕ
+  pub place : w.chart split.half.0 ≡ Some (spot (at_level 0) prefix low (on false))
+  pub low_is : (b : BorderView) → border_at a.nodes split.half.0 ≡ Some b → b.low ≡ low
+
+abbrev pub AreHalves : List ℕ → ArenaView → World → Option Split → Type 0
+AreHalves prefix a w None = Unit {0}
+AreHalves prefix a w (Some split) = IsSplit prefix a w split
+
+-- it has locked its border, or both halves of the border that it has split, in the layer of a prefix
+pub record HasLocked (prefix : List ℕ) (a : ArenaView) (w : World) (number : ℕ) (split : Option Split) : Type 0 where
   pub locked : (other : ℕ) → Among other (owned number split) → IsLockedBorder a w other
   pub own : Among number (owned number split)
-  pub two : AreTwo split
+  pub halves : AreHalves prefix a w split
 
 -- the number names this border, which is locked, and which the chart doesn't know
 pub record IsSpare (a : ArenaView) (w : World) (number : ℕ) (b : BorderView) : Type 0 where
@@ -239,31 +260,41 @@ pub record IsFound (key : List ℕ) (edit : Edit) (way : Way) (b : BorderView) (
   pub is_remove : edit ≡ RemoveEdit
   pub copied : row_at place b.live ≡ Some before
 
+-- it may end so
+abbrev pub MayEnd : List ℕ → Edit → Ending → Type 0
+MayEnd key edit (EndStored commit) = Unit {0}
+MayEnd key edit (EndFailed refusal) = MayRefuse (edit_request key edit) refusal
+
 abbrev pub StageIsTrue : ℕ → List ℕ → Edit → Way → Stage → ℕ → ArenaView → World → Type 0
 StageIsTrue C key edit way Seeks begun a w = IsOnWay begun key way w
 StageIsTrue C key edit way Locked begun a w = (b : BorderView) × IsLockedAt a key way b w
 StageIsTrue C key edit way (Spared half cut entries) begun a w = (b : BorderView) × IsLockedAt a key way b w × (c : IsCutAt key edit way b cut) × IsSpare a w half.0 (empty_half b c.middle) × (entries ≡ drop cut b.live)
 StageIsTrue C key edit way (HalfFilled half cut) begun a w = (b : BorderView) × IsLockedAt a key way b w × (c : IsCutAt key edit way b cut) × IsSpare a w half.0 (upper_half b cut c.middle)
-StageIsTrue C key edit way (Halved split) begun a w = (b : BorderView) × IsLockedAt a key way b w × IsHalf key edit way b × HasLocked a w way.node.0 (Some split)
+StageIsTrue C key edit way (Halved split) begun a w = (b : BorderView) × IsLockedAt a key way b w × IsHalf key edit way b × HasLocked (prefix_of key way) a w way.node.0 (Some split)
 StageIsTrue C key edit way (LayerSpared layer entries) begun a w = (b : BorderView) × IsLockedAt a key way b w × IsToFill a w key way b layer entries
 StageIsTrue C key edit way (LayerFilled layer) begun a w = (b : BorderView) × IsLockedAt a key way b w × IsToLink a w key way b layer true
 StageIsTrue C key edit way (LayerReady layer) begun a w = (b : BorderView) × IsLockedAt a key way b w × IsToLink a w key way b layer false
-StageIsTrue C key edit way (Layered head) begun a w = IsLockedBorder a w way.node.0 × IsOnWay begun key (way_below way head) w
-StageIsTrue C key edit way (Filled place stored logged split) begun a w = (b : BorderView) × IsLockedAt a key way b w × IsFilled C key edit way b place stored logged × HasLocked a w way.node.0 split
+StageIsTrue C key edit way (Layered head) begun a w = IsLockedBorder a w way.node.0 × IsOnWay begun key (way_below way head) w × IsHeadOf w begun head.0 (prefix_of key (way_below way head))
+StageIsTrue C key edit way (Filled place stored logged split) begun a w = (b : BorderView) × IsLockedAt a key way b w × IsFilled C key edit way b place stored logged × HasLocked (prefix_of key way) a w way.node.0 split
 StageIsTrue C key edit way (Made place stored columns logged) begun a w = (b : BorderView) × IsLockedAt a key way b w × IsMade C key edit way b place stored columns logged
 StageIsTrue C key edit way (Taken place stored before) begun a w = (b : BorderView) × IsLockedAt a key way b w × IsFound key edit way b place stored before
-StageIsTrue C key edit way (Stored number split) begun a w = HasLocked a w way.node.0 split
-StageIsTrue C key edit way (Failed refusal split) begun a w = HasLocked a w way.node.0 split × MayRefuse (edit_request key edit) refusal
+StageIsTrue C key edit way (Posts posting ending) begun a w = PostingIsTrue begun posting a w × (posting.half ≡ way.node) × MayEnd key edit ending
+StageIsTrue C key edit way (Stored number split) begun a w = HasLocked (prefix_of key way) a w way.node.0 split
+StageIsTrue C key edit way (Failed refusal split) begun a w = HasLocked (prefix_of key way) a w way.node.0 split × MayRefuse (edit_request key edit) refusal
+
+-- and it knows the head of the layer where it is
+abbrev pub HeadedStage : ℕ → List ℕ → Edit → Way → NodeNo → Stage → ℕ → ArenaView → World → Type 0
+HeadedStage C key edit way head stage begun a w = StageIsTrue C key edit way stage begun a w × IsHeadOf w begun head.0 (prefix_of key way)
 
 abbrev pub WriteIsTrue : ℕ → Write → ℕ → ℕ → List Arena → ArenaView → World → Type 0
-WriteIsTrue C write begun moves past a w = StageIsTrue C write.key write.edit write.way write.stage begun a w
+WriteIsTrue C write begun moves past a w = HeadedStage C write.key write.edit write.way write.head write.stage begun a w
 
 -- what a step asks, and its law, of a write that is at a stage
 abbrev pub MayStage : ℕ → ArenaView → LogView → Write → Stage → Type 0
-MayStage C a log write stage = MayStep a log (stage_held write.way.node.0 stage) (λ begun moves past x w. StageIsTrue C write.key write.edit write.way stage begun x w)
+MayStage C a log write stage = MayStep a log (stage_held write.way.node.0 stage) (λ begun moves past x w. HeadedStage C write.key write.edit write.way write.head stage begun x w)
 
 abbrev pub StageLaw : ℕ → ArenaView → ArenaView → LogView → LogView → Write → Stage → Progress → Write → Type 0
-StageLaw C a after log left write stage p then = StepLaw C a after log left (write_request write) (stage_held write.way.node.0 stage) p (write_held then) (λ begun moves past x w. StageIsTrue C write.key write.edit write.way stage begun x w) (WriteIsTrue C then)
+StageLaw C a after log left write stage p then = StepLaw C a after log left (write_request write) (stage_held write.way.node.0 stage) p (write_held then) (λ begun moves past x w. HeadedStage C write.key write.edit write.way write.head stage begun x w) (WriteIsTrue C then)
 
 -- the way leads on to the half of a border where the key belongs, by the low of the upper half
 abbrev pub IsHalfOf : List ℕ → Way → NodeNo → ℕ → Way → Type 0

@@ -73,6 +73,7 @@ pub fn work_of(alloc: Global, columns: u8, request: &Request) -> Result<Work, No
                 key,
                 edit: Edit::Put(sets.copy(alloc)?),
                 way: START,
+                head: TOP,
                 stage: Stage::Seeks,
             }))
         }
@@ -84,6 +85,7 @@ pub fn work_of(alloc: Global, columns: u8, request: &Request) -> Result<Work, No
                 key,
                 edit: Edit::Remove,
                 way: START,
+                head: TOP,
                 stage: Stage::Seeks,
             }))
         }

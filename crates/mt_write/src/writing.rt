@@ -1,10 +1,10 @@
 //! A put or a remove: on its way to its key's border, which it locks, where it makes ready, commits, and unlocks.
 
-ghost use Rattle.std.specs.Prelude.{◌≡◌, ℕ};
+ghost use Rattle.std.specs.Prelude.{◌≡◌, ◌≢◌, ◌⊎◌, ℕ, Some, None};
 ghost use Rattle.mt_commit.specs.Log.{LogView};
-ghost use Rattle.mt_write.specs.Causes.{WriteWaits, WriteFails, StageFails, IsNotRefused, IsNotFailed};
+ghost use Rattle.mt_write.specs.Causes.{WriteWaits, WriteFails, StageFails, IsPosting, PostingWaits, BorderWaits, IsNotRefused, IsNotFailed};
 ghost use Rattle.mt_calls.specs.Step.{StepLaw, MayStep};
-ghost use Rattle.mt_write.specs.Writing.{write_request, write_held, written_answer, WriteIsTrue, StageLaw, MayStage};
+ghost use Rattle.mt_write.specs.Writing.{write_request, write_held, written_answer, WriteIsTrue, StageLaw, MayStage, ending_stage};
 
 use crate::commit::{hide, overwrite, show};
 use crate::ready::{prepare, prepare_remove};
@@ -13,6 +13,7 @@ use mt_border::Entry;
 use mt_calls::progress::Progress;
 use mt_calls::way::{START, Way, Went, rest_of};
 use mt_commit::log::Log;
+use mt_post::{Posting, Progressed};
 use mt_tree::Tree;
 use mt_types::event::Answer;
 use mt_types::items::Items;
@@ -47,6 +48,15 @@ pub struct Layer {
     pub root: NodeNo,
 }
 
+/// What a write is to answer, once its border is unlocked.
+#[derive(Clone, Copy)]
+pub enum Ending {
+    /// The commit of this number.
+    Stored(u64),
+    /// It is refused.
+    Failed(Refusal),
+}
+
 /// How far a write is.
 #[derive(Drop)]
 pub enum Stage {
@@ -67,6 +77,8 @@ pub enum Stage {
     },
     /// The border is split, and its key belongs to the half where it stands.
     Halved(Split),
+    /// The right half of the border that it has split is posted in the interiors above.
+    Posts(Posting, Ending),
     /// Another key has the slice of its key. A head and a border are spared for a layer, and the other key's entry there is made.
     LayerSpared {
         layer: Layer,
@@ -113,6 +125,8 @@ pub struct Write {
     pub key: Key,
     pub edit: Edit,
     pub way: Way,
+    /// The head of the layer where it is.
+    pub head: NodeNo,
     pub stage: Stage,
 }
 
@@ -126,6 +140,27 @@ fn written(edit: &Edit, commit: u64) -> Answer
     }
 }
 
+// The head of the layer where a way leads.
+fn head_after(head: NodeNo, way: Way, next: Way) -> NodeNo
+    ensures { ((next.layer ≡ way.layer) × (result ≡ head)) ⊎ ((next.layer ≢ way.layer) × (result ≡ next.node)) }
+{
+    if next.layer == way.layer {
+        head
+    } else {
+        next.node
+    }
+}
+
+// The stage from which a write ends so, which has one border locked.
+fn ended(ending: Ending) -> Stage
+    ensures { result ≡ ending_stage ending None }
+{
+    match ending {
+        Ending::Stored(commit) => Stage::Stored(commit, None),
+        Ending::Failed(refusal) => Stage::Failed(refusal, None),
+    }
+}
+
 impl Write {
     // On its way to the border, and its lock there.
     fn seek(&mut self, tree: &mut Tree) -> Progress
@@ -133,15 +168,17 @@ impl Write {
         requires seeks { self.old.stage ≡ Stage.Seeks }
         ensures request { write_request self.new ≡ write_request self.old }
         ensures steps { (C : ℕ) (log : LogView) → StepLaw C tree.old tree.new log log (write_request self.old) (write_held self.old) result (write_held self.new) (WriteIsTrue C self.old) (WriteIsTrue C self.new) }
-        ensures waits { WriteWaits tree.old self.old.way.node.0 result }
+        ensures waits { BorderWaits tree.old self.old.way.node.0 result }
         ensures fails { IsNotRefused result × IsNotFailed self.new.stage }
     {
         match self.way.visit(tree, &self.key) {
             Went::Again => {
                 self.way = START;
+                self.head = START.node;
                 Progress::Waits
             }
             Went::To(next) => {
+                self.head = head_after(self.head, self.way, next);
                 self.way = next;
                 Progress::Moved
             }
@@ -161,7 +198,7 @@ impl Write {
         requires may { MayStage columns tree.old log.old self.old (Stage.Locked) }
         ensures request { write_request self.new ≡ write_request self.old }
         ensures steps { StageLaw columns tree.old tree.new log.old log.new self.old (Stage.Locked) result self.new }
-        ensures waits { WriteWaits tree.old self.old.way.node.0 result }
+        ensures waits { BorderWaits tree.old self.old.way.node.0 result }
         ensures fails { StageFails tree.old log.old self.old.key self.old.edit self.old.way Stage.Locked result self.new.stage }
     {
         let number = self.way.node;
@@ -192,7 +229,7 @@ impl Write {
         requires may { (C : ℕ) × (log : LogView) × MayStage C tree.old log self.old (Stage.Spared half cut entries) }
         ensures request { write_request self.new ≡ write_request self.old }
         ensures steps { (C : ℕ) (log : LogView) → StageLaw C tree.old tree.new log log self.old (Stage.Spared half cut entries) result self.new }
-        ensures waits { WriteWaits tree.old self.old.way.node.0 result }
+        ensures waits { BorderWaits tree.old self.old.way.node.0 result }
         ensures fails { IsNotRefused result × IsNotFailed self.new.stage }
     {
         fill_spare(tree, self.way.node, half, entries);
@@ -205,7 +242,7 @@ impl Write {
         requires may { (C : ℕ) × (log : LogView) × MayStage C tree.old log self.old (Stage.HalfFilled half cut) }
         ensures request { write_request self.new ≡ write_request self.old }
         ensures steps { (C : ℕ) (log : LogView) → StageLaw C tree.old tree.new log log self.old (Stage.HalfFilled half cut) result self.new }
-        ensures waits { WriteWaits tree.old self.old.way.node.0 result }
+        ensures waits { BorderWaits tree.old self.old.way.node.0 result }
         ensures fails { IsNotRefused result × IsNotFailed self.new.stage }
     {
         let left = self.way.node;
@@ -226,7 +263,7 @@ impl Write {
         requires may { MayStage columns tree.old log.old self.old (Stage.Halved split) }
         ensures request { write_request self.new ≡ write_request self.old }
         ensures steps { StageLaw columns tree.old tree.new log.old log.new self.old (Stage.Halved split) result self.new }
-        ensures waits { WriteWaits tree.old self.old.way.node.0 result }
+        ensures waits { BorderWaits tree.old self.old.way.node.0 result }
         ensures fails { StageFails tree.old log.old self.old.key self.old.edit self.old.way (Stage.Halved split) result self.new.stage }
     {
         self.stage = fill_half(
@@ -240,7 +277,7 @@ impl Write {
         requires may { (C : ℕ) × (log : LogView) × MayStage C tree.old log self.old (Stage.LayerSpared layer entries) }
         ensures request { write_request self.new ≡ write_request self.old }
         ensures steps { (C : ℕ) (log : LogView) → StageLaw C tree.old tree.new log log self.old (Stage.LayerSpared layer entries) result self.new }
-        ensures waits { WriteWaits tree.old self.old.way.node.0 result }
+        ensures waits { BorderWaits tree.old self.old.way.node.0 result }
         ensures fails { IsNotRefused result × IsNotFailed self.new.stage }
     {
         tree.fill_border(layer.root, entries, None);
@@ -253,7 +290,7 @@ impl Write {
         requires may { (C : ℕ) × (log : LogView) × MayStage C tree.old log self.old (Stage.LayerFilled layer) }
         ensures request { write_request self.new ≡ write_request self.old }
         ensures steps { (C : ℕ) (log : LogView) → StageLaw C tree.old tree.new log log self.old (Stage.LayerFilled layer) result self.new }
-        ensures waits { WriteWaits tree.old self.old.way.node.0 result }
+        ensures waits { BorderWaits tree.old self.old.way.node.0 result }
         ensures fails { IsNotRefused result × IsNotFailed self.new.stage }
     {
         tree.unlock_head(layer.head);
@@ -266,7 +303,7 @@ impl Write {
         requires may { (C : ℕ) × (log : LogView) × MayStage C tree.old log self.old (Stage.LayerReady layer) }
         ensures request { write_request self.new ≡ write_request self.old }
         ensures steps { (C : ℕ) (log : LogView) → StageLaw C tree.old tree.new log log self.old (Stage.LayerReady layer) result self.new }
-        ensures waits { WriteWaits tree.old self.old.way.node.0 result }
+        ensures waits { BorderWaits tree.old self.old.way.node.0 result }
         ensures fails { IsNotRefused result × IsNotFailed self.new.stage }
     {
         tree.make_link(self.way.node, layer.place, layer.head);
@@ -279,7 +316,7 @@ impl Write {
         requires may { (C : ℕ) × (log : LogView) × MayStage C tree.old log self.old (Stage.Layered head) }
         ensures request { write_request self.new ≡ write_request self.old }
         ensures steps { (C : ℕ) (log : LogView) → StageLaw C tree.old tree.new log log self.old (Stage.Layered head) result self.new }
-        ensures waits { WriteWaits tree.old self.old.way.node.0 result }
+        ensures waits { BorderWaits tree.old self.old.way.node.0 result }
         ensures fails { IsNotRefused result × IsNotFailed self.new.stage }
     {
         let _bytes = rest_of(&self.key, self.way.layer);
@@ -288,8 +325,47 @@ impl Write {
             node: head,
             layer: self.way.layer + 1,
         };
+        self.head = head;
         self.stage = Stage::Seeks;
         Progress::Moved
+    }
+
+    // Unlocks the left half of the border that it has split, and is to post the other.
+    fn unlock_left(&mut self, tree: &mut Tree, split: Split, ending: Ending)
+        requires may { (C : ℕ) × (log : LogView) × MayStage C tree.old log self.old (ending_stage ending (Some split)) }
+        ensures request { write_request self.new ≡ write_request self.old }
+        ensures steps { (C : ℕ) (log : LogView) → StageLaw C tree.old tree.new log log self.old (ending_stage ending (Some split)) Progress.Moved self.new }
+        ensures posts { IsPosting ending self.new.stage }
+    {
+        let low = tree.border(split.half).low();
+        tree.unlock_border(split.left);
+        self.way.node = split.half;
+        self.stage = Stage::Posts(Posting::new(self.head, split.half, low), ending);
+    }
+
+    // A step of the posting of the right half.
+    fn post(&mut self, tree: &mut Tree, posting: Posting, ending: Ending) -> Progress
+        requires may { (C : ℕ) × (log : LogView) × MayStage C tree.old log self.old (Stage.Posts posting ending) }
+        ensures request { write_request self.new ≡ write_request self.old }
+        ensures steps { (C : ℕ) (log : LogView) → StageLaw C tree.old tree.new log log self.old (Stage.Posts posting ending) result self.new }
+        ensures waits { PostingWaits tree.old posting result }
+        ensures fails { (log : LogView) → StageFails tree.old log self.old.key self.old.edit self.old.way (Stage.Posts posting ending) result self.new.stage }
+    {
+        let mut posting = posting;
+        match posting.step(tree) {
+            Progressed::Moved => {
+                self.stage = Stage::Posts(posting, ending);
+                Progress::Moved
+            }
+            Progressed::Waits => {
+                self.stage = Stage::Posts(posting, ending);
+                Progress::Waits
+            }
+            Progressed::Ended => {
+                self.stage = ended(ending);
+                Progress::Moved
+            }
+        }
     }
 
     // Unlocks the left half, where its border was split, and goes on with the other; else it unlocks its border, and answers.
@@ -298,16 +374,14 @@ impl Write {
         requires idle { self.old.stage ≡ Stage.Seeks }
         ensures request { write_request self.new ≡ write_request self.old }
         ensures steps { (C : ℕ) (log : LogView) → StageLaw C tree.old tree.new log log self.old (Stage.Stored commit split) result self.new }
-        ensures waits { WriteWaits tree.old self.old.way.node.0 result }
+        ensures waits { BorderWaits tree.old self.old.way.node.0 result }
         ensures fails { IsNotRefused result × IsNotFailed self.new.stage }
     {
         let Some(split) = split else {
             tree.unlock_border(self.way.node);
             return Progress::Answered(written(&self.edit, commit));
         };
-        tree.unlock_border(split.left);
-        self.way.node = split.half;
-        self.stage = Stage::Stored(commit, None);
+        self.unlock_left(tree, split, Ending::Stored(commit));
         Progress::Moved
     }
 
@@ -316,16 +390,14 @@ impl Write {
         requires may { (C : ℕ) × (log : LogView) × MayStage C tree.old log self.old (Stage.Failed refusal split) }
         ensures request { write_request self.new ≡ write_request self.old }
         ensures steps { (C : ℕ) (log : LogView) → StageLaw C tree.old tree.new log log self.old (Stage.Failed refusal split) result self.new }
-        ensures waits { WriteWaits tree.old self.old.way.node.0 result }
+        ensures waits { BorderWaits tree.old self.old.way.node.0 result }
         ensures fails { (log : LogView) → StageFails tree.old log self.old.key self.old.edit self.old.way (Stage.Failed refusal split) result self.new.stage }
     {
         let Some(split) = split else {
             tree.unlock_border(self.way.node);
             return Progress::Refused(refusal);
         };
-        tree.unlock_border(split.left);
-        self.way.node = split.half;
-        self.stage = Stage::Failed(refusal, None);
+        self.unlock_left(tree, split, Ending::Failed(refusal));
         Progress::Moved
     }
 
@@ -334,7 +406,7 @@ impl Write {
         requires { MayStep tree.old log.old (write_held self.old) (WriteIsTrue columns self.old) }
         ensures request { write_request self.new ≡ write_request self.old }
         ensures steps { StepLaw columns tree.old tree.new log.old log.new (write_request self.old) (write_held self.old) result (write_held self.new) (WriteIsTrue columns self.old) (WriteIsTrue columns self.new) }
-        ensures waits { WriteWaits tree.old self.old.way.node.0 result }
+        ensures waits { WriteWaits tree.old self.old result }
         ensures fails { WriteFails tree.old log.old self.old result self.new }
     {
         let number = self.way.node;
@@ -344,6 +416,7 @@ impl Write {
             Stage::Spared { half, cut, entries } => self.fill_spared(tree, half, cut, entries),
             Stage::HalfFilled { half, cut } => self.link(tree, half, cut),
             Stage::Halved(split) => self.fill_in_half(alloc, columns, tree, log, split),
+            Stage::Posts(posting, ending) => self.post(tree, posting, ending),
             Stage::LayerSpared { layer, entries } => self.fill_root(tree, layer, entries),
             Stage::LayerFilled(layer) => self.unlock_head(tree, layer),
             Stage::LayerReady(layer) => self.link_layer(tree, layer),
