@@ -1,0 +1,5 @@
+pub mod Loop
+pub mod Exact
+pub mod QueryLaws
+pub mod ResponseLaws
+pub mod Joined

@@ -1,0 +1,14 @@
+//! The wire: frames of queries and of answers as bytes, both ways.
+//!
+//! A call costs O(n) in the bytes that it reads or writes.
+#![tactic(auto)]
+
+pub mod fault;
+pub mod query;
+mod query_reading;
+mod query_writing;
+mod reading;
+pub mod response;
+mod response_reading;
+mod response_writing;
+mod writing;
