@@ -1,8 +1,7 @@
 -- Reading undoes the spelling of queries.
-use Rattle.std.proofs.Common.{◌≡◌, ℕ, zero, suc, ◌^◌, ◌<◌, List, [], ◌∷◌, ◌++◌, length, Option, Some, None, refl}
+use Rattle.std.proofs.Common.{◌≡◌, ℕ, zero, suc, ◌^◌, ◌<◌, List, [], ◌∷◌, ◌++◌, Option, Some, None, refl}
 use Rattle.std.specs.List.{AllByRecursion}
 use Rattle.std.specs.Int.{w16, w64, to_be_bytes}
-use Rattle.mt_types.specs.declared.event.Request.{Request}
 use Rattle.mt_types.specs.declared.event.Request.TheVariants.{Get, Put, Remove, Range, Tidy, Build}
 use Rattle.mt_types.specs.declared.view.ViewSpec.{ViewSpec}
 use Rattle.mt_types.specs.declared.view.ViewSpec.TheVariants.{Range as RangeOf, Prefix as PrefixOf}
@@ -12,7 +11,7 @@ use Rattle.mt_wire.specs.declared.query.Query.{Query}
 use Rattle.mt_wire.specs.declared.query.Query.TheVariants.{Call, ViewRead, ViewDrop}
 use Rattle.mt_wire.specs.Spelling.{set_spelling, test_spelling, end_spelling, spec_spelling, query_spelling}
 use Rattle.mt_wire.specs.Fits.{ShortFits, TestLengths, TestNumbers, EndLengths, SpecLengths, SpecNumbers, QueryFits}
-use Rattle.mt_wire.specs.Reading.{Reader, byte_at, number_at, kind_at, set_at, test_rest, end_rest, spec_rest, get_at, put_at, remove_at, range_at, tidy_at, build_at, view_read_at, view_drop_at, query_rest}
+use Rattle.mt_wire.specs.Reading.{byte_at, number_at, kind_at, set_at, test_rest, end_rest, spec_rest, get_at, put_at, remove_at, range_at, tidy_at, build_at, view_read_at, view_drop_at, query_rest}
 use Rattle.mt_wire.proofs.Exact.{IsBytes, Takes, IsExact, wide16, wide64, both_exact, made_takes, made_again, kind_exact, nothing_exact, byte_exact, number_exact, key_exact, short_exact, counted_exact}
 
 abbrev n16 : IsExact ℕ (λ n. n < 2 ^ 16) (λ n. to_be_bytes w16 n) (number_at w16)

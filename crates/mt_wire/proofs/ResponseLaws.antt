@@ -1,7 +1,7 @@
 -- Reading undoes the spelling of answers.
-use Rattle.std.proofs.Common.{◌≡◌, ℕ, zero, suc, ◌+◌, ◌*◌, ◌/◌, ◌%◌, ◌^◌, ◌<◌, ◌≤◌, Bool, true, false, cond, eqb, ltb, List, [], ◌∷◌, ◌++◌, length, Option, Some, None, refl, sym, ap, subst, ◌∙◌, arith}
+use Rattle.std.proofs.Common.{◌≡◌, ℕ, zero, suc, ◌+◌, ◌*◌, ◌/◌, ◌%◌, ◌^◌, ◌<◌, ◌≤◌, Bool, true, false, cond, eqb, ltb, List, [], ◌∷◌, ◌++◌, length, Some, None, refl, subst, arith}
 use Rattle.std.specs.List.{AllByRecursion}
-use Rattle.std.specs.Int.{w16, w64, to_be_bytes}
+use Rattle.std.specs.Int.{w64, to_be_bytes}
 use Rattle.std.proofs.lemmas.Bool.{ltb-false, le-ltb, eqb-true}
 use Rattle.mt_types.specs.declared.row.Row.{Row}
 use Rattle.mt_types.specs.declared.limits.TheConstants.{MAX_KEY_BYTES}
@@ -11,12 +11,11 @@ use Rattle.mt_types.specs.declared.refusal.Refusal.{Refusal}
 use Rattle.mt_types.specs.declared.refusal.Refusal.TheVariants.{NoMemory, KeyTooLong, BadColumn, ColumnTooLong, BadLimit, ArenaFull, FeedFull, TooManyCalls, NoSuchCall, TooManyViews, NoSuchView, Behind, BadRange, Spent, WrongPass}
 use Rattle.mt_wire.specs.declared.response.Response.{Response}
 use Rattle.mt_wire.specs.declared.response.Response.TheVariants.{Refused, Done, View, Dropped}
-use Rattle.mt_wire.specs.declared.response.End.{End}
 use Rattle.mt_wire.specs.declared.response.End.TheVariants.{Absent, Found, Committed, Rows, Tidied, Built}
-use Rattle.mt_wire.specs.Spelling.{key_spelling, short_spelling, counted, columns_spelling, sum_spelling, row_spelling, pair_spelling, pairs_spelling, refusal_spelling, rule_spelling, span_spelling, response_spelling}
-use Rattle.mt_wire.specs.Fits.{ShortFits, CountedFits, RowLengths, RefusalNumbers, PairNumbers, ResponseFits}
-use Rattle.mt_wire.specs.Reading.{Reader, ◌>>=◌, byte_at, number_at, key_at, counted16_at, kind_at, sum_at, row_at, index_key_at, pair_at, no_detail_at, refusal_rest, rule_rest, response_rest, span_at, absent_at, found_at, committed_at, rows_at, tidied_at, built_at, view_at}
-use Rattle.mt_wire.proofs.Exact.{IsBytes, Takes, IsExact, bind_some, some_is, wide64, both_exact, made_takes, made_again, made_exact, kind_exact, nothing_exact, byte_exact, number_exact, key_exact, short_exact, counted_exact, counted16_exact}
+use Rattle.mt_wire.specs.Spelling.{key_spelling, sum_spelling, row_spelling, pair_spelling, pairs_spelling, refusal_spelling, rule_spelling, span_spelling, response_spelling}
+use Rattle.mt_wire.specs.Fits.{RowLengths, RefusalNumbers, PairNumbers, ResponseFits}
+use Rattle.mt_wire.specs.Reading.{byte_at, number_at, key_at, counted16_at, kind_at, sum_at, row_at, index_key_at, pair_at, no_detail_at, refusal_rest, rule_rest, response_rest, span_at, absent_at, found_at, committed_at, rows_at, tidied_at, built_at, view_at}
+use Rattle.mt_wire.proofs.Exact.{IsBytes, Takes, IsExact, bind_some, wide64, both_exact, made_takes, made_again, made_exact, kind_exact, nothing_exact, number_exact, key_exact, short_exact, counted_exact, counted16_exact}
 
 abbrev n64 : IsExact ℕ (λ n. n < 2 ^ 64) (λ n. to_be_bytes w64 n) (number_at w64)
 n64 = number_exact w64 (2 ^ 64) wide64

@@ -3,7 +3,10 @@
 //! A call costs O(n) in the bytes that it reads or writes.
 #![tactic(auto)]
 
+mod body;
+pub mod encode;
 pub mod fault;
+pub mod limits;
 pub mod query;
 mod query_reading;
 mod query_writing;

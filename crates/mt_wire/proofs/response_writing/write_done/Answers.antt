@@ -1,4 +1,4 @@
-use Rattle.std.proofs.Common.{◌++◌, ◌∷◌}
+use Rattle.std.proofs.Common.{◌∷◌}
 use Rattle.std.specs.Int.{w64, to_be_bytes}
 use Rattle.mt_wire.specs.Spelling.{row_spelling, span_spelling}
 use Rattle.mt_wire.proofs.Joined.{then_written}
