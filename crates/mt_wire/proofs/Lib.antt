@@ -3,3 +3,4 @@ pub mod Exact
 pub mod QueryLaws
 pub mod ResponseLaws
 pub mod Joined
+pub mod FrameLaws

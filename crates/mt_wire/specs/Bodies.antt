@@ -1,5 +1,5 @@
 -- Reading a body: its version, and messages that fill it. Contracts of private calls speak of it.
-use Rattle.std.specs.Prelude.{◌≡◌, ℕ, List, [], ◌∷◌, length, Option, Some, None, Result, Ok, Err, nat_lt, ◌==◌, ◌||◌, if◌then◌else◌}
+use Rattle.std.specs.Prelude.{◌≡◌, ℕ, List, [], ◌∷◌, length, Option, Some, None, Result, Ok, Err, nat_lt, ◌<◌, ◌^◌, slice_index, ◌==◌, ◌||◌, if◌then◌else◌}
 use Rattle.mt_types.specs.declared.limits.TheConstants.{MAX_QUERIES}
 use Rattle.mt_wire.specs.declared.fault.WireFault.{WireFault}
 use Rattle.mt_wire.specs.declared.fault.WireFault.TheVariants as faults
@@ -23,6 +23,10 @@ messages_at message bytes = do
   if nat_lt n.0 1 || nat_lt MAX_QUERIES n.0 then None else do
     x ← times_at message n.0 n.1
     if length x.1 == 0 then Some x.0 else None
+
+-- each is a byte
+abbrev pub IsBytes : List ℕ → Type 0
+IsBytes bytes = (i : ℕ) → slice_index bytes i < 2 ^ 8
 
 abbrev pub or_bad_body : {A : Type 0} → Option A → Result A WireFault
 or_bad_body (Some x) = Ok x

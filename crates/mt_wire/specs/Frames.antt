@@ -1,5 +1,5 @@
 -- Frames: which messages one may hold, and what may stand at the front of bytes.
-use Rattle.std.specs.Prelude.{◌≡◌, ◌≢◌, ℕ, ◌+◌, ◌<◌, ◌≤◌, ◌⊎◌, List, ◌++◌, length, take, slice_index, Option}
+use Rattle.std.specs.Prelude.{◌≡◌, ◌≢◌, ℕ, ◌+◌, ◌<◌, ◌≤◌, ◌⊎◌, List, ◌++◌, length, take, slice_index, Option, Some, None}
 use Rattle.std.specs.List.{AllByRecursion}
 use Rattle.std.specs.Int.{w32, from_be_bytes}
 use Rattle.mt_types.specs.declared.limits.TheConstants.{MAX_QUERIES, MAX_REQUEST_BODY}
@@ -66,3 +66,10 @@ FaultStands faults.NoMemory bytes = ⊥
 pub record Kept : Type 0 where
   pub bytes : List ℕ
   pub fault : Option WireFault
+
+-- the fault at which a decoder stops: want of memory passes
+abbrev pub stopping : WireFault → Option WireFault
+stopping faults.NoMemory = None
+stopping faults.BadLength = Some faults.BadLength
+stopping faults.BadVersion = Some faults.BadVersion
+stopping faults.BadBody = Some faults.BadBody

@@ -5,3 +5,4 @@ pub mod FaultNumbers
 pub mod Frames
 pub mod Reading
 pub mod Bodies
+pub mod KeptFields

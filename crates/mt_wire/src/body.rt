@@ -2,7 +2,7 @@
 
 ghost use Rattle.std.specs.Prelude.{◌≡◌, ◌≤◌, length, drop};
 ghost use Rattle.mt_wire.specs.Reading.{Gives};
-ghost use Rattle.mt_wire.specs.Bodies.{Reads, FaultIs, messages_at, body_at};
+ghost use Rattle.mt_wire.specs.Bodies.{Reads, IsBytes, messages_at, body_at};
 
 use crate::fault::{ReadError, WireFault};
 use crate::limits::VERSION;
@@ -37,10 +37,18 @@ fn body<T: Readable + Drop>(alloc: Global, mut input: Bytes) -> Result<Vec<T>, W
     Ok(messages(alloc, &mut input)?)
 }
 
+// Does nothing: it tells the proof that the items of a slice of bytes are bytes.
+fn hold_bytes(_bytes: &[u8])
+    ensures { IsBytes _bytes.now }
+{
+}
+
 /// The messages of a whole frame, which share its bytes.
 pub fn frame<T: Readable + Drop>(alloc: Global, frame: &Bytes) -> Result<Vec<T>, WireFault>
     requires { 4 ≤ length frame.now }
-    ensures { Reads (λ messages. messages.items) result (body_at T.reading (drop 4 frame.now)) }
+    ensures read { Reads (λ messages. messages.items) result (body_at T.reading (drop 4 frame.now)) }
+    ensures bytes { IsBytes frame.now }
 {
+    hold_bytes(frame.as_slice());
     body(alloc, frame.slice(4..)?)
 }

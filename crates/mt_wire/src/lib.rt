@@ -4,6 +4,7 @@
 #![tactic(auto)]
 
 mod body;
+pub mod decoder;
 pub mod encode;
 pub mod fault;
 pub mod limits;
