@@ -11,8 +11,7 @@ use Rattle.mt_types.specs.declared.limits.TheConstants.{MAX_QUERIES, MAX_REQUEST
 use Rattle.mt_wire.specs.declared.fault.WireFault.{WireFault}
 use Rattle.mt_wire.specs.declared.fault.WireFault.TheVariants as faults
 use Rattle.mt_wire.specs.Spelling.{counted, body_of, frame_of, query_spelling}
-use Rattle.mt_wire.specs.Frames.{Holds, announced, LengthFits, IsWhole, FaultStands, RequestsFit, request_frame}
-use Rattle.mt_wire.specs.KeptFields.{IsFrame}
+use Rattle.mt_wire.specs.Frames.{Holds, announced, LengthFits, IsWhole, IsOneFrame, FaultStands, RequestsFit, request_frame}
 use Rattle.mt_wire.specs.Reading.{Reader, ◌>>=◌, byte_at, times_at, kind_at, query_rest}
 use Rattle.mt_wire.specs.Bodies.{FaultIs, Reads, messages_at, or_bad_body, body_at}
 use Rattle.mt_wire.specs.declared.query.Query.{Query}
@@ -20,7 +19,7 @@ use Rattle.mt_wire.proofs.QueryLaws.{query_exact}
 use Rattle.mt_wire.proofs.Exact.{IsBytes, IsBytes-rest, IsBytes-take, IsBytes-drop, Takes, IsExact, bind_some, times_take, times_again, byte_again}
 
 pub cut_is_frame : (bytes front rest : List ℕ) (len : ℕ) → 4 ≤ length bytes → len ≡ announced bytes → 2 ≤ len → len ≤ MAX_REQUEST_BODY → 4 + len ≤ length bytes → front ≡ take (4 + len) bytes → rest ≡ drop (4 + len) bytes
-    → IsFrame front × (bytes ≡ front ++ rest)
+    → IsOneFrame MAX_REQUEST_BODY front × (bytes ≡ front ++ rest)
 cut_is_frame bytes front rest len header told low high long front_is rest_is =
     let same : announced front ≡ len = rw front_is (ap (from_be_bytes w32) (take-take 4 (4 + len) bytes (omega arith)) ∙ sym told) in
     let size : length front ≡ 4 + len = rw front_is (omega (arith, length-take (4 + len) bytes)) in
@@ -118,21 +117,21 @@ body_again {A} {F} {spell} {item} exact xs h = rw (messages_again exact xs h) re
 announced_by : (frame rest : List ℕ) → 4 ≤ length frame → announced (frame ++ rest) ≡ announced frame
 announced_by frame rest h = ap (from_be_bytes w32) (take-append-le 4 frame rest h)
 
-spelled_length : (body rest : List ℕ) → length body < 2 ^ 32 → announced ((to_be_bytes w32 (length body) ++ body) ++ rest) ≡ length body
+pub spelled_length : (body rest : List ℕ) → length body < 2 ^ 32 → announced ((to_be_bytes w32 (length body) ++ body) ++ rest) ≡ length body
 spelled_length body rest h = from_be_bytes-to_be_bytes_4 (length body) h
 
-pub frame_is_whole : (frame rest : List ℕ) → IsFrame frame → IsWhole MAX_REQUEST_BODY (frame ++ rest)
+pub frame_is_whole : (frame rest : List ℕ) → IsOneFrame MAX_REQUEST_BODY frame → IsWhole MAX_REQUEST_BODY (frame ++ rest)
 frame_is_whole frame rest is =
     let told = announced_by frame rest is.header in
     let size = length-append frame rest in
     (omega (arith, size, is.header), (omega (arith, told, is.fits), omega (arith, told, is.fits)), omega (arith, told, size, is.whole))
 
-pub version_at : (frame rest : List ℕ) → IsFrame frame → get_or (frame ++ rest) 4 0 ≡ get_or (drop 4 frame) 0 0
+pub version_at : (frame rest : List ℕ) → IsOneFrame MAX_REQUEST_BODY frame → get_or (frame ++ rest) 4 0 ≡ get_or (drop 4 frame) 0 0
 version_at frame rest is =
     get_or_append_left frame rest 0 4 (omega (arith, is.whole, is.fits)) ∙ sym (get_or-drop {A = ℕ} 4 frame 0 0)
 
 -- two frames at the front of the same bytes have the same body
-pub same_body : (frame rest body more : List ℕ) → IsFrame frame → length body < 2 ^ 32 → frame ++ rest ≡ (to_be_bytes w32 (length body) ++ body) ++ more → drop 4 frame ≡ body
+pub same_body : (frame rest body more : List ℕ) → IsOneFrame MAX_REQUEST_BODY frame → length body < 2 ^ 32 → frame ++ rest ≡ (to_be_bytes w32 (length body) ++ body) ++ more → drop 4 frame ≡ body
 same_body frame rest body more is short e =
     let told : announced frame ≡ length body = sym (announced_by frame rest is.header) ∙ ap announced e ∙ spelled_length body more short in
     let behind : drop 4 frame ++ rest ≡ body ++ more = sym (drop-append-le 4 frame rest is.header) ∙ ap (drop 4) e in
@@ -140,8 +139,8 @@ same_body frame rest body more is short e =
     sym (take_at (drop 4 frame) rest (length body) size) ∙ ap (take (length body)) behind ∙ take_at body more (length body) refl
 
 -- a frame is its body behind the body's length
-pub frame_of_body : (frame body : List ℕ) → IsBytes frame → IsFrame frame → drop 4 frame ≡ body → frame ≡ to_be_bytes w32 (length body) ++ body
-frame_of_body frame body fits is e =
+pub frame_of_body : (most : ℕ) (frame body : List ℕ) → IsBytes frame → IsOneFrame most frame → drop 4 frame ≡ body → frame ≡ to_be_bytes w32 (length body) ++ body
+frame_of_body most frame body fits is e =
     let size : length (drop 4 frame) ≡ announced frame = omega (arith, length-drop 4 frame, is.whole) in
     let header : to_be_bytes w32 (announced frame) ≡ take 4 frame = be_bytes_4 (take 4 frame) _ (omega (arith, length-take 4 frame, is.header)) (IsBytes-take 4 frame fits) refl in
     let told : announced frame ≡ length body = sym size ∙ ap length e in
@@ -149,23 +148,23 @@ frame_of_body frame body fits is e =
 
 -- ---- what stands at the front of a frame of requests
 
-requests_stand : (frame body : List ℕ) → IsBytes frame → IsFrame frame → drop 4 frame ≡ body → length body ≤ MAX_REQUEST_BODY
+requests_stand : (frame body : List ℕ) → IsBytes frame → IsOneFrame MAX_REQUEST_BODY frame → drop 4 frame ≡ body → length body ≤ MAX_REQUEST_BODY
 requests_stand frame body fits is e = omega (arith, length-drop 4 frame, is.whole, is.fits, ap length e)
 
-pub queries_found : (frame : List ℕ) (queries : List Query) → IsBytes frame → IsFrame frame → body_at (kind_at query_rest) (drop 4 frame) ≡ Ok queries → RequestsFit queries × (frame ≡ request_frame queries)
+pub queries_found : (frame : List ℕ) (queries : List Query) → IsBytes frame → IsOneFrame MAX_REQUEST_BODY frame → body_at (kind_at query_rest) (drop 4 frame) ≡ Ok queries → RequestsFit queries × (frame ≡ request_frame queries)
 queries_found frame queries fits is e =
     let t = body_takes query_exact (drop 4 frame) queries (IsBytes-drop 4 frame fits) e in
-    let spelled = frame_of_body frame (body_of query_spelling queries) fits is t.0 in
+    let spelled = frame_of_body MAX_REQUEST_BODY frame (body_of query_spelling queries) fits is t.0 in
     ((t.1, requests_stand frame (body_of query_spelling queries) fits is t.0), spelled)
 
-no_queries : (frame rest : List ℕ) → IsFrame frame → body_at (kind_at query_rest) (drop 4 frame) ≡ Err faults.BadBody
+no_queries : (frame rest : List ℕ) → IsOneFrame MAX_REQUEST_BODY frame → body_at (kind_at query_rest) (drop 4 frame) ≡ Err faults.BadBody
     → (queries : List Query) (more : List ℕ) → RequestsFit queries → frame ++ rest ≡ request_frame queries ++ more → ⊥
 no_queries frame rest is e queries more fits spelled =
     let body = same_body frame rest (body_of query_spelling queries) more is (omega (arith, fits.1)) spelled in
     let read = ap (body_at (kind_at query_rest)) body ∙ body_again query_exact queries fits.0 in
     cc
 
-pub fault_stands : (frame rest : List ℕ) (fault : WireFault) → IsFrame frame → FaultIs fault (body_at (kind_at query_rest) (drop 4 frame)) → fault ≢ faults.NoMemory → FaultStands fault (frame ++ rest)
+pub fault_stands : (frame rest : List ℕ) (fault : WireFault) → IsOneFrame MAX_REQUEST_BODY frame → FaultIs fault (body_at (kind_at query_rest) (drop 4 frame)) → fault ≢ faults.NoMemory → FaultStands fault (frame ++ rest)
 fault_stands frame rest faults.NoMemory is h other = absurd (other refl)
 fault_stands frame rest faults.BadLength is h other = absurd (length_is_good (kind_at query_rest) (drop 4 frame) h)
 fault_stands frame rest faults.BadVersion is h other =
@@ -173,12 +172,12 @@ fault_stands frame rest faults.BadVersion is h other =
 fault_stands frame rest faults.BadBody is h other =
     (frame_is_whole frame rest is, version_at frame rest is ∙ version_same (kind_at query_rest) (drop 4 frame) (omega (arith, length-drop 4 frame, is.whole, is.fits)) h, no_queries frame rest is h)
 
-pub found_in : (frame : List ℕ) (r : Result (Vec Query) WireFault) → IsBytes frame → IsFrame frame → Reads (λ messages. messages.items) r (body_at (kind_at query_rest) (drop 4 frame))
+pub found_in : (frame : List ℕ) (r : Result (Vec Query) WireFault) → IsBytes frame → IsOneFrame MAX_REQUEST_BODY frame → Reads (λ messages. messages.items) r (body_at (kind_at query_rest) (drop 4 frame))
     → IfOk r (λ queries. RequestsFit queries.items × (frame ≡ request_frame queries.items))
 found_in frame (Ok queries) fits is h = queries_found frame queries.items fits is h
 found_in frame (Err fault) fits is h = tt
 
-pub fault_in : (frame : List ℕ) (r : Result (Vec Query) WireFault) → IsFrame frame → Reads (λ messages. messages.items) r (body_at (kind_at query_rest) (drop 4 frame))
+pub fault_in : (frame : List ℕ) (r : Result (Vec Query) WireFault) → IsOneFrame MAX_REQUEST_BODY frame → Reads (λ messages. messages.items) r (body_at (kind_at query_rest) (drop 4 frame))
     → IfErr r (λ fault. fault ≢ faults.NoMemory → (rest : List ℕ) → FaultStands fault (frame ++ rest))
 fault_in frame (Ok queries) is h = tt
 fault_in frame (Err fault) is h = λ other rest. fault_stands frame rest fault is h other

@@ -4,3 +4,4 @@ pub mod QueryLaws
 pub mod ResponseLaws
 pub mod Joined
 pub mod FrameLaws
+pub mod ReadingLaws

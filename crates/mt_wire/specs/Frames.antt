@@ -53,6 +53,12 @@ IsBegun most bytes = (length bytes < 4) ⊎ (LengthFits most (announced bytes) �
 abbrev pub IsWhole : ℕ → List ℕ → Type 0
 IsWhole most bytes = (4 ≤ length bytes) × LengthFits most (announced bytes) × (4 + announced bytes ≤ length bytes)
 
+-- a frame, and nothing after it
+pub record IsOneFrame (most : ℕ) (frame : List ℕ) : Type 0 where
+  pub header : 4 ≤ length frame
+  pub fits : LengthFits most (announced frame)
+  pub whole : length frame ≡ 4 + announced frame
+
 -- the fault that stands at the front, where no frame of requests does
 abbrev pub FaultStands : WireFault → List ℕ → Type 0
 FaultStands faults.BadLength bytes = (4 ≤ length bytes) × ¬ LengthFits MAX_REQUEST_BODY (announced bytes)
@@ -61,6 +67,15 @@ FaultStands faults.BadBody bytes =
     IsWhole MAX_REQUEST_BODY bytes × (slice_index bytes 4 ≡ 1)
     × ((queries : List Query) (rest : List ℕ) → RequestsFit queries → bytes ≡ request_frame queries ++ rest → ⊥)
 FaultStands faults.NoMemory bytes = ⊥
+
+-- the fault of bytes that are no frame of replies
+abbrev pub ReplyFaultStands : WireFault → List ℕ → Type 0
+ReplyFaultStands faults.BadLength frame = ¬ IsOneFrame MAX_REPLY_BODY frame
+ReplyFaultStands faults.BadVersion frame = IsOneFrame MAX_REPLY_BODY frame × (slice_index frame 4 ≢ 1)
+ReplyFaultStands faults.BadBody frame =
+    IsOneFrame MAX_REPLY_BODY frame × (slice_index frame 4 ≡ 1)
+    × ((responses : List Response) → RepliesFit responses → frame ≡ reply_frame responses → ⊥)
+ReplyFaultStands faults.NoMemory frame = ⊥
 
 -- what a decoder keeps: the bytes that are not read yet, and the fault at which it has stopped
 pub record Kept : Type 0 where

@@ -1,7 +1,7 @@
 -- What a decoder keeps, read off its fields.
 use Rattle.std.specs.Prelude.{◌≡◌, ◌+◌, ◌≤◌, List, [], ◌++◌, length, Option, Some, None, IfSome, ℕ}
 use Rattle.mt_types.specs.declared.limits.TheConstants.{MAX_REQUEST_BODY}
-use Rattle.mt_wire.specs.Frames.{Kept, LengthFits, announced, FaultStands}
+use Rattle.mt_wire.specs.Frames.{Kept, IsOneFrame, FaultStands}
 use Rattle.mt_wire.specs.declared.decoder.Decoder.TheInside.{Inside}
 
 -- the bytes of a frame that was cut off and not read yet
@@ -15,13 +15,7 @@ kept_of decoder = record {
   fault = decoder.stopped;
 }
 
--- a frame of good length, alone
-pub record IsFrame (frame : List ℕ) : Type 0 where
-  pub header : 4 ≤ length frame
-  pub fits : LengthFits MAX_REQUEST_BODY (announced frame)
-  pub whole : length frame ≡ 4 + announced frame
-
 -- what was cut off is a frame, and the fault at which the decoder has stopped stands at the front
 pub record IsKept (decoder : Inside) : Type 0 where
-  pub is_frame : IfSome decoder.frame IsFrame
+  pub is_frame : IfSome decoder.frame (IsOneFrame MAX_REQUEST_BODY)
   pub stands : IfSome decoder.stopped (λ fault. FaultStands fault (kept_of decoder).bytes)

@@ -6,3 +6,4 @@ pub mod Frames
 pub mod Reading
 pub mod Bodies
 pub mod KeptFields
+pub mod Laws

@@ -1,8 +1,10 @@
 //! Frames of queries, found in bytes that come in pieces.
 
-ghost use Rattle.std.specs.Prelude.{◌≡◌, ◌≢◌, ◌+◌, ◌<◌, ◌≤◌, ◌++◌, ◌==◌, [], ℕ, List, length, Some, None, Ok, Err, IfOk, IfErr, IfSome, IfNone, IsErrOf, OnOk, OnErr, IsOk, IsSome, MatchOption};
-ghost use Rattle.mt_wire.specs.Frames.{IsBegun, LengthFits, announced, FaultStands, RequestsFit, request_frame, Kept, stopping};
-ghost use Rattle.mt_wire.specs.KeptFields.{IsFrame, cut_off};
+ghost use Rattle.std.specs.Prelude.{◌≡◌, ◌≢◌, ◌+◌, ◌<◌, ◌≤◌, ◌++◌, ◌==◌, [], ℕ, List, length, Some, None, Ok, Err, IfOk, IfErr, IfSome, IfNone, IsErrOf, OnOk, OnErr, IsOk, IsSome, IsSomeAnd, MatchResult};
+ghost use Rattle.mt_wire.specs.declared.query.Query.{Query};
+ghost use Rattle.mt_wire.specs.declared.fault.WireFault.{WireFault};
+ghost use Rattle.mt_wire.specs.Frames.{IsBegun, LengthFits, announced, FaultStands, IsOneFrame, RequestsFit, request_frame, Kept, stopping};
+ghost use Rattle.mt_wire.specs.KeptFields.{cut_off};
 
 use crate::body;
 use crate::fault::WireFault;
@@ -36,7 +38,7 @@ impl Model for Decoder {
 }
 
 // The length that the first four bytes announce.
-fn announced_in(bytes: &[u8]) -> usize
+pub(crate) fn announced_in(bytes: &[u8]) -> usize
     requires { 4 ≤ length bytes.now }
     ensures { result ≡ announced bytes.now }
 {
@@ -47,7 +49,7 @@ fn announced_in(bytes: &[u8]) -> usize
 fn cut(rest: &mut BytesMut) -> Result<Option<Bytes>, WireFault>
     ensures begun { IfOk result (λ cut. IfNone cut (IsBegun MAX_REQUEST_BODY rest.old.items
         × (rest.new.items ≡ rest.old.items))) }
-    ensures whole { IfOk result (λ cut. IfSome cut (λ frame. IsFrame frame
+    ensures whole { IfOk result (λ cut. IfSome cut (λ frame. IsOneFrame MAX_REQUEST_BODY frame
         × (rest.old.items ≡ frame ++ rest.new.items))) }
     ensures err { IfErr result (λ fault. (rest.new.items ≡ rest.old.items)
         × (fault ≢ WireFault.NoMemory
@@ -68,11 +70,11 @@ fn cut(rest: &mut BytesMut) -> Result<Option<Bytes>, WireFault>
 
 // The frame that was cut off before, or else the next one.
 fn find(frame: Option<Bytes>, rest: &mut BytesMut) -> Result<Option<Bytes>, WireFault>
-    requires { IfSome frame IsFrame }
+    requires { IfSome frame (IsOneFrame MAX_REQUEST_BODY) }
     ensures begun { IfOk result (λ found. IfNone found (IsBegun MAX_REQUEST_BODY rest.old.items
         × (frame ≡ None)
         × (rest.new.items ≡ rest.old.items))) }
-    ensures whole { IfOk result (λ found. IfSome found (λ whole. IsFrame whole
+    ensures whole { IfOk result (λ found. IfSome found (λ whole. IsOneFrame MAX_REQUEST_BODY whole
         × (cut_off frame ++ rest.old.items ≡ whole ++ rest.new.items))) }
     ensures err { IfErr result (λ fault. (frame ≡ None)
         × (rest.new.items ≡ rest.old.items)
@@ -87,7 +89,7 @@ fn find(frame: Option<Bytes>, rest: &mut BytesMut) -> Result<Option<Bytes>, Wire
 
 // The queries of a frame.
 fn queries_of(alloc: Global, frame: &Bytes) -> Result<Vec<Query>, WireFault>
-    requires { IsFrame frame.now }
+    requires { IsOneFrame MAX_REQUEST_BODY frame.now }
     ensures found { IfOk result (λ queries. RequestsFit queries.items
         × (frame.now ≡ request_frame queries.items)) }
     ensures fault { IfErr result (λ fault. fault ≢ WireFault.NoMemory
@@ -151,6 +153,26 @@ impl Decoder {
     /// The fault that stands at the front, as soon as its four bytes of length are there (`BadLength`) or all of its
     /// frame (`BadVersion`, `BadBody`), and the same for good. On `NoMemory` nothing changed.
     pub fn next(&mut self) -> Result<Option<Vec<Query>>, WireFault>
+        ensures frame { IfOk result (λ next. IfSome next (λ queries. RequestsFit queries.items
+            × (self.old.bytes ≡ request_frame queries.items ++ self.new.bytes)
+            × (self.new.fault ≡ None))) }
+        ensures begun { IfOk result (λ next. IfNone next (IsBegun MAX_REQUEST_BODY self.old.bytes
+            × (self.new ≡ self.old))) }
+        ensures fault { IfErr result (λ fault. fault ≢ WireFault.NoMemory → FaultStands fault self.old.bytes
+            × (self.new ≡ record { bytes = self.old.bytes; fault = Some fault })) }
+        ensures memory { IsErrOf result WireFault.NoMemory → (self.new ≡ self.old) × (self.old.fault ≡ None) }
+        ensures stopped { (fault : WireFault) → self.old.fault ≡ Some fault → result ≡ Err fault }
+        ensures only { (queries : List Query) (rest : List ℕ) → RequestsFit queries → self.old.fault ≡ None
+            → self.old.bytes ≡ request_frame queries ++ rest
+            → MatchResult result
+                (λ next. IsSomeAnd next (λ found. (found.items ≡ queries) × (self.new.bytes ≡ rest)))
+                (λ fault. fault ≡ WireFault.NoMemory) }
+    {
+        self.advance()
+    }
+
+    // `next`, without the clause that follows from the others.
+    fn advance(&mut self) -> Result<Option<Vec<Query>>, WireFault>
         ensures frame { IfOk result (λ next. IfSome next (λ queries. RequestsFit queries.items
             × (self.old.bytes ≡ request_frame queries.items ++ self.new.bytes)
             × (self.new.fault ≡ None))) }
