@@ -51,9 +51,9 @@ frames_read_one_way {A} {F} {spell} {item} exact most small x y a b fx fy e =
     let size : length (body_of spell x) ≡ length (body_of spell y) = sym len_x ∙ ap announced e ∙ len_y in
     let parts : body_of spell x ++ a ≡ body_of spell y ++ b = ap (drop 4) e in
     let bodies : body_of spell x ≡ body_of spell y =
-        sym (take_at (body_of spell x) a (length (body_of spell y)) size) ∙ ap (take (length (body_of spell y))) parts ∙ take_at (body_of spell y) b (length (body_of spell y)) refl in
+    sym (take_at (body_of spell x) a (length (body_of spell y)) size) ∙ ap (take (length (body_of spell y))) parts ∙ take_at (body_of spell y) b (length (body_of spell y)) refl in
     let rests : a ≡ b =
-        sym (drop_at (body_of spell x) a (length (body_of spell y)) size) ∙ ap (drop (length (body_of spell y))) parts ∙ drop_at (body_of spell y) b (length (body_of spell y)) refl in
+    sym (drop_at (body_of spell x) a (length (body_of spell y)) size) ∙ ap (drop (length (body_of spell y))) parts ∙ drop_at (body_of spell y) b (length (body_of spell y)) refl in
     (same_done x y (sym (body_again exact x fx.0) ∙ ap (body_at item) bodies ∙ body_again exact y fy.0), rests)
 
 pub request_frames_read_one_way : RequestFramesReadOneWay
@@ -133,8 +133,6 @@ pub only_replies : (frame : List ℕ) (r : Result (Vec Response) WireFault) → 
 only_replies frame r h responses fits e =
     reads_again r (body_at (kind_at response_rest) (drop 4 frame)) responses h (ap (λ (x : List ℕ). body_at (kind_at response_rest) (drop 4 x)) e ∙ body_again response_exact responses fits.0)
 
-
-
 abbrev failed : Result (List Response) WireFault
 failed = Err faults.BadBody
 
@@ -148,9 +146,8 @@ reply_fault frame (Ok found) is h = tt
 reply_fault frame (Err faults.NoMemory) is h = λ other. absurd (other refl)
 reply_fault frame (Err faults.BadLength) is h = λ other. absurd (length_is_good (kind_at response_rest) (drop 4 frame) h)
 reply_fault frame (Err faults.BadVersion) is h = λ other. (is, λ same. version_differs (kind_at response_rest) (drop 4 frame) h (get_or-drop {A = ℕ} 4 frame 0 0 ∙ same))
-reply_fault frame (Err faults.BadBody) is h = λ other.
-    (is, sym (get_or-drop {A = ℕ} 4 frame 0 0) ∙ version_same (kind_at response_rest) (drop 4 frame) (omega (arith, length-drop 4 frame, is.whole, is.fits)) h,
-    λ responses fits e. no_replies responses fits (sym h ∙ ap (λ (x : List ℕ). body_at (kind_at response_rest) (drop 4 x)) e ∙ body_again response_exact responses fits.0))
-
-
-
+reply_fault frame (Err faults.BadBody) is h = λ other. (
+  is,
+  sym (get_or-drop {A = ℕ} 4 frame 0 0) ∙ version_same (kind_at response_rest) (drop 4 frame) (omega (arith, length-drop 4 frame, is.whole, is.fits)) h,
+  λ responses fits e. no_replies responses fits (sym h ∙ ap (λ (x : List ℕ). body_at (kind_at response_rest) (drop 4 x)) e ∙ body_again response_exact responses fits.0),
+)

@@ -40,8 +40,7 @@ fn body<T: Readable + Drop>(alloc: Global, mut input: Bytes) -> Result<Vec<T>, W
 // Does nothing: it tells the proof that the items of a slice of bytes are bytes.
 fn hold_bytes(_bytes: &[u8])
     ensures { IsBytes _bytes.now }
-{
-}
+{}
 
 /// The messages of a whole frame, which share its bytes.
 pub fn frame<T: Readable + Drop>(alloc: Global, frame: &Bytes) -> Result<Vec<T>, WireFault>

@@ -53,7 +53,7 @@ fn cut(rest: &mut BytesMut) -> Result<Option<Bytes>, WireFault>
         × (rest.old.items ≡ frame ++ rest.new.items))) }
     ensures err { IfErr result (λ fault. (rest.new.items ≡ rest.old.items)
         × (fault ≢ WireFault.NoMemory
-            → (fault ≡ WireFault.BadLength) × FaultStands WireFault.BadLength rest.old.items)) }
+        → (fault ≡ WireFault.BadLength) × FaultStands WireFault.BadLength rest.old.items)) }
 {
     if rest.len() < 4 {
         return Ok(None);
@@ -79,7 +79,7 @@ fn find(frame: Option<Bytes>, rest: &mut BytesMut) -> Result<Option<Bytes>, Wire
     ensures err { IfErr result (λ fault. (frame ≡ None)
         × (rest.new.items ≡ rest.old.items)
         × (fault ≢ WireFault.NoMemory
-            → (fault ≡ WireFault.BadLength) × FaultStands WireFault.BadLength rest.old.items)) }
+        → (fault ≡ WireFault.BadLength) × FaultStands WireFault.BadLength rest.old.items)) }
 {
     match frame {
         Some(frame) => Ok(Some(frame)),
@@ -111,7 +111,7 @@ fn stopping(fault: WireFault) -> Option<WireFault>
 impl Decoder {
     /// A decoder before any bytes. Takes no memory.
     pub fn new(alloc: Global) -> Decoder
-        ensures { result ≡ record { bytes = []; fault = None; } }
+        ensures { result ≡ record { bytes = []; fault = None } }
     {
         Decoder {
             frame: None,
@@ -165,8 +165,8 @@ impl Decoder {
         ensures only { (queries : List Query) (rest : List ℕ) → RequestsFit queries → self.old.fault ≡ None
             → self.old.bytes ≡ request_frame queries ++ rest
             → MatchResult result
-                (λ next. IsSomeAnd next (λ found. (found.items ≡ queries) × (self.new.bytes ≡ rest)))
-                (λ fault. fault ≡ WireFault.NoMemory) }
+            (λ next. IsSomeAnd next (λ found. (found.items ≡ queries) × (self.new.bytes ≡ rest)))
+            (λ fault. fault ≡ WireFault.NoMemory) }
     {
         self.advance()
     }

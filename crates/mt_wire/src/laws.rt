@@ -5,29 +5,24 @@ ghost use Rattle.mt_wire.specs.Laws.{QueriesReadOneWay, ResponsesReadOneWay, Req
 /// No spelling of a query begins another, and no two queries have one spelling.
 pub fn queries_are_read_one_way()
     ensures { QueriesReadOneWay }
-{
-}
+{}
 
 /// No spelling of an answer begins another, and no two answers have one spelling.
 pub fn responses_are_read_one_way()
     ensures { ResponsesReadOneWay }
-{
-}
+{}
 
 /// No frame of requests begins another, and each holds one list of queries.
 pub fn request_frames_are_read_one_way()
     ensures { RequestFramesReadOneWay }
-{
-}
+{}
 
 /// No frame of replies begins another, and each holds one list of answers.
 pub fn reply_frames_are_read_one_way()
     ensures { ReplyFramesReadOneWay }
-{
-}
+{}
 
 /// Where a frame of requests stands, none has only begun, and no fault stands.
 pub fn a_frame_stands_alone()
     ensures { FrameStandsAlone }
-{
-}
+{}

@@ -17,4 +17,6 @@ pub mod replies;
 pub mod response;
 mod response_reading;
 mod response_writing;
+#[cfg(test)]
+mod tests;
 mod writing;

@@ -4,8 +4,8 @@ ghost use Rattle.std.specs.Prelude.{◌≡◌};
 ghost use Rattle.mt_wire.specs.Reading.{Gives, kind_at, test_rest, end_rest, spec_rest, query_rest, get_at, put_at, remove_at, range_at, tidy_at, build_at, view_read_at, view_drop_at};
 
 use crate::fault::ReadError;
-use crate::reading::{Readable, byte, column_numbers, counted, key, number16, number64, short};
 use crate::query::Query;
+use crate::reading::{Readable, byte, column_numbers, counted, key, number16, number64, short};
 use bytes::Bytes;
 use mt_types::event::Request;
 use mt_types::items::Items;

@@ -6,7 +6,9 @@ ghost use Rattle.mt_wire.specs.Fits.{TestLengths, EndLengths, SpecLengths, Query
 ghost use Rattle.mt_wire.specs.declared.query.Query.TheVariants.{Call};
 
 use crate::query::Query;
-use crate::writing::{Writable, counted, counted_fits, head, key, key_fits, number16, number64, short, short_fits};
+use crate::writing::{
+    Writable, counted, counted_fits, head, key, key_fits, number16, number64, short, short_fits,
+};
 use bytes::Bytes;
 use mt_types::event::Request;
 use mt_types::row::Column;
@@ -87,7 +89,10 @@ fn write_request(out: &mut Vec<u8>, request: &Request) -> Result<(), AllocError>
     ensures { OnOk result (out.new.items ≡ out.old.items ++ query_spelling (Call request.now)) }
 {
     match request {
-        Request::Get { key: asked, columns } => {
+        Request::Get {
+            key: asked,
+            columns,
+        } => {
             out.push(1)?;
             key(out, asked)?;
             short(out, columns.as_slice())

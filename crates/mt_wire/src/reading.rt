@@ -75,7 +75,11 @@ pub fn column_numbers(alloc: Global, input: &mut Bytes) -> Result<ColumnNumbers,
 }
 
 // As many items.
-pub fn items<T: Readable + Drop>(alloc: Global, input: &mut Bytes, count: usize) -> Result<Vec<T>, ReadError>
+pub fn items<T: Readable + Drop>(
+    alloc: Global,
+    input: &mut Bytes,
+    count: usize,
+) -> Result<Vec<T>, ReadError>
     ensures { Gives (λ x. (x.items, input.new)) result (times_at T.reading count input.old) }
 {
     let mut items = Vec::new(alloc);

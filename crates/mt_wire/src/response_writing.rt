@@ -6,7 +6,10 @@ ghost use Rattle.mt_wire.specs.Fits.{RowLengths, PairsLengths, EndLengthsOf, Res
 ghost use Rattle.mt_wire.specs.declared.response.Response.TheVariants.{Done, View};
 
 use crate::response::{End, Response};
-use crate::writing::{Writable, all_fit, counted, counted_fits, head, items, key, number16, number64, short, short_fits};
+use crate::writing::{
+    Writable, all_fit, counted, counted_fits, head, items, key, number16, number64, short,
+    short_fits,
+};
 use mt_types::event::TidyRule;
 use mt_types::key::Key;
 use mt_types::refusal::Refusal;
@@ -181,7 +184,8 @@ impl Writable for Response {
     fn fits(&self) -> bool {
         match self {
             Response::Done { end, .. } => end_fits(end),
-            Response::View(page) => page.sums.as_slice().len() < 0x100 && pairs_fit(page.rows.as_slice()),
+            Response::View(page) => page.sums.as_slice().len() < 0x100
+                && pairs_fit(page.rows.as_slice()),
             Response::Refused(_) | Response::Dropped => true,
         }
     }
