@@ -5,3 +5,4 @@ pub mod ResponseLaws
 pub mod Joined
 pub mod FrameLaws
 pub mod ReadingLaws
+pub mod StreamLaws

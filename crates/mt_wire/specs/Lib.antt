@@ -7,3 +7,4 @@ pub mod Reading
 pub mod Bodies
 pub mod KeptFields
 pub mod Laws
+pub mod Streams

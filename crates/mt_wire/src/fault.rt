@@ -81,6 +81,16 @@ impl From<AllocError> for WireFault {
     }
 }
 
+impl<T: Drop> From<AllocFailed<T>> for WireFault {
+    ghost use Rattle.mt_wire.specs.declared.fault.WireFault.TheVariants.{NoMemory};
+
+    ghost from_gives = { λ _ fault. fault ≡ NoMemory };
+
+    fn from(_: AllocFailed<T>) -> WireFault {
+        WireFault::NoMemory
+    }
+}
+
 impl From<AllocError> for EncodeError {
     ghost use Rattle.mt_wire.specs.declared.fault.EncodeError.TheVariants.{NoMemory};
 

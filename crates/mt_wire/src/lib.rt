@@ -17,6 +17,7 @@ pub mod replies;
 pub mod response;
 mod response_reading;
 mod response_writing;
+pub mod stream;
 #[cfg(test)]
 mod tests;
 mod writing;

@@ -1,4 +1,4 @@
-use Rattle.std.proofs.Common.{List, ℕ, subst, arith, rules}
+use Rattle.std.proofs.Common.{List, ℕ, subst, rules}
 use Rattle.mt_wire.specs.declared.limits.TheConstants.{MAX_REPLY_BODY}
 use Rattle.mt_wire.specs.Frames.{IsOneFrame}
 use Rattle.mt_wire.proofs.ReadingLaws.{found_replies, only_replies, reply_fault}
