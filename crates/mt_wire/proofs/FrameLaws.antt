@@ -114,7 +114,7 @@ body_again {A} {F} {spell} {item} exact xs h = rw (messages_again exact xs h) re
 
 -- ---- frames
 
-announced_by : (frame rest : List ℕ) → 4 ≤ length frame → announced (frame ++ rest) ≡ announced frame
+pub announced_by : (frame rest : List ℕ) → 4 ≤ length frame → announced (frame ++ rest) ≡ announced frame
 announced_by frame rest h = ap (from_be_bytes w32) (take-append-le 4 frame rest h)
 
 pub spelled_length : (body rest : List ℕ) → length body < 2 ^ 32 → announced ((to_be_bytes w32 (length body) ++ body) ++ rest) ≡ length body

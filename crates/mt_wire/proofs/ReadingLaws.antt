@@ -1,11 +1,14 @@
 -- Messages and frames are read one way.
-use Rattle.std.proofs.Common.{◌≡◌, ◌≢◌, ℕ, ◌+◌, ◌^◌, ◌<◌, ◌≤◌, List, ◌++◌, ◌∷◌, length, take, drop, Option, Some, None, Result, Ok, Err, refl, sym, ap, subst, ◌∙◌, append_assoc, arith, inl, inr}
+use Rattle.std.proofs.Common.{◌≡◌, ◌≢◌, ℕ, ◌+◌, ◌^◌, ◌<◌, ◌≤◌, List, ◌++◌, [], ◌∷◌, length, get_or, take, drop, Option, Some, None, Result, Ok, Err, refl, sym, ap, subst, ◌∙◌, append_assoc, arith, inl, inr}
 use Rattle.std.specs.Prelude.{slice_index, IfOk, IfErr, IfSome, IfNone, IsSomeAnd, MatchResult}
 use Rattle.std.specs.Global.{Vec}
 use Rattle.std.specs.Int.{w32, from_be_bytes, to_be_bytes}
 use Rattle.std.proofs.lemmas.Nat.{from_be_bytes-to_be_bytes_4}
 use Rattle.std.proofs.lemmas.Option.{some_pair_parts}
-use Rattle.std.proofs.lemmas.List.{take_at, drop_at, length-append, length-drop, get_or-drop}
+use Rattle.std.proofs.lemmas.List.{take_at, drop_at, length-append, length-drop, get_or-drop, get_or_append_left, take-append-le, take-append-drop}
+use Rattle.std.proofs.lemmas.List.Concat.{flat_map-cons}
+use Rattle.std.specs.List.{AllByRecursion, flat_map}
+use Rattle.mt_wire.specs.Streams.{lists_of, stream_of, IsStream, HasFault}
 use Rattle.mt_types.specs.declared.limits.TheConstants.{MAX_REQUEST_BODY}
 use Rattle.mt_wire.specs.declared.limits.TheConstants.{MAX_REPLY_BODY}
 use Rattle.mt_wire.specs.declared.query.Query.{Query}
@@ -17,11 +20,11 @@ use Rattle.mt_wire.specs.Fits.{QueryFits, ResponseFits}
 use Rattle.mt_wire.specs.Frames.{Holds, RequestsFit, RepliesFit, request_frame, reply_frame, announced, LengthFits, IsBegun, IsWhole, FaultStands, Kept, IsOneFrame, ReplyFaultStands}
 use Rattle.mt_wire.specs.Reading.{Reader, kind_at, query_rest, response_rest}
 use Rattle.mt_wire.specs.Bodies.{IsBytes, Reads, body_at}
-use Rattle.mt_wire.specs.Laws.{ReadOneWay, QueriesReadOneWay, ResponsesReadOneWay, RequestFramesReadOneWay, ReplyFramesReadOneWay, FrameStandsAlone}
+use Rattle.mt_wire.specs.Laws.{ReadOneWay, QueriesReadOneWay, ResponsesReadOneWay, RequestFramesReadOneWay, ReplyFramesReadOneWay, FrameStandsAlone, FaultStays}
 use Rattle.mt_wire.proofs.Exact.{IsExact, IsBytes-drop}
 use Rattle.mt_wire.proofs.QueryLaws.{query_exact}
 use Rattle.mt_wire.proofs.ResponseLaws.{response_exact}
-use Rattle.mt_wire.proofs.FrameLaws.{body_takes, body_again, spelled_length, frame_of_body, length_is_good, version_differs, version_same}
+use Rattle.mt_wire.proofs.FrameLaws.{body_takes, body_again, spelled_length, frame_of_body, announced_by, length_is_good, version_differs, version_same}
 
 read_one_way : {A : Type 0} {F : A → Type 0} {spell : A → List ℕ} {item : Reader A} → IsExact A F spell item → ReadOneWay F spell
 read_one_way {A} {F} {spell} {item} exact x y a b fx fy e =
@@ -151,3 +154,82 @@ reply_fault frame (Err faults.BadBody) is h = λ other. (
   sym (get_or-drop {A = ℕ} 4 frame 0 0) ∙ version_same (kind_at response_rest) (drop 4 frame) (omega (arith, length-drop 4 frame, is.whole, is.fits)) h,
   λ responses fits e. no_replies responses fits (sym h ∙ ap (λ (x : List ℕ). body_at (kind_at response_rest) (drop 4 x)) e ∙ body_again response_exact responses fits.0),
 )
+
+-- ---- a fault stays
+
+whole_stays : (bytes more : List ℕ) → IsWhole MAX_REQUEST_BODY bytes → IsWhole MAX_REQUEST_BODY (bytes ++ more)
+whole_stays bytes more h =
+    let told = announced_by bytes more h.0 in
+    let size = length-append bytes more in
+    (omega (arith, size, h.0), (omega (arith, told, h.1), omega (arith, told, h.1)), omega (arith, told, size, h.2))
+
+version_stays : (bytes more : List ℕ) → IsWhole MAX_REQUEST_BODY bytes → get_or (bytes ++ more) 4 0 ≡ get_or bytes 4 0
+version_stays bytes more h = get_or_append_left bytes more 0 4 (omega (arith, h.1, h.2))
+
+frame_at_front : (bytes more after : List ℕ) (queries : List Query) → IsWhole MAX_REQUEST_BODY bytes → RequestsFit queries → bytes ++ more ≡ request_frame queries ++ after
+    → bytes ≡ request_frame queries ++ drop (4 + length (body_of query_spelling queries)) bytes
+frame_at_front bytes more after queries h fits e =
+    let body = body_of query_spelling queries in
+    let n = 4 + length body in
+    let told : announced bytes ≡ length body = sym (announced_by bytes more h.0) ∙ ap announced e ∙ spelled_length body after (omega (arith, fits.1)) in
+    let long : n ≤ length bytes = omega (arith, told, h.2) in
+    let front : take n bytes ≡ request_frame queries = sym (take-append-le n bytes more long) ∙ ap (take n) e ∙ take_at (request_frame queries) after n (omega arith) in
+    sym (take-append-drop n bytes) ∙ ap (λ (x : List ℕ). x ++ drop n bytes) front
+
+pub fault_stays : FaultStays
+fault_stays faults.NoMemory bytes more h = h
+fault_stays faults.BadLength bytes more h =
+    (omega (arith, length-append bytes more, h.0), λ fits. h.1 (subst (λ (n : ℕ). LengthFits MAX_REQUEST_BODY n) (announced_by bytes more h.0) fits))
+fault_stays faults.BadVersion bytes more h = (whole_stays bytes more h.0, λ same. h.1 (sym (version_stays bytes more h.0) ∙ same))
+fault_stays faults.BadBody bytes more h =
+    (whole_stays bytes more h.0, version_stays bytes more h.0 ∙ h.1, λ queries after fits e. h.2 queries (drop (4 + length (body_of query_spelling queries)) bytes) fits (frame_at_front bytes more after queries h.0 fits e))
+
+whole_not_begun : (bytes : List ℕ) → IsWhole MAX_REQUEST_BODY bytes → IsBegun MAX_REQUEST_BODY bytes → ⊥
+whole_not_begun bytes h begun = elim begun [ | inl short ↦ omega (arith, h.0, short) | inr more ↦ omega (arith, h.2, more.1) ]
+
+begun_has_no_fault : (fault : WireFault) (bytes : List ℕ) → FaultStands fault bytes → IsBegun MAX_REQUEST_BODY bytes → ⊥
+begun_has_no_fault faults.NoMemory bytes h begun = h
+begun_has_no_fault faults.BadLength bytes h begun = elim begun [ | inl short ↦ omega (arith, h.0, short) | inr more ↦ h.1 more.0 ]
+begun_has_no_fault faults.BadVersion bytes h begun = whole_not_begun bytes h.0 begun
+begun_has_no_fault faults.BadBody bytes h begun = whole_not_begun bytes h.0 begun
+
+-- ---- streams
+
+front_of : (queries : List Query) (frames : List (List Query)) (rest : List ℕ) → stream_of (queries ∷ frames) rest ≡ request_frame queries ++ stream_of frames rest
+front_of queries frames rest = ap (λ (w : List ℕ). w ++ rest) (flat_map-cons request_frame queries frames) ∙ append_assoc (request_frame queries) (flat_map request_frame frames) rest
+
+streams_read_one_way : (a b : List (List Query)) (x y : List ℕ) → AllByRecursion RequestsFit a → AllByRecursion RequestsFit b → IsBegun MAX_REQUEST_BODY x → IsBegun MAX_REQUEST_BODY y
+    → stream_of a x ≡ stream_of b y → a ≡ b
+streams_read_one_way [] [] x y fa fb hx hy e = refl
+streams_read_one_way [] (q ∷ b) x y fa fb hx hy e =
+    absurd (not_begun q (stream_of b y) fb.0 (subst (λ (w : List ℕ). IsBegun MAX_REQUEST_BODY w) (e ∙ front_of q b y) hx))
+streams_read_one_way (p ∷ a) [] x y fa fb hx hy e =
+    absurd (not_begun p (stream_of a x) fa.0 (subst (λ (w : List ℕ). IsBegun MAX_REQUEST_BODY w) (sym e ∙ front_of p a x) hy))
+streams_read_one_way (p ∷ a) (q ∷ b) x y fa fb hx hy e =
+    let same = request_frames_read_one_way p q (stream_of a x) (stream_of b y) fa.0 fb.0 (sym (front_of p a x) ∙ e ∙ front_of q b y) in
+    let others = streams_read_one_way a b x y fa.1 fb.1 hx hy same.1 in
+    ap (λ (r : List Query). r ∷ a) same.0 ∙ ap (λ (rs : List (List Query)). q ∷ rs) others
+
+stream_has_no_fault : (a b : List (List Query)) (x y : List ℕ) (fault : WireFault) → AllByRecursion RequestsFit a → AllByRecursion RequestsFit b → IsBegun MAX_REQUEST_BODY x → FaultStands fault y
+    → stream_of a x ≡ stream_of b y → ⊥
+stream_has_no_fault [] [] x y fault fa fb hx hy e = begun_has_no_fault fault y hy (subst (λ (w : List ℕ). IsBegun MAX_REQUEST_BODY w) e hx)
+stream_has_no_fault [] (q ∷ b) x y fault fa fb hx hy e =
+    not_begun q (stream_of b y) fb.0 (subst (λ (w : List ℕ). IsBegun MAX_REQUEST_BODY w) (e ∙ front_of q b y) hx)
+stream_has_no_fault (p ∷ a) [] x y fault fa fb hx hy e =
+    no_fault p (stream_of a x) fa.0 fault (subst (λ (w : List ℕ). FaultStands fault w) (sym e ∙ front_of p a x) hy)
+stream_has_no_fault (p ∷ a) (q ∷ b) x y fault fa fb hx hy e =
+    let same = request_frames_read_one_way p q (stream_of a x) (stream_of b y) fa.0 fb.0 (sym (front_of p a x) ∙ e ∙ front_of q b y) in
+    stream_has_no_fault a b x y fault fa.1 fb.1 hx hy same.1
+
+no_fault_in : (stream : List ℕ) (frames : List (List Query)) (fault : WireFault) → IsStream stream frames → HasFault fault stream → ⊥
+no_fault_in stream frames fault is has =
+    stream_has_no_fault frames has.0 is.0 (has.1 ++ has.2) fault is.2 has.4 is.3 (fault_stays fault has.1 has.2 has.5) (sym is.1 ∙ has.3 ∙ append_assoc (flat_map request_frame has.0) has.1 has.2)
+
+pub only_stream : (stream : List ℕ) (r : Result (Vec (Vec Query)) WireFault)
+    → IfOk r (λ frames. IsStream stream (lists_of frames.items)) → IfErr r (λ fault. fault ≢ faults.NoMemory → HasFault fault stream)
+    → (frames : List (List Query)) → IsStream stream frames → MatchResult r (λ found. lists_of found.items ≡ frames) (λ fault. fault ≡ faults.NoMemory)
+only_stream stream (Ok found) ok err frames is = streams_read_one_way (lists_of found.items) frames ok.0 is.0 ok.2 is.2 ok.3 is.3 (sym ok.1 ∙ is.1)
+only_stream stream (Err faults.NoMemory) ok err frames is = refl
+only_stream stream (Err faults.BadLength) ok err frames is = absurd (no_fault_in stream frames faults.BadLength is (err (λ k. cc)))
+only_stream stream (Err faults.BadVersion) ok err frames is = absurd (no_fault_in stream frames faults.BadVersion is (err (λ k. cc)))
+only_stream stream (Err faults.BadBody) ok err frames is = absurd (no_fault_in stream frames faults.BadBody is (err (λ k. cc)))

@@ -32,3 +32,7 @@ FrameStandsAlone =
     (queries : List Query) (rest : List ℕ) → RequestsFit queries
     → (¬ IsBegun MAX_REQUEST_BODY (request_frame queries ++ rest))
     × ((fault : WireFault) → ¬ FaultStands fault (request_frame queries ++ rest))
+
+-- a fault that stands goes on standing, whatever follows
+abbrev pub FaultStays : Type 0
+FaultStays = (fault : WireFault) (bytes more : List ℕ) → FaultStands fault bytes → FaultStands fault (bytes ++ more)

@@ -1,6 +1,6 @@
 //! Laws of the format, each of them the contract of a function that does nothing.
 
-ghost use Rattle.mt_wire.specs.Laws.{QueriesReadOneWay, ResponsesReadOneWay, RequestFramesReadOneWay, ReplyFramesReadOneWay, FrameStandsAlone};
+ghost use Rattle.mt_wire.specs.Laws.{QueriesReadOneWay, ResponsesReadOneWay, RequestFramesReadOneWay, ReplyFramesReadOneWay, FrameStandsAlone, FaultStays};
 
 /// No spelling of a query begins another, and no two queries have one spelling.
 pub fn queries_are_read_one_way()
@@ -26,3 +26,9 @@ pub fn reply_frames_are_read_one_way()
 pub fn a_frame_stands_alone()
     ensures { FrameStandsAlone }
 {}
+
+/// A fault that stands goes on standing, whatever follows.
+pub fn a_fault_stays()
+    ensures { FaultStays }
+{
+}

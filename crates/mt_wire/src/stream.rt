@@ -1,6 +1,7 @@
 //! A whole stream of frames of queries, in pieces.
 
-ghost use Rattle.std.specs.Prelude.{◌≡◌, ◌≢◌, ◌++◌, None, IfOk, IfErr, OnOk};
+ghost use Rattle.std.specs.Prelude.{◌≡◌, ◌≢◌, ◌++◌, None, List, IfOk, IfErr, OnOk, MatchResult};
+ghost use Rattle.mt_wire.specs.declared.query.Query.{Query};
 ghost use Rattle.std.specs.List.{AllByRecursion};
 ghost use Rattle.mt_wire.specs.Frames.{IsBegun, FaultStands, RequestsFit};
 ghost use Rattle.mt_wire.specs.Streams.{lists_of, joined, stream_of, IsStream, HasFault};
@@ -29,13 +30,8 @@ fn drain(decoder: &mut Decoder, frames: &mut Vec<Vec<Query>>) -> Result<(), Wire
     Ok(())
 }
 
-/// The queries of each frame of a stream that came in these pieces, up to a rest that is less than a frame.
-/// O(n) in the bytes.
-///
-/// # Errors
-///
-/// The first fault that stands in the stream after whole frames, or `NoMemory`.
-pub fn decode_requests(alloc: Global, pieces: &[Vec<u8>]) -> Result<Vec<Vec<Query>>, WireFault>
+// `decode_requests`, without the clause that follows from the others.
+fn frames_of(alloc: Global, pieces: &[Vec<u8>]) -> Result<Vec<Vec<Query>>, WireFault>
     ensures stream { IfOk result (λ frames. IsStream (joined pieces.now) (lists_of frames.items)) }
     ensures fault { IfErr result (λ fault. fault ≢ WireFault.NoMemory → HasFault fault (joined pieces.now)) }
 {
@@ -46,4 +42,19 @@ pub fn decode_requests(alloc: Global, pieces: &[Vec<u8>]) -> Result<Vec<Vec<Quer
         drain(&mut decoder, &mut frames)?;
     }
     Ok(frames)
+}
+
+/// The queries of each frame of a stream that came in these pieces, up to a rest that is less than a frame.
+/// O(n) in the bytes.
+///
+/// # Errors
+///
+/// The fault that stands in the stream after whole frames, or `NoMemory`.
+pub fn decode_requests(alloc: Global, pieces: &[Vec<u8>]) -> Result<Vec<Vec<Query>>, WireFault>
+    ensures stream { IfOk result (λ frames. IsStream (joined pieces.now) (lists_of frames.items)) }
+    ensures only { (frames : List (List Query)) → IsStream (joined pieces.now) frames
+        → MatchResult result (λ found. lists_of found.items ≡ frames) (λ fault. fault ≡ WireFault.NoMemory) }
+    ensures fault { IfErr result (λ fault. fault ≢ WireFault.NoMemory → HasFault fault (joined pieces.now)) }
+{
+    frames_of(alloc, pieces)
 }

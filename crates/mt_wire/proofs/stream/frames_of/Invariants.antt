@@ -3,7 +3,7 @@ use Rattle.std.specs.List.{AllByRecursion}
 use Rattle.mt_types.specs.declared.limits.TheConstants.{MAX_REQUEST_BODY}
 use Rattle.mt_wire.specs.Frames.{RequestsFit, IsBegun}
 use Rattle.mt_wire.specs.Streams.{lists_of, joined, stream_of}
-use Rattle.mt_wire.proofs.stream.decode_requests.Given as goal
+use Rattle.mt_wire.proofs.stream.frames_of.Given as goal
 
 -- the pieces so far are the frames and what is kept
 abbrev pub invariant-loop-piece : goal.invariant-loop-piece
