@@ -185,11 +185,11 @@ fault_stays faults.BadBody bytes more h =
     (whole_stays bytes more h.0, version_stays bytes more h.0 ∙ h.1, λ queries after fits e. h.2 queries (drop (4 + length (body_of query_spelling queries)) bytes) fits (frame_at_front bytes more after queries h.0 fits e))
 
 whole_not_begun : (bytes : List ℕ) → IsWhole MAX_REQUEST_BODY bytes → IsBegun MAX_REQUEST_BODY bytes → ⊥
-whole_not_begun bytes h begun = elim begun [ | inl short ↦ omega (arith, h.0, short) | inr more ↦ omega (arith, h.2, more.1) ]
+whole_not_begun bytes h begun = elim begun [ inl short ↦ omega (arith, h.0, short) | inr more ↦ omega (arith, h.2, more.1) ]
 
 begun_has_no_fault : (fault : WireFault) (bytes : List ℕ) → FaultStands fault bytes → IsBegun MAX_REQUEST_BODY bytes → ⊥
 begun_has_no_fault faults.NoMemory bytes h begun = h
-begun_has_no_fault faults.BadLength bytes h begun = elim begun [ | inl short ↦ omega (arith, h.0, short) | inr more ↦ h.1 more.0 ]
+begun_has_no_fault faults.BadLength bytes h begun = elim begun [ inl short ↦ omega (arith, h.0, short) | inr more ↦ h.1 more.0 ]
 begun_has_no_fault faults.BadVersion bytes h begun = whole_not_begun bytes h.0 begun
 begun_has_no_fault faults.BadBody bytes h begun = whole_not_begun bytes h.0 begun
 

@@ -25,5 +25,5 @@ pub fault_in_stream : (pieces : List (Vec ℕ)) (i : ℕ) (piece : Vec ℕ) (fra
 fault_in_stream pieces i piece frames frames_after kept kept_after fault lt is so_far taken fit stands =
     let more = joined (drop (i + 1) pieces) in
     let fed : joined (take (i + 1) pieces) ≡ stream_of frames_after kept_after =
-        joined_more pieces i piece lt is ∙ ap (λ (w : List ℕ). w ++ piece.items) so_far ∙ append_assoc _ kept piece.items ∙ sym taken in
+    joined_more pieces i piece lt is ∙ ap (λ (w : List ℕ). w ++ piece.items) so_far ∙ append_assoc _ kept piece.items ∙ sym taken in
     (frames_after, kept_after, more, joined_parts pieces (i + 1) ∙ ap (λ (w : List ℕ). w ++ more) fed, fit, stands)

@@ -33,7 +33,8 @@ abbrev pub RequestsFit : List Query → Type 0
 RequestsFit queries = Holds QueryFits queries × (length (body_of query_spelling queries) ≤ MAX_REQUEST_BODY)
 
 abbrev pub RepliesFit : List Response → Type 0
-RepliesFit responses = Holds ResponseFits responses × (length (body_of response_spelling responses) ≤ MAX_REPLY_BODY)
+RepliesFit responses =
+    Holds ResponseFits responses × (length (body_of response_spelling responses) ≤ MAX_REPLY_BODY)
 
 -- ---- the front of bytes
 
@@ -47,7 +48,8 @@ LengthFits most len = (2 ≤ len) × (len ≤ most)
 
 -- a frame has begun and not ended: a byte of its length or of its body is still to come
 abbrev pub IsBegun : ℕ → List ℕ → Type 0
-IsBegun most bytes = (length bytes < 4) ⊎ (LengthFits most (announced bytes) × (length bytes < 4 + announced bytes))
+IsBegun most bytes =
+    (length bytes < 4) ⊎ (LengthFits most (announced bytes) × (length bytes < 4 + announced bytes))
 
 -- all of a frame is there
 abbrev pub IsWhole : ℕ → List ℕ → Type 0

@@ -35,4 +35,5 @@ FrameStandsAlone =
 
 -- a fault that stands goes on standing, whatever follows
 abbrev pub FaultStays : Type 0
-FaultStays = (fault : WireFault) (bytes more : List ℕ) → FaultStands fault bytes → FaultStands fault (bytes ++ more)
+FaultStays =
+    (fault : WireFault) (bytes more : List ℕ) → FaultStands fault bytes → FaultStands fault (bytes ++ more)

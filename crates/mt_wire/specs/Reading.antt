@@ -199,12 +199,18 @@ refusal_rest (suc (suc (suc (suc (suc (suc (suc zero))))))) = made (λ x. FeedFu
 refusal_rest (suc (suc (suc (suc (suc (suc (suc (suc zero)))))))) = made (λ _. TooManyCalls) no_detail_at
 refusal_rest (suc (suc (suc (suc (suc (suc (suc (suc (suc zero))))))))) = made (λ _. NoSuchCall) no_detail_at
 refusal_rest (suc (suc (suc (suc (suc (suc (suc (suc (suc (suc zero)))))))))) = made (λ _. TooManyViews) no_detail_at
-refusal_rest (suc (suc (suc (suc (suc (suc (suc (suc (suc (suc (suc zero))))))))))) = made (λ _. NoSuchView) no_detail_at
-refusal_rest (suc (suc (suc (suc (suc (suc (suc (suc (suc (suc (suc (suc zero)))))))))))) = made (λ x. Behind x) (number_at w64)
-refusal_rest (suc (suc (suc (suc (suc (suc (suc (suc (suc (suc (suc (suc (suc zero))))))))))))) = made (λ _. BadRange) no_detail_at
-refusal_rest (suc (suc (suc (suc (suc (suc (suc (suc (suc (suc (suc (suc (suc (suc zero)))))))))))))) = made (λ _. Spent) no_detail_at
-refusal_rest (suc (suc (suc (suc (suc (suc (suc (suc (suc (suc (suc (suc (suc (suc (suc zero))))))))))))))) = made (λ _. WrongPass) no_detail_at
-refusal_rest (suc (suc (suc (suc (suc (suc (suc (suc (suc (suc (suc (suc (suc (suc (suc (suc kind)))))))))))))))) = λ bytes. None
+refusal_rest (suc (suc (suc (suc (suc (suc (suc (suc (suc (suc (suc zero))))))))))) =
+    made (λ _. NoSuchView) no_detail_at
+refusal_rest (suc (suc (suc (suc (suc (suc (suc (suc (suc (suc (suc (suc zero)))))))))))) =
+    made (λ x. Behind x) (number_at w64)
+refusal_rest (suc (suc (suc (suc (suc (suc (suc (suc (suc (suc (suc (suc (suc zero))))))))))))) =
+    made (λ _. BadRange) no_detail_at
+refusal_rest (suc (suc (suc (suc (suc (suc (suc (suc (suc (suc (suc (suc (suc (suc zero)))))))))))))) =
+    made (λ _. Spent) no_detail_at
+refusal_rest (suc (suc (suc (suc (suc (suc (suc (suc (suc (suc (suc (suc (suc (suc (suc zero))))))))))))))) =
+    made (λ _. WrongPass) no_detail_at
+refusal_rest (suc (suc (suc (suc (suc (suc (suc (suc (suc (suc (suc (suc (suc (suc (suc (suc kind)))))))))))))))) =
+    λ bytes. None
 
 unfoldable pub rule_rest : ℕ → Reader TidyRule
 rule_rest zero = made (λ _. Nothing) nothing_at

@@ -103,7 +103,8 @@ response_spelling (Done start stop (Rows pairs)) = 4 ∷ (span_spelling start st
 response_spelling (Done start stop (Tidied rule)) = 5 ∷ (span_spelling start stop ++ rule_spelling rule)
 response_spelling (Done start stop (Built view)) = 6 ∷ (span_spelling start stop ++ to_be_bytes w64 view.0)
 response_spelling (View page) =
-    7 ∷ (to_be_bytes w64 page.at ++ to_be_bytes w64 page.count ++ counted sum_spelling page.sums ++ pairs_spelling page.rows)
+    7 ∷ (to_be_bytes w64 page.at ++ to_be_bytes w64 page.count ++ counted sum_spelling page.sums
+    ++ pairs_spelling page.rows)
 response_spelling Dropped = 8 ∷ []
 
 -- a body: the version, and the messages

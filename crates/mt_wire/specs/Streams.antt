@@ -22,7 +22,8 @@ stream_of frames rest = flat_map request_frame frames ++ rest
 -- the stream is these frames, and then less than a whole one
 abbrev pub IsStream : List ℕ → List (List Query) → Type 0
 IsStream stream frames =
-    (rest : List ℕ) × (stream ≡ stream_of frames rest) × AllByRecursion RequestsFit frames × IsBegun MAX_REQUEST_BODY rest
+    (rest : List ℕ) × (stream ≡ stream_of frames rest) × AllByRecursion RequestsFit frames
+    × IsBegun MAX_REQUEST_BODY rest
 
 -- after some frames this fault stands in the stream
 abbrev pub HasFault : WireFault → List ℕ → Type 0

@@ -30,5 +30,4 @@ pub fn a_frame_stands_alone()
 /// A fault that stands goes on standing, whatever follows.
 pub fn a_fault_stays()
     ensures { FaultStays }
-{
-}
+{}

@@ -1,6 +1,9 @@
 //! What a server answers.
 
-use mt_types::event::TidyRule;
+ghost use Rattle.std.specs.Prelude.{◌≡◌};
+ghost use Rattle.mt_wire.specs.Answered.{end_of};
+
+use mt_types::event::{Answer, Reply, TidyRule};
 use mt_types::numbers::ViewNo;
 use mt_types::refusal::Refusal;
 use mt_types::row::{Pairs, Row};
@@ -40,4 +43,35 @@ pub enum End {
     Tidied(TidyRule),
     /// The view of a build.
     Built(ViewNo),
+}
+
+fn end_of(answer: Answer) -> End
+    ensures { result ≡ end_of answer }
+{
+    match answer {
+        Answer::Absent => End::Absent,
+        Answer::Found(row) => End::Found(row),
+        Answer::Stored(number) | Answer::Removed(number) => End::Committed(number),
+        Answer::Rows(pairs) => End::Rows(pairs),
+        Answer::Tidied(rule) => End::Tidied(rule),
+        Answer::Built(view) => End::Built(view),
+    }
+}
+
+impl From<Reply> for Response {
+    ghost use Rattle.mt_wire.specs.Answered.{response_of};
+
+    ghost from_gives = { λ reply response. response ≡ response_of reply };
+
+    /// What the wire tells of the end of a call.
+    fn from(reply: Reply) -> Response {
+        let Reply {
+            from,
+            to,
+            answer,
+            ..
+        } = reply;
+        let end = end_of(answer);
+        Response::Done { from, to, end }
+    }
 }

@@ -22,7 +22,7 @@ fn drain(decoder: &mut Decoder, frames: &mut Vec<Vec<Query>>) -> Result<(), Wire
         → AllByRecursion RequestsFit (lists_of frames.new.items) }
     ensures fault { IfErr result (λ fault. fault ≢ WireFault.NoMemory → FaultStands fault decoder.new.bytes
         × (stream_of (lists_of frames.new.items) decoder.new.bytes
-            ≡ stream_of (lists_of frames.old.items) decoder.old.bytes)) }
+        ≡ stream_of (lists_of frames.old.items) decoder.old.bytes)) }
 {
     while let Some(queries) = decoder.next()? {
         frames.push(queries)?;

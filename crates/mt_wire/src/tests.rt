@@ -7,11 +7,12 @@ use crate::laws;
 use crate::query::Query;
 use crate::replies::decode_replies;
 use crate::response::{End, Response};
+use crate::stream::decode_requests;
 use bytes::Bytes;
-use mt_types::event::{Request, TidyRule};
+use mt_types::event::{Answer, Reply, Request, TidyRule};
 use mt_types::items::Items;
 use mt_types::key::Key;
-use mt_types::numbers::ViewNo;
+use mt_types::numbers::{CallNo, PassNo, ViewNo};
 use mt_types::refusal::Refusal;
 use mt_types::row::Row;
 use mt_types::view::{Page, RowTest, ViewSpec};
@@ -230,6 +231,39 @@ fn other_answers(rt: HostRuntime) -> Result<(), Fail> {
     Ok(())
 }
 
+// Whether two frames that are cut into pieces of seven bytes, with five bytes of a third, are read as these queries.
+fn ask_in_pieces(alloc: Global, queries: &[Query], frame: &[u8]) -> Result<bool, Fail> {
+    let mut stream = Vec::new(alloc);
+    stream.extend_from_slice(frame)?;
+    stream.extend_from_slice(frame)?;
+    stream.extend_from_slice(&[0, 0, 0, 9, 1])?;
+    let mut pieces = Vec::new(alloc);
+    for piece in stream.as_slice().chunks(7) {
+        pieces.push(Vec::from_slice(alloc, piece)?)?;
+    }
+    let frames = decode_requests(alloc, &pieces)?;
+    Ok(frames.len() == 2 && frames.iter().all(|read| read.as_slice() == queries))
+}
+
+#[test]
+fn stream_in_pieces(rt: HostRuntime) -> Result<(), Fail> {
+    let queries = asked(rt.alloc())?;
+    assert!(rt; ask_in_pieces(rt.alloc(), &queries, ASKED)?);
+    Ok(())
+}
+
+#[test]
+fn reply_is_told(rt: HostRuntime) {
+    let reply = Reply {
+        pass: PassNo(1),
+        call: CallNo(2),
+        from: 1,
+        to: 2,
+        answer: Answer::Removed(2),
+    };
+    assert_eq!(rt; Response::from(reply), done(End::Committed(2)));
+}
+
 #[test]
 fn laws_stand() {
     laws::queries_are_read_one_way();
@@ -237,4 +271,5 @@ fn laws_stand() {
     laws::request_frames_are_read_one_way();
     laws::reply_frames_are_read_one_way();
     laws::a_frame_stands_alone();
+    laws::a_fault_stays();
 }
