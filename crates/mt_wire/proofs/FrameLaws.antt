@@ -1,22 +1,22 @@
 -- Frames: what is cut off the front is a frame, and what its body spells is what the frame spells.
-use Rattle.std.proofs.Common.{◌≡◌, ◌≢◌, ℕ, zero, suc, ◌+◌, ◌^◌, ◌<◌, ◌≤◌, Bool, true, false, cond, eqb, ltb, ◌||◌, List, [], ◌∷◌, ◌++◌, length, get_or, take, drop, Option, Some, None, Result, Ok, Err, refl, sym, ap, subst, ◌∙◌, append_assoc, arith}
-use Rattle.std.specs.Prelude.{slice_index, IfOk, IfErr}
+use Rattle.std.proofs.Common.{◌≡◌, ◌≢◌, ℕ, ◌+◌, ◌^◌, ◌<◌, ◌≤◌, Bool, true, false, cond, eqb, ltb, ◌||◌, List, [], ◌∷◌, ◌++◌, length, get_or, take, drop, Option, Some, None, Result, Ok, Err, refl, sym, ap, subst, ◌∙◌, arith}
+use Rattle.std.specs.Prelude.{IfOk, IfErr}
 use Rattle.std.specs.Global.{Vec}
-use Rattle.std.specs.List.{AllByRecursion, flat_map}
+use Rattle.std.specs.List.{flat_map}
 use Rattle.std.specs.Int.{w32, from_be_bytes, to_be_bytes}
-use Rattle.std.proofs.lemmas.Bool.{ltb-false, ltb-true, le-ltb, lt-ltb, eqb-true, eqb-false}
+use Rattle.std.proofs.lemmas.Bool.{ltb-false, le-ltb, eqb-true, eqb-false}
 use Rattle.std.proofs.lemmas.List.{take-take, take-append-drop, take-append-le, drop-append-le, take_at, get_or-drop, get_or_append_left, length-take, length-drop, length-append, append-nil, nil_from_length}
 use Rattle.std.proofs.lemmas.Nat.{be_bytes_4, from_be_bytes-to_be_bytes_4}
 use Rattle.mt_types.specs.declared.limits.TheConstants.{MAX_QUERIES, MAX_REQUEST_BODY}
 use Rattle.mt_wire.specs.declared.fault.WireFault.{WireFault}
 use Rattle.mt_wire.specs.declared.fault.WireFault.TheVariants as faults
-use Rattle.mt_wire.specs.Spelling.{counted, body_of, frame_of, query_spelling}
-use Rattle.mt_wire.specs.Frames.{Holds, announced, LengthFits, IsWhole, IsOneFrame, FaultStands, RequestsFit, request_frame}
+use Rattle.mt_wire.specs.Spelling.{counted, body_of, query_spelling}
+use Rattle.mt_wire.specs.Frames.{Holds, announced, IsWhole, IsOneFrame, FaultStands, RequestsFit, request_frame}
 use Rattle.mt_wire.specs.Reading.{Reader, ◌>>=◌, byte_at, times_at, kind_at, query_rest}
 use Rattle.mt_wire.specs.Bodies.{FaultIs, Reads, messages_at, or_bad_body, body_at}
 use Rattle.mt_wire.specs.declared.query.Query.{Query}
 use Rattle.mt_wire.proofs.QueryLaws.{query_exact}
-use Rattle.mt_wire.proofs.Exact.{IsBytes, IsBytes-rest, IsBytes-take, IsBytes-drop, Takes, IsExact, bind_some, times_take, times_again, byte_again}
+use Rattle.mt_wire.proofs.Exact.{IsBytes, IsBytes-rest, IsBytes-take, IsBytes-drop, IsExact, bind_some, times_take, times_again}
 
 pub cut_is_frame : (bytes front rest : List ℕ) (len : ℕ) → 4 ≤ length bytes → len ≡ announced bytes → 2 ≤ len → len ≤ MAX_REQUEST_BODY → 4 + len ≤ length bytes → front ≡ take (4 + len) bytes → rest ≡ drop (4 + len) bytes
     → IsOneFrame MAX_REQUEST_BODY front × (bytes ≡ front ++ rest)

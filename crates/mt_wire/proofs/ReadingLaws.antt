@@ -1,8 +1,8 @@
 -- Messages and frames are read one way.
 use Rattle.std.proofs.Common.{◌≡◌, ◌≢◌, ℕ, ◌+◌, ◌^◌, ◌<◌, ◌≤◌, List, ◌++◌, [], ◌∷◌, length, get_or, take, drop, Option, Some, None, Result, Ok, Err, refl, sym, ap, subst, ◌∙◌, append_assoc, arith, inl, inr}
-use Rattle.std.specs.Prelude.{slice_index, IfOk, IfErr, IfSome, IfNone, IsSomeAnd, MatchResult}
+use Rattle.std.specs.Prelude.{IfOk, IfErr, IfSome, IfNone, IsSomeAnd, MatchResult}
 use Rattle.std.specs.Global.{Vec}
-use Rattle.std.specs.Int.{w32, from_be_bytes, to_be_bytes}
+use Rattle.std.specs.Int.{w32, to_be_bytes}
 use Rattle.std.proofs.lemmas.Nat.{from_be_bytes-to_be_bytes_4}
 use Rattle.std.proofs.lemmas.Option.{some_pair_parts}
 use Rattle.std.proofs.lemmas.List.{take_at, drop_at, length-append, length-drop, get_or-drop, get_or_append_left, take-append-le, take-append-drop}
@@ -16,9 +16,8 @@ use Rattle.mt_wire.specs.declared.response.Response.{Response}
 use Rattle.mt_wire.specs.declared.fault.WireFault.{WireFault}
 use Rattle.mt_wire.specs.declared.fault.WireFault.TheVariants as faults
 use Rattle.mt_wire.specs.Spelling.{query_spelling, response_spelling, body_of, frame_of}
-use Rattle.mt_wire.specs.Fits.{QueryFits, ResponseFits}
 use Rattle.mt_wire.specs.Frames.{Holds, RequestsFit, RepliesFit, request_frame, reply_frame, announced, LengthFits, IsBegun, IsWhole, FaultStands, Kept, IsOneFrame, ReplyFaultStands}
-use Rattle.mt_wire.specs.Reading.{Reader, kind_at, query_rest, response_rest}
+use Rattle.mt_wire.specs.Reading.{Reader, kind_at, response_rest}
 use Rattle.mt_wire.specs.Bodies.{IsBytes, Reads, body_at}
 use Rattle.mt_wire.specs.Laws.{ReadOneWay, QueriesReadOneWay, ResponsesReadOneWay, RequestFramesReadOneWay, ReplyFramesReadOneWay, FrameStandsAlone, FaultStays}
 use Rattle.mt_wire.proofs.Exact.{IsExact, IsBytes-drop}

@@ -1,12 +1,12 @@
 -- A fault in a stream that came in pieces.
-use Rattle.std.proofs.Common.{◌≡◌, ℕ, ◌+◌, ◌<◌, List, [], ◌∷◌, ◌++◌, length, get_or, take, drop, refl, sym, ap, ◌∙◌, append_assoc}
+use Rattle.std.proofs.Common.{◌≡◌, ℕ, ◌+◌, ◌<◌, List, [], ◌∷◌, ◌++◌, length, get_or, take, drop, sym, ap, ◌∙◌, append_assoc}
 use Rattle.std.specs.Global.{Vec}
 use Rattle.std.specs.List.{AllByRecursion}
 use Rattle.std.proofs.lemmas.List.{take_more, take-append-drop, append-nil}
 use Rattle.std.proofs.lemmas.List.Concat.{flat_map-append}
 use Rattle.mt_wire.specs.declared.query.Query.{Query}
 use Rattle.mt_wire.specs.declared.fault.WireFault.{WireFault}
-use Rattle.mt_wire.specs.Frames.{RequestsFit, FaultStands, request_frame}
+use Rattle.mt_wire.specs.Frames.{RequestsFit, FaultStands}
 use Rattle.mt_wire.specs.Streams.{joined, stream_of, HasFault}
 
 -- one piece more

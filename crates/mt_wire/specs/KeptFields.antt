@@ -1,5 +1,5 @@
 -- What a decoder keeps, read off its fields.
-use Rattle.std.specs.Prelude.{◌≡◌, ◌+◌, ◌≤◌, List, [], ◌++◌, length, Option, Some, None, IfSome, ℕ}
+use Rattle.std.specs.Prelude.{List, [], ◌++◌, Option, Some, None, IfSome, ℕ}
 use Rattle.mt_types.specs.declared.limits.TheConstants.{MAX_REQUEST_BODY}
 use Rattle.mt_wire.specs.Frames.{Kept, IsOneFrame, FaultStands}
 use Rattle.mt_wire.specs.declared.decoder.Decoder.TheInside.{Inside}

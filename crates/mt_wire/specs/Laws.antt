@@ -2,7 +2,6 @@
 use Rattle.std.specs.Prelude.{◌≡◌, ℕ, List, ◌++◌}
 use Rattle.mt_types.specs.declared.limits.TheConstants.{MAX_REQUEST_BODY}
 use Rattle.mt_wire.specs.declared.query.Query.{Query}
-use Rattle.mt_wire.specs.declared.response.Response.{Response}
 use Rattle.mt_wire.specs.declared.fault.WireFault.{WireFault}
 use Rattle.mt_wire.specs.Spelling.{query_spelling, response_spelling}
 use Rattle.mt_wire.specs.Fits.{QueryFits, ResponseFits}
