@@ -19,7 +19,7 @@ use Rattle.mt_wire.specs.Spelling.{query_spelling, response_spelling, body_of, f
 use Rattle.mt_wire.specs.Frames.{Holds, RequestsFit, RepliesFit, request_frame, reply_frame, announced, LengthFits, IsBegun, IsWhole, FaultStands, Kept, IsOneFrame, ReplyFaultStands}
 use Rattle.mt_wire.specs.Reading.{Reader, kind_at, response_rest}
 use Rattle.mt_wire.specs.Bodies.{IsBytes, Reads, body_at}
-use Rattle.mt_wire.specs.Laws.{ReadOneWay, QueriesReadOneWay, ResponsesReadOneWay, RequestFramesReadOneWay, ReplyFramesReadOneWay, FrameStandsAlone, FaultStays}
+use Rattle.mt_wire.specs.Laws.{ReadOneWay, QueriesReadOneWay, ResponsesReadOneWay, RequestFramesReadOneWay, ReplyFramesReadOneWay, FrameStandsAlone, BegunHasNoFault, FaultStays}
 use Rattle.mt_wire.proofs.Exact.{IsExact, IsBytes-drop}
 use Rattle.mt_wire.proofs.QueryLaws.{query_exact}
 use Rattle.mt_wire.proofs.ResponseLaws.{response_exact}
@@ -183,10 +183,10 @@ fault_stays faults.BadVersion bytes more h = (whole_stays bytes more h.0, λ sam
 fault_stays faults.BadBody bytes more h =
     (whole_stays bytes more h.0, version_stays bytes more h.0 ∙ h.1, λ queries after fits e. h.2 queries (drop (4 + length (body_of query_spelling queries)) bytes) fits (frame_at_front bytes more after queries h.0 fits e))
 
-whole_not_begun : (bytes : List ℕ) → IsWhole MAX_REQUEST_BODY bytes → IsBegun MAX_REQUEST_BODY bytes → ⊥
+pub whole_not_begun : (bytes : List ℕ) → IsWhole MAX_REQUEST_BODY bytes → IsBegun MAX_REQUEST_BODY bytes → ⊥
 whole_not_begun bytes h begun = elim begun [ inl short ↦ omega (arith, h.0, short) | inr more ↦ omega (arith, h.2, more.1) ]
 
-begun_has_no_fault : (fault : WireFault) (bytes : List ℕ) → FaultStands fault bytes → IsBegun MAX_REQUEST_BODY bytes → ⊥
+pub begun_has_no_fault : BegunHasNoFault
 begun_has_no_fault faults.NoMemory bytes h begun = h
 begun_has_no_fault faults.BadLength bytes h begun = elim begun [ inl short ↦ omega (arith, h.0, short) | inr more ↦ h.1 more.0 ]
 begun_has_no_fault faults.BadVersion bytes h begun = whole_not_begun bytes h.0 begun

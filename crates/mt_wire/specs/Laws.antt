@@ -32,6 +32,11 @@ FrameStandsAlone =
     → (¬ IsBegun MAX_REQUEST_BODY (request_frame queries ++ rest))
     × ((fault : WireFault) → ¬ FaultStands fault (request_frame queries ++ rest))
 
+-- where a frame has only begun, no fault stands
+abbrev pub BegunHasNoFault : Type 0
+BegunHasNoFault =
+    (fault : WireFault) (bytes : List ℕ) → FaultStands fault bytes → ¬ IsBegun MAX_REQUEST_BODY bytes
+
 -- a fault that stands goes on standing, whatever follows
 abbrev pub FaultStays : Type 0
 FaultStays =

@@ -54,6 +54,8 @@ fn cut(rest: &mut BytesMut) -> Result<Option<Bytes>, WireFault>
     ensures err { IfErr result (λ fault. (rest.new.items ≡ rest.old.items)
         × (fault ≢ WireFault.NoMemory
         → (fault ≡ WireFault.BadLength) × FaultStands WireFault.BadLength rest.old.items)) }
+    ensures waits { IsBegun MAX_REQUEST_BODY rest.old.items → result ≡ Ok None }
+    ensures length { FaultStands WireFault.BadLength rest.old.items → result ≡ Err WireFault.BadLength }
 {
     if rest.len() < 4 {
         return Ok(None);
@@ -80,6 +82,9 @@ fn find(frame: Option<Bytes>, rest: &mut BytesMut) -> Result<Option<Bytes>, Wire
         × (rest.new.items ≡ rest.old.items)
         × (fault ≢ WireFault.NoMemory
         → (fault ≡ WireFault.BadLength) × FaultStands WireFault.BadLength rest.old.items)) }
+    ensures waits { IsBegun MAX_REQUEST_BODY (cut_off frame ++ rest.old.items) → result ≡ Ok None }
+    ensures length { FaultStands WireFault.BadLength (cut_off frame ++ rest.old.items)
+        → result ≡ Err WireFault.BadLength }
 {
     match frame {
         Some(frame) => Ok(Some(frame)),
@@ -158,6 +163,9 @@ impl Decoder {
             × (self.new.fault ≡ None))) }
         ensures begun { IfOk result (λ next. IfNone next (IsBegun MAX_REQUEST_BODY self.old.bytes
             × (self.new ≡ self.old))) }
+        ensures waits { self.old.fault ≡ None → IsBegun MAX_REQUEST_BODY self.old.bytes → result ≡ Ok None }
+        ensures length { self.old.fault ≡ None → FaultStands WireFault.BadLength self.old.bytes
+            → result ≡ Err WireFault.BadLength }
         ensures fault { IfErr result (λ fault. fault ≢ WireFault.NoMemory → FaultStands fault self.old.bytes
             × (self.new ≡ record { bytes = self.old.bytes; fault = Some fault })) }
         ensures memory { IsErrOf result WireFault.NoMemory → (self.new ≡ self.old) × (self.old.fault ≡ None) }
@@ -178,6 +186,9 @@ impl Decoder {
             × (self.new.fault ≡ None))) }
         ensures begun { IfOk result (λ next. IfNone next (IsBegun MAX_REQUEST_BODY self.old.bytes
             × (self.new ≡ self.old))) }
+        ensures waits { self.old.fault ≡ None → IsBegun MAX_REQUEST_BODY self.old.bytes → result ≡ Ok None }
+        ensures length { self.old.fault ≡ None → FaultStands WireFault.BadLength self.old.bytes
+            → result ≡ Err WireFault.BadLength }
         ensures fault { IfErr result (λ fault. fault ≢ WireFault.NoMemory → FaultStands fault self.old.bytes
             × (self.new ≡ record { bytes = self.old.bytes; fault = Some fault })) }
         ensures memory { IsErrOf result WireFault.NoMemory → (self.new ≡ self.old) × (self.old.fault ≡ None) }

@@ -1,6 +1,6 @@
 //! Laws of the format, each of them the contract of a function that does nothing.
 
-ghost use Rattle.mt_wire.specs.Laws.{QueriesReadOneWay, ResponsesReadOneWay, RequestFramesReadOneWay, ReplyFramesReadOneWay, FrameStandsAlone, FaultStays};
+ghost use Rattle.mt_wire.specs.Laws.{QueriesReadOneWay, ResponsesReadOneWay, RequestFramesReadOneWay, ReplyFramesReadOneWay, FrameStandsAlone, BegunHasNoFault, FaultStays};
 
 /// No spelling of a query begins another, and no two queries have one spelling.
 pub fn queries_are_read_one_way()
@@ -25,6 +25,11 @@ pub fn reply_frames_are_read_one_way()
 /// Where a frame of requests stands, none has only begun, and no fault stands.
 pub fn a_frame_stands_alone()
     ensures { FrameStandsAlone }
+{}
+
+/// Where a frame has only begun, no fault stands.
+pub fn a_begun_frame_has_no_fault()
+    ensures { BegunHasNoFault }
 {}
 
 /// A fault that stands goes on standing, whatever follows.

@@ -1,6 +1,6 @@
 //! Frames of answers, read: for clients.
 
-ghost use Rattle.std.specs.Prelude.{◌≡◌, ◌≢◌, ◌≤◌, ◌↔◌, List, length, IsTrue, IfOk, IfErr, MatchResult};
+ghost use Rattle.std.specs.Prelude.{◌≡◌, ◌≢◌, ◌≤◌, ◌↔◌, List, length, Err, IsTrue, IfOk, IfErr, MatchResult};
 ghost use Rattle.mt_wire.specs.declared.response.Response.{Response};
 ghost use Rattle.mt_wire.specs.Frames.{IsOneFrame, RepliesFit, ReplyFaultStands, announced, reply_frame};
 
@@ -35,6 +35,7 @@ pub fn decode_replies(alloc: Global, frame: &Bytes) -> Result<Vec<Response>, Wir
     ensures only { (responses : List Response) → RepliesFit responses → frame.now ≡ reply_frame responses
         → MatchResult result (λ found. found.items ≡ responses) (λ fault. fault ≡ WireFault.NoMemory) }
     ensures fault { IfErr result (λ fault. fault ≢ WireFault.NoMemory → ReplyFaultStands fault frame.now) }
+    ensures length { ReplyFaultStands WireFault.BadLength frame.now → result ≡ Err WireFault.BadLength }
 {
     if !is_one_frame(frame.as_slice()) {
         return Err(WireFault::BadLength);

@@ -271,5 +271,6 @@ fn laws_stand() {
     laws::request_frames_are_read_one_way();
     laws::reply_frames_are_read_one_way();
     laws::a_frame_stands_alone();
+    laws::a_begun_frame_has_no_fault();
     laws::a_fault_stays();
 }
