@@ -1,0 +1,43 @@
+-- Laws of the format, each of them proved as the contract of a function of src/laws.rt.
+use Rattle.std.specs.Prelude.{◌≡◌, ℕ, List, ◌++◌}
+use Rattle.mt_types.specs.declared.limits.TheConstants.{MAX_REQUEST_BODY}
+use Rattle.mt_wire.specs.declared.query.Query.{Query}
+use Rattle.mt_wire.specs.declared.fault.WireFault.{WireFault}
+use Rattle.mt_wire.specs.Spelling.{query_spelling, response_spelling}
+use Rattle.mt_wire.specs.Fits.{QueryFits, ResponseFits}
+use Rattle.mt_wire.specs.Frames.{RequestsFit, RepliesFit, request_frame, reply_frame, IsBegun, FaultStands}
+
+-- no spelling begins another, and no two messages have one spelling
+abbrev pub ReadOneWay : {A : Type 0} → (A → Type 0) → (A → List ℕ) → Type 0
+ReadOneWay {A} Fits spell =
+    (x y : A) (after_x after_y : List ℕ) → Fits x → Fits y → spell x ++ after_x ≡ spell y ++ after_y
+    → (x ≡ y) × (after_x ≡ after_y)
+
+abbrev pub QueriesReadOneWay : Type 0
+QueriesReadOneWay = ReadOneWay QueryFits query_spelling
+
+abbrev pub ResponsesReadOneWay : Type 0
+ResponsesReadOneWay = ReadOneWay ResponseFits response_spelling
+
+abbrev pub RequestFramesReadOneWay : Type 0
+RequestFramesReadOneWay = ReadOneWay RequestsFit request_frame
+
+abbrev pub ReplyFramesReadOneWay : Type 0
+ReplyFramesReadOneWay = ReadOneWay RepliesFit reply_frame
+
+-- where a frame of requests stands, none has only begun, and no fault stands
+abbrev pub FrameStandsAlone : Type 0
+FrameStandsAlone =
+    (queries : List Query) (rest : List ℕ) → RequestsFit queries
+    → (¬ IsBegun MAX_REQUEST_BODY (request_frame queries ++ rest))
+    × ((fault : WireFault) → ¬ FaultStands fault (request_frame queries ++ rest))
+
+-- where a frame has only begun, no fault stands
+abbrev pub BegunHasNoFault : Type 0
+BegunHasNoFault =
+    (fault : WireFault) (bytes : List ℕ) → FaultStands fault bytes → ¬ IsBegun MAX_REQUEST_BODY bytes
+
+-- a fault that stands goes on standing, whatever follows
+abbrev pub FaultStays : Type 0
+FaultStays =
+    (fault : WireFault) (bytes more : List ℕ) → FaultStands fault bytes → FaultStands fault (bytes ++ more)

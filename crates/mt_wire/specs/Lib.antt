@@ -1,0 +1,11 @@
+-- What the contracts cite, in the order in which a reader takes it. Reading and Bodies are for private calls.
+pub mod Spelling
+pub mod Fits
+pub mod Answered
+pub mod FaultNumbers
+pub mod Frames
+pub mod Reading
+pub mod Bodies
+pub mod KeptFields
+pub mod Laws
+pub mod Streams

@@ -1,0 +1,116 @@
+-- The bytes that spell each message: version 1 of the format. Numbers have the highest byte first.
+use Rattle.std.specs.Prelude.{ℕ, ◌/◌, ◌%◌, ◌^◌, List, [], ◌∷◌, ◌++◌, length, Option, Some, None, unwrap_or}
+use Rattle.std.specs.List.{flat_map}
+use Rattle.std.specs.Int.{w16, w32, w64, to_be_bytes}
+use Rattle.mt_types.specs.declared.event.Request.TheVariants.{Get, Put, Remove, Range, Tidy, Build}
+use Rattle.mt_types.specs.declared.view.ViewSpec.{ViewSpec}
+use Rattle.mt_types.specs.declared.view.ViewSpec.TheVariants.{Range as RangeOf, Prefix as PrefixOf}
+use Rattle.mt_types.specs.declared.view.RowTest.{RowTest}
+use Rattle.mt_types.specs.declared.view.RowTest.TheVariants.{Any, Equals, AtLeast}
+use Rattle.mt_wire.specs.declared.query.Query.{Query}
+use Rattle.mt_types.specs.declared.row.Row.{Row}
+use Rattle.mt_types.specs.declared.event.TidyRule.{TidyRule}
+use Rattle.mt_types.specs.declared.event.TidyRule.TheVariants.{Nothing, EmptyBorder, LoneChild, LoneRootChild, EmptyLayer}
+use Rattle.mt_types.specs.declared.refusal.Refusal.{Refusal}
+use Rattle.mt_types.specs.RefusalNumbers.{refusal_number, refusal_detail}
+use Rattle.mt_wire.specs.declared.query.Query.{Query}
+use Rattle.mt_wire.specs.declared.query.Query.TheVariants.{Call, ViewRead, ViewDrop}
+use Rattle.mt_wire.specs.declared.response.Response.{Response}
+use Rattle.mt_wire.specs.declared.response.Response.TheVariants.{Refused, Done, View, Dropped}
+use Rattle.mt_wire.specs.declared.response.End.TheVariants.{Absent, Found, Committed, Rows, Tidied, Built}
+
+-- a key: two bytes of length, then its bytes
+abbrev pub key_spelling : List ℕ → List ℕ
+key_spelling key = to_be_bytes w16 (length key) ++ key
+
+-- the bytes of a column, or numbers of columns: one byte of length, then as many bytes
+abbrev pub short_spelling : List ℕ → List ℕ
+short_spelling bytes = length bytes ∷ bytes
+
+-- a column that is set: its number, and its bytes
+abbrev pub set_spelling : ℕ × List ℕ → List ℕ
+set_spelling set = set.0 ∷ short_spelling set.1
+
+-- one byte that counts them, then the items
+abbrev pub counted : {A : Type 0} → (A → List ℕ) → List A → List ℕ
+counted item items = length items ∷ flat_map item items
+
+abbrev pub test_spelling : RowTest → List ℕ
+test_spelling Any = 0 ∷ []
+test_spelling (Equals column bytes) = 1 ∷ column ∷ short_spelling bytes
+test_spelling (AtLeast column least) = 2 ∷ column ∷ to_be_bytes w64 least
+
+-- the end of a range, if it has one
+abbrev pub end_spelling : Option (List ℕ) → List ℕ
+end_spelling None = 0 ∷ []
+end_spelling (Some hi) = 1 ∷ key_spelling hi
+
+abbrev pub spec_spelling : ViewSpec → List ℕ
+spec_spelling (RangeOf lo hi test) = 0 ∷ (key_spelling lo ++ end_spelling hi ++ test_spelling test)
+spec_spelling (PrefixOf key test) = 1 ∷ (key_spelling key ++ test_spelling test)
+
+abbrev pub query_spelling : Query → List ℕ
+query_spelling (Call (Get key columns)) = 1 ∷ (key_spelling key ++ short_spelling columns)
+query_spelling (Call (Put key sets)) = 2 ∷ (key_spelling key ++ counted set_spelling sets)
+query_spelling (Call (Remove key)) = 3 ∷ key_spelling key
+query_spelling (Call (Range start limit columns)) =
+    4 ∷ (key_spelling start ++ to_be_bytes w16 limit ++ short_spelling columns)
+query_spelling (Call (Tidy key)) = 5 ∷ key_spelling key
+query_spelling (Call (Build spec)) = 6 ∷ spec_spelling spec
+query_spelling (ViewRead view floor start limit) =
+    7 ∷ (to_be_bytes w64 view.0 ++ to_be_bytes w64 floor ++ key_spelling start ++ to_be_bytes w16 limit)
+query_spelling (ViewDrop view) = 8 ∷ to_be_bytes w64 view.0
+
+-- a number of up to 128 bits: sixteen bytes
+abbrev pub sum_spelling : ℕ → List ℕ
+sum_spelling sum = to_be_bytes w64 (sum / 2 ^ 64) ++ to_be_bytes w64 (sum % 2 ^ 64)
+
+-- the columns of a row
+abbrev pub columns_spelling : List (List ℕ) → List ℕ
+columns_spelling columns = counted short_spelling columns
+
+abbrev pub row_spelling : Row → List ℕ
+row_spelling row = to_be_bytes w64 row.version ++ columns_spelling row.columns
+
+abbrev pub pair_spelling : List ℕ × Row → List ℕ
+pair_spelling pair = key_spelling pair.0 ++ row_spelling pair.1
+
+-- two bytes that count them, then the rows with their keys
+abbrev pub pairs_spelling : List (List ℕ × Row) → List ℕ
+pairs_spelling pairs = to_be_bytes w16 (length pairs) ++ flat_map pair_spelling pairs
+
+-- the number of a refusal, and what goes with it, or 0
+abbrev pub refusal_spelling : Refusal → List ℕ
+refusal_spelling refusal = refusal_number refusal ∷ to_be_bytes w64 (unwrap_or (refusal_detail refusal) 0)
+
+abbrev pub rule_spelling : TidyRule → List ℕ
+rule_spelling Nothing = 0 ∷ []
+rule_spelling EmptyBorder = 1 ∷ []
+rule_spelling LoneChild = 2 ∷ []
+rule_spelling LoneRootChild = 3 ∷ []
+rule_spelling EmptyLayer = 4 ∷ []
+
+-- the numbers of commits at the begin and at the end of a call
+abbrev pub span_spelling : ℕ → ℕ → List ℕ
+span_spelling start stop = to_be_bytes w64 start ++ to_be_bytes w64 stop
+
+abbrev pub response_spelling : Response → List ℕ
+response_spelling (Refused refusal) = 0 ∷ refusal_spelling refusal
+response_spelling (Done start stop Absent) = 1 ∷ span_spelling start stop
+response_spelling (Done start stop (Found row)) = 2 ∷ (span_spelling start stop ++ row_spelling row)
+response_spelling (Done start stop (Committed number)) = 3 ∷ (span_spelling start stop ++ to_be_bytes w64 number)
+response_spelling (Done start stop (Rows pairs)) = 4 ∷ (span_spelling start stop ++ pairs_spelling pairs)
+response_spelling (Done start stop (Tidied rule)) = 5 ∷ (span_spelling start stop ++ rule_spelling rule)
+response_spelling (Done start stop (Built view)) = 6 ∷ (span_spelling start stop ++ to_be_bytes w64 view.0)
+response_spelling (View page) =
+    7 ∷ (to_be_bytes w64 page.at ++ to_be_bytes w64 page.count ++ counted sum_spelling page.sums
+    ++ pairs_spelling page.rows)
+response_spelling Dropped = 8 ∷ []
+
+-- a body: the version, and the messages
+abbrev pub body_of : {A : Type 0} → (A → List ℕ) → List A → List ℕ
+body_of message messages = 1 ∷ counted message messages
+
+-- a frame: four bytes of length, then the body
+abbrev pub frame_of : {A : Type 0} → (A → List ℕ) → List A → List ℕ
+frame_of message messages = to_be_bytes w32 (length (body_of message messages)) ++ body_of message messages

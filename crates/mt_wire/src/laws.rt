@@ -1,0 +1,38 @@
+//! Laws of the format, each of them the contract of a function that does nothing.
+
+ghost use Rattle.mt_wire.specs.Laws.{QueriesReadOneWay, ResponsesReadOneWay, RequestFramesReadOneWay, ReplyFramesReadOneWay, FrameStandsAlone, BegunHasNoFault, FaultStays};
+
+/// No spelling of a query begins another, and no two queries have one spelling.
+pub fn queries_are_read_one_way()
+    ensures { QueriesReadOneWay }
+{}
+
+/// No spelling of an answer begins another, and no two answers have one spelling.
+pub fn responses_are_read_one_way()
+    ensures { ResponsesReadOneWay }
+{}
+
+/// No frame of requests begins another, and each holds one list of queries.
+pub fn request_frames_are_read_one_way()
+    ensures { RequestFramesReadOneWay }
+{}
+
+/// No frame of replies begins another, and each holds one list of answers.
+pub fn reply_frames_are_read_one_way()
+    ensures { ReplyFramesReadOneWay }
+{}
+
+/// Where a frame of requests stands, none has only begun, and no fault stands.
+pub fn a_frame_stands_alone()
+    ensures { FrameStandsAlone }
+{}
+
+/// Where a frame has only begun, no fault stands.
+pub fn a_begun_frame_has_no_fault()
+    ensures { BegunHasNoFault }
+{}
+
+/// A fault that stands goes on standing, whatever follows.
+pub fn a_fault_stays()
+    ensures { FaultStays }
+{}

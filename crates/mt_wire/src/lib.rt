@@ -1,0 +1,23 @@
+//! The wire: frames of queries and of answers as bytes, both ways.
+//!
+//! A call costs O(n) in the bytes that it reads or writes.
+#![tactic(auto)]
+
+mod body;
+pub mod decoder;
+pub mod encode;
+pub mod fault;
+pub mod laws;
+pub mod limits;
+pub mod query;
+mod query_reading;
+mod query_writing;
+mod reading;
+pub mod replies;
+pub mod response;
+mod response_reading;
+mod response_writing;
+pub mod stream;
+#[cfg(test)]
+mod tests;
+mod writing;
