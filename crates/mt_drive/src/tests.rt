@@ -27,7 +27,7 @@ struct Run {
     bad: u64,
 }
 
-// An empty index; a row that is visible by its commit alone; columns; a full border; two long keys of one slice; what says
+// An empty index; a row that is visible by its commit alone; columns; a full border, which is split; two long keys of one slice, which get a layer; what says
 // nothing, the last of it without a line feed.
 const RUNS: [Run; 6] = [
     Run {
@@ -70,8 +70,8 @@ const RUNS: [Run; 6] = [
         call 3\ndone 2 3 put 3\ncall 4\ndone 3 4 put 4\ncall 5\ndone 4 5 put 5\ncall 6\ndone 5 6 put 6\n\
         call 7\ndone 6 7 put 7\ncall 8\ndone 7 8 put 8\ncall 9\ndone 8 9 put 9\ncall 10\ndone 9 10 put 10\n\
         call 11\ndone 10 11 put 11\ncall 12\ndone 11 12 put 12\ncall 13\ndone 12 13 put 13\n\
-        call 14\ndone 13 14 put 14\ncall 15\ndone 14 15 put 15\ncall 16\nrefused 6\n\
-        call 17\ndone 15 15 row 1 01\n",
+        call 14\ndone 13 14 put 14\ncall 15\ndone 14 15 put 15\ncall 16\ndone 15 16 put 16\n\
+        call 17\ndone 16 16 row 1 01\n",
         bad: 0,
     },
     Run {
@@ -79,8 +79,8 @@ const RUNS: [Run; 6] = [
         script: b"begin 1 put 30313233343536374142 0=61\nfinish 1\nbegin 1 get 30313233343536374142 all\n\
         step 2\nstep 2\nbegin 2 put 30313233343536375859 0=62\nfinish 3\n\
         begin 2 get 30313233343536375859 all\nfinish 4\nbegin 1 range - 10 all\nfinish 5\n",
-        written: b"call 1\ndone 0 1 put 1\ncall 2\nmoved\ndone 1 1 row 1 61\ncall 3\nrefused 6\n\
-        call 4\ndone 1 1 absent\ncall 5\ndone 1 1 rows 1 30313233343536374142:1:61\n",
+        written: b"call 1\ndone 0 1 put 1\ncall 2\nmoved\ndone 1 1 row 1 61\ncall 3\ndone 1 2 put 2\n\
+        call 4\ndone 2 2 row 2 62\ncall 5\ndone 2 2 rows 2 30313233343536374142:1:61 30313233343536375859:2:62\n",
         bad: 0,
     },
     Run {
