@@ -4,6 +4,7 @@ ghost use Rattle.std.specs.Prelude.{◌≡◌, ◌↔◌, [], ◌∷◌, IsTrue,
 ghost use Rattle.mt_types.specs.Limits.{open_fault};
 ghost use Rattle.mt_promise.specs.History.{History, happening, moment};
 ghost use Rattle.mt_promise.specs.Legal.{begin_fault};
+ghost use Rattle.mt_arena.specs.Node.{occupied};
 ghost use Rattle.mt_write.specs.Works.{IsServedRequest};
 ghost use Rattle.mt_index.specs.Causes.{IsCaused};
 ghost use Rattle.mt_index.specs.Stands.{Stands, IsServed, Begins, Steps, IsRun};
@@ -11,13 +12,13 @@ ghost use Rattle.mt_index.specs.Stands.{Stands, IsServed, Begins, Steps, IsRun};
 use crate::calls::{Call, Calls, Stepped};
 use crate::options::Options;
 use mt_calls::progress::Progress;
-use mt_write::work::work_of;
 use mt_commit::log::Log;
 use mt_tree::Tree;
 use mt_types::event::{Event, Outcome, Reply, Request};
-use mt_types::limits::{MAX_OPEN_CALLS, open_fault, request_fault};
+use mt_types::limits::{MAX_NODES, MAX_OPEN_CALLS, open_fault, request_fault};
 use mt_types::numbers::{CallNo, PassNo};
 use mt_types::refusal::Refusal;
+use mt_write::work::work_of;
 use std::alloc::Global;
 use std::marker::Model;
 
@@ -108,6 +109,13 @@ impl Machine {
         ensures { (h : History) → Stands self.now h → result ≡ length (moment h).calls }
     {
         self.calls.len()
+    }
+
+    /// How many node numbers are occupied: by the nodes of the tree, and by the spares of open calls.
+    pub fn nodes(&self) -> usize
+        ensures { result ≡ occupied self.now.tree.nodes }
+    {
+        MAX_NODES as usize - self.tree.free_numbers()
     }
 
     fn begin(&mut self, alloc: Global, pass: PassNo, request: &Request) -> Outcome

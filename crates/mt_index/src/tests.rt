@@ -69,6 +69,7 @@ fn put_commits(rt: HostRuntime) -> Result<(), Fail> {
     }
     assert_eq!(rt; commit_of(step(&mut machine, alloc, 1)), Some(1));
     assert_eq!(rt; machine.open_calls(), 1);
+    assert_eq!(rt; machine.nodes(), 2);
     Ok(())
 }
 
