@@ -84,7 +84,7 @@ module _ (a : ArenaView) (posting : Posting) (old : Root) (is : posting.stage �
           goes_occupied now a after w root.0 (Interior new_root) (posting.half.0 ∷ []) _ vacant updates retired unknown keeps world (
             prefix,
             record {
-              border = to_post_stays a after w w prefix posting.half.0 posting.low (record { node = updates.others posting.half.0 differ; spot = refl }) border;
+              border = to_post_stays a after w w prefix posting.half.0 posting.low (record { node = updates.others posting.half.0 differ; spot = refl; twins = λ one other here. ((λ h. h), (λ h. h)) }) border;
               head = known;
               stage = (truth, record { named = ap (option_and_then interior_of) updates.changed; unknown = out });
             },
@@ -161,7 +161,7 @@ module _ (a : ArenaView) (posting : Posting) (old : Root) (root : NodeNo) (is : 
         (λ taken apart. apart first) (λ other k. k) (λ other k taken. k) (λ apart taken. apart first) (
           prefix,
           record {
-            border = to_post_stays a new w w prefix posting.half.0 posting.low (record { node = others posting.half.0 differ; spot = refl }) border;
+            border = to_post_stays a new w w prefix posting.half.0 posting.low (record { node = others posting.half.0 differ; spot = refl; twins = λ one other here. ((λ h. h), (λ h. h)) }) border;
             head = known;
             stage = (less, record { named = interior_now middle n (fill new_root) unlock there; unknown = spare.unknown });
           },
@@ -328,7 +328,7 @@ module _ (a : ArenaView) (posting : Posting) (root : NodeNo) (is : posting.stage
         (λ apart taken. apart first) (
           prefix,
           record {
-            border = to_post_stays a new w w prefix posting.half.0 posting.low (record { node = updates.others posting.half.0 differ; spot = refl }) border;
+            border = to_post_stays a new w w prefix posting.half.0 posting.low (record { node = updates.others posting.half.0 differ; spot = refl; twins = λ one other here. ((λ h. h), (λ h. h)) }) border;
             head = known;
             stage = from_head begun prefix posting.low posting.head.0 w known;
           },

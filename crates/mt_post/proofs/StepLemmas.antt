@@ -52,6 +52,7 @@ goes_at now a after w chart n owned owns Then world kept retired others spots he
       record {
         node = others other (λ e. nobody (subst (λ (m : ℕ). IsTaken a w m) e taken) (λ i. apart (subst (λ (m : ℕ). Among m owned) (sym e) i)));
         spot = spots other apart;
+        twins = λ one other here. ((λ h. h), (λ h. h));
       },
       λ i. apart (fewer other i),
     );
@@ -59,7 +60,7 @@ goes_at now a after w chart n owned owns Then world kept retired others spots he
       | inl i ↦ inl (stays other i taken)
       | inr out ↦ elim (same_number other n) [
         | inl e ↦ absurd (not_taken (λ i. out (subst (λ (m : ℕ). Among m owned) (sym e) i)) (subst (λ (m : ℕ). IsTaken after (at_chart w chart) m) e taken))
-        | inr differ ↦ inr (taken_back a after w (at_chart w chart) other (record { node = others other differ; spot = spots other out }) taken, out)
+        | inr differ ↦ inr (taken_back a after w (at_chart w chart) other (record { node = others other differ; spot = spots other out; twins = λ one other here. ((λ h. h), (λ h. h)) }) taken, out)
       ]
     ];
     true = truth;
