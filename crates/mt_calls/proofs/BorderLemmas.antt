@@ -129,7 +129,7 @@ module _ (a : ArenaView) (n : ℕ) (b : BorderView) (change : BorderView → Bor
     world = record { index = index; keys = keys; heads = heads_changed w.chart world.heads; twins = twins_changed w.chart w.chart w.twins (evolves_same 0 w.chart) world.twins; retired = world.retired };
     evolves = λ begun before. evolves_same begun w.chart;
     leaves = λ other taken apart. (
-      record { node = others_named other (free other taken apart); spot = refl },
+      record { node = others_named other (free other taken apart); spot = refl; twins = λ one other here. ((λ h. h), (λ h. h)) },
       λ i. elim (fewer other i) [ inl j ↦ apart j | inr e ↦ free other taken apart e ],
     );
     takes = λ number taken. elim (same_number number n) [
@@ -139,7 +139,7 @@ module _ (a : ArenaView) (n : ℕ) (b : BorderView) (change : BorderView → Bor
       ])))
       | inr differ ↦ elim (is_among number owned) [
         | inl i ↦ inl (more number differ i)
-        | inr out ↦ inr (taken_back a (with_border_changed a n change) w w number (record { node = others_named number differ; spot = refl }) taken, out)
+        | inr out ↦ inr (taken_back a (with_border_changed a n change) w w number (record { node = others_named number differ; spot = refl; twins = λ one other here. ((λ h. h), (λ h. h)) }) taken, out)
       ]
     ];
     true = truth;

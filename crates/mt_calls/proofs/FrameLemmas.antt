@@ -41,7 +41,7 @@ goes_same now a w Then owned owns same world truth = record {
   next = w;
   world = world;
   evolves = λ begun before. evolves_same begun w.chart;
-  leaves = λ other taken apart. (record { node = refl; spot = refl }, λ i. apart (subst (λ (l : List ℕ). Among other l) (sym same) i));
+  leaves = λ other taken apart. (record { node = refl; spot = refl; twins = λ one other here. ((λ h. h), (λ h. h)) }, λ i. apart (subst (λ (l : List ℕ). Among other l) (sym same) i));
   takes = λ number taken. elim (is_among number owned) [ inl i ↦ inl (subst (λ (l : List ℕ). Among number l) same i) | inr out ↦ inr (taken, out) ];
   true = truth;
 }

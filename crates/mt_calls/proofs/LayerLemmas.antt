@@ -64,12 +64,12 @@ module _ (now : ℕ) (a mid after : ArenaView) (w : World) (one two : ℕ) (node
           leaves = λ other taken apart.
               let not_one = vacant_free a w one other vacant_one taken in
               let not_two = vacant_free a w two other vacant_first taken in
-              (record { node = others_same other not_one not_two; spot = refl }, λ i. neither other not_one not_two apart i);
+              (record { node = others_same other not_one not_two; spot = refl; twins = λ one other here. ((λ h. h), (λ h. h)) }, λ i. neither other not_one not_two apart i);
           takes = λ other taken. elim (same_number other two) [
             | inl e ↦ inl (subst (λ (m : ℕ). Among other (m ∷ (one ∷ owned))) e first)
             | inr not_two ↦ elim (same_number other one) [
               | inl e ↦ inl (later (subst (λ (m : ℕ). Among other (m ∷ owned)) e first))
-              | inr not_one ↦ elim (is_among other owned) [ inl i ↦ inl (later (later i)) | inr out ↦ inr (taken_back a after w w other (record { node = others_same other not_one not_two; spot = refl }) taken, out) ]
+              | inr not_one ↦ elim (is_among other owned) [ inl i ↦ inl (later (later i)) | inr out ↦ inr (taken_back a after w w other (record { node = others_same other not_one not_two; spot = refl; twins = λ one other here. ((λ h. h), (λ h. h)) }) taken, out) ]
             ]
           ];
           true = truth;
@@ -101,8 +101,8 @@ goes_given_back now a mid after w number node owned Then vacant updates retired 
           retired = subst (λ (r : List Retired). RetiredAreGone r w.chart) (sym (retired_back ∙ retired)) world.retired;
         };
         evolves = λ begun before. evolves_again begun w.chart w.chart w.chart (kept.evolves begun before) (again.evolves begun before);
-        leaves = λ other taken apart. (record { node = same other; spot = refl }, apart);
-        takes = λ other taken. elim (is_among other owned) [ inl i ↦ inl i | inr out ↦ inr (taken_back a after w w other (record { node = same other; spot = refl }) taken, out) ];
+        leaves = λ other taken apart. (record { node = same other; spot = refl; twins = λ one other here. ((λ h. h), (λ h. h)) }, apart);
+        takes = λ other taken. elim (is_among other owned) [ inl i ↦ inl i | inr out ↦ inr (taken_back a after w w other (record { node = same other; spot = refl; twins = λ one other here. ((λ h. h), (λ h. h)) }) taken, out) ];
         true = truth;
       },
       content,
@@ -123,10 +123,10 @@ goes_spare_changed now a after w number node owned Then updates retired keeps un
       next = w;
       world = record { index = kept.index; keys = keys_same a after kept.content world.keys; heads = heads_occupied a after w number (Some node) updates unknown world.heads; twins = twins_beside a after w.chart w.chart w.twins number (evolves_same 0 w.chart) (unknown_free a w.chart number unknown) updates.others world.twins; retired = subst (λ (r : List Retired). RetiredAreGone r w.chart) (sym retired) world.retired };
       evolves = kept.evolves;
-      leaves = λ other taken apart. (record { node = updates.others other (λ e. apart (subst (λ (m : ℕ). Among m owned) (sym e) mine)); spot = refl }, apart);
+      leaves = λ other taken apart. (record { node = updates.others other (λ e. apart (subst (λ (m : ℕ). Among m owned) (sym e) mine)); spot = refl; twins = λ one other here. ((λ h. h), (λ h. h)) }, apart);
       takes = λ other taken. elim (is_among other owned) [
         | inl i ↦ inl i
-        | inr out ↦ inr (taken_back a after w w other (record { node = updates.others other (λ e. out (subst (λ (m : ℕ). Among m owned) (sym e) mine)); spot = refl }) taken, out)
+        | inr out ↦ inr (taken_back a after w w other (record { node = updates.others other (λ e. out (subst (λ (m : ℕ). Among m owned) (sym e) mine)); spot = refl; twins = λ one other here. ((λ h. h), (λ h. h)) }) taken, out)
       ];
       true = truth;
     }
@@ -219,6 +219,7 @@ module _ (now : ℕ) (a : ArenaView) (w : World) (n head : ℕ) (root : NodeNo) 
             record {
               node = others_named a n b change named other (λ e. apart (subst (λ (m : ℕ). Among m (head ∷ root.0 ∷ n ∷ [])) (sym e) (later (later first))));
               spot = others_placed other (λ e. apart (subst (λ (m : ℕ). Among m (head ∷ root.0 ∷ n ∷ [])) (sym e) first)) (λ e. apart (subst (λ (m : ℕ). Among m (head ∷ root.0 ∷ n ∷ [])) (sym e) (later first)));
+              twins = λ one other here. ((λ h. h), (λ h. h));
             },
             λ i. apart (later (later i)),
           );
@@ -229,7 +230,7 @@ module _ (now : ℕ) (a : ArenaView) (w : World) (n head : ℕ) (root : NodeNo) 
               | inr ne_head ↦ elim (same_number other root.0) [
                 | inl e ↦ absurd (root_free (subst (λ (m : ℕ). IsTaken new next m) e taken))
                 | inr ne_root ↦ inr (
-                  taken_back a new w next other (record { node = others_named a n b change named other ne; spot = others_placed other ne_head ne_root }) taken,
+                  taken_back a new w next other (record { node = others_named a n b change named other ne; spot = others_placed other ne_head ne_root; twins = λ one other here. ((λ h. h), (λ h. h)) }) taken,
                   λ i. none_of other ne ne_head ne_root i,
                 )
               ]

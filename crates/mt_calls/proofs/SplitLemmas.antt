@@ -57,10 +57,10 @@ goes_occupied now a after w number node owned Then vacant updates retired unknow
       evolves = kept.evolves;
       leaves = λ other taken apart.
           let differ = vacant_free a w number other vacant taken in
-          (record { node = updates.others other differ; spot = refl }, λ i. elim (among_cases other number owned i) [ inl e ↦ differ e | inr j ↦ apart j ]);
+          (record { node = updates.others other differ; spot = refl; twins = λ one other here. ((λ h. h), (λ h. h)) }, λ i. elim (among_cases other number owned i) [ inl e ↦ differ e | inr j ↦ apart j ]);
       takes = λ other taken. elim (same_number other number) [
         | inl e ↦ inl (subst (λ (m : ℕ). Among other (m ∷ owned)) e first)
-        | inr differ ↦ elim (is_among other owned) [ inl i ↦ inl (later i) | inr out ↦ inr (taken_back a after w w other (record { node = updates.others other differ; spot = refl }) taken, out) ]
+        | inr differ ↦ elim (is_among other owned) [ inl i ↦ inl (later i) | inr out ↦ inr (taken_back a after w w other (record { node = updates.others other differ; spot = refl; twins = λ one other here. ((λ h. h), (λ h. h)) }) taken, out) ]
       ];
       true = truth;
     }
@@ -115,6 +115,7 @@ goes_linked now a w n half b upper prefix change owned Then named filled links s
           record {
             node = others_named a n b change named other (λ e. apart (subst (λ (m : ℕ). Among m owned) (sym e) mine));
             spot = changes.rest other (λ e. apart (subst (λ (m : ℕ). Among m owned) (sym e) spare));
+            twins = λ one other here. ((λ h. h), (λ h. h));
           },
           apart,
         );
@@ -124,6 +125,7 @@ goes_linked now a w n half b upper prefix change owned Then named filled links s
             taken_back a (with_border_changed a n change) w (record { twins = w.twins; chart = with_spot w.chart half place }) other (record {
               node = others_named a n b change named other (λ e. apart (subst (λ (m : ℕ). Among m owned) (sym e) mine));
               spot = changes.rest other (λ e. apart (subst (λ (m : ℕ). Among m owned) (sym e) spare));
+              twins = λ one other here. ((λ h. h), (λ h. h));
             }) taken,
             apart,
           )

@@ -1,5 +1,5 @@
 -- What the proofs know of the tree between two steps, and what a step of one call leaves of it to the others.
-use Rattle.std.specs.Prelude.{ℕ, ◌≡◌, ◌≤◌, ◌⊎◌, List, length, Option, Some, None, IsSome, IsSomeAnd, All, Bool, true, false}
+use Rattle.std.specs.Prelude.{ℕ, ◌≡◌, ◌≤◌, ◌⊎◌, ◌↔◌, List, length, Option, Some, None, IsSome, IsSomeAnd, All, Bool, true, false}
 use Rattle.mt_types.specs.declared.limits.TheConstants.{MAX_KEY_BYTES}
 use Rattle.mt_types.specs.declared.row.Row.{Row}
 use Rattle.mt_slice.specs.Place.{Place, AreBytes, place_of}
@@ -78,10 +78,15 @@ IsLocked (Some node) = is_locked node ≡ true
 abbrev pub IsTaken : ArenaView → World → ℕ → Type 0
 IsTaken a w number = IsLocked (node_at a.nodes number) ⊎ (IsSome (node_at a.nodes number) × (w.chart number ≡ None))
 
--- the number names the same node, which stands where it stood
+-- the number has the same twins
+abbrev pub HasSameTwins : List Twin → List Twin → ℕ → Type 0
+HasSameTwins twins then number = (one other : ℕ) → (one ≡ number) ⊎ (other ≡ number) → AreTwins then one other ↔ AreTwins twins one other
+
+-- the number names the same node, which stands where it stood and has the twins that it had
 pub record IsSame (a after : ArenaView) (w next : World) (number : ℕ) : Type 0 where
   pub node : node_at after.nodes number ≡ node_at a.nodes number
   pub spot : next.chart number ≡ w.chart number
+  pub twins : HasSameTwins w.twins next.twins number
 
 -- not one of these numbers
 abbrev pub NotAmong : ℕ → List ℕ → Type 0

@@ -1,4 +1,9 @@
 pub mod StepLemmas
 pub mod WalkLemmas
+pub mod KeptLemmas
 pub mod RootLemmas
+pub mod HalfLemmas
+pub mod TwinLemmas
+pub mod CutLemmas
+pub mod NameLemmas
 pub mod PostingLasts

@@ -1,9 +1,12 @@
 -- The steps of a posting that makes a new root: a number is spared and filled, and the head names it, or it is given back.
-use Rattle.std.proofs.Common.{ℕ, ◌≡◌, ◌≢◌, ◌<◌, ◌⊎◌, inl, inr, List, [], ◌∷◌, slice_get, Option, Some, None, IsSome, true, false, refl, sym, ap, subst, ◌∙◌, arith}
+use Rattle.std.proofs.Common.{ℕ, ◌≡◌, ◌≢◌, ◌≤◌, ◌<◌, ◌+◌, ◌⊎◌, inl, inr, List, [], ◌∷◌, slice_get, Option, Some, None, IsSome, true, false, refl, sym, ap, subst, ◌∙◌, arith}
 use Rattle.std.specs.Prelude.{IsSomeAnd, All}
 use Rattle.std.specs.Option.{option_and_then}
 use Rattle.std.proofs.lemmas.List.Elements.{All-weaker, All-nil, All-cons}
 use Rattle.std.proofs.lemmas.List.Sorted.{IsNonDecreasingBy-push, IsNonDecreasingBy-short}
+use Rattle.mt_types.specs.declared.limits.TheConstants.{MAX_LEVEL}
+use Rattle.mt_post.specs.declared.posting.Split.{Split}
+use Rattle.mt_post.proofs.KeptLemmas.{to_post_stays, split_stays, apart_from, apart_head, owns_beside, half_among, vacant_beside, goal_below}
 use Rattle.mt_types.specs.declared.numbers.NodeNo.{NodeNo}
 use Rattle.mt_interior.specs.Head.{HeadView, with_root}
 use Rattle.mt_interior.specs.Interior.{InteriorView, IsInterior, with_children, with_lock}
@@ -13,10 +16,10 @@ use Rattle.mt_arena.specs.Arena.{ArenaView, with_head_changed, with_interior_cha
 use Rattle.mt_arena.specs.declared.retired.Retired.{Retired}
 use Rattle.mt_arena.specs.declared.node.Node.{Node}
 use Rattle.mt_arena.specs.declared.node.Node.TheVariants.{Head, Interior}
-use Rattle.mt_arena.proofs.NodeLemmas.{updates-with_node, updates-without, node-from_head, node-from_interior, node-from_border}
+use Rattle.mt_arena.proofs.NodeLemmas.{updates-with_node, updates-without, node-from_head, node-from_interior}
 use Rattle.mt_chart.specs.Tree.{first, later, Among, HeadNode, head}
 use Rattle.mt_chart.specs.Chart.{top, at_level, Standing, on, gone, Spot, spot, Chart, OnHead}
-use Rattle.mt_chart.specs.Steps.{SameContent}
+use Rattle.mt_chart.specs.Steps.{Keeps, SameContent}
 use Rattle.mt_chart.proofs.Basics.{same_number}
 use Rattle.mt_chart.proofs.Entries.{among_cases}
 use Rattle.mt_chart.proofs.HeldNodes.{evolves_same}
@@ -33,29 +36,13 @@ use Rattle.mt_post.specs.declared.posting.Posting.{Posting}
 use Rattle.mt_post.specs.declared.posting.Progressed.TheVariants.{Moved, Ended}
 use Rattle.mt_post.specs.declared.posting.Root.{Root}
 use Rattle.mt_post.specs.declared.posting.Stage.TheVariants.{Walks, RootWanted, RootSpared, RootFilled, RootLate}
-use Rattle.mt_post.specs.Posting.{IsToPost, IsHeadOf, IsSpareInterior, root_children, new_root, root_over, PostingIsTrue, ThenPosts, PostLaw, MayPost}
+use Rattle.mt_post.specs.Posting.{goal, split_owns, IsToPost, IsHeadOf, IsSpareInterior, root_children, new_root, root_over, PostingIsTrue, ThenPosts, PostLaw, MayPost}
 use Rattle.mt_post.proofs.StepLemmas.{at_chart, goes_at, heads_beside, interior_now, interior_others, interior_no_head, interior_is_taken, head_is_taken, not_both}
-use Rattle.mt_post.proofs.WalkLemmas.{at_stage, true_at, known_some, from_head, left_out, goes_on, root_place, heads_were}
+use Rattle.mt_post.proofs.WalkLemmas.{at_stage, true_at, known_some, from_head, goes_on, root_place, heads_were}
 
 -- a node's number says which it is
 pub same_node : (one other : NodeNo) → one.0 ≡ other.0 → one ≡ other
 same_node one other e = ap (λ (m : ℕ). record { 0 = m }) e
-
--- the border that is to be posted stays so where its number does
-pub to_post_stays : (a after : ArenaView) (w next : World) (prefix : List ℕ) (number low : ℕ) → IsSame a after w next number → IsToPost a w prefix number low → IsToPost after next prefix number low
-to_post_stays a after w next prefix number low same t = record { b = t.b; named = ap (option_and_then border_of) same.node ∙ t.named; low_is = t.low_is; locked = t.locked; place = same.spot ∙ t.place }
-
--- a spare stays one
-pub spare_stays : (a after : ArenaView) (w next : World) (number : ℕ) (i : InteriorView) → IsSame a after w next number → IsSpareInterior a w number i → IsSpareInterior after next number i
-spare_stays a after w next number i same s = record { named = ap (option_and_then interior_of) same.node ∙ s.named; unknown = same.spot ∙ s.unknown }
-
--- a border of the tree is no spare
-apart_from : (a : ArenaView) (w : World) (prefix : List ℕ) (half low root : ℕ) → IsToPost a w prefix half low → w.chart root ≡ None → half ≢ root
-apart_from a w prefix half low root t unknown e = (let clash : ◌≡◌ {A = Option Spot} None (Some (spot (at_level 0) prefix low (on false))) = sym unknown ∙ (ap w.chart (sym e) ∙ t.place) in cc)
-
--- nor is it a head
-apart_head : (a : ArenaView) (w : World) (number half : ℕ) {prefix : List ℕ} {low : ℕ} (h : HeadView) → IsToPost a w prefix half low → head_at a.nodes number ≡ Some h → half ≢ number
-apart_head a w number half h t named e = (let clash : ◌≡◌ {A = Option HeadView} None (Some h) = sym (ap (option_and_then head_of) (node-from_border a.nodes half t.b t.named)) ∙ (ap (λ (m : ℕ). head_at a.nodes m) e ∙ named) in cc)
 
 -- what names nothing is not taken
 vacant : (a : ArenaView) (w : World) (number : ℕ) → node_at a.nodes number ≡ None → IsTaken a w number → ⊥
@@ -73,47 +60,75 @@ head_there a w begun number prefix now world known = go known.standing known.pla
     go (on posted) place = let u = world.index.tree.heads number prefix 0 posted place in some u.node u.is_node
     go (gone epoch) place = let (u, is_node, marked) = world.index.tree.gone_heads number prefix 0 epoch place in some u is_node
 
--- ---- a number is spared, or refused
-module _ (a : ArenaView) (posting : Posting) (old : Root) (is : posting.stage ≡ RootWanted old) where
-  pub spares : (root : NodeNo) (after : ArenaView) → node_at a.nodes root.0 ≡ None → Updates a.nodes after.nodes root.0 (Some (Interior new_root)) → after.retired ≡ a.retired → IsUnknown a root.0 → KeepsTree a after
+-- what the chart doesn't know is not retired
+pub not_retired : (a : ArenaView) (w : World) (now number : ℕ) → IsWorld a now w → w.chart number ≡ None → All (λ retired. retired.node.0 ≢ number) a.retired
+not_retired a w now number world unknown = All-weaker (λ (r : Retired). IsGone w.chart r.node.0) (λ (r : Retired). r.node.0 ≢ number)
+    (λ r g e. (let clash : ◌≡◌ {A = Option Spot} None (Some (spot g.role g.prefix g.low (gone g.epoch))) = sym unknown ∙ (ap w.chart (sym e) ∙ g.place) in cc)) a.retired world.retired.each
+
+-- what a step leaves that gives a spare back
+pub gives_number : (now : ℕ) (a : ArenaView) (w : World) (n : ℕ) (owns : List ℕ) (Then : World → Type 0) → IsWorld a now w → IsSome (node_at a.nodes n) → w.chart n ≡ None
+    → Keeps now w.twins (arena_seen a) (arena_seen (without_node a n)) w.chart w.chart → Then w
+    → Goes now a (without_node a n) w (n ∷ owns) owns Then × SameContent (arena_seen a) (arena_seen (without_node a n))
+gives_number now a w n owns Then world named unknown kept truth =
+    let new : ArenaView = without_node a n in
+    let updates : Updates a.nodes new.nodes n None = updates-without a.nodes n named in
+    goes_at now a new w w.chart n (n ∷ owns) owns Then world kept refl updates.others (λ other apart. refl)
+    (heads_beside a new w.chart w.chart n (λ number p h. h) (ap (option_and_then head_of) updates.changed) updates.others world.heads)
+    (λ locked. (let known_root = locked.known in let clash : false ≡ true = subst (λ (x : Option Spot). IsSome x) unknown known_root in cc))
+    (λ taken apart. absurd (apart first)) (λ other t out k. out (later k))
+    (λ other k taken. elim (among_cases other n owns k) [
+      | inl e ↦ absurd (vacant new w n updates.changed (subst (λ (m : ℕ). IsTaken new w m) e taken))
+      | inr j ↦ j
+    ])
+    (λ apart taken. absurd (apart first)) truth
+
+-- ---- a number is spared
+module _ (a : ArenaView) (posting : Posting) (old : Root) (is : posting.stage ≡ RootWanted old) (wanted : Child) (is_goal : wanted ≡ goal posting.half posting.low posting.split) where
+  pub may_spare : (may : MayPost a posting) → wanted.level + 1 ≤ MAX_LEVEL
+  may_spare may =
+      let truth = true_at may.begun a may.w posting (RootWanted old) is may.true in
+      subst (λ (c : Child). c.level + 1 ≤ MAX_LEVEL) (sym is_goal) (goal_below a may.w may.true.0 posting.half posting.low posting.split truth.0)
+
+  pub spares : (root : NodeNo) (after : ArenaView) → node_at a.nodes root.0 ≡ None → Updates a.nodes after.nodes root.0 (Some (Interior (new_root wanted))) → after.retired ≡ a.retired → IsUnknown a root.0 → KeepsTree a after
       → PostLaw a after posting Moved (record posting { stage = RootSpared old root })
-  spares root after vacant updates retired unknown keeps = at_stage a after posting (RootWanted old) Moved (record posting { stage = RootSpared old root }) is (record {
+  spares root after vacant updates_wanted retired unknown keeps = at_stage a after posting posting.split (RootWanted old) Moved (record posting { stage = RootSpared old root }) refl is (record {
     steps = λ now begun w prefix world before border known truth.
+        let half : ℕ = posting.half.0 in
+        let split : Option Split = posting.split in
+        let updates = subst (λ (c : Child). Updates a.nodes after.nodes root.0 (Some (Interior (new_root c)))) is_goal updates_wanted in
         let out = unknown.unknown now w.twins w.chart world.index in
-        let differ = apart_from a w prefix posting.half.0 posting.low root.0 border out in (
-          goes_occupied now a after w root.0 (Interior new_root) (posting.half.0 ∷ []) _ vacant updates retired unknown keeps world (
+        let beside = vacant_beside a w prefix half posting.low root.0 split border truth.0 vacant in
+        let same : (number : ℕ) → Among number (split_owns half split) → IsSame a after w w number = λ number i. record { node = updates.others number (owns_beside a w prefix half posting.low root.0 split border truth.0 out beside number i); spot = refl; twins = λ one other here. ((λ h. h), (λ h. h)) } in (
+          goes_occupied now a after w root.0 (Interior (new_root (goal posting.half posting.low split))) (split_owns half split) _ vacant updates retired unknown keeps world (
             prefix,
             record {
-              border = to_post_stays a after w w prefix posting.half.0 posting.low (record { node = updates.others posting.half.0 differ; spot = refl }) border;
+              border = to_post_stays a after w w prefix half posting.low (same half (half_among a w prefix half split)) border;
               head = known;
-              stage = (truth, record { named = ap (option_and_then interior_of) updates.changed; unknown = out });
+              stage = (split_stays a after w w prefix half split same truth.0, truth.1, beside, record { named = ap (option_and_then interior_of) updates.changed; unknown = out });
             },
           ),
           (keeps.keeps now w.twins w.chart world.index).content,
         );
   })
 
-  pub refused : (after : ArenaView) → after ≡ a → PostLaw a after posting Ended posting
-  refused after same = subst (λ (x : ArenaView). PostLaw a x posting Ended posting) (sym same) (left_out a posting (RootWanted old) refl is)
-
 -- ---- it is filled
 -- a new root over two children is sound
-children_sound : (old : Root) (half : NodeNo) (low : ℕ) → old.level < 1 → IsInterior (with_children new_root (root_children old half low))
-children_sound old half low less = record {
+children_sound : (old : Root) (wanted : Child) → old.level < wanted.level + 1 → wanted.level + 1 ≤ MAX_LEVEL → IsInterior (with_children (new_root wanted) (root_children old wanted))
+children_sound old wanted less most = record {
   least = omega arith;
-  most = omega arith;
+  most = most;
   low_fits = omega arith;
   few = omega arith;
   starts = refl;
-  rising = record { lows = IsNonDecreasingBy-push (λ (c : Child). c.low) (record { low = 0; node = old.node; level = old.level } ∷ []) (record { low = low; node = half; level = 0 }) (IsNonDecreasingBy-short (λ (c : Child). c.low) (record { low = 0; node = old.node; level = old.level } ∷ []) (omega arith)) (λ d some. omega arith) };
-  lower = record { each = All-cons (λ (c : Child). c.level < 1) (record { low = 0; node = old.node; level = old.level }) (record { low = low; node = half; level = 0 } ∷ []) less (All-cons (λ (c : Child). c.level < 1) (record { low = low; node = half; level = 0 }) [] (omega arith) (All-nil (λ (c : Child). c.level < 1))) };
+  rising = record { lows = IsNonDecreasingBy-push (λ (c : Child). c.low) (record { low = 0; node = old.node; level = old.level } ∷ []) wanted (IsNonDecreasingBy-short (λ (c : Child). c.low) (record { low = 0; node = old.node; level = old.level } ∷ []) (omega arith)) (λ d some. omega arith) };
+  lower = record { each = All-cons (λ (c : Child). c.level < wanted.level + 1) (record { low = 0; node = old.node; level = old.level }) (wanted ∷ []) less (All-cons (λ (c : Child). c.level < wanted.level + 1) wanted [] (omega arith) (All-nil (λ (c : Child). c.level < wanted.level + 1))) };
   inner = refl;
   counters = record { vinsert_fits = omega arith; vsplit_fits = omega arith };
 }
 
-module _ (a : ArenaView) (posting : Posting) (old : Root) (root : NodeNo) (is : posting.stage ≡ RootSpared old root) where
+module _ (a : ArenaView) (posting : Posting) (old : Root) (root : NodeNo) (is : posting.stage ≡ RootSpared old root) (wanted : Child) (is_goal : wanted ≡ goal posting.half posting.low posting.split) where
   abbrev children : List Child
-  children = root_children old posting.half posting.low
+  children = root_children old wanted
 
   abbrev fill : InteriorView → InteriorView
   fill i = with_children i children
@@ -121,49 +136,63 @@ module _ (a : ArenaView) (posting : Posting) (old : Root) (root : NodeNo) (is : 
   abbrev unlock : InteriorView → InteriorView
   unlock i = with_lock i false
 
+  -- the spare, for what is wanted
+  spare_wanted : (w : World) → IsSpareInterior a w root.0 (new_root (goal posting.half posting.low posting.split)) → IsSpareInterior a w root.0 (new_root wanted)
+  spare_wanted w s = subst (λ (c : Child). IsSpareInterior a w root.0 (new_root c)) (sym is_goal) s
+
   -- what the calls ask
   pub may_fill : (may : MayPost a posting) → IsSomeAnd (interior_at a.nodes root.0) (λ i. i.children ≡ []) × IsSomeAnd (interior_at a.nodes root.0) (λ i. IsInterior (with_children i children))
   may_fill may =
-      let (less, spare) = true_at may.begun a may.w posting (RootSpared old root) is may.true in (
-        subst (λ (o : Option InteriorView). IsSomeAnd o (λ i. i.children ≡ [])) (sym spare.named) refl,
-        subst (λ (o : Option InteriorView). IsSomeAnd o (λ i. IsInterior (with_children i children))) (sym spare.named) (children_sound old posting.half posting.low less),
+      let (split, less, beside, spare) = true_at may.begun a may.w posting (RootSpared old root) is may.true in
+      let there = spare_wanted may.w spare in (
+        subst (λ (o : Option InteriorView). IsSomeAnd o (λ i. i.children ≡ [])) (sym there.named) refl,
+        subst (λ (o : Option InteriorView). IsSomeAnd o (λ i. IsInterior (with_children i children))) (sym there.named)
+            (children_sound old wanted (subst (λ (c : Child). old.level < c.level + 1) (sym is_goal) less) (subst (λ (c : Child). c.level + 1 ≤ MAX_LEVEL) (sym is_goal) (goal_below a may.w may.true.0 posting.half posting.low posting.split split))),
       )
 
   pub may_unlock : (may : MayPost a posting) (between : ArenaView) → between ≡ with_interior_changed a root.0 fill → IsSomeAnd (interior_at between.nodes root.0) (λ i. i.version.locked ≡ true)
   may_unlock may between value =
-      let (less, spare) = true_at may.begun a may.w posting (RootSpared old root) is may.true in
-      let there : interior_at between.nodes root.0 ≡ Some (fill new_root) = ap (λ (x : ArenaView). interior_at x.nodes root.0) value ∙ interior_now a root.0 new_root fill spare.named in
+      let (split, less, beside, spare) = true_at may.begun a may.w posting (RootSpared old root) is may.true in
+      let there : interior_at between.nodes root.0 ≡ Some (fill (new_root wanted)) = ap (λ (x : ArenaView). interior_at x.nodes root.0) value ∙ interior_now a root.0 (new_root wanted) fill (spare_wanted may.w spare).named in
       subst (λ (o : Option InteriorView). IsSomeAnd o (λ i. i.version.locked ≡ true)) (sym there) refl
 
   pub fills : (between after : ArenaView) → between ≡ with_interior_changed a root.0 fill → KeepsTree a between → after ≡ with_interior_changed between root.0 unlock
       → IsSomeAnd (interior_at between.nodes root.0) (λ i. KeepsWhere between after (λ chart. IsNotGone chart root.0 ⊎ (i.version.deleted ≡ true)))
       → PostLaw a after posting Moved (record posting { stage = RootFilled old root })
-  fills between after filled keeps unlocked keeps_again = at_stage a after posting (RootSpared old root) Moved (record posting { stage = RootFilled old root }) is (record {
+  fills between after filled keeps unlocked keeps_again = at_stage a after posting posting.split (RootSpared old root) Moved (record posting { stage = RootFilled old root }) refl is (record {
     steps = λ now begun w prefix world before border known truth.
-        let (less, spare) = truth in
+        let (split_truth, less, beside, spare_goal) = truth in
+        let spare = spare_wanted w spare_goal in
+        let half : ℕ = posting.half.0 in
+        let split : Option Split = posting.split in
         let n : ℕ = root.0 in
         let middle : ArenaView = with_interior_changed a n fill in
         let new : ArenaView = with_interior_changed middle n unlock in
-        let there : interior_at middle.nodes n ≡ Some (fill new_root) = interior_now a n new_root fill spare.named in
+        let there : interior_at middle.nodes n ≡ Some (fill (new_root wanted)) = interior_now a n (new_root wanted) fill spare.named in
         let is_new : after ≡ new = unlocked ∙ ap (λ (x : ArenaView). with_interior_changed x n unlock) filled in
         let kept = (subst (λ (x : ArenaView). KeepsTree a x) filled keeps).keeps now w.twins w.chart world.index in
-        let again = some_at _ (interior_at middle.nodes n) (fill new_root) (subst (λ (x : ArenaView). IsSomeAnd (interior_at x.nodes n) (λ i. KeepsWhere x after (λ chart. IsNotGone chart n ⊎ (i.version.deleted ≡ true)))) filled keeps_again) there in
-        let kept_again = (subst (λ (x : ArenaView). KeepsWhere middle x (λ chart. IsNotGone chart n ⊎ ((fill new_root).version.deleted ≡ true))) is_new again).keeps now w.twins w.chart kept.index
+        let again = some_at _ (interior_at middle.nodes n) (fill (new_root wanted)) (subst (λ (x : ArenaView). IsSomeAnd (interior_at x.nodes n) (λ i. KeepsWhere x after (λ chart. IsNotGone chart n ⊎ (i.version.deleted ≡ true)))) filled keeps_again) there in
+        let kept_again = (subst (λ (x : ArenaView). KeepsWhere middle x (λ chart. IsNotGone chart n ⊎ ((fill (new_root wanted)).version.deleted ≡ true))) is_new again).keeps now w.twins w.chart kept.index
         (inl (λ role p low epoch e. (let clash : ◌≡◌ {A = Option Spot} None (Some (spot role p low (gone epoch))) = sym spare.unknown ∙ e in cc))) in
-        let others : (other : ℕ) → other ≢ n → node_at new.nodes other ≡ node_at a.nodes other = λ other apart. interior_others middle n (fill new_root) unlock there other apart ∙ interior_others a n new_root fill spare.named other apart in
-        let differ = apart_from a w prefix posting.half.0 posting.low n border spare.unknown in
-        subst (λ (x : ArenaView). Goes now a x w (n ∷ posting.half.0 ∷ []) (n ∷ posting.half.0 ∷ []) (λ next. PostingIsTrue begun (record posting { stage = RootFilled old root }) x next) × SameContent (arena_seen a) (arena_seen x)) (sym is_new)
-        (goes_at now a new w w.chart n (n ∷ posting.half.0 ∷ []) (n ∷ posting.half.0 ∷ []) (λ next. PostingIsTrue begun (record posting { stage = RootFilled old root }) new next) world
+        let others : (other : ℕ) → other ≢ n → node_at new.nodes other ≡ node_at a.nodes other = λ other apart. interior_others middle n (fill (new_root wanted)) unlock there other apart ∙ interior_others a n (new_root wanted) fill spare.named other apart in
+        let same : (number : ℕ) → Among number (split_owns half split) → IsSame a new w w number = λ number i. record { node = others number (owns_beside a w prefix half posting.low n split border split_truth spare.unknown beside number i); spot = refl; twins = λ one other here. ((λ h. h), (λ h. h)) } in
+        subst (λ (x : ArenaView). Goes now a x w (n ∷ split_owns half split) (n ∷ split_owns half split) (λ next. PostingIsTrue begun (record posting { stage = RootFilled old root }) x next) × SameContent (arena_seen a) (arena_seen x)) (sym is_new)
+        (goes_at now a new w w.chart n (n ∷ split_owns half split) (n ∷ split_owns half split) (λ next. PostingIsTrue begun (record posting { stage = RootFilled old root }) new next) world
         (record { index = kept_again.index; content = λ key row. ((λ h. (kept.content key row).0 ((kept_again.content key row).0 h)), (λ h. (kept_again.content key row).1 ((kept.content key row).1 h))); evolves = λ b le. evolves_same b w.chart })
         refl others (λ other apart. refl)
-        (heads_beside a new w.chart w.chart n (λ number p h. h) (interior_no_head middle n (fill new_root) unlock there) others world.heads)
+        (heads_beside a new w.chart w.chart n (λ number p h. h) (interior_no_head middle n (fill (new_root wanted)) unlock there) others world.heads)
         (λ locked. (let known_root = locked.known in let clash : false ≡ true = subst (λ (x : Option Spot). IsSome x) spare.unknown known_root in cc))
-        (λ taken apart. apart first) (λ other k. k) (λ other k taken. k) (λ apart taken. apart first) (
+        (λ taken apart. absurd (apart first)) (λ other t out k. out k) (λ other k taken. k) (λ apart taken. absurd (apart first)) (
           prefix,
           record {
-            border = to_post_stays a new w w prefix posting.half.0 posting.low (record { node = others posting.half.0 differ; spot = refl }) border;
+            border = to_post_stays a new w w prefix half posting.low (same half (half_among a w prefix half split)) border;
             head = known;
-            stage = (less, record { named = interior_now middle n (fill new_root) unlock there; unknown = spare.unknown });
+            stage = (
+              split_stays a new w w prefix half split same split_truth,
+              less,
+              beside,
+              subst (λ (c : Child). IsSpareInterior new w n (root_over old c)) is_goal (record { named = interior_now middle n (fill (new_root wanted)) unlock there; unknown = spare.unknown }),
+            );
           },
         ));
   })
@@ -176,24 +205,25 @@ module _ (a : ArenaView) (posting : Posting) (old : Root) (root : NodeNo) (is : 
   abbrev half : ℕ
   half = posting.half.0
 
-  abbrev top_root : InteriorView
-  top_root = root_over old posting.half posting.low
-
   abbrev posted_child : Child
   posted_child = record { low = posting.low; node = posting.half; level = 0 }
+
+  abbrev top_root : InteriorView
+  top_root = root_over old posted_child
 
   -- the head is there
   pub has_head : (may : MayPost a posting) → IsSome (head_at a.nodes n)
   has_head may = head_there a may.w may.begun n may.true.0 may.now may.world may.true.1.head
 
   pub too_late : PostLaw a a posting Moved (record posting { stage = RootLate root })
-  too_late = goes_on a posting (RootFilled old root) (RootLate root) refl is (λ now begun w prefix world border known truth. (top_root, truth.1))
+  too_late = goes_on a posting posting.split posting.split (RootFilled old root) (RootLate root) refl refl is (λ now begun w prefix world border known truth. (truth.0, truth.2, root_over old (goal posting.half posting.low posting.split), truth.3))
 
-  module _ (h : HeadView) (named : head_at a.nodes n ≡ Some h) (alive : h.version.deleted ≡ false) (same_root : h.root ≡ old.node) (same_level : h.level ≡ old.level) where
+  module _ (h : HeadView) (named : head_at a.nodes n ≡ Some h) (alive : h.version.deleted ≡ false) (same_root : h.root ≡ old.node) (same_level : h.level ≡ old.level) (none : posting.split ≡ None) where
     -- what the call asks
     pub may_name : (may : MayPost a posting) → IsSomeAnd (head_at a.nodes n) (λ head. IsSomeAnd (interior_at a.nodes root.0) (IsRootOver head))
     may_name may =
-        let (less, spare) = true_at may.begun a may.w posting (RootFilled old root) is may.true in
+        let (split, less, beside, spare_goal) = true_at may.begun a may.w posting (RootFilled old root) is may.true in
+        let spare = subst (λ (o : Option Split). IsSpareInterior a may.w root.0 (root_over old (goal posting.half posting.low o))) none spare_goal in
         subst (λ (o : Option HeadView). IsSomeAnd o (λ x. IsSomeAnd (interior_at a.nodes root.0) (IsRootOver x))) (sym named)
         (subst (λ (o : Option InteriorView). IsSomeAnd o (IsRootOver h)) (sym spare.named) (record {
           low = refl;
@@ -221,7 +251,7 @@ module _ (a : ArenaView) (posting : Posting) (old : Root) (root : NodeNo) (is : 
     named_so : (now begun : ℕ) (w : World) (prefix : List ℕ) → IsWorld a now w → IsToPost a w prefix half posting.low → IsHeadOf w begun n prefix → IsSpareInterior a w root.0 top_root → KeepsAlong a new (NamesRootAt a n root.0)
         → Goes now a new w (root.0 ∷ half ∷ []) (half ∷ []) (ThenPosts Ended begun posting new) × SameContent (arena_seen a) (arena_seen new)
     named_so now begun w prefix world border known spare keeps =
-        let (stands, is_root) = root_place a w.chart begun n posting.low prefix h world.index.tree ((from_head begun prefix posting.low n w known).held) named alive in
+        let (stands, is_root) = root_place a w.chart begun n posting.low prefix h world.index.tree ((from_head begun prefix posted_child n w known).held) named alive in
         let half_place : Spot = spot (at_level 0) prefix posting.low (on true) in
         let root_at : Spot = spot (at_level 1) prefix 0 (on true) in
         let between : Chart = with_spot w.chart half half_place in
@@ -229,7 +259,7 @@ module _ (a : ArenaView) (posting : Posting) (old : Root) (root : NodeNo) (is : 
         let half_charted = spot_changes w.chart half half_place in
         let root_charted = spot_changes between root.0 root_at in
         let differ = apart_from a w prefix half posting.low root.0 border spare.unknown in
-        let beside = apart_head a w n half h border named in
+        let beside = apart_head a w prefix n half posting.low h border named in
         let is_known = known_some w n _ stands in
         let kept = keeps.keeps now w.twins w.chart chart world.index (record {
           root = top_root;
@@ -254,13 +284,13 @@ module _ (a : ArenaView) (posting : Posting) (old : Root) (root : NodeNo) (is : 
         (heads_named w.chart chart (λ number layer place. heads_were w.chart between half 0 posting.low prefix (on true) half_charted number layer (heads_were between chart root.0 1 0 prefix (on true) root_charted number layer place)) world.heads)
         (no_interior a w.chart n none_there)
         (λ taken apart. not_both h.version.locked (w.chart n) free is_known (head_is_taken a n h w named taken))
-        (λ other k. later k)
+        (λ other t out k. out (later k))
         (λ other k taken. elim (among_cases other root.0 (half ∷ []) k) [
           | inl e ↦ absurd (not_both (top_root.version.locked) (chart root.0) refl (known_some (at_chart w chart) root.0 root_at root_charted.now)
               (interior_is_taken new root.0 top_root (at_chart w chart) (root_named w spare) (subst (λ (m : ℕ). IsTaken new (at_chart w chart) m) e taken)))
           | inr i ↦ i
         ])
-        (λ apart taken. not_both h.version.locked (chart n) free (known_stays w.chart chart n (kept.evolves 0 (omega arith)) is_known) (head_is_taken new n (change h) (at_chart w chart) head_now taken))
+        (λ apart taken. absurd (not_both h.version.locked (chart n) free (known_stays w.chart chart n (kept.evolves 0 (omega arith)) is_known) (head_is_taken new n (change h) (at_chart w chart) head_now taken)))
         (record {
           b = border.b;
           named = ap (option_and_then border_of) (head_updated.others half beside) ∙ border.named;
@@ -286,11 +316,11 @@ module _ (a : ArenaView) (posting : Posting) (old : Root) (root : NodeNo) (is : 
         }
 
     pub names : (after : ArenaView) → IsSomeAnd (interior_at a.nodes root.0) (λ i. after ≡ with_head_changed a n (λ x. with_root x root i.level)) → KeepsAlong a after (NamesRootAt a n root.0) → PostLaw a after posting Ended posting
-    names after value keeps = at_stage a after posting (RootFilled old root) Ended posting is (record {
+    names after value keeps = at_stage a after posting None (RootFilled old root) Ended posting none is (record {
       steps = λ now begun w prefix world before border known truth.
-          let same : after ≡ new = some_at _ (interior_at a.nodes root.0) top_root value truth.1.named in
+          let same : after ≡ new = some_at _ (interior_at a.nodes root.0) top_root value truth.3.named in
           subst (λ (x : ArenaView). Goes now a x w (root.0 ∷ half ∷ []) (half ∷ []) (ThenPosts Ended begun posting x) × SameContent (arena_seen a) (arena_seen x)) (sym same)
-          (named_so now begun w prefix world border known truth.1 (subst (λ (x : ArenaView). KeepsAlong a x (NamesRootAt a n root.0)) same keeps));
+          (named_so now begun w prefix world border known truth.3 (subst (λ (x : ArenaView). KeepsAlong a x (NamesRootAt a n root.0)) same keeps));
     })
 
 -- ---- the number is given back
@@ -301,36 +331,29 @@ module _ (a : ArenaView) (posting : Posting) (root : NodeNo) (is : posting.stage
   -- what the call asks
   pub may_give : (may : MayPost a posting) → IsSome (node_at a.nodes root.0) × All (λ retired. retired.node.0 ≢ root.0) a.retired
   may_give may =
-      let (i, spare) = true_at may.begun a may.w posting (RootLate root) is may.true in (
+      let (split, beside, i, spare) = true_at may.begun a may.w posting (RootLate root) is may.true in (
         is_named may.w i spare,
-        All-weaker (λ (r : Retired). IsGone may.w.chart r.node.0) (λ (r : Retired). r.node.0 ≢ root.0)
-            (λ r g e. (let clash : ◌≡◌ {A = Option Spot} None (Some (spot g.role g.prefix g.low (gone g.epoch))) = sym spare.unknown ∙ (ap may.w.chart (sym e) ∙ g.place) in cc)) a.retired may.world.retired.each,
+        not_retired a may.w may.now root.0 may.world spare.unknown,
       )
 
   pub gives_back : (after : ArenaView) → after ≡ without_node a root.0 → KeepsUnknown a after root.0 → PostLaw a after posting Moved (record posting { stage = Walks posting.head })
-  gives_back after value keeps = at_stage a after posting (RootLate root) Moved (record posting { stage = Walks posting.head }) is (record {
+  gives_back after value keeps = at_stage a after posting posting.split (RootLate root) Moved (record posting { stage = Walks posting.head }) refl is (record {
     steps = λ now begun w prefix world before border known truth.
-        let (i, spare) = truth in
+        let (split_truth, beside, i, spare) = truth in
+        let half : ℕ = posting.half.0 in
+        let split : Option Split = posting.split in
         let n : ℕ = root.0 in
         let new : ArenaView = without_node a n in
         let updates : Updates a.nodes new.nodes n None = updates-without a.nodes n (is_named w i spare) in
         let kept = (subst (λ (x : ArenaView). KeepsUnknown a x n) value keeps).keeps now w.twins w.chart world.index spare.unknown in
-        let differ = apart_from a w prefix posting.half.0 posting.low n border spare.unknown in
-        subst (λ (x : ArenaView). Goes now a x w (n ∷ posting.half.0 ∷ []) (posting.half.0 ∷ []) (λ next. PostingIsTrue begun (record posting { stage = Walks posting.head }) x next) × SameContent (arena_seen a) (arena_seen x)) (sym value)
-        (goes_at now a new w w.chart n (n ∷ posting.half.0 ∷ []) (posting.half.0 ∷ []) (λ next. PostingIsTrue begun (record posting { stage = Walks posting.head }) new next) world kept refl updates.others (λ other apart. refl)
-        (heads_beside a new w.chart w.chart n (λ number p h. h) (ap (option_and_then head_of) updates.changed) updates.others world.heads)
-        (λ locked. (let known_root = locked.known in let clash : false ≡ true = subst (λ (x : Option Spot). IsSome x) spare.unknown known_root in cc))
-        (λ taken apart. apart first) (λ other k. later k)
-        (λ other k taken. elim (among_cases other n (posting.half.0 ∷ []) k) [
-          | inl e ↦ absurd (vacant new w n updates.changed (subst (λ (m : ℕ). IsTaken new w m) e taken))
-          | inr j ↦ j
-        ])
-        (λ apart taken. apart first) (
+        let same : (number : ℕ) → Among number (split_owns half split) → IsSame a new w w number = λ number k. record { node = updates.others number (owns_beside a w prefix half posting.low n split border split_truth spare.unknown beside number k); spot = refl; twins = λ one other here. ((λ h. h), (λ h. h)) } in
+        subst (λ (x : ArenaView). Goes now a x w (n ∷ split_owns half split) (split_owns half split) (λ next. PostingIsTrue begun (record posting { stage = Walks posting.head }) x next) × SameContent (arena_seen a) (arena_seen x)) (sym value)
+        (gives_number now a w n (split_owns half split) (λ next. PostingIsTrue begun (record posting { stage = Walks posting.head }) new next) world (is_named w i spare) spare.unknown kept (
           prefix,
           record {
-            border = to_post_stays a new w w prefix posting.half.0 posting.low (record { node = updates.others posting.half.0 differ; spot = refl }) border;
+            border = to_post_stays a new w w prefix half posting.low (same half (half_among a w prefix half split)) border;
             head = known;
-            stage = from_head begun prefix posting.low posting.head.0 w known;
+            stage = (split_stays a new w w prefix half split same split_truth, from_head begun prefix (goal posting.half posting.low split) posting.head.0 w known);
           },
         ));
   })

@@ -1,5 +1,5 @@
 -- What a step of a posting leaves that changes one node.
-use Rattle.std.proofs.Common.{ℕ, ◌≡◌, ◌≢◌, ◌⊎◌, inl, inr, List, Option, Some, None, IsSome, true, false, refl, sym, ap, subst, ◌∙◌, arith}
+use Rattle.std.proofs.Common.{ℕ, ◌≡◌, ◌≢◌, ◌≤◌, ◌⊎◌, inl, inr, List, Option, Some, None, IsSome, true, false, refl, sym, ap, subst, ◌∙◌, arith}
 use Rattle.std.specs.Option.{option_and_then}
 use Rattle.mt_border.specs.Border.{BorderView}
 use Rattle.mt_interior.specs.Head.{HeadView}
@@ -11,20 +11,78 @@ use Rattle.mt_arena.specs.declared.node.Node.{Node}
 use Rattle.mt_arena.specs.declared.node.Node.TheVariants.{Interior}
 use Rattle.mt_arena.proofs.NodeLemmas.{updates-with_node, node-from_head, node-from_interior}
 use Rattle.mt_chart.specs.Tree.{Among}
-use Rattle.mt_chart.specs.Chart.{Chart, Spot, OnHead}
-use Rattle.mt_chart.specs.Steps.{Keeps, SameContent}
+use Rattle.mt_chart.specs.Chart.{Evolves, Chart, Spot, OnHead}
+use Rattle.mt_chart.specs.Steps.{Twin, AreTwins, NoTwin, Keeps, SameContent}
 use Rattle.mt_chart.proofs.Basics.{same_number}
 use Rattle.mt_tree.specs.Seen.{arena_seen}
 use Rattle.mt_tree.proofs.SeenLemmas.{changed-interior}
-use Rattle.mt_calls.specs.World.{World, IsWorld, HeadsAreAlive, IsLockedInterior, RetiredAreGone, IsLocked, IsTaken, NotAmong, Goes}
+use Rattle.mt_calls.specs.World.{World, IsWorld, HeadsAreAlive, IsLockedInterior, TwinsAreLocked, RetiredAreGone, IsLocked, IsTaken, HasSameTwins, NotAmong, Goes}
 use Rattle.mt_calls.proofs.FrameLemmas.{is_among, taken_back}
-use Rattle.mt_calls.proofs.BorderLemmas.{keys_same, twins_beside, retired_kept}
+use Rattle.mt_calls.proofs.BorderLemmas.{interior_kept, keys_same, twins_beside, retired_kept}
 
 -- the same twins, at another chart
 abbrev pub at_chart : World → Chart → World
 at_chart w chart = record { twins = w.twins; chart = chart }
 
--- The node of one number changes, which no other call has taken, and the places of own numbers.
+-- The node of one number changes, which no other call has taken, and the places and twins of own numbers: what the step leaves.
+pub goes_with : (now : ℕ) (a after : ArenaView) (w next : World) (n : ℕ) (owned owns : List ℕ) (Then : World → Type 0)
+    → IsWorld after now next → ((begun : ℕ) → begun ≤ now → Evolves begun w.chart next.chart)
+    → ((other : ℕ) → other ≢ n → node_at after.nodes other ≡ node_at a.nodes other)
+    → ((other : ℕ) → NotAmong other owned → next.chart other ≡ w.chart other)
+    → ((other : ℕ) → NotAmong other owned → HasSameTwins w.twins next.twins other)
+    → (IsTaken a w n → NotAmong n owned → ⊥)
+    → ((other : ℕ) → IsTaken a w other → NotAmong other owned → NotAmong other owns)
+    → ((other : ℕ) → Among other owned → IsTaken after next other → Among other owns)
+    → (NotAmong n owned → IsTaken after next n → Among n owns)
+    → Then next
+    → Goes now a after w owned owns Then
+goes_with now a after w next n owned owns Then world evolves others spots twins nobody no_more stays not_taken truth = record {
+  next = next;
+  world = world;
+  evolves = evolves;
+  leaves = λ other taken apart. (
+    record {
+      node = others other (λ e. nobody (subst (λ (m : ℕ). IsTaken a w m) e taken) (λ i. apart (subst (λ (m : ℕ). Among m owned) (sym e) i)));
+      spot = spots other apart;
+      twins = twins other apart;
+    },
+    no_more other taken apart,
+  );
+  takes = λ other taken. elim (is_among other owned) [
+    | inl i ↦ inl (stays other i taken)
+    | inr out ↦ elim (same_number other n) [
+      | inl e ↦ inl (subst (λ (m : ℕ). Among m owns) (sym e) (not_taken (λ i. out (subst (λ (m : ℕ). Among m owned) (sym e) i)) (subst (λ (m : ℕ). IsTaken after next m) e taken)))
+      | inr differ ↦ inr (taken_back a after w next other (record { node = others other differ; spot = spots other out; twins = twins other out }) taken, out)
+    ]
+  ];
+  true = truth;
+}
+
+-- the same, where the twins stay
+pub goes_kept : (now : ℕ) (a after : ArenaView) (w : World) (chart : Chart) (n : ℕ) (owned owns : List ℕ) (Then : World → Type 0)
+    → IsWorld a now w → Keeps now w.twins (arena_seen a) (arena_seen after) w.chart chart → after.retired ≡ a.retired
+    → ((other : ℕ) → other ≢ n → node_at after.nodes other ≡ node_at a.nodes other)
+    → ((other : ℕ) → NotAmong other owned → chart other ≡ w.chart other)
+    → HeadsAreAlive after chart
+    → TwinsAreLocked after chart w.twins
+    → (IsTaken a w n → NotAmong n owned → ⊥)
+    → ((other : ℕ) → IsTaken a w other → NotAmong other owned → NotAmong other owns)
+    → ((other : ℕ) → Among other owned → IsTaken after (at_chart w chart) other → Among other owns)
+    → (NotAmong n owned → IsTaken after (at_chart w chart) n → Among n owns)
+    → Then (at_chart w chart)
+    → Goes now a after w owned owns Then × SameContent (arena_seen a) (arena_seen after)
+goes_kept now a after w chart n owned owns Then world kept retired others spots heads twins nobody no_more stays not_taken truth = (
+  goes_with now a after w (at_chart w chart) n owned owns Then (record {
+    index = kept.index;
+    keys = keys_same a after kept.content world.keys;
+    heads = heads;
+    twins = twins;
+    retired = subst (λ (r : List Retired). RetiredAreGone r chart) (sym retired) (retired_kept a.retired w.chart chart (kept.evolves 0 (omega arith)) world.retired);
+  }) kept.evolves others spots (λ other apart one two here. ((λ h. h), (λ h. h))) nobody no_more stays not_taken truth,
+  kept.content,
+)
+
+-- the same, where the number is no locked interior
 pub goes_at : (now : ℕ) (a after : ArenaView) (w : World) (chart : Chart) (n : ℕ) (owned owns : List ℕ) (Then : World → Type 0)
     → IsWorld a now w → Keeps now w.twins (arena_seen a) (arena_seen after) w.chart chart → after.retired ≡ a.retired
     → ((other : ℕ) → other ≢ n → node_at after.nodes other ≡ node_at a.nodes other)
@@ -32,40 +90,23 @@ pub goes_at : (now : ℕ) (a after : ArenaView) (w : World) (chart : Chart) (n :
     → HeadsAreAlive after chart
     → (IsLockedInterior a w.chart n → ⊥)
     → (IsTaken a w n → NotAmong n owned → ⊥)
-    → ((other : ℕ) → Among other owns → Among other owned)
+    → ((other : ℕ) → IsTaken a w other → NotAmong other owned → NotAmong other owns)
     → ((other : ℕ) → Among other owned → IsTaken after (at_chart w chart) other → Among other owns)
-    → (NotAmong n owned → IsTaken after (at_chart w chart) n → ⊥)
+    → (NotAmong n owned → IsTaken after (at_chart w chart) n → Among n owns)
     → Then (at_chart w chart)
     → Goes now a after w owned owns Then × SameContent (arena_seen a) (arena_seen after)
-goes_at now a after w chart n owned owns Then world kept retired others spots heads free nobody fewer stays not_taken truth = (
-  record {
-    next = at_chart w chart;
-    world = record {
-      index = kept.index;
-      keys = keys_same a after kept.content world.keys;
-      heads = heads;
-      twins = twins_beside a after w.chart chart w.twins n (kept.evolves 0 (omega arith)) free others world.twins;
-      retired = subst (λ (r : List Retired). RetiredAreGone r chart) (sym retired) (retired_kept a.retired w.chart chart (kept.evolves 0 (omega arith)) world.retired);
-    };
-    evolves = kept.evolves;
-    leaves = λ other taken apart. (
-      record {
-        node = others other (λ e. nobody (subst (λ (m : ℕ). IsTaken a w m) e taken) (λ i. apart (subst (λ (m : ℕ). Among m owned) (sym e) i)));
-        spot = spots other apart;
-      },
-      λ i. apart (fewer other i),
-    );
-    takes = λ other taken. elim (is_among other owned) [
-      | inl i ↦ inl (stays other i taken)
-      | inr out ↦ elim (same_number other n) [
-        | inl e ↦ absurd (not_taken (λ i. out (subst (λ (m : ℕ). Among m owned) (sym e) i)) (subst (λ (m : ℕ). IsTaken after (at_chart w chart) m) e taken))
-        | inr differ ↦ inr (taken_back a after w (at_chart w chart) other (record { node = others other differ; spot = spots other out }) taken, out)
-      ]
-    ];
-    true = truth;
-  },
-  kept.content,
-)
+goes_at now a after w chart n owned owns Then world kept retired others spots heads free nobody no_more stays not_taken truth =
+    goes_kept now a after w chart n owned owns Then world kept retired others spots heads (twins_beside a after w.chart chart w.twins n (kept.evolves 0 (omega arith)) free others world.twins) nobody no_more stays not_taken truth
+
+-- twins are locked still, where the one interior that changes is none
+pub twins_lone : (a after : ArenaView) (chart next : Chart) (twins : List Twin) (n : ℕ) → Evolves 0 chart next → NoTwin twins n → ((other : ℕ) → other ≢ n → node_at after.nodes other ≡ node_at a.nodes other) → TwinsAreLocked a chart twins → TwinsAreLocked after next twins
+twins_lone a after chart next twins n evolves lone others all = record {
+  locked = λ one other pair.
+      let both = all.locked one other pair in (
+        interior_kept a after chart next one evolves (others one (λ e. lone.1 other (subst (λ (m : ℕ). AreTwins twins m other) e pair))) both.0,
+        interior_kept a after chart next other evolves (others other (λ e. lone.0 one (subst (λ (m : ℕ). AreTwins twins one m) e pair))) both.1,
+      );
+}
 
 -- ---- heads are as they were, where one number that is no head changes
 pub heads_beside : (a after : ArenaView) (chart next : Chart) (n : ℕ) → ((number : ℕ) (prefix : List ℕ) → OnHead next number prefix → OnHead chart number prefix)

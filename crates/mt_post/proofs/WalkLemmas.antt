@@ -1,5 +1,5 @@
 -- The steps of a posting on its way: at a head, and at an interior, which comes to name the border.
-use Rattle.std.proofs.Common.{ℕ, zero, suc, ◌≡◌, ◌≤◌, ◌<◌, ◌⊎◌, inl, inr, List, [], ◌∷◌, length, slice_get, Option, Some, IsSome, true, false, refl, sym, ap, subst, ◌∙◌, arith}
+use Rattle.std.proofs.Common.{ℕ, zero, suc, ◌≡◌, ◌≤◌, ◌<◌, ◌+◌, ◌⊎◌, inl, inr, List, [], ◌∷◌, length, slice_get, Option, Some, None, IsSome, true, false, refl, sym, ap, subst, ◌∙◌, arith}
 use Rattle.std.specs.Prelude.{IsSomeAnd}
 use Rattle.std.specs.Option.{option_map}
 use Rattle.mt_types.specs.declared.numbers.NodeNo.{NodeNo}
@@ -16,7 +16,7 @@ use Rattle.mt_chart.specs.Chart.{Role, top, at_level, Standing, on, gone, Spot, 
 use Rattle.mt_chart.specs.Steps.{SameContent}
 use Rattle.mt_chart.proofs.TreeLemmas.{children_held, free_interiors_on}
 use Rattle.mt_chart.proofs.Basics.{same_number}
-use Rattle.mt_tree.specs.Seen.{arena_seen, head_seen, interior_seen, border_seen, child_seen, children_seen}
+use Rattle.mt_tree.specs.Seen.{arena_seen, node_seen, head_seen, interior_seen, border_seen, child_seen, children_seen}
 use Rattle.mt_tree.specs.Descent.{MayVisit}
 use Rattle.mt_tree.specs.Keeping.{KeepsAlong}
 use Rattle.mt_tree.specs.InteriorSteps.{PostsAt, IsInLayer, HasRoomFrom}
@@ -33,28 +33,30 @@ use Rattle.mt_post.specs.declared.posting.Posting.{Posting}
 use Rattle.mt_post.specs.declared.posting.Progressed.{Progressed}
 use Rattle.mt_post.specs.declared.posting.Progressed.TheVariants.{Moved, Waits, Ended}
 use Rattle.mt_post.specs.declared.posting.Root.{Root}
+use Rattle.mt_post.specs.declared.posting.Split.{Split}
 use Rattle.mt_post.specs.declared.posting.Stage.{Stage}
-use Rattle.mt_post.specs.declared.posting.Stage.TheVariants.{Walks, RootWanted}
-use Rattle.mt_post.specs.Posting.{stage_owns, owned_after, IsToPost, IsHeadOf, IsFrom, IsWalking, StageIsTrue, PostingIsTrue, IsLockedBorder, ThenPosts, PostLaw, NewPostingIsTrue, MayPost}
+use Rattle.mt_post.specs.declared.posting.Stage.TheVariants.{Walks, RootWanted, HalfLeftOut}
+use Rattle.mt_post.specs.Posting.{stage_owns, owned_after, IsToPost, IsHeadOf, IsAbove, goal, split_owns, IsWalking, StageIsTrue, IsHalved, PostingIsTrue, IsLockedBorder, ThenPosts, PostLaw, NewPostingIsTrue, MayPost}
 use Rattle.mt_post.proofs.StepLemmas.{at_chart, goes_at, heads_beside, interior_others, interior_no_head, interior_border, interior_taken, interior_is_taken, not_both}
 
 -- ---- the law of a step, of a posting that is at a stage
-pub record StageLaw (a after : ArenaView) (posting : Posting) (stage : Stage) (p : Progressed) (then : Posting) : Type 0 where
+pub record StageLaw (a after : ArenaView) (posting : Posting) (split : Option Split) (stage : Stage) (p : Progressed) (then : Posting) : Type 0 where
   pub steps : (now begun : ℕ) (w : World) (prefix : List ℕ) → IsWorld a now w → begun ≤ now → IsToPost a w prefix posting.half.0 posting.low → IsHeadOf w begun posting.head.0 prefix
-      → StageIsTrue begun prefix posting.half posting.low stage a w
-      → Goes now a after w (stage_owns posting.half.0 stage) (owned_after p then) (ThenPosts p begun then after) × SameContent (arena_seen a) (arena_seen after)
+      → StageIsTrue begun prefix posting.half posting.low split stage a w
+      → Goes now a after w (stage_owns posting.half.0 split stage) (owned_after p then) (ThenPosts p begun then after) × SameContent (arena_seen a) (arena_seen after)
 
-pub at_stage : (a after : ArenaView) (posting : Posting) (stage : Stage) (p : Progressed) (then : Posting) → posting.stage ≡ stage → StageLaw a after posting stage p then → PostLaw a after posting p then
-at_stage a after posting stage p then is law = record {
+pub at_stage : (a after : ArenaView) (posting : Posting) (split : Option Split) (stage : Stage) (p : Progressed) (then : Posting) → posting.split ≡ split → posting.stage ≡ stage → StageLaw a after posting split stage p then → PostLaw a after posting p then
+at_stage a after posting split stage p then has is law = record {
   steps = λ now begun w world before truth.
       let (prefix, t) = truth in
-      subst (λ (s : Stage). Goes now a after w (stage_owns posting.half.0 s) (owned_after p then) (ThenPosts p begun then after) × SameContent (arena_seen a) (arena_seen after)) (sym is)
-      (law.steps now begun w prefix world before t.border t.head (subst (λ (s : Stage). StageIsTrue begun prefix posting.half posting.low s a w) is t.stage));
+      subst (λ (s : Stage). Goes now a after w (stage_owns posting.half.0 posting.split s) (owned_after p then) (ThenPosts p begun then after) × SameContent (arena_seen a) (arena_seen after)) (sym is)
+      (subst (λ (o : Option Split). Goes now a after w (stage_owns posting.half.0 o stage) (owned_after p then) (ThenPosts p begun then after) × SameContent (arena_seen a) (arena_seen after)) (sym has)
+      (law.steps now begun w prefix world before t.border t.head (subst (λ (o : Option Split). StageIsTrue begun prefix posting.half posting.low o stage a w) has (subst (λ (s : Stage). StageIsTrue begun prefix posting.half posting.low posting.split s a w) is t.stage))));
 }
 
 -- what is true of the stage where it is
-pub true_at : (begun : ℕ) (a : ArenaView) (w : World) (posting : Posting) (stage : Stage) → posting.stage ≡ stage → (truth : PostingIsTrue begun posting a w) → StageIsTrue begun truth.0 posting.half posting.low stage a w
-true_at begun a w posting stage is truth = subst (λ (s : Stage). StageIsTrue begun truth.0 posting.half posting.low s a w) is truth.1.stage
+pub true_at : (begun : ℕ) (a : ArenaView) (w : World) (posting : Posting) (stage : Stage) → posting.stage ≡ stage → (truth : PostingIsTrue begun posting a w) → StageIsTrue begun truth.0 posting.half posting.low posting.split stage a w
+true_at begun a w posting stage is truth = subst (λ (s : Stage). StageIsTrue begun truth.0 posting.half posting.low posting.split s a w) is truth.1.stage
 
 pub known_some : (w : World) (number : ℕ) (place : Spot) → w.chart number ≡ Some place → IsSome (w.chart number)
 known_some w number place is = subst (λ (x : Option Spot). IsSome x) (sym is) refl
@@ -64,17 +66,25 @@ pub still_locked : (a : ArenaView) (w : World) (prefix : List ℕ) (number low :
 still_locked a w prefix number low t = record { b = t.b; named = t.named; known = known_some w number _ t.place; locked = t.locked }
 
 -- from the head it begins its way
-pub from_head : (begun : ℕ) (prefix : List ℕ) (low number : ℕ) (w : World) → IsHeadOf w begun number prefix → IsWalking begun prefix low number w
-from_head begun prefix low number w known = record {
+pub from_head : (begun : ℕ) (prefix : List ℕ) (wanted : Child) (number : ℕ) (w : World) → IsHeadOf w begun number prefix → IsWalking begun prefix wanted number w
+from_head begun prefix wanted number w known = record {
   held = record { role = top; low = 0; standing = known.standing; place = known.place; at_most = omega arith; since = known.since };
   inner = tt;
 }
 
-pub new_is_true : (posting : Posting) → posting.stage ≡ Walks posting.head → NewPostingIsTrue posting
-new_is_true posting is = record {
+pub new_is_true : (posting : Posting) → posting.split ≡ None → posting.stage ≡ Walks posting.head → NewPostingIsTrue posting
+new_is_true posting none is = record {
   begins = λ a w begun prefix border known. (
-    (prefix, record { border = border; head = known; stage = subst (λ (s : Stage). StageIsTrue begun prefix posting.half posting.low s a w) (sym is) (from_head begun prefix posting.low posting.head.0 w known) }),
-    ap (stage_owns posting.half.0) is,
+    (
+      prefix,
+      record {
+        border = border;
+        head = known;
+        stage = subst (λ (s : Stage). StageIsTrue begun prefix posting.half posting.low posting.split s a w) (sym is)
+            (subst (λ (o : Option Split). StageIsTrue begun prefix posting.half posting.low o (Walks posting.head) a w) (sym none) (tt, from_head begun prefix (goal posting.half posting.low None) posting.head.0 w known));
+      },
+    ),
+    ap (stage_owns posting.half.0 posting.split) is ∙ ap (split_owns posting.half.0) none,
   );
 }
 
@@ -95,26 +105,26 @@ module _ (a : ArenaView) (posting : Posting) where
   same_content key row = ((λ h. h), (λ h. h))
 
   -- the border is left out
-  pub left_out : (stage : Stage) → stage_owns posting.half.0 stage ≡ posting.half.0 ∷ [] → posting.stage ≡ stage → PostLaw a a posting Ended posting
-  left_out stage owns is = at_stage a a posting stage Ended posting is (record {
-    steps = λ now begun w prefix world before border known truth. (goes_same now a w _ (stage_owns posting.half.0 stage) (posting.half.0 ∷ []) owns world (still_locked a w prefix posting.half.0 posting.low border), same_content);
+  pub left_out : (stage : Stage) → stage_owns posting.half.0 None stage ≡ posting.half.0 ∷ [] → posting.split ≡ None → posting.stage ≡ stage → PostLaw a a posting Ended posting
+  left_out stage owns none is = at_stage a a posting None stage Ended posting none is (record {
+    steps = λ now begun w prefix world before border known truth. (goes_same now a w _ (stage_owns posting.half.0 None stage) (posting.half.0 ∷ []) owns world (still_locked a w prefix posting.half.0 posting.low border), same_content);
   })
 
-  module _ (stage next : Stage) (owns : stage_owns posting.half.0 stage ≡ stage_owns posting.half.0 next) (is : posting.stage ≡ stage) where
+  module _ (split next_split : Option Split) (stage next : Stage) (owns : stage_owns posting.half.0 split stage ≡ stage_owns posting.half.0 next_split next) (has : posting.split ≡ split) (is : posting.stage ≡ stage) where
     abbrev ThenStage : Type 0
     ThenStage = (now begun : ℕ) (w : World) (prefix : List ℕ) → IsWorld a now w → IsToPost a w prefix posting.half.0 posting.low → IsHeadOf w begun posting.head.0 prefix
-        → StageIsTrue begun prefix posting.half posting.low stage a w → StageIsTrue begun prefix posting.half posting.low next a w
+        → StageIsTrue begun prefix posting.half posting.low split stage a w → StageIsTrue begun prefix posting.half posting.low next_split next a w
 
-    pub goes_on : ThenStage → PostLaw a a posting Moved (record posting { stage = next })
-    goes_on then = at_stage a a posting stage Moved (record posting { stage = next }) is (record {
+    pub goes_on : ThenStage → PostLaw a a posting Moved (record posting { split = next_split; stage = next })
+    goes_on then = at_stage a a posting split stage Moved (record posting { split = next_split; stage = next }) has is (record {
       steps = λ now begun w prefix world before border known truth.
-          (goes_same now a w _ (stage_owns posting.half.0 stage) (stage_owns posting.half.0 next) owns world (prefix, record { border = border; head = known; stage = then now begun w prefix world border known truth }), same_content);
+          (goes_same now a w _ (stage_owns posting.half.0 split stage) (stage_owns posting.half.0 next_split next) owns world (prefix, record { border = border; head = known; stage = then now begun w prefix world border known truth }), same_content);
     })
 
-    pub waits_on : ThenStage → PostLaw a a posting Waits (record posting { stage = next })
-    waits_on then = at_stage a a posting stage Waits (record posting { stage = next }) is (record {
+    pub waits_on : ThenStage → PostLaw a a posting Waits (record posting { split = next_split; stage = next })
+    waits_on then = at_stage a a posting split stage Waits (record posting { split = next_split; stage = next }) has is (record {
       steps = λ now begun w prefix world before border known truth.
-          (goes_same now a w _ (stage_owns posting.half.0 stage) (stage_owns posting.half.0 next) owns world (prefix, record { border = border; head = known; stage = then now begun w prefix world border known truth }), same_content);
+          (goes_same now a w _ (stage_owns posting.half.0 split stage) (stage_owns posting.half.0 next_split next) owns world (prefix, record { border = border; head = known; stage = then now begun w prefix world border known truth }), same_content);
     })
 
 -- ---- at a head
@@ -141,32 +151,39 @@ root_place a chart begun node low prefix h tree held named alive = go held.role 
     go (at_level zero) (gone epoch) place = absurd (let at_node = there in let (u, is_node, marked) = tree.gone_borders node prefix held.low epoch place in cc)
     go (at_level (suc below)) standing place = absurd (let at_node = there in let is_node = (tree.interiors node below prefix held.low standing place).is_node in cc)
 
-module _ (a : ArenaView) (posting : Posting) (node : NodeNo) (is : posting.stage ≡ Walks node) where
-  pub head_leads : (h : HeadView) (root : NodeNo) (level : ℕ) → head_at a.nodes node.0 ≡ Some h → h.version.deleted ≡ false → root ≡ h.root → level ≡ h.level → 1 ≤ level → PostLaw a a posting Moved (record posting { stage = Walks root })
-  head_leads h root level named alive same same_level from = goes_on a posting (Walks node) (Walks root) refl is (λ now begun w prefix world border known truth.
-      let (stands, is_root) = root_place a w.chart begun node.0 posting.low prefix h world.index.tree truth.held named alive in
-      record {
-        held = record { role = at_level h.level; low = 0; standing = on true; place = ap (λ (r : NodeNo). w.chart r.0) same ∙ is_root; at_most = omega arith; since = λ epoch e. absurd (let clash : on true ≡ gone epoch = e in cc) };
-        inner = subst (λ (l : ℕ). 1 ≤ l) same_level from;
-      })
+module _ (a : ArenaView) (posting : Posting) (node : NodeNo) (is : posting.stage ≡ Walks node) (wanted : Child) (is_goal : wanted ≡ goal posting.half posting.low posting.split) where
+  -- where it is, seen for what is wanted
+  walks_for : (begun : ℕ) (prefix : List ℕ) (number : ℕ) (w : World) → IsWalking begun prefix wanted number w → IsWalking begun prefix (goal posting.half posting.low posting.split) number w
+  walks_for begun prefix number w at = subst (λ (g : Child). IsWalking begun prefix g number w) is_goal at
 
-  pub head_lacks : (old : Root) → old.level < 1 → PostLaw a a posting Moved (record posting { stage = RootWanted old })
-  head_lacks old less = goes_on a posting (Walks node) (RootWanted old) refl is (λ now begun w prefix world border known truth. less)
+  walks_wanted : (begun : ℕ) (prefix : List ℕ) (number : ℕ) (w : World) → IsWalking begun prefix (goal posting.half posting.low posting.split) number w → IsWalking begun prefix wanted number w
+  walks_wanted begun prefix number w at = subst (λ (g : Child). IsWalking begun prefix g number w) (sym is_goal) at
 
-  pub head_left_out : PostLaw a a posting Ended posting
-  head_left_out = left_out a posting (Walks node) refl is
+  pub head_leads : (h : HeadView) (root : NodeNo) (level : ℕ) → head_at a.nodes node.0 ≡ Some h → h.version.deleted ≡ false → root ≡ h.root → level ≡ h.level → wanted.level < level → PostLaw a a posting Moved (record posting { stage = Walks root })
+  head_leads h root level named alive same same_level from = goes_on a posting posting.split posting.split (Walks node) (Walks root) refl refl is (λ now begun w prefix world border known truth.
+      let (stands, is_root) = root_place a w.chart begun node.0 wanted.low prefix h world.index.tree ((walks_wanted begun prefix node.0 w truth.1).held) named alive in (
+        truth.0,
+        walks_for begun prefix root.0 w (record {
+          held = record { role = at_level h.level; low = 0; standing = on true; place = ap (λ (r : NodeNo). w.chart r.0) same ∙ is_root; at_most = omega arith; since = λ epoch e. absurd (let clash : on true ≡ gone epoch = e in cc) };
+          inner = subst (λ (l : ℕ). wanted.level < l) same_level from;
+        }),
+      ))
+
+  pub head_lacks : (old : Root) → old.level ≤ wanted.level → PostLaw a a posting Moved (record posting { stage = RootWanted old })
+  head_lacks old less = goes_on a posting posting.split posting.split (Walks node) (RootWanted old) refl refl is (λ now begun w prefix world border known truth. (truth.0, subst (λ (g : Child). old.level < g.level + 1) is_goal (omega (arith, less))))
 
   -- ---- at an interior
   pub held_back : PostLaw a a posting Waits (record posting { stage = Walks posting.head })
-  held_back = waits_on a posting (Walks node) (Walks posting.head) refl is (λ now begun w prefix world border known truth. from_head begun prefix posting.low posting.head.0 w known)
+  held_back = waits_on a posting posting.split posting.split (Walks node) (Walks posting.head) refl refl is (λ now begun w prefix world border known truth. (truth.0, from_head begun prefix (goal posting.half posting.low posting.split) posting.head.0 w known))
 
-  pub child_leads : (i : InteriorView) (place : ℕ) (child : Child) → interior_at a.nodes node.0 ≡ Some i → i.version.deleted ≡ false → slice_get i.children place ≡ Some child → child.low ≤ posting.low → 1 ≤ child.level
+  pub child_leads : (i : InteriorView) (place : ℕ) (child : Child) → interior_at a.nodes node.0 ≡ Some i → i.version.deleted ≡ false → slice_get i.children place ≡ Some child → child.low ≤ wanted.low → wanted.level < child.level
       → PostLaw a a posting Moved (record posting { stage = Walks child.node })
-  child_leads i place child named alive read from_low from = goes_on a posting (Walks node) (Walks child.node) refl is (λ now begun w prefix world border known truth.
+  child_leads i place child named alive read from_low from = goes_on a posting posting.split posting.split (Walks node) (Walks child.node) refl refl is (λ now begun w prefix world border known truth.
       let there = seen-interior a node.0 i named in
-      let stands = stands_as (arena_seen a) w.chart node.0 (interior_seen i) world.index.tree there truth.held.role prefix truth.held.low truth.held.standing truth.held.place in
-      let held = children_held (arena_seen a) w.chart world.index.tree begun node.0 posting.low prefix (interior_seen i) (child_seen child) truth.held there alive (among_read i.children place child read) from_low in
-      record { held = held; inner = subst (λ (r : Role). IsFrom 1 r) (sym (role_is w.chart held.role held.standing prefix held.low truth.held.standing stands.below truth.held.low held.place stands.ok)) from })
+      let at = walks_wanted begun prefix node.0 w truth.1 in
+      let stands = stands_as (arena_seen a) w.chart node.0 (interior_seen i) world.index.tree there at.held.role prefix at.held.low at.held.standing at.held.place in
+      let held = children_held (arena_seen a) w.chart world.index.tree begun node.0 wanted.low prefix (interior_seen i) (child_seen child) at.held there alive (among_read i.children place child read) from_low in
+      (truth.0, walks_for begun prefix child.node.0 w (record { held = held; inner = subst (λ (r : Role). IsAbove wanted.level r) (sym (role_is w.chart held.role held.standing prefix held.low at.held.standing stands.below at.held.low held.place stands.ok)) from })))
     where
       role_is : (chart : Chart) (role : Role) (standing : Standing) (prefix : List ℕ) (low : ℕ) (namer : Standing) (below least : ℕ) → chart child.node.0 ≡ Some (spot role prefix low standing)
           → (((epoch : ℕ) × (namer ≡ gone epoch)) × ((interior_seen i).deleted ≡ true)) ⊎ AreChildren chart namer prefix least (suc below) (children_seen i.children) → role ≡ at_level child.level
@@ -174,21 +191,21 @@ module _ (a : ArenaView) (posting : Posting) (node : NodeNo) (is : posting.stage
       role_is chart role standing prefix low namer below least here (inr children) = (let there = (children.each (child_seen child) (among_read i.children place child read)).place in cc)
 
   -- what may be visited
-  pub may_visit : (may : MayPost a posting) → MayVisit a node.0 posting.low
+  pub may_visit : (may : MayPost a posting) → MayVisit a node.0 wanted.low
   may_visit may =
       let truth = true_at may.begun a may.w posting (Walks node) is may.true in
-      held_may_visit a may.now may.w.twins may.w.chart may.begun node.0 posting.low may.true.0 may.world.index truth.held
+      held_may_visit a may.now may.w.twins may.w.chart may.begun node.0 wanted.low may.true.0 may.world.index ((walks_wanted may.begun may.true.0 node.0 may.w truth.1).held)
 
   -- it is no border
   pub no_border : (may : MayPost a posting) (b : BorderView) → node_at a.nodes node.0 ≡ Some (Border b) → ⊥
   no_border may b named =
-      let truth = true_at may.begun a may.w posting (Walks node) is may.true in
+      let truth = walks_wanted may.begun may.true.0 node.0 may.w (true_at may.begun a may.w posting (Walks node) is may.true).1 in
       go may.w.chart may.true.0 truth.held.low may.world.index.tree truth.held.role truth.held.standing truth.held.place truth.inner
     where
       there : arena_seen a node.0 ≡ Some (plain_border (border_seen b))
-      there = ap (option_map _) named
+      there = ap (option_map node_seen) named
 
-      go : (chart : Chart) (prefix : List ℕ) (low : ℕ) → IsTree (arena_seen a) chart → (role : Role) (standing : Standing) → chart node.0 ≡ Some (spot role prefix low standing) → IsFrom 1 role → ⊥
+      go : (chart : Chart) (prefix : List ℕ) (low : ℕ) → IsTree (arena_seen a) chart → (role : Role) (standing : Standing) → chart node.0 ≡ Some (spot role prefix low standing) → IsAbove wanted.level role → ⊥
       go chart prefix low tree top (on posted) place inner = (let at_node = there in let is_node = (tree.heads node.0 prefix low posted place).is_node in cc)
       go chart prefix low tree top (gone epoch) place inner = (let at_node = there in let (u, is_node, marked) = tree.gone_heads node.0 prefix low epoch place in cc)
       go chart prefix low tree (at_level zero) standing place inner = omega (arith, inner)
@@ -197,8 +214,8 @@ module _ (a : ArenaView) (posting : Posting) (node : NodeNo) (is : posting.stage
   -- ---- the interior comes to name the border
   module _ (i : InteriorView) (named : interior_at a.nodes node.0 ≡ Some i) (alive : i.version.deleted ≡ false) (unlocked : i.version.locked ≡ false) where
     -- it is on
-    pub in_layer : (begun : ℕ) (chart : Chart) (prefix : List ℕ) → IsTree (arena_seen a) chart → Holds chart begun node.0 prefix posting.low → IsInLayer chart node.0 prefix
-    in_layer begun chart prefix tree held =
+    pub in_layer : (begun : ℕ) (chart : Chart) (prefix : List ℕ) (least : ℕ) → IsTree (arena_seen a) chart → Holds chart begun node.0 prefix least → IsInLayer chart node.0 prefix
+    in_layer begun chart prefix least tree held =
         let there = seen-interior a node.0 i named in
         let stands = stands_as (arena_seen a) chart node.0 (interior_seen i) tree there held.role prefix held.low held.standing held.place in
         let place : chart node.0 ≡ Some (spot (at_level (suc stands.below)) prefix held.low held.standing) = held.place ∙ ap (λ (r : Role). Some (spot r prefix held.low held.standing)) stands.is_role in
@@ -208,15 +225,15 @@ module _ (a : ArenaView) (posting : Posting) (node : NodeNo) (is : posting.stage
     abbrev names : ℕ → InteriorView → InteriorView
     names low x = with_child x (record { low = low; node = posting.half; level = 0 })
 
-    pub posts : (after : ArenaView) → IsSomeAnd (border_at a.nodes posting.half.0) (λ border. after ≡ with_interior_changed a node.0 (names border.low)) → KeepsAlong a after (PostsAt node.0 posting.half.0) → PostLaw a after posting Ended posting
-    posts after value keeps = at_stage a after posting (Walks node) Ended posting is (record {
+    pub posts : (after : ArenaView) → posting.split ≡ None → IsSomeAnd (border_at a.nodes posting.half.0) (λ border. after ≡ with_interior_changed a node.0 (names border.low)) → KeepsAlong a after (PostsAt node.0 posting.half.0) → PostLaw a after posting Ended posting
+    posts after none value keeps = at_stage a after posting None (Walks node) Ended posting none is (record {
       steps = λ now begun w prefix world before border known truth.
           let same : after ≡ with_interior_changed a node.0 (names border.b.low) = some_at _ (border_at a.nodes posting.half.0) border.b value border.named in
           subst (λ (x : ArenaView). Goes now a x w (posting.half.0 ∷ []) (posting.half.0 ∷ []) (ThenPosts Ended begun posting x) × SameContent (arena_seen a) (arena_seen x)) (sym same)
-          (posted now begun w prefix world border truth (subst (λ (x : ArenaView). KeepsAlong a x (PostsAt node.0 posting.half.0)) same keeps));
+          (posted now begun w prefix world border truth.1 (subst (λ (x : ArenaView). KeepsAlong a x (PostsAt node.0 posting.half.0)) same keeps));
     })
       where
-        posted : (now begun : ℕ) (w : World) (prefix : List ℕ) → IsWorld a now w → (border : IsToPost a w prefix posting.half.0 posting.low) → IsWalking begun prefix posting.low node.0 w
+        posted : (now begun : ℕ) (w : World) (prefix : List ℕ) → IsWorld a now w → (border : IsToPost a w prefix posting.half.0 posting.low) → IsWalking begun prefix (goal posting.half posting.low None) node.0 w
             → KeepsAlong a (with_interior_changed a node.0 (names border.b.low)) (PostsAt node.0 posting.half.0)
             → Goes now a (with_interior_changed a node.0 (names border.b.low)) w (posting.half.0 ∷ []) (posting.half.0 ∷ []) (ThenPosts Ended begun posting (with_interior_changed a node.0 (names border.b.low)))
             × SameContent (arena_seen a) (arena_seen (with_interior_changed a node.0 (names border.b.low)))
@@ -227,7 +244,7 @@ module _ (a : ArenaView) (posting : Posting) (node : NodeNo) (is : posting.stage
             let place : Spot = spot (at_level 0) prefix posting.low (on true) in
             let chart : Chart = with_spot w.chart posting.half.0 place in
             let charted = spot_changes w.chart posting.half.0 place in
-            let stands = in_layer begun w.chart prefix world.index.tree truth.held in
+            let stands = in_layer begun w.chart prefix posting.low world.index.tree truth.held in
             let kept = keeps_new.keeps now w.twins w.chart chart world.index (record { prefix = prefix; stands = stands; low = posting.low; unnamed = border.place; charted = charted }) in
             let is_known = known_some w n _ stands.place in
             goes_at now a new w chart n (posting.half.0 ∷ []) (posting.half.0 ∷ []) _ world kept refl (interior_others a n i change named)
@@ -235,15 +252,28 @@ module _ (a : ArenaView) (posting : Posting) (node : NodeNo) (is : posting.stage
             (heads_beside a new w.chart chart n (heads_were w.chart chart posting.half.0 0 posting.low prefix (on true) charted) (interior_no_head a n i change named) (interior_others a n i change named) world.heads)
             (λ locked. (let clash : false ≡ true = sym unlocked ∙ some_at _ (interior_at a.nodes n) i locked.locked named in cc))
             (λ taken apart. not_both i.version.locked (w.chart n) unlocked is_known (interior_is_taken a n i w named taken))
-            (λ other k. k) (λ other k taken. k)
-            (λ apart taken. not_both i.version.locked (chart n) unlocked (known_stays w.chart chart n (kept.evolves 0 (omega arith)) is_known) (interior_taken a n i change named (at_chart w chart) taken))
+            (λ other t out k. out k) (λ other k taken. k)
+            (λ apart taken. absurd (not_both i.version.locked (chart n) unlocked (known_stays w.chart chart n (kept.evolves 0 (omega arith)) is_known) (interior_taken a n i change named (at_chart w chart) taken)))
             (record { b = border.b; named = interior_border a n i change named posting.half.0 border.b border.named; known = known_some (at_chart w chart) posting.half.0 place charted.now; locked = border.locked })
 
-    -- it has room, and its low is at most the border's
-    pub has_room : (may : MayPost a posting) → length i.children < MAX_CHILDREN → IsSomeAnd (border_at a.nodes posting.half.0) (λ border. IsSomeAnd (interior_at a.nodes node.0) (HasRoomFrom border.low))
-    has_room may room =
-        let border = may.true.1.border in
+    -- it has room, and its low is at most that of what is to be named
+    pub room_for : (may : MayPost a posting) → length i.children < MAX_CHILDREN → IsSomeAnd (interior_at a.nodes node.0) (HasRoomFrom wanted.low)
+    room_for may room =
         let can = (may_visit may).has_child i named alive in
+        subst (λ (o : Option InteriorView). IsSomeAnd o (HasRoomFrom wanted.low)) (sym named) (record { some = can.0; room = room; from_low = can.1 })
+
+    pub has_room : (may : MayPost a posting) → posting.split ≡ None → length i.children < MAX_CHILDREN → IsSomeAnd (border_at a.nodes posting.half.0) (λ border. IsSomeAnd (interior_at a.nodes node.0) (HasRoomFrom border.low))
+    has_room may none room =
+        let border = may.true.1.border in
         subst (λ (o : Option BorderView). IsSomeAnd o (λ b. IsSomeAnd (interior_at a.nodes node.0) (HasRoomFrom b.low))) (sym border.named)
-        (subst (λ (o : Option InteriorView). IsSomeAnd o (HasRoomFrom border.b.low)) (sym named)
-        (record { some = can.0; room = room; from_low = subst (λ (l : ℕ). i.low ≤ l) (sym border.low_is) can.1 }))
+        (subst (λ (l : ℕ). IsSomeAnd (interior_at a.nodes node.0) (HasRoomFrom l)) (ap (λ (c : Child). c.low) (is_goal ∙ ap (goal posting.half posting.low) none) ∙ sym border.low_is) (room_for may room))
+
+-- ---- what is to be named is left out
+module _ (a : ArenaView) (posting : Posting) (stage : Stage) (owns : (split : Option Split) → stage_owns posting.half.0 split stage ≡ split_owns posting.half.0 split) (is : posting.stage ≡ stage) where
+  pub half_left_out : (split : Split) → posting.split ≡ Some split
+      → ((begun : ℕ) (w : World) (prefix : List ℕ) → StageIsTrue begun prefix posting.half posting.low (Some split) stage a w → IsHalved a w prefix split)
+      → PostLaw a a posting Moved (record posting { split = None; stage = HalfLeftOut split })
+  half_left_out split some halved = goes_on a posting (Some split) None stage (HalfLeftOut split) (owns (Some split)) some is (λ now begun w prefix world border known truth. (refl, halved begun w prefix truth))
+
+  pub all_left_out : posting.split ≡ None → PostLaw a a posting Ended posting
+  all_left_out none = left_out a posting stage (owns None) none is

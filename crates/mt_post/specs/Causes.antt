@@ -1,15 +1,18 @@
 -- Why a posting waits, and why it ends: said of the nodes alone.
-use Rattle.std.specs.Prelude.{ℕ, ◌≡◌, ◌⊎◌, length, IsSomeAnd, true}
-use Rattle.mt_interior.specs.Interior.{with_child}
-use Rattle.mt_interior.specs.Head.{with_root}
+use Rattle.std.specs.Prelude.{ℕ, ◌≡◌, ◌<◌, ◌⊎◌, length, Option, Some, None, IsSome, IsSomeAnd, true, false}
+use Rattle.mt_types.specs.declared.limits.TheConstants.{MAX_LEVEL}
+use Rattle.mt_interior.specs.Interior.{InteriorView, with_child, with_lock}
+use Rattle.mt_interior.specs.Head.{HeadView, with_root}
 use Rattle.mt_interior.specs.declared.interior.TheConstants.{MAX_CHILDREN}
 use Rattle.mt_arena.specs.Node.{head_at, interior_at}
 use Rattle.mt_arena.specs.Arena.{ArenaView, with_interior_changed, with_head_changed}
 use Rattle.mt_post.specs.declared.posting.Posting.{Posting}
 use Rattle.mt_post.specs.declared.posting.Progressed.{Progressed}
 use Rattle.mt_post.specs.declared.posting.Progressed.TheVariants.{Waits, Ended}
+use Rattle.mt_post.specs.declared.posting.Root.{Root}
+use Rattle.mt_post.specs.declared.posting.Split.{Split}
 use Rattle.mt_post.specs.declared.posting.Stage.{Stage}
-use Rattle.mt_post.specs.declared.posting.Stage.TheVariants.{Walks, RootWanted, RootSpared, RootFilled, RootLate}
+use Rattle.mt_post.specs.declared.posting.Stage.TheVariants.{Walks, RootWanted, RootFilled, LetGo}
 
 -- the number names an interior that is marked deleted, or that another call has locked
 abbrev pub IsHeldBack : ArenaView → ℕ → Type 0
@@ -25,18 +28,44 @@ StageWaits a _ _ = Unit {0}
 abbrev pub IsPosted : ArenaView → ArenaView → ℕ → Posting → Type 0
 IsPosted a after number posting = after ≡ with_interior_changed a number (λ interior. with_child interior (record { low = posting.low; node = posting.half; level = 0 }))
 
--- the border is left out at a head that is marked deleted, or at an interior that is full
-abbrev pub IsLeftOut : ArenaView → ArenaView → ℕ → Type 0
-IsLeftOut a after number = (after ≡ a) × (IsSomeAnd (head_at a.nodes number) (λ head. head.version.deleted ≡ true) ⊎ IsSomeAnd (interior_at a.nodes number) (λ interior. length interior.children ≡ MAX_CHILDREN))
+-- a node where what is to be named may be left out: a head that is marked deleted, or a full interior of the greatest level, or any full one
+-- where that is the new half of an interior
+abbrev pub CanLeaveOut : ArenaView → ℕ → Option Split → Type 0
+CanLeaveOut a number split = IsSomeAnd (head_at a.nodes number) (λ head. head.version.deleted ≡ true)
+    ⊎ IsSomeAnd (interior_at a.nodes number) (λ interior. (length interior.children ≡ MAX_CHILDREN) × ((interior.level ≡ MAX_LEVEL) ⊎ IsSome split))
 
--- A posting ends where an interior that has room, or a new root, names the border; or it is left out: there, or where no number or no memory
--- is had for a new root.
+-- the interior is neither marked deleted nor locked, and is full
+pub record IsFullAt (a : ArenaView) (number : ℕ) : Type 0 where
+  pub interior : InteriorView
+  pub named : interior_at a.nodes number ≡ Some interior
+  pub alive : interior.version.deleted ≡ false
+  pub unlocked : interior.version.locked ≡ false
+  pub full : length interior.children ≡ MAX_CHILDREN
+
+-- the interior is neither marked deleted nor locked, has room, and is above what is to be named
+pub record HasRoomAt (a : ArenaView) (posting : Posting) (number : ℕ) : Type 0 where
+  pub interior : InteriorView
+  pub named : interior_at a.nodes number ≡ Some interior
+  pub alive : interior.version.deleted ≡ false
+  pub unlocked : interior.version.locked ≡ false
+  pub room : length interior.children < MAX_CHILDREN
+
+-- the head, which isn't marked deleted, has this root
+pub record IsRootStill (a : ArenaView) (number : ℕ) (root : Root) : Type 0 where
+  pub head : HeadView
+  pub named : head_at a.nodes number ≡ Some head
+  pub alive : head.version.deleted ≡ false
+  pub root_is : head.root ≡ root.node
+  pub level_is : head.level ≡ root.level
+
+-- A posting ends where an interior that has room, or a new root, names the border; or it is left out: where it can be, or where no number
+-- or no memory is had for a new root or a new half.
 abbrev pub StageEnds : ArenaView → ArenaView → Posting → Stage → Progressed → Type 0
-StageEnds a after posting (Walks node) Ended = IsPosted a after node.0 posting ⊎ IsLeftOut a after node.0
+StageEnds a after posting (Walks node) Ended = IsPosted a after node.0 posting ⊎ ((after ≡ a) × CanLeaveOut a node.0 None)
 StageEnds a after posting (RootWanted old) Ended = after ≡ a
 StageEnds a after posting (RootFilled old root) Ended = after ≡ with_head_changed a posting.head.0 (λ head. with_root head root 1)
-StageEnds a after posting (RootSpared old root) Ended = ⊥
-StageEnds a after posting (RootLate root) Ended = ⊥
+StageEnds a after posting (LetGo interior) Ended = after ≡ with_interior_changed a interior.0 (λ x. with_lock x false)
+StageEnds a after posting _ Ended = ⊥
 StageEnds a after posting _ _ = Unit {0}
 
 abbrev pub PostWaits : ArenaView → Posting → Progressed → Type 0

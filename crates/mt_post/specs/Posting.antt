@@ -1,33 +1,47 @@
 -- What is true of a posting, at each of its stages, and the law of its step.
-use Rattle.std.specs.Prelude.{ℕ, ◌≡◌, ◌<◌, ◌≤◌, List, [], ◌∷◌, Some, None, IsSome, true, false}
+use Rattle.std.specs.Prelude.{ℕ, ◌≡◌, ◌≢◌, ◌⊎◌, ◌<◌, ◌≤◌, ◌+◌, List, [], ◌∷◌, length, drop, slice_get, Option, Some, None, IsSome, true, false}
+use Rattle.mt_types.specs.declared.limits.TheConstants.{MAX_LEVEL}
 use Rattle.mt_types.specs.declared.numbers.NodeNo.{NodeNo}
 use Rattle.mt_border.specs.Border.{BorderView}
-use Rattle.mt_interior.specs.Interior.{InteriorView, new_interior, with_children, with_lock}
+use Rattle.mt_interior.specs.Interior.{InteriorView, IsInterior, new_interior, with_children, with_lock}
 use Rattle.mt_interior.specs.declared.child.Child.{Child}
 use Rattle.mt_arena.specs.Node.{border_at, interior_at}
 use Rattle.mt_arena.specs.Arena.{ArenaView}
 use Rattle.mt_chart.specs.Chart.{Role, top, at_level, spot, on, Holds}
 use Rattle.mt_chart.specs.Walk.{Known}
-use Rattle.mt_chart.specs.Steps.{SameContent}
+use Rattle.mt_chart.specs.Steps.{NoTwin, AreTwins, SameContent}
+use Rattle.mt_interior.specs.declared.interior.TheConstants.{MAX_CHILDREN, KEPT_CHILDREN}
 use Rattle.mt_tree.specs.Seen.{arena_seen}
+use Rattle.mt_tree.specs.InteriorSteps.{IsInLayer}
 use Rattle.mt_calls.specs.World.{World, IsWorld, Goes}
 use Rattle.mt_post.specs.declared.posting.Posting.{Posting}
 use Rattle.mt_post.specs.declared.posting.Progressed.{Progressed}
 use Rattle.mt_post.specs.declared.posting.Progressed.TheVariants.{Moved, Waits, Ended}
 use Rattle.mt_post.specs.declared.posting.Root.{Root}
+use Rattle.mt_post.specs.declared.posting.Split.{Split}
 use Rattle.mt_post.specs.declared.posting.Stage.{Stage}
-use Rattle.mt_post.specs.declared.posting.Stage.TheVariants.{Walks, RootWanted, RootSpared, RootFilled, RootLate}
+use Rattle.mt_post.specs.declared.posting.Stage.TheVariants.{Walks, RootWanted, RootSpared, RootFilled, RootLate, HalfWanted, HalfSpared, HalfLeftOut, LetGo, HalfPosted, HalfCut}
 
--- ---- what a posting owns: the border that is to be posted, and the spare for a new root
-abbrev pub stage_owns : ℕ → Stage → List ℕ
-stage_owns half (Walks node) = half ∷ []
-stage_owns half (RootWanted old) = half ∷ []
-stage_owns half (RootSpared old root) = root.0 ∷ half ∷ []
-stage_owns half (RootFilled old root) = root.0 ∷ half ∷ []
-stage_owns half (RootLate root) = root.0 ∷ half ∷ []
+-- ---- what a posting owns: the border that is to be posted; the interior that it splits, and its new half; the spare for a new root
+abbrev pub split_owns : ℕ → Option Split → List ℕ
+split_owns half None = half ∷ []
+split_owns half (Some split) = split.half.node.0 ∷ split.interior.0 ∷ half ∷ []
+
+abbrev pub stage_owns : ℕ → Option Split → Stage → List ℕ
+stage_owns half split (Walks node) = split_owns half split
+stage_owns half split (RootWanted old) = split_owns half split
+stage_owns half split (RootSpared old root) = root.0 ∷ split_owns half split
+stage_owns half split (RootFilled old root) = root.0 ∷ split_owns half split
+stage_owns half split (RootLate root) = root.0 ∷ split_owns half split
+stage_owns half split (HalfWanted interior) = interior.0 ∷ half ∷ []
+stage_owns half split (HalfSpared interior spare) = spare.0 ∷ interior.0 ∷ half ∷ []
+stage_owns half split (HalfLeftOut left) = left.half.node.0 ∷ left.interior.0 ∷ half ∷ []
+stage_owns half split (LetGo interior) = interior.0 ∷ half ∷ []
+stage_owns half split (HalfPosted posted) = posted.half.node.0 ∷ posted.interior.0 ∷ half ∷ []
+stage_owns half split (HalfCut posted) = posted.0 ∷ half ∷ []
 
 abbrev pub owned : Posting → List ℕ
-owned posting = stage_owns posting.half.0 posting.stage
+owned posting = stage_owns posting.half.0 posting.split posting.stage
 
 -- once it has ended it owns the border alone
 abbrev pub owned_after : Progressed → Posting → List ℕ
@@ -48,44 +62,116 @@ pub record IsToPost (a : ArenaView) (w : World) (prefix : List ℕ) (number low 
 abbrev pub IsHeadOf : World → ℕ → ℕ → List ℕ → Type 0
 IsHeadOf w begun number prefix = Known w.chart begun number top prefix 0
 
--- a head, or a node of this level at least
-abbrev pub IsFrom : ℕ → Role → Type 0
-IsFrom level top = Unit {0}
-IsFrom level (at_level other) = level ≤ other
+-- what is to be named: the border, or the new half of the interior that is split
+abbrev pub goal : NodeNo → ℕ → Option Split → Child
+goal half low None = record { low = low; node = half; level = 0 }
+goal half low (Some split) = split.half
 
--- it holds the node where it is, for the border's low, and that is no border
-pub record IsWalking (begun : ℕ) (prefix : List ℕ) (low node : ℕ) (w : World) : Type 0 where
-  pub held : Holds w.chart begun node prefix low
-  pub inner : IsFrom 1 held.role
+-- a head, or a node of a greater level than this
+abbrev pub IsAbove : ℕ → Role → Type 0
+IsAbove level top = Unit {0}
+IsAbove level (at_level other) = level < other
+
+-- it holds the node where it is, for the low of what is to be named, and above it
+pub record IsWalking (begun : ℕ) (prefix : List ℕ) (wanted : Child) (node : ℕ) (w : World) : Type 0 where
+  pub held : Holds w.chart begun node prefix wanted.low
+  pub inner : IsAbove wanted.level held.role
 
 -- the number names this interior, which the chart doesn't know
 pub record IsSpareInterior (a : ArenaView) (w : World) (number : ℕ) (interior : InteriorView) : Type 0 where
   pub named : interior_at a.nodes number ≡ Some interior
   pub unknown : w.chart number ≡ None
 
--- the old root, which is a border, and the border that is posted: the children of a new root
-abbrev pub root_children : Root → NodeNo → ℕ → List Child
-root_children old half low = record { low = 0; node = old.node; level = old.level } ∷ record { low = low; node = half; level = 0 } ∷ []
+-- the old root, and what is to be named: the children of a new root
+abbrev pub root_children : Root → Child → List Child
+root_children old wanted = record { low = 0; node = old.node; level = old.level } ∷ wanted ∷ []
 
-abbrev pub new_root : InteriorView
-new_root = new_interior 1 0
+abbrev pub new_root : Child → InteriorView
+new_root wanted = new_interior (wanted.level + 1) 0
 
 -- a new root, filled and unlocked
-abbrev pub root_over : Root → NodeNo → ℕ → InteriorView
-root_over old half low = with_lock (with_children new_root (root_children old half low)) false
+abbrev pub root_over : Root → Child → InteriorView
+root_over old wanted = with_lock (with_children (new_root wanted) (root_children old wanted)) false
 
-abbrev pub StageIsTrue : ℕ → List ℕ → NodeNo → ℕ → Stage → ArenaView → World → Type 0
-StageIsTrue begun prefix half low (Walks node) a w = IsWalking begun prefix low node.0 w
-StageIsTrue begun prefix half low (RootWanted old) a w = old.level < 1
-StageIsTrue begun prefix half low (RootSpared old root) a w = (old.level < 1) × IsSpareInterior a w root.0 new_root
-StageIsTrue begun prefix half low (RootFilled old root) a w = (old.level < 1) × IsSpareInterior a w root.0 (root_over old half low)
-StageIsTrue begun prefix half low (RootLate root) a w = (spare : InteriorView) × IsSpareInterior a w root.0 spare
+-- the interior is full, is on in the layer, and is locked by this call, which has not posted a half of it
+pub record IsSplitting (a : ArenaView) (w : World) (prefix : List ℕ) (number : ℕ) (interior : InteriorView) : Type 0 where
+  pub named : interior_at a.nodes number ≡ Some interior
+  pub locked : interior.version.locked ≡ true
+  pub stands : IsInLayer w.chart number prefix
+  pub lone : NoTwin w.twins number
+  pub full : length interior.children ≡ MAX_CHILDREN
+  pub below_top : interior.level + 1 ≤ MAX_LEVEL
+  pub sound : IsInterior interior
+
+-- the new half of an interior, before it is filled, and once it is
+abbrev pub empty_half : InteriorView → ℕ → InteriorView
+empty_half interior low = new_interior interior.level low
+
+abbrev pub upper_half : InteriorView → ℕ → InteriorView
+upper_half interior low = with_children (empty_half interior low) (drop KEPT_CHILDREN interior.children)
+
+-- the low of the child from which on the new half is to have the children
+abbrev pub StartsUpper : InteriorView → ℕ → Type 0
+StartsUpper interior low = (middle : Child) × (slice_get interior.children KEPT_CHILDREN ≡ Some middle) × (middle.low ≡ low)
+
+-- the split interior waits for its new half to be posted
+pub record IsHalved (a : ArenaView) (w : World) (prefix : List ℕ) (split : Split) : Type 0 where
+  pub interior : InteriorView
+  pub splits : IsSplitting a w prefix split.interior.0 interior
+  pub spare : IsSpareInterior a w split.half.node.0 (upper_half interior split.half.low)
+  pub level : split.half.level ≡ interior.level
+  pub starts : StartsUpper interior split.half.low
+
+abbrev pub SplitIsTrue : ArenaView → World → List ℕ → Option Split → Type 0
+SplitIsTrue a w prefix None = Unit {0}
+SplitIsTrue a w prefix (Some split) = IsHalved a w prefix split
+
+-- the new root is not the new half
+abbrev pub IsBeside : ℕ → Option Split → Type 0
+IsBeside root None = Unit {0}
+IsBeside root (Some split) = root ≢ split.half.node.0
+
+-- both halves are on and locked, and twins of each other alone; the new one has the upper children of the other
+pub record IsPostedHalf (a : ArenaView) (w : World) (prefix : List ℕ) (split : Split) : Type 0 where
+  pub interior : InteriorView
+  pub half : InteriorView
+  pub named : interior_at a.nodes split.interior.0 ≡ Some interior
+  pub half_named : interior_at a.nodes split.half.node.0 ≡ Some half
+  pub locked : interior.version.locked ≡ true
+  pub half_locked : half.version.locked ≡ true
+  pub stands : IsInLayer w.chart split.interior.0 prefix
+  pub half_stands : IsInLayer w.chart split.half.node.0 prefix
+  pub full : length interior.children ≡ MAX_CHILDREN
+  pub upper : half.children ≡ drop KEPT_CHILDREN interior.children
+  pub twins : (one other : ℕ) → AreTwins w.twins one other → (one ≡ split.interior.0) ⊎ (other ≡ split.interior.0) → (one ≡ split.half.node.0) ⊎ (other ≡ split.half.node.0)
+  pub half_twins : (one other : ℕ) → AreTwins w.twins one other → (one ≡ split.half.node.0) ⊎ (other ≡ split.half.node.0) → (one ≡ split.interior.0) ⊎ (other ≡ split.interior.0)
+
+-- an interior is on in the layer, is locked, and has no twin
+pub record IsLetGo (a : ArenaView) (w : World) (prefix : List ℕ) (number : ℕ) : Type 0 where
+  pub interior : InteriorView
+  pub named : interior_at a.nodes number ≡ Some interior
+  pub locked : interior.version.locked ≡ true
+  pub stands : IsInLayer w.chart number prefix
+  pub lone : NoTwin w.twins number
+
+abbrev pub StageIsTrue : ℕ → List ℕ → NodeNo → ℕ → Option Split → Stage → ArenaView → World → Type 0
+StageIsTrue begun prefix half low split (Walks node) a w = SplitIsTrue a w prefix split × IsWalking begun prefix (goal half low split) node.0 w
+StageIsTrue begun prefix half low split (RootWanted old) a w = SplitIsTrue a w prefix split × (old.level < (goal half low split).level + 1)
+StageIsTrue begun prefix half low split (RootSpared old root) a w = SplitIsTrue a w prefix split × (old.level < (goal half low split).level + 1) × IsBeside root.0 split × IsSpareInterior a w root.0 (new_root (goal half low split))
+StageIsTrue begun prefix half low split (RootFilled old root) a w = SplitIsTrue a w prefix split × (old.level < (goal half low split).level + 1) × IsBeside root.0 split × IsSpareInterior a w root.0 (root_over old (goal half low split))
+StageIsTrue begun prefix half low split (RootLate root) a w = SplitIsTrue a w prefix split × IsBeside root.0 split × (spare : InteriorView) × IsSpareInterior a w root.0 spare
+StageIsTrue begun prefix half low split (HalfWanted interior) a w = (split ≡ None) × (i : InteriorView) × IsSplitting a w prefix interior.0 i
+StageIsTrue begun prefix half low split (HalfSpared interior spare) a w = (split ≡ None) × (i : InteriorView) × IsSplitting a w prefix interior.0 i × (least : ℕ) × StartsUpper i least × IsInterior (empty_half i least) × IsSpareInterior a w spare.0 (empty_half i least)
+StageIsTrue begun prefix half low split (HalfLeftOut left) a w = (split ≡ None) × IsHalved a w prefix left
+StageIsTrue begun prefix half low split (LetGo interior) a w = (split ≡ None) × IsLetGo a w prefix interior.0
+StageIsTrue begun prefix half low split (HalfPosted posted) a w = (split ≡ None) × IsPostedHalf a w prefix posted
+StageIsTrue begun prefix half low split (HalfCut posted) a w = (split ≡ None) × IsLetGo a w prefix posted.0
 
 -- the layer has this prefix
 pub record PostsIn (prefix : List ℕ) (begun : ℕ) (posting : Posting) (a : ArenaView) (w : World) : Type 0 where
   pub border : IsToPost a w prefix posting.half.0 posting.low
   pub head : IsHeadOf w begun posting.head.0 prefix
-  pub stage : StageIsTrue begun prefix posting.half posting.low posting.stage a w
+  pub stage : StageIsTrue begun prefix posting.half posting.low posting.split posting.stage a w
 
 -- WHAT IS TRUE OF A POSTING whose call began in an epoch
 abbrev pub PostingIsTrue : ℕ → Posting → ArenaView → World → Type 0

@@ -3,4 +3,4 @@
 
 mod posting;
 
-pub use posting::{Posting, Progressed, Root, Stage};
+pub use posting::{Posting, Progressed, Root, Split, Stage};

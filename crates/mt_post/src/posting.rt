@@ -1,17 +1,16 @@
-//! A posting: on its way from the head of its layer to the interior that is to name the border, or to a new root.
+//! A posting: on its way from the head of its layer to the interior that is to name the border, or to a new root; an interior that is full is split.
 
 ghost use Rattle.std.specs.Prelude.{◌≡◌, ℕ, IsSome};
 ghost use Rattle.mt_arena.specs.Node.{head_at, interior_at};
-ghost use Rattle.mt_post.specs.Posting.{PostLaw, MayPost, NewPostingIsTrue};
-ghost use Rattle.mt_post.specs.Causes.{PostWaits, PostEnds};
+ghost use Rattle.mt_arena.specs.Arena.{IsArena};
+ghost use Rattle.mt_post.specs.Posting.{PostLaw, MayPost, NewPostingIsTrue, goal};
+ghost use Rattle.mt_post.specs.Causes.{PostWaits, PostEnds, CanLeaveOut, IsFullAt, HasRoomAt, IsRootStill};
 
 use mt_arena::Node;
-use mt_interior::{Child, Interior};
+use mt_interior::{Child, Interior, KEPT_CHILDREN};
 use mt_tree::Tree;
+use mt_types::limits::MAX_LEVEL;
 use mt_types::numbers::NodeNo;
-
-/// The level of an interior over borders.
-const ROOT_LEVEL: u8 = 1;
 
 /// The root of a layer's tree, and its level.
 #[derive(Clone, Copy)]
@@ -20,12 +19,20 @@ pub struct Root {
     pub level: u8,
 }
 
+/// The split of a full interior.
+#[derive(Clone, Copy)]
+pub struct Split {
+    pub interior: NodeNo,
+    /// Its new half, as the child of an interior above.
+    pub half: Child,
+}
+
 /// How far a posting is.
 #[derive(Clone, Copy)]
 pub enum Stage {
     /// It is on its way, at a node.
     Walks(NodeNo),
-    /// The layer has no interior: a new root is wanted over this one.
+    /// No root is above what is to be named: a new one is wanted over this one.
     RootWanted(Root),
     /// A number is occupied for the new root.
     RootSpared { old: Root, root: NodeNo },
@@ -33,6 +40,18 @@ pub enum Stage {
     RootFilled { old: Root, root: NodeNo },
     /// Another root was named first: this number is to be given back.
     RootLate(NodeNo),
+    /// It has locked a full interior, which is to be split.
+    HalfWanted(NodeNo),
+    /// A number is occupied for the interior's new half.
+    HalfSpared { interior: NodeNo, half: NodeNo },
+    /// The new half is left out: its number is to be given back.
+    HalfLeftOut(Split),
+    /// The interior is to be unlocked, and the border left out.
+    LetGo(NodeNo),
+    /// The new half is named: the interior is to keep the first of its children.
+    HalfPosted(Split),
+    /// The new half is to be unlocked.
+    HalfCut(NodeNo),
 }
 
 /// What a step of a posting comes to.
@@ -55,6 +74,8 @@ pub struct Posting {
     pub half: NodeNo,
     /// Its low.
     pub low: u64,
+    /// The interior that it splits, whose new half is to be posted first.
+    pub split: Option<Split>,
     pub stage: Stage,
 }
 
@@ -70,26 +91,60 @@ impl Posting {
             head,
             half,
             low,
+            split: None,
             stage: Stage::Walks(head),
         }
     }
 
-    // At a head: to the root, or to a new one, where the root is a border.
+    // What is to be named: the border, or the new half of the interior that is split.
+    fn goal(&self) -> Child
+        ensures { result ≡ goal self.now.half self.now.low self.now.split }
+    {
+        match self.split {
+            None => Child {
+                low: self.low,
+                node: self.half,
+                level: 0,
+            },
+            Some(split) => split.half,
+        }
+    }
+
+    // What is to be named is left out, at a node that is seen.
+    fn leave_out(&mut self, tree: &Tree, node: NodeNo) -> Progressed
+        requires walks { self.old.stage ≡ Stage.Walks node }
+        requires cause { CanLeaveOut tree.now node.0 self.old.split }
+        requires may { MayPost tree.now self.old }
+        ensures same { self.new ≡ record self.old { split = self.new.split; stage = self.new.stage } }
+        ensures steps { PostLaw tree.now tree.now self.old result self.new }
+        ensures waits { PostWaits tree.now self.old result }
+        ensures ends { PostEnds tree.now tree.now self.old result }
+    {
+        let Some(split) = self.split else {
+            return Progressed::Ended;
+        };
+        self.split = None;
+        self.stage = Stage::HalfLeftOut(split);
+        Progressed::Moved
+    }
+
+    // At a head: to the root, or to a new one, where the root isn't above what is to be named.
     fn visit_head(&mut self, tree: &Tree, node: NodeNo) -> Progressed
         requires walks { self.old.stage ≡ Stage.Walks node }
-        requires may { MayPost tree.now self.old }
         requires head { IsSome (head_at tree.now.nodes node.0) }
-        ensures same { self.new ≡ record self.old { stage = self.new.stage } }
+        requires may { MayPost tree.now self.old }
+        ensures same { self.new ≡ record self.old { split = self.new.split; stage = self.new.stage } }
         ensures steps { PostLaw tree.now tree.now self.old result self.new }
         ensures waits { PostWaits tree.now self.old result }
         ensures ends { PostEnds tree.now tree.now self.old result }
     {
         let head = tree.head(node);
         if head.is_deleted() {
-            return Progressed::Ended;
+            return self.leave_out(tree, node);
         }
+        let goal = self.goal();
         let (root, level) = (head.root(), head.level());
-        if level < ROOT_LEVEL {
+        if level <= goal.level {
             self.stage = Stage::RootWanted(Root { node: root, level });
             return Progressed::Moved;
         }
@@ -97,12 +152,50 @@ impl Posting {
         Progressed::Moved
     }
 
-    // At an interior: to the child for the border's low, or it comes to name the border.
+    // An interior that has room names what is to be named.
+    fn name_in(&mut self, tree: &mut Tree, node: NodeNo) -> Progressed
+        requires walks { self.old.stage ≡ Stage.Walks node }
+        requires room { HasRoomAt tree.old self.old node.0 }
+        requires may { MayPost tree.old self.old }
+        ensures same { self.new ≡ record self.old { split = self.new.split; stage = self.new.stage } }
+        ensures steps { PostLaw tree.old tree.new self.old result self.new }
+        ensures waits { PostWaits tree.old self.old result }
+        ensures ends { PostEnds tree.old tree.new self.old result }
+    {
+        let Some(split) = self.split else {
+            tree.post_border(node, self.half);
+            return Progressed::Ended;
+        };
+        tree.post_half(node, split.half.node);
+        self.split = None;
+        self.stage = Stage::HalfPosted(split);
+        Progressed::Moved
+    }
+
+    // At an interior that is full: it is locked, to be split, but for one of the greatest level, or met for a new half.
+    fn meet_full(&mut self, tree: &mut Tree, node: NodeNo) -> Progressed
+        requires walks { self.old.stage ≡ Stage.Walks node }
+        requires full { IsFullAt tree.old node.0 }
+        requires may { MayPost tree.old self.old }
+        ensures same { self.new ≡ record self.old { split = self.new.split; stage = self.new.stage } }
+        ensures steps { PostLaw tree.old tree.new self.old result self.new }
+        ensures waits { PostWaits tree.old self.old result }
+        ensures ends { PostEnds tree.old tree.new self.old result }
+    {
+        if self.split.is_some() || tree.interior(node).level() == MAX_LEVEL {
+            return self.leave_out(tree, node);
+        }
+        tree.lock_interior(node);
+        self.stage = Stage::HalfWanted(node);
+        Progressed::Moved
+    }
+
+    // At an interior: to the child for the low of what is to be named, or it comes to name it.
     fn visit_interior(&mut self, tree: &mut Tree, node: NodeNo) -> Progressed
         requires walks { self.old.stage ≡ Stage.Walks node }
-        requires may { MayPost tree.old self.old }
         requires interior { IsSome (interior_at tree.old.nodes node.0) }
-        ensures same { self.new ≡ record self.old { stage = self.new.stage } }
+        requires may { MayPost tree.old self.old }
+        ensures same { self.new ≡ record self.old { split = self.new.split; stage = self.new.stage } }
         ensures steps { PostLaw tree.old tree.new self.old result self.new }
         ensures waits { PostWaits tree.old self.old result }
         ensures ends { PostEnds tree.old tree.new self.old result }
@@ -116,23 +209,23 @@ impl Posting {
             self.stage = Stage::Walks(self.head);
             return Progressed::Waits;
         }
-        let child = interior.child(interior.child_for(self.low));
-        if child.level >= ROOT_LEVEL {
+        let goal = self.goal();
+        let child = interior.child(interior.child_for(goal.low));
+        if child.level > goal.level {
             self.stage = Stage::Walks(child.node);
             return Progressed::Moved;
         }
         if interior.is_full() {
-            return Progressed::Ended;
+            return self.meet_full(tree, node);
         }
-        tree.post_border(node, self.half);
-        Progressed::Ended
+        self.name_in(tree, node)
     }
 
     // On its way.
     fn visit(&mut self, tree: &mut Tree, node: NodeNo) -> Progressed
         requires walks { self.old.stage ≡ Stage.Walks node }
         requires may { MayPost tree.old self.old }
-        ensures same { self.new ≡ record self.old { stage = self.new.stage } }
+        ensures same { self.new ≡ record self.old { split = self.new.split; stage = self.new.stage } }
         ensures steps { PostLaw tree.old tree.new self.old result self.new }
         ensures waits { PostWaits tree.old self.old result }
         ensures ends { PostEnds tree.old tree.new self.old result }
@@ -144,21 +237,39 @@ impl Posting {
         }
     }
 
+    // What is to be named is left out: no number is had for a new root.
+    fn leave_out_root(&mut self, tree: &Tree, old: Root) -> Progressed
+        requires wants { self.old.stage ≡ Stage.RootWanted old }
+        requires may { MayPost tree.now self.old }
+        ensures same { self.new ≡ record self.old { split = self.new.split; stage = self.new.stage } }
+        ensures steps { PostLaw tree.now tree.now self.old result self.new }
+        ensures waits { PostWaits tree.now self.old result }
+        ensures ends { PostEnds tree.now tree.now self.old result }
+    {
+        let Some(split) = self.split else {
+            return Progressed::Ended;
+        };
+        self.split = None;
+        self.stage = Stage::HalfLeftOut(split);
+        Progressed::Moved
+    }
+
     // A number for the new root.
     fn spare_root(&mut self, tree: &mut Tree, old: Root) -> Progressed
         requires wants { self.old.stage ≡ Stage.RootWanted old }
         requires may { MayPost tree.old self.old }
-        ensures same { self.new ≡ record self.old { stage = self.new.stage } }
+        ensures same { self.new ≡ record self.old { split = self.new.split; stage = self.new.stage } }
         ensures steps { PostLaw tree.old tree.new self.old result self.new }
         ensures waits { PostWaits tree.old self.old result }
         ensures ends { PostEnds tree.old tree.new self.old result }
     {
-        match tree.occupy(Node::Interior(Interior::new_locked(ROOT_LEVEL, 0))) {
+        let goal = self.goal();
+        match tree.occupy(Node::Interior(Interior::new_locked(goal.level + 1, 0))) {
             Ok(root) => {
                 self.stage = Stage::RootSpared { old, root };
                 Progressed::Moved
             }
-            Err(_) => Progressed::Ended,
+            Err(_) => self.leave_out_root(tree, old),
         }
     }
 
@@ -166,7 +277,7 @@ impl Posting {
     fn fill_root(&mut self, tree: &mut Tree, old: Root, root: NodeNo) -> Progressed
         requires spared { self.old.stage ≡ Stage.RootSpared old root }
         requires may { MayPost tree.old self.old }
-        ensures same { self.new ≡ record self.old { stage = self.new.stage } }
+        ensures same { self.new ≡ record self.old { split = self.new.split; stage = self.new.stage } }
         ensures steps { PostLaw tree.old tree.new self.old result self.new }
         ensures waits { PostWaits tree.old self.old result }
         ensures ends { PostEnds tree.old tree.new self.old result }
@@ -176,14 +287,30 @@ impl Posting {
             node: old.node,
             level: old.level,
         };
-        let posted = Child {
-            low: self.low,
-            node: self.half,
-            level: 0,
-        };
-        tree.fill_interior(root, &[first, posted]);
+        tree.fill_interior(root, &[first, self.goal()]);
         tree.unlock_interior(root);
         self.stage = Stage::RootFilled { old, root };
+        Progressed::Moved
+    }
+
+    // The head, whose root is the old one, names the new root.
+    fn name_over(&mut self, tree: &mut Tree, old: Root, root: NodeNo) -> Progressed
+        requires filled { self.old.stage ≡ Stage.RootFilled old root }
+        requires still { IsRootStill tree.old self.old.head.0 old }
+        requires arena { IsArena tree.old }
+        requires may { MayPost tree.old self.old }
+        ensures same { self.new ≡ record self.old { split = self.new.split; stage = self.new.stage } }
+        ensures steps { PostLaw tree.old tree.new self.old result self.new }
+        ensures waits { PostWaits tree.old self.old result }
+        ensures ends { PostEnds tree.old tree.new self.old result }
+    {
+        let Some(split) = self.split else {
+            tree.name_root(self.head, root);
+            return Progressed::Ended;
+        };
+        tree.name_root_over_half(self.head, root);
+        self.split = None;
+        self.stage = Stage::HalfPosted(split);
         Progressed::Moved
     }
 
@@ -191,7 +318,7 @@ impl Posting {
     fn name_root(&mut self, tree: &mut Tree, old: Root, root: NodeNo) -> Progressed
         requires filled { self.old.stage ≡ Stage.RootFilled old root }
         requires may { MayPost tree.old self.old }
-        ensures same { self.new ≡ record self.old { stage = self.new.stage } }
+        ensures same { self.new ≡ record self.old { split = self.new.split; stage = self.new.stage } }
         ensures steps { PostLaw tree.old tree.new self.old result self.new }
         ensures waits { PostWaits tree.old self.old result }
         ensures ends { PostEnds tree.old tree.new self.old result }
@@ -202,15 +329,14 @@ impl Posting {
             self.stage = Stage::RootLate(root);
             return Progressed::Moved;
         }
-        tree.name_root(self.head, root);
-        Progressed::Ended
+        self.name_over(tree, old, root)
     }
 
     // Another root was named first: the number is given back, and it begins its way again.
     fn give_back(&mut self, tree: &mut Tree, root: NodeNo) -> Progressed
         requires late { self.old.stage ≡ Stage.RootLate root }
         requires may { MayPost tree.old self.old }
-        ensures same { self.new ≡ record self.old { stage = self.new.stage } }
+        ensures same { self.new ≡ record self.old { split = self.new.split; stage = self.new.stage } }
         ensures steps { PostLaw tree.old tree.new self.old result self.new }
         ensures waits { PostWaits tree.old self.old result }
         ensures ends { PostEnds tree.old tree.new self.old result }
@@ -220,10 +346,124 @@ impl Posting {
         Progressed::Moved
     }
 
+    // A number for the new half of the interior that is locked.
+    fn spare_half(&mut self, tree: &mut Tree, interior: NodeNo) -> Progressed
+        requires wants { self.old.stage ≡ Stage.HalfWanted interior }
+        requires may { MayPost tree.old self.old }
+        ensures same { self.new ≡ record self.old { split = self.new.split; stage = self.new.stage } }
+        ensures steps { PostLaw tree.old tree.new self.old result self.new }
+        ensures waits { PostWaits tree.old self.old result }
+        ensures ends { PostEnds tree.old tree.new self.old result }
+    {
+        let split = tree.interior(interior);
+        let (level, middle) = (split.level(), split.child(KEPT_CHILDREN));
+        match tree.occupy(Node::Interior(Interior::new_locked(level, middle.low))) {
+            Ok(half) => {
+                self.stage = Stage::HalfSpared { interior, half };
+                Progressed::Moved
+            }
+            Err(_) => {
+                self.stage = Stage::LetGo(interior);
+                Progressed::Moved
+            }
+        }
+    }
+
+    // The new half gets the upper children, and is to be posted one level above.
+    fn fill_half(&mut self, tree: &mut Tree, interior: NodeNo, half: NodeNo) -> Progressed
+        requires spared { self.old.stage ≡ Stage.HalfSpared interior half }
+        requires may { MayPost tree.old self.old }
+        ensures same { self.new ≡ record self.old { split = self.new.split; stage = self.new.stage } }
+        ensures steps { PostLaw tree.old tree.new self.old result self.new }
+        ensures waits { PostWaits tree.old self.old result }
+        ensures ends { PostEnds tree.old tree.new self.old result }
+    {
+        let split = tree.interior(interior);
+        let middle = split.child(KEPT_CHILDREN);
+        let upper = [
+            middle,
+            split.child(9),
+            split.child(10),
+            split.child(11),
+            split.child(12),
+            split.child(13),
+            split.child(14),
+            split.child(15),
+        ];
+        let level = split.level();
+        tree.fill_interior(half, &upper);
+        self.split = Some(Split {
+            interior,
+            half: Child {
+                low: middle.low,
+                node: half,
+                level,
+            },
+        });
+        self.stage = Stage::Walks(self.head);
+        Progressed::Moved
+    }
+
+    // The new half isn't posted: its number is given back.
+    fn give_half_back(&mut self, tree: &mut Tree, split: Split) -> Progressed
+        requires left { self.old.stage ≡ Stage.HalfLeftOut split }
+        requires may { MayPost tree.old self.old }
+        ensures same { self.new ≡ record self.old { split = self.new.split; stage = self.new.stage } }
+        ensures steps { PostLaw tree.old tree.new self.old result self.new }
+        ensures waits { PostWaits tree.old self.old result }
+        ensures ends { PostEnds tree.old tree.new self.old result }
+    {
+        tree.give_back(split.half.node);
+        self.stage = Stage::LetGo(split.interior);
+        Progressed::Moved
+    }
+
+    // The interior is unlocked as it was, and the border left out.
+    fn let_go(&mut self, tree: &mut Tree, interior: NodeNo) -> Progressed
+        requires lets { self.old.stage ≡ Stage.LetGo interior }
+        requires may { MayPost tree.old self.old }
+        ensures same { self.new ≡ record self.old { split = self.new.split; stage = self.new.stage } }
+        ensures steps { PostLaw tree.old tree.new self.old result self.new }
+        ensures waits { PostWaits tree.old self.old result }
+        ensures ends { PostEnds tree.old tree.new self.old result }
+    {
+        tree.unlock_interior(interior);
+        Progressed::Ended
+    }
+
+    // The interior keeps the first of its children, and is unlocked.
+    fn cut(&mut self, tree: &mut Tree, split: Split) -> Progressed
+        requires posted { self.old.stage ≡ Stage.HalfPosted split }
+        requires may { MayPost tree.old self.old }
+        ensures same { self.new ≡ record self.old { split = self.new.split; stage = self.new.stage } }
+        ensures steps { PostLaw tree.old tree.new self.old result self.new }
+        ensures waits { PostWaits tree.old self.old result }
+        ensures ends { PostEnds tree.old tree.new self.old result }
+    {
+        tree.keep_first(split.interior, KEPT_CHILDREN);
+        tree.unlock_interior(split.interior);
+        self.stage = Stage::HalfCut(split.half.node);
+        Progressed::Moved
+    }
+
+    // The new half is unlocked, and the border's way begins again.
+    fn unlock_half(&mut self, tree: &mut Tree, half: NodeNo) -> Progressed
+        requires cut { self.old.stage ≡ Stage.HalfCut half }
+        requires may { MayPost tree.old self.old }
+        ensures same { self.new ≡ record self.old { split = self.new.split; stage = self.new.stage } }
+        ensures steps { PostLaw tree.old tree.new self.old result self.new }
+        ensures waits { PostWaits tree.old self.old result }
+        ensures ends { PostEnds tree.old tree.new self.old result }
+    {
+        tree.unlock_interior(half);
+        self.stage = Stage::Walks(self.head);
+        Progressed::Moved
+    }
+
     /// Visits one node.
     pub fn step(&mut self, tree: &mut Tree) -> Progressed
         requires { MayPost tree.old self.old }
-        ensures same { self.new ≡ record self.old { stage = self.new.stage } }
+        ensures same { self.new ≡ record self.old { split = self.new.split; stage = self.new.stage } }
         ensures steps { PostLaw tree.old tree.new self.old result self.new }
         ensures waits { PostWaits tree.old self.old result }
         ensures ends { PostEnds tree.old tree.new self.old result }
@@ -234,6 +474,12 @@ impl Posting {
             Stage::RootSpared { old, root } => self.fill_root(tree, old, root),
             Stage::RootFilled { old, root } => self.name_root(tree, old, root),
             Stage::RootLate(root) => self.give_back(tree, root),
+            Stage::HalfWanted(interior) => self.spare_half(tree, interior),
+            Stage::HalfSpared { interior, half } => self.fill_half(tree, interior, half),
+            Stage::HalfLeftOut(split) => self.give_half_back(tree, split),
+            Stage::LetGo(interior) => self.let_go(tree, interior),
+            Stage::HalfPosted(split) => self.cut(tree, split),
+            Stage::HalfCut(half) => self.unlock_half(tree, half),
         }
     }
 }

@@ -78,7 +78,7 @@ module _ (C : ℕ) (a : ArenaView) (log : LogView) (key : List ℕ) (edit : Edit
         subst (λ (x : ArenaView). Stepped C now moves past a x log log w (edit_request key edit) (stage_held n (Spared half cut entries)) Moved (stage_held n (HalfFilled half cut)) (λ m next. StageIsTrue C key edit way (HalfFilled half cut) begun x next)) (sym is) (record {
           goes = goes_filled now a w half.0 (empty_half b c.middle) change (half.0 ∷ n ∷ []) _ s.named keeps_new first s.unknown world (
             b,
-            locked_at_stays a new w w key way b (record { node = others_named a half.0 (empty_half b c.middle) change s.named n (differ b (empty_half b c.middle) w at s); spot = refl }) at,
+            locked_at_stays a new w w key way b (record { node = others_named a half.0 (empty_half b c.middle) change s.named n (differ b (empty_half b c.middle) w at s); spot = refl; twins = λ one other here. ((λ h. h), (λ h. h)) }) at,
             c,
             record { named = now_named a half.0 (empty_half b c.middle) change s.named ∙ ap Some made; unknown = s.unknown; locked = refl },
           );

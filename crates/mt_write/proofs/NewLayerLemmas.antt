@@ -102,7 +102,7 @@ module _ (C : ℕ) (a : ArenaView) (log : LogView) (key : List ℕ) (edit : Edit
         subst (λ (x : ArenaView). Stepped C now moves past a x log log w (edit_request key edit) (stage_held n (LayerSpared layer entries)) Moved (stage_held n (LayerFilled layer)) (λ m next. StageIsTrue C key edit way (LayerFilled layer) begun x next)) (sym is) (record {
           goes = goes_filled now a w layer.root.0 old change (layer_owned n layer) _ f.has.is_root keeps_new (later first) f.has.root_unknown world (
             b,
-            locked_at_stays a new w w key way b (record { node = others_named a layer.root.0 old change f.has.is_root n (apart_spare b w layer.root.0 at f.has.root_unknown); spot = refl }) at,
+            locked_at_stays a new w w key way b (record { node = others_named a layer.root.0 old change f.has.is_root n (apart_spare b w layer.root.0 at f.has.root_unknown); spot = refl; twins = λ one other here. ((λ h. h), (λ h. h)) }) at,
             record {
               number = f.number;
               at = f.at;
@@ -140,7 +140,7 @@ module _ (C : ℕ) (a : ArenaView) (log : LogView) (key : List ℕ) (edit : Edit
         subst (λ (x : ArenaView). Stepped C now moves past a x log log w (edit_request key edit) (stage_held n (LayerFilled layer)) Moved (stage_held n (LayerReady layer)) (λ m next. StageIsTrue C key edit way (LayerReady layer) begun x next)) (sym is) (record {
           goes = goes_spare_changed now a new w layer.head.0 (Head (new_head layer.root 0 false)) (layer_owned n layer) _ updates refl keeps_new f.has.head_unknown first world (
             b,
-            locked_at_stays a new w w key way b (record { node = updates.others n (apart_spare b w layer.head.0 at f.has.head_unknown); spot = refl }) at,
+            locked_at_stays a new w w key way b (record { node = updates.others n (apart_spare b w layer.head.0 at f.has.head_unknown); spot = refl; twins = λ one other here. ((λ h. h), (λ h. h)) }) at,
             record {
               number = f.number;
               at = f.at;

@@ -60,7 +60,7 @@ spares_go now begun a after w key way layer entries f world at =
     goes_two now a f.between after w layer.root.0 layer.head.0 (Border (new_border f.number 0 false)) (Head (new_head layer.root 0 true)) (way.node.0 ∷ []) (λ next. (b : BorderView) × IsLockedAt after key way b next × IsToFill after next key way b layer entries)
     one.vacant one.updates one.retired one.unknown one.keeps two.vacant two.updates two.retired two.unknown two.keeps world (
       f.b,
-      locked_at_stays a after w w key way f.b (record { node = two.updates.others way.node.0 not_head ∙ one.updates.others way.node.0 not_root; spot = refl }) at,
+      locked_at_stays a after w w key way f.b (record { node = two.updates.others way.node.0 not_head ∙ one.updates.others way.node.0 not_root; spot = refl; twins = λ one other here. ((λ h. h), (λ h. h)) }) at,
       record {
         number = f.number;
         at = f.at;

@@ -362,7 +362,7 @@ module _ (C : ℕ) (a : ArenaView) (log : LogView) (key : List ℕ) (sets : List
         (record {
           goes = goes_occupied now a after w half.0 (Border (empty_half f.b f.cut_at.middle)) (way.node.0 ∷ []) _ f.occupied.vacant f.occupied.updates f.occupied.retired f.occupied.unknown f.occupied.keeps world (
             f.b,
-            locked_at_stays a after w w key way f.b (record { node = f.occupied.updates.others way.node.0 differ; spot = refl }) at,
+            locked_at_stays a after w w key way f.b (record { node = f.occupied.updates.others way.node.0 differ; spot = refl; twins = λ one other here. ((λ h. h), (λ h. h)) }) at,
             f.cut_at,
             record { named = now_is; unknown = f.occupied.unknown.unknown now w.twins w.chart world.index; locked = refl },
             f.copied,

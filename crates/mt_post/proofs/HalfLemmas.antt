@@ -1,0 +1,351 @@
+-- The steps of a posting that splits a full interior, but for those that make twins: it is locked, its new half spared and filled, or let go.
+use Rattle.std.proofs.Common.{ℕ, zero, suc, ◌≡◌, ◌≢◌, ◌≤◌, ◌<◌, ◌+◌, ◌⊎◌, inl, inr, List, [], ◌∷◌, length, slice_get, drop, Option, Some, None, IsSome, true, false, refl, sym, ap, subst, ◌∙◌, arith, length-drop}
+use Rattle.std.specs.Prelude.{IsSomeAnd, All, is_some}
+use Rattle.std.proofs.lemmas.Bool.{cases_lt}
+use Rattle.std.specs.Option.{option_and_then}
+use Rattle.std.proofs.lemmas.List.Elements.{All-drop}
+use Rattle.std.proofs.lemmas.List.Sorted.{IsNonDecreasingBy-drop}
+use Rattle.mt_types.specs.declared.limits.TheConstants.{MAX_LEVEL}
+use Rattle.mt_types.specs.declared.numbers.NodeNo.{NodeNo}
+use Rattle.mt_interior.specs.Interior.{InteriorView, IsInterior, StartsAt, with_children, with_lock}
+use Rattle.mt_interior.specs.declared.child.Child.{Child}
+use Rattle.mt_interior.specs.declared.interior.TheConstants.{MAX_CHILDREN, KEPT_CHILDREN}
+use Rattle.mt_arena.specs.Node.{node_at, interior_at, interior_of, Updates}
+use Rattle.mt_arena.specs.Arena.{ArenaView, with_interior_changed, without_node}
+use Rattle.mt_arena.specs.declared.node.Node.{Node}
+use Rattle.mt_arena.specs.declared.node.Node.TheVariants.{Interior}
+use Rattle.mt_arena.proofs.NodeLemmas.{updates-without, node-from_interior}
+use Rattle.mt_chart.specs.Tree.{first, later}
+use Rattle.mt_chart.specs.Chart.{at_level, on, gone, Spot, spot}
+use Rattle.mt_chart.specs.Steps.{SameContent}
+use Rattle.mt_chart.proofs.Entries.{among_cases}
+use Rattle.mt_chart.proofs.HeldNodes.{evolves_same}
+use Rattle.mt_tree.specs.Seen.{arena_seen}
+use Rattle.mt_tree.specs.Keeping.{KeepsTree, KeepsUnknown, KeepsWhere, IsUnknown}
+use Rattle.mt_tree.specs.InteriorSteps.{IsNotGone}
+use Rattle.mt_calls.specs.World.{World, IsWorld, IsLockedInterior, IsTaken, IsSame, Goes}
+use Rattle.mt_calls.proofs.FoundLemmas.{some_at}
+use Rattle.mt_calls.proofs.SplitLemmas.{goes_occupied}
+use Rattle.mt_post.specs.declared.posting.Posting.{Posting}
+use Rattle.mt_post.specs.declared.posting.Progressed.TheVariants.{Moved, Ended}
+use Rattle.mt_post.specs.declared.posting.Split.{Split}
+use Rattle.mt_post.specs.declared.posting.Stage.TheVariants.{Walks, HalfWanted, HalfSpared, HalfLeftOut, LetGo, HalfCut}
+use Rattle.mt_post.specs.Causes.{IsFullAt}
+use Rattle.mt_post.specs.Posting.{goal, split_owns, SplitIsTrue, IsToPost, IsHeadOf, IsWalking, IsSpareInterior, IsSplitting, IsHalved, StartsUpper, empty_half, upper_half, IsLetGo, PostingIsTrue, IsLockedBorder, PostLaw, MayPost}
+use Rattle.mt_post.proofs.StepLemmas.{goes_at, goes_kept, twins_lone, heads_beside, interior_now, interior_others, interior_no_head, interior_taken, interior_is_taken, not_both}
+use Rattle.mt_post.proofs.WalkLemmas.{at_stage, true_at, known_some, still_locked, from_head, goes_on, in_layer}
+use Rattle.mt_post.proofs.KeptLemmas.{to_post_stays, splitting_stays, apart_known, apart_interior}
+use Rattle.mt_post.proofs.RootLemmas.{not_retired, gives_number}
+
+-- two interiors under one number are one
+pub same_interior : (a : ArenaView) (n : ℕ) (i j : InteriorView) → interior_at a.nodes n ≡ Some i → interior_at a.nodes n ≡ Some j → i ≡ j
+same_interior a n i j is js = (let both : ◌≡◌ {A = Option InteriorView} (Some i) (Some j) = sym is ∙ js in cc)
+
+-- ---- a full interior is locked
+module _ (a : ArenaView) (posting : Posting) (node : NodeNo) (is : posting.stage ≡ Walks node) (none : posting.split ≡ None) (f : IsFullAt a node.0) (below : f.interior.level + 1 ≤ MAX_LEVEL) where
+  abbrev n : ℕ
+  n = node.0
+
+  abbrev lock : InteriorView → InteriorView
+  lock i = with_lock i true
+
+  abbrev locked_one : ArenaView
+  locked_one = with_interior_changed a n lock
+
+  locked_so : (now begun : ℕ) (w : World) (prefix : List ℕ) → IsWorld a now w → (t : IsToPost a w prefix posting.half.0 posting.low) → IsHeadOf w begun posting.head.0 prefix → IsWalking begun prefix (goal posting.half posting.low None) n w
+      → KeepsTree a locked_one → IsSomeAnd (interior_at locked_one.nodes n) IsInterior
+      → Goes now a locked_one w (posting.half.0 ∷ []) (n ∷ posting.half.0 ∷ []) (λ next. PostingIsTrue begun (record posting { stage = HalfWanted node }) locked_one next) × SameContent (arena_seen a) (arena_seen locked_one)
+  locked_so now begun w prefix world t known truth keeps sound =
+      let i = f.interior in
+      let half : ℕ = posting.half.0 in
+      let kept = keeps.keeps now w.twins w.chart world.index in
+      let stands = in_layer a posting node is (goal posting.half posting.low posting.split) refl i f.named f.alive f.unlocked begun w.chart prefix posting.low world.index.tree truth.held in
+      let is_known = known_some w n _ stands.place in
+      let clash_locked : IsLockedInterior a w.chart n → ⊥ = λ locked. (let clash : false ≡ true = sym f.unlocked ∙ some_at _ (interior_at a.nodes n) i locked.locked f.named in cc) in
+      let free : IsTaken a w n → ⊥ = λ taken. not_both i.version.locked (w.chart n) f.unlocked is_known (interior_is_taken a n i w f.named taken) in
+      goes_at now a locked_one w w.chart n (half ∷ []) (n ∷ half ∷ []) _ world kept refl (interior_others a n i lock f.named) (λ other apart. refl)
+      (heads_beside a locked_one w.chart w.chart n (λ number p h. h) (interior_no_head a n i lock f.named) (interior_others a n i lock f.named) world.heads)
+      clash_locked (λ taken apart. free taken)
+      (λ other taken out k. elim (among_cases other n (half ∷ []) k) [ inl e ↦ free (subst (λ (m : ℕ). IsTaken a w m) e taken) | inr j ↦ out j ])
+      (λ other k taken. later k) (λ apart taken. first) (
+        prefix,
+        record {
+          border = to_post_stays a locked_one w w prefix half posting.low (record { node = interior_others a n i lock f.named half (apart_interior a w prefix n half posting.low i t f.named); spot = refl; twins = λ one other here. ((λ h. h), (λ h. h)) }) t;
+          head = known;
+          stage = (
+            none,
+            lock i,
+            record {
+              named = interior_now a n i lock f.named;
+              locked = refl;
+              stands = stands;
+              lone = (
+                (λ other pair. clash_locked (world.twins.locked other n pair).1),
+                (λ other pair. clash_locked (world.twins.locked n other pair).0),
+              );
+              full = f.full;
+              below_top = below;
+              sound = some_at _ (interior_at locked_one.nodes n) (lock i) sound (interior_now a n i lock f.named);
+            },
+          );
+        },
+      )
+
+  pub locks : (after : ArenaView) → after ≡ locked_one → KeepsTree a after → IsSomeAnd (interior_at after.nodes n) IsInterior → PostLaw a after posting Moved (record posting { stage = HalfWanted node })
+  locks after value keeps sound = at_stage a after posting None (Walks node) Moved (record posting { stage = HalfWanted node }) none is (record {
+    steps = λ now begun w prefix world before border known truth.
+        subst (λ (x : ArenaView). Goes now a x w (posting.half.0 ∷ []) (n ∷ posting.half.0 ∷ []) (λ next. PostingIsTrue begun (record posting { stage = HalfWanted node }) x next) × SameContent (arena_seen a) (arena_seen x)) (sym value)
+        (locked_so now begun w prefix world border known truth.1 (subst (λ (x : ArenaView). KeepsTree a x) value keeps) (subst (λ (x : ArenaView). IsSomeAnd (interior_at x.nodes n) IsInterior) value sound));
+  })
+
+-- ---- a number is spared for the new half
+module _ (a : ArenaView) (posting : Posting) (interior : NodeNo) (is : posting.stage ≡ HalfWanted interior) where
+  pub is_there : (may : MayPost a posting) → (i : InteriorView) × (interior_at a.nodes interior.0 ≡ Some i) × (length i.children ≡ MAX_CHILDREN) × (i.level ≤ MAX_LEVEL) × (1 ≤ i.level)
+  is_there may = let (none, i, s) = true_at may.begun a may.w posting (HalfWanted interior) is may.true in (i, s.named, s.full, s.sound.most, s.sound.least)
+
+  pub half_refused : (after : ArenaView) → after ≡ a → PostLaw a after posting Moved (record posting { stage = LetGo interior })
+  half_refused after same = subst (λ (x : ArenaView). PostLaw a x posting Moved (record posting { stage = LetGo interior })) (sym same)
+      (goes_on a posting posting.split posting.split (HalfWanted interior) (LetGo interior) refl refl is (λ now begun w prefix world border known truth.
+      let (none, i, s) = truth in (none, record { interior = i; named = s.named; locked = s.locked; stands = s.stands; lone = s.lone })))
+
+  pub half_spares : (i : InteriorView) (middle : Child) (spare : NodeNo) (after : ArenaView) → interior_at a.nodes interior.0 ≡ Some i → slice_get i.children KEPT_CHILDREN ≡ Some middle → IsInterior (empty_half i middle.low)
+      → node_at a.nodes spare.0 ≡ None → Updates a.nodes after.nodes spare.0 (Some (Interior (empty_half i middle.low))) → after.retired ≡ a.retired → IsUnknown a spare.0 → KeepsTree a after
+      → PostLaw a after posting Moved (record posting { stage = HalfSpared interior spare })
+  half_spares i middle spare after named read sound vacant updates retired unknown keeps = at_stage a after posting posting.split (HalfWanted interior) Moved (record posting { stage = HalfSpared interior spare }) refl is (record {
+    steps = λ now begun w prefix world before border known truth.
+        let (none, j, was) = truth in
+        let s = subst (λ (x : InteriorView). IsSplitting a w prefix interior.0 x) (same_interior a interior.0 j i was.named named) was in
+        let out = unknown.unknown now w.twins w.chart world.index in
+        let same : (number : ℕ) (place : Spot) → w.chart number ≡ Some place → IsSame a after w w number = λ number place at. record { node = updates.others number (apart_known a w prefix number spare.0 place at out); spot = refl; twins = λ one other here. ((λ h. h), (λ h. h)) } in (
+          goes_occupied now a after w spare.0 (Interior (empty_half i middle.low)) (interior.0 ∷ posting.half.0 ∷ []) _ vacant updates retired unknown keeps world (
+            prefix,
+            record {
+              border = to_post_stays a after w w prefix posting.half.0 posting.low (same posting.half.0 _ border.place) border;
+              head = known;
+              stage = (none, i, splitting_stays a after w w prefix interior.0 i (same interior.0 _ s.stands.place) s, middle.low, (middle, read, refl), sound, record { named = ap (option_and_then interior_of) updates.changed; unknown = out });
+            },
+          ),
+          (keeps.keeps now w.twins w.chart world.index).content,
+        );
+  })
+
+-- ---- it is filled
+-- what stands from a place on
+pub from_place : (place : ℕ) (children : List Child) (middle : Child) → slice_get children place ≡ Some middle → StartsAt middle.low (drop place children)
+from_place place [] middle read = absurd (cc)
+from_place zero (child ∷ children) middle read = let same : child ≡ middle = cc in ap (λ (c : Child). c.low) same
+from_place (suc place) (child ∷ children) middle read = from_place place children middle read
+
+half_sound : (i : InteriorView) (low : ℕ) → IsInterior i → IsInterior (empty_half i low) → StartsUpper i low → IsInterior (upper_half i low)
+half_sound i low sound empty (middle, read, low_is) = record {
+  least = empty.least;
+  most = empty.most;
+  low_fits = empty.low_fits;
+  few = let shorter = length-drop KEPT_CHILDREN i.children in let few = sound.few in omega (arith, shorter, few);
+  starts = subst (λ (l : ℕ). StartsAt l (drop KEPT_CHILDREN i.children)) low_is (from_place KEPT_CHILDREN i.children middle read);
+  rising = record { lows = IsNonDecreasingBy-drop (λ (c : Child). c.low) KEPT_CHILDREN i.children sound.rising.lows };
+  lower = record { each = All-drop (λ (c : Child). c.level < i.level) KEPT_CHILDREN i.children sound.lower.each };
+  inner = empty.inner;
+  counters = empty.counters;
+}
+
+module _ (a : ArenaView) (posting : Posting) (interior spare : NodeNo) (is : posting.stage ≡ HalfSpared interior spare) where
+  pub is_there_still : (may : MayPost a posting) → (i : InteriorView) × (interior_at a.nodes interior.0 ≡ Some i) × (length i.children ≡ MAX_CHILDREN)
+  is_there_still may = let (none, i, s, least, starts, sound, spared) = true_at may.begun a may.w posting (HalfSpared interior spare) is may.true in (i, s.named, s.full)
+
+  module _ (i : InteriorView) (middle : Child) (upper : List Child) (named : interior_at a.nodes interior.0 ≡ Some i) (read : slice_get i.children KEPT_CHILDREN ≡ Some middle) (upper_is : upper ≡ drop KEPT_CHILDREN i.children) where
+    -- the record, for what is read
+    seen_so : (w : World) (prefix : List ℕ) → ((j : InteriorView) × IsSplitting a w prefix interior.0 j × (least : ℕ) × StartsUpper j least × IsInterior (empty_half j least) × IsSpareInterior a w spare.0 (empty_half j least))
+        → IsSplitting a w prefix interior.0 i × IsInterior (empty_half i middle.low) × IsSpareInterior a w spare.0 (empty_half i middle.low)
+    seen_so w prefix (j, s, least, (mid, mid_read, low_is), sound, spared) =
+        let same = same_interior a interior.0 j i s.named named in
+        let same_low : least ≡ middle.low = sym low_is ∙ low_of mid (subst (λ (x : InteriorView). slice_get x.children KEPT_CHILDREN ≡ Some mid) same mid_read) in (
+          subst (λ (x : InteriorView). IsSplitting a w prefix interior.0 x) same s,
+          subst (λ (l : ℕ). IsInterior (empty_half i l)) same_low (subst (λ (x : InteriorView). IsInterior (empty_half x least)) same sound),
+          subst (λ (l : ℕ). IsSpareInterior a w spare.0 (empty_half i l)) same_low (subst (λ (x : InteriorView). IsSpareInterior a w spare.0 (empty_half x least)) same spared),
+        )
+      where
+        low_of : (mid : Child) → slice_get i.children KEPT_CHILDREN ≡ Some mid → mid.low ≡ middle.low
+        low_of mid at = (let both : ◌≡◌ {A = Option Child} (Some mid) (Some middle) = sym at ∙ read in let same : mid ≡ middle = cc in ap (λ (c : Child). c.low) same)
+
+    pub may_fill_half : (may : MayPost a posting) → IsSomeAnd (interior_at a.nodes spare.0) (λ x. x.children ≡ []) × IsSomeAnd (interior_at a.nodes spare.0) (λ x. IsInterior (with_children x upper))
+    may_fill_half may =
+        let (none, j, was, least, starts, whole, there) = true_at may.begun a may.w posting (HalfSpared interior spare) is may.true in
+        let (s, sound, spared) = seen_so may.w may.true.0 (j, was, least, starts, whole, there) in (
+          subst (λ (o : Option InteriorView). IsSomeAnd o (λ x. x.children ≡ [])) (sym spared.named) refl,
+          subst (λ (o : Option InteriorView). IsSomeAnd o (λ x. IsInterior (with_children x upper))) (sym spared.named)
+              (subst (λ (l : List Child). IsInterior (with_children (empty_half i middle.low) l)) (sym upper_is) (half_sound i middle.low s.sound sound (middle, read, refl))),
+        )
+
+    abbrev split : Split
+    split = record { interior = interior; half = record { low = middle.low; node = spare; level = i.level } }
+
+    abbrev fill : InteriorView → InteriorView
+    fill x = with_children x upper
+
+    abbrev filled : ArenaView
+    filled = with_interior_changed a spare.0 fill
+
+    pub fills_half : (after : ArenaView) → after ≡ filled → KeepsTree a after → PostLaw a after posting Moved (record posting { split = Some split; stage = Walks posting.head })
+    fills_half after value keeps = at_stage a after posting posting.split (HalfSpared interior spare) Moved (record posting { split = Some split; stage = Walks posting.head }) refl is (record {
+      steps = λ now begun w prefix world before border known truth.
+          let (none, j, was, least, starts, whole, there) = truth in
+          let (s, sound, spared) = seen_so w prefix (j, was, least, starts, whole, there) in
+          let m : ℕ = spare.0 in
+          let half : ℕ = posting.half.0 in
+          let kept = (subst (λ (x : ArenaView). KeepsTree a x) value keeps).keeps now w.twins w.chart world.index in
+          let others = interior_others a m (empty_half i middle.low) fill spared.named in
+          let same : (number : ℕ) (place : Spot) → w.chart number ≡ Some place → IsSame a filled w w number = λ number place at. record { node = others number (apart_known a w prefix number m place at spared.unknown); spot = refl; twins = λ one other here. ((λ h. h), (λ h. h)) } in
+          subst (λ (x : ArenaView). Goes now a x w (m ∷ interior.0 ∷ half ∷ []) (m ∷ interior.0 ∷ half ∷ []) (λ next. PostingIsTrue begun (record posting { split = Some split; stage = Walks posting.head }) x next) × SameContent (arena_seen a) (arena_seen x)) (sym value)
+          (goes_at now a filled w w.chart m (m ∷ interior.0 ∷ half ∷ []) (m ∷ interior.0 ∷ half ∷ []) (λ next. PostingIsTrue begun (record posting { split = Some split; stage = Walks posting.head }) filled next) world kept refl others (λ other apart. refl)
+          (heads_beside a filled w.chart w.chart m (λ number p h. h) (interior_no_head a m (empty_half i middle.low) fill spared.named) others world.heads)
+          (λ locked. (let known_half = locked.known in let clash : false ≡ true = subst (λ (x : Option Spot). IsSome x) spared.unknown known_half in cc))
+          (λ taken apart. absurd (apart first)) (λ other t out k. out k) (λ other k taken. k) (λ apart taken. absurd (apart first)) (
+            prefix,
+            record {
+              border = to_post_stays a filled w w prefix half posting.low (same half _ border.place) border;
+              head = known;
+              stage = (
+                record {
+                  interior = i;
+                  splits = splitting_stays a filled w w prefix interior.0 i (same interior.0 _ s.stands.place) s;
+                  spare = record { named = interior_now a m (empty_half i middle.low) fill spared.named ∙ ap (λ (l : List Child). Some (with_children (empty_half i middle.low) l)) upper_is; unknown = spared.unknown };
+                  level = refl;
+                  starts = (middle, read, refl);
+                },
+                from_head begun prefix split.half posting.head.0 w known,
+              );
+            },
+          ));
+    })
+
+-- ---- the new half is given back
+module _ (a : ArenaView) (posting : Posting) (left : Split) (is : posting.stage ≡ HalfLeftOut left) where
+  half_named : (w : World) (prefix : List ℕ) (h : IsHalved a w prefix left) → IsSome (node_at a.nodes left.half.node.0)
+  half_named w prefix h = subst (λ (x : Option Node). IsSome x) (sym (node-from_interior a.nodes left.half.node.0 _ h.spare.named)) refl
+
+  pub may_give_half : (may : MayPost a posting) → IsSome (node_at a.nodes left.half.node.0) × All (λ retired. retired.node.0 ≢ left.half.node.0) a.retired
+  may_give_half may =
+      let (none, h) = true_at may.begun a may.w posting (HalfLeftOut left) is may.true in
+      (half_named may.w may.true.0 h, not_retired a may.w may.now left.half.node.0 may.world h.spare.unknown)
+
+  pub gives_half_back : (after : ArenaView) → after ≡ without_node a left.half.node.0 → KeepsUnknown a after left.half.node.0 → PostLaw a after posting Moved (record posting { stage = LetGo left.interior })
+  gives_half_back after value keeps = at_stage a after posting posting.split (HalfLeftOut left) Moved (record posting { stage = LetGo left.interior }) refl is (record {
+    steps = λ now begun w prefix world before border known truth.
+        let (none, h) = truth in
+        let m : ℕ = left.half.node.0 in
+        let half : ℕ = posting.half.0 in
+        let new : ArenaView = without_node a m in
+        let updates : Updates a.nodes new.nodes m None = updates-without a.nodes m (half_named w prefix h) in
+        let kept = (subst (λ (x : ArenaView). KeepsUnknown a x m) value keeps).keeps now w.twins w.chart world.index h.spare.unknown in
+        let same : (number : ℕ) (place : Spot) → w.chart number ≡ Some place → IsSame a new w w number = λ number place at. record { node = updates.others number (apart_known a w prefix number m place at h.spare.unknown); spot = refl; twins = λ one other here. ((λ x. x), (λ x. x)) } in
+        let s = splitting_stays a new w w prefix left.interior.0 h.interior (same left.interior.0 _ h.splits.stands.place) h.splits in
+        subst (λ (x : ArenaView). Goes now a x w (m ∷ left.interior.0 ∷ half ∷ []) (left.interior.0 ∷ half ∷ []) (λ next. PostingIsTrue begun (record posting { stage = LetGo left.interior }) x next) × SameContent (arena_seen a) (arena_seen x)) (sym value)
+        (gives_number now a w m (left.interior.0 ∷ half ∷ []) (λ next. PostingIsTrue begun (record posting { stage = LetGo left.interior }) new next) world (half_named w prefix h) h.spare.unknown kept (
+          prefix,
+          record {
+            border = to_post_stays a new w w prefix half posting.low (same half _ border.place) border;
+            head = known;
+            stage = (none, record { interior = h.interior; named = s.named; locked = s.locked; stands = s.stands; lone = s.lone });
+          },
+        ));
+  })
+
+-- ---- an interior without a twin is unlocked
+module _ (a : ArenaView) (posting : Posting) (n : ℕ) where
+  abbrev unlock : InteriorView → InteriorView
+  unlock i = with_lock i false
+
+  abbrev unlocked : ArenaView
+  unlocked = with_interior_changed a n unlock
+
+  pub may_unlock_lone : (w : World) (prefix : List ℕ) → IsLetGo a w prefix n → IsSomeAnd (interior_at a.nodes n) (λ i. i.version.locked ≡ true)
+  may_unlock_lone w prefix l = subst (λ (o : Option InteriorView). IsSomeAnd o (λ i. i.version.locked ≡ true)) (sym l.named) l.locked
+
+  -- the border is as it was
+  pub border_beside : (w : World) (prefix : List ℕ) (i : InteriorView) → interior_at a.nodes n ≡ Some i → IsToPost a w prefix posting.half.0 posting.low → IsToPost unlocked w prefix posting.half.0 posting.low
+  border_beside w prefix i named t = to_post_stays a unlocked w w prefix posting.half.0 posting.low (record { node = interior_others a n i unlock named posting.half.0 (apart_interior a w prefix n posting.half.0 posting.low i t named); spot = refl; twins = λ one other here. ((λ h. h), (λ h. h)) }) t
+
+  pub unlocks_lone : (now : ℕ) (after : ArenaView) (w : World) (prefix : List ℕ) (Then : ArenaView → World → Type 0) → IsWorld a now w → IsLetGo a w prefix n → after ≡ unlocked
+      → IsSomeAnd (interior_at a.nodes n) (λ i. KeepsWhere a after (λ chart. IsNotGone chart n ⊎ (i.version.deleted ≡ true))) → Then unlocked w
+      → Goes now a after w (n ∷ posting.half.0 ∷ []) (posting.half.0 ∷ []) (Then after) × SameContent (arena_seen a) (arena_seen after)
+  unlocks_lone now after w prefix Then world l value keeps truth =
+      let i = l.interior in
+      let half : ℕ = posting.half.0 in
+      let kept = (subst (λ (x : ArenaView). KeepsWhere a x (λ chart. IsNotGone chart n ⊎ (i.version.deleted ≡ true))) value (some_at _ (interior_at a.nodes n) i keeps l.named)).keeps now w.twins w.chart world.index
+      (inl (λ role p low epoch e. (let clash : ◌≡◌ {A = Option Spot} (Some (spot (at_level l.stands.level) prefix l.stands.low (on l.stands.posted))) (Some (spot role p low (gone epoch))) = sym l.stands.place ∙ e in cc))) in
+      let others = interior_others a n i unlock l.named in
+      let free : IsTaken unlocked w n → ⊥ = λ taken. not_both (unlock i).version.locked (w.chart n) refl (known_some w n _ l.stands.place) (interior_taken a n i unlock l.named w taken) in
+      subst (λ (x : ArenaView). Goes now a x w (n ∷ half ∷ []) (half ∷ []) (Then x) × SameContent (arena_seen a) (arena_seen x)) (sym value)
+      (goes_kept now a unlocked w w.chart n (n ∷ half ∷ []) (half ∷ []) (Then unlocked) world kept refl others (λ other apart. refl)
+      (heads_beside a unlocked w.chart w.chart n (λ number p h. h) (interior_no_head a n i unlock l.named) others world.heads)
+      (twins_lone a unlocked w.chart w.chart w.twins n (evolves_same 0 w.chart) l.lone others world.twins)
+      (λ taken apart. absurd (apart first)) (λ other t out k. out (later k))
+      (λ other k taken. elim (among_cases other n (half ∷ []) k) [ inl e ↦ absurd (free (subst (λ (m : ℕ). IsTaken unlocked w m) e taken)) | inr j ↦ j ])
+      (λ apart taken. absurd (apart first)) truth)
+
+-- the interior is let go, and the border left out
+module _ (a : ArenaView) (posting : Posting) (interior : NodeNo) where
+  pub lets_go : posting.stage ≡ LetGo interior → (after : ArenaView) → after ≡ with_interior_changed a interior.0 (λ i. with_lock i false)
+      → IsSomeAnd (interior_at a.nodes interior.0) (λ i. KeepsWhere a after (λ chart. IsNotGone chart interior.0 ⊎ (i.version.deleted ≡ true))) → PostLaw a after posting Ended posting
+  lets_go is after value keeps = at_stage a after posting posting.split (LetGo interior) Ended posting refl is (record {
+    steps = λ now begun w prefix world before border known truth.
+        let l = truth.1 in
+        unlocks_lone a posting interior.0 now after w prefix (λ x next. IsLockedBorder x next posting.half.0) world l value keeps
+        (still_locked (with_interior_changed a interior.0 (λ i. with_lock i false)) w prefix posting.half.0 posting.low (border_beside a posting interior.0 w prefix l.interior l.named border));
+  })
+
+  -- the new half is unlocked, and the border's way begins again
+  pub goes_again : posting.stage ≡ HalfCut interior → (after : ArenaView) → after ≡ with_interior_changed a interior.0 (λ i. with_lock i false)
+      → IsSomeAnd (interior_at a.nodes interior.0) (λ i. KeepsWhere a after (λ chart. IsNotGone chart interior.0 ⊎ (i.version.deleted ≡ true))) → PostLaw a after posting Moved (record posting { stage = Walks posting.head })
+  goes_again is after value keeps = at_stage a after posting posting.split (HalfCut interior) Moved (record posting { stage = Walks posting.head }) refl is (record {
+    steps = λ now begun w prefix world before border known truth.
+        let (none, l) = truth in
+        subst (λ (owns : List ℕ). Goes now a after w (interior.0 ∷ posting.half.0 ∷ []) owns (λ next. PostingIsTrue begun (record posting { stage = Walks posting.head }) after next) × SameContent (arena_seen a) (arena_seen after)) (sym (ap (split_owns posting.half.0) none))
+        (unlocks_lone a posting interior.0 now after w prefix (λ x next. PostingIsTrue begun (record posting { stage = Walks posting.head }) x next) world l value keeps (
+          prefix,
+          record {
+            border = border_beside a posting interior.0 w prefix l.interior l.named border;
+            head = known;
+            stage = (subst (λ (o : Option Split). SplitIsTrue (with_interior_changed a interior.0 (λ i. with_lock i false)) w prefix o) (sym none) tt, from_head begun prefix (goal posting.half posting.low posting.split) posting.head.0 w known);
+          },
+        ));
+  })
+
+  pub may_unlock_at : (may : MayPost a posting) → ((posting.stage ≡ LetGo interior) ⊎ (posting.stage ≡ HalfCut interior)) → IsSomeAnd (interior_at a.nodes interior.0) (λ i. i.version.locked ≡ true)
+  may_unlock_at may (inl is) = may_unlock_lone a posting interior.0 may.w may.true.0 (true_at may.begun a may.w posting (LetGo interior) is may.true).1
+  may_unlock_at may (inr is) = may_unlock_lone a posting interior.0 may.w may.true.0 (true_at may.begun a may.w posting (HalfCut interior) is may.true).1
+
+-- ---- what is read of an interior
+-- below the greatest level
+pub below_top : (level : ℕ) → level ≤ MAX_LEVEL → level ≢ MAX_LEVEL → level + 1 ≤ MAX_LEVEL
+below_top level most other = elim (cases_lt level MAX_LEVEL) [ inl less ↦ omega (arith, less) | inr from ↦ absurd (other (omega (arith, most, from))) ]
+
+pub full_below : (a : ArenaView) (n : ℕ) (f : IsFullAt a n) (i : InteriorView) (level : ℕ) → interior_at a.nodes n ≡ Some i → IsInterior i → level ≡ i.level → level ≢ MAX_LEVEL → f.interior.level + 1 ≤ MAX_LEVEL
+full_below a n f i level named sound is other =
+    let same = same_interior a n f.interior i f.named named in
+    subst (λ (x : InteriorView). x.level + 1 ≤ MAX_LEVEL) (sym same) (below_top i.level sound.most (λ e. other (is ∙ e)))
+
+pub no_split : (o : Option Split) → is_some o ≡ false → o ≡ None
+no_split None e = refl
+no_split (Some split) e = absurd (let clash : true ≡ false = e in cc)
+
+-- what stands from a place on is the element there, and what stands from the next
+drop_read : (k : ℕ) (children : List Child) (child : Child) → slice_get children k ≡ Some child → drop k children ≡ child ∷ drop (suc k) children
+drop_read k [] child e = absurd (cc)
+drop_read zero (x ∷ children) child e = let same : x ≡ child = cc in ap (λ (c : Child). c ∷ children) same
+drop_read (suc k) (x ∷ children) child e = drop_read k children child e
+
+drop_all : (k : ℕ) (children : List Child) → length children ≡ k → drop k children ≡ []
+drop_all zero [] e = refl
+drop_all zero (x ∷ children) e = absurd (omega (arith, e))
+drop_all (suc k) [] e = absurd (omega (arith, e))
+drop_all (suc k) (x ∷ children) e = drop_all k children (omega (arith, e))
+
+-- the eight children of a full interior from the place on where it is cut
+pub upper_eight : (children : List Child) (a b c d e f g h : Child) → length children ≡ MAX_CHILDREN → slice_get children 8 ≡ Some a → slice_get children 9 ≡ Some b → slice_get children 10 ≡ Some c → slice_get children 11 ≡ Some d
+    → slice_get children 12 ≡ Some e → slice_get children 13 ≡ Some f → slice_get children 14 ≡ Some g → slice_get children 15 ≡ Some h → a ∷ b ∷ c ∷ d ∷ e ∷ f ∷ g ∷ h ∷ [] ≡ drop KEPT_CHILDREN children
+upper_eight children a b c d e f g h full ra rb rc rd re rf rg rh = sym (
+    drop_read 8 children a ra ∙ ap (λ (l : List Child). a ∷ l) (drop_read 9 children b rb ∙ ap (λ (l : List Child). b ∷ l) (drop_read 10 children c rc ∙ ap (λ (l : List Child). c ∷ l) (drop_read 11 children d rd
+    ∙ ap (λ (l : List Child). d ∷ l) (drop_read 12 children e re ∙ ap (λ (l : List Child). e ∷ l) (drop_read 13 children f rf ∙ ap (λ (l : List Child). f ∷ l) (drop_read 14 children g rg ∙ ap (λ (l : List Child). g ∷ l) (drop_read 15 children h rh
+    ∙ ap (λ (l : List Child). h ∷ l) (drop_all 16 children full)))))))))

@@ -1,0 +1,203 @@
+-- The step of a posting that names a new root over an interior that is split and its new half.
+use Rattle.std.proofs.Common.{ℕ, ◌≡◌, ◌≢◌, ◌≤◌, ◌<◌, ◌+◌, inl, inr, List, [], ◌∷◌, slice_get, drop, Option, Some, None, IsSome, true, refl, sym, ap, subst, ◌∙◌, arith}
+use Rattle.std.specs.Prelude.{IsSomeAnd}
+use Rattle.std.specs.Option.{option_and_then}
+use Rattle.mt_types.specs.declared.numbers.NodeNo.{NodeNo}
+use Rattle.mt_interior.specs.Head.{HeadView, with_root}
+use Rattle.mt_interior.specs.Interior.{InteriorView, StartsAt}
+use Rattle.mt_interior.specs.declared.interior.TheConstants.{KEPT_CHILDREN}
+use Rattle.mt_arena.specs.Node.{head_at, head_of, interior_at, interior_of, border_of, Updates}
+use Rattle.mt_arena.specs.Arena.{ArenaView, IsArena, with_head_changed}
+use Rattle.mt_arena.specs.declared.node.Node.{Node}
+use Rattle.mt_arena.specs.declared.node.Node.TheVariants.{Head}
+use Rattle.mt_arena.proofs.NodeLemmas.{updates-with_node, node-from_head}
+use Rattle.mt_chart.specs.Tree.{first, later, Among}
+use Rattle.mt_chart.specs.Chart.{at_level, on, Spot, spot, Chart, OnHead}
+use Rattle.mt_chart.specs.Steps.{SameContent}
+use Rattle.mt_chart.proofs.Basics.{same_number}
+use Rattle.mt_chart.proofs.Entries.{among_cases}
+use Rattle.mt_chart.proofs.Walk.{known_kept}
+use Rattle.mt_tree.specs.Seen.{arena_seen}
+use Rattle.mt_tree.specs.HeadSteps.{IsRootOverHalf, KeepsRootOverHalf}
+use Rattle.mt_tree.proofs.SeenLemmas.{changed-head}
+use Rattle.mt_tree.proofs.RootLemmas.{root_of_split}
+use Rattle.mt_calls.specs.World.{World, IsWorld, HeadsAreAlive, IsTaken, Goes}
+use Rattle.mt_calls.proofs.BorderLemmas.{keys_same, known_stays, no_interior, twins_beside, retired_kept}
+use Rattle.mt_calls.proofs.FoundLemmas.{some_at}
+use Rattle.mt_calls.proofs.SplitLemmas.{with_spot, spot_changes}
+use Rattle.mt_post.specs.declared.posting.Posting.{Posting}
+use Rattle.mt_post.specs.declared.posting.Progressed.TheVariants.{Moved}
+use Rattle.mt_post.specs.declared.posting.Root.{Root}
+use Rattle.mt_post.specs.declared.posting.Split.{Split}
+use Rattle.mt_post.specs.declared.posting.Stage.TheVariants.{RootFilled, HalfPosted}
+use Rattle.mt_post.specs.Causes.{IsRootStill}
+use Rattle.mt_post.specs.Posting.{StageIsTrue, IsToPost, IsHeadOf, IsSpareInterior, IsHalved, upper_half, root_over, PostingIsTrue, PostLaw, MayPost}
+use Rattle.mt_post.proofs.StepLemmas.{at_chart, goes_with, interior_is_taken, head_is_taken, not_both}
+use Rattle.mt_post.proofs.WalkLemmas.{at_stage, true_at, known_some, from_head, root_place, heads_were}
+use Rattle.mt_post.proofs.KeptLemmas.{apart_known, apart_head, interior_apart_head}
+use Rattle.mt_post.proofs.HalfLemmas.{from_place}
+use Rattle.mt_post.proofs.TwinLemmas.{with_pair, pair_cases, pair_same, half_is_posted, twins_now, has_upper, new_pair}
+
+module _ (a : ArenaView) (posting : Posting) (old : Root) (root : NodeNo) (split : Split) (is : posting.stage ≡ RootFilled old root) (some : posting.split ≡ Some split) (sound : IsArena a) (still : IsRootStill a posting.head.0 old) where
+  abbrev n : ℕ
+  n = posting.head.0
+
+  abbrev h : HeadView
+  h = still.head
+
+  abbrev i : ℕ
+  i = split.interior.0
+
+  abbrev m : ℕ
+  m = split.half.node.0
+
+  abbrev half : ℕ
+  half = posting.half.0
+
+  abbrev top_root : InteriorView
+  top_root = root_over old split.half
+
+  abbrev change : HeadView → HeadView
+  change x = with_root x root top_root.level
+
+  abbrev new : ArenaView
+  new = with_head_changed a n change
+
+  abbrev then : Posting
+  then = record posting { split = None; stage = HalfPosted split }
+
+  updated : Updates a.nodes new.nodes n (Some (Head (change h)))
+  updated = subst (λ (x : ArenaView). Updates a.nodes x.nodes n (Some (Head (change h)))) (sym (changed-head a n h change still.named))
+      (updates-with_node a.nodes n (Head (change h)) (subst (λ (x : Option Node). IsSome x) (sym (node-from_head a.nodes n h still.named)) refl))
+
+  none_there : interior_at a.nodes n ≡ None
+  none_there = ap (option_and_then interior_of) (node-from_head a.nodes n h still.named)
+
+  -- the root is the interior that is split
+  root_is_split : (now begun : ℕ) (w : World) (prefix : List ℕ) → IsWorld a now w → OnHead w.chart n prefix → (s : IsHalved a w prefix split) → old.level < split.half.level + 1 → h.root.0 ≡ i
+  root_is_split now begun w prefix world stands s less =
+      root_of_split a now w.twins w.chart n i prefix h s.interior sound world.index stands still.named s.splits.named s.splits.stands
+      (let same = still.level_is in let level = s.level in omega (arith, same, level, less))
+
+  heads_named : (chart next : Chart) → ((number : ℕ) (layer : List ℕ) → OnHead next number layer → OnHead chart number layer) → HeadsAreAlive a chart → HeadsAreAlive new next
+  heads_named chart next were heads = record {
+    alive = λ number layer x place there. elim (same_number number n) [
+      | inl e ↦ (let both : ◌≡◌ {A = Option HeadView} (Some (change h)) (Some x) = sym (ap (option_and_then head_of) updated.changed) ∙ (ap (λ (k : ℕ). head_at new.nodes k) (sym e) ∙ there) in
+          let same : change h ≡ x = cc in
+          let old_head = heads.alive n layer h (subst (λ (k : ℕ). OnHead chart k layer) e (were number layer place)) still.named in
+          (ap (λ (v : HeadView). v.version.deleted) (sym same) ∙ old_head.0, ap (λ (v : HeadView). v.version.locked) (sym same) ∙ old_head.1))
+      | inr apart ↦ heads.alive number layer x (were number layer place) (sym (ap (option_and_then head_of) (updated.others number apart)) ∙ there)
+    ];
+  }
+
+  named_so : (now begun : ℕ) (w : World) (prefix : List ℕ) → IsWorld a now w → begun ≤ now → IsToPost a w prefix half posting.low → IsHeadOf w begun n prefix → (s : IsHalved a w prefix split) → old.level < split.half.level + 1 → root.0 ≢ m
+      → IsSpareInterior a w root.0 top_root → KeepsRootOverHalf a new n root.0
+      → Goes now a new w (root.0 ∷ m ∷ i ∷ half ∷ []) (m ∷ i ∷ half ∷ []) (λ next. PostingIsTrue begun then new next) × SameContent (arena_seen a) (arena_seen new)
+  named_so now begun w prefix world before t known s less beside spare keeps =
+      let (stands, is_root) = root_place a w.chart begun n split.half.low prefix h world.index.tree ((from_head begun prefix split.half n w known).held) still.named still.alive in
+      let owns : List ℕ = m ∷ i ∷ half ∷ [] in
+      let u = upper_half s.interior split.half.low in
+      let half_place : Spot = spot (at_level s.interior.level) prefix split.half.low (on true) in
+      let root_at : Spot = spot (at_level top_root.level) prefix 0 (on true) in
+      let between : Chart = with_spot w.chart m half_place in
+      let chart : Chart = with_spot between root.0 root_at in
+      let half_charted = spot_changes w.chart m half_place in
+      let root_charted = spot_changes between root.0 root_at in
+      let is_i = root_is_split now begun w prefix world stands s less in
+      let is_known = known_some w n _ stands in
+      let free = (world.heads.alive n prefix h stands still.named).1 in
+      let i_apart = interior_apart_head a w prefix n i s.interior h s.splits.named still.named in
+      let m_apart = interior_apart_head a w prefix n m u h s.spare.named still.named in
+      let x_apart = interior_apart_head a w prefix n root.0 top_root h spare.named still.named in
+      let i_spot = root_charted.rest i (apart_known a w prefix i root.0 _ s.splits.stands.place spare.unknown) ∙ half_charted.rest i (apart_known a w prefix i m _ s.splits.stands.place s.spare.unknown) in
+      let m_spot = root_charted.rest m (λ e. beside (sym e)) ∙ half_charted.now in
+      let t_spot = root_charted.rest half (apart_known a w prefix half root.0 _ t.place spare.unknown) ∙ half_charted.rest half (apart_known a w prefix half m _ t.place s.spare.unknown) in
+      let kept = keeps.keeps now w.twins (with_pair m i w.twins) w.chart chart world.index (record {
+        old = h;
+        root = top_root;
+        posted = split.half;
+        split = s.interior;
+        half = u;
+        is_old = still.named;
+        is_root = spare.named;
+        is_posted = ap (option_and_then (λ v. slice_get v.children 1)) spare.named;
+        is_split = ap (λ (k : ℕ). interior_at a.nodes k) is_i ∙ s.splits.named;
+        is_half = s.spare.named;
+        upper = has_upper a new now w chart prefix split world s;
+        prefix = prefix;
+        stands = stands;
+        unknown = spare.unknown;
+        half_unknown = s.spare.unknown;
+        between = between;
+        half_charted = half_charted;
+        root_charted = root_charted;
+        kept_twins = λ one other pair. later (later pair);
+        new_twins = λ other either. new_pair a new now w chart prefix split world s other (elim either [ inl e ↦ inl (e ∙ is_i) | inr pair ↦ inr (subst (λ (k : ℕ). Among (record { one = other; other = k }) w.twins) is_i pair) ]);
+        no_twin = (
+          (λ other pair. elim (pair_cases m i w.twins other n pair) [
+            | inl e ↦ i_apart (sym e.1)
+            | inr rest ↦ elim rest [ inl e ↦ m_apart (sym e.1) | inr o ↦ no_interior a w.chart n none_there (world.twins.locked other n o).1 ]
+          ]),
+          (λ other pair. elim (pair_cases m i w.twins n other pair) [
+            | inl e ↦ m_apart (sym e.0)
+            | inr rest ↦ elim rest [ inl e ↦ i_apart (sym e.0) | inr o ↦ no_interior a w.chart n none_there (world.twins.locked n other o).0 ]
+          ]),
+        );
+      }) in (
+        goes_with now a new w (record { twins = with_pair m i w.twins; chart = chart }) n (root.0 ∷ owns) owns (λ next. PostingIsTrue begun then new next) (record {
+          index = kept.index;
+          keys = keys_same a new kept.content world.keys;
+          heads = heads_named w.chart chart (λ number layer place. heads_were w.chart between m s.interior.level split.half.low prefix (on true) half_charted number layer (heads_were between chart root.0 top_root.level 0 prefix (on true) root_charted number layer place)) world.heads;
+          twins = twins_now a new now w chart prefix split world s (updated.others i i_apart) (updated.others m m_apart) i_spot m_spot (twins_beside a new w.chart chart w.twins n (kept.evolves 0 (omega arith)) (no_interior a w.chart n none_there) updated.others world.twins);
+          retired = retired_kept a.retired w.chart chart (kept.evolves 0 (omega arith)) world.retired;
+        }) kept.evolves updated.others
+            (λ other apart. root_charted.rest other (λ e. apart (subst (λ (k : ℕ). Among k (root.0 ∷ owns)) (sym e) first)) ∙ half_charted.rest other (λ e. apart (subst (λ (k : ℕ). Among k (root.0 ∷ owns)) (sym e) (later first))))
+            (λ other apart. pair_same m i w.twins other (λ e. apart (subst (λ (k : ℕ). Among k (root.0 ∷ owns)) (sym e) (later first))) (λ e. apart (subst (λ (k : ℕ). Among k (root.0 ∷ owns)) (sym e) (later (later first)))))
+            (λ taken apart. not_both h.version.locked (w.chart n) free is_known (head_is_taken a n h w still.named taken))
+            (λ other taken out k. out (later k))
+            (λ other k taken. elim (among_cases other root.0 owns k) [
+              | inl e ↦ absurd (not_both top_root.version.locked (chart root.0) refl (known_some (at_chart w chart) root.0 root_at root_charted.now)
+                  (interior_is_taken new root.0 top_root (at_chart w chart) (ap (option_and_then interior_of) (updated.others root.0 x_apart) ∙ spare.named) (subst (λ (k : ℕ). IsTaken new (at_chart w chart) k) e taken)))
+              | inr j ↦ j
+            ])
+            (λ apart taken. absurd (not_both h.version.locked (chart n) free (known_stays w.chart chart n (kept.evolves 0 (omega arith)) is_known) (head_is_taken new n (change h) (at_chart w chart) (ap (option_and_then head_of) updated.changed) taken))) (
+              prefix,
+              record {
+                border = record { b = t.b; named = ap (option_and_then border_of) (updated.others half (apart_head a w prefix n half posting.low h t still.named)) ∙ t.named; low_is = t.low_is; locked = t.locked; place = t_spot ∙ t.place };
+                head = known_kept begun n _ prefix 0 w.chart chart (kept.evolves begun before) known;
+                stage = (refl, half_is_posted a new now w chart prefix split world s (updated.others i i_apart) (updated.others m m_apart) i_spot m_spot);
+              },
+            ),
+        kept.content,
+      )
+
+  pub names_half : (after : ArenaView) → IsSomeAnd (interior_at a.nodes root.0) (λ x. after ≡ with_head_changed a n (λ v. with_root v root x.level)) → KeepsRootOverHalf a after n root.0 → PostLaw a after posting Moved then
+  names_half after value keeps = at_stage a after posting (Some split) (RootFilled old root) Moved then some is (record {
+    steps = λ now begun w prefix world before t known truth.
+        let (s, less, beside, spare) = truth in
+        let same : after ≡ new = some_at _ (interior_at a.nodes root.0) top_root value spare.named in
+        subst (λ (x : ArenaView). Goes now a x w (root.0 ∷ m ∷ i ∷ half ∷ []) (m ∷ i ∷ half ∷ []) (λ next. PostingIsTrue begun then x next) × SameContent (arena_seen a) (arena_seen x)) (sym same)
+        (named_so now begun w prefix world before t known s less beside spare (subst (λ (x : ArenaView). KeepsRootOverHalf a x n root.0) same keeps));
+  })
+
+  -- what the call asks
+  pub may_name_half : (may : MayPost a posting) → IsSomeAnd (head_at a.nodes n) (λ x. IsSomeAnd (interior_at a.nodes root.0) (IsRootOverHalf a.nodes x))
+  may_name_half may =
+      let prefix = may.true.0 in
+      let (s, less, beside, spare) = subst (λ (o : Option Split). StageIsTrue may.begun prefix posting.half posting.low o (RootFilled old root) a may.w) some (true_at may.begun a may.w posting (RootFilled old root) is may.true) in
+      let (stands, is_root) = root_place a may.w.chart may.begun n split.half.low prefix h may.world.index.tree ((from_head may.begun prefix split.half n may.w may.true.1.head).held) still.named still.alive in
+      let is_i = root_is_split may.now may.begun may.w prefix may.world stands s less in
+      let (middle, read, low_is) = s.starts in
+      subst (λ (o : Option HeadView). IsSomeAnd o (λ x. IsSomeAnd (interior_at a.nodes root.0) (IsRootOverHalf a.nodes x))) (sym still.named)
+      (subst (λ (o : Option InteriorView). IsSomeAnd o (IsRootOverHalf a.nodes h)) (sym spare.named) (record {
+        low = refl;
+        split = s.interior;
+        is_split = ap (λ (k : ℕ). interior_at a.nodes k) is_i ∙ s.splits.named;
+        posted = split.half;
+        half = upper_half s.interior split.half.low;
+        is_half = s.spare.named;
+        half_low = refl;
+        half_level = s.level;
+        half_starts = subst (λ (l : ℕ). StartsAt l (drop KEPT_CHILDREN s.interior.children)) low_is (from_place KEPT_CHILDREN s.interior.children middle read);
+        children = ap (λ (r : NodeNo). record { low = 0; node = r; level = old.level } ∷ split.half ∷ []) (sym still.root_is) ∙ ap (λ (l : ℕ). record { low = 0; node = h.root; level = l } ∷ split.half ∷ []) (sym still.level_is);
+      }))
