@@ -4,11 +4,11 @@ ghost use Rattle.std.specs.Prelude.{◌≡◌, ◌+◌, ◌-◌, ◌^◌, ◌<�
 ghost use Rattle.mt_index.specs.Calls.{call_at, without, MayStepOf, StepsCall};
 
 use mt_calls::progress::Progress;
-use mt_write::work::Work;
 use mt_commit::log::Log;
 use mt_tree::Tree;
 use mt_types::numbers::PassNo;
 use mt_types::refusal::NoMemory;
+use mt_write::work::Work;
 use std::alloc::Global;
 use std::collections::BTreeMap;
 use std::marker::Model;

@@ -11,13 +11,13 @@ ghost use Rattle.mt_index.specs.Stands.{Stands, IsServed, Begins, Steps, IsRun};
 use crate::calls::{Call, Calls, Stepped};
 use crate::options::Options;
 use mt_calls::progress::Progress;
-use mt_write::work::work_of;
 use mt_commit::log::Log;
 use mt_tree::Tree;
 use mt_types::event::{Event, Outcome, Reply, Request};
 use mt_types::limits::{MAX_OPEN_CALLS, open_fault, request_fault};
 use mt_types::numbers::{CallNo, PassNo};
 use mt_types::refusal::Refusal;
+use mt_write::work::work_of;
 use std::alloc::Global;
 use std::marker::Model;
 
