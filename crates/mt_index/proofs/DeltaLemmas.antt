@@ -1,28 +1,20 @@
 -- The deltas of changes: one more of them, and what undoing them gives.
-use Rattle.std.proofs.Common.{◌≡◌, ℕ, zero, suc, ◌+◌, cond, List, [], ◌∷◌, ◌++◌, length, drop, take, reverse, Option, Some, None, ap, sym, refl, ◌∙◌, subst, arith}
+use Rattle.std.proofs.Common.{◌≡◌, ℕ, zero, suc, ◌+◌, List, [], ◌∷◌, ◌++◌, length, drop, take, reverse, Option, Some, None, ap, sym, refl, ◌∙◌, subst, arith}
 use Rattle.std.specs.Prelude.{slice_get}
-use Rattle.std.specs.Ordering.{is_eq}
 use Rattle.std.specs.FinMap.{get, empty}
-use Rattle.std.proofs.lemmas.Cmp.{tied_itself}
 use Rattle.std.proofs.lemmas.List.{reverse-append}
-use Rattle.std.specs.Cmp.{IsTotalOrder}
-use Rattle.std.specs.Cmp.Lexicographic.{nat_list_cmp_total}
-use Rattle.mt_types.specs.Keys.{key_cmp}
 use Rattle.mt_types.specs.Rows.{Rows, after, after_change, after_from}
 use Rattle.mt_types.specs.declared.row.Row.{Row}
 use Rattle.mt_types.specs.declared.row.Change.{Change}
 use Rattle.mt_types.specs.declared.row.Change.TheVariants.{Put, Drop}
 use Rattle.mt_types.specs.declared.row.Delta.{Delta}
 use Rattle.mt_commit.specs.Deltas.{with_row, redo, undo, rows_before, FitsNewestFirst}
-use Rattle.mt_commit.proofs.RowLemmas.{get-with_row, done_is_undone}
+use Rattle.mt_commit.proofs.RowLemmas.{done_is_undone, undone_leaves_before, rows_before-append}
 use Rattle.mt_index.specs.Logged.{key_of, delta_made, deltas_from, deltas_of}
-
-key_order : IsTotalOrder key_cmp
-key_order = nat_list_cmp_total
 
 -- the row that is put under a key, or none, is there
 pub get-row_put : (key : List ℕ) (row : Option Row) (rows : Rows) → get (with_row key row rows) key ≡ row
-get-row_put key row rows = get-with_row key row rows key ∙ ap (λ r. cond (is_eq r) row (get rows key)) (tied_itself key_order key)
+get-row_put key row rows = undone_leaves_before (record { number = 0; key = key; before = row; after = None }) rows
 
 -- the delta of a commit that gives a key this row or none, which had that row or none
 pub delta_is : (C number : ℕ) (change : Change) (rows : Rows) (key : List ℕ) (before then : Option Row) → key_of change ≡ key → get rows key ≡ before → after_change C number change rows ≡ with_row key then rows
@@ -59,10 +51,6 @@ undone : (C number : ℕ) (change : Change) (rows : Rows) → undo (delta_made C
 undone C number change rows =
     ap (undo (delta_made C number change rows)) (redone C number change rows) ∙ done_is_undone (delta_made C number change rows) rows refl
 
-before-append : (xs ys : List Delta) (rows : Rows) → rows_before (xs ++ ys) rows ≡ rows_before ys (rows_before xs rows)
-before-append [] ys rows = refl
-before-append (x ∷ xs) ys rows = before-append xs ys (undo x rows)
-
 -- the deltas of changes undo all of them
 all_undone : (C n : ℕ) (rows : Rows) (cs : List Change) → rows_before (reverse (deltas_from C n rows cs)) (after_from C n rows cs) ≡ rows
 all_undone C n rows [] = refl
@@ -71,7 +59,7 @@ all_undone C n rows (c ∷ cs) =
     let made : Rows = after_change C (n + 1) c rows in
     let more : List Delta = deltas_from C (n + 1) made cs in
     ap (λ (ds : List Delta). rows_before ds (after_from C (n + 1) made cs)) (reverse-append (first ∷ []) more)
-    ∙ before-append (reverse more) (first ∷ []) (after_from C (n + 1) made cs)
+    ∙ rows_before-append (reverse more) (first ∷ []) (after_from C (n + 1) made cs)
     ∙ ap (undo first) (all_undone C (n + 1) made cs)
     ∙ undone C (n + 1) c rows
 
