@@ -79,7 +79,7 @@ appending_keeps_rows log delta rows number h found =
     ∙ ap (λ deltas. rows_before deltas (redo delta rows)) (reverse-push (drop n log.deltas) delta)
     ∙ ap (rows_before (reverse (drop n log.deltas))) (done_is_undone delta rows found)
 
-rows_before-append : (xs ys : List Delta) (rows : Rows) → rows_before (xs ++ ys) rows ≡ rows_before ys (rows_before xs rows)
+pub rows_before-append : (xs ys : List Delta) (rows : Rows) → rows_before (xs ++ ys) rows ≡ rows_before ys (rows_before xs rows)
 rows_before-append [] ys rows = refl
 rows_before-append (x ∷ xs) ys rows = rows_before-append xs ys (undo x rows)
 

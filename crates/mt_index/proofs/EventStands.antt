@@ -5,7 +5,7 @@ use Rattle.std.specs.Prelude.{IsTrue as IsTrueBool}
 use Rattle.mt_types.specs.Keys.{key_cmp}
 use Rattle.mt_types.specs.Rows.{Rows, after}
 use Rattle.mt_tree.specs.Seen.{arena_seen, HasRow}
-use Rattle.mt_commit.specs.Deltas.{Fits}
+use Rattle.mt_index.specs.Logged.{deltas_of}
 use Rattle.std.specs.Prelude.{MatchOption, Result, Ok, Err}
 use Rattle.mt_types.specs.declared.refusal.Refusal.{Refusal}
 use Rattle.mt_types.specs.declared.row.Row.{Row}
@@ -88,14 +88,14 @@ module _ (s : MachineView) (h : History) (n : ℕ) (st : Stands s h) (kept : Cal
   commit_write number g (PutEdit sets) e is l =
       let asked : f.call.request ≡ PutRequest g.key sets = f.related.request ∙ (ap request_of is ∙ ap (edit_request g.key) e) in
       let (before, changes) = subst (λ (r : Request). Commits s.columns s.tree then_tree s.log left r number) (ap request_of is ∙ ap (edit_request g.key) e) l.does.0 in
-      commit_stands s h n kept st at f then_tree left work _ _ l.goes request l.feed l.holders g.key before (Some (put_row s.columns number sets before)) number changes (PutChange g.key sets) (ap change_of asked)
+      commit_stands s h n kept st at f then_tree left work _ _ l.goes request l.feed l.holders g.key before (Some (put_row s.columns number sets before)) number changes (PutChange g.key sets) refl (ap change_of asked)
       (λ stood. ap (λ (b : Option Row). insert (rows s.columns (moment h)) g.key (put_row s.columns number sets b)) stood)
       (λ next stood. subst (λ (r : Request). MayCommit s.columns h f.call r number) (sym asked) (next, f.related.committed ∙ l.does.1))
       refl l.does.2 l.goes.true (room_on l.reserved)
   commit_write number g RemoveEdit e is l =
       let asked : f.call.request ≡ Remove g.key = f.related.request ∙ (ap request_of is ∙ ap (edit_request g.key) e) in
       let (before, changes) = subst (λ (r : Request). Commits s.columns s.tree then_tree s.log left r number) (ap request_of is ∙ ap (edit_request g.key) e) l.does.0 in
-      commit_stands s h n kept st at f then_tree left work _ _ l.goes request l.feed l.holders g.key (Some before) None number changes (Drop g.key) (ap change_of asked)
+      commit_stands s h n kept st at f then_tree left work _ _ l.goes request l.feed l.holders g.key (Some before) None number changes (Drop g.key) refl (ap change_of asked)
       (λ stood. refl)
       (λ next stood. subst (λ (r : Request). MayCommit s.columns h f.call r number) (sym asked) (next, f.related.committed ∙ l.does.1, subst (λ (x : Option Row). IsSome x) (sym stood) refl))
       refl l.does.2 l.goes.true (room_on l.reserved)
@@ -160,7 +160,8 @@ same_stands s h x st may commits begun calls =
       world = st.world;
       content = λ key bytes row. subst (λ (rs : Rows). HasRow s.tree key row ↔ (get rs key ≡ Some row)) (sym same_rows) (st.content key bytes row);
       keys = λ key row is. st.keys key row (sym (ap (λ (rs : Rows). get rs key) same_rows) ∙ is);
-      logged = subst (λ (rs : Rows). Fits s.log rs) (sym same_rows) st.logged;
+      untrimmed = st.untrimmed;
+      logged = st.logged ∙ ap (deltas_of s.columns) (sym commits);
       unbounded = st.unbounded;
       unheld = st.unheld;
       calls = subst (λ cs. Paired (CallStands s.columns s.epoch s.tree st.w (x ∷ h)) 0 s.calls.begun s.calls.calls cs) (sym calls) (all_later s h x st);
@@ -217,6 +218,7 @@ called s pass request work h served st none is new =
       world = st.world;
       content = st.content;
       keys = st.keys;
+      untrimmed = st.untrimmed;
       logged = st.logged;
       unbounded = st.unbounded;
       unheld = st.unheld;
@@ -301,7 +303,8 @@ opens-stands C a log w world nobody empty is = subst (λ (l : LogView). Stands (
   world = world;
   content = λ key bytes row. ((λ has. absurd (empty key row has)), (λ e. absurd (let clash : ◌≡◌ {A = Option Row} None (Some row) = sym (get-empty key_cmp key) ∙ e in cc)));
   keys = λ key row e. absurd (let clash : ◌≡◌ {A = Option Row} None (Some row) = sym (get-empty key_cmp key) ∙ e in cc);
-  logged = tt;
+  untrimmed = refl;
+  logged = refl;
   unbounded = record { feed = refl };
   unheld = refl;
   calls = omega arith;

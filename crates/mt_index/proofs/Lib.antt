@@ -5,3 +5,5 @@ pub mod PastLemmas
 pub mod StepStands
 pub mod EventStands
 pub mod CauseLemmas
+pub mod DeltaLemmas
+pub mod LawLemmas

@@ -1,5 +1,5 @@
 -- A step of one call leads from a machine that stands at a history to one that stands at the next.
-use Rattle.std.proofs.Common.{ℕ, ◌≡◌, ◌≢◌, ◌≤◌, ◌+◌, ◌⊎◌, ◌↔◌, inl, inr, cond, List, [], ◌∷◌, ◌++◌, length, reverse, Option, Some, None, refl, sym, ap, subst, ◌∙◌, arith}
+use Rattle.std.proofs.Common.{ℕ, ◌≡◌, ◌≢◌, ◌≤◌, ◌+◌, ◌⊎◌, ◌↔◌, inl, inr, cond, List, [], ◌∷◌, ◌++◌, length, Option, Some, None, refl, sym, ap, subst, ◌∙◌, arith}
 use Rattle.std.specs.FinMap as map
 use Rattle.std.specs.FinMap.{get}
 use Rattle.std.specs.Cmp.{IsTotalOrder}
@@ -29,8 +29,8 @@ use Rattle.mt_promise.proofs.HistoryLemmas.{after-append, Sometime-here}
 use Rattle.mt_slice.specs.Place.{AreBytes, place_of}
 use Rattle.mt_slice.proofs.Canonical.{same_from_place_of}
 use Rattle.mt_commit.specs.Log.{LogView, newest, with_delta}
-use Rattle.mt_commit.specs.Deltas.{Fits, FitsNewestFirst, with_row}
-use Rattle.mt_commit.proofs.RowLemmas.{appending_fits, get-with_row}
+use Rattle.mt_commit.specs.Deltas.{with_row}
+use Rattle.mt_commit.proofs.RowLemmas.{get-with_row}
 use Rattle.mt_arena.specs.Arena.{ArenaView}
 use Rattle.mt_chart.specs.Tree.{Arena, Among}
 use Rattle.mt_chart.proofs.Basics.{same_number}
@@ -44,9 +44,11 @@ use Rattle.mt_write.specs.declared.writing.Edit.{Edit}
 use Rattle.mt_write.specs.declared.writing.Edit.TheVariants.{Put as PutEdit, Remove as RemoveEdit}
 use Rattle.mt_write.specs.Writing.{edit_request}
 use Rattle.mt_write.specs.Works.{request_of, held, IsTrue}
+use Rattle.mt_index.specs.Logged.{key_of, delta_made, deltas_of}
 use Rattle.mt_index.specs.Paired.{Paired}
 use Rattle.mt_index.specs.Calls.{call_at, with_changed, with_work, without, AreApart, all_reserved}
 use Rattle.mt_index.specs.Stands.{AllOwned, MachineView, CallStands, HasRowsOf, IsPast, Stands}
+use Rattle.mt_index.proofs.DeltaLemmas.{delta_is, deltas_of-append}
 use Rattle.mt_index.proofs.PastLemmas.{past_more, right_range}
 use Rattle.mt_index.proofs.NumberLemmas.{Entries}
 use Rattle.mt_index.proofs.PairedLemmas.{Others, Found, paired-change, paired-without, paired-each, paired-one}
@@ -340,7 +342,8 @@ module _ (s : MachineView) (h : History) (n : ℕ) (kept : Call) (st : Stands s 
           world = goes.world;
           content = content_still o commits;
           keys = λ key row is. st.keys key row (sym (ap (λ (rs : Rows). get rs key) alike) ∙ is);
-          logged = subst (λ (ds : List Delta). FitsNewestFirst (reverse ds) (rows s.columns (moment (x ∷ h)))) (sym quiet.deltas) (subst (λ (rs : Rows). FitsNewestFirst (reverse s.log.deltas) rs) (sym alike) st.logged);
+          untrimmed = quiet.trimmed ∙ st.untrimmed;
+          logged = quiet.deltas ∙ (st.logged ∙ ap (deltas_of s.columns) (sym same));
           unbounded = record { feed = feed ∙ st.unbounded.feed };
           unheld = holders ∙ st.unheld;
           calls = calls;
@@ -350,7 +353,7 @@ module _ (s : MachineView) (h : History) (n : ℕ) (kept : Call) (st : Stands s 
         }
 
   -- a step that commits
-  module _ (key : List ℕ) (before then : Option Row) (number : ℕ) (changes : Changes s.tree after_tree s.log left key before then number) (change : Change) (asked : change_of f.call.request ≡ change ∷ [])
+  module _ (key : List ℕ) (before then : Option Row) (number : ℕ) (changes : Changes s.tree after_tree s.log left key before then number) (change : Change) (of_key : key_of change ≡ key) (asked : change_of f.call.request ≡ change ∷ [])
       (means : get (rows s.columns (moment h)) key ≡ before → after_change s.columns number change (rows s.columns (moment h)) ≡ with_row key then (rows s.columns (moment h)))
       (may : number ≡ length (moment h).commits + 1 → get (rows s.columns (moment h)) key ≡ before → MayCommit s.columns h f.call f.call.request number) where
     abbrev old : Rows
@@ -401,6 +404,15 @@ module _ (s : MachineView) (h : History) (n : ℕ) (kept : Call) (st : Stands s 
       | inr (differ, found) ↦ st.keys q r (sym found ∙ (sym (ap (λ (rs : Rows). get rs q) rows_are) ∙ is))
     ]
 
+    -- the log's new delta is that of the change
+    logged_then : s.log.deltas ++ delta ∷ [] ≡ deltas_of s.columns (moment (happened ∷ h)).commits
+    logged_then =
+        ap (λ (ds : List Delta). ds ++ delta ∷ []) st.logged
+        ∙ ap (λ (d : Delta). deltas_of s.columns (moment h).commits ++ d ∷ []) (delta_is s.columns number change old key before then of_key stood (means stood))
+        ∙ ap (λ (m : ℕ). deltas_of s.columns (moment h).commits ++ delta_made s.columns m change old ∷ []) next_number
+        ∙ sym (deltas_of-append s.columns (moment h).commits change)
+        ∙ ap (deltas_of s.columns) (sym commits_are)
+
     pub commit_stands : (held work).owns ≡ owns → (held work).committed ≡ Some number → IsTrue s.columns work kept.epoch 0 (arena_seen s.tree ∷ f.related.past) after_tree goes.next → left.reserved ≡ all_reserved ks
         → Stands (next_seen s after_tree left ks) (happened ∷ h)
     commit_stands same_owns committed truth reserved =
@@ -419,8 +431,8 @@ module _ (s : MachineView) (h : History) (n : ℕ) (kept : Call) (st : Stands s 
           world = goes.world;
           content = content_then;
           keys = keys_then;
-          logged = subst (λ (l : LogView). Fits l (rows s.columns (moment (happened ∷ h)))) (sym changes.logged)
-              (subst (λ (rs : Rows). Fits (with_delta s.log delta) rs) (sym rows_are) (appending_fits s.log delta old st.logged stood));
+          untrimmed = ap (λ (l : LogView). l.held_after) changes.logged ∙ st.untrimmed;
+          logged = ap (λ (l : LogView). l.deltas) changes.logged ∙ logged_then;
           unbounded = record { feed = feed ∙ st.unbounded.feed };
           unheld = holders ∙ st.unheld;
           calls = calls_on (Commit number) (record f.call { committed = Some number; moves = 0 }) _ refl refl refl refl refl refl (sym committed) content_then truth;

@@ -17,7 +17,6 @@ use Rattle.mt_types.specs.Rows.{shown}
 use Rattle.mt_promise.specs.RightAnswers.{Shows, Stands as IsThere}
 use Rattle.mt_slice.specs.Place.{AreBytes, place_of}
 use Rattle.mt_commit.specs.Log.{LogView, newest}
-use Rattle.mt_commit.specs.Deltas.{Fits}
 use Rattle.mt_arena.specs.Arena.{ArenaView}
 use Rattle.mt_chart.specs.Tree.{Arena, Among}
 use Rattle.mt_chart.specs.ScanRun.{Stood, AllHave}
@@ -30,6 +29,7 @@ use Rattle.mt_calls.specs.World.{World, IsWorld, IsTaken}
 use Rattle.mt_calls.specs.Step.{IsUnbounded}
 use Rattle.mt_write.specs.Works.{request_of, held, IsTrue, IsNew, IsServedRequest}
 use Rattle.mt_index.specs.Paired.{Paired}
+use Rattle.mt_index.specs.Logged.{deltas_of}
 use Rattle.mt_index.specs.Calls.{CallsView, call_at, without, AreApart, all_reserved, StepsCall}
 
 -- the machine as contracts see it
@@ -72,12 +72,14 @@ pub record Stands (s : MachineView) (h : History) : Type 0 where
   pub legal : Legal s.columns h
   pub commits : newest s.log ≡ length (moment h).commits
   pub begun : s.calls.begun ≡ (moment h).begun
-  -- the tree is an index, in some world, and has exactly the rows of the history, and the log their changes
+  -- the tree is an index, in some world, and has exactly the rows of the history
   pub w : World
   pub world : IsWorld s.tree s.epoch w
   pub content : HasRowsOf s.columns s.tree h
   pub keys : (key : List ℕ) (row : Row) → get (rows s.columns (moment h)) key ≡ Some row → AreBytes key
-  pub logged : Fits s.log (rows s.columns (moment h))
+  -- the log has exactly the deltas of the history's commits: none is trimmed
+  pub untrimmed : s.log.held_after ≡ 0
+  pub logged : s.log.deltas ≡ deltas_of s.columns (moment h).commits
   pub unbounded : IsUnbounded s.log
   -- no call holds it yet
   pub unheld : s.log.holders ≡ []

@@ -3,6 +3,7 @@
 #![tactic(auto)]
 
 mod calls;
+pub mod laws;
 pub mod machine;
 pub mod options;
 #[cfg(test)]
