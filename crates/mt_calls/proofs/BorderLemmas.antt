@@ -14,7 +14,7 @@ use Rattle.mt_arena.specs.declared.node.Node.{Node}
 use Rattle.mt_arena.specs.declared.node.Node.TheVariants.{Border}
 use Rattle.mt_arena.proofs.NodeLemmas.{updates-with_node, node-from_border}
 use Rattle.mt_chart.specs.Tree.{Among, first, later}
-use Rattle.mt_chart.specs.Chart.{on, gone, Standing, Chart, Spot, spot, OnHead, Later, still_on, still_gone, went, Evolves}
+use Rattle.mt_chart.specs.Chart.{on, gone, Standing, Chart, Spot, spot, Later, still_on, still_gone, went, Evolves}
 use Rattle.mt_chart.proofs.Basics.{same_number}
 use Rattle.mt_chart.proofs.HeldNodes.{evolves_same}
 use Rattle.mt_tree.specs.Keeping.{IsIndexAt}

@@ -14,14 +14,13 @@ use Rattle.mt_chart.specs.Tree.{Among, first, later}
 use Rattle.mt_chart.specs.Chart.{on, at_level, top, Spot, spot, Chart}
 use Rattle.mt_chart.specs.Steps.{SameContent}
 use Rattle.mt_chart.proofs.Basics.{same_number}
-use Rattle.mt_chart.proofs.Entries.{among_cases}
 use Rattle.mt_chart.proofs.HeldNodes.{evolves_same, evolves_again}
 use Rattle.mt_tree.specs.Seen.{arena_seen}
 use Rattle.mt_tree.specs.Keeping.{KeepsTree, KeepsUnknown, IsUnknown, IsOnIn}
 use Rattle.mt_tree.specs.BorderSteps.{MakesLayerAt}
-use Rattle.mt_calls.specs.World.{World, IsWorld, HeadsAreAlive, IsLockedInterior, RetiredAreGone, IsLocked, IsTaken, IsSame, NotAmong, Goes}
+use Rattle.mt_calls.specs.World.{World, IsWorld, HeadsAreAlive, IsLockedInterior, RetiredAreGone, IsLocked, IsTaken, NotAmong, Goes}
 use Rattle.mt_calls.proofs.FrameLemmas.{is_among, taken_back}
-use Rattle.mt_calls.proofs.BorderLemmas.{keys_same, heads_changed, twins_changed, twins_beside, no_interior, retired_kept, others_named, now_named}
+use Rattle.mt_calls.proofs.BorderLemmas.{keys_same, heads_changed, twins_changed, twins_beside, no_interior, retired_kept, others_named}
 use Rattle.mt_calls.proofs.SplitLemmas.{vacant_free, heads_occupied, with_spot, spot_changes}
 
 -- ---- two spares

@@ -1,5 +1,5 @@
 -- What the steps of a split leave, up to its link: a spare is occupied and filled, and the half is linked.
-use Rattle.std.proofs.Common.{ℕ, ◌≡◌, ◌≢◌, ◌==◌, inl, inr, cond, true, false, if◌then◌else◌, List, ◌∷◌, Option, Some, None, IsSome, refl, sym, ap, subst, ◌∙◌, arith}
+use Rattle.std.proofs.Common.{ℕ, ◌≡◌, ◌≢◌, ◌==◌, inl, inr, cond, false, if◌then◌else◌, List, ◌∷◌, Option, Some, None, IsSome, refl, sym, ap, subst, ◌∙◌, arith}
 use Rattle.std.proofs.lemmas.Bool.{eq-eqb}
 use Rattle.std.proofs.lemmas.Bool.Decides.{eqb_tells}
 use Rattle.mt_border.specs.Border.{BorderView}
@@ -17,7 +17,7 @@ use Rattle.mt_chart.proofs.Entries.{among_cases}
 use Rattle.mt_tree.specs.Seen.{arena_seen}
 use Rattle.mt_tree.specs.Keeping.{KeepsTree, KeepsUnknown, IsUnknown, IsOnIn}
 use Rattle.mt_tree.specs.BorderSteps.{LinksHalfAt}
-use Rattle.mt_calls.specs.World.{World, IsWorld, HeadsAreAlive, RetiredAreGone, IsLocked, IsTaken, IsSame, Goes}
+use Rattle.mt_calls.specs.World.{World, IsWorld, HeadsAreAlive, RetiredAreGone, IsLocked, IsTaken, Goes}
 use Rattle.mt_calls.proofs.BorderLemmas.{goes_border, heads_changed, twins_changed, twins_beside, no_interior, retired_kept, keys_same, others_named}
 use Rattle.mt_calls.proofs.FrameLemmas.{is_among, taken_back}
 

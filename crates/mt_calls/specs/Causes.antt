@@ -1,11 +1,11 @@
 -- Why a call waits, and why a get or range is refused: what a history doesn't show.
-use Rattle.std.specs.Prelude.{ℕ, ◌≡◌, ◌⊎◌, IsSome, IsSomeAnd, true}
+use Rattle.std.specs.Prelude.{ℕ, ◌≡◌, IsSome, IsSomeAnd, true}
 use Rattle.mt_types.specs.declared.refusal.Refusal.TheVariants.{NoMemory}
 use Rattle.mt_arena.specs.Node.{node_at, border_at}
 use Rattle.mt_arena.specs.Arena.{ArenaView}
 use Rattle.mt_tree.specs.Descent.{is_marked}
 use Rattle.mt_calls.specs.declared.progress.Progress.{Progress}
-use Rattle.mt_calls.specs.declared.progress.Progress.TheVariants.{Moved, Waits, Committed, Answered, Refused}
+use Rattle.mt_calls.specs.declared.progress.Progress.TheVariants.{Waits, Refused}
 
 -- the number names a node that is marked deleted
 abbrev pub IsMarkedAt : ArenaView → ℕ → Type 0

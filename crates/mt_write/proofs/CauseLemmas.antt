@@ -1,5 +1,5 @@
 -- Why what is to be made ready fails.
-use Rattle.std.proofs.Common.{◌≡◌, ◌<◌, if◌then◌else◌, Bool, length, arith, Option, Some, None, Result, Ok, Err, MatchResult, refl, sym, ap, subst, ◌∙◌}
+use Rattle.std.proofs.Common.{◌≡◌, ◌<◌, if◌then◌else◌, Bool, length, arith, Option, Some, None, Result, Ok, Err, MatchResult, sym, ap, subst, ◌∙◌}
 use Rattle.mt_types.specs.declared.refusal.Refusal.{Refusal}
 use Rattle.mt_types.specs.declared.refusal.Refusal.TheVariants.{NoMemory}
 use Rattle.mt_write.specs.declared.writing.Split.{Split}

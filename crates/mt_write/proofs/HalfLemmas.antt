@@ -1,27 +1,23 @@
 -- The steps of a split in a write: the half is filled, it is linked, and once the write is done the left half is unlocked.
-use Rattle.std.proofs.Common.{ℕ, ◌≡◌, ◌≢◌, ◌≤◌, ◌<◌, ◌⊎◌, inl, inr, List, [], ◌∷◌, length, take, drop, Option, Some, None, IsSome, true, false, refl, sym, ap, subst, ◌∙◌, arith}
+use Rattle.std.proofs.Common.{ℕ, ◌≡◌, ◌≢◌, ◌≤◌, ◌<◌, inl, inr, List, [], ◌∷◌, length, take, drop, Option, Some, None, IsSome, true, false, refl, sym, ap, subst, ◌∙◌, arith}
 use Rattle.std.specs.Prelude.{IsSomeAnd}
-use Rattle.std.specs.Option.{option_map, option_and_then}
+use Rattle.std.specs.Option.{option_and_then}
 use Rattle.std.proofs.lemmas.List.{length-take-le, length-drop}
 use Rattle.std.proofs.lemmas.List.Elements.{All-take, All-drop}
-use Rattle.mt_slice.specs.Place.{place_of, first_slice, slice_number}
+use Rattle.mt_slice.specs.Place.{slice_number}
 use Rattle.mt_slice.specs.Classes.{class_of}
 use Rattle.mt_commit.specs.Log.{LogView}
 use Rattle.mt_types.specs.declared.numbers.NodeNo.{NodeNo}
-use Rattle.mt_types.specs.declared.refusal.Refusal.{Refusal}
-use Rattle.mt_border.specs.Border.{BorderView, with_entries, with_split, with_lock}
+use Rattle.mt_border.specs.Border.{BorderView, with_entries, with_split}
 use Rattle.mt_border.specs.Entry.{entry_rank, rank_at}
 use Rattle.mt_border.specs.declared.entry.Entry.{Entry}
-use Rattle.mt_border.specs.declared.entry.RightLink.{RightLink}
 use Rattle.mt_border.proofs.SplitLemmas.{cut_upper, cut_above_low, cut_above_kept}
-use Rattle.mt_arena.specs.Node.{border_at, border_of, node_at}
+use Rattle.mt_arena.specs.Node.{border_at, border_of}
 use Rattle.mt_arena.specs.Arena.{ArenaView, with_border_changed}
-use Rattle.mt_chart.specs.Tree.{Among, first, later, before_right, Below}
+use Rattle.mt_chart.specs.Tree.{Among, first, later, before_right}
 use Rattle.mt_chart.specs.Chart.{spot, Spot, at_level, on}
-use Rattle.mt_chart.proofs.Basics.{same_number}
-use Rattle.mt_tree.specs.Seen.{arena_seen, border_seen, right_seen}
 use Rattle.mt_tree.specs.Spares.{MayFill}
-use Rattle.mt_tree.specs.Keeping.{KeepsTree, KeepsUnknown, IsIndexAt}
+use Rattle.mt_tree.specs.Keeping.{KeepsUnknown}
 use Rattle.mt_tree.specs.Descent.{found_for}
 use Rattle.mt_tree.specs.BorderSteps.{IsUpperHalf, LinksHalfAt}
 use Rattle.mt_tree.proofs.DescentLemmas.{slice_of_place}
@@ -29,18 +25,18 @@ use Rattle.mt_tree.proofs.SeenLemmas.{seen-border}
 use Rattle.mt_calls.specs.declared.way.Way.{Way}
 use Rattle.mt_write.specs.declared.writing.Edit.{Edit}
 use Rattle.mt_write.specs.declared.writing.Split.{Split}
-use Rattle.mt_write.specs.declared.writing.Stage.TheVariants.{Spared, HalfFilled, Halved, Stored, Failed}
+use Rattle.mt_write.specs.declared.writing.Stage.TheVariants.{Spared, HalfFilled, Halved}
 use Rattle.mt_calls.specs.declared.progress.Progress.TheVariants.{Moved}
-use Rattle.mt_calls.specs.World.{World, IsWorld, RowsAreOfKeys, Goes}
+use Rattle.mt_calls.specs.World.{World}
 use Rattle.mt_calls.specs.Way.{rest_of, prefix_of}
-use Rattle.mt_calls.specs.Step.{StepLaw, Stepped, IsQuiet}
+use Rattle.mt_calls.specs.Step.{StepLaw, Stepped}
 use Rattle.mt_write.specs.Writing.{edit_request, stage_held, StageIsTrue, IsLockedAt, IsLockedBorder, HasLocked, IsSplit, IsSpare, IsCutAt, IsHalf, IsAbsent, IsHalfOf, empty_half, upper_half}
 use Rattle.mt_calls.proofs.FoundLemmas.{some_at, some_and}
 use Rattle.mt_write.proofs.AbsentLemmas.{none_has, absent_part, absent_last}
-use Rattle.mt_calls.proofs.BorderLemmas.{now_named, others_named, goes_border, keys_same, mine_free}
+use Rattle.mt_calls.proofs.BorderLemmas.{now_named, others_named}
 use Rattle.mt_calls.proofs.SplitLemmas.{goes_filled, goes_linked, with_spot, spot_changes}
 use Rattle.mt_write.proofs.WorkLemmas.{locked_at_stays}
-use Rattle.mt_write.proofs.WriteLemmas.{no_get, other_locked}
+use Rattle.mt_write.proofs.WriteLemmas.{no_get}
 
 -- ---- before the steps
 pub half_may_fill : (key : List ℕ) (edit : Edit) (way : Way) (b : BorderView) (cut : ℕ) (c : IsCutAt key edit way b cut) → MayFill (empty_half b c.middle) (drop cut b.live) b.right

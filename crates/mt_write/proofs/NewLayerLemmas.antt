@@ -1,51 +1,46 @@
 -- The steps of a new layer in a put: its head and root are spared, the root is filled, the head is unlocked, the link is made, and the put
 -- goes on there.
-use Rattle.std.proofs.Common.{ℕ, zero, suc, ◌≡◌, ◌≢◌, ◌≤◌, ◌<◌, ◌+◌, ◌^◌, ◌⊎◌, inl, inr, List, [], ◌∷◌, length, drop, replicate, slice_get, slice_index_or, Option, Some, None, IsSome, Bool, true, false, refl, sym, ap, subst, ◌∙◌, arith, add-one}
+use Rattle.std.proofs.Common.{ℕ, zero, suc, ◌≡◌, ◌≢◌, ◌≤◌, ◌<◌, ◌+◌, List, [], ◌∷◌, length, drop, replicate, slice_index_or, Option, Some, None, IsSome, true, false, refl, sym, ap, subst, ◌∙◌, arith, add-one}
 use Rattle.std.specs.Prelude.{IsSomeAnd}
 use Rattle.std.proofs.lemmas.List.Elements.{All-drop, All-replicate}
 use Rattle.mt_border.specs.Table.{blank_slot}
 use Rattle.mt_border.specs.declared.slot_table.Slot.{Slot}
-use Rattle.std.specs.Option.{option_map, option_and_then}
+use Rattle.std.specs.Option.{option_and_then}
 use Rattle.mt_types.specs.declared.numbers.NodeNo.{NodeNo}
-use Rattle.mt_types.specs.declared.row.Row.{Row}
-use Rattle.mt_slice.specs.Place.{place_of, slice_number, slices_above, rest_at}
+use Rattle.mt_slice.specs.Place.{slice_number, slices_above, rest_at}
 use Rattle.mt_slice.specs.Classes.{class_of}
 use Rattle.mt_commit.specs.Log.{LogView}
 use Rattle.mt_border.specs.Border.{BorderView, with_entries, with_lock, with_link_at, new_border}
-use Rattle.mt_border.specs.Entry.{IsEntry, entry_of_row, entry_row}
-use Rattle.mt_border.specs.Order.{IsBorder, AreEntries}
+use Rattle.mt_border.specs.Entry.{IsEntry, entry_of_row}
+use Rattle.mt_border.specs.Order.{IsBorder}
 use Rattle.mt_border.specs.declared.entry.Content.TheVariants.{Long}
 use Rattle.mt_border.specs.declared.entry.Entry.{Entry}
 use Rattle.mt_interior.specs.Head.{HeadView, new_head, with_lock as with_head_lock}
-use Rattle.mt_arena.specs.Node.{node_at, head_at, head_of, border_at, border_of, Updates}
+use Rattle.mt_arena.specs.Node.{head_at, head_of, border_at, border_of, Updates}
 use Rattle.mt_arena.specs.Arena.{ArenaView, with_border_changed, with_head_changed}
 use Rattle.mt_arena.specs.declared.node.Node.{Node}
-use Rattle.mt_arena.specs.declared.node.Node.TheVariants.{Head, Border}
-use Rattle.mt_arena.proofs.NodeLemmas.{updates-with_node, node-from_head, node-from_border}
-use Rattle.mt_chart.specs.Tree.{Among, first, later}
+use Rattle.mt_arena.specs.declared.node.Node.TheVariants.{Head}
+use Rattle.mt_arena.proofs.NodeLemmas.{updates-with_node, node-from_head}
+use Rattle.mt_chart.specs.Tree.{first, later}
 use Rattle.mt_chart.specs.Chart.{spot, Spot, at_level, top, on, gone, Holds}
-use Rattle.mt_chart.specs.Steps.{SameContent}
-use Rattle.mt_tree.specs.Seen.{arena_seen, border_seen}
 use Rattle.mt_tree.specs.Spares.{MayFill}
-use Rattle.mt_tree.specs.Keeping.{KeepsTree, KeepsUnknown, IsOnIn}
-use Rattle.mt_tree.specs.Descent.{HasOtherSuffix}
+use Rattle.mt_tree.specs.Keeping.{KeepsTree, KeepsUnknown}
 use Rattle.mt_tree.specs.BorderSteps.{HasLayerFor, MakesLayerAt}
 use Rattle.mt_tree.proofs.SeenLemmas.{changed-head}
 use Rattle.mt_calls.specs.declared.way.Way.{Way}
 use Rattle.mt_calls.specs.declared.progress.Progress.TheVariants.{Moved}
-use Rattle.mt_calls.specs.World.{World, IsWorld, Goes}
-use Rattle.mt_calls.specs.Way.{rest_of, prefix_of, IsLayerOf, IsOnWay, IsHeadOf}
-use Rattle.mt_calls.specs.Step.{StepLaw, Stepped, IsQuiet}
+use Rattle.mt_calls.specs.World.{World}
+use Rattle.mt_calls.specs.Way.{rest_of, prefix_of, IsHeadOf}
+use Rattle.mt_calls.specs.Step.{StepLaw, Stepped}
 use Rattle.mt_calls.proofs.WayLemmas.{layer_below}
 use Rattle.mt_calls.proofs.BorderLemmas.{now_named, others_named}
 use Rattle.mt_calls.proofs.SplitLemmas.{goes_filled}
 use Rattle.mt_calls.proofs.LayerLemmas.{goes_spare_changed, goes_layered, head_apart, layered, head_placed, others_placed}
-use Rattle.mt_calls.proofs.FoundLemmas.{some_at}
 use Rattle.mt_write.specs.declared.writing.Edit.{Edit}
 use Rattle.mt_write.specs.declared.writing.Layer.{Layer}
 use Rattle.mt_write.specs.declared.writing.Stage.{Stage}
 use Rattle.mt_write.specs.declared.writing.Stage.TheVariants.{Seeks, LayerSpared, LayerFilled, LayerReady, Layered}
-use Rattle.mt_write.specs.Writing.{edit_request, stage_held, layer_owned, StageIsTrue, HeadedStage, IsLockedAt, IsLockedBorder, IsLayerAt, HasLayer, IsToFill, IsToLink, moved_entry, lone_root, way_below}
+use Rattle.mt_write.specs.Writing.{edit_request, stage_held, layer_owned, StageIsTrue, HeadedStage, IsLockedAt, moved_entry, lone_root, way_below}
 use Rattle.mt_write.proofs.WorkLemmas.{locked_at_stays}
 use Rattle.mt_write.proofs.WriteLemmas.{no_get, row_of_content, entry_place_is, ends}
 

@@ -4,39 +4,35 @@ use Rattle.std.specs.Prelude.{IsSomeAnd}
 use Rattle.std.specs.Option.{option_and_then}
 use Rattle.mt_slice.specs.Place.{slices_above}
 use Rattle.mt_types.specs.declared.numbers.NodeNo.{NodeNo}
-use Rattle.mt_types.specs.declared.refusal.Refusal.{Refusal}
 use Rattle.mt_types.specs.declared.event.Request.{Request}
 use Rattle.mt_commit.specs.Log.{LogView}
 use Rattle.mt_border.specs.Border.{BorderView, with_lock}
 use Rattle.mt_arena.specs.Node.{border_at, border_of}
 use Rattle.mt_arena.specs.Arena.{ArenaView, with_border_changed}
-use Rattle.mt_chart.specs.Tree.{Arena, Among, first, later}
-use Rattle.mt_chart.specs.Chart.{Chart, Spot, spot, at_level, top, on, Evolves}
-use Rattle.mt_chart.specs.Steps.{SameContent}
+use Rattle.mt_chart.specs.Tree.{Among, first, later}
+use Rattle.mt_chart.specs.Chart.{Spot, spot, at_level, top, on, Evolves}
 use Rattle.mt_chart.proofs.Walk.{known_kept}
-use Rattle.mt_tree.specs.Seen.{arena_seen}
 use Rattle.mt_tree.specs.Keeping.{KeepsTree, IsIndexAt}
 use Rattle.mt_calls.specs.declared.way.Way.{Way}
 use Rattle.mt_calls.specs.declared.progress.Progress.{Progress}
 use Rattle.mt_calls.specs.declared.progress.Progress.TheVariants.{Moved, Waits, Committed, Answered, Refused}
 use Rattle.mt_calls.specs.World.{World, IsWorld, RowsAreOfKeys, Goes}
 use Rattle.mt_calls.specs.Way.{prefix_of, IsHeadOf}
-use Rattle.mt_calls.specs.Step.{Held, Truth, Stepped, StepLaw, ThenTrue, IsQuiet}
+use Rattle.mt_calls.specs.Step.{Held, Truth, StepLaw, ThenTrue, IsQuiet}
 use Rattle.mt_calls.proofs.BorderLemmas.{others_named, goes_border, keys_same, mine_free, among_one}
 use Rattle.mt_post.specs.declared.posting.Posting.{Posting}
-use Rattle.mt_post.specs.declared.posting.Progressed.{Progressed}
 use Rattle.mt_post.specs.declared.posting.Progressed.TheVariants.{Moved as WentOn, Waits as Again, Ended}
-use Rattle.mt_post.specs.Posting.{PostLaw, PostingIsTrue, NewPostingIsTrue, IsToPost, owned as posting_owned}
+use Rattle.mt_post.specs.Posting.{PostLaw, PostingIsTrue, NewPostingIsTrue, owned as posting_owned}
 use Rattle.mt_write.specs.declared.writing.Edit.{Edit}
 use Rattle.mt_write.specs.declared.writing.Split.{Split}
 use Rattle.mt_write.specs.declared.writing.Ending.{Ending}
 use Rattle.mt_write.specs.declared.writing.Ending.TheVariants.{Stored as EndStored, Failed as EndFailed}
 use Rattle.mt_write.specs.declared.writing.Stage.{Stage}
 use Rattle.mt_write.specs.declared.writing.Stage.TheVariants.{Posts, Stored, Failed}
-use Rattle.mt_write.specs.Writing.{edit_request, stage_held, owned, StageIsTrue, HeadedStage, IsLockedBorder, HasLocked, MayEnd, ending_commit, ending_stage}
+use Rattle.mt_write.specs.Writing.{edit_request, stage_held, owned, StageIsTrue, HeadedStage, IsLockedBorder, HasLocked, MayEnd, ending_stage}
 use Rattle.mt_calls.specs.declared.way.Went.{Went}
 use Rattle.mt_calls.specs.declared.way.Went.TheVariants.{To}
-use Rattle.mt_calls.specs.Way.{IsOnWay, GoesTo, Visits}
+use Rattle.mt_calls.specs.Way.{GoesTo, Visits}
 use Rattle.mt_calls.proofs.WayLemmas.{starts_at_head}
 use Rattle.mt_calls.proofs.FrameLemmas.{goes_same, quiet_same}
 use Rattle.mt_write.specs.declared.writing.Stage.TheVariants.{Seeks}
@@ -102,7 +98,9 @@ module _ (C : ℕ) (a : ArenaView) (key : List ℕ) (edit : Edit) (way : Way) (h
     steps = λ now begun moves past w world before truth.
         let (way_on, move, deeper) = subst (λ (t : Went). GoesTo a begun key way w t) is (visits.goes now w begun world truth.0) in
         record {
-          goes = goes_same now a w _ [] [] refl world (way_on, elim either [
+          goes = goes_same now a w _ [] [] refl world (
+            way_on,
+            elim either [
               | inl stays ↦ subst (λ (h : NodeNo). IsHeadOf w begun h.0 (prefix_of key next)) (sym stays.1) (subst (λ (l : ℕ). IsHeadOf w begun head.0 (slices_above l key)) (sym stays.0) truth.1)
               | inr goes ↦ subst (λ (h : NodeNo). IsHeadOf w begun h.0 (prefix_of key next)) (sym goes.1) (elim deeper [ inl same ↦ absurd (goes.0 same) | inr known ↦ known.1 ])
             ],

@@ -13,10 +13,10 @@ use Rattle.mt_chart.proofs.Basics.{same_number}
 use Rattle.mt_tree.specs.Seen.{arena_seen}
 use Rattle.mt_calls.specs.declared.way.Way.{Way}
 use Rattle.mt_calls.specs.World.{World, IsWorld, Goes}
-use Rattle.mt_calls.proofs.LayerLemmas.{goes_two, others_same, two_apart}
+use Rattle.mt_calls.proofs.LayerLemmas.{goes_two, two_apart}
 use Rattle.mt_write.specs.declared.writing.Split.{Split}
 use Rattle.mt_write.specs.declared.writing.Layer.{Layer}
-use Rattle.mt_write.specs.Writing.{IsLockedAt, IsLockedBorder, HasLocked, AreHalves, LayerSpares, IsToFill, layer_owned}
+use Rattle.mt_write.specs.Writing.{IsLockedAt, HasLocked, AreHalves, LayerSpares, IsToFill, layer_owned}
 use Rattle.mt_write.proofs.WorkLemmas.{locked_at_stays}
 
 -- what names nothing is no border

@@ -30,7 +30,7 @@ use Rattle.mt_border.specs.declared.found.Found.TheVariants.{Absent, Row as RowF
 use Rattle.mt_border.proofs.BorderLemmas.{filled_deleted}
 use Rattle.mt_border.proofs.ShowLemmas.{IsBeforeRight, IsBetween, between_from_absent, filled_shown, filled_row, row_of_row}
 use Rattle.std.specs.Option.{option_and_then}
-use Rattle.mt_arena.specs.Node.{node_at, border_at, border_of}
+use Rattle.mt_arena.specs.Node.{border_at, border_of}
 use Rattle.mt_arena.specs.declared.node.Node.TheVariants.{Border}
 use Rattle.mt_chart.proofs.Basics.{same_number}
 use Rattle.mt_calls.proofs.SplitLemmas.{goes_occupied}
@@ -61,7 +61,7 @@ use Rattle.mt_calls.specs.declared.progress.Progress.TheVariants.{Moved, Waits, 
 use Rattle.mt_calls.specs.World.{World, IsWorld, RowsAreOfKeys, Goes}
 use Rattle.mt_calls.specs.Way.{rest_of, prefix_of, IsLayerOf, IsOnWay, IsAtPlace, GoesTo, Visits}
 use Rattle.mt_calls.specs.Step.{Held, Truth, Stepped, StepLaw, MayStep, RowIs, IsQuiet, put_row, Commits, Changes, MayRefuse, IsRight}
-use Rattle.mt_write.specs.Writing.{edit_request, written_answer, stage_held, IsLockedAt, IsLockedBorder, HasLocked, AreHalves, IsSpare, IsCutAt, IsHalf, IsAbsent, empty_half, upper_half, owned, SomeSets, Spares, IsBack, IsFilled, IsMade, IsFound, StageIsTrue, HeadedStage, new_entry, Fills, Prepares, PreparesRemove, LacksRow, put_delta, remove_delta}
+use Rattle.mt_write.specs.Writing.{edit_request, written_answer, stage_held, IsLockedAt, IsLockedBorder, HasLocked, AreHalves, empty_half, owned, SomeSets, IsBack, IsFilled, IsMade, IsFound, StageIsTrue, HeadedStage, new_entry, Fills, Prepares, PreparesRemove, LacksRow, put_delta, remove_delta}
 use Rattle.mt_calls.proofs.FrameLemmas.{goes_same, quiet_same}
 use Rattle.std.specs.Prelude.{IsSomeAnd, IsTrue}
 use Rattle.mt_calls.proofs.FoundLemmas.{some_at}

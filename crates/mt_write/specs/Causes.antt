@@ -15,7 +15,7 @@ use Rattle.mt_arena.specs.Node.{border_at, occupied}
 use Rattle.mt_tree.specs.Descent.{found_for}
 use Rattle.mt_arena.specs.Arena.{ArenaView}
 use Rattle.mt_calls.specs.declared.progress.Progress.{Progress}
-use Rattle.mt_calls.specs.declared.progress.Progress.TheVariants.{Moved, Waits, Committed, Answered, Refused}
+use Rattle.mt_calls.specs.declared.progress.Progress.TheVariants.{Waits, Answered, Refused}
 use Rattle.mt_calls.specs.declared.way.Way.{Way}
 use Rattle.mt_calls.specs.Way.{rest_of}
 use Rattle.mt_calls.specs.Causes.{IsMarkedAt, IsLockedAlready, ReadWaits, ReadFails}

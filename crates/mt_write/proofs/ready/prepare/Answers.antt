@@ -1,4 +1,4 @@
-use Rattle.std.proofs.Common.{◌≡◌, ◌<◌, ◌∙◌, length, Result, Option, None, Some, sym, subst}
+use Rattle.std.proofs.Common.{◌≡◌, ◌<◌, ◌∙◌, length, Result, Option, Some, sym, subst}
 use Rattle.std.specs.Prelude.{ℕ, List, IsSomeAnd}
 use Rattle.mt_tree.specs.Descent.{found_for}
 use Rattle.mt_types.specs.declared.refusal.Refusal.{Refusal}

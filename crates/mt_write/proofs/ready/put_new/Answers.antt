@@ -1,9 +1,6 @@
-use Rattle.std.proofs.Common.{◌≡◌, ◌∙◌, ℕ, List, Option, Some, sym, ap, subst}
-use Rattle.std.specs.Prelude.{IsSomeAnd}
-use Rattle.mt_types.specs.declared.row.Row.{Row}
+use Rattle.std.proofs.Common.{◌≡◌, ◌∙◌, ℕ, List, Some, sym, ap, subst}
 use Rattle.mt_border.specs.Border.{BorderView, with_filled}
 use Rattle.mt_border.specs.Entry.{entry_of_row}
-use Rattle.mt_border.specs.Order.{IsBorder}
 use Rattle.mt_border.specs.declared.entry.Entry.{Entry}
 use Rattle.mt_arena.specs.Node.{border_at}
 use Rattle.mt_arena.specs.Arena.{ArenaView, with_border_changed}

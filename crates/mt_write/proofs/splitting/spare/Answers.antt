@@ -1,4 +1,4 @@
-use Rattle.std.proofs.Common.{ℕ, Some, true, refl, sym, subst}
+use Rattle.std.proofs.Common.{ℕ, Some, true, refl, subst}
 use Rattle.mt_border.specs.Border.{BorderView, new_border}
 use Rattle.mt_arena.specs.Node.{Updates}
 use Rattle.mt_arena.specs.declared.node.Node.TheVariants.{Border}

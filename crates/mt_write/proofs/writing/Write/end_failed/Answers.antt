@@ -1,6 +1,5 @@
-use Rattle.std.proofs.Common.{◌≡◌, Option, Some, None, ap, subst}
+use Rattle.std.proofs.Common.{Option, Some, None, ap}
 use Rattle.mt_write.specs.declared.writing.Split.{Split}
-use Rattle.mt_write.specs.declared.writing.Stage.{Stage}
 use Rattle.mt_write.specs.declared.writing.Stage.TheVariants.{Failed}
 use Rattle.mt_write.specs.Writing.{stage_held}
 use Rattle.mt_write.proofs.WriteLemmas.{refuses, at_stage, may_at}

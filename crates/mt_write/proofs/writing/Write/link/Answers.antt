@@ -1,4 +1,3 @@
-use Rattle.std.proofs.Common.{sym}
 use Rattle.mt_write.specs.declared.writing.Stage.TheVariants.{HalfFilled, Halved}
 use Rattle.mt_write.proofs.PostLemmas.{headed}
 use Rattle.mt_write.proofs.HalfLemmas.{filled_link, links, half_prefix}

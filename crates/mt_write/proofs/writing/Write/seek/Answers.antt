@@ -6,7 +6,7 @@ use Rattle.mt_calls.specs.declared.progress.Progress.TheVariants.{Moved}
 use Rattle.mt_calls.proofs.GetLemmas.{may_go}
 use Rattle.mt_write.specs.declared.writing.Stage.{Stage}
 use Rattle.mt_write.specs.declared.writing.Stage.TheVariants.{Locked}
-use Rattle.mt_write.specs.Writing.{StageIsTrue, HeadedStage, write_request, write_held, stage_held, WriteIsTrue}
+use Rattle.mt_write.specs.Writing.{StageIsTrue, write_request, write_held, stage_held}
 use Rattle.mt_write.proofs.WriteLemmas.{seek_waits, seek_locks, has_border_here}
 use Rattle.mt_write.proofs.PostLemmas.{headed, restarts, moves_on}
 use Rattle.mt_write.proofs.writing.Write.seek.Goals as goal

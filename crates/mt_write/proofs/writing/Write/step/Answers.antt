@@ -3,7 +3,7 @@ use Rattle.mt_write.specs.declared.writing.Stage.TheVariants.{Filled, Made, Take
 use Rattle.mt_write.proofs.PostLemmas.{headed}
 use Rattle.mt_write.specs.declared.writing.Stage.{Stage}
 use Rattle.mt_write.specs.Causes.{StageFails}
-use Rattle.mt_write.proofs.WriteLemmas.{shows, writes, hides, at_stage, may_at, room_at}
+use Rattle.mt_write.proofs.WriteLemmas.{shows, writes, hides, at_stage, room_at}
 use Rattle.mt_write.proofs.writing.Write.step.Goals as goal
 
 pub returns-in-Seeks-clause-steps : goal.returns-in-Seeks-clause-steps

@@ -1,4 +1,4 @@
-use Rattle.std.proofs.Common.{◌∙◌, refl}
+use Rattle.std.proofs.Common.{◌∙◌}
 use Rattle.mt_write.proofs.PostLemmas.{unlocks_left, halves_locked, is_locked_border}
 use Rattle.mt_write.proofs.writing.Write.unlock_left.Goals as goal
 
