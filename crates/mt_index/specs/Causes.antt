@@ -28,7 +28,7 @@ RefusedFor s None refusal = refusal ≡ NoSuchCall
 RefusedFor s (Some call) refusal = WorkRefuses s.tree call.work refusal
 
 -- WHY A CALL WAITS, FAILS OR IS REFUSED, by the machine before the step and after it. It waits only where the node that its step visits is marked
--- deleted or, for a put or remove, is a border that is locked: so a get or range never waits at a lock.
+-- deleted; or, for a put or remove, is a border that is locked or, while it posts, an interior that is. So a get or range never waits at a lock.
 abbrev pub IsCaused : MachineView → Event → Outcome → MachineView → Type 0
 IsCaused s (Step call) Again t = WaitsFor s (call_at call.0 s.calls.calls)
 IsCaused s (Step call) Moved t = FailsFor s call.0 t
