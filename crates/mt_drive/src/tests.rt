@@ -27,8 +27,8 @@ struct Run {
     bad: u64,
 }
 
-// An empty index; a row that is visible by its commit alone; columns; a full border, which is split; two long keys of one slice, which get a layer; what says
-// nothing, the last of it without a line feed.
+// An empty index; a row that is visible by its commit alone; columns; a full border, which is split; two long keys of
+// one slice, which get a layer; what says nothing, the last of it without a line feed.
 const RUNS: [Run; 6] = [
     Run {
         columns: 1,
