@@ -1,0 +1,11 @@
+begin 1 put 30313233343536374142 0=61
+finish 1
+begin 1 range - 10 all
+step 2
+begin 2 put 30313233343536375859 0=62
+finish 3
+step 2
+step 2
+step 2
+step 2
+step 2
