@@ -3,7 +3,8 @@ use Rattle.std.specs.Prelude.{ℕ, ◌≡◌, ◌≤◌, ◌⊎◌, ◌↔◌, L
 use Rattle.mt_types.specs.declared.limits.TheConstants.{MAX_KEY_BYTES}
 use Rattle.mt_types.specs.declared.row.Row.{Row}
 use Rattle.mt_slice.specs.Place.{Place, AreBytes, place_of}
-use Rattle.mt_arena.specs.Node.{node_at, head_at, interior_at}
+use Rattle.mt_arena.specs.Node.{node_at, head_at, interior_at, border_at}
+use Rattle.mt_border.specs.Border.{BorderView}
 use Rattle.mt_arena.specs.Arena.{ArenaView}
 use Rattle.mt_interior.specs.Head.{HeadView}
 use Rattle.mt_arena.specs.declared.retired.Retired.{Retired}
@@ -87,6 +88,13 @@ pub record IsSame (a after : ArenaView) (w next : World) (number : ℕ) : Type 0
   pub node : node_at after.nodes number ≡ node_at a.nodes number
   pub spot : next.chart number ≡ w.chart number
   pub twins : HasSameTwins w.twins next.twins number
+
+-- the number is a border of the tree, and is locked
+pub record IsLockedBorder (a : ArenaView) (w : World) (number : ℕ) : Type 0 where
+  pub b : BorderView
+  pub named : border_at a.nodes number ≡ Some b
+  pub known : IsSome (w.chart number)
+  pub locked : b.version.locked ≡ true
 
 -- not one of these numbers
 abbrev pub NotAmong : ℕ → List ℕ → Type 0

@@ -25,7 +25,7 @@ use Rattle.mt_calls.proofs.FoundLemmas.{some_at}
 use Rattle.mt_post.specs.declared.posting.Posting.{Posting}
 use Rattle.mt_post.specs.declared.posting.Progressed.TheVariants.{Moved}
 use Rattle.mt_post.specs.declared.posting.Split.{Split}
-use Rattle.mt_post.specs.declared.posting.Stage.TheVariants.{HalfPosted, HalfCut}
+use Rattle.mt_post.specs.declared.posting.PostStage.TheVariants.{HalfPosted, HalfCut}
 use Rattle.mt_post.specs.Posting.{IsToPost, IsHeadOf, IsPostedHalf, PostingIsTrue, PostLaw, MayPost}
 use Rattle.mt_post.proofs.StepLemmas.{goes_with, heads_beside, interior_now, interior_others, interior_no_head, interior_taken, not_both}
 use Rattle.mt_post.proofs.WalkLemmas.{at_stage, true_at, known_some}

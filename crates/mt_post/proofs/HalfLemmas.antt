@@ -29,9 +29,10 @@ use Rattle.mt_calls.proofs.SplitLemmas.{goes_occupied}
 use Rattle.mt_post.specs.declared.posting.Posting.{Posting}
 use Rattle.mt_post.specs.declared.posting.Progressed.TheVariants.{Moved, Ended}
 use Rattle.mt_post.specs.declared.posting.Split.{Split}
-use Rattle.mt_post.specs.declared.posting.Stage.TheVariants.{Walks, HalfWanted, HalfSpared, HalfLeftOut, LetGo, HalfCut}
+use Rattle.mt_post.specs.declared.posting.PostStage.TheVariants.{Walks, HalfWanted, HalfSpared, HalfLeftOut, LetGo, HalfCut}
 use Rattle.mt_post.specs.Causes.{IsFullAt}
-use Rattle.mt_post.specs.Posting.{goal, split_owns, SplitIsTrue, IsToPost, IsHeadOf, IsWalking, IsSpareInterior, IsSplitting, IsHalved, StartsUpper, empty_half, upper_half, IsLetGo, PostingIsTrue, IsLockedBorder, PostLaw, MayPost}
+use Rattle.mt_post.specs.Posting.{goal, split_owns, SplitIsTrue, IsToPost, IsHeadOf, IsWalking, IsSpareInterior, IsSplitting, IsHalved, StartsUpper, empty_half, upper_half, IsLetGo, PostingIsTrue, PostLaw, MayPost}
+use Rattle.mt_calls.specs.World.{IsLockedBorder}
 use Rattle.mt_post.proofs.StepLemmas.{goes_at, goes_kept, twins_lone, heads_beside, interior_now, interior_others, interior_no_head, interior_taken, interior_is_taken, not_both}
 use Rattle.mt_post.proofs.WalkLemmas.{at_stage, true_at, known_some, still_locked, from_head, goes_on, in_layer}
 use Rattle.mt_post.proofs.KeptLemmas.{to_post_stays, splitting_stays, apart_known, apart_interior}

@@ -29,9 +29,9 @@ use Rattle.mt_post.specs.declared.posting.Posting.{Posting}
 use Rattle.mt_post.specs.declared.posting.Progressed.TheVariants.{Moved}
 use Rattle.mt_post.specs.declared.posting.Root.{Root}
 use Rattle.mt_post.specs.declared.posting.Split.{Split}
-use Rattle.mt_post.specs.declared.posting.Stage.TheVariants.{RootFilled, HalfPosted}
+use Rattle.mt_post.specs.declared.posting.PostStage.TheVariants.{RootFilled, HalfPosted}
 use Rattle.mt_post.specs.Causes.{IsRootStill}
-use Rattle.mt_post.specs.Posting.{StageIsTrue, IsToPost, IsHeadOf, IsSpareInterior, IsHalved, upper_half, root_over, PostingIsTrue, PostLaw, MayPost}
+use Rattle.mt_post.specs.Posting.{PostStageIsTrue, IsToPost, IsHeadOf, IsSpareInterior, IsHalved, upper_half, root_over, PostingIsTrue, PostLaw, MayPost}
 use Rattle.mt_post.proofs.StepLemmas.{at_chart, goes_with, interior_is_taken, head_is_taken, not_both}
 use Rattle.mt_post.proofs.WalkLemmas.{at_stage, true_at, known_some, from_head, root_place, heads_were}
 use Rattle.mt_post.proofs.KeptLemmas.{apart_known, apart_head, interior_apart_head}
@@ -184,7 +184,7 @@ module _ (a : ArenaView) (posting : Posting) (old : Root) (root : NodeNo) (split
   pub may_name_half : (may : MayPost a posting) → IsSomeAnd (head_at a.nodes n) (λ x. IsSomeAnd (interior_at a.nodes root.0) (IsRootOverHalf a.nodes x))
   may_name_half may =
       let prefix = may.true.0 in
-      let (s, less, beside, spare) = subst (λ (o : Option Split). StageIsTrue may.begun prefix posting.half posting.low o (RootFilled old root) a may.w) some (true_at may.begun a may.w posting (RootFilled old root) is may.true) in
+      let (s, less, beside, spare) = subst (λ (o : Option Split). PostStageIsTrue may.begun prefix posting.half posting.low o (RootFilled old root) a may.w) some (true_at may.begun a may.w posting (RootFilled old root) is may.true) in
       let (stands, is_root) = root_place a may.w.chart may.begun n split.half.low prefix h may.world.index.tree ((from_head may.begun prefix split.half n may.w may.true.1.head).held) still.named still.alive in
       let is_i = root_is_split may.now may.begun may.w prefix may.world stands s less in
       let (middle, read, low_is) = s.starts in

@@ -13,9 +13,9 @@ use Rattle.mt_chart.proofs.Walk.{known_kept}
 use Rattle.mt_calls.specs.World.{World, IsLocked, IsTaken, IsSame}
 use Rattle.mt_post.specs.declared.posting.Posting.{Posting}
 use Rattle.mt_post.specs.declared.posting.Split.{Split}
-use Rattle.mt_post.specs.declared.posting.Stage.{Stage}
-use Rattle.mt_post.specs.declared.posting.Stage.TheVariants.{Walks, RootWanted, RootSpared, RootFilled, RootLate, HalfWanted, HalfSpared, HalfLeftOut, LetGo, HalfPosted, HalfCut}
-use Rattle.mt_post.specs.Posting.{split_owns, stage_owns, owned, IsToPost, IsWalking, IsSpareInterior, SplitIsTrue, StageIsTrue, PostingIsTrue}
+use Rattle.mt_post.specs.declared.posting.PostStage.{PostStage}
+use Rattle.mt_post.specs.declared.posting.PostStage.TheVariants.{Walks, RootWanted, RootSpared, RootFilled, RootLate, HalfWanted, HalfSpared, HalfLeftOut, LetGo, HalfPosted, HalfCut}
+use Rattle.mt_post.specs.Posting.{split_owns, stage_owns, owned, IsToPost, IsWalking, IsSpareInterior, SplitIsTrue, PostStageIsTrue, PostingIsTrue}
 use Rattle.mt_post.proofs.KeptLemmas.{only, to_post_stays, spare_stays, splitting_stays, halved_stays, split_stays, let_go_stays, posted_half_stays}
 
 -- ---- what others' steps leave
@@ -27,7 +27,7 @@ module _ (a after : ArenaView) (w next : World) (begun : ℕ) (evolves : Evolves
       let known = known_kept begun node held.role prefix held.low w.chart next.chart evolves (record { standing = held.standing; place = held.place; since = held.since }) in
       record { held = record { role = held.role; low = held.low; standing = known.standing; place = known.place; at_most = held.at_most; since = known.since }; inner = at.inner }
 
-  stage_stays : (prefix : List ℕ) (half : NodeNo) (low : ℕ) (split : Option Split) (stage : Stage) → ((number : ℕ) → Among number (stage_owns half.0 split stage) → IsSame a after w next number) → StageIsTrue begun prefix half low split stage a w → StageIsTrue begun prefix half low split stage after next
+  stage_stays : (prefix : List ℕ) (half : NodeNo) (low : ℕ) (split : Option Split) (stage : PostStage) → ((number : ℕ) → Among number (stage_owns half.0 split stage) → IsSame a after w next number) → PostStageIsTrue begun prefix half low split stage a w → PostStageIsTrue begun prefix half low split stage after next
   stage_stays prefix half low split (Walks node) same truth = (split_stays a after w next prefix half.0 split same truth.0, walking_stays prefix _ node.0 truth.1)
   stage_stays prefix half low split (RootWanted old) same truth = (split_stays a after w next prefix half.0 split same truth.0, truth.1)
   stage_stays prefix half low split (RootSpared old root) same truth =
@@ -49,7 +49,7 @@ module _ (a after : ArenaView) (w next : World) (begun : ℕ) (evolves : Evolves
   half_in half None = first
   half_in half (Some split) = later (later first)
 
-  half_owned : (half : ℕ) (split : Option Split) (stage : Stage) → Among half (stage_owns half split stage)
+  half_owned : (half : ℕ) (split : Option Split) (stage : PostStage) → Among half (stage_owns half split stage)
   half_owned half split (Walks node) = half_in half split
   half_owned half split (RootWanted old) = half_in half split
   half_owned half split (RootSpared old root) = later (half_in half split)
@@ -100,7 +100,7 @@ module _ (a : ArenaView) (w : World) (begun : ℕ) (prefix : List ℕ) (half : N
   root_taken root split truth taken number first = taken
   root_taken root split truth taken number (later i) = split_taken split truth number i
 
-  stage_taken : (split : Option Split) (stage : Stage) → StageIsTrue begun prefix half low split stage a w → (number : ℕ) → Among number (stage_owns half.0 split stage) → IsTaken a w number
+  stage_taken : (split : Option Split) (stage : PostStage) → PostStageIsTrue begun prefix half low split stage a w → (number : ℕ) → Among number (stage_owns half.0 split stage) → IsTaken a w number
   stage_taken split (Walks node) truth number i = split_taken split truth.0 number i
   stage_taken split (RootWanted old) truth number i = split_taken split truth.0 number i
   stage_taken split (RootSpared old root) truth number i = let (s, less, beside, spare) = truth in root_taken root.0 split s (spare_taken root.0 _ spare) number i

@@ -35,7 +35,7 @@ use Rattle.mt_calls.proofs.SplitLemmas.{goes_occupied, with_spot, spot_changes}
 use Rattle.mt_post.specs.declared.posting.Posting.{Posting}
 use Rattle.mt_post.specs.declared.posting.Progressed.TheVariants.{Moved, Ended}
 use Rattle.mt_post.specs.declared.posting.Root.{Root}
-use Rattle.mt_post.specs.declared.posting.Stage.TheVariants.{Walks, RootWanted, RootSpared, RootFilled, RootLate}
+use Rattle.mt_post.specs.declared.posting.PostStage.TheVariants.{Walks, RootWanted, RootSpared, RootFilled, RootLate}
 use Rattle.mt_post.specs.Posting.{goal, split_owns, IsToPost, IsHeadOf, IsSpareInterior, root_children, new_root, root_over, PostingIsTrue, ThenPosts, PostLaw, MayPost}
 use Rattle.mt_post.proofs.StepLemmas.{at_chart, goes_at, heads_beside, interior_now, interior_others, interior_no_head, interior_is_taken, head_is_taken, not_both}
 use Rattle.mt_post.proofs.WalkLemmas.{at_stage, true_at, known_some, from_head, goes_on, root_place, heads_were}

@@ -23,9 +23,9 @@ use Rattle.mt_calls.proofs.SplitLemmas.{with_spot, spot_changes}
 use Rattle.mt_post.specs.declared.posting.Posting.{Posting}
 use Rattle.mt_post.specs.declared.posting.Progressed.TheVariants.{Moved}
 use Rattle.mt_post.specs.declared.posting.Split.{Split}
-use Rattle.mt_post.specs.declared.posting.Stage.TheVariants.{Walks, HalfPosted}
+use Rattle.mt_post.specs.declared.posting.PostStage.TheVariants.{Walks, HalfPosted}
 use Rattle.mt_post.specs.Causes.{HasRoomAt}
-use Rattle.mt_post.specs.Posting.{goal, IsAbove, StageIsTrue, IsToPost, IsHeadOf, IsWalking, IsHalved, IsPostedHalf, upper_half, PostingIsTrue, PostLaw, MayPost}
+use Rattle.mt_post.specs.Posting.{goal, IsAbove, PostStageIsTrue, IsToPost, IsHeadOf, IsWalking, IsHalved, IsPostedHalf, upper_half, PostingIsTrue, PostLaw, MayPost}
 use Rattle.mt_post.proofs.StepLemmas.{goes_with, heads_beside, interior_others, interior_no_head, interior_border, interior_taken, interior_is_taken, not_both}
 use Rattle.mt_post.proofs.WalkLemmas.{at_stage, true_at, known_some, heads_were, in_layer, room_for}
 use Rattle.mt_post.proofs.KeptLemmas.{apart_known}
@@ -227,7 +227,7 @@ module _ (a : ArenaView) (posting : Posting) (node : NodeNo) (split : Split) (is
   -- what the call asks
   pub may_post_half : (may : MayPost a posting) → IsSomeAnd (interior_at a.nodes split.half.node.0) (λ upper. IsSomeAnd (interior_at a.nodes n) (HasRoomFrom upper.low)) × IsSomeAnd (interior_at a.nodes split.half.node.0) (λ upper. IsSomeAnd (interior_at a.nodes n) (λ x. upper.level < x.level))
   may_post_half may =
-      let truth = subst (λ (o : Option Split). StageIsTrue may.begun may.true.0 posting.half posting.low o (Walks node) a may.w) some (true_at may.begun a may.w posting (Walks node) is may.true) in
+      let truth = subst (λ (o : Option Split). PostStageIsTrue may.begun may.true.0 posting.half posting.low o (Walks node) a may.w) some (true_at may.begun a may.w posting (Walks node) is may.true) in
       let h = truth.0 in
       let at = truth.1.held in
       let room = room_for a posting node is (goal posting.half posting.low posting.split) refl r.interior r.named r.alive r.unlocked may r.room in

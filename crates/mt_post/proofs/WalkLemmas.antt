@@ -34,29 +34,30 @@ use Rattle.mt_post.specs.declared.posting.Progressed.{Progressed}
 use Rattle.mt_post.specs.declared.posting.Progressed.TheVariants.{Moved, Waits, Ended}
 use Rattle.mt_post.specs.declared.posting.Root.{Root}
 use Rattle.mt_post.specs.declared.posting.Split.{Split}
-use Rattle.mt_post.specs.declared.posting.Stage.{Stage}
-use Rattle.mt_post.specs.declared.posting.Stage.TheVariants.{Walks, RootWanted, HalfLeftOut}
-use Rattle.mt_post.specs.Posting.{stage_owns, owned_after, IsToPost, IsHeadOf, IsAbove, goal, split_owns, IsWalking, StageIsTrue, IsHalved, PostingIsTrue, IsLockedBorder, ThenPosts, PostLaw, NewPostingIsTrue, MayPost}
+use Rattle.mt_post.specs.declared.posting.PostStage.{PostStage}
+use Rattle.mt_post.specs.declared.posting.PostStage.TheVariants.{Walks, RootWanted, HalfLeftOut}
+use Rattle.mt_post.specs.Posting.{stage_owns, owned_after, IsToPost, IsHeadOf, IsAbove, goal, split_owns, IsWalking, PostStageIsTrue, IsHalved, PostingIsTrue, ThenPosts, PostLaw, NewPostingIsTrue, MayPost}
+use Rattle.mt_calls.specs.World.{IsLockedBorder}
 use Rattle.mt_post.proofs.StepLemmas.{at_chart, goes_at, heads_beside, interior_others, interior_no_head, interior_border, interior_taken, interior_is_taken, not_both}
 
 -- ---- the law of a step, of a posting that is at a stage
-pub record StageLaw (a after : ArenaView) (posting : Posting) (split : Option Split) (stage : Stage) (p : Progressed) (then : Posting) : Type 0 where
+pub record StageLaw (a after : ArenaView) (posting : Posting) (split : Option Split) (stage : PostStage) (p : Progressed) (then : Posting) : Type 0 where
   pub steps : (now begun : ℕ) (w : World) (prefix : List ℕ) → IsWorld a now w → begun ≤ now → IsToPost a w prefix posting.half.0 posting.low → IsHeadOf w begun posting.head.0 prefix
-      → StageIsTrue begun prefix posting.half posting.low split stage a w
+      → PostStageIsTrue begun prefix posting.half posting.low split stage a w
       → Goes now a after w (stage_owns posting.half.0 split stage) (owned_after p then) (ThenPosts p begun then after) × SameContent (arena_seen a) (arena_seen after)
 
-pub at_stage : (a after : ArenaView) (posting : Posting) (split : Option Split) (stage : Stage) (p : Progressed) (then : Posting) → posting.split ≡ split → posting.stage ≡ stage → StageLaw a after posting split stage p then → PostLaw a after posting p then
+pub at_stage : (a after : ArenaView) (posting : Posting) (split : Option Split) (stage : PostStage) (p : Progressed) (then : Posting) → posting.split ≡ split → posting.stage ≡ stage → StageLaw a after posting split stage p then → PostLaw a after posting p then
 at_stage a after posting split stage p then has is law = record {
   steps = λ now begun w world before truth.
       let (prefix, t) = truth in
-      subst (λ (s : Stage). Goes now a after w (stage_owns posting.half.0 posting.split s) (owned_after p then) (ThenPosts p begun then after) × SameContent (arena_seen a) (arena_seen after)) (sym is)
+      subst (λ (s : PostStage). Goes now a after w (stage_owns posting.half.0 posting.split s) (owned_after p then) (ThenPosts p begun then after) × SameContent (arena_seen a) (arena_seen after)) (sym is)
       (subst (λ (o : Option Split). Goes now a after w (stage_owns posting.half.0 o stage) (owned_after p then) (ThenPosts p begun then after) × SameContent (arena_seen a) (arena_seen after)) (sym has)
-      (law.steps now begun w prefix world before t.border t.head (subst (λ (o : Option Split). StageIsTrue begun prefix posting.half posting.low o stage a w) has (subst (λ (s : Stage). StageIsTrue begun prefix posting.half posting.low posting.split s a w) is t.stage))));
+      (law.steps now begun w prefix world before t.border t.head (subst (λ (o : Option Split). PostStageIsTrue begun prefix posting.half posting.low o stage a w) has (subst (λ (s : PostStage). PostStageIsTrue begun prefix posting.half posting.low posting.split s a w) is t.stage))));
 }
 
 -- what is true of the stage where it is
-pub true_at : (begun : ℕ) (a : ArenaView) (w : World) (posting : Posting) (stage : Stage) → posting.stage ≡ stage → (truth : PostingIsTrue begun posting a w) → StageIsTrue begun truth.0 posting.half posting.low posting.split stage a w
-true_at begun a w posting stage is truth = subst (λ (s : Stage). StageIsTrue begun truth.0 posting.half posting.low posting.split s a w) is truth.1.stage
+pub true_at : (begun : ℕ) (a : ArenaView) (w : World) (posting : Posting) (stage : PostStage) → posting.stage ≡ stage → (truth : PostingIsTrue begun posting a w) → PostStageIsTrue begun truth.0 posting.half posting.low posting.split stage a w
+true_at begun a w posting stage is truth = subst (λ (s : PostStage). PostStageIsTrue begun truth.0 posting.half posting.low posting.split s a w) is truth.1.stage
 
 pub known_some : (w : World) (number : ℕ) (place : Spot) → w.chart number ≡ Some place → IsSome (w.chart number)
 known_some w number place is = subst (λ (x : Option Spot). IsSome x) (sym is) refl
@@ -80,8 +81,8 @@ new_is_true posting none is = record {
       record {
         border = border;
         head = known;
-        stage = subst (λ (s : Stage). StageIsTrue begun prefix posting.half posting.low posting.split s a w) (sym is)
-            (subst (λ (o : Option Split). StageIsTrue begun prefix posting.half posting.low o (Walks posting.head) a w) (sym none) (tt, from_head begun prefix (goal posting.half posting.low None) posting.head.0 w known));
+        stage = subst (λ (s : PostStage). PostStageIsTrue begun prefix posting.half posting.low posting.split s a w) (sym is)
+            (subst (λ (o : Option Split). PostStageIsTrue begun prefix posting.half posting.low o (Walks posting.head) a w) (sym none) (tt, from_head begun prefix (goal posting.half posting.low None) posting.head.0 w known));
       },
     ),
     ap (stage_owns posting.half.0 posting.split) is ∙ ap (split_owns posting.half.0) none,
@@ -105,15 +106,15 @@ module _ (a : ArenaView) (posting : Posting) where
   same_content key row = ((λ h. h), (λ h. h))
 
   -- the border is left out
-  pub left_out : (stage : Stage) → stage_owns posting.half.0 None stage ≡ posting.half.0 ∷ [] → posting.split ≡ None → posting.stage ≡ stage → PostLaw a a posting Ended posting
+  pub left_out : (stage : PostStage) → stage_owns posting.half.0 None stage ≡ posting.half.0 ∷ [] → posting.split ≡ None → posting.stage ≡ stage → PostLaw a a posting Ended posting
   left_out stage owns none is = at_stage a a posting None stage Ended posting none is (record {
     steps = λ now begun w prefix world before border known truth. (goes_same now a w _ (stage_owns posting.half.0 None stage) (posting.half.0 ∷ []) owns world (still_locked a w prefix posting.half.0 posting.low border), same_content);
   })
 
-  module _ (split next_split : Option Split) (stage next : Stage) (owns : stage_owns posting.half.0 split stage ≡ stage_owns posting.half.0 next_split next) (has : posting.split ≡ split) (is : posting.stage ≡ stage) where
+  module _ (split next_split : Option Split) (stage next : PostStage) (owns : stage_owns posting.half.0 split stage ≡ stage_owns posting.half.0 next_split next) (has : posting.split ≡ split) (is : posting.stage ≡ stage) where
     abbrev ThenStage : Type 0
     ThenStage = (now begun : ℕ) (w : World) (prefix : List ℕ) → IsWorld a now w → IsToPost a w prefix posting.half.0 posting.low → IsHeadOf w begun posting.head.0 prefix
-        → StageIsTrue begun prefix posting.half posting.low split stage a w → StageIsTrue begun prefix posting.half posting.low next_split next a w
+        → PostStageIsTrue begun prefix posting.half posting.low split stage a w → PostStageIsTrue begun prefix posting.half posting.low next_split next a w
 
     pub goes_on : ThenStage → PostLaw a a posting Moved (record posting { split = next_split; stage = next })
     goes_on then = at_stage a a posting split stage Moved (record posting { split = next_split; stage = next }) has is (record {
@@ -269,9 +270,9 @@ module _ (a : ArenaView) (posting : Posting) (node : NodeNo) (is : posting.stage
         (subst (λ (l : ℕ). IsSomeAnd (interior_at a.nodes node.0) (HasRoomFrom l)) (ap (λ (c : Child). c.low) (is_goal ∙ ap (goal posting.half posting.low) none) ∙ sym border.low_is) (room_for may room))
 
 -- ---- what is to be named is left out
-module _ (a : ArenaView) (posting : Posting) (stage : Stage) (owns : (split : Option Split) → stage_owns posting.half.0 split stage ≡ split_owns posting.half.0 split) (is : posting.stage ≡ stage) where
+module _ (a : ArenaView) (posting : Posting) (stage : PostStage) (owns : (split : Option Split) → stage_owns posting.half.0 split stage ≡ split_owns posting.half.0 split) (is : posting.stage ≡ stage) where
   pub half_left_out : (split : Split) → posting.split ≡ Some split
-      → ((begun : ℕ) (w : World) (prefix : List ℕ) → StageIsTrue begun prefix posting.half posting.low (Some split) stage a w → IsHalved a w prefix split)
+      → ((begun : ℕ) (w : World) (prefix : List ℕ) → PostStageIsTrue begun prefix posting.half posting.low (Some split) stage a w → IsHalved a w prefix split)
       → PostLaw a a posting Moved (record posting { split = None; stage = HalfLeftOut split })
   half_left_out split some halved = goes_on a posting (Some split) None stage (HalfLeftOut split) (owns (Some split)) some is (λ now begun w prefix world border known truth. (refl, halved begun w prefix truth))
 

@@ -11,18 +11,18 @@ use Rattle.mt_post.specs.declared.posting.Progressed.{Progressed}
 use Rattle.mt_post.specs.declared.posting.Progressed.TheVariants.{Waits, Ended}
 use Rattle.mt_post.specs.declared.posting.Root.{Root}
 use Rattle.mt_post.specs.declared.posting.Split.{Split}
-use Rattle.mt_post.specs.declared.posting.Stage.{Stage}
-use Rattle.mt_post.specs.declared.posting.Stage.TheVariants.{Walks, RootWanted, RootFilled, LetGo}
+use Rattle.mt_post.specs.declared.posting.PostStage.{PostStage}
+use Rattle.mt_post.specs.declared.posting.PostStage.TheVariants.{Walks, RootWanted, RootFilled, LetGo}
 
 -- the number names an interior that is marked deleted, or that another call has locked
 abbrev pub IsHeldBack : ArenaView → ℕ → Type 0
 IsHeldBack a number = IsSomeAnd (interior_at a.nodes number) (λ interior. (interior.version.deleted ≡ true) ⊎ (interior.version.locked ≡ true))
 
 -- a posting waits only at such an interior
-abbrev pub StageWaits : ArenaView → Stage → Progressed → Type 0
-StageWaits a (Walks node) Waits = IsHeldBack a node.0
-StageWaits a _ Waits = ⊥
-StageWaits a _ _ = Unit {0}
+abbrev pub PostStageWaits : ArenaView → PostStage → Progressed → Type 0
+PostStageWaits a (Walks node) Waits = IsHeldBack a node.0
+PostStageWaits a _ Waits = ⊥
+PostStageWaits a _ _ = Unit {0}
 
 -- the interior names the border from now on
 abbrev pub IsPosted : ArenaView → ArenaView → ℕ → Posting → Type 0
@@ -60,16 +60,16 @@ pub record IsRootStill (a : ArenaView) (number : ℕ) (root : Root) : Type 0 whe
 
 -- A posting ends where an interior that has room, or a new root, names the border; or it is left out: where it can be, or where no number
 -- or no memory is had for a new root or a new half.
-abbrev pub StageEnds : ArenaView → ArenaView → Posting → Stage → Progressed → Type 0
-StageEnds a after posting (Walks node) Ended = IsPosted a after node.0 posting ⊎ ((after ≡ a) × CanLeaveOut a node.0 None)
-StageEnds a after posting (RootWanted old) Ended = after ≡ a
-StageEnds a after posting (RootFilled old root) Ended = after ≡ with_head_changed a posting.head.0 (λ head. with_root head root 1)
-StageEnds a after posting (LetGo interior) Ended = after ≡ with_interior_changed a interior.0 (λ x. with_lock x false)
-StageEnds a after posting _ Ended = ⊥
-StageEnds a after posting _ _ = Unit {0}
+abbrev pub PostStageEnds : ArenaView → ArenaView → Posting → PostStage → Progressed → Type 0
+PostStageEnds a after posting (Walks node) Ended = IsPosted a after node.0 posting ⊎ ((after ≡ a) × CanLeaveOut a node.0 None)
+PostStageEnds a after posting (RootWanted old) Ended = after ≡ a
+PostStageEnds a after posting (RootFilled old root) Ended = after ≡ with_head_changed a posting.head.0 (λ head. with_root head root 1)
+PostStageEnds a after posting (LetGo interior) Ended = after ≡ with_interior_changed a interior.0 (λ x. with_lock x false)
+PostStageEnds a after posting _ Ended = ⊥
+PostStageEnds a after posting _ _ = Unit {0}
 
 abbrev pub PostWaits : ArenaView → Posting → Progressed → Type 0
-PostWaits a posting p = StageWaits a posting.stage p
+PostWaits a posting p = PostStageWaits a posting.stage p
 
 abbrev pub PostEnds : ArenaView → ArenaView → Posting → Progressed → Type 0
-PostEnds a after posting p = StageEnds a after posting posting.stage p
+PostEnds a after posting p = PostStageEnds a after posting posting.stage p

@@ -13,21 +13,21 @@ use Rattle.mt_chart.specs.Steps.{NoTwin, AreTwins, SameContent}
 use Rattle.mt_interior.specs.declared.interior.TheConstants.{MAX_CHILDREN, KEPT_CHILDREN}
 use Rattle.mt_tree.specs.Seen.{arena_seen}
 use Rattle.mt_tree.specs.InteriorSteps.{IsInLayer}
-use Rattle.mt_calls.specs.World.{World, IsWorld, Goes}
+use Rattle.mt_calls.specs.World.{World, IsLockedBorder, IsWorld, Goes}
 use Rattle.mt_post.specs.declared.posting.Posting.{Posting}
 use Rattle.mt_post.specs.declared.posting.Progressed.{Progressed}
 use Rattle.mt_post.specs.declared.posting.Progressed.TheVariants.{Moved, Waits, Ended}
 use Rattle.mt_post.specs.declared.posting.Root.{Root}
 use Rattle.mt_post.specs.declared.posting.Split.{Split}
-use Rattle.mt_post.specs.declared.posting.Stage.{Stage}
-use Rattle.mt_post.specs.declared.posting.Stage.TheVariants.{Walks, RootWanted, RootSpared, RootFilled, RootLate, HalfWanted, HalfSpared, HalfLeftOut, LetGo, HalfPosted, HalfCut}
+use Rattle.mt_post.specs.declared.posting.PostStage.{PostStage}
+use Rattle.mt_post.specs.declared.posting.PostStage.TheVariants.{Walks, RootWanted, RootSpared, RootFilled, RootLate, HalfWanted, HalfSpared, HalfLeftOut, LetGo, HalfPosted, HalfCut}
 
 -- ---- what a posting owns: the border that is to be posted; the interior that it splits, and its new half; the spare for a new root
 abbrev pub split_owns : ℕ → Option Split → List ℕ
 split_owns half None = half ∷ []
 split_owns half (Some split) = split.half.node.0 ∷ split.interior.0 ∷ half ∷ []
 
-abbrev pub stage_owns : ℕ → Option Split → Stage → List ℕ
+abbrev pub stage_owns : ℕ → Option Split → PostStage → List ℕ
 stage_owns half split (Walks node) = split_owns half split
 stage_owns half split (RootWanted old) = split_owns half split
 stage_owns half split (RootSpared old root) = root.0 ∷ split_owns half split
@@ -154,35 +154,28 @@ pub record IsLetGo (a : ArenaView) (w : World) (prefix : List ℕ) (number : ℕ
   pub stands : IsInLayer w.chart number prefix
   pub lone : NoTwin w.twins number
 
-abbrev pub StageIsTrue : ℕ → List ℕ → NodeNo → ℕ → Option Split → Stage → ArenaView → World → Type 0
-StageIsTrue begun prefix half low split (Walks node) a w = SplitIsTrue a w prefix split × IsWalking begun prefix (goal half low split) node.0 w
-StageIsTrue begun prefix half low split (RootWanted old) a w = SplitIsTrue a w prefix split × (old.level < (goal half low split).level + 1)
-StageIsTrue begun prefix half low split (RootSpared old root) a w = SplitIsTrue a w prefix split × (old.level < (goal half low split).level + 1) × IsBeside root.0 split × IsSpareInterior a w root.0 (new_root (goal half low split))
-StageIsTrue begun prefix half low split (RootFilled old root) a w = SplitIsTrue a w prefix split × (old.level < (goal half low split).level + 1) × IsBeside root.0 split × IsSpareInterior a w root.0 (root_over old (goal half low split))
-StageIsTrue begun prefix half low split (RootLate root) a w = SplitIsTrue a w prefix split × IsBeside root.0 split × (spare : InteriorView) × IsSpareInterior a w root.0 spare
-StageIsTrue begun prefix half low split (HalfWanted interior) a w = (split ≡ None) × (i : InteriorView) × IsSplitting a w prefix interior.0 i
-StageIsTrue begun prefix half low split (HalfSpared interior spare) a w = (split ≡ None) × (i : InteriorView) × IsSplitting a w prefix interior.0 i × (least : ℕ) × StartsUpper i least × IsInterior (empty_half i least) × IsSpareInterior a w spare.0 (empty_half i least)
-StageIsTrue begun prefix half low split (HalfLeftOut left) a w = (split ≡ None) × IsHalved a w prefix left
-StageIsTrue begun prefix half low split (LetGo interior) a w = (split ≡ None) × IsLetGo a w prefix interior.0
-StageIsTrue begun prefix half low split (HalfPosted posted) a w = (split ≡ None) × IsPostedHalf a w prefix posted
-StageIsTrue begun prefix half low split (HalfCut posted) a w = (split ≡ None) × IsLetGo a w prefix posted.0
+abbrev pub PostStageIsTrue : ℕ → List ℕ → NodeNo → ℕ → Option Split → PostStage → ArenaView → World → Type 0
+PostStageIsTrue begun prefix half low split (Walks node) a w = SplitIsTrue a w prefix split × IsWalking begun prefix (goal half low split) node.0 w
+PostStageIsTrue begun prefix half low split (RootWanted old) a w = SplitIsTrue a w prefix split × (old.level < (goal half low split).level + 1)
+PostStageIsTrue begun prefix half low split (RootSpared old root) a w = SplitIsTrue a w prefix split × (old.level < (goal half low split).level + 1) × IsBeside root.0 split × IsSpareInterior a w root.0 (new_root (goal half low split))
+PostStageIsTrue begun prefix half low split (RootFilled old root) a w = SplitIsTrue a w prefix split × (old.level < (goal half low split).level + 1) × IsBeside root.0 split × IsSpareInterior a w root.0 (root_over old (goal half low split))
+PostStageIsTrue begun prefix half low split (RootLate root) a w = SplitIsTrue a w prefix split × IsBeside root.0 split × (spare : InteriorView) × IsSpareInterior a w root.0 spare
+PostStageIsTrue begun prefix half low split (HalfWanted interior) a w = (split ≡ None) × (i : InteriorView) × IsSplitting a w prefix interior.0 i
+PostStageIsTrue begun prefix half low split (HalfSpared interior spare) a w = (split ≡ None) × (i : InteriorView) × IsSplitting a w prefix interior.0 i × (least : ℕ) × StartsUpper i least × IsInterior (empty_half i least) × IsSpareInterior a w spare.0 (empty_half i least)
+PostStageIsTrue begun prefix half low split (HalfLeftOut left) a w = (split ≡ None) × IsHalved a w prefix left
+PostStageIsTrue begun prefix half low split (LetGo interior) a w = (split ≡ None) × IsLetGo a w prefix interior.0
+PostStageIsTrue begun prefix half low split (HalfPosted posted) a w = (split ≡ None) × IsPostedHalf a w prefix posted
+PostStageIsTrue begun prefix half low split (HalfCut posted) a w = (split ≡ None) × IsLetGo a w prefix posted.0
 
 -- the layer has this prefix
 pub record PostsIn (prefix : List ℕ) (begun : ℕ) (posting : Posting) (a : ArenaView) (w : World) : Type 0 where
   pub border : IsToPost a w prefix posting.half.0 posting.low
   pub head : IsHeadOf w begun posting.head.0 prefix
-  pub stage : StageIsTrue begun prefix posting.half posting.low posting.split posting.stage a w
+  pub stage : PostStageIsTrue begun prefix posting.half posting.low posting.split posting.stage a w
 
 -- WHAT IS TRUE OF A POSTING whose call began in an epoch
 abbrev pub PostingIsTrue : ℕ → Posting → ArenaView → World → Type 0
 PostingIsTrue begun posting a w = (prefix : List ℕ) × PostsIn prefix begun posting a w
-
--- the number is a border of the tree, and is locked
-pub record IsLockedBorder (a : ArenaView) (w : World) (number : ℕ) : Type 0 where
-  pub b : BorderView
-  pub named : border_at a.nodes number ≡ Some b
-  pub known : IsSome (w.chart number)
-  pub locked : b.version.locked ≡ true
 
 -- what is true after a step
 abbrev pub ThenPosts : Progressed → ℕ → Posting → ArenaView → World → Type 0

@@ -3,4 +3,4 @@
 
 mod posting;
 
-pub use posting::{Posting, Progressed, Root, Split, Stage};
+pub use posting::{PostStage, Posting, Progressed, Root, Split};

@@ -29,7 +29,7 @@ pub struct Split {
 
 /// How far a posting is.
 #[derive(Clone, Copy)]
-pub enum Stage {
+pub enum PostStage {
     /// It is on its way, at a node.
     Walks(NodeNo),
     /// No root is above what is to be named: a new one is wanted over this one.
@@ -76,7 +76,7 @@ pub struct Posting {
     pub low: u64,
     /// The interior that it splits, whose new half is to be posted first.
     pub split: Option<Split>,
-    pub stage: Stage,
+    pub stage: PostStage,
 }
 
 impl Posting {
@@ -92,7 +92,7 @@ impl Posting {
             half,
             low,
             split: None,
-            stage: Stage::Walks(head),
+            stage: PostStage::Walks(head),
         }
     }
 
@@ -112,7 +112,7 @@ impl Posting {
 
     // What is to be named is left out, at a node that is seen.
     fn leave_out(&mut self, tree: &Tree, node: NodeNo) -> Progressed
-        requires walks { self.old.stage ≡ Stage.Walks node }
+        requires walks { self.old.stage ≡ PostStage.Walks node }
         requires cause { CanLeaveOut tree.now node.0 self.old.split }
         requires may { MayPost tree.now self.old }
         ensures same { self.new ≡ record self.old { split = self.new.split; stage = self.new.stage } }
@@ -124,13 +124,13 @@ impl Posting {
             return Progressed::Ended;
         };
         self.split = None;
-        self.stage = Stage::HalfLeftOut(split);
+        self.stage = PostStage::HalfLeftOut(split);
         Progressed::Moved
     }
 
     // At a head: to the root, or to a new one, where the root isn't above what is to be named.
     fn visit_head(&mut self, tree: &Tree, node: NodeNo) -> Progressed
-        requires walks { self.old.stage ≡ Stage.Walks node }
+        requires walks { self.old.stage ≡ PostStage.Walks node }
         requires head { IsSome (head_at tree.now.nodes node.0) }
         requires may { MayPost tree.now self.old }
         ensures same { self.new ≡ record self.old { split = self.new.split; stage = self.new.stage } }
@@ -145,16 +145,16 @@ impl Posting {
         let goal = self.goal();
         let (root, level) = (head.root(), head.level());
         if level <= goal.level {
-            self.stage = Stage::RootWanted(Root { node: root, level });
+            self.stage = PostStage::RootWanted(Root { node: root, level });
             return Progressed::Moved;
         }
-        self.stage = Stage::Walks(root);
+        self.stage = PostStage::Walks(root);
         Progressed::Moved
     }
 
     // An interior that has room names what is to be named.
     fn name_in(&mut self, tree: &mut Tree, node: NodeNo) -> Progressed
-        requires walks { self.old.stage ≡ Stage.Walks node }
+        requires walks { self.old.stage ≡ PostStage.Walks node }
         requires room { HasRoomAt tree.old self.old node.0 }
         requires may { MayPost tree.old self.old }
         ensures same { self.new ≡ record self.old { split = self.new.split; stage = self.new.stage } }
@@ -168,13 +168,13 @@ impl Posting {
         };
         tree.post_half(node, split.half.node);
         self.split = None;
-        self.stage = Stage::HalfPosted(split);
+        self.stage = PostStage::HalfPosted(split);
         Progressed::Moved
     }
 
     // At an interior that is full: it is locked, to be split, but for one of the greatest level, or met for a new half.
     fn meet_full(&mut self, tree: &mut Tree, node: NodeNo) -> Progressed
-        requires walks { self.old.stage ≡ Stage.Walks node }
+        requires walks { self.old.stage ≡ PostStage.Walks node }
         requires full { IsFullAt tree.old node.0 }
         requires may { MayPost tree.old self.old }
         ensures same { self.new ≡ record self.old { split = self.new.split; stage = self.new.stage } }
@@ -186,13 +186,13 @@ impl Posting {
             return self.leave_out(tree, node);
         }
         tree.lock_interior(node);
-        self.stage = Stage::HalfWanted(node);
+        self.stage = PostStage::HalfWanted(node);
         Progressed::Moved
     }
 
     // At an interior: to the child for the low of what is to be named, or it comes to name it.
     fn visit_interior(&mut self, tree: &mut Tree, node: NodeNo) -> Progressed
-        requires walks { self.old.stage ≡ Stage.Walks node }
+        requires walks { self.old.stage ≡ PostStage.Walks node }
         requires interior { IsSome (interior_at tree.old.nodes node.0) }
         requires may { MayPost tree.old self.old }
         ensures same { self.new ≡ record self.old { split = self.new.split; stage = self.new.stage } }
@@ -202,17 +202,17 @@ impl Posting {
     {
         let interior = tree.interior(node);
         if interior.is_deleted() {
-            self.stage = Stage::Walks(self.head);
+            self.stage = PostStage::Walks(self.head);
             return Progressed::Waits;
         }
         if interior.is_locked() {
-            self.stage = Stage::Walks(self.head);
+            self.stage = PostStage::Walks(self.head);
             return Progressed::Waits;
         }
         let goal = self.goal();
         let child = interior.child(interior.child_for(goal.low));
         if child.level > goal.level {
-            self.stage = Stage::Walks(child.node);
+            self.stage = PostStage::Walks(child.node);
             return Progressed::Moved;
         }
         if interior.is_full() {
@@ -223,7 +223,7 @@ impl Posting {
 
     // On its way.
     fn visit(&mut self, tree: &mut Tree, node: NodeNo) -> Progressed
-        requires walks { self.old.stage ≡ Stage.Walks node }
+        requires walks { self.old.stage ≡ PostStage.Walks node }
         requires may { MayPost tree.old self.old }
         ensures same { self.new ≡ record self.old { split = self.new.split; stage = self.new.stage } }
         ensures steps { PostLaw tree.old tree.new self.old result self.new }
@@ -239,7 +239,7 @@ impl Posting {
 
     // What is to be named is left out: no number is had for a new root.
     fn leave_out_root(&mut self, tree: &Tree, old: Root) -> Progressed
-        requires wants { self.old.stage ≡ Stage.RootWanted old }
+        requires wants { self.old.stage ≡ PostStage.RootWanted old }
         requires may { MayPost tree.now self.old }
         ensures same { self.new ≡ record self.old { split = self.new.split; stage = self.new.stage } }
         ensures steps { PostLaw tree.now tree.now self.old result self.new }
@@ -250,13 +250,13 @@ impl Posting {
             return Progressed::Ended;
         };
         self.split = None;
-        self.stage = Stage::HalfLeftOut(split);
+        self.stage = PostStage::HalfLeftOut(split);
         Progressed::Moved
     }
 
     // A number for the new root.
     fn spare_root(&mut self, tree: &mut Tree, old: Root) -> Progressed
-        requires wants { self.old.stage ≡ Stage.RootWanted old }
+        requires wants { self.old.stage ≡ PostStage.RootWanted old }
         requires may { MayPost tree.old self.old }
         ensures same { self.new ≡ record self.old { split = self.new.split; stage = self.new.stage } }
         ensures steps { PostLaw tree.old tree.new self.old result self.new }
@@ -266,7 +266,7 @@ impl Posting {
         let goal = self.goal();
         match tree.occupy(Node::Interior(Interior::new_locked(goal.level + 1, 0))) {
             Ok(root) => {
-                self.stage = Stage::RootSpared { old, root };
+                self.stage = PostStage::RootSpared { old, root };
                 Progressed::Moved
             }
             Err(_) => self.leave_out_root(tree, old),
@@ -275,7 +275,7 @@ impl Posting {
 
     // The new root has its two children, and is unlocked.
     fn fill_root(&mut self, tree: &mut Tree, old: Root, root: NodeNo) -> Progressed
-        requires spared { self.old.stage ≡ Stage.RootSpared old root }
+        requires spared { self.old.stage ≡ PostStage.RootSpared old root }
         requires may { MayPost tree.old self.old }
         ensures same { self.new ≡ record self.old { split = self.new.split; stage = self.new.stage } }
         ensures steps { PostLaw tree.old tree.new self.old result self.new }
@@ -289,13 +289,13 @@ impl Posting {
         };
         tree.fill_interior(root, &[first, self.goal()]);
         tree.unlock_interior(root);
-        self.stage = Stage::RootFilled { old, root };
+        self.stage = PostStage::RootFilled { old, root };
         Progressed::Moved
     }
 
     // The head, whose root is the old one, names the new root.
     fn name_over(&mut self, tree: &mut Tree, old: Root, root: NodeNo) -> Progressed
-        requires filled { self.old.stage ≡ Stage.RootFilled old root }
+        requires filled { self.old.stage ≡ PostStage.RootFilled old root }
         requires still { IsRootStill tree.old self.old.head.0 old }
         requires arena { IsArena tree.old }
         requires may { MayPost tree.old self.old }
@@ -310,13 +310,13 @@ impl Posting {
         };
         tree.name_root_over_half(self.head, root);
         self.split = None;
-        self.stage = Stage::HalfPosted(split);
+        self.stage = PostStage::HalfPosted(split);
         Progressed::Moved
     }
 
     // The head names the new root, where its root is the old one still.
     fn name_root(&mut self, tree: &mut Tree, old: Root, root: NodeNo) -> Progressed
-        requires filled { self.old.stage ≡ Stage.RootFilled old root }
+        requires filled { self.old.stage ≡ PostStage.RootFilled old root }
         requires may { MayPost tree.old self.old }
         ensures same { self.new ≡ record self.old { split = self.new.split; stage = self.new.stage } }
         ensures steps { PostLaw tree.old tree.new self.old result self.new }
@@ -326,7 +326,7 @@ impl Posting {
         let head = tree.head(self.head);
         let (deleted, there) = (head.is_deleted(), head.root());
         if deleted || there.0 != old.node.0 || head.level() != old.level {
-            self.stage = Stage::RootLate(root);
+            self.stage = PostStage::RootLate(root);
             return Progressed::Moved;
         }
         self.name_over(tree, old, root)
@@ -334,7 +334,7 @@ impl Posting {
 
     // Another root was named first: the number is given back, and it begins its way again.
     fn give_back(&mut self, tree: &mut Tree, root: NodeNo) -> Progressed
-        requires late { self.old.stage ≡ Stage.RootLate root }
+        requires late { self.old.stage ≡ PostStage.RootLate root }
         requires may { MayPost tree.old self.old }
         ensures same { self.new ≡ record self.old { split = self.new.split; stage = self.new.stage } }
         ensures steps { PostLaw tree.old tree.new self.old result self.new }
@@ -342,13 +342,13 @@ impl Posting {
         ensures ends { PostEnds tree.old tree.new self.old result }
     {
         tree.give_back(root);
-        self.stage = Stage::Walks(self.head);
+        self.stage = PostStage::Walks(self.head);
         Progressed::Moved
     }
 
     // A number for the new half of the interior that is locked.
     fn spare_half(&mut self, tree: &mut Tree, interior: NodeNo) -> Progressed
-        requires wants { self.old.stage ≡ Stage.HalfWanted interior }
+        requires wants { self.old.stage ≡ PostStage.HalfWanted interior }
         requires may { MayPost tree.old self.old }
         ensures same { self.new ≡ record self.old { split = self.new.split; stage = self.new.stage } }
         ensures steps { PostLaw tree.old tree.new self.old result self.new }
@@ -359,11 +359,11 @@ impl Posting {
         let (level, middle) = (split.level(), split.child(KEPT_CHILDREN));
         match tree.occupy(Node::Interior(Interior::new_locked(level, middle.low))) {
             Ok(half) => {
-                self.stage = Stage::HalfSpared { interior, half };
+                self.stage = PostStage::HalfSpared { interior, half };
                 Progressed::Moved
             }
             Err(_) => {
-                self.stage = Stage::LetGo(interior);
+                self.stage = PostStage::LetGo(interior);
                 Progressed::Moved
             }
         }
@@ -371,7 +371,7 @@ impl Posting {
 
     // The new half gets the upper children, and is to be posted one level above.
     fn fill_half(&mut self, tree: &mut Tree, interior: NodeNo, half: NodeNo) -> Progressed
-        requires spared { self.old.stage ≡ Stage.HalfSpared interior half }
+        requires spared { self.old.stage ≡ PostStage.HalfSpared interior half }
         requires may { MayPost tree.old self.old }
         ensures same { self.new ≡ record self.old { split = self.new.split; stage = self.new.stage } }
         ensures steps { PostLaw tree.old tree.new self.old result self.new }
@@ -400,13 +400,13 @@ impl Posting {
                 level,
             },
         });
-        self.stage = Stage::Walks(self.head);
+        self.stage = PostStage::Walks(self.head);
         Progressed::Moved
     }
 
     // The new half isn't posted: its number is given back.
     fn give_half_back(&mut self, tree: &mut Tree, split: Split) -> Progressed
-        requires left { self.old.stage ≡ Stage.HalfLeftOut split }
+        requires left { self.old.stage ≡ PostStage.HalfLeftOut split }
         requires may { MayPost tree.old self.old }
         ensures same { self.new ≡ record self.old { split = self.new.split; stage = self.new.stage } }
         ensures steps { PostLaw tree.old tree.new self.old result self.new }
@@ -414,13 +414,13 @@ impl Posting {
         ensures ends { PostEnds tree.old tree.new self.old result }
     {
         tree.give_back(split.half.node);
-        self.stage = Stage::LetGo(split.interior);
+        self.stage = PostStage::LetGo(split.interior);
         Progressed::Moved
     }
 
     // The interior is unlocked as it was, and the border left out.
     fn let_go(&mut self, tree: &mut Tree, interior: NodeNo) -> Progressed
-        requires lets { self.old.stage ≡ Stage.LetGo interior }
+        requires lets { self.old.stage ≡ PostStage.LetGo interior }
         requires may { MayPost tree.old self.old }
         ensures same { self.new ≡ record self.old { split = self.new.split; stage = self.new.stage } }
         ensures steps { PostLaw tree.old tree.new self.old result self.new }
@@ -433,7 +433,7 @@ impl Posting {
 
     // The interior keeps the first of its children, and is unlocked.
     fn cut(&mut self, tree: &mut Tree, split: Split) -> Progressed
-        requires posted { self.old.stage ≡ Stage.HalfPosted split }
+        requires posted { self.old.stage ≡ PostStage.HalfPosted split }
         requires may { MayPost tree.old self.old }
         ensures same { self.new ≡ record self.old { split = self.new.split; stage = self.new.stage } }
         ensures steps { PostLaw tree.old tree.new self.old result self.new }
@@ -442,13 +442,13 @@ impl Posting {
     {
         tree.keep_first(split.interior, KEPT_CHILDREN);
         tree.unlock_interior(split.interior);
-        self.stage = Stage::HalfCut(split.half.node);
+        self.stage = PostStage::HalfCut(split.half.node);
         Progressed::Moved
     }
 
     // The new half is unlocked, and the border's way begins again.
     fn unlock_half(&mut self, tree: &mut Tree, half: NodeNo) -> Progressed
-        requires cut { self.old.stage ≡ Stage.HalfCut half }
+        requires cut { self.old.stage ≡ PostStage.HalfCut half }
         requires may { MayPost tree.old self.old }
         ensures same { self.new ≡ record self.old { split = self.new.split; stage = self.new.stage } }
         ensures steps { PostLaw tree.old tree.new self.old result self.new }
@@ -456,7 +456,7 @@ impl Posting {
         ensures ends { PostEnds tree.old tree.new self.old result }
     {
         tree.unlock_interior(half);
-        self.stage = Stage::Walks(self.head);
+        self.stage = PostStage::Walks(self.head);
         Progressed::Moved
     }
 
@@ -469,17 +469,17 @@ impl Posting {
         ensures ends { PostEnds tree.old tree.new self.old result }
     {
         match self.stage {
-            Stage::Walks(node) => self.visit(tree, node),
-            Stage::RootWanted(old) => self.spare_root(tree, old),
-            Stage::RootSpared { old, root } => self.fill_root(tree, old, root),
-            Stage::RootFilled { old, root } => self.name_root(tree, old, root),
-            Stage::RootLate(root) => self.give_back(tree, root),
-            Stage::HalfWanted(interior) => self.spare_half(tree, interior),
-            Stage::HalfSpared { interior, half } => self.fill_half(tree, interior, half),
-            Stage::HalfLeftOut(split) => self.give_half_back(tree, split),
-            Stage::LetGo(interior) => self.let_go(tree, interior),
-            Stage::HalfPosted(split) => self.cut(tree, split),
-            Stage::HalfCut(half) => self.unlock_half(tree, half),
+            PostStage::Walks(node) => self.visit(tree, node),
+            PostStage::RootWanted(old) => self.spare_root(tree, old),
+            PostStage::RootSpared { old, root } => self.fill_root(tree, old, root),
+            PostStage::RootFilled { old, root } => self.name_root(tree, old, root),
+            PostStage::RootLate(root) => self.give_back(tree, root),
+            PostStage::HalfWanted(interior) => self.spare_half(tree, interior),
+            PostStage::HalfSpared { interior, half } => self.fill_half(tree, interior, half),
+            PostStage::HalfLeftOut(split) => self.give_half_back(tree, split),
+            PostStage::LetGo(interior) => self.let_go(tree, interior),
+            PostStage::HalfPosted(split) => self.cut(tree, split),
+            PostStage::HalfCut(half) => self.unlock_half(tree, half),
         }
     }
 }

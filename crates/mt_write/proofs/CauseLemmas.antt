@@ -2,7 +2,7 @@
 use Rattle.std.proofs.Common.{◌≡◌, ◌<◌, if◌then◌else◌, Bool, length, arith, Option, Some, None, Result, Ok, Err, MatchResult, sym, ap, subst, ◌∙◌}
 use Rattle.mt_types.specs.declared.refusal.Refusal.{Refusal}
 use Rattle.mt_types.specs.declared.refusal.Refusal.TheVariants.{NoMemory}
-use Rattle.mt_write.specs.declared.writing.Split.{Split}
+use Rattle.mt_write.specs.declared.writing.Halves.{Halves}
 use Rattle.mt_write.specs.declared.writing.Edit.{Edit}
 use Rattle.mt_write.specs.declared.work.Work.{Work}
 use Rattle.mt_write.specs.declared.work.Work.TheVariants.{Get as GetWork, Write as WriteWork, Range as RangeWork}
@@ -26,7 +26,7 @@ use Rattle.mt_border.specs.declared.found.Found.TheVariants.{Absent}
 use Rattle.mt_calls.proofs.SplitLemmas.{eqb-ne}
 
 -- a stage that isn't failed fails for nothing
-not_failed : (split : Option Split) (stage : Stage) → IsNotFailed stage → FailsBy None split stage
+not_failed : (split : Option Halves) (stage : Stage) → IsNotFailed stage → FailsBy None split stage
 not_failed split (Failed refusal halves) never = absurd never
 not_failed split Seeks h = tt
 not_failed split Locked h = tt
@@ -43,14 +43,14 @@ not_failed split (Made place key columns logged) h = tt
 not_failed split (Taken place key before) h = tt
 not_failed split (Stored commit halves) h = tt
 
-pub ready_ok : (fault : Option Refusal) (made : Result Stage Refusal) (stage : Stage) (split : Option Split) → ReadyFor fault made → made ≡ Ok stage → FailsBy fault split stage
+pub ready_ok : (fault : Option Refusal) (made : Result Stage Refusal) (stage : Stage) (split : Option Halves) → ReadyFor fault made → made ≡ Ok stage → FailsBy fault split stage
 ready_ok None made stage split ready is = not_failed split stage (subst (λ (r : Result Stage Refusal). MatchResult r IsNotFailed (λ refusal. refusal ≡ NoMemory)) is ready)
 ready_ok (Some fault) made stage split ready is = absurd (never (sym ready ∙ is))
   where
     never : ◌≡◌ {A = Result Stage Refusal} (Err fault) (Ok stage) → ⊥
     never e = cc
 
-pub ready_err : (fault : Option Refusal) (made : Result Stage Refusal) (refusal : Refusal) (split : Option Split) → ReadyFor fault made → made ≡ Err refusal → FailsBy fault split (Failed refusal split)
+pub ready_err : (fault : Option Refusal) (made : Result Stage Refusal) (refusal : Refusal) (split : Option Halves) → ReadyFor fault made → made ≡ Err refusal → FailsBy fault split (Failed refusal split)
 ready_err None made refusal split ready is = subst (λ (r : Result Stage Refusal). MatchResult r IsNotFailed (λ refusal. refusal ≡ NoMemory)) is ready
 ready_err (Some fault) made refusal split ready is = (let both : ◌≡◌ {A = Result Stage Refusal} (Err fault) (Err refusal) = sym ready ∙ is in let same : fault ≡ refusal = cc in ap (λ (r : Refusal). Failed r split) (sym same))
 

@@ -24,13 +24,14 @@ use Rattle.mt_tree.proofs.DescentLemmas.{slice_of_place}
 use Rattle.mt_tree.proofs.SeenLemmas.{seen-border}
 use Rattle.mt_calls.specs.declared.way.Way.{Way}
 use Rattle.mt_write.specs.declared.writing.Edit.{Edit}
-use Rattle.mt_write.specs.declared.writing.Split.{Split}
+use Rattle.mt_write.specs.declared.writing.Halves.{Halves}
 use Rattle.mt_write.specs.declared.writing.Stage.TheVariants.{Spared, HalfFilled, Halved}
 use Rattle.mt_calls.specs.declared.progress.Progress.TheVariants.{Moved}
 use Rattle.mt_calls.specs.World.{World}
 use Rattle.mt_calls.specs.Way.{rest_of, prefix_of}
 use Rattle.mt_calls.specs.Step.{StepLaw, Stepped}
-use Rattle.mt_write.specs.Writing.{edit_request, stage_held, StageIsTrue, IsLockedAt, IsLockedBorder, HasLocked, IsSplit, IsSpare, IsCutAt, IsHalf, IsAbsent, IsHalfOf, empty_half, upper_half}
+use Rattle.mt_write.specs.Writing.{edit_request, stage_held, StageIsTrue, IsLockedAt, HasLocked, IsSplit, IsSpare, IsCutAt, IsHalf, IsAbsent, IsHalfOf, empty_half, upper_half}
+use Rattle.mt_calls.specs.World.{IsLockedBorder}
 use Rattle.mt_calls.proofs.FoundLemmas.{some_at, some_and}
 use Rattle.mt_write.proofs.AbsentLemmas.{none_has, absent_part, absent_last}
 use Rattle.mt_calls.proofs.BorderLemmas.{now_named, others_named}
@@ -90,7 +91,7 @@ module _ (C : ℕ) (a : ArenaView) (log : LogView) (key : List ℕ) (edit : Edit
   abbrev link : ℕ → BorderView → BorderView
   link low b = with_split b cut (record { low = low; node = half })
 
-  abbrev halves : Split
+  abbrev halves : Halves
   halves = record { left = way.node; half = half }
 
   abbrev LinkLaw : ArenaView → Way → Type 0
@@ -258,8 +259,8 @@ module _ (C begun : ℕ) (a : ArenaView) (w : World) (key : List ℕ) (edit : Ed
       (subst (λ (o : Option BorderView). IsSomeAnd o (λ upper. IsUpperHalf b upper cut)) (sym s.named) (half_is_upper key edit way b cut c))
 
 -- the left half is locked
-pub left_is_locked : (prefix : List ℕ) (a : ArenaView) (w : World) (number : ℕ) (split : Option Split) (halves : Split) → split ≡ Some halves → HasLocked prefix a w number split → IsSomeAnd (border_at a.nodes halves.left.0) (λ b. b.version.locked ≡ true)
+pub left_is_locked : (prefix : List ℕ) (a : ArenaView) (w : World) (number : ℕ) (split : Option Halves) (halves : Halves) → split ≡ Some halves → HasLocked prefix a w number split → IsSomeAnd (border_at a.nodes halves.left.0) (λ b. b.version.locked ≡ true)
 left_is_locked prefix a w number split halves is has =
-    let both : HasLocked prefix a w number (Some halves) = subst (λ (s : Option Split). HasLocked prefix a w number s) is has in
+    let both : HasLocked prefix a w number (Some halves) = subst (λ (s : Option Halves). HasLocked prefix a w number s) is has in
     let left = both.locked halves.left.0 (later first) in
     subst (λ (o : Option BorderView). IsSomeAnd o (λ b. b.version.locked ≡ true)) (sym left.named) left.locked

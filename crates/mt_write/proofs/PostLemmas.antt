@@ -24,12 +24,13 @@ use Rattle.mt_post.specs.declared.posting.Posting.{Posting}
 use Rattle.mt_post.specs.declared.posting.Progressed.TheVariants.{Moved as WentOn, Waits as Again, Ended}
 use Rattle.mt_post.specs.Posting.{PostLaw, PostingIsTrue, NewPostingIsTrue, owned as posting_owned}
 use Rattle.mt_write.specs.declared.writing.Edit.{Edit}
-use Rattle.mt_write.specs.declared.writing.Split.{Split}
+use Rattle.mt_write.specs.declared.writing.Halves.{Halves}
 use Rattle.mt_write.specs.declared.writing.Ending.{Ending}
 use Rattle.mt_write.specs.declared.writing.Ending.TheVariants.{Stored as EndStored, Failed as EndFailed}
 use Rattle.mt_write.specs.declared.writing.Stage.{Stage}
 use Rattle.mt_write.specs.declared.writing.Stage.TheVariants.{Posts, Stored, Failed}
-use Rattle.mt_write.specs.Writing.{edit_request, stage_held, owned, StageIsTrue, HeadedStage, IsLockedBorder, HasLocked, MayEnd, ending_stage}
+use Rattle.mt_write.specs.Writing.{edit_request, stage_held, owned, StageIsTrue, HeadedStage, HasLocked, MayEnd, ending_stage}
+use Rattle.mt_calls.specs.World.{IsLockedBorder}
 use Rattle.mt_calls.specs.declared.way.Went.{Went}
 use Rattle.mt_calls.specs.declared.way.Went.TheVariants.{To}
 use Rattle.mt_calls.specs.Way.{GoesTo, Visits}
@@ -114,7 +115,7 @@ module _ (C : ℕ) (a : ArenaView) (key : List ℕ) (edit : Edit) (way : Way) (h
   })
 
 -- ---- the left half is unlocked
-module _ (C : ℕ) (a : ArenaView) (log : LogView) (key : List ℕ) (edit : Edit) (way : Way) (split : Split) (after : ArenaView) (is : after ≡ with_border_changed a split.left.0 (λ b. with_lock b false)) (keeps : KeepsTree a after) where
+module _ (C : ℕ) (a : ArenaView) (log : LogView) (key : List ℕ) (edit : Edit) (way : Way) (split : Halves) (after : ArenaView) (is : after ≡ with_border_changed a split.left.0 (λ b. with_lock b false)) (keeps : KeepsTree a after) where
   abbrev on_half : Way
   on_half = record { node = split.half; layer = way.layer }
 
@@ -143,7 +144,7 @@ module _ (C : ℕ) (a : ArenaView) (log : LogView) (key : List ℕ) (edit : Edit
       )
 
   -- what the call has locked, and how it may end
-  ending_truth : (begun : ℕ) (w : World) (ending : Ending) (halves : Option Split) → StageIsTrue C key edit way (ending_stage ending halves) begun a w → HasLocked (prefix_of key way) a w way.node.0 halves × MayEnd key edit ending
+  ending_truth : (begun : ℕ) (w : World) (ending : Ending) (halves : Option Halves) → StageIsTrue C key edit way (ending_stage ending halves) begun a w → HasLocked (prefix_of key way) a w way.node.0 halves × MayEnd key edit ending
   ending_truth begun w (EndStored commit) halves truth = (truth, tt)
   ending_truth begun w (EndFailed refusal) halves truth = truth
 
@@ -188,7 +189,7 @@ module _ (C : ℕ) (a : ArenaView) (log : LogView) (key : List ℕ) (edit : Edit
     }
 
 -- both halves are locked
-pub halves_locked : (C begun : ℕ) (a : ArenaView) (w : World) (key : List ℕ) (edit : Edit) (way : Way) (split : Split) (ending : Ending) → StageIsTrue C key edit way (ending_stage ending (Some split)) begun a w → IsLockedBorder a w split.left.0 × IsLockedBorder a w split.half.0
+pub halves_locked : (C begun : ℕ) (a : ArenaView) (w : World) (key : List ℕ) (edit : Edit) (way : Way) (split : Halves) (ending : Ending) → StageIsTrue C key edit way (ending_stage ending (Some split)) begun a w → IsLockedBorder a w split.left.0 × IsLockedBorder a w split.half.0
 halves_locked C begun a w key edit way split (EndStored commit) truth = (truth.locked split.left.0 (later first), truth.locked split.half.0 first)
 halves_locked C begun a w key edit way split (EndFailed refusal) truth = (truth.0.locked split.left.0 (later first), truth.0.locked split.half.0 first)
 
@@ -247,7 +248,7 @@ module _ (C : ℕ) (a after : ArenaView) (log : LogView) (key : List ℕ) (edit 
   ends_posting now begun w More world before law truth half_is more =
       let (goes, content) = law.steps now begun w world before truth in (
         subst (λ (h : NodeNo). Goes now a after w (posting_owned posting) (h.0 ∷ []) More) (ap (λ (q : Posting). q.half) same ∙ half_is)
-            (goes_more now a after w _ _ _ More goes (λ evolves t. more goes.next (evolves begun before) (still goes.next (ap (λ (q : Posting). q.half) same ∙ half_is) (record { b = t.b; named = t.named; known = t.known; locked = t.locked })))),
+            (goes_more now a after w _ _ _ More goes (λ evolves t. more goes.next (evolves begun before) (still goes.next (ap (λ (q : Posting). q.half) same ∙ half_is) t))),
         record { content = content; trimmed = refl; deltas = refl },
       )
 

@@ -14,7 +14,7 @@ use Rattle.mt_tree.specs.Seen.{arena_seen}
 use Rattle.mt_calls.specs.declared.way.Way.{Way}
 use Rattle.mt_calls.specs.World.{World, IsWorld, Goes}
 use Rattle.mt_calls.proofs.LayerLemmas.{goes_two, two_apart}
-use Rattle.mt_write.specs.declared.writing.Split.{Split}
+use Rattle.mt_write.specs.declared.writing.Halves.{Halves}
 use Rattle.mt_write.specs.declared.writing.Layer.{Layer}
 use Rattle.mt_write.specs.Writing.{IsLockedAt, HasLocked, AreHalves, LayerSpares, IsToFill, layer_owned}
 use Rattle.mt_write.proofs.WorkLemmas.{locked_at_stays}
@@ -24,7 +24,7 @@ pub vacant_border : (a : ArenaView) (n : ℕ) (b : BorderView) → node_at a.nod
 vacant_border a n b vacant named = (let clash : ◌≡◌ {A = Option BorderView} None (Some b) = sym (ap (option_and_then border_of) vacant) ∙ named in cc)
 
 -- what the call has locked, where a spare was occupied and given back
-pub has_locked_back : (prefix : List ℕ) (a between after : ArenaView) (w : World) (n : ℕ) (split : Option Split) (number : ℕ) (node : Node) → node_at a.nodes number ≡ None → Updates a.nodes between.nodes number (Some node) → Updates between.nodes after.nodes number None
+pub has_locked_back : (prefix : List ℕ) (a between after : ArenaView) (w : World) (n : ℕ) (split : Option Halves) (number : ℕ) (node : Node) → node_at a.nodes number ≡ None → Updates a.nodes between.nodes number (Some node) → Updates between.nodes after.nodes number None
     → HasLocked prefix a w n split → HasLocked prefix after w n split
 has_locked_back prefix a between after w n split number node vacant updates back has = record {
   locked = λ other i.
@@ -35,7 +35,7 @@ has_locked_back prefix a between after w n split number node vacant updates back
   halves = halves_back split has.halves;
 }
   where
-    halves_back : (split : Option Split) → AreHalves prefix a w split → AreHalves prefix after w split
+    halves_back : (split : Option Halves) → AreHalves prefix a w split → AreHalves prefix after w split
     halves_back None halves = tt
     halves_back (Some split) halves = record {
       apart = halves.apart;

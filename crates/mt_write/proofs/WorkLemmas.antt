@@ -25,7 +25,7 @@ use Rattle.mt_write.specs.declared.writing.Write.{Write}
 use Rattle.mt_write.specs.declared.writing.Edit.{Edit}
 use Rattle.mt_write.specs.declared.writing.Stage.{Stage}
 use Rattle.mt_write.specs.declared.writing.Stage.TheVariants.{Seeks, Locked, Spared, HalfFilled, Halved, Posts, LayerSpared, LayerFilled, LayerReady, Layered, Filled, Made, Taken, Stored, Failed}
-use Rattle.mt_write.specs.declared.writing.Split.{Split}
+use Rattle.mt_write.specs.declared.writing.Halves.{Halves}
 use Rattle.mt_write.specs.declared.writing.Layer.{Layer}
 use Rattle.mt_calls.specs.declared.progress.Progress.{Progress}
 use Rattle.mt_write.specs.declared.work.Work.{Work}
@@ -37,7 +37,8 @@ use Rattle.mt_chart.proofs.Walk.{known_kept}
 use Rattle.mt_post.proofs.PostingLasts.{posting_stays, posting_taken}
 use Rattle.mt_calls.specs.Step.{Held, Truth, StepLaw, nothing}
 use Rattle.mt_calls.specs.Getting.{GetIsTrue, get_request}
-use Rattle.mt_write.specs.Writing.{StageIsTrue, stage_held, IsLockedAt, IsLockedBorder, HasLocked, AreHalves, HasLayer, IsSpare, owned, layer_owned, way_below, WriteIsTrue, write_request, write_held}
+use Rattle.mt_write.specs.Writing.{StageIsTrue, stage_held, IsLockedAt, HasLocked, AreHalves, HasLayer, IsSpare, owned, layer_owned, way_below, WriteIsTrue, write_request, write_held}
+use Rattle.mt_calls.specs.World.{IsLockedBorder}
 use Rattle.mt_write.specs.Works.{request_of, held, IsTrue}
 
 -- ---- a step of one kind is a step of a call
@@ -94,7 +95,7 @@ module _ (a after : ArenaView) (w next : World) where
     root_unknown = root_same.spot ∙ has.root_unknown;
   }
 
-  halves_stay : (prefix : List ℕ) (split : Option Split) → ((half : Split) → split ≡ Some half → IsSame a after w next half.half.0) → AreHalves prefix a w split → AreHalves prefix after next split
+  halves_stay : (prefix : List ℕ) (split : Option Halves) → ((half : Halves) → split ≡ Some half → IsSame a after w next half.half.0) → AreHalves prefix a w split → AreHalves prefix after next split
   halves_stay prefix None same halves = tt
   halves_stay prefix (Some split) same halves = record {
     apart = halves.apart;
@@ -103,10 +104,10 @@ module _ (a after : ArenaView) (w next : World) where
     low_is = λ b is. halves.low_is b (ap (option_and_then border_of) (sym (same split refl).node) ∙ is);
   }
 
-  half_owned : (number : ℕ) (split : Option Split) (half : Split) → split ≡ Some half → Among half.half.0 (owned number split)
-  half_owned number split half is = subst (λ (s : Option Split). Among half.half.0 (owned number s)) (sym is) first
+  half_owned : (number : ℕ) (split : Option Halves) (half : Halves) → split ≡ Some half → Among half.half.0 (owned number split)
+  half_owned number split half is = subst (λ (s : Option Halves). Among half.half.0 (owned number s)) (sym is) first
 
-  has_locked_stays : (prefix : List ℕ) (number : ℕ) (split : Option Split) → ((other : ℕ) → Among other (owned number split) → IsSame a after w next other) → HasLocked prefix a w number split → HasLocked prefix after next number split
+  has_locked_stays : (prefix : List ℕ) (number : ℕ) (split : Option Halves) → ((other : ℕ) → Among other (owned number split) → IsSame a after w next other) → HasLocked prefix a w number split → HasLocked prefix after next number split
   has_locked_stays prefix number split same has = record {
     locked = λ other i. locked_stays other (same other i) (has.locked other i);
     own = has.own;
@@ -149,7 +150,7 @@ border_taken a w n number b named locked first = inl (subst (λ (x : Option Node
 border_taken a w n number b named locked (later i) = elim i [ ]
 
 module _ (C begun moves : ℕ) (past : List Arena) (a : ArenaView) (w : World) where
-  all_taken : (prefix : List ℕ) (n : ℕ) (split : Option Split) → HasLocked prefix a w n split → (number : ℕ) → Among number (owned n split) → IsTaken a w number
+  all_taken : (prefix : List ℕ) (n : ℕ) (split : Option Halves) → HasLocked prefix a w n split → (number : ℕ) → Among number (owned n split) → IsTaken a w number
   all_taken prefix n split has number i = let k = has.locked number i in inl (subst (λ (x : Option Node). IsLocked x) (sym (node-from_border a.nodes number k.b k.named)) k.locked)
 
   spare_taken : (half n number : ℕ) (u : BorderView) → IsSpare a w half u → (b : BorderView) → border_at a.nodes n ≡ Some b → b.version.locked ≡ true → Among number (half ∷ n ∷ []) → IsTaken a w number

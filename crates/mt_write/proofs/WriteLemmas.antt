@@ -55,13 +55,14 @@ use Rattle.mt_write.specs.declared.writing.Edit.{Edit}
 use Rattle.mt_write.specs.declared.writing.Edit.TheVariants.{Put as PutEdit, Remove as RemoveEdit}
 use Rattle.mt_write.specs.declared.writing.Stage.{Stage}
 use Rattle.mt_write.specs.declared.writing.Stage.TheVariants.{Seeks, Locked, Spared, HalfFilled, Halved, Posts, LayerSpared, LayerFilled, LayerReady, Layered, Filled, Made, Taken, Stored, Failed}
-use Rattle.mt_write.specs.declared.writing.Split.{Split}
+use Rattle.mt_write.specs.declared.writing.Halves.{Halves}
 use Rattle.mt_calls.specs.declared.progress.Progress.{Progress}
 use Rattle.mt_calls.specs.declared.progress.Progress.TheVariants.{Moved, Waits, Committed, Answered, Refused}
 use Rattle.mt_calls.specs.World.{World, IsWorld, RowsAreOfKeys, Goes}
 use Rattle.mt_calls.specs.Way.{rest_of, prefix_of, IsLayerOf, IsOnWay, IsAtPlace, GoesTo, Visits}
 use Rattle.mt_calls.specs.Step.{Held, Truth, Stepped, StepLaw, MayStep, RowIs, IsQuiet, put_row, Commits, Changes, MayRefuse, IsRight}
-use Rattle.mt_write.specs.Writing.{edit_request, written_answer, stage_held, IsLockedAt, IsLockedBorder, HasLocked, AreHalves, empty_half, owned, SomeSets, IsBack, IsFilled, IsMade, IsFound, StageIsTrue, HeadedStage, new_entry, Fills, Prepares, PreparesRemove, LacksRow, put_delta, remove_delta}
+use Rattle.mt_write.specs.Writing.{edit_request, written_answer, stage_held, IsLockedAt, HasLocked, AreHalves, empty_half, owned, SomeSets, IsBack, IsFilled, IsMade, IsFound, StageIsTrue, HeadedStage, new_entry, Fills, Prepares, PreparesRemove, LacksRow, put_delta, remove_delta}
+use Rattle.mt_calls.specs.World.{IsLockedBorder}
 use Rattle.mt_calls.proofs.FrameLemmas.{goes_same, quiet_same}
 use Rattle.std.specs.Prelude.{IsSomeAnd, IsTrue}
 use Rattle.mt_calls.proofs.FoundLemmas.{some_at}
@@ -230,7 +231,7 @@ alone a key way b w at = record {
 pub other_locked : (a : ArenaView) (n : ℕ) (b : BorderView) (change : BorderView → BorderView) (named : border_at a.nodes n ≡ Some b) (w : World) (other : ℕ) → other ≢ n → IsLockedBorder a w other → IsLockedBorder (with_border_changed a n change) w other
 other_locked a n b change named w other differ k = record { b = k.b; named = ap (option_and_then border_of) (others_named a n b change named other differ) ∙ k.named; known = k.known; locked = k.locked }
 
-halves_changed : (prefix : List ℕ) (a : ArenaView) (n : ℕ) (b : BorderView) (change : BorderView → BorderView) (named : border_at a.nodes n ≡ Some b) (w : World) (split : Option Split) → (change b).low ≡ b.low → AreHalves prefix a w split → AreHalves prefix (with_border_changed a n change) w split
+halves_changed : (prefix : List ℕ) (a : ArenaView) (n : ℕ) (b : BorderView) (change : BorderView → BorderView) (named : border_at a.nodes n ≡ Some b) (w : World) (split : Option Halves) → (change b).low ≡ b.low → AreHalves prefix a w split → AreHalves prefix (with_border_changed a n change) w split
 halves_changed prefix a n b change named w None low halves = tt
 halves_changed prefix a n b change named w (Some split) low halves = record {
   apart = halves.apart;
@@ -243,7 +244,7 @@ halves_changed prefix a n b change named w (Some split) low halves = record {
   ];
 }
 
-has_changed : (prefix : List ℕ) (a : ArenaView) (n : ℕ) (b : BorderView) (change : BorderView → BorderView) (named : border_at a.nodes n ≡ Some b) (w : World) (split : Option Split) → (change b).version.locked ≡ true → (change b).low ≡ b.low → HasLocked prefix a w n split → HasLocked prefix (with_border_changed a n change) w n split
+has_changed : (prefix : List ℕ) (a : ArenaView) (n : ℕ) (b : BorderView) (change : BorderView → BorderView) (named : border_at a.nodes n ≡ Some b) (w : World) (split : Option Halves) → (change b).version.locked ≡ true → (change b).low ≡ b.low → HasLocked prefix a w n split → HasLocked prefix (with_border_changed a n change) w n split
 has_changed prefix a n b change named w split locked low has = record {
   locked = λ other i. elim (same_number other n) [
     | inl e ↦ subst (λ (m : ℕ). IsLockedBorder (with_border_changed a n change) w m) (sym e) (record { b = change b; named = now_named a n b change named; known = (has.locked n has.own).known; locked = locked })
@@ -294,7 +295,7 @@ module _ (C : ℕ) (a : ArenaView) (log : LogView) (key : List ℕ) (sets : List
         entry = next.holds;
       }
 
-  ready_fill : (split : Option Split) (place : ℕ) (stored : List ℕ) (logged : List (List ℕ)) (after : ArenaView) (left : LogView) → Fills C key sets way a log place stored logged after left → (now begun moves : ℕ) (past : List Arena) (w : World) → IsWorld a now w → (b : BorderView) → IsLockedAt a key way b w → HasLocked (prefix_of key way) a w way.node.0 split
+  ready_fill : (split : Option Halves) (place : ℕ) (stored : List ℕ) (logged : List (List ℕ)) (after : ArenaView) (left : LogView) → Fills C key sets way a log place stored logged after left → (now begun moves : ℕ) (past : List Arena) (w : World) → IsWorld a now w → (b : BorderView) → IsLockedAt a key way b w → HasLocked (prefix_of key way) a w way.node.0 split
       → Stepped C now moves past a after log left w (PutRequest key sets) (record { owns = owned way.node.0 split; reserves = 0; committed = None }) Moved (stage_held way.node.0 (Filled place stored logged split)) (λ m next. StageIsTrue C key (PutEdit sets) way (Filled place stored logged split) begun after next)
   ready_fill split place stored logged after left f now begun moves past w world b at has =
       let same : f.b ≡ b = (let both : ◌≡◌ {A = Option BorderView} (Some f.b) (Some b) = sym f.named ∙ at.named in cc) in
@@ -321,11 +322,11 @@ module _ (C : ℕ) (a : ArenaView) (log : LogView) (key : List ℕ) (sets : List
         may = λ get. absurd (let clash : false ≡ true = get in cc);
       })
 
-  abbrev FailStep : ArenaView → LogView → Option Split → Refusal → ℕ → ℕ → ℕ → List Arena → World → Type 0
+  abbrev FailStep : ArenaView → LogView → Option Halves → Refusal → ℕ → ℕ → ℕ → List Arena → World → Type 0
   FailStep after left split refusal now begun moves past w =
       Stepped C now moves past a after log left w (PutRequest key sets) (record { owns = owned way.node.0 split; reserves = 0; committed = None }) Moved (stage_held way.node.0 (Failed refusal split)) (λ m next. StageIsTrue C key (PutEdit sets) way (Failed refusal split) begun after next)
 
-  ready_fail : (split : Option Split) (refusal : Refusal) (after : ArenaView) (left : LogView) → MayRefuse (PutRequest key sets) refusal × IsBack a after × (left ≡ log) → (now begun moves : ℕ) (past : List Arena) (w : World) → IsWorld a now w → HasLocked (prefix_of key way) a w way.node.0 split → FailStep after left split refusal now begun moves past w
+  ready_fail : (split : Option Halves) (refusal : Refusal) (after : ArenaView) (left : LogView) → MayRefuse (PutRequest key sets) refusal × IsBack a after × (left ≡ log) → (now begun moves : ℕ) (past : List Arena) (w : World) → IsWorld a now w → HasLocked (prefix_of key way) a w way.node.0 split → FailStep after left split refusal now begun moves past w
   ready_fail split refusal after left (may, back, same_log) now begun moves past w world has = subst (λ (l : LogView). FailStep after l split refusal now begun moves past w) (sym same_log) (elim back [
     | inl same ↦ subst (λ (x : ArenaView). FailStep x log split refusal now begun moves past w) (sym same) (record {
       goes = goes_same now a w _ (owned way.node.0 split) (owned way.node.0 split) refl world (has, may);
@@ -348,7 +349,7 @@ module _ (C : ℕ) (a : ArenaView) (log : LogView) (key : List ℕ) (sets : List
   ])
 
   ready : (stage : Stage) (after : ArenaView) (left : LogView) → Prepares C key sets way a log None stage after left → ReadyLaw after left stage
-  ready (Filled place stored logged split) after left (none, f) = subst (λ (s : Option Split). ReadyLaw after left (Filled place stored logged s)) (sym none) (record {
+  ready (Filled place stored logged split) after left (none, f) = subst (λ (s : Option Halves). ReadyLaw after left (Filled place stored logged s)) (sym none) (record {
     steps = λ now begun moves past w world before truth. let (b, at) = truth in ready_fill None place stored logged after left f now begun moves past w world b at (alone a key way b w at);
   })
   ready (Spared half cut entries) after left (none, f, same_log) = record {
@@ -403,7 +404,7 @@ module _ (C : ℕ) (a : ArenaView) (log : LogView) (key : List ℕ) (sets : List
           may = λ get. absurd (let clash : false ≡ true = get in cc);
         });
   }
-  ready (Failed refusal split) after left (none, may, same, same_log) = subst (λ (s : Option Split). ReadyLaw after left (Failed refusal s)) (sym none) (record {
+  ready (Failed refusal split) after left (none, may, same, same_log) = subst (λ (s : Option Halves). ReadyLaw after left (Failed refusal s)) (sym none) (record {
     steps = λ now begun moves past w world before truth. let (b, at) = truth in ready_fail None refusal after left (may, same, same_log) now begun moves past w world (alone a key way b w at);
   })
   ready (HalfFilled half cut) after left f = absurd f
@@ -425,15 +426,15 @@ module _ (C : ℕ) (a : ArenaView) (log : LogView) (key : List ℕ) (sets : List
       (ready stage after left p))
 
 -- ---- ready in a half
-one_or_none : {x : Split} → ◌≡◌ {A = Option Split} (Some x) None → ⊥
+one_or_none : {x : Halves} → ◌≡◌ {A = Option Halves} (Some x) None → ⊥
 one_or_none e = cc
 
-half_ready : (C : ℕ) (a : ArenaView) (log : LogView) (key : List ℕ) (sets : List (ℕ × List ℕ)) (way : Way) (split : Split) (stage : Stage) (after : ArenaView) (left : LogView) → Prepares C key sets way a log (Some split) stage after left
+half_ready : (C : ℕ) (a : ArenaView) (log : LogView) (key : List ℕ) (sets : List (ℕ × List ℕ)) (way : Way) (split : Halves) (stage : Stage) (after : ArenaView) (left : LogView) → Prepares C key sets way a log (Some split) stage after left
     → StepLaw C a after log left (PutRequest key sets) (stage_held way.node.0 (Halved split)) Moved (stage_held way.node.0 stage) (λ begun moves past x w. StageIsTrue C key (PutEdit sets) way (Halved split) begun x w) (λ begun moves past x w. StageIsTrue C key (PutEdit sets) way stage begun x w)
-half_ready C a log key sets way split (Filled place stored logged halves) after left (is, f) = subst (λ (s : Option Split). StepLaw C a after log left (PutRequest key sets) (stage_held way.node.0 (Halved split)) Moved (stage_held way.node.0 (Filled place stored logged s)) (λ begun moves past x w. StageIsTrue C key (PutEdit sets) way (Halved split) begun x w) (λ begun moves past x w. StageIsTrue C key (PutEdit sets) way (Filled place stored logged s) begun x w)) (sym is) (record {
+half_ready C a log key sets way split (Filled place stored logged halves) after left (is, f) = subst (λ (s : Option Halves). StepLaw C a after log left (PutRequest key sets) (stage_held way.node.0 (Halved split)) Moved (stage_held way.node.0 (Filled place stored logged s)) (λ begun moves past x w. StageIsTrue C key (PutEdit sets) way (Halved split) begun x w) (λ begun moves past x w. StageIsTrue C key (PutEdit sets) way (Filled place stored logged s) begun x w)) (sym is) (record {
   steps = λ now begun moves past w world before truth. let (b, at, h, has) = truth in ready_fill C a log key sets way (Some split) place stored logged after left f now begun moves past w world b at has;
 })
-half_ready C a log key sets way split (Failed refusal halves) after left (is, may, same, same_log) = subst (λ (s : Option Split). StepLaw C a after log left (PutRequest key sets) (stage_held way.node.0 (Halved split)) Moved (stage_held way.node.0 (Failed refusal s)) (λ begun moves past x w. StageIsTrue C key (PutEdit sets) way (Halved split) begun x w) (λ begun moves past x w. StageIsTrue C key (PutEdit sets) way (Failed refusal s) begun x w)) (sym is) (record {
+half_ready C a log key sets way split (Failed refusal halves) after left (is, may, same, same_log) = subst (λ (s : Option Halves). StepLaw C a after log left (PutRequest key sets) (stage_held way.node.0 (Halved split)) Moved (stage_held way.node.0 (Failed refusal s)) (λ begun moves past x w. StageIsTrue C key (PutEdit sets) way (Halved split) begun x w) (λ begun moves past x w. StageIsTrue C key (PutEdit sets) way (Failed refusal s) begun x w)) (sym is) (record {
   steps = λ now begun moves past w world before truth. let (b, at, h, has) = truth in ready_fail C a log key sets way (Some split) refusal after left (may, same, same_log) now begun moves past w world has;
 })
 half_ready C a log key sets way split Seeks after left f = absurd f
@@ -450,7 +451,7 @@ half_ready C a log key sets way split (Made place stored columns logged) after l
 half_ready C a log key sets way split (Taken place stored before) after left f = absurd f
 half_ready C a log key sets way split (Stored number s) after left f = absurd f
 
-pub half_readies : (C : ℕ) (a : ArenaView) (log : LogView) (key : List ℕ) (edit : Edit) (way : Way) (split : Split) (stage : Stage) (after : ArenaView) (left : LogView) → SomeSets edit (λ sets. Prepares C key sets way a log (Some split) stage after left)
+pub half_readies : (C : ℕ) (a : ArenaView) (log : LogView) (key : List ℕ) (edit : Edit) (way : Way) (split : Halves) (stage : Stage) (after : ArenaView) (left : LogView) → SomeSets edit (λ sets. Prepares C key sets way a log (Some split) stage after left)
     → StepLaw C a after log left (edit_request key edit) (stage_held way.node.0 (Halved split)) Moved (stage_held way.node.0 stage) (λ begun moves past x w. StageIsTrue C key edit way (Halved split) begun x w) (λ begun moves past x w. StageIsTrue C key edit way stage begun x w)
 half_readies C a log key (PutEdit sets) way split stage after left p = half_ready C a log key sets way split stage after left p
 half_readies C a log key RemoveEdit way split stage after left p = absurd p
@@ -473,7 +474,7 @@ module _ (C : ℕ) (a : ArenaView) (log : LogView) (key : List ℕ) (edit : Edit
       found_is_row a key way now w rest (found_for rest b.live) b refl at.named refl (tells_row a way.node.0 rest b at.named sound (bytes-drop (8 * way.layer) key bytes)) world
       (record { layer = at.layer; here = record { border = b; named = at.named; stands = at.stands }; alive = at.alive; last = at.last })
 
-  abbrev CommitLaw : ArenaView → LogView → ℕ → Option Split → Stage → Type 0
+  abbrev CommitLaw : ArenaView → LogView → ℕ → Option Halves → Stage → Type 0
   CommitLaw after left number split stage = StepLaw C a after log left (edit_request key edit) (stage_held way.node.0 stage) (Committed number) (stage_held way.node.0 (Stored number split)) (λ begun moves past x w. StageIsTrue C key edit way stage begun x w) (λ begun moves past x w. StageIsTrue C key edit way (Stored number split) begun x w)
 
   -- another row at the key, or none, in place of what stood there
@@ -525,7 +526,7 @@ module _ (C : ℕ) (a : ArenaView) (log : LogView) (key : List ℕ) (edit : Edit
     (λ either. (adds other shown).1 (elim either [ inl here ↦ inl here | inr there ↦ inr there.0 ])),
   )
 
-  pub shows : (split : Option Split) (place : ℕ) (stored : List ℕ) (logged : List (List ℕ)) (number : ℕ) (after : ArenaView) (left : LogView) → number ≡ newest log + 1 → after ≡ with_border_changed a way.node.0 (λ b. with_shown b place (newest log + 1)) → ShowsNext a after way.node.0 (newest log + 1)
+  pub shows : (split : Option Halves) (place : ℕ) (stored : List ℕ) (logged : List (List ℕ)) (number : ℕ) (after : ArenaView) (left : LogView) → number ≡ newest log + 1 → after ≡ with_border_changed a way.node.0 (λ b. with_shown b place (newest log + 1)) → ShowsNext a after way.node.0 (newest log + 1)
       → left ≡ with_delta log (put_delta (newest log + 1) stored None logged) → 1 ≤ log.reserved → CommitLaw after left number split (Filled place stored logged split)
   shows split place stored logged number after left next is shown appended room = record {
     steps = λ now begun moves past w world before truth.
@@ -670,7 +671,7 @@ module _ (C : ℕ) (a : ArenaView) (log : LogView) (key : List ℕ) (edit : Edit
         };
   }
   take (Failed refusal split) left is_remove (none, may, same_log) =
-      subst (λ (s : Option Split). StepLaw C a a log left (edit_request key edit) (stage_held way.node.0 Locked) Moved (stage_held way.node.0 (Failed refusal s)) (λ begun moves past x w. StageIsTrue C key edit way Locked begun x w) (λ begun moves past x w. StageIsTrue C key edit way (Failed refusal s) begun x w)) (sym none)
+      subst (λ (s : Option Halves). StepLaw C a a log left (edit_request key edit) (stage_held way.node.0 Locked) Moved (stage_held way.node.0 (Failed refusal s)) (λ begun moves past x w. StageIsTrue C key edit way Locked begun x w) (λ begun moves past x w. StageIsTrue C key edit way (Failed refusal s) begun x w)) (sym none)
       (subst (λ (l : LogView). StepLaw C a a log l (edit_request key edit) (stage_held way.node.0 Locked) Moved (stage_held way.node.0 (Failed refusal None)) (λ begun moves past x w. StageIsTrue C key edit way Locked begun x w) (λ begun moves past x w. StageIsTrue C key edit way (Failed refusal None) begun x w)) (sym same_log) (record {
         steps = λ now begun moves past w world before truth.
             let (b, at) = truth in

@@ -24,7 +24,7 @@ use Rattle.mt_write.specs.declared.work.Work.TheVariants.{Get, Write, Range}
 use Rattle.mt_write.specs.declared.writing.Write.{Write as WriteView}
 use Rattle.mt_write.specs.declared.writing.Edit.{Edit}
 use Rattle.mt_write.specs.declared.writing.Edit.TheVariants.{Put, Remove}
-use Rattle.mt_write.specs.declared.writing.Split.{Split}
+use Rattle.mt_write.specs.declared.writing.Halves.{Halves}
 use Rattle.mt_write.specs.declared.writing.Stage.{Stage}
 use Rattle.mt_write.specs.declared.writing.Stage.TheVariants.{Locked, Halved, Posts, Failed}
 use Rattle.mt_write.specs.declared.writing.Ending.{Ending}
@@ -98,7 +98,7 @@ ReadyFor None result = MatchResult result IsNotFailed (λ refusal. refusal ≡ N
 ReadyFor (Some fault) result = result ≡ Err fault
 
 -- a write fails for a fault, if there is one, and else only for want of memory
-abbrev pub FailsBy : Option Refusal → Option Split → Stage → Type 0
+abbrev pub FailsBy : Option Refusal → Option Halves → Stage → Type 0
 FailsBy None split (Failed refusal halves) = refusal ≡ NoMemory
 FailsBy None split stage = Unit {0}
 FailsBy (Some fault) split stage = stage ≡ Failed fault split

@@ -39,13 +39,13 @@ use Rattle.mt_write.specs.declared.writing.Edit.{Edit}
 use Rattle.mt_write.specs.declared.writing.Edit.TheVariants.{Put as PutEdit, Remove as RemoveEdit}
 use Rattle.mt_write.specs.declared.writing.Stage.{Stage}
 use Rattle.mt_write.specs.declared.writing.Stage.TheVariants.{Seeks, Locked, Spared, HalfFilled, Halved, Posts, LayerSpared, LayerFilled, LayerReady, Layered, Filled, Made, Taken, Stored, Failed}
-use Rattle.mt_write.specs.declared.writing.Split.{Split}
+use Rattle.mt_write.specs.declared.writing.Halves.{Halves}
 use Rattle.mt_write.specs.declared.writing.Ending.{Ending}
 use Rattle.mt_write.specs.declared.writing.Ending.TheVariants.{Stored as EndStored, Failed as EndFailed}
 use Rattle.mt_post.specs.Posting.{PostingIsTrue, owned as posting_owned}
 use Rattle.mt_chart.specs.Chart.{spot, at_level, on}
 use Rattle.mt_write.specs.declared.writing.Layer.{Layer}
-use Rattle.mt_calls.specs.World.{World}
+use Rattle.mt_calls.specs.World.{World, IsLockedBorder}
 use Rattle.mt_calls.specs.Way.{prefix_of, rest_of, IsLayerOf, IsOnWay, IsHeadOf}
 use Rattle.mt_calls.specs.declared.progress.Progress.{Progress}
 use Rattle.mt_calls.specs.Step.{Held, nothing, MayRefuse, StepLaw, MayStep, columns_after}
@@ -63,7 +63,7 @@ written_answer (PutEdit sets) number = StoredAnswer number
 written_answer RemoveEdit number = Removed number
 
 -- the border that a write has locked, or the two halves of the border that it has split
-abbrev pub owned : ℕ → Option Split → List ℕ
+abbrev pub owned : ℕ → Option Halves → List ℕ
 owned number None = number ∷ []
 owned number (Some split) = split.half.0 ∷ split.left.0 ∷ []
 
@@ -77,7 +77,7 @@ ending_commit (EndStored commit) = Some commit
 ending_commit (EndFailed refusal) = None
 
 -- the stage from which it ends so
-abbrev pub ending_stage : Ending → Option Split → Stage
+abbrev pub ending_stage : Ending → Option Halves → Stage
 ending_stage (EndStored commit) split = Stored commit split
 ending_stage (EndFailed refusal) split = Failed refusal split
 
@@ -111,26 +111,19 @@ pub record IsLockedAt (a : ArenaView) (key : List ℕ) (way : Way) (b : BorderVi
   pub last : IsLast (found_for (rest_of key way) b.live)
   pub locked : b.version.locked ≡ true
 
--- the number is a border of the tree, and is locked
-pub record IsLockedBorder (a : ArenaView) (w : World) (number : ℕ) : Type 0 where
-  pub b : BorderView
-  pub named : border_at a.nodes number ≡ Some b
-  pub known : IsSome (w.chart number)
-  pub locked : b.version.locked ≡ true
-
 -- the halves of a border that is split: the right one is on in the layer of the prefix from its low on, and nothing may name it yet
-pub record IsSplit (prefix : List ℕ) (a : ArenaView) (w : World) (split : Split) : Type 0 where
+pub record IsSplit (prefix : List ℕ) (a : ArenaView) (w : World) (split : Halves) : Type 0 where
   pub apart : split.left.0 ≢ split.half.0
   pub low : ℕ
   pub place : w.chart split.half.0 ≡ Some (spot (at_level 0) prefix low (on false))
   pub low_is : (b : BorderView) → border_at a.nodes split.half.0 ≡ Some b → b.low ≡ low
 
-abbrev pub AreHalves : List ℕ → ArenaView → World → Option Split → Type 0
+abbrev pub AreHalves : List ℕ → ArenaView → World → Option Halves → Type 0
 AreHalves prefix a w None = Unit {0}
 AreHalves prefix a w (Some split) = IsSplit prefix a w split
 
 -- it has locked its border, or both halves of the border that it has split, in the layer of a prefix
-pub record HasLocked (prefix : List ℕ) (a : ArenaView) (w : World) (number : ℕ) (split : Option Split) : Type 0 where
+pub record HasLocked (prefix : List ℕ) (a : ArenaView) (w : World) (number : ℕ) (split : Option Halves) : Type 0 where
   pub locked : (other : ℕ) → Among other (owned number split) → IsLockedBorder a w other
   pub own : Among number (owned number split)
   pub halves : AreHalves prefix a w split
@@ -388,7 +381,7 @@ SomeSets (PutEdit sets) P = P sets
 SomeSets RemoveEdit P = ⊥
 
 -- A put is ready, or it fails. It has split its border already, into these halves, or not.
-abbrev pub Prepares : ℕ → List ℕ → List (ℕ × List ℕ) → Way → ArenaView → LogView → Option Split → Stage → ArenaView → LogView → Type 0
+abbrev pub Prepares : ℕ → List ℕ → List (ℕ × List ℕ) → Way → ArenaView → LogView → Option Halves → Stage → ArenaView → LogView → Type 0
 Prepares C key sets way a log split (Spared half cut entries) after left = (split ≡ None) × Spares key sets way a half.0 cut entries after × (left ≡ log)
 Prepares C key sets way a log split (LayerSpared layer entries) after left = (split ≡ None) × LayerSpares key way a layer entries after × (left ≡ log)
 Prepares C key sets way a log split (Filled place stored logged halves) after left = (halves ≡ split) × Fills C key sets way a log place stored logged after left

@@ -18,7 +18,7 @@ ghost use Rattle.mt_write.specs.Writing.{FillsNew, Prepares, PreparesRemove, IsB
 use crate::columns::made_columns;
 use crate::layering::spare_layer;
 use crate::splitting::spare;
-use crate::writing::{Split, Stage};
+use crate::writing::{Halves, Stage};
 use mt_border::{Border, Entry, Found};
 use mt_calls::getting::row_at;
 use mt_calls::way::{Way, rest_of};
@@ -82,7 +82,7 @@ pub fn fill(
     place: usize,
     key: &Key,
     sets: &Sets,
-    split: Option<Split>,
+    split: Option<Halves>,
 ) -> Result<Stage, Refusal>
     requires within { 8 * way.layer ≤ length key.now }
     requires absent { IsSomeAnd (border_at tree.old.nodes way.node.0) (λ b. (length b.live < SLOTS) × (found_for (rest_of key.now way) b.live ≡ AbsentFound place)) }

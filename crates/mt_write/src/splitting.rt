@@ -17,7 +17,7 @@ ghost use Rattle.mt_write.specs.Causes.{fill_fault, split_fault, ReadyFor, Fails
 ghost use Rattle.mt_write.specs.Writing.{Prepares, IsBack, IsAbsent, IsHalf, SomeSets, IsHalfOf};
 
 use crate::ready::fill;
-use crate::writing::{Edit, Split, Stage};
+use crate::writing::{Edit, Halves, Stage};
 use mt_arena::Node;
 use mt_border::{Border, Entry, Found};
 use mt_calls::way::{Way, rest_of};
@@ -95,7 +95,7 @@ pub fn fill_half(
     tree: &mut Tree,
     log: &mut Log,
     way: Way,
-    split: Split,
+    split: Halves,
     key: &Key,
     edit: &Edit,
 ) -> Stage

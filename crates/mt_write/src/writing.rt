@@ -35,7 +35,7 @@ pub enum Edit {
 
 /// The two halves of a border that a write has split.
 #[derive(Clone, Copy)]
-pub struct Split {
+pub struct Halves {
     pub left: NodeNo,
     pub half: NodeNo,
 }
@@ -76,7 +76,7 @@ pub enum Stage {
         cut: usize,
     },
     /// The border is split, and its key belongs to the half where it stands.
-    Halved(Split),
+    Halved(Halves),
     /// The right half of the border that it has split is posted in the interiors above.
     Posts(Posting, Ending),
     /// Another key has the slice of its key. A head and a border are spared for a layer, and the other key's entry there is made.
@@ -96,7 +96,7 @@ pub enum Stage {
         key: Key,
         /// The row's columns once more, for the log.
         logged: Columns,
-        split: Option<Split>,
+        split: Option<Halves>,
     },
     /// The columns are made that the row at a place is to have.
     Made {
@@ -114,9 +114,9 @@ pub enum Stage {
         before: Row,
     },
     /// It has made the commit of this number.
-    Stored(u64, Option<Split>),
+    Stored(u64, Option<Halves>),
     /// It is to end refused.
-    Failed(Refusal, Option<Split>),
+    Failed(Refusal, Option<Halves>),
 }
 
 /// A put or a remove of a key's row.
@@ -247,7 +247,7 @@ impl Write {
     {
         let left = self.way.node;
         self.way = link_halves(tree, self.way, &self.key, half, cut);
-        self.stage = Stage::Halved(Split { left, half });
+        self.stage = Stage::Halved(Halves { left, half });
         Progress::Moved
     }
 
@@ -258,7 +258,7 @@ impl Write {
         columns: u8,
         tree: &mut Tree,
         log: &mut Log,
-        split: Split,
+        split: Halves,
     ) -> Progress
         requires may { MayStage columns tree.old log.old self.old (Stage.Halved split) }
         ensures request { write_request self.new ≡ write_request self.old }
@@ -331,7 +331,7 @@ impl Write {
     }
 
     // Unlocks the left half of the border that it has split, and is to post the other.
-    fn unlock_left(&mut self, tree: &mut Tree, split: Split, ending: Ending)
+    fn unlock_left(&mut self, tree: &mut Tree, split: Halves, ending: Ending)
         requires may { (C : ℕ) × (log : LogView) × MayStage C tree.old log self.old (ending_stage ending (Some split)) }
         ensures request { write_request self.new ≡ write_request self.old }
         ensures steps { (C : ℕ) (log : LogView) → StageLaw C tree.old tree.new log log self.old (ending_stage ending (Some split)) Progress.Moved self.new }
@@ -369,7 +369,7 @@ impl Write {
     }
 
     // Unlocks the left half, where its border was split, and goes on with the other; else it unlocks its border, and answers.
-    fn end_stored(&mut self, tree: &mut Tree, commit: u64, split: Option<Split>) -> Progress
+    fn end_stored(&mut self, tree: &mut Tree, commit: u64, split: Option<Halves>) -> Progress
         requires may { (C : ℕ) × (log : LogView) × MayStage C tree.old log self.old (Stage.Stored commit split) }
         requires idle { self.old.stage ≡ Stage.Seeks }
         ensures request { write_request self.new ≡ write_request self.old }
@@ -386,7 +386,7 @@ impl Write {
     }
 
     // The same, where it is to end refused.
-    fn end_failed(&mut self, tree: &mut Tree, refusal: Refusal, split: Option<Split>) -> Progress
+    fn end_failed(&mut self, tree: &mut Tree, refusal: Refusal, split: Option<Halves>) -> Progress
         requires may { (C : ℕ) × (log : LogView) × MayStage C tree.old log self.old (Stage.Failed refusal split) }
         ensures request { write_request self.new ≡ write_request self.old }
         ensures steps { (C : ℕ) (log : LogView) → StageLaw C tree.old tree.new log log self.old (Stage.Failed refusal split) result self.new }

@@ -3,7 +3,7 @@ use Rattle.std.specs.Prelude.{length, ◌≡◌}
 use Rattle.mt_interior.specs.declared.interior.TheConstants.{MAX_CHILDREN}
 use Rattle.mt_interior.specs.Interior.{InteriorView}
 use Rattle.mt_post.specs.declared.posting.Progressed.TheVariants.{Moved}
-use Rattle.mt_post.specs.declared.posting.Stage.TheVariants.{Walks}
+use Rattle.mt_post.specs.declared.posting.PostStage.TheVariants.{Walks}
 use Rattle.mt_post.specs.Posting.{PostLaw}
 use Rattle.mt_post.proofs.HalfLemmas.{is_there_still, may_fill_half, fills_half, upper_eight, same_interior}
 use Rattle.mt_post.proofs.posting.Posting.fill_half.Goals as goal

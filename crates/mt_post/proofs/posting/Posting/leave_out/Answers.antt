@@ -1,6 +1,6 @@
 use Rattle.std.proofs.Common.{refl}
 use Rattle.mt_post.proofs.WalkLemmas.{half_left_out, all_left_out}
-use Rattle.mt_post.specs.declared.posting.Stage.TheVariants.{Walks}
+use Rattle.mt_post.specs.declared.posting.PostStage.TheVariants.{Walks}
 use Rattle.mt_post.proofs.posting.Posting.leave_out.Goals as goal
 
 pub returns-in_default-clause-steps : goal.returns-in_default-clause-steps
