@@ -1,5 +1,5 @@
 -- The steps of a get.
-use Rattle.std.proofs.Common.{ℕ, suc, ◌≡◌, List, [], Option, Some, None, refl, sym, ap, subst, ◌∙◌, add-one, IsSome}
+use Rattle.std.proofs.Common.{ℕ, suc, ◌≡◌, List, [], Option, Some, None, refl, sym, ap, subst, ◌∙◌, add-one, IsSome, inl}
 use Rattle.mt_types.specs.Rows.{shown}
 use Rattle.mt_types.specs.declared.row.Row.{Row}
 use Rattle.mt_types.specs.declared.event.Answer.{Answer}
@@ -70,8 +70,8 @@ module _ (a : ArenaView) (get : Get) (went : Went) (sound : IsArena a) (visits :
           goes = goes_same now a w _ [] [] refl world (on, trail_begins w.chart begun 0 _ _ on.held);
           does = (quiet_same a log, refl);
           reserved = refl;
-          feed = refl;
-          holders = refl;
+          bounds = refl;
+          blocked = inl refl;
           may = tt;
         };
   }
@@ -85,8 +85,8 @@ module _ (a : ArenaView) (get : Get) (went : Went) (sound : IsArena a) (visits :
           goes = goes_same now a w _ [] [] refl world (on, subst (λ (n : ℕ). Trail begun w.chart next.node.0 n) (sym (add-one moves)) trail);
           does = (quiet_same a log, refl);
           reserved = refl;
-          feed = refl;
-          holders = refl;
+          bounds = refl;
+          blocked = inl refl;
           may = λ is_get. moves_bounded a w.chart begun get.way.node.0 moves sound world.index.tree truth.1;
         };
   }
@@ -99,8 +99,8 @@ module _ (a : ArenaView) (get : Get) (went : Went) (sound : IsArena a) (visits :
           goes = goes_same now a w _ [] [] refl world tt;
           does = (quiet_same a log, reads.reads now w world place past);
           reserved = refl;
-          feed = refl;
-          holders = refl;
+          bounds = refl;
+          blocked = tt;
           may = tt;
         };
   }
@@ -112,8 +112,8 @@ module _ (a : ArenaView) (get : Get) (went : Went) (sound : IsArena a) (visits :
           goes = goes_same now a w _ [] [] refl world tt;
           does = (quiet_same a log, refl, tt);
           reserved = refl;
-          feed = refl;
-          holders = refl;
+          bounds = refl;
+          blocked = refl;
           may = tt;
         };
   }

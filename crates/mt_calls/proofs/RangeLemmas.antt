@@ -141,8 +141,8 @@ module _ (a : ArenaView) (range : Range) where
           (range_again (arena_seen a) w.chart world.index.tree begun _ _ (place_of range.start) range.limit range.scan.prefix range.node.0 range.scan.at (as_places range.scan.taken) truth.scans));
       does = (quiet_same a log, refl);
       reserved = refl;
-      feed = refl;
-      holders = refl;
+      bounds = refl;
+      blocked = inl refl;
       may = tt;
     };
   })
@@ -156,8 +156,8 @@ module _ (a : ArenaView) (range : Range) where
             goes = goes_same now a w _ [] [] refl world (later_true w begun (moves + 1) past range.scan next truth.bytes truth.limit truth.asked (record { held = held; scanned = truth.scans.scanned }));
             does = (quiet_same a log, refl);
             reserved = refl;
-            feed = refl;
-            holders = refl;
+            bounds = refl;
+            blocked = inl refl;
             may = λ get. absurd (let clash : false ≡ true = get in cc);
           };
     }
@@ -207,8 +207,8 @@ module _ (a : ArenaView) (range : Range) where
                 goes = goes_same now a w _ [] [] refl world (later_true w begun (moves + 1) past scan next truth.bytes (limit ∙ truth.limit) (asked ∙ truth.asked) scans);
                 does = (quiet_same a log, refl);
                 reserved = refl;
-                feed = refl;
-                holders = refl;
+                bounds = refl;
+                blocked = inl refl;
                 may = λ get. absurd (let clash : false ≡ true = get in cc);
               };
         }
@@ -222,8 +222,8 @@ module _ (a : ArenaView) (range : Range) where
                     (subst (λ (p : List ℕ). OpenRange w.chart begun (Stood (shown range.columns) (arena_seen a ∷ past)) (AllHave (arena_seen a ∷ past)) (place_of range.start) range.limit p 0 scan.at (as_places scan.taken)) (sym (home to)) scans));
                 does = (quiet_same a log, refl);
                 reserved = refl;
-                feed = refl;
-                holders = refl;
+                bounds = refl;
+                blocked = inl refl;
                 may = λ get. absurd (let clash : false ≡ true = get in cc);
               };
         }
@@ -236,8 +236,8 @@ module _ (a : ArenaView) (range : Range) where
                 goes = goes_same now a w _ [] [] refl world tt;
                 does = (quiet_same a log, record { bytes = bytes; answers = of_keys (shown range.columns) (arena_seen a ∷ past) range.start range.limit scan.taken truth.bytes bytes done });
                 reserved = refl;
-                feed = refl;
-                holders = refl;
+                bounds = refl;
+                blocked = tt;
                 may = tt;
               };
         })
@@ -248,8 +248,8 @@ module _ (a : ArenaView) (range : Range) where
       goes = goes_same now a w _ [] [] refl world tt;
       does = (quiet_same a log, refl, tt);
       reserved = refl;
-      feed = refl;
-      holders = refl;
+      bounds = refl;
+      blocked = refl;
       may = tt;
     };
   }

@@ -9,9 +9,9 @@ use Rattle.mt_types.specs.declared.event.Answer.TheVariants.{Absent, Found, Stor
 use Rattle.mt_types.specs.declared.event.Request.{Request}
 use Rattle.mt_types.specs.declared.event.Request.TheVariants.{Get as GetRequest, Put as PutRequest, Remove as RemoveRequest, Range as RangeRequest}
 use Rattle.mt_types.specs.declared.refusal.Refusal.{Refusal}
-use Rattle.mt_types.specs.declared.refusal.Refusal.TheVariants.{NoMemory, ArenaFull, Spent}
+use Rattle.mt_types.specs.declared.refusal.Refusal.TheVariants.{NoMemory, ArenaFull, FeedFull, Spent}
 use Rattle.mt_slice.specs.Place.{Place, AreBytes, place_of}
-use Rattle.mt_commit.specs.Log.{LogView, newest, with_delta}
+use Rattle.mt_commit.specs.Log.{LogView, newest, slowest, with_delta}
 use Rattle.mt_arena.specs.Arena.{ArenaView}
 use Rattle.mt_chart.specs.Tree.{Arena, Has}
 use Rattle.mt_chart.specs.ScanRun.{Stood, AllHave}
@@ -23,14 +23,16 @@ use Rattle.mt_calls.specs.declared.progress.Progress.{Progress}
 use Rattle.mt_calls.specs.declared.progress.Progress.TheVariants.{Moved, Waits, Committed, Answered, Refused}
 use Rattle.mt_calls.specs.World.{World, IsWorld, Goes}
 
--- what a call has: the numbers that it owns, for how many deltas it has reserved room, and the number of its commit
+-- what a call has: the numbers that it owns, for how many deltas it has reserved room, and the number of its commit; and where it has failed
+-- for want of room in the log, from which number the log was held
 pub record Held : Type 0 where
   pub owns : List ℕ
   pub reserves : ℕ
   pub committed : Option ℕ
+  pub blocked : Option ℕ
 
 abbrev pub nothing : Held
-nothing = record { owns = []; reserves = 0; committed = None }
+nothing = record { owns = []; reserves = 0; committed = None; blocked = None }
 
 -- a call that has ended has nothing
 abbrev pub left_with : Progress → Held → Held
@@ -103,9 +105,35 @@ IsRight past a _ committed _ = ⊥
 abbrev pub MayRefuse : Request → Refusal → Type 0
 MayRefuse request NoMemory = Unit {0}
 MayRefuse (PutRequest key sets) ArenaFull = Unit {0}
+MayRefuse (PutRequest key sets) (FeedFull number) = Unit {0}
 MayRefuse (PutRequest key sets) Spent = Unit {0}
+MayRefuse (RemoveRequest key) (FeedFull number) = Unit {0}
 MayRefuse (RemoveRequest key) Spent = Unit {0}
 MayRefuse _ _ = ⊥
+
+-- the number that a refusal for want of room in the log names
+abbrev pub blocked_by : Refusal → Option ℕ
+blocked_by (FeedFull number) = Some number
+blocked_by _ = None
+
+-- a refusal for want of room in the log names the number from which the log is held
+abbrev pub IsOfLog : LogView → Refusal → Type 0
+IsOfLog log (FeedFull number) = number ≡ slowest log
+IsOfLog log _ = Unit {0}
+
+-- why a call may come to fail: a refusal with which it may end, which is of this log
+abbrev pub MayFail : LogView → Request → Refusal → Type 0
+MayFail log request refusal = MayRefuse request refusal × IsOfLog log refusal
+
+-- a call comes to be blocked only at the number from which the log is held; and it is refused for the number at which it was blocked
+abbrev pub Blocks : LogView → Option ℕ → Progress → Option ℕ → Type 0
+Blocks log blocked (Refused refusal) then = blocked ≡ blocked_by refusal
+Blocks log blocked (Answered answer) then = Unit {0}
+Blocks log blocked _ then = (then ≡ blocked) ⊎ (then ≡ Some (slowest log))
+
+-- who holds the log, how many deltas it may hold for the slowest, and how many it keeps for nobody
+abbrev pub bounds : LogView → List ℕ × ℕ × ℕ
+bounds log = (log.holders, log.feed, log.keep)
 
 -- what a step does to the rows and the log, by what it comes to
 abbrev pub Does : ℕ → List Arena → ArenaView → ArenaView → LogView → LogView → Request → Option ℕ → Progress → Option ℕ → Type 0
@@ -125,17 +153,13 @@ pub record Stepped (C now moves : ℕ) (past : List Arena) (a after : ArenaView)
   pub goes : Goes now a after w held.owns (left_with p then).owns (ThenTrue p moves True)
   pub does : Does C past a after log left request held.committed p then.committed
   pub reserved : left.reserved + held.reserves ≡ log.reserved + (left_with p then).reserves
-  pub feed : left.feed ≡ log.feed
-  pub holders : left.holders ≡ log.holders
+  pub bounds : bounds left ≡ bounds log
+  pub blocked : Blocks log held.blocked p then.blocked
   pub may : MayMove request moves p
 
 -- the law of a step, which each kind of call has as its clause: wherever the tree is an index and the call's record is true
 pub record StepLaw (C : ℕ) (a after : ArenaView) (log left : LogView) (request : Request) (held : Held) (p : Progress) (then : Held) (True Then : Truth) : Type 0 where
   pub steps : (now begun moves : ℕ) (past : List Arena) (w : World) → IsWorld a now w → begun ≤ now → True begun moves past a w → Stepped C now moves past a after log left w request held p then (λ m next. Then begun m (arena_seen a ∷ past) after next)
-
--- the log is never full, whoever holds it
-pub record IsUnbounded (log : LogView) : Type 0 where
-  pub feed : log.feed ≡ 18446744073709551615
 
 -- what a step asks: there is a world in which the call's record is true, and the log has the room that the call has reserved
 pub record MayStep (a : ArenaView) (log : LogView) (held : Held) (True : Truth) : Type 0 where
@@ -147,4 +171,3 @@ pub record MayStep (a : ArenaView) (log : LogView) (held : Held) (True : Truth) 
   pub world : IsWorld a now w
   pub true : True begun moves past a w
   pub room : held.reserves ≤ log.reserved
-  pub unbounded : IsUnbounded log

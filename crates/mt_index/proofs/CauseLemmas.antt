@@ -5,7 +5,7 @@ use Rattle.mt_types.specs.declared.numbers.PassNo.{PassNo}
 use Rattle.mt_types.specs.declared.event.Event.TheVariants.{Step}
 use Rattle.mt_types.specs.declared.event.Outcome.{Outcome}
 use Rattle.mt_types.specs.declared.refusal.Refusal.TheVariants.{NoSuchCall}
-use Rattle.mt_commit.specs.Log.{LogView, newest}
+use Rattle.mt_commit.specs.Log.{LogView, newest, trimmed}
 use Rattle.mt_arena.specs.Arena.{ArenaView}
 use Rattle.mt_calls.specs.declared.progress.Progress.{Progress}
 use Rattle.mt_calls.specs.declared.progress.Progress.TheVariants.{Moved, Waits, Committed, Answered, Refused}
@@ -15,13 +15,13 @@ use Rattle.mt_write.proofs.CauseLemmas.{refused_for}
 use Rattle.mt_index.specs.declared.calls.Call.{Call}
 use Rattle.mt_index.specs.Calls.{CallsView, call_at, with_changed, with_work}
 use Rattle.mt_index.specs.Causes.{WaitsFor, RefusedFor, IsCaused}
-use Rattle.mt_index.specs.Stands.{MachineView, Steps, outcome_of, calls_after}
+use Rattle.mt_index.specs.Stands.{MachineView, Steps, log_after, outcome_of, calls_after}
 use Rattle.mt_index.proofs.ListLemmas.{changed_at}
 
-module _ (s : MachineView) (number : CallNo) (kept : Call) (found : call_at number.0 s.calls.calls ≡ Some kept) (pass : PassNo) (from to : ℕ) (tree : ArenaView) (log : LogView) (work : Work) (calls : CallsView)
+module _ (s : MachineView) (number : CallNo) (kept : Call) (found : call_at number.0 s.calls.calls ≡ Some kept) (pass : PassNo) (from to : ℕ) (tree : ArenaView) (left : LogView) (work : Work) (calls : CallsView)
     (changed : calls ≡ record s.calls { calls = with_changed (with_work work) number.0 s.calls.calls }) where
   abbrev after : Progress → MachineView
-  after p = record { columns = s.columns; epoch = s.epoch; tree = tree; log = log; calls = calls_after number.0 p calls }
+  after p = record { columns = s.columns; epoch = s.epoch; tree = tree; log = left; calls = calls_after number.0 p calls }
 
   by_progress : (p : Progress) → WorkWaits s.tree kept.work p → WorkFails s.tree s.log kept.work p work → IsCaused s (Step number) (outcome_of number.0 pass from to p) (after p)
   by_progress Waits waits fails = subst (λ (call : Option Call). WaitsFor s call) (sym found) waits
@@ -38,4 +38,4 @@ steps-caused s t number outcome (inl (none, refused, same)) = subst (λ (o : Out
 steps-caused s t number outcome (inr went) =
     subst (λ (o : Outcome). IsCaused s (Step number) o t) (sym went.is_outcome)
     (subst (λ (m : MachineView). IsCaused s (Step number) (outcome_of number.0 went.pass went.from (newest went.log) went.p) m) (sym went.is_next)
-    (by_progress s number went.steps.call went.steps.is_open went.pass went.from (newest went.log) went.tree went.log went.steps.work went.calls went.steps.changed went.p went.steps.waits went.steps.fails))
+    (by_progress s number went.steps.call went.steps.is_open went.pass went.from (newest went.log) went.tree (trimmed (log_after went.reads went.from went.p went.log)) went.steps.work went.calls went.steps.changed went.p went.steps.waits went.steps.fails))

@@ -41,6 +41,14 @@ deltas_of-append C cs c =
     let e : 0 + length cs + 1 ≡ length cs + 1 = omega arith in
     deltas_from-append C 0 empty cs c ∙ ap (λ k. deltas_of C cs ++ delta_made C k c (after C cs) ∷ []) e
 
+-- there is one delta for each change
+deltas_from-length : (C n : ℕ) (rows : Rows) (cs : List Change) → length (deltas_from C n rows cs) ≡ length cs
+deltas_from-length C n rows [] = refl
+deltas_from-length C n rows (c ∷ cs) = ap (λ (m : ℕ). suc m) (deltas_from-length C (n + 1) (after_change C (n + 1) c rows) cs)
+
+pub deltas_of-length : (C : ℕ) (cs : List Change) → length (deltas_of C cs) ≡ length cs
+deltas_of-length C cs = deltas_from-length C 0 empty cs
+
 -- a change is the redoing of its delta
 pub redone : (C number : ℕ) (change : Change) (rows : Rows) → after_change C number change rows ≡ redo (delta_made C number change rows) rows
 redone C number (Put key sets) rows = ap (λ (r : Option Row). with_row key r rows) (sym (get-row_put key (Some _) rows))

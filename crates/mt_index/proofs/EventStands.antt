@@ -1,12 +1,12 @@
 -- Each event leads from a machine that stands at a history to one that stands at the next.
-use Rattle.std.proofs.Common.{true, false, ℕ, ◌≡◌, ◌+◌, ◌⊎◌, ◌↔◌, inl, inr, List, [], ◌∷◌, ◌++◌, length, Option, Some, None, IsSome, refl, sym, ap, subst, ◌∙◌, arith}
+use Rattle.std.proofs.Common.{true, false, ℕ, ◌≡◌, ◌+◌, ◌↔◌, inl, inr, List, [], ◌∷◌, ◌++◌, length, Option, Some, None, IsSome, refl, sym, ap, subst, ◌∙◌, arith, ◌-◌, ◌==◌, Bool, cond, drop, map, ◌≤◌, ◌<◌}
 use Rattle.std.specs.FinMap.{get, insert, get-empty}
 use Rattle.std.specs.Prelude.{IsTrue as IsTrueBool}
 use Rattle.mt_types.specs.Keys.{key_cmp}
 use Rattle.mt_types.specs.Rows.{Rows, after}
 use Rattle.mt_tree.specs.Seen.{arena_seen, HasRow}
 use Rattle.mt_index.specs.Logged.{deltas_of}
-use Rattle.std.specs.Prelude.{MatchOption, Result, Ok, Err}
+use Rattle.std.specs.Prelude.{min, nat_le, Contains, filter, MatchOption, Result, Ok, Err}
 use Rattle.mt_types.specs.declared.refusal.Refusal.{Refusal}
 use Rattle.mt_types.specs.declared.row.Row.{Row}
 use Rattle.mt_types.specs.declared.numbers.PassNo.{PassNo}
@@ -16,12 +16,26 @@ use Rattle.mt_types.specs.declared.event.Request.{Request}
 use Rattle.mt_types.specs.declared.event.Request.TheVariants.{Get as GetRequest, Put as PutRequest, Remove, Range, Tidy, Build}
 use Rattle.mt_types.specs.declared.event.Outcome.{Outcome}
 use Rattle.mt_types.specs.declared.event.Outcome.TheVariants.{Call as Called, Moved as MovedOutcome, Again, Commit, Done, Applied, Current, View, Dropped, Epoch, Freed, Refused as RefusedOutcome}
-use Rattle.mt_types.specs.declared.refusal.Refusal.TheVariants.{NoSuchCall}
-use Rattle.mt_promise.specs.History.{History, Happening, happening, moment, rows, after_step, after_call_step, change_of}
+use Rattle.mt_types.specs.declared.refusal.Refusal.TheVariants.{NoSuchCall, TooManyCalls, Spent}
+use Rattle.mt_promise.specs.History.{History, Happening, OpenCall, StandingView, happening, moment, rows, after_step, after_call_step, change_of, new_call, view_built}
 use Rattle.mt_promise.specs.Legal.{MayHappen, MayBegin, MayStepAt, MayEnd, MayCommit, begin_fault, view_places, is_get}
 use Rattle.mt_promise.specs.RightAnswers.{RightAnswer}
 use Rattle.mt_promise.proofs.HistoryLemmas.{happened_is}
-use Rattle.mt_commit.specs.Log.{LogView, newest}
+use Rattle.std.proofs.lemmas.Bool.{leb-false}
+use Rattle.std.proofs.lemmas.List.{append-nil, length-map}
+use Rattle.std.proofs.lemmas.List.Sums.{length-filter, count_by-le-length}
+use Rattle.std.specs.Option.{option_or}
+use Rattle.mt_types.specs.Limits.{refused_if, request_fault}
+use Rattle.mt_types.specs.Numbers.{greatest_number}
+use Rattle.mt_types.specs.declared.limits.TheConstants.{MAX_OPEN_CALLS}
+use Rattle.mt_types.specs.Numbers.{least}
+use Rattle.mt_types.specs.declared.row.Change.{Change}
+use Rattle.mt_types.specs.declared.event.Answer.{Answer}
+use Rattle.mt_types.specs.declared.event.Reply.{Reply}
+use Rattle.mt_promise.specs.Legal.{held_from, reads_log}
+use Rattle.mt_commit.specs.Log.{LogView, IsLog, newest, trimmed}
+use Rattle.mt_commit.specs.Laws.{times_held}
+use Rattle.mt_commit.specs.Holders.{with_holder, without_holder}
 use Rattle.mt_arena.specs.Arena.{ArenaView}
 use Rattle.mt_chart.specs.Tree.{Among, Has}
 use Rattle.mt_chart.specs.Tree.{Node as PlainNode, head}
@@ -44,7 +58,7 @@ use Rattle.mt_arena.proofs.NodeLemmas.{node-from_head, node-from_border}
 use Rattle.mt_chart.proofs.Basics.{same_number}
 use Rattle.mt_tree.specs.NewTree.{IsNewTree}
 use Rattle.mt_calls.specs.World.{IsLocked, IsTaken, World, IsWorld, RowsAreOfKeys, HeadsAreAlive, TwinsAreLocked, IsGone, RetiredAreGone, Goes}
-use Rattle.mt_calls.specs.Step.{Held, IsQuiet, Stepped, Commits, put_row}
+use Rattle.mt_calls.specs.Step.{Held, IsQuiet, Stepped, Commits, bounds, put_row}
 use Rattle.mt_types.specs.declared.row.Change.TheVariants.{Put as PutChange, Drop}
 use Rattle.mt_write.specs.declared.writing.Write.{Write}
 use Rattle.mt_write.specs.declared.writing.Edit.{Edit}
@@ -52,74 +66,112 @@ use Rattle.mt_write.specs.declared.writing.Edit.TheVariants.{Put as PutEdit, Rem
 use Rattle.mt_write.specs.Writing.{edit_request}
 use Rattle.mt_write.specs.Works.{request_of, held, IsTrue, IsNew, IsServedRequest}
 use Rattle.mt_index.specs.Paired.{Paired}
-use Rattle.mt_index.specs.Calls.{CallsView, call_at, with_changed, with_work, without, all_reserved, StepsCall, MayStepOf}
-use Rattle.mt_index.specs.Stands.{MachineView, CallStands, HasRowsOf, IsPast, Stands, StepsOpen, Steps, outcome_of, calls_after, Begins, fault_of, with_call}
+use Rattle.mt_index.specs.Calls.{CallsView, call_at, with_changed, with_work, without, total, all_reserved, StepsCall, MayStepOf}
+use Rattle.mt_index.specs.Stands.{MachineView, CallStands, WasBlocked, HasRowsOf, IsPast, Stands, HasBounds, StepsOpen, Steps, holding, pinned, log_after, outcome_of, calls_after, Begins, fault_of, with_call}
 use Rattle.mt_index.proofs.NumberLemmas.{Entries}
 use Rattle.mt_index.proofs.PairedLemmas.{Found, paired-some, paired-none, paired-above, paired-append, paired-length}
-use Rattle.mt_index.proofs.ListLemmas.{among_before, among_append, reserved_append, reserved_changed, reserved_without, without_changed}
-use Rattle.mt_index.proofs.StepStands.{step_event, may_end, right_answer, apart_changed, apart_without, owned_on, owned_end, next_seen, calls_on, calls_end, content_still, still, commit_stands}
+use Rattle.mt_index.proofs.ListLemmas.{reserves, among_before, among_append, total_append, total_changed, total_without, without_changed}
+use Rattle.mt_index.proofs.LogStands.{holds_from, froms, holders_after, log_after_is, pinned_is, least_pinned, held_less, held_more, reader_holds, length_by_counts, slowest_is, all-held, was_later}
+use Rattle.mt_index.proofs.StepStands.{HoldersAre, held_before, step_event, may_end, right_answer, apart_changed, apart_without, owned_on, owned_end, next_seen, calls_on, calls_end, content_still, still, commit_stands}
 use Rattle.mt_index.proofs.PastLemmas.{past_later, past_new}
 
 -- ---- a step of an open call
 module _ (s : MachineView) (h : History) (n : ℕ) (st : Stands s h) (kept : Call) (at : call_at n s.calls.calls ≡ Some kept) (f : Found (CallStands s.columns s.epoch s.tree st.w h) n kept (moment h).calls)
-    (then_tree : ArenaView) (left : LogView) (work : Work) (request : request_of work ≡ request_of kept.work) (pass : PassNo) (pass_is : pass ≡ kept.pass) (from : ℕ) (from_is : from ≡ kept.from) where
+    (then_tree : ArenaView) (left : LogView) (work : Work) (request : request_of work ≡ request_of kept.work) (pass : PassNo) (pass_is : pass ≡ kept.pass) (reads : Bool) (reads_is : reads ≡ reads_log (request_of kept.work)) (from : ℕ) (from_is : from ≡ kept.from) where
   abbrev Law : Progress → Type 0
   Law p = Stepped s.columns s.epoch f.call.moves f.related.past s.tree then_tree s.log left st.w (request_of kept.work) (held kept.work) p (held work) (λ m next. IsTrue s.columns work kept.epoch m (arena_seen s.tree ∷ f.related.past) then_tree next)
 
+  -- the log, before it is trimmed
+  abbrev settled : Progress → LogView
+  settled p = record left { holders = holders_after reads from p left.holders }
+
   abbrev Leads : Progress → Type 0
-  Leads p = Stands (record { columns = s.columns; epoch = s.epoch; tree = then_tree; log = left; calls = calls_after n p (record s.calls { calls = with_changed (with_work work) n s.calls.calls }) }) (happening (step_event n) (outcome_of n pass from (newest left) p) 0 ∷ h)
+  Leads p = IsLog (settled p) → Stands (record { columns = s.columns; epoch = s.epoch; tree = then_tree; log = trimmed (settled p); calls = calls_after n p (record s.calls { calls = with_changed (with_work work) n s.calls.calls }) }) (happening (step_event n) (outcome_of n pass from (newest left) p) 0 ∷ h)
 
   -- a step that commits nothing leaves the rows of the history
-  alike : {owns : List ℕ} {Then : World → Type 0} (goes : Goes s.epoch s.tree then_tree st.w (held kept.work).owns owns Then) → left.feed ≡ s.log.feed → left.holders ≡ s.log.holders → IsQuiet s.tree then_tree s.log left
+  alike : {owns : List ℕ} {Then : World → Type 0} (goes : Goes s.epoch s.tree then_tree st.w (held kept.work).owns owns Then) → bounds left ≡ bounds s.log → IsQuiet s.tree then_tree s.log left
       → (o : Outcome) → (after_step (moment h) f.call o 0).commits ≡ (moment h).commits → HasRowsOf s.columns then_tree (happening (step_event n) o 0 ∷ h)
-  alike goes feed holders quiet o commits = content_still s h n kept st at f then_tree left work _ _ goes request feed holders quiet o commits
+  alike goes kept_bounds quiet o commits = content_still s h n kept st at f then_tree left work _ _ goes request kept_bounds quiet o commits
 
   room_on : left.reserved + (held kept.work).reserves ≡ s.log.reserved + (held work).reserves → left.reserved ≡ all_reserved (with_changed (with_work work) n s.calls.calls)
-  room_on e = let all = st.reserved in let changed = reserved_changed n kept (with_work work) s.calls.calls at in omega (arith, e, all, changed)
+  room_on e = let all = st.reserved in let changed = total_changed n kept reserves (with_work work) s.calls.calls at in omega (arith, e, all, changed)
 
   room_end : left.reserved + (held kept.work).reserves ≡ s.log.reserved + 0 → left.reserved ≡ all_reserved (without n s.calls.calls)
-  room_end e = let all = st.reserved in let rest = reserved_without n kept s.calls.calls at in omega (arith, e, all, rest)
+  room_end e = let all = st.reserved in let rest = total_without n kept reserves s.calls.calls at in omega (arith, e, all, rest)
+
+  -- who holds the log, where the call goes on, and where it ends
+  before : (number : ℕ) → bounds left ≡ bounds s.log → times_held number left.holders ≡ times_held number (map (λ (v : StandingView). v.at) (moment h).views) + total (holds_from number) s.calls.calls
+  before number same = ap (λ (b : List ℕ × ℕ × ℕ). times_held number b.0) same ∙ held_before s h st number
+
+  held_on : bounds left ≡ bounds s.log → HoldersAre s h left.holders (with_changed (with_work work) n s.calls.calls)
+  held_on same number =
+      let all = before number same in
+      let changed = total_changed n kept (holds_from number) (with_work work) s.calls.calls at in
+      let alike : holds_from number (with_work work kept) ≡ holds_from number kept = ap (λ (q : Request). cond (reads_log q) (cond (kept.from == number) 1 0) 0) request in
+      omega (arith, all, changed, alike)
+
+  held_end : bounds left ≡ bounds s.log → HoldersAre s h (cond reads (without_holder from left.holders) left.holders) (without n s.calls.calls)
+  held_end same number =
+      let rest = total_without n kept (holds_from number) s.calls.calls at in
+      let one : ◌≡◌ {A = ℕ} (cond reads (cond (from == number) 1 0) 0) (holds_from number kept) = ap (λ (r : Bool). cond r (cond (from == number) 1 0) 0) reads_is ∙ ap (λ (m : ℕ). cond (reads_log (request_of kept.work)) (cond (m == number) 1 0) 0) from_is in
+      held_less reads from number _ _ _ left.holders (before number same) (omega (arith, rest, one))
 
   -- a call that ends has ended
-  ended : (o : Outcome) → Stands (next_seen s then_tree left (without n s.calls.calls)) (happening (step_event n) o 0 ∷ h) → Stands (next_seen s then_tree left (without n (with_changed (with_work work) n s.calls.calls))) (happening (step_event n) o 0 ∷ h)
-  ended o t = subst (λ (l : Entries). Stands (next_seen s then_tree left l) (happening (step_event n) o 0 ∷ h)) (sym (without_changed (with_work work) n s.calls.calls)) t
+  ended : (o : Outcome) (log : LogView) → Stands (next_seen s then_tree log (without n s.calls.calls)) (happening (step_event n) o 0 ∷ h) → Stands (next_seen s then_tree log (without n (with_changed (with_work work) n s.calls.calls))) (happening (step_event n) o 0 ∷ h)
+  ended o log t = subst (λ (l : Entries). Stands (next_seen s then_tree log l) (happening (step_event n) o 0 ∷ h)) (sym (without_changed (with_work work) n s.calls.calls)) t
+
+  -- it builds no view
+  no_view : (work : Work) (answer : Answer) → view_built (request_of work) answer 0 ≡ []
+  no_view (GetWork g) answer = refl
+  no_view (RangeWork g) answer = refl
+  no_view (WriteWork g) answer = by_edit g.edit
+    where
+      by_edit : (edit : Edit) → view_built (edit_request g.key edit) answer 0 ≡ []
+      by_edit (PutEdit sets) = refl
+      by_edit RemoveEdit = refl
+
+  views_stay : (reply : Reply) → (after_step (moment h) f.call (Done reply) 0).views ≡ (moment h).views
+  views_stay reply =
+      ap (λ (q : Request). (moment h).views ++ view_built q reply.answer 0) f.related.request
+      ∙ ap (λ (vs : List StandingView). (moment h).views ++ vs) (no_view kept.work reply.answer)
+      ∙ append-nil (moment h).views
 
   commit_write : (number : ℕ) (g : Write) (edit : Edit) → g.edit ≡ edit → kept.work ≡ WriteWork g → Law (Committed number) → Leads (Committed number)
-  commit_write number g (PutEdit sets) e is l =
+  commit_write number g (PutEdit sets) e is l sound =
       let asked : f.call.request ≡ PutRequest g.key sets = f.related.request ∙ (ap request_of is ∙ ap (edit_request g.key) e) in
       let (before, changes) = subst (λ (r : Request). Commits s.columns s.tree then_tree s.log left r number) (ap request_of is ∙ ap (edit_request g.key) e) l.does.0 in
-      commit_stands s h n kept st at f then_tree left work _ _ l.goes request l.feed l.holders g.key before (Some (put_row s.columns number sets before)) number changes (PutChange g.key sets) refl (ap change_of asked)
+      commit_stands s h n kept st at f then_tree left work _ _ l.goes request l.bounds g.key before (Some (put_row s.columns number sets before)) number changes (PutChange g.key sets) refl (ap change_of asked)
       (λ stood. ap (λ (b : Option Row). insert (rows s.columns (moment h)) g.key (put_row s.columns number sets b)) stood)
       (λ next stood. subst (λ (r : Request). MayCommit s.columns h f.call r number) (sym asked) (next, f.related.committed ∙ l.does.1))
-      refl l.does.2 l.goes.true (room_on l.reserved)
-  commit_write number g RemoveEdit e is l =
+      refl l.does.2 l.blocked l.goes.true (room_on l.reserved) sound (held_on l.bounds)
+  commit_write number g RemoveEdit e is l sound =
       let asked : f.call.request ≡ Remove g.key = f.related.request ∙ (ap request_of is ∙ ap (edit_request g.key) e) in
       let (before, changes) = subst (λ (r : Request). Commits s.columns s.tree then_tree s.log left r number) (ap request_of is ∙ ap (edit_request g.key) e) l.does.0 in
-      commit_stands s h n kept st at f then_tree left work _ _ l.goes request l.feed l.holders g.key (Some before) None number changes (Drop g.key) refl (ap change_of asked)
+      commit_stands s h n kept st at f then_tree left work _ _ l.goes request l.bounds g.key (Some before) None number changes (Drop g.key) refl (ap change_of asked)
       (λ stood. refl)
       (λ next stood. subst (λ (r : Request). MayCommit s.columns h f.call r number) (sym asked) (next, f.related.committed ∙ l.does.1, subst (λ (x : Option Row). IsSome x) (sym stood) refl))
-      refl l.does.2 l.goes.true (room_on l.reserved)
+      refl l.does.2 l.blocked l.goes.true (room_on l.reserved) sound (held_on l.bounds)
 
   commit_leads : (number : ℕ) (kind : Work) → kept.work ≡ kind → Law (Committed number) → Leads (Committed number)
-  commit_leads number (GetWork g) is l =
+  commit_leads number (GetWork g) is l sound =
       absurd (subst (λ (x : Work). Commits s.columns s.tree then_tree s.log left (request_of x) number) is l.does.0)
-  commit_leads number (RangeWork g) is l =
+  commit_leads number (RangeWork g) is l sound =
       absurd (subst (λ (x : Work). Commits s.columns s.tree then_tree s.log left (request_of x) number) is l.does.0)
-  commit_leads number (WriteWork g) is l = commit_write number g g.edit refl is l
+  commit_leads number (WriteWork g) is l sound = commit_write number g g.edit refl is l sound
 
   leads : (p : Progress) → Law p → Leads p
-  leads Moved l =
-      still s h n kept st at f then_tree left work _ _ l.goes request l.feed l.holders l.does.0 MovedOutcome _
-      (λ get. l.may (subst (λ (r : Request). IsTrueBool (is_get r)) f.related.request get)) refl refl
-      (calls_on s h n kept st at f then_tree left work _ _ l.goes request l.feed l.holders MovedOutcome (record f.call { moves = f.call.moves + 1 }) _ refl refl refl refl refl refl (f.related.committed ∙ sym l.does.1) (alike l.goes l.feed l.holders l.does.0 MovedOutcome refl) l.goes.true)
-      (apart_changed s h n kept st at f then_tree work _ _ l.goes refl) (owned_on s h n kept st at f then_tree work _ _ l.goes refl) (room_on l.reserved)
-  leads Waits l =
-      still s h n kept st at f then_tree left work _ _ l.goes request l.feed l.holders l.does.0 Again _ tt refl refl
-      (calls_on s h n kept st at f then_tree left work _ _ l.goes request l.feed l.holders Again (record f.call { moves = 0 }) _ refl refl refl refl refl refl (f.related.committed ∙ sym l.does.1) (alike l.goes l.feed l.holders l.does.0 Again refl) l.goes.true)
-      (apart_changed s h n kept st at f then_tree work _ _ l.goes refl) (owned_on s h n kept st at f then_tree work _ _ l.goes refl) (room_on l.reserved)
-  leads (Committed number) l = commit_leads number kept.work refl l
-  leads (Answered answer) l =
-      ended _ (still s h n kept st at f then_tree left work _ _ l.goes request l.feed l.holders l.does.0 _ _
+  leads Moved l sound =
+      still s h n kept st at f then_tree left work _ _ l.goes request l.bounds l.does.0 MovedOutcome _ left.holders
+      (λ get. l.may (subst (λ (r : Request). IsTrueBool (is_get r)) f.related.request get)) refl refl refl
+      (calls_on s h n kept st at f then_tree left work _ _ l.goes request l.bounds MovedOutcome (record f.call { moves = f.call.moves + 1 }) _ refl refl refl refl refl refl (f.related.committed ∙ sym l.does.1) l.blocked (alike l.goes l.bounds l.does.0 MovedOutcome refl) l.goes.true)
+      (apart_changed s h n kept st at f then_tree work _ _ l.goes refl) (owned_on s h n kept st at f then_tree work _ _ l.goes refl) (room_on l.reserved) sound (held_on l.bounds)
+  leads Waits l sound =
+      still s h n kept st at f then_tree left work _ _ l.goes request l.bounds l.does.0 Again _ left.holders tt refl refl refl
+      (calls_on s h n kept st at f then_tree left work _ _ l.goes request l.bounds Again (record f.call { moves = 0 }) _ refl refl refl refl refl refl (f.related.committed ∙ sym l.does.1) l.blocked (alike l.goes l.bounds l.does.0 Again refl) l.goes.true)
+      (apart_changed s h n kept st at f then_tree work _ _ l.goes refl) (owned_on s h n kept st at f then_tree work _ _ l.goes refl) (room_on l.reserved) sound (held_on l.bounds)
+  leads (Committed number) l sound = commit_leads number kept.work refl l sound
+  leads (Answered answer) l sound =
+      ended _ _ (still s h n kept st at f then_tree left work _ _ l.goes request l.bounds l.does.0 _ _ (cond reads (without_holder from left.holders) left.holders)
       (record {
         pass = ap (λ (p : PassNo). p.0) pass_is ∙ sym f.related.pass;
         number = sym f.numbered;
@@ -127,30 +179,33 @@ module _ (s : MachineView) (h : History) (n : ℕ) (st : Stands s h) (kept : Cal
         to = ap (λ (m : ℕ). m + length left.deltas) l.does.0.trimmed ∙ ap (λ ds. s.log.held_after + length ds) l.does.0.deltas ∙ st.commits;
         answer = subst (λ (q : Request). RightAnswer s.columns h f.call q answer 0) (sym f.related.request) (right_answer s h st f.call kept.work answer f.related.began f.related.committed f.related.past f.related.passed l.does.1);
       })
-      refl refl (calls_end s h n kept st at f then_tree left work _ _ l.goes request l.feed l.holders _ refl (alike l.goes l.feed l.holders l.does.0 _ refl)) (apart_without n s.calls.calls st.apart) (owned_end s h n kept st at f then_tree work _ _ l.goes refl) (room_end l.reserved))
-  leads (Refused refusal) l =
-      ended _ (still s h n kept st at f then_tree left work _ _ l.goes request l.feed l.holders l.does.0 (RefusedOutcome refusal) _
-      (f.related.committed ∙ l.does.1, subst (λ (q : Request). MayEnd h f.call.began q refusal) (sym f.related.request) (may_end h f.call.began kept.work refusal l.does.2))
-      refl refl (calls_end s h n kept st at f then_tree left work _ _ l.goes request l.feed l.holders _ refl (alike l.goes l.feed l.holders l.does.0 _ refl)) (apart_without n s.calls.calls st.apart) (owned_end s h n kept st at f then_tree work _ _ l.goes refl) (room_end l.reserved))
+      refl refl (views_stay (record { pass = pass; call = record { 0 = n }; from = from; to = newest left; answer = answer })) (calls_end s h n kept st at f then_tree left work _ _ l.goes request l.bounds _ refl (alike l.goes l.bounds l.does.0 _ refl)) (apart_without n s.calls.calls st.apart) (owned_end s h n kept st at f then_tree work _ _ l.goes refl) (room_end l.reserved) sound (held_end l.bounds))
+  leads (Refused refusal) l sound =
+      ended _ _ (still s h n kept st at f then_tree left work _ _ l.goes request l.bounds l.does.0 (RefusedOutcome refusal) _ (cond reads (without_holder from left.holders) left.holders)
+      (f.related.committed ∙ l.does.1, subst (λ (q : Request). MayEnd h f.call.began q refusal) (sym f.related.request) (may_end h f.call.began kept.work refusal (subst (WasBlocked f.call.began h) l.blocked f.related.blocked) l.does.2))
+      refl refl refl (calls_end s h n kept st at f then_tree left work _ _ l.goes request l.bounds _ refl (alike l.goes l.bounds l.does.0 _ refl)) (apart_without n s.calls.calls st.apart) (owned_end s h n kept st at f then_tree work _ _ l.goes refl) (room_end l.reserved) sound (held_end l.bounds))
 
 step_open : (s t : MachineView) (n : ℕ) (outcome : Outcome) (h : History) → StepsOpen s n outcome t → Stands s h → Stands t (happening (step_event n) outcome 0 ∷ h)
 step_open s t n outcome h o st =
     let so = o.steps in
     let f = paired-some (CallStands s.columns s.epoch s.tree st.w h) 0 s.calls.begun n s.calls.calls (moment h).calls so.call st.calls so.is_open in
     let l = so.law.steps s.epoch so.call.epoch f.call.moves f.related.past st.w st.world f.related.epoch f.related.true in
-    subst (λ (u : MachineView). Stands u (happening (step_event n) outcome 0 ∷ h)) (sym (o.is_next ∙ ap (λ (c : CallsView). record { columns = s.columns; epoch = s.epoch; tree = o.tree; log = o.log; calls = calls_after n o.p c }) so.changed))
-    (subst (λ (z : Outcome). Stands (record { columns = s.columns; epoch = s.epoch; tree = o.tree; log = o.log; calls = calls_after n o.p (record s.calls { calls = with_changed (with_work so.work) n s.calls.calls }) }) (happening (step_event n) z 0 ∷ h)) (sym o.is_outcome)
-    (leads s h n st so.call so.is_open f o.tree o.log so.work so.same_request o.pass so.pass_is o.from so.from_is o.p l))
+    let log_is = log_after_is o.reads o.from o.p o.log in
+    subst (λ (u : MachineView). Stands u (happening (step_event n) outcome 0 ∷ h))
+    (sym (o.is_next ∙ ap (λ (c : CallsView). record { columns = s.columns; epoch = s.epoch; tree = o.tree; log = trimmed (log_after o.reads o.from o.p o.log); calls = calls_after n o.p c }) so.changed
+    ∙ ap (λ (g : LogView). record { columns = s.columns; epoch = s.epoch; tree = o.tree; log = trimmed g; calls = calls_after n o.p (record s.calls { calls = with_changed (with_work so.work) n s.calls.calls }) }) log_is))
+    (subst (λ (z : Outcome). Stands (record { columns = s.columns; epoch = s.epoch; tree = o.tree; log = trimmed (record o.log { holders = holders_after o.reads o.from o.p o.log.holders }); calls = calls_after n o.p (record s.calls { calls = with_changed (with_work so.work) n s.calls.calls }) }) (happening (step_event n) z 0 ∷ h)) (sym o.is_outcome)
+    (leads s h n st so.call so.is_open f o.tree o.log so.work so.same_request o.pass so.pass_is o.reads so.reads_is o.from so.from_is o.p l (subst IsLog log_is o.sound)))
 
 -- ---- an event that changes nothing
 -- what is true of each call stays true
 all_later : (s : MachineView) (h : History) (x : Happening) (st : Stands s h) → Paired (CallStands s.columns s.epoch s.tree st.w (x ∷ h)) 0 s.calls.begun s.calls.calls (moment h).calls
 all_later s h x st =
     paired-above 0 (CallStands s.columns s.epoch s.tree st.w h) (CallStands s.columns s.epoch s.tree st.w (x ∷ h)) 0 s.calls.begun s.calls.calls (moment h).calls
-    (λ k c i ne r. record { pass = r.pass; request = r.request; from = r.from; began = let b = r.began in omega (arith, b); epoch = r.epoch; committed = r.committed; past = r.past; passed = past_later s.columns c.began x h (arena_seen s.tree ∷ r.past) r.passed; true = r.true }) (omega arith) st.calls
+    (λ k c i ne r. record { pass = r.pass; request = r.request; from = r.from; began = let b = r.began in omega (arith, b); epoch = r.epoch; committed = r.committed; blocked = was_later c.began x h (held k.1.work).blocked r.blocked; past = r.past; passed = past_later s.columns c.began x h (arena_seen s.tree ∷ r.past) r.passed; true = r.true }) (omega arith) st.calls
 
-same_stands : (s : MachineView) (h : History) (x : Happening) → Stands s h → MayHappen s.columns h x.event x.outcome x.opens → (moment (x ∷ h)).commits ≡ (moment h).commits → (moment (x ∷ h)).begun ≡ (moment h).begun → (moment (x ∷ h)).calls ≡ (moment h).calls → Stands s (x ∷ h)
-same_stands s h x st may commits begun calls =
+same_stands : (s : MachineView) (h : History) (x : Happening) → Stands s h → MayHappen s.columns h x.event x.outcome x.opens → (moment (x ∷ h)).commits ≡ (moment h).commits → (moment (x ∷ h)).begun ≡ (moment h).begun → (moment (x ∷ h)).calls ≡ (moment h).calls → (moment (x ∷ h)).views ≡ (moment h).views → Stands s (x ∷ h)
+same_stands s h x st may commits begun calls views =
     let same_rows : rows s.columns (moment (x ∷ h)) ≡ rows s.columns (moment h) = ap (λ cs. after s.columns cs) commits in
     record {
       legal = (st.legal, may);
@@ -160,15 +215,23 @@ same_stands s h x st may commits begun calls =
       world = st.world;
       content = λ key bytes row. subst (λ (rs : Rows). HasRow s.tree key row ↔ (get rs key ≡ Some row)) (sym same_rows) (st.content key bytes row);
       keys = λ key row is. st.keys key row (sym (ap (λ (rs : Rows). get rs key) same_rows) ∙ is);
-      untrimmed = st.untrimmed;
-      logged = st.logged ∙ ap (deltas_of s.columns) (sym commits);
-      unbounded = st.unbounded;
-      unheld = st.unheld;
+      logged = st.logged ∙ ap (λ (cs : List Change). drop s.log.held_after (deltas_of s.columns cs)) (sym commits);
+      trimmed = st.trimmed ∙ same_bound commits (same_holding calls views);
+      held = λ number. st.held number ∙ ap (times_held number) (same_holding calls views);
+      views = views ∙ st.views;
       calls = subst (λ cs. Paired (CallStands s.columns s.epoch s.tree st.w (x ∷ h)) 0 s.calls.begun s.calls.calls cs) (sym calls) (all_later s h x st);
       apart = st.apart;
       owned = st.owned;
       reserved = st.reserved;
     }
+  where
+    same_holding : (moment (x ∷ h)).calls ≡ (moment h).calls → (moment (x ∷ h)).views ≡ (moment h).views → holding (moment h) ≡ holding (moment (x ∷ h))
+    same_holding same also = ap (λ (vs : List StandingView). map (λ (v : StandingView). v.at) vs ++ froms (moment h).calls) (sym also) ∙ ap (λ (cs : List OpenCall). map (λ (v : StandingView). v.at) (moment (x ∷ h)).views ++ froms cs) (sym same)
+
+    same_bound : (moment (x ∷ h)).commits ≡ (moment h).commits → holding (moment h) ≡ holding (moment (x ∷ h)) → min (held_from (moment h)) (length (moment h).commits - s.log.keep) ≡ min (held_from (moment (x ∷ h))) (length (moment (x ∷ h)).commits - s.log.keep)
+    same_bound few same =
+        ap (λ (l : List ℕ). min (least (length (moment h).commits) l) (length (moment h).commits - s.log.keep)) same
+        ∙ ap (λ (cs : List Change). min (least (length cs) (holding (moment (x ∷ h)))) (length cs - s.log.keep)) (sym few)
 
 unknown : (s : MachineView) (n : ℕ) (h : History) → call_at n s.calls.calls ≡ None → Stands s h → Stands s (happening (step_event n) (RefusedOutcome NoSuchCall) 0 ∷ h)
 unknown s n h at st =
@@ -177,6 +240,7 @@ unknown s n h at st =
     (ap (λ r. (after_call_step (moment h) r (RefusedOutcome NoSuchCall) 0).commits) of)
     (ap (λ r. (after_call_step (moment h) r (RefusedOutcome NoSuchCall) 0).begun) of)
     (ap (λ r. (after_call_step (moment h) r (RefusedOutcome NoSuchCall) 0).calls) of)
+    (ap (λ r. (after_call_step (moment h) r (RefusedOutcome NoSuchCall) 0).views) of)
 
 pub steps-stand : (s t : MachineView) (n : ℕ) (outcome : Outcome) (h : History) → Steps s n outcome t → Stands s h → Stands t (happening (step_event n) outcome 0 ∷ h)
 steps-stand s t n outcome h (inl none) st =
@@ -204,9 +268,8 @@ machine_fault s h request served st = fault-same _ _ _ _ _ _ request served st.b
 called : (s : MachineView) (pass : PassNo) (request : Request) (work : Work) (h : History) → IsServedRequest request → Stands s h → fault_of s request ≡ None → request_of work ≡ request → IsNew s.columns work
     → Stands (with_call s pass work) (happening (Begin pass request) (Called (record { 0 = s.calls.begun + 1 })) 0 ∷ h)
 called s pass request work h served st none is new =
-    let x : Happening = happening (Begin pass request) (Called (record { 0 = s.calls.begun + 1 })) 0 in
-    let call : Call = record { pass = pass; from = newest s.log; epoch = s.epoch; work = work } in
-    record {
+    let log_is = pinned_is (reads_log (request_of work)) s.log in
+    subst (λ (g : LogView). Stands (record s { log = g; calls = calls }) (x ∷ h)) (sym log_is) (record {
       legal = (
         st.legal,
         subst (λ r. MayBegin (moment h) r (Called (record { 0 = s.calls.begun + 1 }))) (sym none ∙ machine_fault s h request served st)
@@ -218,22 +281,11 @@ called s pass request work h served st none is new =
       world = st.world;
       content = st.content;
       keys = st.keys;
-      untrimmed = st.untrimmed;
       logged = st.logged;
-      unbounded = st.unbounded;
-      unheld = st.unheld;
-      calls = paired-append (CallStands s.columns s.epoch s.tree st.w (x ∷ h)) 0 s.calls.begun s.calls.calls (moment h).calls _ _ (all_later s h x st) refl refl
-          (record {
-            pass = refl;
-            request = sym is;
-            from = sym st.commits;
-            began = let e = happened_is h in omega arith;
-            epoch = omega arith;
-            committed = sym (ap (λ (d : Held). d.committed) new.has);
-            past = [];
-            passed = subst (λ (m : ℕ). IsPast s.columns m (x ∷ h) (arena_seen s.tree ∷ [])) (sym (happened_is h)) (past_new s.columns x h s.tree st.content);
-            true = new.true s.tree s.epoch s.epoch st.w st.world;
-          });
+      trimmed = st.trimmed ∙ ap (λ (n : ℕ). min n (length (moment h).commits - s.log.keep)) still_bound;
+      held = now_holds;
+      views = st.views;
+      calls = paired;
       apart = λ one other i j ne number owned mine. elim (among_append s.calls.calls (s.calls.begun + 1, call) one i) [
         | inl a ↦ elim (among_append s.calls.calls (s.calls.begun + 1, call) other j) [
           | inl b ↦ st.apart one other a b ne number owned mine
@@ -242,11 +294,48 @@ called s pass request work h served st none is new =
         | inr a ↦ owns_none number (subst (λ (l : List ℕ). Among number l) (ap (λ (k : ℕ × Call). (held k.1.work).owns) a ∙ ap (λ (d : Held). d.owns) new.has) owned)
       ];
       owned = λ number taken. let (k, i, o) = st.owned number taken in (k, among_before s.calls.calls (s.calls.begun + 1, call) k i, o);
-      reserved = let more = reserved_append s.calls.calls (s.calls.begun + 1, call) in let zero = ap (λ (d : Held). d.reserves) new.has in let all = st.reserved in omega (arith, more, zero, all);
-    }
+      reserved = let more = total_append reserves s.calls.calls (s.calls.begun + 1, call) in let zero = ap (λ (d : Held). d.reserves) new.has in let all = st.reserved in omega (arith, more, zero, all);
+    })
   where
+    x : Happening
+    x = happening (Begin pass request) (Called (record { 0 = s.calls.begun + 1 })) 0
+
+    call : Call
+    call = record { pass = pass; from = newest s.log; epoch = s.epoch; work = work }
+
+    calls : CallsView
+    calls = record { begun = s.calls.begun + 1; calls = s.calls.calls ++ (s.calls.begun + 1, call) ∷ [] }
+
     owns_none : (number : ℕ) → Among number [] → ⊥
     owns_none number i = elim i [ ]
+
+    paired : Paired (CallStands s.columns s.epoch s.tree st.w (x ∷ h)) 0 (s.calls.begun + 1) (s.calls.calls ++ (s.calls.begun + 1, call) ∷ []) (moment (x ∷ h)).calls
+    paired = paired-append (CallStands s.columns s.epoch s.tree st.w (x ∷ h)) 0 s.calls.begun s.calls.calls (moment h).calls (s.calls.begun + 1, call) (new_call (moment h) pass.0 request (s.calls.begun + 1)) (all_later s h x st) (ap (λ (n : ℕ). n + 1) refl) refl
+        (record {
+          pass = refl;
+          request = sym is;
+          from = sym st.commits;
+          began = let e = happened_is h in omega arith;
+          epoch = omega arith;
+          committed = sym (ap (λ (d : Held). d.committed) new.has);
+          blocked = subst (λ (b : Option ℕ). WasBlocked (moment h).happened (x ∷ h) b) (sym (ap (λ (d : Held). d.blocked) new.has)) tt;
+          past = [];
+          passed = subst (λ (m : ℕ). IsPast s.columns m (x ∷ h) (arena_seen s.tree ∷ [])) (sym (happened_is h)) (past_new s.columns x h s.tree st.content);
+          true = new.true s.tree s.epoch s.epoch st.w st.world;
+        })
+
+    -- it holds the log, if it reads it, from the newest commit on
+    now_holds : (number : ℕ) → times_held number (cond (reads_log (request_of work)) (with_holder (newest s.log) s.log.holders) s.log.holders) ≡ times_held number (holding (moment (x ∷ h)))
+    now_holds number =
+        held_more (reads_log (request_of work)) (newest s.log) number _ _ _ s.log.holders (held_before s h st number) (total_append (holds_from number) s.calls.calls (s.calls.begun + 1, call))
+        ∙ sym (all-held (CallStands s.columns s.epoch s.tree st.w (x ∷ h)) (λ k c r. r.from) (λ k c r. r.request) number 0 (s.calls.begun + 1) (s.calls.calls ++ (s.calls.begun + 1, call) ∷ []) (moment (x ∷ h)) paired)
+
+    -- so it is held from where it was
+    still_bound : held_from (moment h) ≡ held_from (moment (x ∷ h))
+    still_bound =
+        sym (slowest_is s.log (moment h) st.commits st.held)
+        ∙ sym (least_pinned (reads_log (request_of work)) s.log)
+        ∙ slowest_is (record s.log { holders = cond (reads_log (request_of work)) (with_holder (newest s.log) s.log.holders) s.log.holders }) (moment (x ∷ h)) st.commits now_holds
 
 pub begins-stands : (s t : MachineView) (pass : PassNo) (request : Request) (outcome : Outcome) (h : History) → IsServedRequest request
     → Begins s pass request outcome t → Stands s h → Stands t (happening (Begin pass request) outcome 0 ∷ h)
@@ -260,7 +349,7 @@ begins-stands s t pass request (RefusedOutcome refusal) h served b st =
       | inl e ↦ subst (λ r. MayBegin (moment h) r (RefusedOutcome refusal)) (sym e ∙ machine_fault s h request served st) refl
       | inr e ↦ subst (λ r. MayBegin (moment h) r (RefusedOutcome refusal)) (sym e.0 ∙ machine_fault s h request served st) (inr (ap (λ r. RefusedOutcome r) e.1))
     ])
-    refl refl refl)
+    refl refl refl refl)
 begins-stands s t pass request MovedOutcome h served b st = absurd b
 begins-stands s t pass request Again h served b st = absurd b
 begins-stands s t pass request (Commit n) h served b st = absurd b
@@ -288,14 +377,55 @@ may_step s h n st = go (call_at n s.calls.calls) refl
           w = st.w;
           world = st.world;
           true = f.related.true;
-          room = let all = st.reserved in let rest = reserved_without n kept s.calls.calls at in omega (arith, all, rest);
-          unbounded = st.unbounded;
+          room = let all = st.reserved in let rest = total_without n kept reserves s.calls.calls at in omega (arith, all, rest);
         }
 
+-- ---- who holds the log
+-- it has no more holders than there are open calls
+pub few_hold : (s : MachineView) (h : History) → Stands s h → length s.log.holders ≤ length s.calls.calls
+few_hold s h st =
+    let as_many = length_by_counts s.log.holders (holding (moment h)) st.held in
+    let none = ap (λ (vs : List StandingView). length (map (λ (v : StandingView). v.at) vs ++ froms (moment h).calls)) st.views in
+    let read = length-map (filter (λ (call : OpenCall). reads_log call.request) (moment h).calls) (λ (call : OpenCall). call.from) in
+    let fewer = length-filter (λ (call : OpenCall). reads_log call.request) (moment h).calls in
+    let counted = count_by-le-length (λ (call : OpenCall). reads_log call.request) (moment h).calls in
+    let all = paired-length (CallStands s.columns s.epoch s.tree st.w h) 0 s.calls.begun s.calls.calls (moment h).calls st.calls in
+    omega (arith, as_many, none, read, fewer, counted, all)
+
+-- a call that can begin finds fewer open than there may be
+or_none : (x y : Option Refusal) → option_or x y ≡ None → y ≡ None
+or_none None y e = e
+or_none (Some r) y e = absurd (let clash : ◌≡◌ {A = Option Refusal} (Some r) None = e in cc)
+
+not_broken : (broken : Bool) (refusal : Refusal) (y : Option Refusal) → option_or (refused_if broken refusal) y ≡ None → broken ≡ false
+not_broken false refusal y e = refl
+not_broken true refusal y e = absurd (let clash : ◌≡◌ {A = Option Refusal} (Some refusal) None = e in cc)
+
+pub begun_few : (C begun opened places : ℕ) (request : Request) → begin_fault C begun opened places request ≡ None → opened < MAX_OPEN_CALLS
+begun_few C begun opened places request none =
+    leb-false MAX_OPEN_CALLS opened (not_broken (nat_le MAX_OPEN_CALLS opened) TooManyCalls _ (or_none (refused_if (nat_le greatest_number begun) Spent) _ (or_none (request_fault C request) _ none)))
+
+-- a step of a call leaves who holds the log, and how much it may hold
+pub step_bounds : (s : MachineView) (h : History) (n : ℕ) (calls : CallsView) (then_tree : ArenaView) (left : LogView) (pass : PassNo) (reads : Bool) (from : ℕ) (p : Progress) → StepsCall s.columns n s.calls calls s.tree then_tree s.log left pass reads from p → Stands s h → bounds left ≡ bounds s.log
+step_bounds s h n calls then_tree left pass reads from p steps st =
+    let f = paired-some (CallStands s.columns s.epoch s.tree st.w h) 0 s.calls.begun n s.calls.calls (moment h).calls steps.call st.calls steps.is_open in
+    (steps.law.steps s.epoch steps.call.epoch f.call.moves f.related.past st.w st.world f.related.epoch f.related.true).bounds
+
+-- a call that reads the log is one of its holders
+pub may_settle : (s : MachineView) (h : History) (n : ℕ) (calls : CallsView) (then_tree : ArenaView) (left : LogView) (pass : PassNo) (reads : Bool) (from : ℕ) (p : Progress) → StepsCall s.columns n s.calls calls s.tree then_tree s.log left pass reads from p → Stands s h → IsTrueBool reads → Contains left.holders from
+may_settle s h n calls then_tree left pass reads from p steps st is =
+    let same = step_bounds s h n calls then_tree left pass reads from p steps st in
+    subst (λ (b : List ℕ × ℕ × ℕ). Contains b.0 from) (sym same)
+    (subst (λ (m : ℕ). Contains s.log.holders m) (sym steps.from_is)
+    (reader_holds n _ steps.call s.calls.calls s.log.holders steps.is_open (held_before s h st steps.call.from) (sym steps.reads_is ∙ is)))
+
+pub settled_bounds : (reads : Bool) (from : ℕ) (p : Progress) (left : LogView) (feed keep : ℕ) → (left.feed ≡ feed) × (left.keep ≡ keep) → HasBounds feed keep (trimmed (log_after reads from p left))
+settled_bounds reads from p left feed keep had = subst (λ (l : LogView). HasBounds feed keep (trimmed l)) (sym (log_after_is reads from p left)) had
+
 -- ---- the new machine
-pub opens-stands : (C : ℕ) (a : ArenaView) (log : LogView) (w : World) → IsWorld a 0 w → ((number : ℕ) → IsTaken a w number → ⊥) → ((key : List ℕ) (row : Row) → HasRow a key row → ⊥) → log ≡ record { held_after = 0; deltas = []; reserved = 0; holders = []; feed = 18446744073709551615; keep = 18446744073709551615 }
+pub opens-stands : (C feed keep : ℕ) (a : ArenaView) (log : LogView) (w : World) → IsWorld a 0 w → ((number : ℕ) → IsTaken a w number → ⊥) → ((key : List ℕ) (row : Row) → HasRow a key row → ⊥) → log ≡ record { held_after = 0; deltas = []; reserved = 0; holders = []; feed = feed; keep = keep }
     → Stands (record { columns = C; epoch = 0; tree = a; log = log; calls = record { begun = 0; calls = [] } }) []
-opens-stands C a log w world nobody empty is = subst (λ (l : LogView). Stands (record { columns = C; epoch = 0; tree = a; log = l; calls = record { begun = 0; calls = [] } }) []) (sym is) (record {
+opens-stands C feed keep a log w world nobody empty is = subst (λ (l : LogView). Stands (record { columns = C; epoch = 0; tree = a; log = l; calls = record { begun = 0; calls = [] } }) []) (sym is) (record {
   legal = tt;
   commits = refl;
   begun = refl;
@@ -303,10 +433,10 @@ opens-stands C a log w world nobody empty is = subst (λ (l : LogView). Stands (
   world = world;
   content = λ key bytes row. ((λ has. absurd (empty key row has)), (λ e. absurd (let clash : ◌≡◌ {A = Option Row} None (Some row) = sym (get-empty key_cmp key) ∙ e in cc)));
   keys = λ key row e. absurd (let clash : ◌≡◌ {A = Option Row} None (Some row) = sym (get-empty key_cmp key) ∙ e in cc);
-  untrimmed = refl;
   logged = refl;
-  unbounded = record { feed = refl };
-  unheld = refl;
+  trimmed = let none : 0 ≡ min 0 (0 - keep) = omega arith in none;
+  held = λ number. refl;
+  views = refl;
   calls = omega arith;
   apart = λ one other i. elim i [ ];
   owned = λ number taken. absurd (nobody number taken);
@@ -317,9 +447,9 @@ opens-stands C a log w world nobody empty is = subst (λ (l : LogView). Stands (
 abbrev pub seen : ℕ → ℕ → ArenaView → LogView → CallsView → MachineView
 seen C epoch a log calls = record { columns = C; epoch = epoch; tree = a; log = log; calls = calls }
 
-module _ (C epoch : ℕ) (a after_tree : ArenaView) (log left : LogView) (calls new final : CallsView) (n : ℕ) (pass : PassNo) (from : ℕ) (progress p : Progress) (is : progress ≡ p)
-    (steps : StepsCall C n calls new a after_tree log left pass from progress) (last : final ≡ calls_after n p new) where
-  taken : Steps (seen C epoch a log calls) n (outcome_of n pass from (newest left) p) (seen C epoch after_tree left final)
+module _ (C epoch : ℕ) (a after_tree : ArenaView) (log left : LogView) (calls new final : CallsView) (n : ℕ) (pass : PassNo) (reads : Bool) (from : ℕ) (p : Progress)
+    (steps : StepsCall C n calls new a after_tree log left pass reads from p) (last : final ≡ calls_after n p new) (settled_log : LogView) (log_is : settled_log ≡ log_after reads from p left) (sound : IsLog settled_log) where
+  taken : Steps (seen C epoch a log calls) n (outcome_of n pass from (newest left) p) (seen C epoch after_tree (trimmed settled_log) final)
   taken = inr (record {
     pass = pass;
     from = from;
@@ -327,29 +457,35 @@ module _ (C epoch : ℕ) (a after_tree : ArenaView) (log left : LogView) (calls 
     calls = new;
     tree = after_tree;
     log = left;
-    steps = subst (λ (q : Progress). StepsCall C n calls new a after_tree log left pass from q) is steps;
+    reads = reads;
+    steps = steps;
+    sound = subst IsLog log_is sound;
     is_outcome = refl;
-    is_next = ap (seen C epoch after_tree left) last;
+    is_next = ap (seen C epoch after_tree (trimmed settled_log)) last ∙ ap (λ (g : LogView). seen C epoch after_tree (trimmed g) (calls_after n p new)) log_is;
   })
 
-  pub taken-steps : (now : MachineView) (outcome : Outcome) → seen C epoch a log calls ≡ now → outcome ≡ outcome_of n pass from (newest left) p → Steps now n outcome (seen C epoch after_tree left final)
-  taken-steps now outcome same e =
-      subst (λ (s : MachineView). Steps s n outcome (seen C epoch after_tree left final)) same
-      (subst (λ (o : Outcome). Steps (seen C epoch a log calls) n o (seen C epoch after_tree left final)) (sym e) taken)
+  pub taken-steps : (now : MachineView) (outcome : Outcome) (trimmed_log : LogView) → trimmed_log ≡ trimmed settled_log → seen C epoch a log calls ≡ now → outcome ≡ outcome_of n pass from (newest left) p → Steps now n outcome (seen C epoch after_tree trimmed_log final)
+  taken-steps now outcome trimmed_log done same e =
+      subst (λ (g : LogView). Steps now n outcome (seen C epoch after_tree g final)) (sym done)
+      (subst (λ (s : MachineView). Steps s n outcome (seen C epoch after_tree (trimmed settled_log) final)) same
+      (subst (λ (o : Outcome). Steps (seen C epoch a log calls) n o (seen C epoch after_tree (trimmed settled_log) final)) (sym e) taken))
 
-  pub taken-stands : (h : History) × Stands (seen C epoch a log calls) h → (h : History) × Stands (seen C epoch after_tree left final) h
-  taken-stands (h, st) = (happening (step_event n) (outcome_of n pass from (newest left) p) 0 ∷ h, steps-stand _ _ n _ h taken st)
+  pub taken-stands : (trimmed_log : LogView) → trimmed_log ≡ trimmed settled_log → (h : History) × Stands (seen C epoch a log calls) h → (h : History) × Stands (seen C epoch after_tree trimmed_log final) h
+  taken-stands trimmed_log done (h, st) = (
+    happening (step_event n) (outcome_of n pass from (newest left) p) 0 ∷ h,
+    subst (λ (g : LogView). Stands (seen C epoch after_tree g final) (happening (step_event n) (outcome_of n pass from (newest left) p) 0 ∷ h)) (sym done) (steps-stand _ _ n _ h taken st),
+  )
 
 -- a begin leaves a machine that stands somewhere
-pub begun-stands : (C epoch : ℕ) (a : ArenaView) (log : LogView) (calls new : CallsView) (pass : PassNo) (from : ℕ) (request : Request) (work : Work) → IsServedRequest request → begin_fault C calls.begun (length calls.calls) 0 request ≡ None → request_of work ≡ request → IsNew C work → from ≡ newest log
-    → (new ≡ record { begun = calls.begun + 1; calls = calls.calls ++ (calls.begun + 1, record { pass = pass; from = from; epoch = epoch; work = work }) ∷ [] }) ⊎ (new ≡ calls)
-    → (h : History) × Stands (seen C epoch a log calls) h → (h : History) × Stands (seen C epoch a log new) h
-begun-stands C epoch a log calls new pass from request work served none is is_new from_is (inr same) (h, st) = (h, subst (λ (c : CallsView). Stands (seen C epoch a log c) h) (sym same) st)
-begun-stands C epoch a log calls new pass from request work served none is is_new from_is (inl more) (h, st) = (
+pub begun-stands : (C epoch : ℕ) (a : ArenaView) (log pinned_log : LogView) (calls new : CallsView) (pass : PassNo) (from : ℕ) (request : Request) (work : Work) → IsServedRequest request → begin_fault C calls.begun (length calls.calls) 0 request ≡ None → request_of work ≡ request → IsNew C work → from ≡ newest log
+    → new ≡ record { begun = calls.begun + 1; calls = calls.calls ++ (calls.begun + 1, record { pass = pass; from = from; epoch = epoch; work = work }) ∷ [] } → pinned_log ≡ pinned (reads_log (request_of work)) log
+    → (h : History) × Stands (seen C epoch a log calls) h → (h : History) × Stands (seen C epoch a pinned_log new) h
+begun-stands C epoch a log pinned_log calls new pass from request work served none is is_new from_is more log_is (h, st) = (
   happening (Begin pass request) (Called (record { 0 = calls.begun + 1 })) 0 ∷ h,
-  subst (λ (c : CallsView). Stands (seen C epoch a log c) (happening (Begin pass request) (Called (record { 0 = calls.begun + 1 })) 0 ∷ h))
+  subst (λ (g : LogView). Stands (seen C epoch a g new) (happening (Begin pass request) (Called (record { 0 = calls.begun + 1 })) 0 ∷ h)) (sym log_is)
+      (subst (λ (c : CallsView). Stands (seen C epoch a (pinned (reads_log (request_of work)) log) c) (happening (Begin pass request) (Called (record { 0 = calls.begun + 1 })) 0 ∷ h))
       (sym (more ∙ ap (λ (m : ℕ). record { begun = calls.begun + 1; calls = calls.calls ++ (calls.begun + 1, record { pass = pass; from = m; epoch = epoch; work = work }) ∷ [] }) from_is))
-      (called (seen C epoch a log calls) pass request work h served st none is is_new),
+      (called (seen C epoch a log calls) pass request work h served st none is is_new)),
 )
 
 -- a new tree has no row

@@ -2,6 +2,7 @@ pub mod NumberLemmas
 pub mod ListLemmas
 pub mod PairedLemmas
 pub mod PastLemmas
+pub mod LogStands
 pub mod StepStands
 pub mod EventStands
 pub mod CauseLemmas

@@ -1,11 +1,11 @@
--- The list of open calls: what stands in it after a change, and what its calls have reserved.
+-- The list of open calls: what stands in it after a change, and the sum of a number of each call.
 use Rattle.std.proofs.Common.{ℕ, ◌≡◌, ◌≢◌, ◌+◌, ◌⊎◌, inl, inr, [], ◌∷◌, ◌++◌, Some, refl, sym, ap, subst, ◌∙◌, arith}
 use Rattle.std.proofs.lemmas.Bool.Decides.{eqb_tells}
 use Rattle.mt_chart.specs.Tree.{Among, first, later}
 use Rattle.mt_chart.proofs.Entries.{among_cases}
 use Rattle.mt_index.specs.declared.calls.Call.{Call}
 use Rattle.mt_write.specs.Works.{held}
-use Rattle.mt_index.specs.Calls.{call_at, with_changed, without, all_reserved}
+use Rattle.mt_index.specs.Calls.{call_at, with_changed, without, total}
 use Rattle.mt_index.proofs.NumberLemmas.{Entries, found-here, found-there, changed-here, changed-there, without-here, without-there}
 
 abbrev pub reserves : Call → ℕ
@@ -43,21 +43,21 @@ module _ (n : ℕ) (kept : Call) where
     | inr p ↦ later (among_at ks (found-there n k ks p.0 kept at))
   ]
 
-  -- what the calls have reserved then
-  pub reserved_changed : (change : Call → Call) (ks : Entries) → call_at n ks ≡ Some kept → all_reserved (with_changed change n ks) + reserves kept ≡ all_reserved ks + reserves (change kept)
-  reserved_changed change [] at = absurd (cc)
-  reserved_changed change (k ∷ ks) at = elim (eqb_tells k.0 n) [
-    | inl p ↦ (let list = ap all_reserved (changed-here n k ks p.0 change) in let same = found-here n k ks p.0 kept at in
-        let old = ap reserves same in let new = ap (λ (c : Call). reserves (change c)) same in omega (arith, list, old, new))
-    | inr p ↦ (let list = ap all_reserved (changed-there n k ks p.0 change) in
-        let rest = reserved_changed change ks (found-there n k ks p.0 kept at) in omega (arith, list, rest))
+  -- the sum of a number of each
+  pub total_changed : (f : Call → ℕ) (change : Call → Call) (ks : Entries) → call_at n ks ≡ Some kept → total f (with_changed change n ks) + f kept ≡ total f ks + f (change kept)
+  total_changed f change [] at = absurd (cc)
+  total_changed f change (k ∷ ks) at = elim (eqb_tells k.0 n) [
+    | inl p ↦ (let list = ap (total f) (changed-here n k ks p.0 change) in let same = found-here n k ks p.0 kept at in
+        let old = ap f same in let new = ap (λ (c : Call). f (change c)) same in omega (arith, list, old, new))
+    | inr p ↦ (let list = ap (total f) (changed-there n k ks p.0 change) in
+        let rest = total_changed f change ks (found-there n k ks p.0 kept at) in omega (arith, list, rest))
   ]
 
-  pub reserved_without : (ks : Entries) → call_at n ks ≡ Some kept → all_reserved (without n ks) + reserves kept ≡ all_reserved ks
-  reserved_without [] at = absurd (cc)
-  reserved_without (k ∷ ks) at = elim (eqb_tells k.0 n) [
-    | inl p ↦ (let list = ap all_reserved (without-here n k ks p.0) in let old = ap reserves (found-here n k ks p.0 kept at) in omega (arith, list, old))
-    | inr p ↦ (let list = ap all_reserved (without-there n k ks p.0) in let rest = reserved_without ks (found-there n k ks p.0 kept at) in omega (arith, list, rest))
+  pub total_without : (f : Call → ℕ) (ks : Entries) → call_at n ks ≡ Some kept → total f (without n ks) + f kept ≡ total f ks
+  total_without f [] at = absurd (cc)
+  total_without f (k ∷ ks) at = elim (eqb_tells k.0 n) [
+    | inl p ↦ (let list = ap (total f) (without-here n k ks p.0) in let old = ap f (found-here n k ks p.0 kept at) in omega (arith, list, old))
+    | inr p ↦ (let list = ap (total f) (without-there n k ks p.0) in let rest = total_without f ks (found-there n k ks p.0 kept at) in omega (arith, list, rest))
   ]
 
 -- ---- what stays in the list
@@ -116,9 +116,9 @@ among_append (k ∷ ks) new j i = elim (among_cases j k (ks ++ new ∷ []) i) [
   | inr more ↦ elim (among_append ks new j more) [ inl old ↦ inl (later old) | inr e ↦ inr e ]
 ]
 
-pub reserved_append : (ks : Entries) (new : ℕ × Call) → all_reserved (ks ++ new ∷ []) ≡ all_reserved ks + reserves new.1
-reserved_append [] new = omega arith
-reserved_append (k ∷ ks) new = let rest = reserved_append ks new in omega (arith, rest)
+pub total_append : (f : Call → ℕ) (ks : Entries) (new : ℕ × Call) → total f (ks ++ new ∷ []) ≡ total f ks + f new.1
+total_append f [] new = omega arith
+total_append f (k ∷ ks) new = let rest = total_append f ks new in omega (arith, rest)
 
 pub among_before : (ks : Entries) (new k : ℕ × Call) → Among k ks → Among k (ks ++ new ∷ [])
 among_before [] new k i = elim i [ ]

@@ -1,6 +1,6 @@
 -- A step of one call leads from a machine that stands at a history to one that stands at the next.
-use Rattle.std.proofs.Common.{ℕ, ◌≡◌, ◌≢◌, ◌≤◌, ◌+◌, ◌⊎◌, ◌↔◌, inl, inr, cond, List, [], ◌∷◌, ◌++◌, length, Option, Some, None, refl, sym, ap, subst, ◌∙◌, arith}
-use Rattle.std.specs.FinMap as map
+use Rattle.std.proofs.Common.{ℕ, ◌≡◌, ◌≢◌, ◌≤◌, ◌+◌, ◌⊎◌, ◌↔◌, inl, inr, cond, List, [], ◌∷◌, ◌++◌, length, Option, Some, None, refl, sym, ap, subst, ◌∙◌, arith, drop, map}
+use Rattle.std.specs.FinMap as fin
 use Rattle.std.specs.FinMap.{get}
 use Rattle.std.specs.Cmp.{IsTotalOrder}
 use Rattle.std.specs.Cmp.Lexicographic.{nat_list_cmp_total}
@@ -8,7 +8,7 @@ use Rattle.std.specs.declared.cmp.Ordering.{Ordering}
 use Rattle.std.specs.declared.cmp.Ordering.TheVariants.{Less, Equal, Greater}
 use Rattle.std.specs.Ordering.{is_eq}
 use Rattle.std.proofs.lemmas.Cmp.{tied_itself}
-use Rattle.std.proofs.lemmas.List.{length-append}
+use Rattle.std.proofs.lemmas.List.{length-append, drop-append-le}
 use Rattle.mt_types.specs.Keys.{key_cmp}
 use Rattle.mt_types.specs.Rows.{Rows, after, after_change}
 use Rattle.mt_types.specs.declared.row.Row.{Row}
@@ -21,14 +21,15 @@ use Rattle.mt_types.specs.declared.event.Answer.TheVariants.{Absent, Found as Fo
 use Rattle.mt_types.specs.declared.event.Outcome.{Outcome}
 use Rattle.mt_types.specs.declared.event.Outcome.TheVariants.{Commit}
 use Rattle.mt_types.specs.declared.refusal.Refusal.{Refusal}
-use Rattle.mt_types.specs.declared.refusal.Refusal.TheVariants.{NoMemory, KeyTooLong, BadColumn, ColumnTooLong, BadLimit, ArenaFull, FeedFull, TooManyCalls, NoSuchCall, TooManyViews, NoSuchView, Behind, BadRange, Spent, WrongPass}
-use Rattle.mt_promise.specs.History.{History, Happening, Moment, OpenCall, happening, moment, rows, call_of, without_call, replace_call, after_step, after_call_step, change_of}
+use Rattle.mt_types.specs.declared.refusal.Refusal.TheVariants.{NoMemory, ArenaFull, FeedFull, Spent}
+use Rattle.mt_promise.specs.History.{History, Happening, Moment, OpenCall, StandingView, happening, moment, rows, call_of, without_call, replace_call, after_step, after_call_step, change_of}
 use Rattle.mt_promise.specs.RightAnswers.{RightAnswer, Lacks, Shows}
 use Rattle.mt_promise.specs.Legal.{MayStepAt, MayStep, MayEnd, MayCommit}
 use Rattle.mt_promise.proofs.HistoryLemmas.{after-append, Sometime-here}
 use Rattle.mt_slice.specs.Place.{AreBytes, place_of}
 use Rattle.mt_slice.proofs.Canonical.{same_from_place_of}
-use Rattle.mt_commit.specs.Log.{LogView, newest, with_delta}
+use Rattle.mt_commit.specs.Log.{LogView, IsLog, newest, slowest, with_delta, trimmed}
+use Rattle.mt_commit.specs.Laws.{times_held}
 use Rattle.mt_commit.specs.Deltas.{with_row}
 use Rattle.mt_commit.proofs.RowLemmas.{get-with_row}
 use Rattle.mt_arena.specs.Arena.{ArenaView}
@@ -39,16 +40,17 @@ use Rattle.mt_index.specs.declared.calls.Call.{Call}
 use Rattle.mt_write.specs.declared.work.Work.{Work}
 use Rattle.mt_write.specs.declared.work.Work.TheVariants.{Get as GetWork, Write as WriteWork, Range as RangeWork}
 use Rattle.mt_calls.specs.World.{IsTaken, World, IsSame, Goes, NotAmong}
-use Rattle.mt_calls.specs.Step.{RowIs, IsQuiet, Changes, IsRight, MayRefuse}
+use Rattle.mt_calls.specs.Step.{RowIs, IsQuiet, Changes, IsRight, MayRefuse, blocked_by, bounds}
 use Rattle.mt_write.specs.declared.writing.Edit.{Edit}
 use Rattle.mt_write.specs.declared.writing.Edit.TheVariants.{Put as PutEdit, Remove as RemoveEdit}
 use Rattle.mt_write.specs.Writing.{edit_request}
 use Rattle.mt_write.specs.Works.{request_of, held, IsTrue}
 use Rattle.mt_index.specs.Logged.{key_of, delta_made, deltas_of}
 use Rattle.mt_index.specs.Paired.{Paired}
-use Rattle.mt_index.specs.Calls.{call_at, with_changed, with_work, without, AreApart, all_reserved}
-use Rattle.mt_index.specs.Stands.{AllOwned, MachineView, CallStands, HasRowsOf, IsPast, Stands}
-use Rattle.mt_index.proofs.DeltaLemmas.{delta_is, deltas_of-append}
+use Rattle.mt_index.specs.Calls.{call_at, with_changed, with_work, without, AreApart, total, all_reserved}
+use Rattle.mt_index.specs.Stands.{AllOwned, MachineView, CallStands, WasBlocked, HasRowsOf, IsPast, Stands, holding}
+use Rattle.mt_index.proofs.DeltaLemmas.{delta_is, deltas_of-append, deltas_of-length}
+use Rattle.mt_index.proofs.LogStands.{holds_from, all-held, slowest_is, trims, was_later, blocked_now}
 use Rattle.mt_index.proofs.PastLemmas.{past_more, right_range}
 use Rattle.mt_index.proofs.NumberLemmas.{Entries}
 use Rattle.mt_index.proofs.PairedLemmas.{Others, Found, paired-change, paired-without, paired-each, paired-one}
@@ -72,8 +74,8 @@ row_is s h st key there bytes is = same_option _ _ (λ r e. (is r).0 ((st.conten
 key_order : IsTotalOrder key_cmp
 key_order = nat_list_cmp_total
 
-key_apart : map.IsAntisymmetric key_cmp
-key_apart = map.slice_cmp-IsAntisymmetric map.nat_cmp-IsAntisymmetric
+key_apart : fin.IsAntisymmetric key_cmp
+key_apart = fin.slice_cmp-IsAntisymmetric fin.nat_cmp-IsAntisymmetric
 
 put_get : (rs : Rows) (key q : List ℕ) (then : Option Row) → ((q ≡ key) × (get (with_row key then rs) q ≡ then)) ⊎ ((q ≢ key) × (get (with_row key then rs) q ≡ get rs q))
 put_get rs key q then = elim (key_cmp q key) as (λ r. key_cmp q key ≡ r → ((q ≡ key) × (get (with_row key then rs) q ≡ then)) ⊎ ((q ≢ key) × (get (with_row key then rs) q ≡ get rs q))) [
@@ -90,70 +92,23 @@ put_get rs key q then = elim (key_cmp q key) as (λ r. key_cmp q key ≡ r → (
 
 -- ---- refusals and answers, by the kind of the call
 -- a write may end so
-end_write : (past : History) (began : ℕ) (key : List ℕ) (edit : Edit) (refusal : Refusal) → MayRefuse (edit_request key edit) refusal → MayEnd past began (edit_request key edit) refusal
-end_write past began key (PutEdit sets) NoMemory m = tt
-end_write past began key (PutEdit sets) ArenaFull m = tt
-end_write past began key (PutEdit sets) Spent m = tt
-end_write past began key (PutEdit sets) KeyTooLong m = absurd m
-end_write past began key (PutEdit sets) BadColumn m = absurd m
-end_write past began key (PutEdit sets) ColumnTooLong m = absurd m
-end_write past began key (PutEdit sets) BadLimit m = absurd m
-end_write past began key (PutEdit sets) (FeedFull slowest) m = absurd m
-end_write past began key (PutEdit sets) TooManyCalls m = absurd m
-end_write past began key (PutEdit sets) NoSuchCall m = absurd m
-end_write past began key (PutEdit sets) TooManyViews m = absurd m
-end_write past began key (PutEdit sets) NoSuchView m = absurd m
-end_write past began key (PutEdit sets) (Behind at) m = absurd m
-end_write past began key (PutEdit sets) BadRange m = absurd m
-end_write past began key (PutEdit sets) WrongPass m = absurd m
-end_write past began key RemoveEdit NoMemory m = tt
-end_write past began key RemoveEdit ArenaFull m = absurd m
-end_write past began key RemoveEdit Spent m = tt
-end_write past began key RemoveEdit KeyTooLong m = absurd m
-end_write past began key RemoveEdit BadColumn m = absurd m
-end_write past began key RemoveEdit ColumnTooLong m = absurd m
-end_write past began key RemoveEdit BadLimit m = absurd m
-end_write past began key RemoveEdit (FeedFull slowest) m = absurd m
-end_write past began key RemoveEdit TooManyCalls m = absurd m
-end_write past began key RemoveEdit NoSuchCall m = absurd m
-end_write past began key RemoveEdit TooManyViews m = absurd m
-end_write past began key RemoveEdit NoSuchView m = absurd m
-end_write past began key RemoveEdit (Behind at) m = absurd m
-end_write past began key RemoveEdit BadRange m = absurd m
-end_write past began key RemoveEdit WrongPass m = absurd m
+end_write : (past : History) (began : ℕ) (key : List ℕ) (edit : Edit) (refusal : Refusal) → WasBlocked began past (blocked_by refusal) → MayRefuse (edit_request key edit) refusal → MayEnd past began (edit_request key edit) refusal
+end_write past began key (PutEdit sets) NoMemory was m = tt
+end_write past began key (PutEdit sets) ArenaFull was m = tt
+end_write past began key (PutEdit sets) (FeedFull slowest) was m = was
+end_write past began key (PutEdit sets) Spent was m = tt
+end_write past began key (PutEdit sets) _ was m = absurd m
+end_write past began key RemoveEdit NoMemory was m = tt
+end_write past began key RemoveEdit (FeedFull slowest) was m = was
+end_write past began key RemoveEdit Spent was m = tt
+end_write past began key RemoveEdit _ was m = absurd m
 
-pub may_end : (past : History) (began : ℕ) (work : Work) (refusal : Refusal) → MayRefuse (request_of work) refusal → MayEnd past began (request_of work) refusal
-may_end past began (WriteWork g) refusal m = end_write past began g.key g.edit refusal m
-may_end past began (GetWork g) NoMemory m = tt
-may_end past began (GetWork g) ArenaFull m = absurd m
-may_end past began (GetWork g) Spent m = absurd m
-may_end past began (GetWork g) KeyTooLong m = absurd m
-may_end past began (GetWork g) BadColumn m = absurd m
-may_end past began (GetWork g) ColumnTooLong m = absurd m
-may_end past began (GetWork g) BadLimit m = absurd m
-may_end past began (GetWork g) (FeedFull slowest) m = absurd m
-may_end past began (GetWork g) TooManyCalls m = absurd m
-may_end past began (GetWork g) NoSuchCall m = absurd m
-may_end past began (GetWork g) TooManyViews m = absurd m
-may_end past began (GetWork g) NoSuchView m = absurd m
-may_end past began (GetWork g) (Behind at) m = absurd m
-may_end past began (GetWork g) BadRange m = absurd m
-may_end past began (GetWork g) WrongPass m = absurd m
-may_end past began (RangeWork g) NoMemory m = tt
-may_end past began (RangeWork g) ArenaFull m = absurd m
-may_end past began (RangeWork g) Spent m = absurd m
-may_end past began (RangeWork g) KeyTooLong m = absurd m
-may_end past began (RangeWork g) BadColumn m = absurd m
-may_end past began (RangeWork g) ColumnTooLong m = absurd m
-may_end past began (RangeWork g) BadLimit m = absurd m
-may_end past began (RangeWork g) (FeedFull slowest) m = absurd m
-may_end past began (RangeWork g) TooManyCalls m = absurd m
-may_end past began (RangeWork g) NoSuchCall m = absurd m
-may_end past began (RangeWork g) TooManyViews m = absurd m
-may_end past began (RangeWork g) NoSuchView m = absurd m
-may_end past began (RangeWork g) (Behind at) m = absurd m
-may_end past began (RangeWork g) BadRange m = absurd m
-may_end past began (RangeWork g) WrongPass m = absurd m
+pub may_end : (past : History) (began : ℕ) (work : Work) (refusal : Refusal) → WasBlocked began past (blocked_by refusal) → MayRefuse (request_of work) refusal → MayEnd past began (request_of work) refusal
+may_end past began (WriteWork g) refusal was m = end_write past began g.key g.edit refusal was m
+may_end past began (GetWork g) NoMemory was m = tt
+may_end past began (GetWork g) _ was m = absurd m
+may_end past began (RangeWork g) NoMemory was m = tt
+may_end past began (RangeWork g) _ was m = absurd m
 
 -- and what it answers is right
 answer_write : (s : MachineView) (h : History) (st : Stands s h) (call : OpenCall) (key : List ℕ) (edit : Edit) (committed : Option ℕ) (answer : Answer) (past : List Arena) → call.began ≤ length h → call.committed ≡ committed → IsRight past s.tree (edit_request key edit) committed answer
@@ -210,6 +165,7 @@ module _ (s : MachineView) (h : History) (n : ℕ) (kept : Call) (st : Stands s 
     began = let b = r.began in omega arith;
     epoch = r.epoch;
     committed = r.committed;
+    blocked = was_later c.began x h (held k.1.work).blocked r.blocked;
     past = arena_seen s.tree ∷ r.past;
     passed = let b = r.began in past_more s.columns c.began x h after_tree (arena_seen s.tree ∷ r.past) (omega arith) content r.passed;
     true = stays s.tree after_tree st.w goes.next s.columns k.1.epoch c.moves r.past (goes.evolves k.1.epoch r.epoch) k.1.work (λ number owned. (others_left k i ne c r number owned).0) r.true;
@@ -267,13 +223,29 @@ module _ (s : MachineView) (h : History) (n : ℕ) (kept : Call) (st : Stands s 
 pub apart_without : (n : ℕ) (ks : Entries) → AreApart ks → AreApart (without n ks)
 apart_without n ks apart one other i j ne number owned = apart one other (among_without n ks one i) (among_without n ks other j) ne number owned
 
+-- ---- who holds the log
+-- as the machine's calls tell, while the views are those of the moment
+abbrev pub HoldersAre : MachineView → History → List ℕ → Entries → Type 0
+HoldersAre s h holders entries = (number : ℕ) → times_held number holders ≡ times_held number (map (λ (v : StandingView). v.at) (moment h).views) + total (holds_from number) entries
+
+pub held_before : (s : MachineView) (h : History) → Stands s h → HoldersAre s h s.log.holders s.calls.calls
+held_before s h st number =
+    st.held number ∙ all-held (CallStands s.columns s.epoch s.tree st.w h) (λ k c r. r.from) (λ k c r. r.request) number 0 s.calls.begun s.calls.calls (moment h) st.calls
+
+now_held : (s : MachineView) (h : History) (x : Happening) (holders : List ℕ) (entries : Entries) (next : World) (after_tree : ArenaView) → Paired (CallStands s.columns s.epoch after_tree next (x ∷ h)) 0 s.calls.begun entries (moment (x ∷ h)).calls → (moment (x ∷ h)).views ≡ (moment h).views
+    → HoldersAre s h holders entries → (number : ℕ) → times_held number holders ≡ times_held number (holding (moment (x ∷ h)))
+now_held s h x holders entries next after_tree calls views held number =
+    held number
+    ∙ ap (λ (vs : List StandingView). times_held number (map (λ (v : StandingView). v.at) vs) + total (holds_from number) entries) (sym views)
+    ∙ sym (all-held (CallStands s.columns s.epoch after_tree next (x ∷ h)) (λ k c r. r.from) (λ k c r. r.request) number 0 s.calls.begun entries (moment (x ∷ h)) calls)
+
 -- ---- the machine after a step of a call
 abbrev pub next_seen : MachineView → ArenaView → LogView → Entries → MachineView
 next_seen s after left ks = record { columns = s.columns; epoch = s.epoch; tree = after; log = left; calls = record s.calls { calls = ks } }
 
 module _ (s : MachineView) (h : History) (n : ℕ) (kept : Call) (st : Stands s h) (at : call_at n s.calls.calls ≡ Some kept) (f : Found (CallStands s.columns s.epoch s.tree st.w h) n kept (moment h).calls)
     (after_tree : ArenaView) (left : LogView) (work : Work) (owns : List ℕ) (Then : World → Type 0) (goes : Goes s.epoch s.tree after_tree st.w (held kept.work).owns owns Then)
-    (request : request_of work ≡ request_of kept.work) (feed : left.feed ≡ s.log.feed) (holders : left.holders ≡ s.log.holders) where
+    (request : request_of work ≡ request_of kept.work) (kept_bounds : bounds left ≡ bounds s.log) where
   abbrev ks : Entries
   ks = with_changed (with_work work) n s.calls.calls
 
@@ -287,9 +259,10 @@ module _ (s : MachineView) (h : History) (n : ℕ) (kept : Call) (st : Stands s 
   -- the calls, where this one goes on
   pub calls_on : (o : Outcome) (new : OpenCall) (commits : List Change) → after_step (moment h) f.call o 0 ≡ record (moment h) { commits = commits; calls = replace_call new (moment h).calls }
       → new.number ≡ f.call.number → new.pass ≡ f.call.pass → new.request ≡ f.call.request → new.began ≡ f.call.began → new.from ≡ f.call.from → new.committed ≡ (held work).committed
+      → ((held work).blocked ≡ (held kept.work).blocked) ⊎ ((held work).blocked ≡ Some (slowest s.log))
       → HasRowsOf s.columns after_tree (happening (step_event n) o 0 ∷ h) → IsTrue s.columns work kept.epoch new.moves (arena_seen s.tree ∷ f.related.past) after_tree goes.next
       → Paired (R (happening (step_event n) o 0 ∷ h)) 0 s.calls.begun ks (moment (happening (step_event n) o 0 ∷ h)).calls
-  calls_on o new commits makes number pass asked began from committed content truth =
+  calls_on o new commits makes number pass asked began from committed blocks content truth =
       let x : Happening = happening (step_event n) o 0 in
       let r = f.related in
       subst (λ cs. Paired (R (x ∷ h)) 0 s.calls.begun ks cs) (sym (ap (λ m. m.calls) (then_is o _ makes)))
@@ -301,6 +274,10 @@ module _ (s : MachineView) (h : History) (n : ℕ) (kept : Call) (st : Stands s 
         began = let b = r.began in omega (arith, b, began);
         epoch = r.epoch;
         committed = committed;
+        blocked = subst (λ (m : ℕ). WasBlocked m (x ∷ h) (held work).blocked) (sym began) (elim blocks [
+          | inl same ↦ subst (λ (b : Option ℕ). WasBlocked f.call.began (x ∷ h) b) (sym same) (was_later f.call.began x h (held kept.work).blocked r.blocked)
+          | inr now ↦ subst (λ (b : Option ℕ). WasBlocked f.call.began (x ∷ h) b) (sym now) (blocked_now f.call.began x h s.log (slowest_is s.log (moment h) st.commits st.held) r.began)
+        ]);
         past = arena_seen s.tree ∷ r.past;
         passed = let b = r.began in past_more s.columns new.began x h after_tree (arena_seen s.tree ∷ r.past) (omega (arith, b, began)) content (subst (λ (m : ℕ). IsPast s.columns m h (arena_seen s.tree ∷ r.past)) (sym began) r.passed);
         true = truth;
@@ -326,26 +303,33 @@ module _ (s : MachineView) (h : History) (n : ℕ) (kept : Call) (st : Stands s 
       (λ e. (quiet.content (place_of key) row).1 ((st.content key bytes row).1 (sym (ap (λ (rs : Rows). get rs key) (same_rows o commits)) ∙ e))),
     )
 
-    pub still : (o : Outcome) (entries : Entries) → MayStep s.columns h f.call o 0 → (after_step (moment h) f.call o 0).commits ≡ (moment h).commits → (after_step (moment h) f.call o 0).begun ≡ (moment h).begun
+    pub still : (o : Outcome) (entries : Entries) (holders : List ℕ) → MayStep s.columns h f.call o 0 → (after_step (moment h) f.call o 0).commits ≡ (moment h).commits → (after_step (moment h) f.call o 0).begun ≡ (moment h).begun
+        → (after_step (moment h) f.call o 0).views ≡ (moment h).views
         → Paired (R (happening (step_event n) o 0 ∷ h)) 0 s.calls.begun entries (moment (happening (step_event n) o 0 ∷ h)).calls → AreApart entries → AllOwned after_tree goes.next entries → left.reserved ≡ all_reserved entries
-        → Stands (next_seen s after_tree left entries) (happening (step_event n) o 0 ∷ h)
-    still o entries may commits begun calls apart owned reserved =
+        → IsLog (record left { holders = holders }) → HoldersAre s h holders entries
+        → Stands (next_seen s after_tree (trimmed (record left { holders = holders })) entries) (happening (step_event n) o 0 ∷ h)
+    still o entries holders may commits begun views calls apart owned reserved sound held =
         let x : Happening = happening (step_event n) o 0 in
         let then = then_is o _ refl in
         let same : (moment (x ∷ h)).commits ≡ (moment h).commits = ap (λ m. m.commits) then ∙ commits in
         let alike : rows s.columns (moment (x ∷ h)) ≡ rows s.columns (moment h) = ap (λ (cs : List Change). after s.columns cs) same in
+        let log = trims s.columns (record left { holders = holders }) (moment (x ∷ h)) sound (record {
+          commits = ap (λ (m : ℕ). m + length left.deltas) quiet.trimmed ∙ ap (λ (ds : List Delta). s.log.held_after + length ds) quiet.deltas ∙ st.commits ∙ ap length (sym same);
+          logged = quiet.deltas ∙ st.logged ∙ ap (λ (m : ℕ). drop m (deltas_of s.columns (moment h).commits)) (sym quiet.trimmed) ∙ ap (λ (cs : List Change). drop left.held_after (deltas_of s.columns cs)) (sym same);
+          held = now_held s h x holders entries goes.next after_tree calls (ap (λ m. m.views) then ∙ views) held;
+        }) in
         record {
           legal = (st.legal, subst (λ z. MayStepAt s.columns h z o 0) (sym f.of) may);
-          commits = ap (λ (m : ℕ). m + length left.deltas) quiet.trimmed ∙ ap (λ (ds : List Delta). s.log.held_after + length ds) quiet.deltas ∙ st.commits ∙ ap length (sym same);
+          commits = log.commits;
           begun = st.begun ∙ sym (ap (λ m. m.begun) then ∙ begun);
           w = goes.next;
           world = goes.world;
           content = content_still o commits;
           keys = λ key row is. st.keys key row (sym (ap (λ (rs : Rows). get rs key) alike) ∙ is);
-          untrimmed = quiet.trimmed ∙ st.untrimmed;
-          logged = quiet.deltas ∙ (st.logged ∙ ap (deltas_of s.columns) (sym same));
-          unbounded = record { feed = feed ∙ st.unbounded.feed };
-          unheld = holders ∙ st.unheld;
+          logged = log.logged;
+          trimmed = log.trimmed;
+          held = log.held;
+          views = ap (λ m. m.views) then ∙ views ∙ st.views;
           calls = calls;
           apart = apart;
           owned = owned;
@@ -404,38 +388,58 @@ module _ (s : MachineView) (h : History) (n : ℕ) (kept : Call) (st : Stands s 
       | inr (differ, found) ↦ st.keys q r (sym found ∙ (sym (ap (λ (rs : Rows). get rs q) rows_are) ∙ is))
     ]
 
+    reaches : s.log.held_after ≤ length (deltas_of s.columns (moment h).commits)
+    reaches =
+        let as_many = deltas_of-length s.columns (moment h).commits in
+        let whole = st.commits in
+        omega (arith, as_many, whole)
+
     -- the log's new delta is that of the change
-    logged_then : s.log.deltas ++ delta ∷ [] ≡ deltas_of s.columns (moment (happened ∷ h)).commits
-    logged_then =
-        ap (λ (ds : List Delta). ds ++ delta ∷ []) st.logged
-        ∙ ap (λ (d : Delta). deltas_of s.columns (moment h).commits ++ d ∷ []) (delta_is s.columns number change old key before then of_key stood (means stood))
+    made_now : deltas_of s.columns (moment h).commits ++ delta ∷ [] ≡ deltas_of s.columns (moment (happened ∷ h)).commits
+    made_now =
+        ap (λ (d : Delta). deltas_of s.columns (moment h).commits ++ d ∷ []) (delta_is s.columns number change old key before then of_key stood (means stood))
         ∙ ap (λ (m : ℕ). deltas_of s.columns (moment h).commits ++ delta_made s.columns m change old ∷ []) next_number
         ∙ sym (deltas_of-append s.columns (moment h).commits change)
         ∙ ap (deltas_of s.columns) (sym commits_are)
 
-    pub commit_stands : (held work).owns ≡ owns → (held work).committed ≡ Some number → IsTrue s.columns work kept.epoch 0 (arena_seen s.tree ∷ f.related.past) after_tree goes.next → left.reserved ≡ all_reserved ks
-        → Stands (next_seen s after_tree left ks) (happened ∷ h)
-    commit_stands same_owns committed truth reserved =
+    logged_then : s.log.deltas ++ delta ∷ [] ≡ drop s.log.held_after (deltas_of s.columns (moment (happened ∷ h)).commits)
+    logged_then =
+        ap (λ (ds : List Delta). ds ++ delta ∷ []) st.logged
+        ∙ sym (drop-append-le s.log.held_after (deltas_of s.columns (moment h).commits) (delta ∷ []) reaches)
+        ∙ ap (drop s.log.held_after) (made_now)
+
+    pub commit_stands : (held work).owns ≡ owns → (held work).committed ≡ Some number → ((held work).blocked ≡ (held kept.work).blocked) ⊎ ((held work).blocked ≡ Some (slowest s.log))
+        → IsTrue s.columns work kept.epoch 0 (arena_seen s.tree ∷ f.related.past) after_tree goes.next → left.reserved ≡ all_reserved ks
+        → IsLog left → HoldersAre s h left.holders ks
+        → Stands (next_seen s after_tree (trimmed left) ks) (happened ∷ h)
+    commit_stands same_owns committed blocks truth reserved sound held =
         let longer : length (s.log.deltas ++ delta ∷ []) ≡ length s.log.deltas + 1 = length-append s.log.deltas (delta ∷ []) in
         let longer_commits : length ((moment h).commits ++ change ∷ []) ≡ length (moment h).commits + 1 = length-append (moment h).commits (change ∷ []) in
         let as_many = st.commits in
         let counted : newest (with_delta s.log delta) ≡ length ((moment h).commits ++ change ∷ []) = omega (arith, longer, longer_commits, as_many) in
+        let calls = calls_on (Commit number) (record f.call { committed = Some number; moves = 0 }) _ refl refl refl refl refl refl (sym committed) blocks content_then truth in
+        let then = then_is (Commit number) _ refl in
+        let log = trims s.columns left (moment (happened ∷ h)) sound (record {
+          commits = ap newest changes.logged ∙ counted ∙ sym (ap length commits_are);
+          logged = ap (λ (l : LogView). l.deltas) changes.logged ∙ logged_then ∙ ap (λ (l : LogView). drop l.held_after (deltas_of s.columns (moment (happened ∷ h)).commits)) (sym changes.logged);
+          held = now_held s h happened left.holders ks goes.next after_tree calls (ap (λ m. m.views) then) held;
+        }) in
         record {
           legal = (
             st.legal,
             subst (λ z. MayStepAt s.columns h z (Commit number) 0) (sym f.of) (may next_number stood),
           );
-          commits = ap newest changes.logged ∙ counted ∙ sym (ap length commits_are);
-          begun = st.begun ∙ sym (ap (λ m. m.begun) (then_is (Commit number) _ refl));
+          commits = log.commits;
+          begun = st.begun ∙ sym (ap (λ m. m.begun) then);
           w = goes.next;
           world = goes.world;
           content = content_then;
           keys = keys_then;
-          untrimmed = ap (λ (l : LogView). l.held_after) changes.logged ∙ st.untrimmed;
-          logged = ap (λ (l : LogView). l.deltas) changes.logged ∙ logged_then;
-          unbounded = record { feed = feed ∙ st.unbounded.feed };
-          unheld = holders ∙ st.unheld;
-          calls = calls_on (Commit number) (record f.call { committed = Some number; moves = 0 }) _ refl refl refl refl refl refl (sym committed) content_then truth;
+          logged = log.logged;
+          trimmed = log.trimmed;
+          held = log.held;
+          views = ap (λ m. m.views) then ∙ st.views;
+          calls = calls;
           apart = apart_changed s h n kept st at f after_tree work owns Then goes same_owns;
           owned = owned_on s h n kept st at f after_tree work owns Then goes same_owns;
           reserved = reserved;

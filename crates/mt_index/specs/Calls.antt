@@ -1,6 +1,7 @@
 -- The calls that are open, as contracts see them.
-use Rattle.std.specs.Prelude.{ℕ, ◌≡◌, ◌≢◌, ◌≤◌, ◌+◌, ◌==◌, if◌then◌else◌, List, [], ◌∷◌, Option, Some, None}
+use Rattle.std.specs.Prelude.{ℕ, ◌≡◌, ◌≢◌, ◌≤◌, ◌+◌, ◌==◌, if◌then◌else◌, Bool, List, [], ◌∷◌, Option, Some, None}
 use Rattle.mt_types.specs.declared.numbers.PassNo.{PassNo}
+use Rattle.mt_promise.specs.Legal.{reads_log}
 use Rattle.mt_commit.specs.Log.{LogView}
 use Rattle.mt_arena.specs.Arena.{ArenaView}
 use Rattle.mt_chart.specs.Tree.{Among}
@@ -45,10 +46,14 @@ AreBegun begun (entry ∷ entries) = (entry.0 ≤ begun) × AreBegun begun entri
 abbrev pub AreApart : List (ℕ × Call) → Type 0
 AreApart calls = (one other : ℕ × Call) → Among one calls → Among other calls → one.0 ≢ other.0 → (number : ℕ) → Among number (held one.1.work).owns → NotAmong number (held other.1.work).owns
 
+-- the sum of a number of each call
+abbrev pub total : (Call → ℕ) → List (ℕ × Call) → ℕ
+total number_of [] = 0
+total number_of (entry ∷ entries) = number_of entry.1 + total number_of entries
+
 -- for how many deltas the calls have reserved room
 abbrev pub all_reserved : List (ℕ × Call) → ℕ
-all_reserved [] = 0
-all_reserved (entry ∷ entries) = (held entry.1.work).reserves + all_reserved entries
+all_reserved calls = total (λ call. (held call.work).reserves) calls
 
 -- the call of this number may step
 abbrev pub MayStepOf : ℕ → ArenaView → LogView → Option Call → Type 0
@@ -56,7 +61,7 @@ MayStepOf C a log None = Unit {0}
 MayStepOf C a log (Some call) = MayStep a log (held call.work) (IsTrue C call.work)
 
 -- a step of the call of this number: it comes so far
-pub record StepsCall (C number : ℕ) (old new : CallsView) (a after : ArenaView) (log left : LogView) (pass : PassNo) (from : ℕ) (p : Progress) : Type 0 where
+pub record StepsCall (C number : ℕ) (old new : CallsView) (a after : ArenaView) (log left : LogView) (pass : PassNo) (reads : Bool) (from : ℕ) (p : Progress) : Type 0 where
   pub call : Call
   pub is_open : call_at number old.calls ≡ Some call
   pub work : Work
@@ -66,4 +71,5 @@ pub record StepsCall (C number : ℕ) (old new : CallsView) (a after : ArenaView
   pub fails : WorkFails a log call.work p work
   pub changed : new ≡ record old { calls = with_changed (with_work work) number old.calls }
   pub pass_is : pass ≡ call.pass
+  pub reads_is : reads ≡ reads_log (request_of call.work)
   pub from_is : from ≡ call.from

@@ -1,5 +1,5 @@
 -- Laws of the log of a machine: it tells the rows at each earlier commit.
-use Rattle.std.specs.Prelude.{ℕ, ◌+◌, ◌≡◌, List, slice_get, take, Some}
+use Rattle.std.specs.Prelude.{ℕ, ◌+◌, ◌≡◌, ◌≤◌, List, slice_get, take, Some}
 use Rattle.std.specs.FinMap.{get}
 use Rattle.mt_types.specs.Rows.{after}
 use Rattle.mt_types.specs.declared.row.Change.{Change}
@@ -10,11 +10,11 @@ use Rattle.mt_commit.specs.Deltas.{Fits, redo, rows_at}
 use Rattle.mt_index.specs.Logged.{key_of}
 use Rattle.mt_index.specs.Stands.{MachineView, Stands}
 
--- the present rows, with the deltas after a number undone from the newest on, are those after the first so many
+-- the present rows, with the deltas after a number that the log reaches undone from the newest on, are those after the first so many
 --     commits: so the last k deltas lead back to the rows before the last k commits
 abbrev pub LogTellsThePast : Type 0
 LogTellsThePast =
-    (s : MachineView) (h : History) (number : ℕ) → Stands s h
+    (s : MachineView) (h : History) (number : ℕ) → Stands s h → s.log.held_after ≤ number
     → rows_at s.log (rows s.columns (moment h)) number ≡ after s.columns (take number (moment h).commits)
 
 -- each delta that is undone so finds its row after
@@ -30,10 +30,10 @@ pub record TellsOf (C : ℕ) (commits : List Change) (done : ℕ) (change : Chan
   pub then : delta.after ≡ get (after C (take (done + 1) commits)) (key_of change)
   pub made : after C (take (done + 1) commits) ≡ redo delta (after C (take done commits))
 
--- the log has the delta of each commit, under its number
+-- the log has the delta of each commit that it reaches, under its number
 abbrev pub EachCommitIsLogged : Type 0
 EachCommitIsLogged =
-    (s : MachineView) (h : History) (done : ℕ) (change : Change) → Stands s h
+    (s : MachineView) (h : History) (done : ℕ) (change : Change) → Stands s h → s.log.held_after ≤ done
     → slice_get (moment h).commits done ≡ Some change
     → (delta : Delta)
     × (delta_of s.log (done + 1) ≡ Some delta) × TellsOf s.columns (moment h).commits done change delta

@@ -1,5 +1,5 @@
 -- The machine as contracts see it, and at which histories it stands.
-use Rattle.std.specs.Prelude.{ℕ, ◌+◌, ◌≡◌, ◌≤◌, ◌⊎◌, ◌↔◌, List, [], ◌∷◌, ◌++◌, length, Option, Some, None}
+use Rattle.std.specs.Prelude.{ℕ, ◌+◌, ◌-◌, ◌≡◌, ◌≤◌, ◌⊎◌, ◌↔◌, if◌then◌else◌, min, Bool, List, [], ◌∷◌, ◌++◌, length, drop, map, filter, Option, Some, None}
 use Rattle.std.specs.FinMap.{get}
 use Rattle.mt_types.specs.declared.numbers.PassNo.{PassNo}
 use Rattle.mt_types.specs.declared.event.Event.{Event}
@@ -10,13 +10,15 @@ use Rattle.mt_types.specs.declared.event.Outcome.TheVariants.{Call as Called, Mo
 use Rattle.mt_types.specs.declared.refusal.Refusal.{Refusal}
 use Rattle.mt_types.specs.declared.refusal.Refusal.TheVariants.{NoMemory, NoSuchCall}
 use Rattle.mt_types.specs.declared.row.Row.{Row}
-use Rattle.mt_promise.specs.History.{History, OpenCall, moment, rows, Sometime, Throughout, GoesOn}
+use Rattle.mt_promise.specs.History.{History, Moment, OpenCall, StandingView, moment, rows, Sometime, Throughout, GoesOn}
 use Rattle.mt_promise.specs.Headline.{GetsAreRight, RangesAreRight, ViewsAreRight}
-use Rattle.mt_promise.specs.Legal.{Legal, begin_fault}
+use Rattle.mt_promise.specs.Legal.{Legal, begin_fault, held_from, reads_log}
 use Rattle.mt_types.specs.Rows.{shown}
 use Rattle.mt_promise.specs.RightAnswers.{Shows, Stands as IsThere}
 use Rattle.mt_slice.specs.Place.{AreBytes, place_of}
-use Rattle.mt_commit.specs.Log.{LogView, newest}
+use Rattle.mt_commit.specs.Log.{LogView, IsLog, newest, trimmed}
+use Rattle.mt_commit.specs.Laws.{times_held}
+use Rattle.mt_commit.specs.Holders.{with_holder, without_holder}
 use Rattle.mt_arena.specs.Arena.{ArenaView}
 use Rattle.mt_chart.specs.Tree.{Arena, Among}
 use Rattle.mt_chart.specs.ScanRun.{Stood, AllHave}
@@ -26,7 +28,6 @@ use Rattle.mt_write.specs.declared.work.Work.{Work}
 use Rattle.mt_calls.specs.declared.progress.Progress.{Progress}
 use Rattle.mt_calls.specs.declared.progress.Progress.TheVariants.{Moved as WentOn, Waits, Committed, Answered, Refused as EndsRefused}
 use Rattle.mt_calls.specs.World.{World, IsWorld, IsTaken}
-use Rattle.mt_calls.specs.Step.{IsUnbounded}
 use Rattle.mt_write.specs.Works.{request_of, held, IsTrue, IsNew, IsServedRequest}
 use Rattle.mt_index.specs.Paired.{Paired}
 use Rattle.mt_index.specs.Logged.{deltas_of}
@@ -54,6 +55,17 @@ pub record IsPast (C began : ℕ) (h : History) (arenas : List Arena) : Type 0 w
   pub stood : (asked key : List ℕ) (row : Row) → AreBytes key → Stood (shown asked) arenas (place_of key) row → Sometime began (Shows C key asked row) h
   pub throughout : (key : List ℕ) → AreBytes key → Throughout began (IsThere C key) h → AllHave arenas (place_of key)
 
+-- from which numbers of commits the log is held: by each view that stands, from its own; by each open call that reads the log, from its begin
+abbrev pub holding : Moment → List ℕ
+holding m =
+    map (λ (v : StandingView). v.at) m.views
+    ++ map (λ (call : OpenCall). call.from) (filter (λ (call : OpenCall). reads_log call.request) m.calls)
+
+-- a call was blocked, if it was, at a number from which the log was held at some moment since its begin
+abbrev pub WasBlocked : ℕ → History → Option ℕ → Type 0
+WasBlocked began h None = Unit {0}
+WasBlocked began h (Some number) = Sometime began (λ m. held_from m ≡ number) h
+
 -- the machine's record of a call is true after a history
 pub record CallStands (C now : ℕ) (a : ArenaView) (w : World) (h : History) (kept : ℕ × Call) (call : OpenCall) : Type 0 where
   pub pass : call.pass ≡ kept.1.pass.0
@@ -62,6 +74,7 @@ pub record CallStands (C now : ℕ) (a : ArenaView) (w : World) (h : History) (k
   pub began : call.began ≤ length h
   pub epoch : kept.1.epoch ≤ now
   pub committed : call.committed ≡ (held kept.1.work).committed
+  pub blocked : WasBlocked call.began h (held kept.1.work).blocked
   pub past : List Arena
   pub passed : IsPast C call.began h (arena_seen a ∷ past)
   pub true : IsTrue C kept.1.work kept.1.epoch call.moves past a w
@@ -77,17 +90,22 @@ pub record Stands (s : MachineView) (h : History) : Type 0 where
   pub world : IsWorld s.tree s.epoch w
   pub content : HasRowsOf s.columns s.tree h
   pub keys : (key : List ℕ) (row : Row) → get (rows s.columns (moment h)) key ≡ Some row → AreBytes key
-  -- the log has exactly the deltas of the history's commits: none is trimmed
-  pub untrimmed : s.log.held_after ≡ 0
-  pub logged : s.log.deltas ≡ deltas_of s.columns (moment h).commits
-  pub unbounded : IsUnbounded s.log
-  -- no call holds it yet
-  pub unheld : s.log.holders ≡ []
+  -- the log has exactly the deltas of the commits after the least number from which it is held, and of the last ones that it keeps for nobody
+  pub logged : s.log.deltas ≡ drop s.log.held_after (deltas_of s.columns (moment h).commits)
+  pub trimmed : s.log.held_after ≡ min (held_from (moment h)) (length (moment h).commits - s.log.keep)
+  -- it is held from each number as often as views and open calls hold it from there
+  pub held : (number : ℕ) → times_held number s.log.holders ≡ times_held number (holding (moment h))
+  -- there are no builds yet, so no view stands
+  pub views : (moment h).views ≡ []
   -- the open calls are those of the history, what is said of each is true, and no number is owned by two
   pub calls : Paired (CallStands s.columns s.epoch s.tree w h) 0 s.calls.begun s.calls.calls (moment h).calls
   pub apart : AreApart s.calls.calls
   pub owned : AllOwned s.tree w s.calls.calls
   pub reserved : s.log.reserved ≡ all_reserved s.calls.calls
+
+-- how much the log may hold for the slowest, and how much it keeps for nobody
+abbrev pub HasBounds : ℕ → ℕ → LogView → Type 0
+HasBounds feed keep log = (log.feed ≡ feed) × (log.keep ≡ keep)
 
 -- the events that it serves: begins of such requests, and steps
 abbrev pub IsServed : Event → Type 0
@@ -111,7 +129,18 @@ calls_after number WentOn calls = calls
 calls_after number Waits calls = calls
 calls_after number (Committed commit) calls = calls
 
--- a step of the call of this number leads from one machine to the next, with this outcome
+-- the log, once a call that began at this number of commits, and reads it or doesn't, has ended
+abbrev pub released : Bool → ℕ → LogView → LogView
+released reads from log = if reads then record log { holders = without_holder from log.holders } else log
+
+abbrev pub log_after : Bool → ℕ → Progress → LogView → LogView
+log_after reads from (Answered answer) log = released reads from log
+log_after reads from (EndsRefused refusal) log = released reads from log
+log_after reads from WentOn log = log
+log_after reads from Waits log = log
+log_after reads from (Committed commit) log = log
+
+-- a step of the call of this number leads from one machine to the next, with this outcome: then the log is trimmed
 pub record StepsOpen (s : MachineView) (number : ℕ) (outcome : Outcome) (t : MachineView) : Type 0 where
   pub pass : PassNo
   pub from : ℕ
@@ -119,9 +148,11 @@ pub record StepsOpen (s : MachineView) (number : ℕ) (outcome : Outcome) (t : M
   pub calls : CallsView
   pub tree : ArenaView
   pub log : LogView
-  pub steps : StepsCall s.columns number s.calls calls s.tree tree s.log log pass from p
+  pub reads : Bool
+  pub steps : StepsCall s.columns number s.calls calls s.tree tree s.log log pass reads from p
+  pub sound : IsLog (log_after reads from p log)
   pub is_outcome : outcome ≡ outcome_of number pass from (newest log) p
-  pub is_next : t ≡ record { columns = s.columns; epoch = s.epoch; tree = tree; log = log; calls = calls_after number p calls }
+  pub is_next : t ≡ record { columns = s.columns; epoch = s.epoch; tree = tree; log = trimmed (log_after reads from p log); calls = calls_after number p calls }
 
 abbrev pub Steps : MachineView → ℕ → Outcome → MachineView → Type 0
 Steps s number outcome t = ((call_at number s.calls.calls ≡ None) × (outcome ≡ Refused NoSuchCall) × (t ≡ s)) ⊎ StepsOpen s number outcome t
@@ -130,11 +161,18 @@ Steps s number outcome t = ((call_at number s.calls.calls ≡ None) × (outcome 
 abbrev pub fault_of : MachineView → Request → Option Refusal
 fault_of s request = begin_fault s.columns s.calls.begun (length s.calls.calls) 0 request
 
+-- the log, once a call has begun that reads it, or doesn't
+abbrev pub pinned : Bool → LogView → LogView
+pinned reads log = if reads then record log { holders = with_holder (newest log) log.holders } else log
+
 -- the machine, once one more call has begun
 abbrev pub with_call : MachineView → PassNo → Work → MachineView
 with_call s pass work =
     let call : Call = record { pass = pass; from = newest s.log; epoch = s.epoch; work = work } in
-    record s { calls = record { begun = s.calls.begun + 1; calls = s.calls.calls ++ (s.calls.begun + 1, call) ∷ [] } }
+    record s {
+      log = pinned (reads_log (request_of work)) s.log;
+      calls = record { begun = s.calls.begun + 1; calls = s.calls.calls ++ (s.calls.begun + 1, call) ∷ [] };
+    }
 
 -- a begin leads from one machine to the next, with this outcome
 abbrev pub Begins : MachineView → PassNo → Request → Outcome → MachineView → Type 0

@@ -29,6 +29,8 @@ pub(crate) struct Call {
 pub(crate) struct Stepped {
     pub(crate) pass: PassNo,
     pub(crate) from: u64,
+    /// Whether it reads the log from the commits of its begin on.
+    pub(crate) reads: bool,
     pub(crate) progress: Progress,
 }
 
@@ -104,7 +106,7 @@ impl Calls {
     ) -> Option<Stepped>
         requires { MayStepOf columns tree.old log.old (call_at number self.old.calls) }
         ensures none { result ≡ None → (call_at number self.old.calls ≡ None) × (self.new ≡ self.old) × (tree.new ≡ tree.old) × (log.new ≡ log.old) }
-        ensures steps { MatchOption result (Unit {0}) (λ stepped. StepsCall columns number self.old self.new tree.old tree.new log.old log.new stepped.pass stepped.from stepped.progress) }
+        ensures steps { MatchOption result (Unit {0}) (λ stepped. StepsCall columns number self.old self.new tree.old tree.new log.old log.new stepped.pass stepped.reads stepped.from stepped.progress) }
     {
         let Some(call) = self.calls.get_mut(&number) else {
             return None;
@@ -113,6 +115,7 @@ impl Calls {
         Some(Stepped {
             pass: call.pass,
             from: call.from,
+            reads: call.work.reads_log(),
             progress,
         })
     }

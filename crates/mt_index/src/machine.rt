@@ -1,13 +1,15 @@
 //! The machine over the whole tree: events in, outcomes out, one visit of one node an event.
 
-ghost use Rattle.std.specs.Prelude.{◌≡◌, ◌↔◌, [], ◌∷◌, IsTrue, length, IfOk, IfErr, MatchOption, All, Some, None, Err};
+ghost use Rattle.std.specs.Prelude.{◌≡◌, ◌↔◌, ◌<◌, [], ◌∷◌, IsTrue, Contains, OnOk, OnErr, length, IfOk, IfErr, MatchOption, All, Some, None, Err};
 ghost use Rattle.mt_types.specs.Limits.{open_fault};
 ghost use Rattle.mt_promise.specs.History.{History, happening, moment};
 ghost use Rattle.mt_promise.specs.Legal.{begin_fault};
 ghost use Rattle.mt_arena.specs.Node.{occupied};
 ghost use Rattle.mt_write.specs.Works.{IsServedRequest};
 ghost use Rattle.mt_index.specs.Causes.{IsCaused};
-ghost use Rattle.mt_index.specs.Stands.{Stands, IsServed, Begins, Steps, IsRun};
+ghost use Rattle.mt_commit.specs.Log.{newest};
+ghost use Rattle.mt_commit.specs.declared.log.TheConstants.{MAX_HOLDERS};
+ghost use Rattle.mt_index.specs.Stands.{Stands, IsServed, Begins, Steps, IsRun, HasBounds, pinned, released, outcome_of, calls_after, log_after};
 
 use crate::calls::{Call, Calls, Stepped};
 use crate::options::Options;
@@ -17,7 +19,7 @@ use mt_tree::Tree;
 use mt_types::event::{Event, Outcome, Reply, Request};
 use mt_types::limits::{MAX_NODES, MAX_OPEN_CALLS, open_fault, request_fault};
 use mt_types::numbers::{CallNo, PassNo};
-use mt_types::refusal::Refusal;
+use mt_types::refusal::{NoMemory, Refusal};
 use mt_write::work::work_of;
 use std::alloc::Global;
 use std::marker::Model;
@@ -81,6 +83,66 @@ fn begin_fault(columns: u8, begun: u64, opened: usize, request: &Request) -> Opt
     (opened >= MAX_OPEN_CALLS).then_some(Refusal::TooManyCalls)
 }
 
+// A call begins, which holds the log if it reads it. On an error nothing changes.
+fn hold(log: &mut Log, reads: bool) -> Result<(), NoMemory>
+    requires few { length log.old.holders < MAX_HOLDERS }
+    ensures ok { OnOk result (log.new ≡ pinned reads log.old) }
+    ensures err { OnErr result (log.new ≡ log.old) }
+{
+    if !reads {
+        return Ok(());
+    }
+    let number = log.number();
+    log.pin(number)
+}
+
+// A call that began at this number of commits has ended, and holds the log no longer.
+fn release(log: &mut Log, reads: bool, from: u64)
+    requires { IsTrue reads → Contains log.old.holders from }
+    ensures { log.new ≡ released reads from log.old }
+{
+    if reads {
+        log.unpin(from);
+    }
+}
+
+// What a step came to, as an outcome; a call that has ended is open no longer.
+fn settle(calls: &mut Calls, log: &mut Log, number: u64, stepped: Stepped) -> Outcome
+    requires { IsTrue stepped.reads → Contains log.old.holders stepped.from }
+    ensures outcome { result ≡ outcome_of number stepped.pass stepped.from (newest log.old) stepped.progress }
+    ensures calls { calls.new ≡ calls_after number stepped.progress calls.old }
+    ensures log { log.new ≡ log_after stepped.reads stepped.from stepped.progress log.old }
+{
+    let Stepped {
+        pass,
+        from,
+        reads,
+        progress,
+    } = stepped;
+    match progress {
+        Progress::Moved => Outcome::Moved,
+        Progress::Waits => Outcome::Again,
+        Progress::Committed(commit) => Outcome::Commit(commit),
+        Progress::Answered(answer) => {
+            let to = log.number();
+            calls.end(number);
+            release(log, reads, from);
+            Outcome::Done(Reply {
+                pass,
+                call: CallNo(number),
+                from,
+                to,
+                answer,
+            })
+        }
+        Progress::Refused(refusal) => {
+            calls.end(number);
+            release(log, reads, from);
+            Outcome::Refused(refusal)
+        }
+    }
+}
+
 impl Machine {
     /// An empty index: a head and a border without entries.
     ///
@@ -89,7 +151,7 @@ impl Machine {
     /// `BadColumn` where there are to be no columns or more than 16, `BadLimit` where `feed` or `keep` is out of its bounds,
     /// and else `NoMemory` for want of it.
     pub fn open(alloc: Global, options: Options) -> Result<Machine, Refusal>
-        ensures opened { IfOk result (λ machine. (machine.columns ≡ options.columns) × Stands machine []) }
+        ensures opened { IfOk result (λ machine. (machine.columns ≡ options.columns) × HasBounds options.feed options.keep machine.log × Stands machine []) }
         ensures fault { MatchOption (open_fault options.columns options.feed options.keep) (IfErr result (λ refusal. refusal ≡ Refusal.NoMemory)) (λ refusal. result ≡ Err refusal) }
     {
         if let Some(refusal) = open_fault(options.columns, options.feed, options.keep) {
@@ -99,7 +161,7 @@ impl Machine {
             columns: options.columns as u8,
             epoch: 0,
             tree: Tree::open(alloc)?,
-            log: Log::open(alloc, u64::MAX, u64::MAX),
+            log: Log::open(alloc, options.feed, options.keep),
             calls: Calls::new(alloc),
         })
     }
@@ -121,6 +183,7 @@ impl Machine {
     fn begin(&mut self, alloc: Global, pass: PassNo, request: &Request) -> Outcome
         requires { IsServedRequest request.now }
         ensures begins { Begins self.old pass request.now result self.new }
+        ensures bounds { HasBounds self.old.log.feed self.old.log.keep self.new.log }
     {
         let begun = self.calls.begun();
         if let Some(refusal) = begin_fault(self.columns, begun, self.calls.len(), request) {
@@ -129,20 +192,28 @@ impl Machine {
         let Ok(work) = work_of(alloc, self.columns, request) else {
             return Outcome::Refused(Refusal::NoMemory);
         };
+        let (from, reads) = (self.log.number(), work.reads_log());
+        let Ok(()) = hold(&mut self.log, reads) else {
+            return Outcome::Refused(Refusal::NoMemory);
+        };
         let call = Call {
             pass,
-            from: self.log.number(),
+            from,
             epoch: self.epoch,
             work,
         };
         match self.calls.begin(call) {
             Ok(number) => Outcome::Call(CallNo(number)),
-            Err(_) => Outcome::Refused(Refusal::NoMemory),
+            Err(_) => {
+                release(&mut self.log, reads, from);
+                Outcome::Refused(Refusal::NoMemory)
+            }
         }
     }
 
     fn step(&mut self, alloc: Global, number: u64) -> Outcome
         ensures steps { Steps self.old number result self.new }
+        ensures bounds { HasBounds self.old.log.feed self.old.log.keep self.new.log }
     {
         let Some(stepped) = self
             .calls
@@ -150,30 +221,10 @@ impl Machine {
         else {
             return Outcome::Refused(Refusal::NoSuchCall);
         };
-        let Stepped {
-            pass,
-            from,
-            progress,
-        } = stepped;
-        match progress {
-            Progress::Moved => Outcome::Moved,
-            Progress::Waits => Outcome::Again,
-            Progress::Committed(commit) => Outcome::Commit(commit),
-            Progress::Answered(answer) => {
-                self.calls.end(number);
-                Outcome::Done(Reply {
-                    pass,
-                    call: CallNo(number),
-                    from,
-                    to: self.log.number(),
-                    answer,
-                })
-            }
-            Progress::Refused(refusal) => {
-                self.calls.end(number);
-                Outcome::Refused(refusal)
-            }
-        }
+        let outcome = settle(&mut self.calls, &mut self.log, number, stepped);
+        let _sound = self.log.number();
+        self.log.trim();
+        outcome
     }
 
     /// One event, and what came of it. Wherever the machine stands, it then stands where this has happened too, and that
@@ -187,6 +238,7 @@ impl Machine {
         ensures stands { (h : History) → Stands self.old h → Stands self.new (happening event.now result 0 ∷ h) }
         ensures caused { IsCaused self.old event.now result self.new }
         ensures columns { self.new.columns ≡ self.old.columns }
+        ensures bounds { HasBounds self.old.log.feed self.old.log.keep self.new.log }
     {
         match event {
             Event::Begin(pass, request) => self.begin(alloc, *pass, request),
@@ -210,6 +262,7 @@ impl Machine {
         requires { All IsServed events.now }
         ensures legal { IfOk result (λ run. (h : History) × IsRun options.columns events.now run.1.items run.0 h) }
         ensures length { IfOk result (λ run. length run.1.items ≡ length events.now) }
+        ensures bounds { IfOk result (λ run. HasBounds options.feed options.keep run.0.log) }
         ensures fault { MatchOption (open_fault options.columns options.feed options.keep) (IfErr result (λ refusal. refusal ≡ Refusal.NoMemory)) (λ refusal. result ≡ Err refusal) }
     {
         let mut machine = Machine::open(alloc, options)?;

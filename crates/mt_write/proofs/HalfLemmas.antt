@@ -81,8 +81,8 @@ module _ (C : ℕ) (a : ArenaView) (log : LogView) (key : List ℕ) (edit : Edit
           );
           does = (record { content = (keeps_new.keeps now w.twins w.chart world.index s.unknown).content; trimmed = refl; deltas = refl }, refl);
           reserved = refl;
-          feed = refl;
-          holders = refl;
+          bounds = refl;
+          blocked = inl refl;
           may = λ get. absurd (no_get key edit get);
         });
   }
@@ -208,8 +208,8 @@ module _ (C : ℕ) (a : ArenaView) (log : LogView) (key : List ℕ) (edit : Edit
             goes = goes;
             does = (record { content = content; trimmed = refl; deltas = refl }, refl);
             reserved = refl;
-            feed = refl;
-            holders = refl;
+            bounds = refl;
+            blocked = inl refl;
             may = λ get. absurd (no_get key edit get);
           });
     }

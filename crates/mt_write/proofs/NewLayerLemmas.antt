@@ -1,6 +1,6 @@
 -- The steps of a new layer in a put: its head and root are spared, the root is filled, the head is unlocked, the link is made, and the put
 -- goes on there.
-use Rattle.std.proofs.Common.{ℕ, zero, suc, ◌≡◌, ◌≢◌, ◌≤◌, ◌<◌, ◌+◌, List, [], ◌∷◌, length, drop, replicate, slice_index_or, Option, Some, None, IsSome, true, false, refl, sym, ap, subst, ◌∙◌, arith, add-one}
+use Rattle.std.proofs.Common.{ℕ, zero, suc, ◌≡◌, ◌≢◌, ◌≤◌, ◌<◌, ◌+◌, List, [], ◌∷◌, length, drop, replicate, slice_index_or, Option, Some, None, IsSome, true, false, refl, sym, ap, subst, ◌∙◌, arith, add-one, inl}
 use Rattle.std.specs.Prelude.{IsSomeAnd}
 use Rattle.std.proofs.lemmas.List.Elements.{All-drop, All-replicate}
 use Rattle.mt_border.specs.Table.{blank_slot}
@@ -111,8 +111,8 @@ module _ (C : ℕ) (a : ArenaView) (log : LogView) (key : List ℕ) (edit : Edit
           );
           does = (record { content = (keeps_new.keeps now w.twins w.chart world.index f.has.root_unknown).content; trimmed = refl; deltas = refl }, refl);
           reserved = refl;
-          feed = refl;
-          holders = refl;
+          bounds = refl;
+          blocked = inl refl;
           may = λ get. absurd (no_get key edit get);
         });
   }
@@ -149,8 +149,8 @@ module _ (C : ℕ) (a : ArenaView) (log : LogView) (key : List ℕ) (edit : Edit
           );
           does = (record { content = (keeps_new.keeps now w.twins w.chart world.index).content; trimmed = refl; deltas = refl }, refl);
           reserved = refl;
-          feed = refl;
-          holders = refl;
+          bounds = refl;
+          blocked = inl refl;
           may = λ get. absurd (no_get key edit get);
         });
   }
@@ -184,8 +184,8 @@ module _ (C : ℕ) (a : ArenaView) (log : LogView) (key : List ℕ) (edit : Edit
           goes = goes;
           does = (record { content = content; trimmed = refl; deltas = refl }, refl);
           reserved = refl;
-          feed = refl;
-          holders = refl;
+          bounds = refl;
+          blocked = inl refl;
           may = λ get. absurd (no_get key edit get);
         });
   }
@@ -196,7 +196,7 @@ pub goes_below : (C : ℕ) (a : ArenaView) (log : LogView) (key : List ℕ) (edi
 goes_below C a log key edit way old_head head after is keeps = record {
   steps = λ now begun moves past w world before truth.
       let (goes, quiet) = ends C a log key edit way (λ next. HeadedStage C key edit (way_below way head) head Seeks begun after next) now w after is keeps world truth.0.0 (truth.0.1, truth.0.2) in
-      record { goes = goes; does = (quiet, refl); reserved = refl; feed = refl; holders = refl; may = λ get. absurd (no_get key edit get) };
+      record { goes = goes; does = (quiet, refl); reserved = refl; bounds = refl; blocked = inl refl; may = λ get. absurd (no_get key edit get) };
 }
 
 -- ---- what the calls of a step ask for

@@ -62,8 +62,8 @@ module _ (C : ℕ) (a after : ArenaView) (log left : LogView) (request : Request
               (λ m t. (t, subst (λ (q : List ℕ). IsHeadOf s.goes.next begun head.0 q) same (known_kept begun head.0 top (prefix_of key way) 0 w.chart s.goes.next.chart (evolves begun before) truth.1))));
           does = s.does;
           reserved = s.reserved;
-          feed = s.feed;
-          holders = s.holders;
+          bounds = s.bounds;
+          blocked = s.blocked;
           may = s.may;
         };
   }
@@ -86,8 +86,8 @@ module _ (C : ℕ) (a : ArenaView) (key : List ℕ) (edit : Edit) (way : Way) (h
           goes = record { next = s.goes.next; world = s.goes.world; evolves = s.goes.evolves; leaves = s.goes.leaves; takes = s.goes.takes; true = (s.goes.true, starts_at_head a now s.goes.next begun s.goes.world) };
           does = s.does;
           reserved = s.reserved;
-          feed = s.feed;
-          holders = s.holders;
+          bounds = s.bounds;
+          blocked = s.blocked;
           may = s.may;
         };
   }
@@ -108,8 +108,8 @@ module _ (C : ℕ) (a : ArenaView) (key : List ℕ) (edit : Edit) (way : Way) (h
           );
           does = (quiet_same a log, refl);
           reserved = refl;
-          feed = refl;
-          holders = refl;
+          bounds = refl;
+          blocked = inl refl;
           may = λ get. absurd (no_get key edit get);
         };
   })
@@ -180,12 +180,12 @@ module _ (C : ℕ) (a : ArenaView) (log : LogView) (key : List ℕ) (edit : Edit
     unlocks_left (EndStored commit) = record {
       steps = λ now begun moves past w world before truth.
           let (goes, quiet) = goes_on now begun w (EndStored commit) world before truth.0 tt truth.1 in
-          record { goes = goes; does = (quiet, refl); reserved = refl; feed = refl; holders = refl; may = λ get. absurd (no_get key edit get) };
+          record { goes = goes; does = (quiet, refl); reserved = refl; bounds = refl; blocked = inl refl; may = λ get. absurd (no_get key edit get) };
     }
     unlocks_left (EndFailed refusal) = record {
       steps = λ now begun moves past w world before truth.
           let (goes, quiet) = goes_on now begun w (EndFailed refusal) world before truth.0.0 truth.0.1 truth.1 in
-          record { goes = goes; does = (quiet, refl); reserved = refl; feed = refl; holders = refl; may = λ get. absurd (no_get key edit get) };
+          record { goes = goes; does = (quiet, refl); reserved = refl; bounds = refl; blocked = inl refl; may = λ get. absurd (no_get key edit get) };
     }
 
 -- both halves are locked
@@ -215,8 +215,8 @@ module _ (C : ℕ) (a after : ArenaView) (log : LogView) (key : List ℕ) (edit 
           goes = goes_more now a after w _ _ _ (λ x. HeadedStage C key edit way head (Posts then ending) begun after x) goes (λ evolves t. ((t, ap (λ (q : Posting). q.half) same ∙ truth.0.1, truth.0.2), known_on begun w goes.next (evolves begun before) truth.1));
           does = (record { content = content; trimmed = refl; deltas = refl }, refl);
           reserved = refl;
-          feed = refl;
-          holders = refl;
+          bounds = refl;
+          blocked = inl refl;
           may = λ get. absurd (no_get key edit get);
         };
   }
@@ -229,8 +229,8 @@ module _ (C : ℕ) (a after : ArenaView) (log : LogView) (key : List ℕ) (edit 
           goes = goes_more now a after w _ _ _ (λ x. HeadedStage C key edit way head (Posts then ending) begun after x) goes (λ evolves t. ((t, ap (λ (q : Posting). q.half) same ∙ truth.0.1, truth.0.2), known_on begun w goes.next (evolves begun before) truth.1));
           does = (record { content = content; trimmed = refl; deltas = refl }, refl);
           reserved = refl;
-          feed = refl;
-          holders = refl;
+          bounds = refl;
+          blocked = inl refl;
           may = tt;
         };
   }
@@ -259,10 +259,10 @@ module _ (C : ℕ) (a after : ArenaView) (log : LogView) (key : List ℕ) (edit 
       go (EndStored commit) is = record {
         steps = λ now begun moves past w world before truth.
             let (goes, quiet) = ends_posting now begun w (λ x. HeadedStage C key edit way head (Stored commit None) begun after x) world before law truth.0.0 truth.0.1 (λ next evolves has. (has, known_on begun w next evolves truth.1)) in
-            record { goes = goes; does = (quiet, refl); reserved = refl; feed = refl; holders = refl; may = λ get. absurd (no_get key edit get) };
+            record { goes = goes; does = (quiet, refl); reserved = refl; bounds = refl; blocked = inl refl; may = λ get. absurd (no_get key edit get) };
       }
       go (EndFailed refusal) is = record {
         steps = λ now begun moves past w world before truth.
             let (goes, quiet) = ends_posting now begun w (λ x. HeadedStage C key edit way head (Failed refusal None) begun after x) world before law truth.0.0 truth.0.1 (λ next evolves has. ((has, truth.0.2), known_on begun w next evolves truth.1)) in
-            record { goes = goes; does = (quiet, refl); reserved = refl; feed = refl; holders = refl; may = λ get. absurd (no_get key edit get) };
+            record { goes = goes; does = (quiet, refl); reserved = refl; bounds = refl; blocked = inl refl; may = λ get. absurd (no_get key edit get) };
       }

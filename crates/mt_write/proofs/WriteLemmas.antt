@@ -8,6 +8,7 @@ use Rattle.mt_types.specs.declared.event.Answer.{Answer}
 use Rattle.mt_types.specs.declared.event.Answer.TheVariants.{Absent as AbsentAnswer}
 use Rattle.mt_promise.specs.Legal.{is_get}
 use Rattle.mt_types.specs.declared.refusal.Refusal.{Refusal}
+use Rattle.mt_types.specs.declared.refusal.Refusal.TheVariants.{FeedFull}
 use Rattle.mt_types.specs.declared.numbers.NodeNo.{NodeNo}
 use Rattle.mt_slice.specs.Place.{Place, AreBytes, place_of, under, first_slice, slice_number}
 use Rattle.mt_slice.specs.Classes.{class_of, place_at}
@@ -15,7 +16,7 @@ use Rattle.mt_slice.specs.declared.slice_class.Class.{Class}
 use Rattle.mt_slice.specs.declared.slice_class.Class.TheVariants.{Len, Long as LongClass}
 use Rattle.mt_slice.proofs.PlaceOn.{place_of-place_at}
 use Rattle.mt_slice.proofs.Slices.{bytes-drop}
-use Rattle.mt_commit.specs.Log.{LogView, newest, with_delta}
+use Rattle.mt_commit.specs.Log.{LogView, newest, slowest, with_delta}
 use Rattle.mt_word.specs.Version.{VersionView}
 use Rattle.mt_word.specs.declared.permutation_word.TheConstants.{SLOTS}
 use Rattle.mt_border.specs.Border.{BorderView, with_lock, with_filled, with_hidden, with_shown, with_value, filled_version, first_held, row_at}
@@ -60,7 +61,7 @@ use Rattle.mt_calls.specs.declared.progress.Progress.{Progress}
 use Rattle.mt_calls.specs.declared.progress.Progress.TheVariants.{Moved, Waits, Committed, Answered, Refused}
 use Rattle.mt_calls.specs.World.{World, IsWorld, RowsAreOfKeys, Goes}
 use Rattle.mt_calls.specs.Way.{rest_of, prefix_of, IsLayerOf, IsOnWay, IsAtPlace, GoesTo, Visits}
-use Rattle.mt_calls.specs.Step.{Held, Truth, Stepped, StepLaw, MayStep, RowIs, IsQuiet, put_row, Commits, Changes, MayRefuse, IsRight}
+use Rattle.mt_calls.specs.Step.{Held, Truth, Stepped, StepLaw, MayStep, RowIs, IsQuiet, put_row, Commits, Changes, blocked_by, bounds, IsOfLog, MayRefuse, MayFail, IsRight}
 use Rattle.mt_write.specs.Writing.{edit_request, written_answer, stage_held, IsLockedAt, HasLocked, AreHalves, empty_half, owned, SomeSets, IsBack, IsFilled, IsMade, IsFound, StageIsTrue, HeadedStage, new_entry, Fills, Prepares, PreparesRemove, LacksRow, put_delta, remove_delta}
 use Rattle.mt_calls.specs.World.{IsLockedBorder}
 use Rattle.mt_calls.proofs.FrameLemmas.{goes_same, quiet_same}
@@ -75,6 +76,11 @@ use Rattle.mt_calls.proofs.BorderLemmas.{now_named, others_named, keys_same, key
 pub no_get : (key : List ℕ) (edit : Edit) → IsTrue (is_get (edit_request key edit)) → ⊥
 no_get key (PutEdit sets) get = (let clash : false ≡ true = get in cc)
 no_get key RemoveEdit get = (let clash : false ≡ true = get in cc)
+
+-- a write that fails is blocked at nothing, or at the number from which the log is held
+fails_at : (log : LogView) (refusal : Refusal) → IsOfLog log refusal → (blocked_by refusal ≡ None) ⊎ (blocked_by refusal ≡ Some (slowest log))
+fails_at log (FeedFull number) is = inr (ap (λ (m : ℕ). Some m) is)
+fails_at log _ is = inl refl
 
 -- ---- on its way
 module _ (C : ℕ) (a : ArenaView) (key : List ℕ) (edit : Edit) (way : Way) (went : Went) (visits : Visits a key way went) where
@@ -92,8 +98,8 @@ module _ (C : ℕ) (a : ArenaView) (key : List ℕ) (edit : Edit) (way : Way) (w
       goes = goes_same now a w _ [] [] refl world (starts a now w begun key world);
       does = (quiet_same a log, refl);
       reserved = refl;
-      feed = refl;
-      holders = refl;
+      bounds = refl;
+      blocked = inl refl;
       may = tt;
     };
   })
@@ -104,8 +110,8 @@ module _ (C : ℕ) (a : ArenaView) (key : List ℕ) (edit : Edit) (way : Way) (w
       goes = goes_same now a w _ [] [] refl world (subst (λ (t : Went). GoesTo a begun key way w t) is (visits.goes now w begun world truth)).0;
       does = (quiet_same a log, refl);
       reserved = refl;
-      feed = refl;
-      holders = refl;
+      bounds = refl;
+      blocked = inl refl;
       may = λ get. absurd (no_get key edit get);
     };
   })
@@ -116,8 +122,8 @@ module _ (C : ℕ) (a : ArenaView) (key : List ℕ) (edit : Edit) (way : Way) (w
       goes = goes_same now a w _ [] [] refl world truth;
       does = (quiet_same a log, refl);
       reserved = refl;
-      feed = refl;
-      holders = refl;
+      bounds = refl;
+      blocked = inl refl;
       may = tt;
     };
   })
@@ -178,8 +184,8 @@ module _ (C : ℕ) (a : ArenaView) (key : List ℕ) (edit : Edit) (way : Way) (w
                   );
               does = (record { content = kept.content; trimmed = refl; deltas = refl }, refl);
               reserved = refl;
-              feed = refl;
-              holders = refl;
+              bounds = refl;
+              blocked = inl refl;
               may = λ get. absurd (no_get key edit get);
             };
       })
@@ -296,7 +302,7 @@ module _ (C : ℕ) (a : ArenaView) (log : LogView) (key : List ℕ) (sets : List
       }
 
   ready_fill : (split : Option Halves) (place : ℕ) (stored : List ℕ) (logged : List (List ℕ)) (after : ArenaView) (left : LogView) → Fills C key sets way a log place stored logged after left → (now begun moves : ℕ) (past : List Arena) (w : World) → IsWorld a now w → (b : BorderView) → IsLockedAt a key way b w → HasLocked (prefix_of key way) a w way.node.0 split
-      → Stepped C now moves past a after log left w (PutRequest key sets) (record { owns = owned way.node.0 split; reserves = 0; committed = None }) Moved (stage_held way.node.0 (Filled place stored logged split)) (λ m next. StageIsTrue C key (PutEdit sets) way (Filled place stored logged split) begun after next)
+      → Stepped C now moves past a after log left w (PutRequest key sets) (record { owns = owned way.node.0 split; reserves = 0; committed = None; blocked = None }) Moved (stage_held way.node.0 (Filled place stored logged split)) (λ m next. StageIsTrue C key (PutEdit sets) way (Filled place stored logged split) begun after next)
   ready_fill split place stored logged after left f now begun moves past w world b at has =
       let same : f.b ≡ b = (let both : ◌≡◌ {A = Option BorderView} (Some f.b) (Some b) = sym f.named ∙ at.named in cc) in
       let entry = new_entry key way logged in
@@ -305,7 +311,7 @@ module _ (C : ℕ) (a : ArenaView) (log : LogView) (key : List ℕ) (sets : List
       let low : b.low ≤ slice_number (rest_of key way) = subst (λ (s : ℕ). b.low ≤ s) slices at.stands.from_low in
       let right = left_of_right (slice_number (rest_of key way)) b.right (subst (λ (s : ℕ). Below s (option_map right_seen b.right)) slices at.stands.to_right) in
       let kept = f.keeps.keeps now w.twins w.chart world.index in
-      subst (λ (x : ArenaView). Stepped C now moves past a x log left w (PutRequest key sets) (record { owns = owned way.node.0 split; reserves = 0; committed = None }) Moved (stage_held way.node.0 (Filled place stored logged split)) (λ m next. StageIsTrue C key (PutEdit sets) way (Filled place stored logged split) begun x next)) (sym f.filled)
+      subst (λ (x : ArenaView). Stepped C now moves past a x log left w (PutRequest key sets) (record { owns = owned way.node.0 split; reserves = 0; committed = None; blocked = None }) Moved (stage_held way.node.0 (Filled place stored logged split)) (λ m next. StageIsTrue C key (PutEdit sets) way (Filled place stored logged split) begun x next)) (sym f.filled)
       (record {
         goes = goes_border a way.node.0 b fill at.named now w (owned way.node.0 split) (owned way.node.0 split) _ world (subst (λ (x : ArenaView). IsIndexAt x now w.twins w.chart) f.filled kept.index)
             (subst (λ (x : ArenaView). RowsAreOfKeys x) f.filled (keys_same a after kept.content world.keys))
@@ -317,33 +323,33 @@ module _ (C : ℕ) (a : ArenaView) (log : LogView) (key : List ℕ) (sets : List
             );
         does = (record { content = subst (λ (x : ArenaView). SameContent (arena_seen a) (arena_seen x)) f.filled kept.content; trimmed = ap (λ (l : LogView). l.held_after) f.reserved; deltas = ap (λ (l : LogView). l.deltas) f.reserved }, refl);
         reserved = let more = ap (λ (l : LogView). l.reserved) f.reserved in omega (arith, more);
-        feed = ap (λ (l : LogView). l.feed) f.reserved;
-        holders = ap (λ (l : LogView). l.holders) f.reserved;
+        bounds = ap bounds f.reserved;
+        blocked = inl refl;
         may = λ get. absurd (let clash : false ≡ true = get in cc);
       })
 
   abbrev FailStep : ArenaView → LogView → Option Halves → Refusal → ℕ → ℕ → ℕ → List Arena → World → Type 0
   FailStep after left split refusal now begun moves past w =
-      Stepped C now moves past a after log left w (PutRequest key sets) (record { owns = owned way.node.0 split; reserves = 0; committed = None }) Moved (stage_held way.node.0 (Failed refusal split)) (λ m next. StageIsTrue C key (PutEdit sets) way (Failed refusal split) begun after next)
+      Stepped C now moves past a after log left w (PutRequest key sets) (record { owns = owned way.node.0 split; reserves = 0; committed = None; blocked = None }) Moved (stage_held way.node.0 (Failed refusal split)) (λ m next. StageIsTrue C key (PutEdit sets) way (Failed refusal split) begun after next)
 
-  ready_fail : (split : Option Halves) (refusal : Refusal) (after : ArenaView) (left : LogView) → MayRefuse (PutRequest key sets) refusal × IsBack a after × (left ≡ log) → (now begun moves : ℕ) (past : List Arena) (w : World) → IsWorld a now w → HasLocked (prefix_of key way) a w way.node.0 split → FailStep after left split refusal now begun moves past w
+  ready_fail : (split : Option Halves) (refusal : Refusal) (after : ArenaView) (left : LogView) → MayFail log (PutRequest key sets) refusal × IsBack a after × (left ≡ log) → (now begun moves : ℕ) (past : List Arena) (w : World) → IsWorld a now w → HasLocked (prefix_of key way) a w way.node.0 split → FailStep after left split refusal now begun moves past w
   ready_fail split refusal after left (may, back, same_log) now begun moves past w world has = subst (λ (l : LogView). FailStep after l split refusal now begun moves past w) (sym same_log) (elim back [
     | inl same ↦ subst (λ (x : ArenaView). FailStep x log split refusal now begun moves past w) (sym same) (record {
-      goes = goes_same now a w _ (owned way.node.0 split) (owned way.node.0 split) refl world (has, may);
+      goes = goes_same now a w _ (owned way.node.0 split) (owned way.node.0 split) refl world (has, may.0);
       does = (quiet_same a log, refl);
       reserved = refl;
-      feed = refl;
-      holders = refl;
+      bounds = refl;
+      blocked = fails_at log refusal may.1;
       may = λ get. absurd (let clash : false ≡ true = get in cc);
     })
     | inr gave ↦ (let o = gave.occupied in
         let (goes, content) = goes_given_back now a gave.between after w gave.number gave.node (owned way.node.0 split) (λ next. StageIsTrue C key (PutEdit sets) way (Failed refusal split) begun after next) o.vacant o.updates o.retired o.unknown o.keeps gave.back gave.retired gave.keeps world
-        (has_locked_back (prefix_of key way) a gave.between after w way.node.0 split gave.number gave.node o.vacant o.updates gave.back has, may) in record {
+        (has_locked_back (prefix_of key way) a gave.between after w way.node.0 split gave.number gave.node o.vacant o.updates gave.back has, may.0) in record {
           goes = goes;
           does = (record { content = content; trimmed = refl; deltas = refl }, refl);
           reserved = refl;
-          feed = refl;
-          holders = refl;
+          bounds = refl;
+          blocked = fails_at log refusal may.1;
           may = λ get. absurd (let clash : false ≡ true = get in cc);
         })
   ])
@@ -370,8 +376,8 @@ module _ (C : ℕ) (a : ArenaView) (log : LogView) (key : List ℕ) (sets : List
           );
           does = (record { content = (f.occupied.keeps.keeps now w.twins w.chart world.index).content; trimmed = refl; deltas = refl }, refl);
           reserved = refl;
-          feed = refl;
-          holders = refl;
+          bounds = refl;
+          blocked = inl refl;
           may = λ get. absurd (let clash : false ≡ true = get in cc);
         });
   }
@@ -385,8 +391,8 @@ module _ (C : ℕ) (a : ArenaView) (log : LogView) (key : List ℕ) (sets : List
           goes = goes;
           does = (record { content = content; trimmed = refl; deltas = refl }, refl);
           reserved = refl;
-          feed = refl;
-          holders = refl;
+          bounds = refl;
+          blocked = inl refl;
           may = λ get. absurd (let clash : false ≡ true = get in cc);
         });
   }
@@ -399,8 +405,8 @@ module _ (C : ℕ) (a : ArenaView) (log : LogView) (key : List ℕ) (sets : List
           goes = goes_same now a w _ (way.node.0 ∷ []) (way.node.0 ∷ []) refl world (b, at, subst (λ (x : BorderView). IsMade C key (PutEdit sets) way x place stored columns logged) same f.made);
           does = (record { content = λ k row. ((λ h. h), (λ h. h)); trimmed = ap (λ (l : LogView). l.held_after) f.reserved; deltas = ap (λ (l : LogView). l.deltas) f.reserved }, refl);
           reserved = let more = ap (λ (l : LogView). l.reserved) f.reserved in omega (arith, more);
-          feed = ap (λ (l : LogView). l.feed) f.reserved;
-          holders = ap (λ (l : LogView). l.holders) f.reserved;
+          bounds = ap bounds f.reserved;
+          blocked = inl refl;
           may = λ get. absurd (let clash : false ≡ true = get in cc);
         });
   }
@@ -563,8 +569,8 @@ module _ (C : ℕ) (a : ArenaView) (log : LogView) (key : List ℕ) (edit : Edit
             refl,
           );
           reserved = let less = ap (λ (l : LogView). l.reserved) appended in omega (arith, less, room);
-          feed = ap (λ (l : LogView). l.feed) appended;
-          holders = ap (λ (l : LogView). l.holders) appended;
+          bounds = ap bounds appended;
+          blocked = inl refl;
           may = tt;
         };
   }
@@ -607,8 +613,8 @@ module _ (C : ℕ) (a : ArenaView) (log : LogView) (key : List ℕ) (edit : Edit
             refl,
           );
           reserved = let less = ap (λ (l : LogView). l.reserved) appended in omega (arith, less, room);
-          feed = ap (λ (l : LogView). l.feed) appended;
-          holders = ap (λ (l : LogView). l.holders) appended;
+          bounds = ap bounds appended;
+          blocked = inl refl;
           may = tt;
         };
   }
@@ -642,8 +648,8 @@ module _ (C : ℕ) (a : ArenaView) (log : LogView) (key : List ℕ) (edit : Edit
             refl,
           );
           reserved = let less = ap (λ (l : LogView). l.reserved) appended in omega (arith, less, room);
-          feed = ap (λ (l : LogView). l.feed) appended;
-          holders = ap (λ (l : LogView). l.holders) appended;
+          bounds = ap bounds appended;
+          blocked = inl refl;
           may = tt;
         };
   }
@@ -665,8 +671,8 @@ module _ (C : ℕ) (a : ArenaView) (log : LogView) (key : List ℕ) (edit : Edit
           goes = goes_same now a w _ (way.node.0 ∷ []) (way.node.0 ∷ []) refl world (b, at, subst (λ (e : Edit). IsFound key e way b place stored before) (sym is_remove) (subst (λ (x : BorderView). IsFound key RemoveEdit way x place stored before) same f.found));
           does = (record { content = λ k row. ((λ h. h), (λ h. h)); trimmed = ap (λ (l : LogView). l.held_after) f.reserved; deltas = ap (λ (l : LogView). l.deltas) f.reserved }, refl);
           reserved = let more = ap (λ (l : LogView). l.reserved) f.reserved in omega (arith, more);
-          feed = ap (λ (l : LogView). l.feed) f.reserved;
-          holders = ap (λ (l : LogView). l.holders) f.reserved;
+          bounds = ap bounds f.reserved;
+          blocked = inl refl;
           may = λ get. absurd (no_get key edit get);
         };
   }
@@ -678,12 +684,12 @@ module _ (C : ℕ) (a : ArenaView) (log : LogView) (key : List ℕ) (edit : Edit
             record {
               goes = goes_same now a w _ (way.node.0 ∷ []) (way.node.0 ∷ []) refl world (
                 alone a key way b w at,
-                subst (λ (e : Edit). MayRefuse (edit_request key e) refusal) (sym is_remove) may,
+                subst (λ (e : Edit). MayRefuse (edit_request key e) refusal) (sym is_remove) may.0,
               );
               does = (quiet_same a log, refl);
               reserved = refl;
-              feed = refl;
-              holders = refl;
+              bounds = refl;
+              blocked = fails_at log refusal may.1;
               may = λ get. absurd (no_get key edit get);
             };
       }))
@@ -723,7 +729,7 @@ module _ (C : ℕ) (a : ArenaView) (log : LogView) (key : List ℕ) (edit : Edit
   answers number answer answer_is then Then after is keeps = record {
     steps = λ now begun moves past w world before truth.
         let (goes, quiet) = ends (λ next. Unit {0}) now w after is keeps world (truth.locked way.node.0 first) tt in
-        record { goes = goes; does = (quiet, subst (λ (x : Answer). IsRight past a (edit_request key edit) (Some number) x) (sym answer_is) (answer_right past a key edit number)); reserved = refl; feed = refl; holders = refl; may = tt };
+        record { goes = goes; does = (quiet, subst (λ (x : Answer). IsRight past a (edit_request key edit) (Some number) x) (sym answer_is) (answer_right past a key edit number)); reserved = refl; bounds = refl; blocked = tt; may = tt };
   }
 
   -- a remove that finds no row ends
@@ -740,8 +746,8 @@ module _ (C : ℕ) (a : ArenaView) (log : LogView) (key : List ℕ) (edit : Edit
           goes = goes;
           does = (quiet, subst (λ (e : Edit). IsRight past a (edit_request key e) None AbsentAnswer) (sym is_remove) (refl, lacking.bytes, subst (λ (r : Option Row). RowIs a key r) none stood));
           reserved = refl;
-          feed = refl;
-          holders = refl;
+          bounds = refl;
+          blocked = tt;
           may = tt;
         };
   })
@@ -750,7 +756,7 @@ module _ (C : ℕ) (a : ArenaView) (log : LogView) (key : List ℕ) (edit : Edit
   refuses refusal then Then after is keeps = record {
     steps = λ now begun moves past w world before truth.
         let (goes, quiet) = ends (λ next. Unit {0}) now w after is keeps world (truth.0.locked way.node.0 first) tt in
-        record { goes = goes; does = (quiet, refl, truth.1); reserved = refl; feed = refl; holders = refl; may = tt };
+        record { goes = goes; does = (quiet, refl, truth.1); reserved = refl; bounds = refl; blocked = refl; may = tt };
   }
 
 -- at the place of a key there is a border

@@ -1,5 +1,5 @@
 -- What is true of a put or remove, at each of its stages.
-use Rattle.std.specs.Prelude.{ℕ, ◌≡◌, ◌≢◌, ◌<◌, ◌≤◌, ◌+◌, ◌⊎◌, List, [], ◌∷◌, length, drop, slice_get, Option, Some, None, IsSome, Bool, true, false}
+use Rattle.std.specs.Prelude.{ℕ, ◌≡◌, ◌≢◌, ◌<◌, ◌≤◌, ◌+◌, ◌⊎◌, List, [], ◌∷◌, length, drop, slice_get, Option, Some, None, Bool, true, false}
 use Rattle.mt_types.specs.declared.limits.TheConstants.{MAX_KEY_BYTES}
 use Rattle.mt_types.specs.declared.row.Row.{Row}
 use Rattle.mt_types.specs.declared.row.Delta.{Delta}
@@ -48,7 +48,7 @@ use Rattle.mt_write.specs.declared.writing.Layer.{Layer}
 use Rattle.mt_calls.specs.World.{World, IsLockedBorder}
 use Rattle.mt_calls.specs.Way.{prefix_of, rest_of, IsLayerOf, IsOnWay, IsHeadOf}
 use Rattle.mt_calls.specs.declared.progress.Progress.{Progress}
-use Rattle.mt_calls.specs.Step.{Held, nothing, MayRefuse, StepLaw, MayStep, columns_after}
+use Rattle.mt_calls.specs.Step.{Held, nothing, blocked_by, MayRefuse, MayFail, StepLaw, MayStep, columns_after}
 
 abbrev pub edit_request : List ℕ → Edit → Request
 edit_request key (PutEdit sets) = PutRequest key sets
@@ -76,6 +76,11 @@ abbrev pub ending_commit : Ending → Option ℕ
 ending_commit (EndStored commit) = Some commit
 ending_commit (EndFailed refusal) = None
 
+-- the number at which a write was blocked that is to fail
+abbrev pub ending_blocked : Ending → Option ℕ
+ending_blocked (EndStored commit) = None
+ending_blocked (EndFailed refusal) = blocked_by refusal
+
 -- the stage from which it ends so
 abbrev pub ending_stage : Ending → Option Halves → Stage
 ending_stage (EndStored commit) split = Stored commit split
@@ -84,20 +89,20 @@ ending_stage (EndFailed refusal) split = Failed refusal split
 -- what a write has: from the lock on its border, and from a stage that is ready on room in the log
 abbrev pub stage_held : ℕ → Stage → Held
 stage_held number Seeks = nothing
-stage_held number Locked = record { owns = number ∷ []; reserves = 0; committed = None }
-stage_held number (Spared half cut entries) = record { owns = half.0 ∷ number ∷ []; reserves = 0; committed = None }
-stage_held number (HalfFilled half cut) = record { owns = half.0 ∷ number ∷ []; reserves = 0; committed = None }
-stage_held number (Halved split) = record { owns = owned number (Some split); reserves = 0; committed = None }
-stage_held number (LayerSpared layer entries) = record { owns = layer_owned number layer; reserves = 0; committed = None }
-stage_held number (LayerFilled layer) = record { owns = layer_owned number layer; reserves = 0; committed = None }
-stage_held number (LayerReady layer) = record { owns = layer_owned number layer; reserves = 0; committed = None }
-stage_held number (Layered head) = record { owns = number ∷ []; reserves = 0; committed = None }
-stage_held number (Filled place stored logged split) = record { owns = owned number split; reserves = 1; committed = None }
-stage_held number (Made place stored columns logged) = record { owns = number ∷ []; reserves = 1; committed = None }
-stage_held number (Taken place stored before) = record { owns = number ∷ []; reserves = 1; committed = None }
-stage_held number (Posts posting ending) = record { owns = posting_owned posting; reserves = 0; committed = ending_commit ending }
-stage_held number (Stored commit split) = record { owns = owned number split; reserves = 0; committed = Some commit }
-stage_held number (Failed refusal split) = record { owns = owned number split; reserves = 0; committed = None }
+stage_held number Locked = record { owns = number ∷ []; reserves = 0; committed = None; blocked = None }
+stage_held number (Spared half cut entries) = record { owns = half.0 ∷ number ∷ []; reserves = 0; committed = None; blocked = None }
+stage_held number (HalfFilled half cut) = record { owns = half.0 ∷ number ∷ []; reserves = 0; committed = None; blocked = None }
+stage_held number (Halved split) = record { owns = owned number (Some split); reserves = 0; committed = None; blocked = None }
+stage_held number (LayerSpared layer entries) = record { owns = layer_owned number layer; reserves = 0; committed = None; blocked = None }
+stage_held number (LayerFilled layer) = record { owns = layer_owned number layer; reserves = 0; committed = None; blocked = None }
+stage_held number (LayerReady layer) = record { owns = layer_owned number layer; reserves = 0; committed = None; blocked = None }
+stage_held number (Layered head) = record { owns = number ∷ []; reserves = 0; committed = None; blocked = None }
+stage_held number (Filled place stored logged split) = record { owns = owned number split; reserves = 1; committed = None; blocked = None }
+stage_held number (Made place stored columns logged) = record { owns = number ∷ []; reserves = 1; committed = None; blocked = None }
+stage_held number (Taken place stored before) = record { owns = number ∷ []; reserves = 1; committed = None; blocked = None }
+stage_held number (Posts posting ending) = record { owns = posting_owned posting; reserves = 0; committed = ending_commit ending; blocked = ending_blocked ending }
+stage_held number (Stored commit split) = record { owns = owned number split; reserves = 0; committed = Some commit; blocked = None }
+stage_held number (Failed refusal split) = record { owns = owned number split; reserves = 0; committed = None; blocked = blocked_by refusal }
 
 abbrev pub write_held : Write → Held
 write_held write = stage_held write.way.node.0 write.stage
@@ -386,7 +391,7 @@ Prepares C key sets way a log split (Spared half cut entries) after left = (spli
 Prepares C key sets way a log split (LayerSpared layer entries) after left = (split ≡ None) × LayerSpares key way a layer entries after × (left ≡ log)
 Prepares C key sets way a log split (Filled place stored logged halves) after left = (halves ≡ split) × Fills C key sets way a log place stored logged after left
 Prepares C key sets way a log split (Made place stored columns logged) after left = (split ≡ None) × Makes C key sets way a log place stored columns logged after left
-Prepares C key sets way a log split (Failed refusal halves) after left = (halves ≡ split) × MayRefuse (PutRequest key sets) refusal × IsBack a after × (left ≡ log)
+Prepares C key sets way a log split (Failed refusal halves) after left = (halves ≡ split) × MayFail log (PutRequest key sets) refusal × IsBack a after × (left ≡ log)
 Prepares C key sets way a log split _ after left = ⊥
 
 -- the delta of a put's commit
@@ -411,7 +416,7 @@ pub record LacksRow (key : List ℕ) (way : Way) (a : ArenaView) : Type 0 where
 abbrev pub PreparesRemove : List ℕ → Way → ArenaView → LogView → Option Stage → LogView → Type 0
 PreparesRemove key way a log None left = LacksRow key way a × (left ≡ log)
 PreparesRemove key way a log (Some (Taken place stored before)) left = Takes key way a log place stored before left
-PreparesRemove key way a log (Some (Failed refusal split)) left = (split ≡ None) × MayRefuse (RemoveRequest key) refusal × (left ≡ log)
+PreparesRemove key way a log (Some (Failed refusal split)) left = (split ≡ None) × MayFail log (RemoveRequest key) refusal × (left ≡ log)
 PreparesRemove key way a log _ left = ⊥
 
 -- the delta of a remove's commit

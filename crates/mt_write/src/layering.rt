@@ -10,7 +10,7 @@ ghost use Rattle.mt_border.specs.declared.entry.Content.TheVariants.{Long as Lon
 ghost use Rattle.mt_arena.specs.Node.{border_at};
 ghost use Rattle.mt_tree.specs.Descent.{HasOtherSuffix};
 ghost use Rattle.mt_calls.specs.Way.{rest_of};
-ghost use Rattle.mt_calls.specs.Step.{MayRefuse};
+ghost use Rattle.mt_calls.specs.Step.{MayFail};
 ghost use Rattle.mt_write.specs.Causes.{layer_fault, ReadyFor};
 ghost use Rattle.mt_write.specs.Writing.{Prepares, IsBack, HoldsLong, MovesLong};
 
@@ -52,7 +52,7 @@ pub fn spare_layer(
 ) -> Result<Stage, Refusal>
     requires within { 8 * way.layer ≤ length key.now }
     requires other { IsSomeAnd (border_at tree.old.nodes way.node.0) (λ b. HasOtherSuffix (rest_of key.now way) b.live place) }
-    ensures ready { MatchResult result (λ stage. (C : ℕ) (log : LogView) → Prepares C key.now sets.now way tree.old log None stage tree.new log) (λ refusal. MayRefuse (PutRequest key.now sets.now) refusal × IsBack tree.old tree.new) }
+    ensures ready { MatchResult result (λ stage. (C : ℕ) (log : LogView) → Prepares C key.now sets.now way tree.old log None stage tree.new log) (λ refusal. ((log : LogView) → MayFail log (PutRequest key.now sets.now) refusal) × IsBack tree.old tree.new) }
     ensures fault { ReadyFor (layer_fault tree.old) result }
 {
     if tree.free_numbers() < 2 {

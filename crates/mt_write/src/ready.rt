@@ -11,7 +11,7 @@ ghost use Rattle.mt_word.specs.declared.permutation_word.TheConstants.{SLOTS};
 ghost use Rattle.mt_arena.specs.Node.{border_at};
 ghost use Rattle.mt_tree.specs.Descent.{IsLast, found_for};
 ghost use Rattle.mt_calls.specs.Way.{rest_of};
-ghost use Rattle.mt_calls.specs.Step.{MayRefuse, IsUnbounded, columns_after};
+ghost use Rattle.mt_calls.specs.Step.{MayFail, columns_after};
 ghost use Rattle.mt_write.specs.Causes.{fill_fault, put_fault, remove_fault, ReadyFor, FailsBy, RemoveFailsBy};
 ghost use Rattle.mt_write.specs.Writing.{FillsNew, Prepares, PreparesRemove, IsBack};
 
@@ -86,8 +86,7 @@ pub fn fill(
 ) -> Result<Stage, Refusal>
     requires within { 8 * way.layer ≤ length key.now }
     requires absent { IsSomeAnd (border_at tree.old.nodes way.node.0) (λ b. (length b.live < SLOTS) × (found_for (rest_of key.now way) b.live ≡ AbsentFound place)) }
-    requires unbounded { IsUnbounded log.old }
-    ensures ready { MatchResult result (λ stage. Prepares columns key.now sets.now way tree.old log.old split stage tree.new log.new) (λ refusal. MayRefuse (PutRequest key.now sets.now) refusal × IsBack tree.old tree.new × (log.new ≡ log.old)) }
+    ensures ready { MatchResult result (λ stage. Prepares columns key.now sets.now way tree.old log.old split stage tree.new log.new) (λ refusal. MayFail log.old (PutRequest key.now sets.now) refusal × IsBack tree.old tree.new × (log.new ≡ log.old)) }
     ensures fault { IsSomeAnd (border_at tree.old.nodes way.node.0) (λ b. ReadyFor (fill_fault log.old b) result) }
 {
     if tree.border(way.node).is_fill_spent() {
@@ -139,8 +138,7 @@ fn make(
 ) -> Result<Stage, Refusal>
     requires within { 8 * way.layer ≤ length key.now }
     requires there { IsSomeAnd (border_at tree.now.nodes way.node.0) (λ b. found_for (rest_of key.now way) b.live ≡ RowFound place) }
-    requires unbounded { IsUnbounded log.old }
-    ensures ready { MatchResult result (λ stage. Prepares columns key.now sets.now way tree.now log.old None stage tree.now log.new) (λ refusal. MayRefuse (PutRequest key.now sets.now) refusal × (log.new ≡ log.old)) }
+    ensures ready { MatchResult result (λ stage. Prepares columns key.now sets.now way tree.now log.old None stage tree.now log.new) (λ refusal. MayFail log.old (PutRequest key.now sets.now) refusal × (log.new ≡ log.old)) }
     ensures fault { ReadyFor (reserve_fault log.old) result }
 {
     let border = tree.border(way.node);
@@ -174,7 +172,6 @@ pub fn prepare(
 ) -> Stage
     requires within { 8 * way.layer ≤ length key.now }
     requires last { IsSomeAnd (border_at tree.old.nodes way.node.0) (λ b. IsLast (found_for (rest_of key.now way) b.live)) }
-    requires unbounded { IsUnbounded log.old }
     ensures ready { Prepares columns key.now sets.now way tree.old log.old None result tree.new log.new }
     ensures fault { IsSomeAnd (border_at tree.old.nodes way.node.0) (λ b. FailsBy (put_fault tree.old log.old b (found_for (rest_of key.now way) b.live)) None result) }
 {
@@ -217,8 +214,7 @@ fn take(
 ) -> Result<Stage, Refusal>
     requires within { 8 * way.layer ≤ length key.now }
     requires there { IsSomeAnd (border_at tree.now.nodes way.node.0) (λ b. found_for (rest_of key.now way) b.live ≡ RowFound place) }
-    requires unbounded { IsUnbounded log.old }
-    ensures ready { MatchResult result (λ stage. PreparesRemove key.now way tree.now log.old (Some stage) log.new) (λ refusal. MayRefuse (RemoveRequest key.now) refusal × (log.new ≡ log.old)) }
+    ensures ready { MatchResult result (λ stage. PreparesRemove key.now way tree.now log.old (Some stage) log.new) (λ refusal. MayFail log.old (RemoveRequest key.now) refusal × (log.new ≡ log.old)) }
     ensures fault { ReadyFor (reserve_fault log.old) result }
 {
     let border = tree.border(way.node);
@@ -245,7 +241,6 @@ pub fn prepare_remove(
 ) -> Option<Stage>
     requires within { 8 * way.layer ≤ length key.now }
     requires border { IsSome (border_at tree.now.nodes way.node.0) }
-    requires unbounded { IsUnbounded log.old }
     ensures ready { PreparesRemove key.now way tree.now log.old result log.new }
     ensures fault { IsSomeAnd (border_at tree.now.nodes way.node.0) (λ b. RemoveFailsBy (remove_fault log.old (found_for (rest_of key.now way) b.live)) result) }
 {

@@ -12,7 +12,7 @@ ghost use Rattle.mt_tree.specs.Keeping.{KeepsUnknown};
 ghost use Rattle.mt_tree.specs.Spares.{MayFill};
 ghost use Rattle.mt_tree.specs.BorderSteps.{IsUpperHalf, LinksHalfAt};
 ghost use Rattle.mt_calls.specs.Way.{rest_of};
-ghost use Rattle.mt_calls.specs.Step.{MayRefuse, IsUnbounded};
+ghost use Rattle.mt_calls.specs.Step.{MayFail};
 ghost use Rattle.mt_write.specs.Causes.{fill_fault, split_fault, ReadyFor, FailsBy};
 ghost use Rattle.mt_write.specs.Writing.{Prepares, IsBack, IsAbsent, IsHalf, SomeSets, IsHalfOf};
 
@@ -40,7 +40,7 @@ pub fn spare(
     sets: &Sets,
 ) -> Result<Stage, Refusal>
     requires full { IsSomeAnd (border_at tree.old.nodes way.node.0) (λ b. (length b.live ≡ SLOTS) × IsAbsent (found_for (rest_of key.now way) b.live)) }
-    ensures ready { MatchResult result (λ stage. (C : ℕ) (log : LogView) → Prepares C key.now sets.now way tree.old log None stage tree.new log) (λ refusal. MayRefuse (PutRequest key.now sets.now) refusal × IsBack tree.old tree.new) }
+    ensures ready { MatchResult result (λ stage. (C : ℕ) (log : LogView) → Prepares C key.now sets.now way tree.old log None stage tree.new log) (λ refusal. ((log : LogView) → MayFail log (PutRequest key.now sets.now) refusal) × IsBack tree.old tree.new) }
     ensures fault { IsSomeAnd (border_at tree.old.nodes way.node.0) (λ b. ReadyFor (split_fault tree.old b) result) }
 {
     let border = tree.border(way.node);
@@ -101,7 +101,6 @@ pub fn fill_half(
 ) -> Stage
     requires within { 8 * way.layer ≤ length key.now }
     requires half { IsSomeAnd (border_at tree.old.nodes way.node.0) (IsHalf key.now edit.now way) }
-    requires unbounded { IsUnbounded log.old }
     ensures fault { IsSomeAnd (border_at tree.old.nodes way.node.0) (λ b. FailsBy (fill_fault log.old b) (Some split) result) }
     ensures ready { SomeSets edit.now (λ sets. Prepares columns key.now sets way tree.old log.old (Some split) result tree.new log.new) }
 {

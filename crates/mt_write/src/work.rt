@@ -1,6 +1,7 @@
 //! The kinds of calls.
 
 ghost use Rattle.std.specs.Prelude.{◌≡◌, IfOk};
+ghost use Rattle.mt_promise.specs.Legal.{reads_log};
 ghost use Rattle.mt_calls.specs.Step.{StepLaw, MayStep};
 ghost use Rattle.mt_write.specs.Causes.{WorkWaits, WorkFails};
 ghost use Rattle.mt_write.specs.Works.{request_of, held, IsTrue, IsNew, IsServedRequest};
@@ -28,6 +29,13 @@ pub enum Work {
 }
 
 impl Work {
+    /// Whether it reads the log from the commits of its begin on, as a range does.
+    pub fn reads_log(&self) -> bool
+        ensures { result ≡ reads_log (request_of self.now) }
+    {
+        matches!(self, Work::Range(_))
+    }
+
     /// Visits one node.
     pub fn step(&mut self, alloc: Global, columns: u8, tree: &mut Tree, log: &mut Log) -> Progress
         requires { MayStep tree.old log.old (held self.old) (IsTrue columns self.old) }

@@ -1,5 +1,6 @@
 use Rattle.std.proofs.Common.{◌∙◌, ap, sym, subst, refl, Option}
 use Rattle.std.specs.BTreeMap as tree
+use Rattle.mt_promise.specs.Legal.{reads_log}
 use Rattle.mt_index.specs.Calls.{CallsView, AreBegun, call_at, with_changed, with_work, MayStepOf}
 use Rattle.mt_index.specs.declared.calls.Call.{Call}
 use Rattle.mt_index.proofs.NumberLemmas.{Entries, lookup-call_at, set-changed, begun-changed}
@@ -44,5 +45,6 @@ returns-clause-steps c =
           (written ∙ set-changed (with_work c.step-progress.new.self) c.args.number c.self.inside.calls.entries c.in-Some.call.now new found refl)
           ∙ ap (λ (s : CallsView). record { begun = s.begun; calls = with_changed (with_work c.step-progress.new.self) c.args.number s.calls }) c.self.view_is;
       pass_is = refl;
+      reads_is = c.reads_log.ensures ∙ ap reads_log c.step-progress.ensures.request;
       from_is = refl;
     }

@@ -15,6 +15,7 @@ returns-in-Begin c = record {
       (begins-stands c.args.self.now c.begin.new.self c.in-Begin.pass c.in-Begin.request c.begin.result h served c.begin.ensures.begins st);
   caused = subst (λ (e : Event). IsCaused c.args.self.now e c.begin.result c.begin.new.self) (sym c.in-Begin.is) tt;
   columns = begins-columns c.args.self.now c.begin.new.self c.in-Begin.pass c.in-Begin.request c.begin.result c.begin.ensures.begins;
+  bounds = c.begin.ensures.bounds;
 }
 
 pub returns-in-Step : goal.returns-in-Step
@@ -25,4 +26,5 @@ returns-in-Step c = record {
   caused = subst (λ (e : Event). IsCaused c.args.self.now e c.step.result c.step.new.self) (sym c.in-Step.is)
       (steps-caused c.args.self.now c.step.new.self c.in-Step.call c.step.result c.step.ensures.steps);
   columns = steps-columns c.args.self.now c.step.new.self c.in-Step.call.0 c.step.result c.step.ensures.steps;
+  bounds = c.step.ensures.bounds;
 }

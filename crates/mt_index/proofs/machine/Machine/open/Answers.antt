@@ -1,4 +1,5 @@
-use Rattle.std.proofs.Common.{refl, sym, subst, []}
+use Rattle.std.proofs.Common.{refl, sym, ap, subst, []}
+use Rattle.mt_commit.specs.Log.{LogView}
 use Rattle.mt_slice.specs.Place.{place_of}
 use Rattle.mt_index.specs.Calls.{CallsView}
 use Rattle.mt_index.specs.Stands.{Stands}
@@ -9,7 +10,7 @@ pub invariant_of-result : goal.invariant_of-result
 invariant_of-result c = (
   [],
   subst (λ (k : CallsView). Stands (seen c.args.options.columns 0 c.in_ok-open.field-0 c.open-2.result k) []) (sym c.new.ensures)
-      (opens-stands c.args.options.columns c.in_ok-open.field-0 c.open-2.result _ (record { index = c.in_ok-open.ensures.index c.in_ok-open.ensures.new; keys = new_keys c.in_ok-open.field-0 c.in_ok-open.ensures.empty; heads = new_heads c.in_ok-open.field-0 c.in_ok-open.ensures.new _; twins = new_twins c.in_ok-open.field-0 _; retired = new_retired c.in_ok-open.field-0 c.in_ok-open.ensures.new _ }) (new_untaken c.in_ok-open.field-0 c.in_ok-open.ensures.new _ _ (record { index = c.in_ok-open.ensures.index c.in_ok-open.ensures.new; keys = new_keys c.in_ok-open.field-0 c.in_ok-open.ensures.empty; heads = new_heads c.in_ok-open.field-0 c.in_ok-open.ensures.new _; twins = new_twins c.in_ok-open.field-0 _; retired = new_retired c.in_ok-open.field-0 c.in_ok-open.ensures.new _ })) (λ key row. c.in_ok-open.ensures.empty (place_of key) row) c.open-2.ensures.empty),
+      (opens-stands c.args.options.columns c.args.options.feed c.args.options.keep c.in_ok-open.field-0 c.open-2.result _ (record { index = c.in_ok-open.ensures.index c.in_ok-open.ensures.new; keys = new_keys c.in_ok-open.field-0 c.in_ok-open.ensures.empty; heads = new_heads c.in_ok-open.field-0 c.in_ok-open.ensures.new _; twins = new_twins c.in_ok-open.field-0 _; retired = new_retired c.in_ok-open.field-0 c.in_ok-open.ensures.new _ }) (new_untaken c.in_ok-open.field-0 c.in_ok-open.ensures.new _ _ (record { index = c.in_ok-open.ensures.index c.in_ok-open.ensures.new; keys = new_keys c.in_ok-open.field-0 c.in_ok-open.ensures.empty; heads = new_heads c.in_ok-open.field-0 c.in_ok-open.ensures.new _; twins = new_twins c.in_ok-open.field-0 _; retired = new_retired c.in_ok-open.field-0 c.in_ok-open.ensures.new _ })) (λ key row. c.in_ok-open.ensures.empty (place_of key) row) c.open-2.ensures.empty),
 )
 
 pub returns : goal.returns
@@ -17,7 +18,8 @@ returns c = record {
   fault = rw (sym c.in_default.ensures) tt;
   opened = (
     refl,
+    (ap (λ (l : LogView). l.feed) c.open-2.ensures.empty, ap (λ (l : LogView). l.keep) c.open-2.ensures.empty),
     subst (λ (k : CallsView). Stands (seen c.args.options.columns 0 c.in_ok-open.field-0 c.open-2.result k) []) (sym c.new.ensures)
-        (opens-stands c.args.options.columns c.in_ok-open.field-0 c.open-2.result _ (record { index = c.in_ok-open.ensures.index c.in_ok-open.ensures.new; keys = new_keys c.in_ok-open.field-0 c.in_ok-open.ensures.empty; heads = new_heads c.in_ok-open.field-0 c.in_ok-open.ensures.new _; twins = new_twins c.in_ok-open.field-0 _; retired = new_retired c.in_ok-open.field-0 c.in_ok-open.ensures.new _ }) (new_untaken c.in_ok-open.field-0 c.in_ok-open.ensures.new _ _ (record { index = c.in_ok-open.ensures.index c.in_ok-open.ensures.new; keys = new_keys c.in_ok-open.field-0 c.in_ok-open.ensures.empty; heads = new_heads c.in_ok-open.field-0 c.in_ok-open.ensures.new _; twins = new_twins c.in_ok-open.field-0 _; retired = new_retired c.in_ok-open.field-0 c.in_ok-open.ensures.new _ })) (λ key row. c.in_ok-open.ensures.empty (place_of key) row) c.open-2.ensures.empty),
+        (opens-stands c.args.options.columns c.args.options.feed c.args.options.keep c.in_ok-open.field-0 c.open-2.result _ (record { index = c.in_ok-open.ensures.index c.in_ok-open.ensures.new; keys = new_keys c.in_ok-open.field-0 c.in_ok-open.ensures.empty; heads = new_heads c.in_ok-open.field-0 c.in_ok-open.ensures.new _; twins = new_twins c.in_ok-open.field-0 _; retired = new_retired c.in_ok-open.field-0 c.in_ok-open.ensures.new _ }) (new_untaken c.in_ok-open.field-0 c.in_ok-open.ensures.new _ _ (record { index = c.in_ok-open.ensures.index c.in_ok-open.ensures.new; keys = new_keys c.in_ok-open.field-0 c.in_ok-open.ensures.empty; heads = new_heads c.in_ok-open.field-0 c.in_ok-open.ensures.new _; twins = new_twins c.in_ok-open.field-0 _; retired = new_retired c.in_ok-open.field-0 c.in_ok-open.ensures.new _ })) (λ key row. c.in_ok-open.ensures.empty (place_of key) row) c.open-2.ensures.empty),
   );
 }

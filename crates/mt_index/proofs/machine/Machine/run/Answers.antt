@@ -13,8 +13,9 @@ use Rattle.mt_index.proofs.machine.Machine.run.Goals as goal
 pub loop-event-init : goal.loop-event-init
 loop-event-init c =
     record {
-      told = ([], rw c.new-outcomes.ensures.items refl, c.in_ok-machine.ensures.opened.1);
+      told = ([], rw c.new-outcomes.ensures.items refl, c.in_ok-machine.ensures.opened.2);
       columns = c.in_ok-machine.ensures.opened.0;
+      bounds = c.in_ok-machine.ensures.opened.1;
       opened = no_fault _ _ c.in_ok-machine.machine (open_fault c.args.options.columns c.args.options.feed c.args.options.keep) c.in_ok-machine.ensures.fault;
     }
 
@@ -28,6 +29,7 @@ loop-event-preserved c =
     ∙ ap (λ (e : Event). take c.loop-event.event-index c.args.events.now ++ e ∷ []) (sym c.event-item.is) in
     record {
       columns = c.event-outcome.ensures.columns ∙ c.loop-event.invariant.columns;
+      bounds = (c.event-outcome.ensures.bounds.0 ∙ c.loop-event.invariant.bounds.0, c.event-outcome.ensures.bounds.1 ∙ c.loop-event.invariant.bounds.1);
       opened = c.loop-event.invariant.opened;
       told = (
         happening c.event-item.result c.event-outcome.result 0 ∷ h,
@@ -59,3 +61,6 @@ pub returns-clause-length : goal.returns-clause-length
 returns-clause-length c =
     let told = c.loop-event.invariant.told in
     GoesOn-length [] told.0 _ c.loop-event.outcomes.items told.1 ∙ ap length (take_all c.loop-event.event-index c.args.events.now c.loop-event-test.false)
+
+pub returns-clause-bounds : goal.returns-clause-bounds
+returns-clause-bounds c = c.loop-event.invariant.bounds

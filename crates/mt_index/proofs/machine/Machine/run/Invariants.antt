@@ -1,7 +1,7 @@
 use Rattle.std.proofs.Common.{◌≡◌, [], take}
 use Rattle.mt_promise.specs.History.{History, GoesOn}
 use Rattle.mt_types.specs.Limits.{open_fault}
-use Rattle.mt_index.specs.Stands.{Stands}
+use Rattle.mt_index.specs.Stands.{Stands, HasBounds}
 use Rattle.std.proofs.Common.{None}
 use Rattle.mt_index.proofs.machine.Machine.run.Given as goal
 
@@ -10,5 +10,6 @@ abbrev pub invariant-loop-event : goal.invariant-loop-event
 invariant-loop-event l = record {
   told : (h : History) × GoesOn [] (take l.event-index l.events) l.outcomes.items h × Stands l.machine h;
   columns : l.machine.columns ≡ l.fn.options.columns;
+  bounds : HasBounds l.fn.options.feed l.fn.options.keep l.machine.log;
   opened : open_fault l.fn.options.columns l.fn.options.feed l.fn.options.keep ≡ None;
 }

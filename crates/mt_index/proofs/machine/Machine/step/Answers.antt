@@ -1,38 +1,27 @@
-use Rattle.std.proofs.Common.{refl, ap}
-use Rattle.mt_types.specs.declared.event.Outcome.TheVariants.{Done}
-use Rattle.mt_calls.specs.declared.progress.Progress.TheVariants.{Moved, Waits, Committed, Answered, Refused}
-use Rattle.mt_index.proofs.EventStands.{may_step, taken-steps, taken-stands}
+use Rattle.std.proofs.Common.{◌∙◌, ℕ, List, ap, sym, subst}
+use Rattle.mt_commit.specs.Log.{trimmed}
+use Rattle.mt_index.specs.Stands.{MachineView, HasBounds}
+use Rattle.mt_index.proofs.EventStands.{may_step, may_settle, step_bounds, settled_bounds, taken-steps, taken-stands, seen}
 use Rattle.mt_index.proofs.machine.Machine.step.Goals as goal
 
 pub step-requires : goal.step-requires
-step-requires c = let (h, st) = c.self.invariant in may_step _ h c.args.number st
+step-requires c = let (h, st) = c.self.invariant in may_step (seen c.self.inside.columns c.self.inside.epoch c.self.inside.tree c.self.inside.log c.self.inside.calls) h c.args.number st
 
-pub invariant_of-self-in-Moved : goal.invariant_of-self-in-Moved
-invariant_of-self-in-Moved c = taken-stands c.self.inside.columns c.self.inside.epoch c.self.inside.tree c.step.new.tree c.self.inside.log c.step.new.log c.self.inside.calls c.step.new.self c.step.new.self c.args.number c.in-Some.stepped.pass c.in-Some.stepped.from c.in-Some.stepped.progress Moved c.in-Moved.is c.in-Some.ensures.steps refl c.self.invariant
+pub settle-outcome-requires : goal.settle-outcome-requires
+settle-outcome-requires c = let (h, st) = c.self.invariant in may_settle (seen c.self.inside.columns c.self.inside.epoch c.self.inside.tree c.self.inside.log c.self.inside.calls) h c.args.number c.step.new.self c.step.new.tree c.step.new.log c.in-Some.stepped.pass c.in-Some.stepped.reads c.in-Some.stepped.from c.in-Some.stepped.progress c.in-Some.ensures.steps st
 
-pub returns-in-Moved : goal.returns-in-Moved
-returns-in-Moved c = record { steps = taken-steps c.self.inside.columns c.self.inside.epoch c.self.inside.tree c.step.new.tree c.self.inside.log c.step.new.log c.self.inside.calls c.step.new.self c.step.new.self c.args.number c.in-Some.stepped.pass c.in-Some.stepped.from c.in-Some.stepped.progress Moved c.in-Moved.is c.in-Some.ensures.steps refl c.args.self.now _ c.self.view_is refl }
+pub invariant_of-self-2 : goal.invariant_of-self-2
+invariant_of-self-2 c = taken-stands c.self.inside.columns c.self.inside.epoch c.self.inside.tree c.step.new.tree c.self.inside.log c.step.new.log c.self.inside.calls c.step.new.self c.settle-outcome.new.calls c.args.number c.in-Some.stepped.pass c.in-Some.stepped.reads c.in-Some.stepped.from c.in-Some.stepped.progress c.in-Some.ensures.steps c.settle-outcome.ensures.calls c.settle-outcome.new.log c.settle-outcome.ensures.log c.number-sound.ensures.sound
+    c.trim.new.self c.trim.ensures.after c.self.invariant
 
-pub invariant_of-self-in-Waits : goal.invariant_of-self-in-Waits
-invariant_of-self-in-Waits c = taken-stands c.self.inside.columns c.self.inside.epoch c.self.inside.tree c.step.new.tree c.self.inside.log c.step.new.log c.self.inside.calls c.step.new.self c.step.new.self c.args.number c.in-Some.stepped.pass c.in-Some.stepped.from c.in-Some.stepped.progress Waits c.in-Waits.is c.in-Some.ensures.steps refl c.self.invariant
+pub returns-clause-steps : goal.returns-clause-steps
+returns-clause-steps c = taken-steps c.self.inside.columns c.self.inside.epoch c.self.inside.tree c.step.new.tree c.self.inside.log c.step.new.log c.self.inside.calls c.step.new.self c.settle-outcome.new.calls c.args.number c.in-Some.stepped.pass c.in-Some.stepped.reads c.in-Some.stepped.from c.in-Some.stepped.progress c.in-Some.ensures.steps c.settle-outcome.ensures.calls c.settle-outcome.new.log c.settle-outcome.ensures.log c.number-sound.ensures.sound
+    c.args.self.now c.settle-outcome.result c.trim.new.self c.trim.ensures.after c.self.view_is c.settle-outcome.ensures.outcome
 
-pub returns-in-Waits : goal.returns-in-Waits
-returns-in-Waits c = record { steps = taken-steps c.self.inside.columns c.self.inside.epoch c.self.inside.tree c.step.new.tree c.self.inside.log c.step.new.log c.self.inside.calls c.step.new.self c.step.new.self c.args.number c.in-Some.stepped.pass c.in-Some.stepped.from c.in-Some.stepped.progress Waits c.in-Waits.is c.in-Some.ensures.steps refl c.args.self.now _ c.self.view_is refl }
-
-pub invariant_of-self-in-Committed : goal.invariant_of-self-in-Committed
-invariant_of-self-in-Committed c = taken-stands c.self.inside.columns c.self.inside.epoch c.self.inside.tree c.step.new.tree c.self.inside.log c.step.new.log c.self.inside.calls c.step.new.self c.step.new.self c.args.number c.in-Some.stepped.pass c.in-Some.stepped.from c.in-Some.stepped.progress (Committed c.in-Committed.commit) c.in-Committed.is c.in-Some.ensures.steps refl c.self.invariant
-
-pub returns-in-Committed : goal.returns-in-Committed
-returns-in-Committed c = record { steps = taken-steps c.self.inside.columns c.self.inside.epoch c.self.inside.tree c.step.new.tree c.self.inside.log c.step.new.log c.self.inside.calls c.step.new.self c.step.new.self c.args.number c.in-Some.stepped.pass c.in-Some.stepped.from c.in-Some.stepped.progress (Committed c.in-Committed.commit) c.in-Committed.is c.in-Some.ensures.steps refl c.args.self.now _ c.self.view_is refl }
-
-pub invariant_of-self-in-Answered : goal.invariant_of-self-in-Answered
-invariant_of-self-in-Answered c = taken-stands c.self.inside.columns c.self.inside.epoch c.self.inside.tree c.step.new.tree c.self.inside.log c.step.new.log c.self.inside.calls c.step.new.self c.end.new.self c.args.number c.in-Some.stepped.pass c.in-Some.stepped.from c.in-Some.stepped.progress (Answered c.in-Answered.answer) c.in-Answered.is c.in-Some.ensures.steps c.end.ensures c.self.invariant
-
-pub returns-in-Answered : goal.returns-in-Answered
-returns-in-Answered c = record { steps = taken-steps c.self.inside.columns c.self.inside.epoch c.self.inside.tree c.step.new.tree c.self.inside.log c.step.new.log c.self.inside.calls c.step.new.self c.end.new.self c.args.number c.in-Some.stepped.pass c.in-Some.stepped.from c.in-Some.stepped.progress (Answered c.in-Answered.answer) c.in-Answered.is c.in-Some.ensures.steps c.end.ensures c.args.self.now _ c.self.view_is (ap (λ to. Done (record { pass = c.in-Some.stepped.pass; call = record { 0 = c.args.number }; from = c.in-Some.stepped.from; to = to; answer = c.in-Answered.answer })) c.number.ensures.value) }
-
-pub invariant_of-self-in-Refused : goal.invariant_of-self-in-Refused
-invariant_of-self-in-Refused c = taken-stands c.self.inside.columns c.self.inside.epoch c.self.inside.tree c.step.new.tree c.self.inside.log c.step.new.log c.self.inside.calls c.step.new.self c.end-in-Refused.new.self c.args.number c.in-Some.stepped.pass c.in-Some.stepped.from c.in-Some.stepped.progress (Refused c.in-Refused.refusal) c.in-Refused.is c.in-Some.ensures.steps c.end-in-Refused.ensures c.self.invariant
-
-pub returns-in-Refused : goal.returns-in-Refused
-returns-in-Refused c = record { steps = taken-steps c.self.inside.columns c.self.inside.epoch c.self.inside.tree c.step.new.tree c.self.inside.log c.step.new.log c.self.inside.calls c.step.new.self c.end-in-Refused.new.self c.args.number c.in-Some.stepped.pass c.in-Some.stepped.from c.in-Some.stepped.progress (Refused c.in-Refused.refusal) c.in-Refused.is c.in-Some.ensures.steps c.end-in-Refused.ensures c.args.self.now _ c.self.view_is refl }
+pub returns-clause-bounds : goal.returns-clause-bounds
+returns-clause-bounds c =
+    let (h, st) = c.self.invariant in
+    let same = step_bounds (seen c.self.inside.columns c.self.inside.epoch c.self.inside.tree c.self.inside.log c.self.inside.calls) h c.args.number c.step.new.self c.step.new.tree c.step.new.log c.in-Some.stepped.pass c.in-Some.stepped.reads c.in-Some.stepped.from c.in-Some.stepped.progress c.in-Some.ensures.steps st in
+    subst (λ (s : MachineView). HasBounds s.log.feed s.log.keep c.trim.new.self) c.self.view_is
+    (subst (HasBounds c.self.inside.log.feed c.self.inside.log.keep) (sym (c.trim.ensures.after ∙ ap trimmed c.settle-outcome.ensures.log))
+    (settled_bounds c.in-Some.stepped.reads c.in-Some.stepped.from c.in-Some.stepped.progress c.step.new.log _ _ (ap (λ (b : List ℕ × ℕ × ℕ). b.1) same, ap (λ (b : List ℕ × ℕ × ℕ). b.2) same)))

@@ -1,3 +1,7 @@
+use Rattle.std.proofs.Common.{subst}
+use Rattle.mt_calls.specs.Step.{MayStep}
+use Rattle.mt_write.specs.declared.work.Work.{Work}
+use Rattle.mt_write.specs.Works.{held, IsTrue}
 use Rattle.mt_write.proofs.WorkLemmas.{step_get, step_write, step_range}
 use Rattle.mt_write.proofs.work.Work.step.Goals as goal
 
@@ -9,3 +13,9 @@ returns-in-Write-clause-steps c = step_write c.args.columns c.args.tree.now c.st
 
 pub returns-in-Range-clause-steps : goal.returns-in-Range-clause-steps
 returns-in-Range-clause-steps c = step_range c.args.columns c.args.tree.now c.args.tree.now c.args.log.now c.args.log.now c.args.self.now c.in-Range.range _ _ _ c.in-Range.is (c.step-in-Range.ensures.steps c.args.columns c.args.log.now)
+
+pub step-requires : goal.step-requires
+step-requires c = (c.args.log.now, subst (λ (x : Work). MayStep c.args.tree.now c.args.log.now (held x) (IsTrue c.args.columns x)) c.in-Get.is c.requires)
+
+pub step-requires-in-Range : goal.step-requires-in-Range
+step-requires-in-Range c = (c.args.log.now, subst (λ (x : Work). MayStep c.args.tree.now c.args.log.now (held x) (IsTrue c.args.columns x)) c.in-Range.is c.requires)

@@ -3,7 +3,7 @@ use Rattle.mt_write.specs.declared.writing.Stage.TheVariants.{Filled, Made, Take
 use Rattle.mt_write.proofs.PostLemmas.{headed}
 use Rattle.mt_write.specs.declared.writing.Stage.{Stage}
 use Rattle.mt_write.specs.Causes.{StageFails}
-use Rattle.mt_write.proofs.WriteLemmas.{shows, writes, hides, at_stage, room_at}
+use Rattle.mt_write.proofs.WriteLemmas.{shows, writes, hides, at_stage, room_at, may_at}
 use Rattle.mt_write.proofs.writing.Write.step.Goals as goal
 
 pub returns-in-Seeks-clause-steps : goal.returns-in-Seeks-clause-steps
@@ -100,3 +100,33 @@ pub returns-in-Posts-clause-fails : goal.returns-in-Posts-clause-fails
 returns-in-Posts-clause-fails c =
     subst (λ (s : Stage). StageFails c.args.tree.now c.args.log.now c.args.self.now.key c.args.self.now.edit c.args.self.now.way s c.post.result c.post.new.self.stage) (sym (sym c.replace.ensures.value ∙ c.in-Posts.is))
     (c.post.ensures.fails c.args.log.now)
+
+pub seek-requires-clause-may : goal.seek-requires-clause-may
+seek-requires-clause-may c = (c.args.columns, c.args.log.now, may_at c.args.columns c.args.tree.now c.args.log.now c.args.self.now.key c.args.self.now.edit c.args.self.now.way c.args.self.now.head _ c.args.self.now.stage (sym c.replace.ensures.value ∙ c.in-Seeks.is ∙ sym c.replace.ensures.after) c.requires)
+
+pub fill_spared-requires : goal.fill_spared-requires
+fill_spared-requires c = record { may = (c.args.columns, c.args.log.now, may_at c.args.columns c.args.tree.now c.args.log.now c.args.self.now.key c.args.self.now.edit c.args.self.now.way c.args.self.now.head _ c.args.self.now.stage (sym c.replace.ensures.value ∙ c.in-Spared.is) c.requires) }
+
+pub link-requires : goal.link-requires
+link-requires c = record { may = (c.args.columns, c.args.log.now, may_at c.args.columns c.args.tree.now c.args.log.now c.args.self.now.key c.args.self.now.edit c.args.self.now.way c.args.self.now.head _ c.args.self.now.stage (sym c.replace.ensures.value ∙ c.in-HalfFilled.is) c.requires) }
+
+pub post-requires : goal.post-requires
+post-requires c = record { may = (c.args.columns, c.args.log.now, may_at c.args.columns c.args.tree.now c.args.log.now c.args.self.now.key c.args.self.now.edit c.args.self.now.way c.args.self.now.head _ c.args.self.now.stage (sym c.replace.ensures.value ∙ c.in-Posts.is) c.requires) }
+
+pub fill_root-requires : goal.fill_root-requires
+fill_root-requires c = record { may = (c.args.columns, c.args.log.now, may_at c.args.columns c.args.tree.now c.args.log.now c.args.self.now.key c.args.self.now.edit c.args.self.now.way c.args.self.now.head _ c.args.self.now.stage (sym c.replace.ensures.value ∙ c.in-LayerSpared.is) c.requires) }
+
+pub unlock_head-requires : goal.unlock_head-requires
+unlock_head-requires c = record { may = (c.args.columns, c.args.log.now, may_at c.args.columns c.args.tree.now c.args.log.now c.args.self.now.key c.args.self.now.edit c.args.self.now.way c.args.self.now.head _ c.args.self.now.stage (sym c.replace.ensures.value ∙ c.in-LayerFilled.is) c.requires) }
+
+pub link_layer-requires : goal.link_layer-requires
+link_layer-requires c = record { may = (c.args.columns, c.args.log.now, may_at c.args.columns c.args.tree.now c.args.log.now c.args.self.now.key c.args.self.now.edit c.args.self.now.way c.args.self.now.head _ c.args.self.now.stage (sym c.replace.ensures.value ∙ c.in-LayerReady.is) c.requires) }
+
+pub go_below-requires : goal.go_below-requires
+go_below-requires c = record { may = (c.args.columns, c.args.log.now, may_at c.args.columns c.args.tree.now c.args.log.now c.args.self.now.key c.args.self.now.edit c.args.self.now.way c.args.self.now.head _ c.args.self.now.stage (sym c.replace.ensures.value ∙ c.in-Layered.is) c.requires) }
+
+pub end_stored-requires-clause-may : goal.end_stored-requires-clause-may
+end_stored-requires-clause-may c = (c.args.columns, c.args.log.now, may_at c.args.columns c.args.tree.now c.args.log.now c.args.self.now.key c.args.self.now.edit c.args.self.now.way c.args.self.now.head _ c.args.self.now.stage (sym c.replace.ensures.value ∙ c.in-Stored.is) c.requires)
+
+pub end_failed-requires : goal.end_failed-requires
+end_failed-requires c = record { may = (c.args.columns, c.args.log.now, may_at c.args.columns c.args.tree.now c.args.log.now c.args.self.now.key c.args.self.now.edit c.args.self.now.way c.args.self.now.head _ c.args.self.now.stage (sym c.replace.ensures.value ∙ c.in-Failed.is) c.requires) }
