@@ -71,6 +71,7 @@ use Rattle.mt_index.specs.Stands.{MachineView, CallStands, WasBlocked, HasRowsOf
 use Rattle.mt_index.proofs.NumberLemmas.{Entries}
 use Rattle.mt_index.proofs.PairedLemmas.{Found, paired-some, paired-none, paired-above, paired-append, paired-length}
 use Rattle.mt_index.proofs.ListLemmas.{reserves, among_before, among_append, total_append, total_changed, total_without, without_changed}
+use Rattle.mt_index.proofs.NumberLemmas.{or_none, not_broken}
 use Rattle.mt_index.proofs.LogStands.{holds_from, froms, holders_after, log_after_is, pinned_is, least_pinned, held_less, held_more, reader_holds, length_by_counts, slowest_is, all-held, was_later}
 use Rattle.mt_index.proofs.StepStands.{HoldersAre, held_before, step_event, may_end, right_answer, apart_changed, apart_without, owned_on, owned_end, next_seen, calls_on, calls_end, content_still, still, commit_stands}
 use Rattle.mt_index.proofs.PastLemmas.{past_later, past_new}
@@ -393,14 +394,6 @@ few_hold s h st =
     omega (arith, as_many, none, read, fewer, counted, all)
 
 -- a call that can begin finds fewer open than there may be
-or_none : (x y : Option Refusal) → option_or x y ≡ None → y ≡ None
-or_none None y e = e
-or_none (Some r) y e = absurd (let clash : ◌≡◌ {A = Option Refusal} (Some r) None = e in cc)
-
-not_broken : (broken : Bool) (refusal : Refusal) (y : Option Refusal) → option_or (refused_if broken refusal) y ≡ None → broken ≡ false
-not_broken false refusal y e = refl
-not_broken true refusal y e = absurd (let clash : ◌≡◌ {A = Option Refusal} (Some refusal) None = e in cc)
-
 pub begun_few : (C begun opened places : ℕ) (request : Request) → begin_fault C begun opened places request ≡ None → opened < MAX_OPEN_CALLS
 begun_few C begun opened places request none =
     leb-false MAX_OPEN_CALLS opened (not_broken (nat_le MAX_OPEN_CALLS opened) TooManyCalls _ (or_none (refused_if (nat_le greatest_number begun) Spent) _ (or_none (request_fault C request) _ none)))

@@ -42,7 +42,7 @@ log_fits s h st =
     (ap (λ (m : ℕ). drop m (deltas_of s.columns (moment h).commits)) bound ∙ sym st.logged)
     (trimming_fits (whole s h) (rows s.columns (moment h)) (all_fit s.columns 0 empty (moment h).commits))
 
-slice_get-drop : (n i : ℕ) (l : List Delta) → slice_get (drop n l) i ≡ slice_get l (n + i)
+pub slice_get-drop : (n i : ℕ) (l : List Delta) → slice_get (drop n l) i ≡ slice_get l (n + i)
 slice_get-drop zero i l = let e : i ≡ 0 + i = omega arith in ap (slice_get l) e
 slice_get-drop (suc n) i [] = refl
 slice_get-drop (suc n) i (d ∷ l) = let e : suc (n + i) ≡ suc n + i = omega arith in slice_get-drop n i l ∙ ap (slice_get (d ∷ l)) e

@@ -8,3 +8,4 @@ pub mod EventStands
 pub mod CauseLemmas
 pub mod DeltaLemmas
 pub mod LawLemmas
+pub mod FeedLemmas

@@ -1,5 +1,8 @@
 -- Calls by their numbers: what the map of open calls finds, takes in and leaves.
-use Rattle.std.proofs.Common.{◌≡◌, ◌<◌, ◌+◌, ◌==◌, ℕ, false, Bool, true, cond, List, [], ◌∷◌, ◌++◌, Some, sym, ◌∙◌, ap, subst, refl, arith, inl, inr}
+use Rattle.std.proofs.Common.{◌≡◌, ◌<◌, ◌+◌, ◌==◌, ℕ, false, Bool, true, cond, List, [], ◌∷◌, ◌++◌, Some, sym, ◌∙◌, ap, subst, refl, arith, inl, inr, Option, None}
+use Rattle.std.specs.Option.{option_or}
+use Rattle.mt_types.specs.Limits.{refused_if}
+use Rattle.mt_types.specs.declared.refusal.Refusal.{Refusal}
 use Rattle.std.specs.Prelude.{eqb}
 use Rattle.std.specs.declared.cmp.Ordering.TheVariants.{Less, Equal, Greater}
 use Rattle.std.specs.Cmp.{nat_cmp_is, ranks}
@@ -113,3 +116,12 @@ begun-without number begun (entry ∷ entries) below =
 pub begun-append : (begun : ℕ) (call : Call) (entries : Entries) → AreBegun begun entries → AreBegun (begun + 1) (entries ++ (begun + 1, call) ∷ [])
 begun-append begun call [] h = (omega arith, tt)
 begun-append begun call (entry ∷ entries) h = let low = h.0 in (omega arith, begun-append begun call entries h.1)
+
+-- ---- what is refused for no cause
+pub or_none : (x y : Option Refusal) → option_or x y ≡ None → y ≡ None
+or_none None y e = e
+or_none (Some r) y e = absurd (let clash : ◌≡◌ {A = Option Refusal} (Some r) None = e in cc)
+
+pub not_broken : (broken : Bool) (refusal : Refusal) (y : Option Refusal) → option_or (refused_if broken refusal) y ≡ None → broken ≡ false
+not_broken false refusal y e = refl
+not_broken true refusal y e = absurd (let clash : ◌≡◌ {A = Option Refusal} (Some refusal) None = e in cc)

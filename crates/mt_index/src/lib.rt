@@ -3,6 +3,7 @@
 #![tactic(auto)]
 
 mod calls;
+mod feed;
 pub mod laws;
 pub mod machine;
 pub mod options;

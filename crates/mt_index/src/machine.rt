@@ -1,17 +1,19 @@
 //! The machine over the whole tree: events in, outcomes out, one visit of one node an event.
 
-ghost use Rattle.std.specs.Prelude.{◌≡◌, ◌↔◌, ◌<◌, [], ◌∷◌, IsTrue, Contains, OnOk, OnErr, length, IfOk, IfErr, MatchOption, All, Some, None, Err};
+ghost use Rattle.std.specs.Prelude.{◌≡◌, ◌↔◌, ◌<◌, [], ◌∷◌, take, drop, IsTrue, Contains, OnOk, OnErr, length, IfOk, IfErr, MatchOption, All, Some, None, Err};
 ghost use Rattle.mt_types.specs.Limits.{open_fault};
 ghost use Rattle.mt_promise.specs.History.{History, happening, moment};
 ghost use Rattle.mt_promise.specs.Legal.{begin_fault};
 ghost use Rattle.mt_arena.specs.Node.{occupied};
 ghost use Rattle.mt_write.specs.Works.{IsServedRequest};
 ghost use Rattle.mt_index.specs.Causes.{IsCaused};
+ghost use Rattle.mt_index.specs.Logged.{deltas_of, feed_fault};
 ghost use Rattle.mt_commit.specs.Log.{newest};
 ghost use Rattle.mt_commit.specs.declared.log.TheConstants.{MAX_HOLDERS};
 ghost use Rattle.mt_index.specs.Stands.{Stands, IsServed, Begins, Steps, IsRun, HasBounds, pinned, released, outcome_of, calls_after, log_after};
 
 use crate::calls::{Call, Calls, Stepped};
+use crate::feed::deltas_after;
 use crate::options::Options;
 use mt_calls::progress::Progress;
 use mt_commit::log::Log;
@@ -20,6 +22,7 @@ use mt_types::event::{Event, Outcome, Reply, Request};
 use mt_types::limits::{MAX_NODES, MAX_OPEN_CALLS, open_fault, request_fault};
 use mt_types::numbers::{CallNo, PassNo};
 use mt_types::refusal::{NoMemory, Refusal};
+use mt_types::row::Delta;
 use mt_write::work::work_of;
 use std::alloc::Global;
 use std::marker::Model;
@@ -178,6 +181,23 @@ impl Machine {
         ensures { result ≡ occupied self.now.tree.nodes }
     {
         MAX_NODES as usize - self.tree.free_numbers()
+    }
+
+    /// The deltas of the commits after the first `from`, in their order, `limit` at most: each with its number, its key, and
+    /// the rows that the key had before and has after it. None where there are none.
+    ///
+    /// Costs an allocation or two for each of them; a list of them grows by doubling.
+    ///
+    /// # Errors
+    ///
+    /// `BadLimit` unless `limit` is from 1 to 1000. `Behind` where some of these deltas were trimmed, with the number from
+    /// which on they are there: the log keeps what open ranges hold, and the last `keep` of its options. Else `NoMemory` for
+    /// want of it.
+    pub fn feed(&self, alloc: Global, from: u64, limit: u16) -> Result<Vec<Delta>, Refusal>
+        ensures tells { IfOk result (λ deltas. (h : History) → Stands self.now h → deltas.items ≡ take limit (drop from (deltas_of self.now.columns (moment h).commits))) }
+        ensures fault { MatchOption (feed_fault self.now.log from limit) (IfErr result (λ refusal. refusal ≡ Refusal.NoMemory)) (λ refusal. result ≡ Err refusal) }
+    {
+        deltas_after(alloc, &self.log, from, limit)
     }
 
     fn begin(&mut self, alloc: Global, pass: PassNo, request: &Request) -> Outcome

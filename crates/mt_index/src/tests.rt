@@ -1,4 +1,5 @@
-//! Each public call of the machine once: a put of a long key that commits, and a run of a get. Whole scripts are run one crate up.
+//! Each public call of the machine once: a put of a long key that commits, with its delta, and a run of a get. Whole scripts are run one crate
+//! up.
 
 ghost use Rattle.std.specs.Prelude.{IfOk};
 ghost use Rattle.mt_index.specs.Stands.{IsServed};
@@ -15,7 +16,7 @@ use std::test::Fail;
 const OPTIONS: Options = Options {
     columns: 1,
     feed: 4096,
-    keep: 0,
+    keep: 1,
 };
 
 // A get of all columns, by pass 2.
@@ -70,6 +71,9 @@ fn put_commits(rt: HostRuntime) -> Result<(), Fail> {
     assert_eq!(rt; commit_of(step(&mut machine, alloc, 1)), Some(1));
     assert_eq!(rt; machine.open_calls(), 1);
     assert_eq!(rt; machine.nodes(), 2);
+    let deltas = machine.feed(alloc, 0, 10)?;
+    assert_eq!(rt; deltas.len(), 1);
+    assert_eq!(rt; deltas[0].number, 1);
     Ok(())
 }
 
