@@ -10,7 +10,6 @@ use Rattle.mt_post.specs.declared.posting.Posting.{Posting}
 use Rattle.mt_post.specs.declared.posting.Progressed.{Progressed}
 use Rattle.mt_post.specs.declared.posting.Progressed.TheVariants.{Waits, Ended}
 use Rattle.mt_post.specs.declared.posting.Root.{Root}
-use Rattle.mt_post.specs.declared.posting.Split.{Split}
 use Rattle.mt_post.specs.declared.posting.PostStage.{PostStage}
 use Rattle.mt_post.specs.declared.posting.PostStage.TheVariants.{Walks, RootWanted, RootFilled, LetGo}
 
@@ -28,11 +27,10 @@ PostStageWaits a _ _ = Unit {0}
 abbrev pub IsPosted : ArenaView → ArenaView → ℕ → Posting → Type 0
 IsPosted a after number posting = after ≡ with_interior_changed a number (λ interior. with_child interior (record { low = posting.low; node = posting.half; level = 0 }))
 
--- a node where what is to be named may be left out: a head that is marked deleted, or a full interior of the greatest level, or any full one
--- where that is the new half of an interior
-abbrev pub CanLeaveOut : ArenaView → ℕ → Option Split → Type 0
-CanLeaveOut a number split = IsSomeAnd (head_at a.nodes number) (λ head. head.version.deleted ≡ true)
-    ⊎ IsSomeAnd (interior_at a.nodes number) (λ interior. (length interior.children ≡ MAX_CHILDREN) × ((interior.level ≡ MAX_LEVEL) ⊎ IsSome split))
+-- a node where what is to be named may be left out: a head that is marked deleted, or a full interior of the greatest level
+abbrev pub CanLeaveOut : ArenaView → ℕ → Type 0
+CanLeaveOut a number = IsSomeAnd (head_at a.nodes number) (λ head. head.version.deleted ≡ true)
+    ⊎ IsSomeAnd (interior_at a.nodes number) (λ interior. (length interior.children ≡ MAX_CHILDREN) × (interior.level ≡ MAX_LEVEL))
 
 -- the interior is neither marked deleted nor locked, and is full
 pub record IsFullAt (a : ArenaView) (number : ℕ) : Type 0 where
@@ -61,7 +59,7 @@ pub record IsRootStill (a : ArenaView) (number : ℕ) (root : Root) : Type 0 whe
 -- A posting ends where an interior that has room, or a new root, names the border; or it is left out: where it can be, or where no number
 -- or no memory is had for a new root or a new half.
 abbrev pub PostStageEnds : ArenaView → ArenaView → Posting → PostStage → Progressed → Type 0
-PostStageEnds a after posting (Walks node) Ended = IsPosted a after node.0 posting ⊎ ((after ≡ a) × CanLeaveOut a node.0 None)
+PostStageEnds a after posting (Walks node) Ended = IsPosted a after node.0 posting ⊎ ((after ≡ a) × CanLeaveOut a node.0)
 PostStageEnds a after posting (RootWanted old) Ended = after ≡ a
 PostStageEnds a after posting (RootFilled old root) Ended = after ≡ with_head_changed a posting.head.0 (λ head. with_root head root 1)
 PostStageEnds a after posting (LetGo interior) Ended = after ≡ with_interior_changed a interior.0 (λ x. with_lock x false)

@@ -6,6 +6,8 @@ ghost use Rattle.mt_arena.specs.Arena.{IsArena};
 ghost use Rattle.mt_post.specs.Posting.{PostLaw, MayPost, NewPostingIsTrue, goal};
 ghost use Rattle.mt_post.specs.Causes.{PostWaits, PostEnds, CanLeaveOut, IsFullAt, HasRoomAt, IsRootStill};
 
+use crate::split::Split;
+use crate::waiting::Waiting;
 use mt_arena::Node;
 use mt_interior::{Child, Interior, KEPT_CHILDREN};
 use mt_tree::Tree;
@@ -17,14 +19,6 @@ use mt_types::numbers::NodeNo;
 pub struct Root {
     pub node: NodeNo,
     pub level: u8,
-}
-
-/// The split of a full interior.
-#[derive(Clone, Copy)]
-pub struct Split {
-    pub interior: NodeNo,
-    /// Its new half, as the child of an interior above.
-    pub half: Child,
 }
 
 /// How far a posting is.
@@ -46,7 +40,7 @@ pub enum PostStage {
     HalfSpared { interior: NodeNo, half: NodeNo },
     /// The new half is left out: its number is to be given back.
     HalfLeftOut(Split),
-    /// The interior is to be unlocked, and the border left out.
+    /// The interior is to be unlocked, and what was to be named in it left out.
     LetGo(NodeNo),
     /// The new half is named: the interior is to keep the first of its children.
     HalfPosted(Split),
@@ -66,7 +60,7 @@ pub enum Progressed {
 }
 
 /// The posting of a border that was split off another, by the call that has locked it.
-#[derive(Clone, Copy)]
+#[derive(Drop)]
 pub struct Posting {
     /// The head of the layer.
     pub head: NodeNo,
@@ -74,8 +68,8 @@ pub struct Posting {
     pub half: NodeNo,
     /// Its low.
     pub low: u64,
-    /// The interior that it splits, whose new half is to be posted first.
-    pub split: Option<Split>,
+    /// The interiors that it splits, whose new halves are to be posted first.
+    pub waiting: Waiting,
     pub stage: PostStage,
 }
 
@@ -91,16 +85,16 @@ impl Posting {
             head,
             half,
             low,
-            split: None,
+            waiting: Waiting::new(),
             stage: PostStage::Walks(head),
         }
     }
 
-    // What is to be named: the border, or the new half of the interior that is split.
+    // What is to be named: the newest of the new halves that wait, or else the border.
     fn goal(&self) -> Child
-        ensures { result ≡ goal self.now.half self.now.low self.now.split }
+        ensures { result ≡ goal self.now.half self.now.low self.now.waiting }
     {
-        match self.split {
+        match self.waiting.newest() {
             None => Child {
                 low: self.low,
                 node: self.half,
@@ -113,17 +107,16 @@ impl Posting {
     // What is to be named is left out, at a node that is seen.
     fn leave_out(&mut self, tree: &Tree, node: NodeNo) -> Progressed
         requires walks { self.old.stage ≡ PostStage.Walks node }
-        requires cause { CanLeaveOut tree.now node.0 self.old.split }
+        requires cause { CanLeaveOut tree.now node.0 }
         requires may { MayPost tree.now self.old }
-        ensures same { self.new ≡ record self.old { split = self.new.split; stage = self.new.stage } }
+        ensures same { self.new ≡ record self.old { waiting = self.new.waiting; stage = self.new.stage } }
         ensures steps { PostLaw tree.now tree.now self.old result self.new }
         ensures waits { PostWaits tree.now self.old result }
         ensures ends { PostEnds tree.now tree.now self.old result }
     {
-        let Some(split) = self.split else {
+        let Some(split) = self.waiting.pop() else {
             return Progressed::Ended;
         };
-        self.split = None;
         self.stage = PostStage::HalfLeftOut(split);
         Progressed::Moved
     }
@@ -133,7 +126,7 @@ impl Posting {
         requires walks { self.old.stage ≡ PostStage.Walks node }
         requires head { IsSome (head_at tree.now.nodes node.0) }
         requires may { MayPost tree.now self.old }
-        ensures same { self.new ≡ record self.old { split = self.new.split; stage = self.new.stage } }
+        ensures same { self.new ≡ record self.old { waiting = self.new.waiting; stage = self.new.stage } }
         ensures steps { PostLaw tree.now tree.now self.old result self.new }
         ensures waits { PostWaits tree.now self.old result }
         ensures ends { PostEnds tree.now tree.now self.old result }
@@ -157,32 +150,31 @@ impl Posting {
         requires walks { self.old.stage ≡ PostStage.Walks node }
         requires room { HasRoomAt tree.old self.old node.0 }
         requires may { MayPost tree.old self.old }
-        ensures same { self.new ≡ record self.old { split = self.new.split; stage = self.new.stage } }
+        ensures same { self.new ≡ record self.old { waiting = self.new.waiting; stage = self.new.stage } }
         ensures steps { PostLaw tree.old tree.new self.old result self.new }
         ensures waits { PostWaits tree.old self.old result }
         ensures ends { PostEnds tree.old tree.new self.old result }
     {
-        let Some(split) = self.split else {
+        let Some(split) = self.waiting.pop() else {
             tree.post_border(node, self.half);
             return Progressed::Ended;
         };
         tree.post_half(node, split.half.node);
-        self.split = None;
         self.stage = PostStage::HalfPosted(split);
         Progressed::Moved
     }
 
-    // At an interior that is full: it is locked, to be split, but for one of the greatest level, or met for a new half.
+    // At an interior that is full: it is locked, to be split, but for one of the greatest level.
     fn meet_full(&mut self, tree: &mut Tree, node: NodeNo) -> Progressed
         requires walks { self.old.stage ≡ PostStage.Walks node }
         requires full { IsFullAt tree.old node.0 }
         requires may { MayPost tree.old self.old }
-        ensures same { self.new ≡ record self.old { split = self.new.split; stage = self.new.stage } }
+        ensures same { self.new ≡ record self.old { waiting = self.new.waiting; stage = self.new.stage } }
         ensures steps { PostLaw tree.old tree.new self.old result self.new }
         ensures waits { PostWaits tree.old self.old result }
         ensures ends { PostEnds tree.old tree.new self.old result }
     {
-        if self.split.is_some() || tree.interior(node).level() == MAX_LEVEL {
+        if tree.interior(node).level() == MAX_LEVEL {
             return self.leave_out(tree, node);
         }
         tree.lock_interior(node);
@@ -195,7 +187,7 @@ impl Posting {
         requires walks { self.old.stage ≡ PostStage.Walks node }
         requires interior { IsSome (interior_at tree.old.nodes node.0) }
         requires may { MayPost tree.old self.old }
-        ensures same { self.new ≡ record self.old { split = self.new.split; stage = self.new.stage } }
+        ensures same { self.new ≡ record self.old { waiting = self.new.waiting; stage = self.new.stage } }
         ensures steps { PostLaw tree.old tree.new self.old result self.new }
         ensures waits { PostWaits tree.old self.old result }
         ensures ends { PostEnds tree.old tree.new self.old result }
@@ -225,7 +217,7 @@ impl Posting {
     fn visit(&mut self, tree: &mut Tree, node: NodeNo) -> Progressed
         requires walks { self.old.stage ≡ PostStage.Walks node }
         requires may { MayPost tree.old self.old }
-        ensures same { self.new ≡ record self.old { split = self.new.split; stage = self.new.stage } }
+        ensures same { self.new ≡ record self.old { waiting = self.new.waiting; stage = self.new.stage } }
         ensures steps { PostLaw tree.old tree.new self.old result self.new }
         ensures waits { PostWaits tree.old self.old result }
         ensures ends { PostEnds tree.old tree.new self.old result }
@@ -241,15 +233,14 @@ impl Posting {
     fn leave_out_root(&mut self, tree: &Tree, old: Root) -> Progressed
         requires wants { self.old.stage ≡ PostStage.RootWanted old }
         requires may { MayPost tree.now self.old }
-        ensures same { self.new ≡ record self.old { split = self.new.split; stage = self.new.stage } }
+        ensures same { self.new ≡ record self.old { waiting = self.new.waiting; stage = self.new.stage } }
         ensures steps { PostLaw tree.now tree.now self.old result self.new }
         ensures waits { PostWaits tree.now self.old result }
         ensures ends { PostEnds tree.now tree.now self.old result }
     {
-        let Some(split) = self.split else {
+        let Some(split) = self.waiting.pop() else {
             return Progressed::Ended;
         };
-        self.split = None;
         self.stage = PostStage::HalfLeftOut(split);
         Progressed::Moved
     }
@@ -258,7 +249,7 @@ impl Posting {
     fn spare_root(&mut self, tree: &mut Tree, old: Root) -> Progressed
         requires wants { self.old.stage ≡ PostStage.RootWanted old }
         requires may { MayPost tree.old self.old }
-        ensures same { self.new ≡ record self.old { split = self.new.split; stage = self.new.stage } }
+        ensures same { self.new ≡ record self.old { waiting = self.new.waiting; stage = self.new.stage } }
         ensures steps { PostLaw tree.old tree.new self.old result self.new }
         ensures waits { PostWaits tree.old self.old result }
         ensures ends { PostEnds tree.old tree.new self.old result }
@@ -277,7 +268,7 @@ impl Posting {
     fn fill_root(&mut self, tree: &mut Tree, old: Root, root: NodeNo) -> Progressed
         requires spared { self.old.stage ≡ PostStage.RootSpared old root }
         requires may { MayPost tree.old self.old }
-        ensures same { self.new ≡ record self.old { split = self.new.split; stage = self.new.stage } }
+        ensures same { self.new ≡ record self.old { waiting = self.new.waiting; stage = self.new.stage } }
         ensures steps { PostLaw tree.old tree.new self.old result self.new }
         ensures waits { PostWaits tree.old self.old result }
         ensures ends { PostEnds tree.old tree.new self.old result }
@@ -299,17 +290,16 @@ impl Posting {
         requires still { IsRootStill tree.old self.old.head.0 old }
         requires arena { IsArena tree.old }
         requires may { MayPost tree.old self.old }
-        ensures same { self.new ≡ record self.old { split = self.new.split; stage = self.new.stage } }
+        ensures same { self.new ≡ record self.old { waiting = self.new.waiting; stage = self.new.stage } }
         ensures steps { PostLaw tree.old tree.new self.old result self.new }
         ensures waits { PostWaits tree.old self.old result }
         ensures ends { PostEnds tree.old tree.new self.old result }
     {
-        let Some(split) = self.split else {
+        let Some(split) = self.waiting.pop() else {
             tree.name_root(self.head, root);
             return Progressed::Ended;
         };
         tree.name_root_over_half(self.head, root);
-        self.split = None;
         self.stage = PostStage::HalfPosted(split);
         Progressed::Moved
     }
@@ -318,7 +308,7 @@ impl Posting {
     fn name_root(&mut self, tree: &mut Tree, old: Root, root: NodeNo) -> Progressed
         requires filled { self.old.stage ≡ PostStage.RootFilled old root }
         requires may { MayPost tree.old self.old }
-        ensures same { self.new ≡ record self.old { split = self.new.split; stage = self.new.stage } }
+        ensures same { self.new ≡ record self.old { waiting = self.new.waiting; stage = self.new.stage } }
         ensures steps { PostLaw tree.old tree.new self.old result self.new }
         ensures waits { PostWaits tree.old self.old result }
         ensures ends { PostEnds tree.old tree.new self.old result }
@@ -336,7 +326,7 @@ impl Posting {
     fn give_back(&mut self, tree: &mut Tree, root: NodeNo) -> Progressed
         requires late { self.old.stage ≡ PostStage.RootLate root }
         requires may { MayPost tree.old self.old }
-        ensures same { self.new ≡ record self.old { split = self.new.split; stage = self.new.stage } }
+        ensures same { self.new ≡ record self.old { waiting = self.new.waiting; stage = self.new.stage } }
         ensures steps { PostLaw tree.old tree.new self.old result self.new }
         ensures waits { PostWaits tree.old self.old result }
         ensures ends { PostEnds tree.old tree.new self.old result }
@@ -350,7 +340,7 @@ impl Posting {
     fn spare_half(&mut self, tree: &mut Tree, interior: NodeNo) -> Progressed
         requires wants { self.old.stage ≡ PostStage.HalfWanted interior }
         requires may { MayPost tree.old self.old }
-        ensures same { self.new ≡ record self.old { split = self.new.split; stage = self.new.stage } }
+        ensures same { self.new ≡ record self.old { waiting = self.new.waiting; stage = self.new.stage } }
         ensures steps { PostLaw tree.old tree.new self.old result self.new }
         ensures waits { PostWaits tree.old self.old result }
         ensures ends { PostEnds tree.old tree.new self.old result }
@@ -373,7 +363,7 @@ impl Posting {
     fn fill_half(&mut self, tree: &mut Tree, interior: NodeNo, half: NodeNo) -> Progressed
         requires spared { self.old.stage ≡ PostStage.HalfSpared interior half }
         requires may { MayPost tree.old self.old }
-        ensures same { self.new ≡ record self.old { split = self.new.split; stage = self.new.stage } }
+        ensures same { self.new ≡ record self.old { waiting = self.new.waiting; stage = self.new.stage } }
         ensures steps { PostLaw tree.old tree.new self.old result self.new }
         ensures waits { PostWaits tree.old self.old result }
         ensures ends { PostEnds tree.old tree.new self.old result }
@@ -392,7 +382,7 @@ impl Posting {
         ];
         let level = split.level();
         tree.fill_interior(half, &upper);
-        self.split = Some(Split {
+        self.waiting.push(Split {
             interior,
             half: Child {
                 low: middle.low,
@@ -408,7 +398,7 @@ impl Posting {
     fn give_half_back(&mut self, tree: &mut Tree, split: Split) -> Progressed
         requires left { self.old.stage ≡ PostStage.HalfLeftOut split }
         requires may { MayPost tree.old self.old }
-        ensures same { self.new ≡ record self.old { split = self.new.split; stage = self.new.stage } }
+        ensures same { self.new ≡ record self.old { waiting = self.new.waiting; stage = self.new.stage } }
         ensures steps { PostLaw tree.old tree.new self.old result self.new }
         ensures waits { PostWaits tree.old self.old result }
         ensures ends { PostEnds tree.old tree.new self.old result }
@@ -418,24 +408,28 @@ impl Posting {
         Progressed::Moved
     }
 
-    // The interior is unlocked as it was, and the border left out.
+    // The interior is unlocked as it was, and what was to be named in it left out.
     fn let_go(&mut self, tree: &mut Tree, interior: NodeNo) -> Progressed
         requires lets { self.old.stage ≡ PostStage.LetGo interior }
         requires may { MayPost tree.old self.old }
-        ensures same { self.new ≡ record self.old { split = self.new.split; stage = self.new.stage } }
+        ensures same { self.new ≡ record self.old { waiting = self.new.waiting; stage = self.new.stage } }
         ensures steps { PostLaw tree.old tree.new self.old result self.new }
         ensures waits { PostWaits tree.old self.old result }
         ensures ends { PostEnds tree.old tree.new self.old result }
     {
         tree.unlock_interior(interior);
-        Progressed::Ended
+        let Some(split) = self.waiting.pop() else {
+            return Progressed::Ended;
+        };
+        self.stage = PostStage::HalfLeftOut(split);
+        Progressed::Moved
     }
 
     // The interior keeps the first of its children, and is unlocked.
     fn cut(&mut self, tree: &mut Tree, split: Split) -> Progressed
         requires posted { self.old.stage ≡ PostStage.HalfPosted split }
         requires may { MayPost tree.old self.old }
-        ensures same { self.new ≡ record self.old { split = self.new.split; stage = self.new.stage } }
+        ensures same { self.new ≡ record self.old { waiting = self.new.waiting; stage = self.new.stage } }
         ensures steps { PostLaw tree.old tree.new self.old result self.new }
         ensures waits { PostWaits tree.old self.old result }
         ensures ends { PostEnds tree.old tree.new self.old result }
@@ -446,11 +440,11 @@ impl Posting {
         Progressed::Moved
     }
 
-    // The new half is unlocked, and the border's way begins again.
+    // The new half is unlocked, and the way of what waits below it begins again.
     fn unlock_half(&mut self, tree: &mut Tree, half: NodeNo) -> Progressed
         requires cut { self.old.stage ≡ PostStage.HalfCut half }
         requires may { MayPost tree.old self.old }
-        ensures same { self.new ≡ record self.old { split = self.new.split; stage = self.new.stage } }
+        ensures same { self.new ≡ record self.old { waiting = self.new.waiting; stage = self.new.stage } }
         ensures steps { PostLaw tree.old tree.new self.old result self.new }
         ensures waits { PostWaits tree.old self.old result }
         ensures ends { PostEnds tree.old tree.new self.old result }
@@ -463,7 +457,7 @@ impl Posting {
     /// Visits one node.
     pub fn step(&mut self, tree: &mut Tree) -> Progressed
         requires { MayPost tree.old self.old }
-        ensures same { self.new ≡ record self.old { split = self.new.split; stage = self.new.stage } }
+        ensures same { self.new ≡ record self.old { waiting = self.new.waiting; stage = self.new.stage } }
         ensures steps { PostLaw tree.old tree.new self.old result self.new }
         ensures waits { PostWaits tree.old self.old result }
         ensures ends { PostEnds tree.old tree.new self.old result }
