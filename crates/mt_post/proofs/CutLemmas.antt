@@ -1,11 +1,11 @@
 -- The step of a posting that cuts the interior whose new half is posted: the two are twins no more.
-use Rattle.std.proofs.Common.{ℕ, zero, suc, ◌≡◌, ◌≢◌, ◌≤◌, ◌<◌, ◌⊎◌, inl, inr, List, [], ◌∷◌, length, take, drop, Option, Some, None, true, false, refl, sym, ap, subst, ◌∙◌, arith, length-drop}
+use Rattle.std.proofs.Common.{ℕ, zero, suc, ◌≡◌, ◌≢◌, ◌≤◌, ◌<◌, ◌⊎◌, inl, inr, List, [], ◌∷◌, length, take, drop, Option, Some, true, false, refl, sym, ap, subst, ◌∙◌, arith, length-drop}
 use Rattle.std.specs.Prelude.{IsSomeAnd}
 use Rattle.std.specs.Option.{option_and_then}
 use Rattle.mt_interior.specs.Interior.{InteriorView, with_lock, with_first}
 use Rattle.mt_interior.specs.declared.child.Child.{Child}
 use Rattle.mt_interior.specs.declared.interior.TheConstants.{KEPT_CHILDREN}
-use Rattle.mt_arena.specs.Node.{node_at, interior_at, interior_of, border_of}
+use Rattle.mt_arena.specs.Node.{node_at, interior_at, interior_of}
 use Rattle.mt_arena.specs.Arena.{ArenaView, with_interior_changed}
 use Rattle.mt_chart.specs.Tree.{first, later, Among, head, interior, Arena, InteriorNode, Child as PlainChild, Node as PlainNode}
 use Rattle.mt_chart.specs.Chart.{at_level, on, gone, Spot, spot, Chart, NoChildTwice, Owns, by_head, by_interior}
@@ -26,7 +26,8 @@ use Rattle.mt_post.specs.declared.posting.Posting.{Posting}
 use Rattle.mt_post.specs.declared.posting.Progressed.TheVariants.{Moved}
 use Rattle.mt_post.specs.declared.split.Split.{Split}
 use Rattle.mt_post.specs.declared.posting.PostStage.TheVariants.{HalfPosted, HalfCut}
-use Rattle.mt_post.specs.Posting.{goal_level, split_owns, AreWaiting, IsToPost, IsHeadOf, IsPostedHalf, PostingIsTrue, PostLaw, MayPost}
+use Rattle.mt_post.specs.Posting.{goal_level, split_owns, AreWaiting, IsToPost, IsHeadOf, IsPostedHalf, PostingIsTrue, MayPost}
+use Rattle.mt_post.specs.Follows.{PostStep}
 use Rattle.mt_post.proofs.StepLemmas.{goes_with, heads_beside, interior_now, interior_others, interior_no_head, interior_taken, not_both}
 use Rattle.mt_post.proofs.WalkLemmas.{at_stage, true_at, known_some}
 use Rattle.mt_post.proofs.KeptLemmas.{all_stay, owns_below}
@@ -229,7 +230,7 @@ module _ (a : ArenaView) (posting : Posting) (split : Split) (is : posting.stage
       )
 
   pub cuts : (between after : ArenaView) → between ≡ middle → KeepsWhere a between (CutsAt a i KEPT_CHILDREN) → after ≡ with_interior_changed between i unlock
-      → IsSomeAnd (interior_at between.nodes i) (λ x. KeepsWhere between after (λ chart. IsNotGone chart i ⊎ (x.version.deleted ≡ true))) → PostLaw a after posting Moved then
+      → IsSomeAnd (interior_at between.nodes i) (λ x. KeepsWhere between after (λ chart. IsNotGone chart i ⊎ (x.version.deleted ≡ true))) → PostStep a after posting Moved then
   cuts between after cut_is keeps unlocked keeps_again = at_stage a after posting posting.waiting (HalfPosted split) Moved then refl is (record {
     steps = λ now begun w prefix world before t known all truth.
         let (above, p) = truth in
@@ -239,6 +240,10 @@ module _ (a : ArenaView) (posting : Posting) (split : Split) (is : posting.stage
         subst (λ (v : ArenaView). Goes now a v w (m ∷ i ∷ rest) (m ∷ rest) (λ next. PostingIsTrue begun then v next) × SameContent (arena_seen a) (arena_seen v)) (sym is_new)
         (cut_so now begun w prefix world before t known all above p (subst (λ (v : ArenaView). KeepsWhere a v (CutsAt a i KEPT_CHILDREN)) cut_is keeps)
         (subst (λ (v : ArenaView). KeepsWhere middle v (λ chart. IsNotGone chart i ⊎ ((cut_one p.interior).version.deleted ≡ true))) is_new again));
+    same = refl;
+    waits = tt;
+    ends = tt;
+    gets_on = refl;
   })
 
   -- what the calls ask

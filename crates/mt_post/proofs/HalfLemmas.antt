@@ -1,6 +1,6 @@
 -- The steps of a posting that splits a full interior, but for those that make twins: it is locked, its new half spared and filled, or let go.
 use Rattle.std.proofs.Common.{ℕ, zero, suc, ◌≡◌, ◌≢◌, ◌≤◌, ◌<◌, ◌+◌, ◌⊎◌, inl, inr, List, [], ◌∷◌, length, slice_get, drop, Option, Some, None, IsSome, true, false, refl, sym, ap, subst, ◌∙◌, arith, length-drop}
-use Rattle.std.specs.Prelude.{IsSomeAnd, All, is_some}
+use Rattle.std.specs.Prelude.{IsSomeAnd, All}
 use Rattle.std.proofs.lemmas.Bool.{cases_lt}
 use Rattle.std.specs.Option.{option_and_then}
 use Rattle.std.proofs.lemmas.List.Elements.{All-drop}
@@ -24,7 +24,7 @@ use Rattle.mt_chart.proofs.HeldNodes.{evolves_same}
 use Rattle.mt_tree.specs.Seen.{arena_seen}
 use Rattle.mt_tree.specs.Keeping.{KeepsTree, KeepsUnknown, KeepsWhere, IsUnknown}
 use Rattle.mt_tree.specs.InteriorSteps.{IsNotGone}
-use Rattle.mt_calls.specs.World.{World, IsWorld, IsLockedInterior, IsTaken, IsSame, Goes}
+use Rattle.mt_calls.specs.World.{World, IsWorld, IsLockedInterior, IsTaken, Goes}
 use Rattle.mt_calls.proofs.FoundLemmas.{some_at}
 use Rattle.mt_calls.proofs.SplitLemmas.{goes_occupied}
 use Rattle.mt_post.specs.declared.posting.Posting.{Posting}
@@ -32,7 +32,8 @@ use Rattle.mt_post.specs.declared.posting.Progressed.TheVariants.{Moved, Ended}
 use Rattle.mt_post.specs.declared.split.Split.{Split}
 use Rattle.mt_post.specs.declared.posting.PostStage.TheVariants.{Walks, HalfWanted, HalfSpared, HalfLeftOut, LetGo, HalfCut}
 use Rattle.mt_post.specs.Causes.{IsFullAt}
-use Rattle.mt_post.specs.Posting.{goal, goal_level, split_owns, AreWaiting, IsToPost, IsHeadOf, IsWalking, IsSpareInterior, IsSplitting, IsHalved, StartsUpper, empty_half, upper_half, IsLetGo, PostingIsTrue, PostLaw, MayPost}
+use Rattle.mt_post.specs.Posting.{goal, goal_level, split_owns, AreWaiting, IsToPost, IsHeadOf, IsWalking, IsSpareInterior, IsSplitting, IsHalved, StartsUpper, empty_half, upper_half, IsLetGo, PostingIsTrue, MayPost}
+use Rattle.mt_post.specs.Follows.{FollowsInterior, PostStep}
 use Rattle.mt_calls.specs.World.{IsLockedBorder}
 use Rattle.mt_post.proofs.StepLemmas.{goes_at, goes_kept, twins_lone, heads_beside, interior_now, interior_others, interior_no_head, interior_taken, interior_is_taken, not_both}
 use Rattle.mt_post.proofs.WalkLemmas.{at_stage, true_at, known_some, still_locked, from_head, goes_on, in_layer, is_above}
@@ -44,7 +45,7 @@ pub same_interior : (a : ArenaView) (n : ℕ) (i j : InteriorView) → interior_
 same_interior a n i j is js = (let both : ◌≡◌ {A = Option InteriorView} (Some i) (Some j) = sym is ∙ js in cc)
 
 -- ---- a full interior is locked
-module _ (a : ArenaView) (posting : Posting) (node : NodeNo) (is : posting.stage ≡ Walks node) (f : IsFullAt a node.0) (below : f.interior.level + 1 ≤ MAX_LEVEL) where
+module _ (a : ArenaView) (posting : Posting) (node : NodeNo) (is : posting.stage ≡ Walks node) (f : IsFullAt a posting node.0) (below : f.interior.level + 1 ≤ MAX_LEVEL) where
   abbrev n : ℕ
   n = node.0
 
@@ -100,11 +101,15 @@ module _ (a : ArenaView) (posting : Posting) (node : NodeNo) (is : posting.stage
         },
       )
 
-  pub locks : (after : ArenaView) → after ≡ locked_one → KeepsTree a after → IsSomeAnd (interior_at after.nodes n) IsInterior → PostLaw a after posting Moved (record posting { stage = HalfWanted node })
+  pub locks : (after : ArenaView) → after ≡ locked_one → KeepsTree a after → IsSomeAnd (interior_at after.nodes n) IsInterior → PostStep a after posting Moved (record posting { stage = HalfWanted node })
   locks after value keeps sound = at_stage a after posting posting.waiting (Walks node) Moved (record posting { stage = HalfWanted node }) refl is (record {
     steps = λ now begun w prefix world before border known all truth.
         subst (λ (x : ArenaView). Goes now a x w rest (n ∷ rest) (λ next. PostingIsTrue begun (record posting { stage = HalfWanted node }) x next) × SameContent (arena_seen a) (arena_seen x)) (sym value)
         (locked_so now begun w prefix world border known all truth (subst (λ (x : ArenaView). KeepsTree a x) value keeps) (subst (λ (x : ArenaView). IsSomeAnd (interior_at x.nodes n) IsInterior) value sound));
+    same = refl;
+    waits = tt;
+    ends = tt;
+    gets_on = inr (subst (λ (o : Option InteriorView). IsSomeAnd o (FollowsInterior posting (record posting { stage = HalfWanted node }) node)) (sym f.named) (inr (f.stops, inr (f.full, inl (omega (arith, below), refl)))));
   })
 
 -- ---- a number is spared for the new half
@@ -112,14 +117,14 @@ module _ (a : ArenaView) (posting : Posting) (interior : NodeNo) (is : posting.s
   pub is_there : (may : MayPost a posting) → (i : InteriorView) × (interior_at a.nodes interior.0 ≡ Some i) × (length i.children ≡ MAX_CHILDREN) × (i.level ≤ MAX_LEVEL) × (1 ≤ i.level)
   is_there may = let (i, above, s) = true_at may.begun a may.w posting (HalfWanted interior) is may.true in (i, s.named, s.full, s.sound.most, s.sound.least)
 
-  pub half_refused : (after : ArenaView) → after ≡ a → PostLaw a after posting Moved (record posting { stage = LetGo interior })
-  half_refused after same = subst (λ (x : ArenaView). PostLaw a x posting Moved (record posting { stage = LetGo interior })) (sym same)
+  pub half_refused : (after : ArenaView) → after ≡ a → PostStep a after posting Moved (record posting { stage = LetGo interior })
+  half_refused after same = subst (λ (x : ArenaView). PostStep a x posting Moved (record posting { stage = LetGo interior })) (sym same)
       (goes_on a posting posting.waiting posting.waiting (HalfWanted interior) (LetGo interior) refl refl is (λ now begun w prefix world border known all truth.
-      let (i, above, s) = truth in (all, record { interior = i; named = s.named; locked = s.locked; stands = s.stands; lone = s.lone; above = above })))
+      let (i, above, s) = truth in (all, record { interior = i; named = s.named; locked = s.locked; stands = s.stands; lone = s.lone; above = above })) tt tt (inr refl))
 
   pub half_spares : (i : InteriorView) (middle : Child) (spare : NodeNo) (after : ArenaView) → interior_at a.nodes interior.0 ≡ Some i → slice_get i.children KEPT_CHILDREN ≡ Some middle → IsInterior (empty_half i middle.low)
       → node_at a.nodes spare.0 ≡ None → Updates a.nodes after.nodes spare.0 (Some (Interior (empty_half i middle.low))) → after.retired ≡ a.retired → IsUnknown a spare.0 → KeepsTree a after
-      → PostLaw a after posting Moved (record posting { stage = HalfSpared interior spare })
+      → PostStep a after posting Moved (record posting { stage = HalfSpared interior spare })
   half_spares i middle spare after named read sound vacant updates retired unknown keeps = at_stage a after posting posting.waiting (HalfWanted interior) Moved (record posting { stage = HalfSpared interior spare }) refl is (record {
     steps = λ now begun w prefix world before border known all truth.
         let (j, above, was) = truth in
@@ -149,6 +154,10 @@ module _ (a : ArenaView) (posting : Posting) (interior : NodeNo) (is : posting.s
           ),
           (keeps.keeps now w.twins w.chart world.index).content,
         );
+    same = refl;
+    waits = tt;
+    ends = tt;
+    gets_on = inl (spare, refl);
   })
 
 -- ---- it is filled
@@ -219,7 +228,7 @@ module _ (a : ArenaView) (posting : Posting) (interior spare : NodeNo) (is : pos
     abbrev then : Posting
     then = record posting { waiting = split ∷ posting.waiting; stage = Walks posting.head }
 
-    pub fills_half : (after : ArenaView) → after ≡ filled → KeepsTree a after → PostLaw a after posting Moved then
+    pub fills_half : (after : ArenaView) → after ≡ filled → KeepsTree a after → PostStep a after posting Moved then
     fills_half after value keeps = at_stage a after posting posting.waiting (HalfSpared interior spare) Moved then refl is (record {
       steps = λ now begun w prefix world before border known all truth.
           let (above, s, sound, spared) = seen_so w prefix truth in
@@ -253,6 +262,10 @@ module _ (a : ArenaView) (posting : Posting) (interior spare : NodeNo) (is : pos
               stage = from_head begun prefix split.half posting.head.0 w known;
             },
           ));
+      same = refl;
+      waits = tt;
+      ends = tt;
+      gets_on = (split, refl, refl, refl);
     })
 
 -- ---- the new half is given back
@@ -265,7 +278,7 @@ module _ (a : ArenaView) (posting : Posting) (left : Split) (is : posting.stage 
       let (above, h) = true_at may.begun a may.w posting (HalfLeftOut left) is may.true in
       (half_named may.w may.true.0 h, not_retired a may.w may.now left.half.node.0 may.world h.spare.unknown)
 
-  pub gives_half_back : (after : ArenaView) → after ≡ without_node a left.half.node.0 → KeepsUnknown a after left.half.node.0 → PostLaw a after posting Moved (record posting { stage = LetGo left.interior })
+  pub gives_half_back : (after : ArenaView) → after ≡ without_node a left.half.node.0 → KeepsUnknown a after left.half.node.0 → PostStep a after posting Moved (record posting { stage = LetGo left.interior })
   gives_half_back after value keeps = at_stage a after posting posting.waiting (HalfLeftOut left) Moved (record posting { stage = LetGo left.interior }) refl is (record {
     steps = λ now begun w prefix world before border known all truth.
         let (less, h) = truth in
@@ -289,6 +302,10 @@ module _ (a : ArenaView) (posting : Posting) (left : Split) (is : posting.stage 
             stage = record { interior = h.interior; named = s.named; locked = s.locked; stands = s.stands; lone = s.lone; above = above };
           },
         ));
+    same = refl;
+    waits = tt;
+    ends = tt;
+    gets_on = refl;
   })
 
 -- ---- an interior without a twin is unlocked
@@ -329,29 +346,41 @@ module _ (a : ArenaView) (posting : Posting) (n : ℕ) where
 
 module _ (a : ArenaView) (posting : Posting) (interior : NodeNo) (after : ArenaView) (value : after ≡ unlocked a posting interior.0) (keeps : Keeps a posting interior.0 after) where
   -- the interior is let go, and the border left out
-  pub lets_go : (left : List Split) → posting.stage ≡ LetGo interior → posting.waiting ≡ [] → PostLaw a after posting Ended (record posting { waiting = left })
+  pub lets_go : (left : List Split) → posting.stage ≡ LetGo interior → posting.waiting ≡ [] → PostStep a after posting Ended (record posting { waiting = left })
   lets_go left is none = at_stage a after posting [] (LetGo interior) Ended (record posting { waiting = left }) none is (record {
     steps = λ now begun w prefix world before border known all truth.
         unlocks_lone a posting interior.0 now after w prefix 0 (posting.half.0 ∷ []) (λ x next. IsLockedBorder x next posting.half.0) world truth value keeps
         (still_locked (unlocked a posting interior.0) w prefix posting.half.0 posting.low (rest_beside a posting interior.0 w prefix [] truth border tt).0);
+    same = refl;
+    waits = tt;
+    ends = value;
+    gets_on = none;
   })
 
   -- or the newest of the new halves that wait is left out
-  pub lets_next : (split : Split) (waiting : List Split) → posting.stage ≡ LetGo interior → posting.waiting ≡ split ∷ waiting → PostLaw a after posting Moved (record posting { waiting = waiting; stage = HalfLeftOut split })
+  pub lets_next : (split : Split) (waiting : List Split) → posting.stage ≡ LetGo interior → posting.waiting ≡ split ∷ waiting → PostStep a after posting Moved (record posting { waiting = waiting; stage = HalfLeftOut split })
   lets_next split waiting is some = at_stage a after posting (split ∷ waiting) (LetGo interior) Moved (record posting { waiting = waiting; stage = HalfLeftOut split }) some is (record {
     steps = λ now begun w prefix world before border known all truth.
         let (t, (above, halved, more)) = rest_beside a posting interior.0 w prefix (split ∷ waiting) truth border all in
         unlocks_lone a posting interior.0 now after w prefix split.half.level (split_owns posting.half.0 (split ∷ waiting)) (λ x next. PostingIsTrue begun (record posting { waiting = waiting; stage = HalfLeftOut split }) x next) world truth value keeps
         (prefix, record { border = t; head = known; waiting = more; stage = (above, halved) });
+    same = refl;
+    waits = tt;
+    ends = tt;
+    gets_on = (split, some, refl);
   })
 
   -- the new half is unlocked, and the way of what is to be named begins again
-  pub goes_again : posting.stage ≡ HalfCut interior → PostLaw a after posting Moved (record posting { stage = Walks posting.head })
+  pub goes_again : posting.stage ≡ HalfCut interior → PostStep a after posting Moved (record posting { stage = Walks posting.head })
   goes_again is = at_stage a after posting posting.waiting (HalfCut interior) Moved (record posting { stage = Walks posting.head }) refl is (record {
     steps = λ now begun w prefix world before border known all truth.
         let stay = rest_beside a posting interior.0 w prefix posting.waiting truth border all in
         unlocks_lone a posting interior.0 now after w prefix (goal_level posting.waiting) (split_owns posting.half.0 posting.waiting) (λ x next. PostingIsTrue begun (record posting { stage = Walks posting.head }) x next) world truth value keeps
         (prefix, record { border = stay.0; head = known; waiting = stay.1; stage = from_head begun prefix (goal posting.half posting.low posting.waiting) posting.head.0 w known });
+    same = refl;
+    waits = tt;
+    ends = tt;
+    gets_on = refl;
   })
 
 pub may_unlock_at : (a : ArenaView) (posting : Posting) (interior : NodeNo) (may : MayPost a posting) → ((posting.stage ≡ LetGo interior) ⊎ (posting.stage ≡ HalfCut interior)) → IsSomeAnd (interior_at a.nodes interior.0) (λ i. i.version.locked ≡ true)
@@ -363,8 +392,8 @@ may_unlock_at a posting interior may (inr is) = may_unlock_lone a posting interi
 pub below_top : (level : ℕ) → level ≤ MAX_LEVEL → level ≢ MAX_LEVEL → level + 1 ≤ MAX_LEVEL
 below_top level most other = elim (cases_lt level MAX_LEVEL) [ inl less ↦ omega (arith, less) | inr from ↦ absurd (other (omega (arith, most, from))) ]
 
-pub full_below : (a : ArenaView) (n : ℕ) (f : IsFullAt a n) (i : InteriorView) (level : ℕ) → interior_at a.nodes n ≡ Some i → IsInterior i → level ≡ i.level → level ≢ MAX_LEVEL → f.interior.level + 1 ≤ MAX_LEVEL
-full_below a n f i level named sound is other =
+pub full_below : (a : ArenaView) (posting : Posting) (n : ℕ) (f : IsFullAt a posting n) (i : InteriorView) (level : ℕ) → interior_at a.nodes n ≡ Some i → IsInterior i → level ≡ i.level → level ≢ MAX_LEVEL → f.interior.level + 1 ≤ MAX_LEVEL
+full_below a posting n f i level named sound is other =
     let same = same_interior a n f.interior i f.named named in
     subst (λ (x : InteriorView). x.level + 1 ≤ MAX_LEVEL) (sym same) (below_top i.level sound.most (λ e. other (is ∙ e)))
 

@@ -6,7 +6,7 @@ use Rattle.mt_types.specs.declared.numbers.NodeNo.{NodeNo}
 use Rattle.mt_interior.specs.Head.{HeadView, with_root}
 use Rattle.mt_interior.specs.Interior.{InteriorView, StartsAt}
 use Rattle.mt_interior.specs.declared.interior.TheConstants.{KEPT_CHILDREN}
-use Rattle.mt_arena.specs.Node.{head_at, head_of, interior_at, interior_of, border_of, Updates}
+use Rattle.mt_arena.specs.Node.{head_at, head_of, interior_at, interior_of, Updates}
 use Rattle.mt_arena.specs.Arena.{ArenaView, IsArena, with_head_changed}
 use Rattle.mt_arena.specs.declared.node.Node.{Node}
 use Rattle.mt_arena.specs.declared.node.Node.TheVariants.{Head}
@@ -31,7 +31,8 @@ use Rattle.mt_post.specs.declared.posting.Root.{Root}
 use Rattle.mt_post.specs.declared.split.Split.{Split}
 use Rattle.mt_post.specs.declared.posting.PostStage.TheVariants.{RootFilled, HalfPosted}
 use Rattle.mt_post.specs.Causes.{IsRootStill}
-use Rattle.mt_post.specs.Posting.{split_owns, AreWaiting, PostStageIsTrue, IsToPost, IsHeadOf, IsSpareInterior, IsHalved, upper_half, root_over, PostingIsTrue, PostLaw, MayPost}
+use Rattle.mt_post.specs.Posting.{split_owns, AreWaiting, PostStageIsTrue, IsToPost, IsHeadOf, IsSpareInterior, IsHalved, upper_half, root_over, PostingIsTrue, MayPost}
+use Rattle.mt_post.specs.Follows.{PostStep}
 use Rattle.mt_post.proofs.StepLemmas.{at_chart, goes_with, interior_is_taken, head_is_taken, not_both}
 use Rattle.mt_post.proofs.WalkLemmas.{at_stage, true_at, known_some, from_head, root_place, heads_were}
 use Rattle.mt_post.proofs.KeptLemmas.{all_stay, apart_known, interior_apart_head, owns_below, owns_beside, beside_half}
@@ -180,13 +181,17 @@ module _ (a : ArenaView) (posting : Posting) (old : Root) (root : NodeNo) (split
         kept.content,
       )
 
-  pub names_half : (after : ArenaView) → IsSomeAnd (interior_at a.nodes root.0) (λ x. after ≡ with_head_changed a n (λ v. with_root v root x.level)) → KeepsRootOverHalf a after n root.0 → PostLaw a after posting Moved then
+  pub names_half : (after : ArenaView) → IsSomeAnd (interior_at a.nodes root.0) (λ x. after ≡ with_head_changed a n (λ v. with_root v root x.level)) → KeepsRootOverHalf a after n root.0 → PostStep a after posting Moved then
   names_half after value keeps = at_stage a after posting (split ∷ waiting) (RootFilled old root) Moved then some is (record {
     steps = λ now begun w prefix world before t known all truth.
         let (less, spare) = truth in
         let same : after ≡ new = some_at _ (interior_at a.nodes root.0) top_root value spare.named in
         subst (λ (x : ArenaView). Goes now a x w (root.0 ∷ owns) owns (λ next. PostingIsTrue begun then x next) × SameContent (arena_seen a) (arena_seen x)) (sym same)
         (named_so now begun w prefix world before t known all less spare (subst (λ (x : ArenaView). KeepsRootOverHalf a x n root.0) same keeps));
+    same = refl;
+    waits = tt;
+    ends = tt;
+    gets_on = inl (still, (split, some, refl));
   })
 
   -- what the call asks

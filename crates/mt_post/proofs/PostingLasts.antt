@@ -1,16 +1,14 @@
 -- What others' steps leave of a posting, and what a posting owns.
-use Rattle.std.proofs.Common.{ℕ, ◌≡◌, inl, inr, List, [], ◌∷◌, Option, Some, None, IsSome, true, refl, sym, subst}
+use Rattle.std.proofs.Common.{ℕ, ◌≡◌, List, ◌∷◌, Some, true}
 use Rattle.mt_types.specs.declared.numbers.NodeNo.{NodeNo}
 use Rattle.mt_interior.specs.Interior.{InteriorView}
 use Rattle.mt_interior.specs.declared.child.Child.{Child}
 use Rattle.mt_arena.specs.Node.{interior_at}
 use Rattle.mt_arena.specs.Arena.{ArenaView}
-use Rattle.mt_arena.specs.declared.node.Node.{Node}
-use Rattle.mt_arena.proofs.NodeLemmas.{node-from_border, node-from_interior}
 use Rattle.mt_chart.specs.Tree.{Among, first, later}
 use Rattle.mt_chart.specs.Chart.{Evolves}
 use Rattle.mt_chart.proofs.Walk.{known_kept}
-use Rattle.mt_calls.specs.World.{World, IsLocked, IsTaken, IsSame}
+use Rattle.mt_calls.specs.World.{World, IsTaken, IsSame}
 use Rattle.mt_post.specs.declared.posting.Posting.{Posting}
 use Rattle.mt_post.specs.declared.split.Split.{Split}
 use Rattle.mt_post.specs.declared.posting.PostStage.{PostStage}

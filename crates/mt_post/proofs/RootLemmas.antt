@@ -36,7 +36,9 @@ use Rattle.mt_post.specs.declared.posting.Posting.{Posting}
 use Rattle.mt_post.specs.declared.posting.Progressed.TheVariants.{Moved, Ended}
 use Rattle.mt_post.specs.declared.posting.Root.{Root}
 use Rattle.mt_post.specs.declared.posting.PostStage.TheVariants.{Walks, RootWanted, RootSpared, RootFilled, RootLate}
-use Rattle.mt_post.specs.Posting.{goal, goal_level, split_owns, AreWaiting, IsToPost, IsHeadOf, IsSpareInterior, root_children, new_root, root_over, PostingIsTrue, ThenPosts, PostLaw, MayPost}
+use Rattle.mt_post.specs.Posting.{goal, goal_level, split_owns, AreWaiting, IsToPost, IsHeadOf, IsSpareInterior, root_children, new_root, root_over, PostingIsTrue, ThenPosts, MayPost}
+use Rattle.mt_post.specs.Causes.{IsRootStill}
+use Rattle.mt_post.specs.Follows.{PostStep}
 use Rattle.mt_post.proofs.StepLemmas.{at_chart, goes_at, heads_beside, interior_now, interior_others, interior_no_head, interior_is_taken, head_is_taken, not_both}
 use Rattle.mt_post.proofs.WalkLemmas.{at_stage, true_at, known_some, from_head, goes_on, root_place, heads_were}
 
@@ -97,7 +99,7 @@ module _ (a : ArenaView) (posting : Posting) (old : Root) (is : posting.stage �
       subst (λ (c : Child). c.level + 1 ≤ MAX_LEVEL) (sym is_goal) (goal_fits a may.w may.true.0 posting.half posting.low posting.waiting may.true.1.waiting)
 
   pub spares : (root : NodeNo) (after : ArenaView) → node_at a.nodes root.0 ≡ None → Updates a.nodes after.nodes root.0 (Some (Interior (new_root wanted))) → after.retired ≡ a.retired → IsUnknown a root.0 → KeepsTree a after
-      → PostLaw a after posting Moved (record posting { stage = RootSpared old root })
+      → PostStep a after posting Moved (record posting { stage = RootSpared old root })
   spares root after vacant updates_wanted retired unknown keeps = at_stage a after posting posting.waiting (RootWanted old) Moved (record posting { stage = RootSpared old root }) refl is (record {
     steps = λ now begun w prefix world before border known all truth.
         let half : ℕ = posting.half.0 in
@@ -113,6 +115,10 @@ module _ (a : ArenaView) (posting : Posting) (old : Root) (is : posting.stage �
           ),
           (keeps.keeps now w.twins w.chart world.index).content,
         );
+    same = refl;
+    waits = tt;
+    ends = tt;
+    gets_on = inl (root, refl);
   })
 
 -- ---- it is filled
@@ -162,7 +168,7 @@ module _ (a : ArenaView) (posting : Posting) (old : Root) (root : NodeNo) (is : 
 
   pub fills : (between after : ArenaView) → between ≡ with_interior_changed a root.0 fill → KeepsTree a between → after ≡ with_interior_changed between root.0 unlock
       → IsSomeAnd (interior_at between.nodes root.0) (λ i. KeepsWhere between after (λ chart. IsNotGone chart root.0 ⊎ (i.version.deleted ≡ true)))
-      → PostLaw a after posting Moved (record posting { stage = RootFilled old root })
+      → PostStep a after posting Moved (record posting { stage = RootFilled old root })
   fills between after filled keeps unlocked keeps_again = at_stage a after posting posting.waiting (RootSpared old root) Moved (record posting { stage = RootFilled old root }) refl is (record {
     steps = λ now begun w prefix world before border known all truth.
         let (less, spare_goal) = truth in
@@ -197,6 +203,10 @@ module _ (a : ArenaView) (posting : Posting) (old : Root) (root : NodeNo) (is : 
             stage = (less, subst (λ (c : Child). IsSpareInterior new w n (root_over old c)) is_goal (record { named = interior_now middle n (fill (new_root wanted)) unlock there; unknown = spare.unknown }));
           },
         ));
+    same = refl;
+    waits = tt;
+    ends = tt;
+    gets_on = refl;
   })
 
 -- ---- the head names it, or it comes too late
@@ -217,8 +227,21 @@ module _ (a : ArenaView) (posting : Posting) (old : Root) (root : NodeNo) (is : 
   pub has_head : (may : MayPost a posting) → IsSome (head_at a.nodes n)
   has_head may = head_there a may.w may.begun n may.true.0 may.now may.world may.true.1.head
 
-  pub too_late : PostLaw a a posting Moved (record posting { stage = RootLate root })
-  too_late = goes_on a posting posting.waiting posting.waiting (RootFilled old root) (RootLate root) refl refl is (λ now begun w prefix world border known all truth. (all, (root_over old (goal posting.half posting.low posting.waiting), root_above posting.half posting.low posting.waiting, truth.1)))
+  -- the root isn't the old one still
+  pub not_still : (h : HeadView) → head_at a.nodes n ≡ Some h → (h.version.deleted ≡ true) ⊎ ((h.root.0 ≢ old.node.0) ⊎ (h.level ≢ old.level)) → IsRootStill a n old → ⊥
+  not_still h named why still =
+      let both : ◌≡◌ {A = Option HeadView} (Some still.head) (Some h) = sym still.named ∙ named in
+      let same : still.head ≡ h = cc in
+      elim why [
+        | inl deleted ↦ (let alive = still.alive in let clash : false ≡ true = sym alive ∙ (ap (λ (x : HeadView). x.version.deleted) same ∙ deleted) in cc)
+        | inr other ↦ elim other [
+          | inl root ↦ root (ap (λ (x : HeadView). x.root.0) (sym same) ∙ ap (λ (r : NodeNo). r.0) still.root_is)
+          | inr level ↦ level (ap (λ (x : HeadView). x.level) (sym same) ∙ still.level_is)
+        ]
+      ]
+
+  pub too_late : (IsRootStill a posting.head.0 old → ⊥) → PostStep a a posting Moved (record posting { stage = RootLate root })
+  too_late not_still = goes_on a posting posting.waiting posting.waiting (RootFilled old root) (RootLate root) refl refl is (λ now begun w prefix world border known all truth. (all, (root_over old (goal posting.half posting.low posting.waiting), root_above posting.half posting.low posting.waiting, truth.1))) tt tt (inr (not_still, refl))
 
   module _ (h : HeadView) (named : head_at a.nodes n ≡ Some h) (alive : h.version.deleted ≡ false) (same_root : h.root ≡ old.node) (same_level : h.level ≡ old.level) (none : posting.waiting ≡ []) where
     -- what the call asks
@@ -317,12 +340,19 @@ module _ (a : ArenaView) (posting : Posting) (old : Root) (root : NodeNo) (is : 
           ];
         }
 
-    pub names : (after : ArenaView) (left : List Split) → IsSomeAnd (interior_at a.nodes root.0) (λ i. after ≡ with_head_changed a n (λ x. with_root x root i.level)) → KeepsAlong a after (NamesRootAt a n root.0) → PostLaw a after posting Ended (record posting { waiting = left })
-    names after left value keeps = at_stage a after posting [] (RootFilled old root) Ended (record posting { waiting = left }) none is (record {
+    pub names : (after : ArenaView) (left : List Split) → IsSomeAnd (interior_at a.nodes root.0) (λ i. after ≡ with_head_changed a n (λ x. with_root x root i.level)) → KeepsAlong a after (NamesRootAt a n root.0) → MayPost a posting → PostStep a after posting Ended (record posting { waiting = left })
+    names after left value keeps may = at_stage a after posting [] (RootFilled old root) Ended (record posting { waiting = left }) none is (record {
       steps = λ now begun w prefix world before border known all truth.
           let same : after ≡ new = some_at _ (interior_at a.nodes root.0) top_root value truth.1.named in
           subst (λ (x : ArenaView). Goes now a x w (root.0 ∷ half ∷ []) (half ∷ []) (ThenPosts Ended begun posting x) × SameContent (arena_seen a) (arena_seen x)) (sym same)
           (named_so now begun w prefix world border known truth.1 (subst (λ (x : ArenaView). KeepsAlong a x (NamesRootAt a n root.0)) same keeps));
+      same = refl;
+      waits = tt;
+      ends =
+          let (less, spare_goal) = true_at may.begun a may.w posting (RootFilled old root) is may.true in
+          let spare = subst (λ (o : List Split). IsSpareInterior a may.w root.0 (root_over old (goal posting.half posting.low o))) none spare_goal in
+          some_at _ (interior_at a.nodes root.0) top_root value spare.named;
+      gets_on = none;
     })
 
 -- ---- the number is given back
@@ -338,7 +368,7 @@ module _ (a : ArenaView) (posting : Posting) (root : NodeNo) (is : posting.stage
         not_retired a may.w may.now root.0 may.world spare.unknown,
       )
 
-  pub gives_back : (after : ArenaView) → after ≡ without_node a root.0 → KeepsUnknown a after root.0 → PostLaw a after posting Moved (record posting { stage = Walks posting.head })
+  pub gives_back : (after : ArenaView) → after ≡ without_node a root.0 → KeepsUnknown a after root.0 → PostStep a after posting Moved (record posting { stage = Walks posting.head })
   gives_back after value keeps = at_stage a after posting posting.waiting (RootLate root) Moved (record posting { stage = Walks posting.head }) refl is (record {
     steps = λ now begun w prefix world before border known all truth.
         let (i, above, spare) = truth in
@@ -355,4 +385,8 @@ module _ (a : ArenaView) (posting : Posting) (root : NodeNo) (is : posting.stage
           prefix,
           record { border = stay.0; head = known; waiting = stay.1; stage = from_head begun prefix (goal posting.half posting.low waiting) posting.head.0 w known },
         ));
+    same = refl;
+    waits = tt;
+    ends = tt;
+    gets_on = refl;
   })

@@ -1,5 +1,5 @@
 -- The steps of a posting that make twins, and that end them: the new half of an interior is named, and then the interior is cut.
-use Rattle.std.proofs.Common.{ℕ, suc, ◌≡◌, ◌≢◌, ◌≤◌, ◌<◌, ◌⊎◌, inl, inr, List, [], ◌∷◌, Option, Some, None, IsSome, true, false, refl, sym, ap, subst, ◌∙◌, arith}
+use Rattle.std.proofs.Common.{ℕ, ◌≡◌, ◌≢◌, ◌≤◌, ◌<◌, ◌⊎◌, inl, inr, List, ◌∷◌, Option, Some, IsSome, true, false, refl, sym, ap, subst, ◌∙◌, arith}
 use Rattle.std.specs.Prelude.{IsSomeAnd}
 use Rattle.std.specs.Option.{option_and_then}
 use Rattle.mt_types.specs.declared.numbers.NodeNo.{NodeNo}
@@ -9,13 +9,11 @@ use Rattle.mt_interior.specs.declared.interior.TheConstants.{KEPT_CHILDREN}
 use Rattle.mt_arena.specs.Node.{node_at, interior_at, interior_of}
 use Rattle.mt_arena.specs.Arena.{ArenaView, with_interior_changed}
 use Rattle.mt_chart.specs.Tree.{first, later, Among}
-use Rattle.mt_chart.specs.Chart.{Role, at_level, on, Spot, spot, Chart}
+use Rattle.mt_chart.specs.Chart.{at_level, on, Spot, spot, Chart}
 use Rattle.mt_chart.specs.Steps.{Twin, AreTwins, SameContent}
 use Rattle.mt_chart.proofs.Entries.{among_cases}
 use Rattle.mt_chart.proofs.Walk.{known_kept}
-use Rattle.mt_tree.specs.Seen.{arena_seen, interior_seen}
-use Rattle.mt_tree.proofs.SeenLemmas.{seen-interior}
-use Rattle.mt_tree.proofs.InteriorPlaces.{stands_as}
+use Rattle.mt_tree.specs.Seen.{arena_seen}
 use Rattle.mt_tree.specs.InteriorSteps.{HasUpperChildren, HasRoomFrom, KeepsHalf}
 use Rattle.mt_calls.specs.World.{World, IsWorld, IsLockedInterior, TwinsAreLocked, HasSameTwins, IsTaken, Goes}
 use Rattle.mt_calls.proofs.BorderLemmas.{keys_same, known_stays, twins_beside, retired_kept}
@@ -26,8 +24,9 @@ use Rattle.mt_post.specs.declared.posting.Progressed.TheVariants.{Moved}
 use Rattle.mt_post.specs.declared.split.Split.{Split}
 use Rattle.mt_post.specs.declared.posting.PostStage.TheVariants.{Walks, HalfPosted}
 use Rattle.mt_post.specs.Causes.{HasRoomAt}
-use Rattle.mt_post.specs.Posting.{goal, split_owns, AreWaiting, PostStageIsTrue, IsToPost, IsHeadOf, IsWalking, IsHalved, IsPostedHalf, upper_half, PostingIsTrue, PostLaw, MayPost}
-use Rattle.mt_post.proofs.StepLemmas.{goes_with, heads_beside, interior_others, interior_no_head, interior_border, interior_taken, interior_is_taken, not_both}
+use Rattle.mt_post.specs.Posting.{goal, split_owns, AreWaiting, IsToPost, IsHeadOf, IsWalking, IsHalved, IsPostedHalf, upper_half, PostingIsTrue, MayPost}
+use Rattle.mt_post.specs.Follows.{FollowsInterior, PostStep}
+use Rattle.mt_post.proofs.StepLemmas.{goes_with, heads_beside, interior_others, interior_no_head, interior_taken, interior_is_taken, not_both}
 use Rattle.mt_post.proofs.WalkLemmas.{at_stage, true_at, known_some, heads_were, in_layer, is_above, room_for}
 use Rattle.mt_post.proofs.KeptLemmas.{all_stay, apart_known, owns_beside, beside_half}
 
@@ -224,13 +223,17 @@ module _ (a : ArenaView) (posting : Posting) (node : NodeNo) (split : Split) (wa
         kept.content,
       )
 
-  pub posts_half : (after : ArenaView) → IsSomeAnd (interior_at a.nodes split.half.node.0) (λ upper. after ≡ with_interior_changed a n (names upper)) → KeepsHalf a after n split.half.node.0 → PostLaw a after posting Moved then
+  pub posts_half : (after : ArenaView) → IsSomeAnd (interior_at a.nodes split.half.node.0) (λ upper. after ≡ with_interior_changed a n (names upper)) → KeepsHalf a after n split.half.node.0 → PostStep a after posting Moved then
   posts_half after value keeps = at_stage a after posting (split ∷ waiting) (Walks node) Moved then some is (record {
     steps = λ now begun w prefix world before t known all truth.
         let h = all.1 in
         let same : after ≡ with_interior_changed a n (names (upper_half h.interior split.half.low)) = some_at _ (interior_at a.nodes split.half.node.0) (upper_half h.interior split.half.low) value h.spare.named in
         subst (λ (x : ArenaView). Goes now a x w owns owns (λ next. PostingIsTrue begun then x next) × SameContent (arena_seen a) (arena_seen x)) (sym same)
         (named_so now begun w prefix world before t known all truth (subst (λ (x : ArenaView). KeepsHalf a x n split.half.node.0) same keeps));
+    same = refl;
+    waits = tt;
+    ends = tt;
+    gets_on = inr (subst (λ (o : Option InteriorView). IsSomeAnd o (FollowsInterior posting then node)) (sym r.named) (inr (r.stops, inl (r.room, (split, some, refl)))));
   })
 
   -- what the call asks

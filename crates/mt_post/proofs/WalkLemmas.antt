@@ -5,7 +5,7 @@ use Rattle.std.specs.Option.{option_map}
 use Rattle.mt_types.specs.declared.numbers.NodeNo.{NodeNo}
 use Rattle.mt_border.specs.Border.{BorderView}
 use Rattle.mt_interior.specs.Head.{HeadView}
-use Rattle.mt_interior.specs.Interior.{InteriorView, with_child}
+use Rattle.mt_interior.specs.Interior.{InteriorView, children_up_to, with_child}
 use Rattle.mt_interior.specs.declared.child.Child.{Child}
 use Rattle.mt_interior.specs.declared.interior.TheConstants.{MAX_CHILDREN}
 use Rattle.mt_arena.specs.Node.{node_at, head_at, interior_at, border_at}
@@ -36,23 +36,35 @@ use Rattle.mt_post.specs.declared.posting.Root.{Root}
 use Rattle.mt_post.specs.declared.split.Split.{Split}
 use Rattle.mt_post.specs.declared.posting.PostStage.{PostStage}
 use Rattle.mt_post.specs.declared.posting.PostStage.TheVariants.{Walks, RootWanted, HalfLeftOut}
-use Rattle.mt_post.specs.Posting.{stage_owns, owned_after, IsToPost, IsHeadOf, IsAbove, goal, goal_level, split_owns, IsWalking, PostStageIsTrue, AreWaiting, IsHalved, PostingIsTrue, ThenPosts, PostLaw, NewPostingIsTrue, MayPost}
+use Rattle.mt_post.specs.Posting.{stage_owns, owned_after, IsToPost, IsHeadOf, IsAbove, goal, split_owns, IsWalking, PostStageIsTrue, AreWaiting, PostingIsTrue, ThenPosts, NewPostingIsTrue, MayPost}
+use Rattle.mt_post.specs.Causes.{IsHeldBack, CanLeaveOut, PostStageWaits, PostStageEnds}
+use Rattle.mt_post.specs.Follows.{FollowsHead, FollowsInterior, StageFollows, Follows, PostStep}
 use Rattle.mt_calls.specs.World.{IsLockedBorder}
 use Rattle.mt_post.proofs.StepLemmas.{at_chart, goes_at, heads_beside, interior_others, interior_no_head, interior_border, interior_taken, interior_is_taken, not_both}
 
--- ---- the law of a step, of a posting that is at a stage
-pub record StageLaw (a after : ArenaView) (posting : Posting) (waiting : List Split) (stage : PostStage) (p : Progressed) (then : Posting) : Type 0 where
+-- ---- what a step does, of a posting that is at a stage
+pub record StageStep (a after : ArenaView) (posting : Posting) (waiting : List Split) (stage : PostStage) (p : Progressed) (then : Posting) : Type 0 where
   pub steps : (now begun : ℕ) (w : World) (prefix : List ℕ) → IsWorld a now w → begun ≤ now → IsToPost a w prefix posting.half.0 posting.low → IsHeadOf w begun posting.head.0 prefix → AreWaiting a w prefix waiting
       → PostStageIsTrue begun prefix posting.half posting.low waiting stage a w
       → Goes now a after w (stage_owns posting.half.0 waiting stage) (owned_after p then) (ThenPosts p begun then after) × SameContent (arena_seen a) (arena_seen after)
+  pub same : then ≡ record posting { waiting = then.waiting; stage = then.stage }
+  pub waits : PostStageWaits a stage p
+  pub ends : PostStageEnds a after posting stage p
+  pub gets_on : Follows a posting stage p then
 
-pub at_stage : (a after : ArenaView) (posting : Posting) (waiting : List Split) (stage : PostStage) (p : Progressed) (then : Posting) → posting.waiting ≡ waiting → posting.stage ≡ stage → StageLaw a after posting waiting stage p then → PostLaw a after posting p then
-at_stage a after posting waiting stage p then has is law = record {
-  steps = λ now begun w world before truth.
-      let (prefix, t) = truth in
-      subst (λ (s : PostStage). Goes now a after w (stage_owns posting.half.0 posting.waiting s) (owned_after p then) (ThenPosts p begun then after) × SameContent (arena_seen a) (arena_seen after)) (sym is)
-      (subst (λ (o : List Split). Goes now a after w (stage_owns posting.half.0 o stage) (owned_after p then) (ThenPosts p begun then after) × SameContent (arena_seen a) (arena_seen after)) (sym has)
-      (law.steps now begun w prefix world before t.border t.head (subst (λ (o : List Split). AreWaiting a w prefix o) has t.waiting) (subst (λ (o : List Split). PostStageIsTrue begun prefix posting.half posting.low o stage a w) has (subst (λ (s : PostStage). PostStageIsTrue begun prefix posting.half posting.low posting.waiting s a w) is t.stage))));
+pub at_stage : (a after : ArenaView) (posting : Posting) (waiting : List Split) (stage : PostStage) (p : Progressed) (then : Posting) → posting.waiting ≡ waiting → posting.stage ≡ stage → StageStep a after posting waiting stage p then → PostStep a after posting p then
+at_stage a after posting waiting stage p then has is step = record {
+  same = step.same;
+  law = record {
+    steps = λ now begun w world before truth.
+        let (prefix, t) = truth in
+        subst (λ (s : PostStage). Goes now a after w (stage_owns posting.half.0 posting.waiting s) (owned_after p then) (ThenPosts p begun then after) × SameContent (arena_seen a) (arena_seen after)) (sym is)
+        (subst (λ (o : List Split). Goes now a after w (stage_owns posting.half.0 o stage) (owned_after p then) (ThenPosts p begun then after) × SameContent (arena_seen a) (arena_seen after)) (sym has)
+        (step.steps now begun w prefix world before t.border t.head (subst (λ (o : List Split). AreWaiting a w prefix o) has t.waiting) (subst (λ (o : List Split). PostStageIsTrue begun prefix posting.half posting.low o stage a w) has (subst (λ (s : PostStage). PostStageIsTrue begun prefix posting.half posting.low posting.waiting s a w) is t.stage))));
+  };
+  waits = subst (λ (s : PostStage). PostStageWaits a s p) (sym is) step.waits;
+  ends = subst (λ (s : PostStage). PostStageEnds a after posting s p) (sym is) step.ends;
+  gets_on = subst (λ (s : PostStage). Follows a posting s p then) (sym is) step.gets_on;
 }
 
 -- what is true of the stage where it is
@@ -106,29 +118,49 @@ module _ (a : ArenaView) (posting : Posting) where
   same_content key row = ((λ h. h), (λ h. h))
 
   -- the border is left out
-  pub left_out : (stage : PostStage) (left : List Split) → stage_owns posting.half.0 [] stage ≡ posting.half.0 ∷ [] → posting.waiting ≡ [] → posting.stage ≡ stage → PostLaw a a posting Ended (record posting { waiting = left })
-  left_out stage left owns none is = at_stage a a posting [] stage Ended (record posting { waiting = left }) none is (record {
+  pub left_out : (stage : PostStage) (left : List Split) → stage_owns posting.half.0 [] stage ≡ posting.half.0 ∷ [] → posting.waiting ≡ [] → posting.stage ≡ stage → PostStageWaits a stage Ended → PostStageEnds a a posting stage Ended
+      → PostStep a a posting Ended (record posting { waiting = left })
+  left_out stage left owns none is waits ends = at_stage a a posting [] stage Ended (record posting { waiting = left }) none is (record {
     steps = λ now begun w prefix world before border known all truth. (goes_same now a w _ (stage_owns posting.half.0 [] stage) (posting.half.0 ∷ []) owns world (still_locked a w prefix posting.half.0 posting.low border), same_content);
+    same = refl;
+    waits = waits;
+    ends = ends;
+    gets_on = none;
   })
 
-  module _ (waiting next_waiting : List Split) (stage next : PostStage) (owns : stage_owns posting.half.0 waiting stage ≡ stage_owns posting.half.0 next_waiting next) (has : posting.waiting ≡ waiting) (is : posting.stage ≡ stage) where
+  module _ (p : Progressed) (waiting next_waiting : List Split) (stage next : PostStage) (owns : stage_owns posting.half.0 waiting stage ≡ stage_owns posting.half.0 next_waiting next) (has : posting.waiting ≡ waiting) (is : posting.stage ≡ stage) where
+    abbrev then : Posting
+    then = record posting { waiting = next_waiting; stage = next }
+
     abbrev ThenStage : Type 0
     ThenStage = (now begun : ℕ) (w : World) (prefix : List ℕ) → IsWorld a now w → IsToPost a w prefix posting.half.0 posting.low → IsHeadOf w begun posting.head.0 prefix → AreWaiting a w prefix waiting
         → PostStageIsTrue begun prefix posting.half posting.low waiting stage a w → AreWaiting a w prefix next_waiting × PostStageIsTrue begun prefix posting.half posting.low next_waiting next a w
 
-    pub goes_on : ThenStage → PostLaw a a posting Moved (record posting { waiting = next_waiting; stage = next })
-    goes_on then = at_stage a a posting waiting stage Moved (record posting { waiting = next_waiting; stage = next }) has is (record {
+    goes_so : (p ≡ Moved) ⊎ (p ≡ Waits) → ThenStage → PostStageWaits a stage p → PostStageEnds a a posting stage p → Follows a posting stage p then → PostStep a a posting p then
+    goes_so either goes waits ends gets_on = at_stage a a posting waiting stage p then has is (record {
       steps = λ now begun w prefix world before border known all truth.
-          let both = then now begun w prefix world border known all truth in
-          (goes_same now a w _ (stage_owns posting.half.0 waiting stage) (stage_owns posting.half.0 next_waiting next) owns world (prefix, record { border = border; head = known; waiting = both.0; stage = both.1 }), same_content);
+          let both = goes now begun w prefix world border known all truth in
+          let t : PostingIsTrue begun then a w = (prefix, record { border = border; head = known; waiting = both.0; stage = both.1 }) in
+          elim either [
+            | inl e ↦ subst (λ (q : Progressed). Goes now a a w (stage_owns posting.half.0 waiting stage) (owned_after q then) (ThenPosts q begun then a) × SameContent (arena_seen a) (arena_seen a)) (sym e)
+                (goes_same now a w _ (stage_owns posting.half.0 waiting stage) (stage_owns posting.half.0 next_waiting next) owns world t, same_content)
+            | inr e ↦ subst (λ (q : Progressed). Goes now a a w (stage_owns posting.half.0 waiting stage) (owned_after q then) (ThenPosts q begun then a) × SameContent (arena_seen a) (arena_seen a)) (sym e)
+                (goes_same now a w _ (stage_owns posting.half.0 waiting stage) (stage_owns posting.half.0 next_waiting next) owns world t, same_content)
+          ];
+      same = refl;
+      waits = waits;
+      ends = ends;
+      gets_on = gets_on;
     })
 
-    pub waits_on : ThenStage → PostLaw a a posting Waits (record posting { waiting = next_waiting; stage = next })
-    waits_on then = at_stage a a posting waiting stage Waits (record posting { waiting = next_waiting; stage = next }) has is (record {
-      steps = λ now begun w prefix world before border known all truth.
-          let both = then now begun w prefix world border known all truth in
-          (goes_same now a w _ (stage_owns posting.half.0 waiting stage) (stage_owns posting.half.0 next_waiting next) owns world (prefix, record { border = border; head = known; waiting = both.0; stage = both.1 }), same_content);
-    })
+  module _ (waiting next_waiting : List Split) (stage next : PostStage) (owns : stage_owns posting.half.0 waiting stage ≡ stage_owns posting.half.0 next_waiting next) (has : posting.waiting ≡ waiting) (is : posting.stage ≡ stage) where
+    pub goes_on : ThenStage Moved waiting next_waiting stage next owns has is → PostStageWaits a stage Moved → PostStageEnds a a posting stage Moved → Follows a posting stage Moved (record posting { waiting = next_waiting; stage = next })
+        → PostStep a a posting Moved (record posting { waiting = next_waiting; stage = next })
+    goes_on goes waits ends gets_on = goes_so Moved waiting next_waiting stage next owns has is (inl refl) goes waits ends gets_on
+
+    pub waits_on : ThenStage Waits waiting next_waiting stage next owns has is → PostStageWaits a stage Waits → PostStageEnds a a posting stage Waits → Follows a posting stage Waits (record posting { waiting = next_waiting; stage = next })
+        → PostStep a a posting Waits (record posting { waiting = next_waiting; stage = next })
+    waits_on goes waits ends gets_on = goes_so Waits waiting next_waiting stage next owns has is (inr refl) goes waits ends gets_on
 
 -- ---- at a head
 -- the root of a head that is not marked deleted
@@ -162,7 +194,7 @@ module _ (a : ArenaView) (posting : Posting) (node : NodeNo) (is : posting.stage
   walks_wanted : (begun : ℕ) (prefix : List ℕ) (number : ℕ) (w : World) → IsWalking begun prefix (goal posting.half posting.low posting.waiting) number w → IsWalking begun prefix wanted number w
   walks_wanted begun prefix number w at = subst (λ (g : Child). IsWalking begun prefix g number w) (sym is_goal) at
 
-  pub head_leads : (h : HeadView) (root : NodeNo) (level : ℕ) → head_at a.nodes node.0 ≡ Some h → h.version.deleted ≡ false → root ≡ h.root → level ≡ h.level → wanted.level < level → PostLaw a a posting Moved (record posting { stage = Walks root })
+  pub head_leads : (h : HeadView) (root : NodeNo) (level : ℕ) → head_at a.nodes node.0 ≡ Some h → h.version.deleted ≡ false → root ≡ h.root → level ≡ h.level → wanted.level < level → PostStep a a posting Moved (record posting { stage = Walks root })
   head_leads h root level named alive same same_level from = goes_on a posting posting.waiting posting.waiting (Walks node) (Walks root) refl refl is (λ now begun w prefix world border known all truth.
       let (stands, is_root) = root_place a w.chart begun node.0 wanted.low prefix h world.index.tree ((walks_wanted begun prefix node.0 w truth).held) named alive in (
         all,
@@ -170,23 +202,31 @@ module _ (a : ArenaView) (posting : Posting) (node : NodeNo) (is : posting.stage
           held = record { role = at_level h.level; low = 0; standing = on true; place = ap (λ (r : NodeNo). w.chart r.0) same ∙ is_root; at_most = omega arith; since = λ epoch e. absurd (let clash : on true ≡ gone epoch = e in cc) };
           inner = subst (λ (l : ℕ). wanted.level < l) same_level from;
         }),
-      ))
+      )) tt tt (inl (subst (λ (o : Option HeadView). IsSomeAnd o (FollowsHead posting (record posting { stage = Walks root }))) (sym named)
+      (inl (subst (λ (g : Child). g.level < h.level) is_goal (subst (λ (l : ℕ). wanted.level < l) same_level from), ap (λ (r : NodeNo). record posting { stage = Walks r }) same))))
 
-  pub head_lacks : (old : Root) → old.level ≤ wanted.level → PostLaw a a posting Moved (record posting { stage = RootWanted old })
-  head_lacks old less = goes_on a posting posting.waiting posting.waiting (Walks node) (RootWanted old) refl refl is (λ now begun w prefix world border known all truth. (all, subst (λ (g : Child). old.level < g.level + 1) is_goal (omega (arith, less))))
+  pub head_lacks : (h : HeadView) (old : Root) → head_at a.nodes node.0 ≡ Some h → old.node ≡ h.root → old.level ≡ h.level → old.level ≤ wanted.level → PostStep a a posting Moved (record posting { stage = RootWanted old })
+  head_lacks h old named same same_level less = goes_on a posting posting.waiting posting.waiting (Walks node) (RootWanted old) refl refl is (λ now begun w prefix world border known all truth. (all, subst (λ (g : Child). old.level < g.level + 1) is_goal (omega (arith, less)))) tt tt
+      (inl (subst (λ (o : Option HeadView). IsSomeAnd o (FollowsHead posting (record posting { stage = RootWanted old }))) (sym named)
+      (inr (inl (
+        subst (λ (g : Child). h.level ≤ g.level) is_goal (subst (λ (l : ℕ). l ≤ wanted.level) same_level less),
+        ap (λ (r : NodeNo). record posting { stage = RootWanted (record { node = r; level = old.level }) }) same ∙ ap (λ (l : ℕ). record posting { stage = RootWanted (record { node = h.root; level = l }) }) same_level,
+      )))))
 
   -- ---- at an interior
-  pub held_back : PostLaw a a posting Waits (record posting { stage = Walks posting.head })
-  held_back = waits_on a posting posting.waiting posting.waiting (Walks node) (Walks posting.head) refl refl is (λ now begun w prefix world border known all truth. (all, from_head begun prefix (goal posting.half posting.low posting.waiting) posting.head.0 w known))
+  pub held_back : IsHeldBack a node.0 → PostStep a a posting Waits (record posting { stage = Walks posting.head })
+  held_back cause = waits_on a posting posting.waiting posting.waiting (Walks node) (Walks posting.head) refl refl is (λ now begun w prefix world border known all truth. (all, from_head begun prefix (goal posting.half posting.low posting.waiting) posting.head.0 w known)) cause tt refl
 
-  pub child_leads : (i : InteriorView) (place : ℕ) (child : Child) → interior_at a.nodes node.0 ≡ Some i → i.version.deleted ≡ false → slice_get i.children place ≡ Some child → child.low ≤ wanted.low → wanted.level < child.level
-      → PostLaw a a posting Moved (record posting { stage = Walks child.node })
-  child_leads i place child named alive read from_low from = goes_on a posting posting.waiting posting.waiting (Walks node) (Walks child.node) refl refl is (λ now begun w prefix world border known all truth.
+  pub child_leads : (i : InteriorView) (place : ℕ) (child : Child) → interior_at a.nodes node.0 ≡ Some i → i.version.deleted ≡ false → place + 1 ≡ children_up_to wanted.low i.children → slice_get i.children place ≡ Some child → child.low ≤ wanted.low → wanted.level < child.level
+      → PostStep a a posting Moved (record posting { stage = Walks child.node })
+  child_leads i place child named alive leads read from_low from = goes_on a posting posting.waiting posting.waiting (Walks node) (Walks child.node) refl refl is (λ now begun w prefix world border known all truth.
       let there = seen-interior a node.0 i named in
       let at = walks_wanted begun prefix node.0 w truth in
       let stands = stands_as (arena_seen a) w.chart node.0 (interior_seen i) world.index.tree there at.held.role prefix at.held.low at.held.standing at.held.place in
       let held = children_held (arena_seen a) w.chart world.index.tree begun node.0 wanted.low prefix (interior_seen i) (child_seen child) at.held there alive (among_read i.children place child read) from_low in
-      (all, walks_for begun prefix child.node.0 w (record { held = held; inner = subst (λ (r : Role). IsAbove wanted.level r) (sym (role_is w.chart held.role held.standing prefix held.low at.held.standing stands.below at.held.low held.place stands.ok)) from })))
+      (all, walks_for begun prefix child.node.0 w (record { held = held; inner = subst (λ (r : Role). IsAbove wanted.level r) (sym (role_is w.chart held.role held.standing prefix held.low at.held.standing stands.below at.held.low held.place stands.ok)) from }))) tt tt
+      (inr (subst (λ (o : Option InteriorView). IsSomeAnd o (FollowsInterior posting (record posting { stage = Walks child.node }) node)) (sym named)
+      (inl (record { place = place; child = child; leads = subst (λ (g : Child). place + 1 ≡ children_up_to g.low i.children) is_goal leads; is_child = read; above = subst (λ (g : Child). g.level < child.level) is_goal from; goes = refl }))))
     where
       role_is : (chart : Chart) (role : Role) (standing : Standing) (prefix : List ℕ) (low : ℕ) (namer : Standing) (below least : ℕ) → chart child.node.0 ≡ Some (spot role prefix low standing)
           → (((epoch : ℕ) × (namer ≡ gone epoch)) × ((interior_seen i).deleted ≡ true)) ⊎ AreChildren chart namer prefix least (suc below) (children_seen i.children) → role ≡ at_level child.level
@@ -236,12 +276,16 @@ module _ (a : ArenaView) (posting : Posting) (node : NodeNo) (is : posting.stage
     abbrev names : ℕ → InteriorView → InteriorView
     names low x = with_child x (record { low = low; node = posting.half; level = 0 })
 
-    pub posts : (after : ArenaView) (left : List Split) → posting.waiting ≡ [] → IsSomeAnd (border_at a.nodes posting.half.0) (λ border. after ≡ with_interior_changed a node.0 (names border.low)) → KeepsAlong a after (PostsAt node.0 posting.half.0) → PostLaw a after posting Ended (record posting { waiting = left })
-    posts after left none value keeps = at_stage a after posting [] (Walks node) Ended (record posting { waiting = left }) none is (record {
+    pub posts : (after : ArenaView) (left : List Split) → posting.waiting ≡ [] → IsSomeAnd (border_at a.nodes posting.half.0) (λ border. after ≡ with_interior_changed a node.0 (names border.low)) → KeepsAlong a after (PostsAt node.0 posting.half.0) → MayPost a posting → PostStep a after posting Ended (record posting { waiting = left })
+    posts after left none value keeps may = at_stage a after posting [] (Walks node) Ended (record posting { waiting = left }) none is (record {
       steps = λ now begun w prefix world before border known all truth.
           let same : after ≡ with_interior_changed a node.0 (names border.b.low) = some_at _ (border_at a.nodes posting.half.0) border.b value border.named in
           subst (λ (x : ArenaView). Goes now a x w (posting.half.0 ∷ []) (posting.half.0 ∷ []) (ThenPosts Ended begun posting x) × SameContent (arena_seen a) (arena_seen x)) (sym same)
           (posted now begun w prefix world border truth (subst (λ (x : ArenaView). KeepsAlong a x (PostsAt node.0 posting.half.0)) same keeps));
+      same = refl;
+      waits = tt;
+      ends = inl (let border = may.true.1.border in some_at _ (border_at a.nodes posting.half.0) border.b value border.named ∙ ap (λ (l : ℕ). with_interior_changed a node.0 (names l)) border.low_is);
+      gets_on = none;
     })
       where
         posted : (now begun : ℕ) (w : World) (prefix : List ℕ) → IsWorld a now w → (border : IsToPost a w prefix posting.half.0 posting.low) → IsWalking begun prefix (goal posting.half posting.low []) node.0 w
@@ -280,9 +324,19 @@ module _ (a : ArenaView) (posting : Posting) (node : NodeNo) (is : posting.stage
         (subst (λ (l : ℕ). IsSomeAnd (interior_at a.nodes node.0) (HasRoomFrom l)) (ap (λ (c : Child). c.low) (is_goal ∙ ap (goal posting.half posting.low) none) ∙ sym border.low_is) (room_for may room))
 
 -- ---- what is to be named is left out
-module _ (a : ArenaView) (posting : Posting) (stage : PostStage) (owns : (waiting : List Split) → stage_owns posting.half.0 waiting stage ≡ split_owns posting.half.0 waiting) (is : posting.stage ≡ stage) where
-  pub half_left_out : (split : Split) (waiting : List Split) → posting.waiting ≡ split ∷ waiting → PostLaw a a posting Moved (record posting { waiting = waiting; stage = HalfLeftOut split })
-  half_left_out split waiting some = goes_on a posting (split ∷ waiting) waiting stage (HalfLeftOut split) (owns (split ∷ waiting)) some is (λ now begun w prefix world border known all truth. let (above, halved, more) = all in (more, (above, halved)))
+is_some_weaker : {T : Type 0} (o : Option T) (P Q : T → Type 0) → ((x : T) → P x → Q x) → IsSomeAnd o P → IsSomeAnd o Q
+is_some_weaker None P Q weaker h = h
+is_some_weaker (Some x) P Q weaker h = weaker x h
 
-  pub all_left_out : (left : List Split) → posting.waiting ≡ [] → PostLaw a a posting Ended (record posting { waiting = left })
-  all_left_out left none = left_out a posting stage left (owns []) none is
+module _ (a : ArenaView) (posting : Posting) (stage : PostStage) (owns : (waiting : List Split) → stage_owns posting.half.0 waiting stage ≡ split_owns posting.half.0 waiting) (is : posting.stage ≡ stage) where
+  pub half_left_out : (split : Split) (waiting : List Split) → posting.waiting ≡ split ∷ waiting → PostStageWaits a stage Moved → PostStageEnds a a posting stage Moved → Follows a posting stage Moved (record posting { waiting = waiting; stage = HalfLeftOut split })
+      → PostStep a a posting Moved (record posting { waiting = waiting; stage = HalfLeftOut split })
+  half_left_out split waiting some waits ends gets_on = goes_on a posting (split ∷ waiting) waiting stage (HalfLeftOut split) (owns (split ∷ waiting)) some is (λ now begun w prefix world border known all truth. let (above, halved, more) = all in (more, (above, halved))) waits ends gets_on
+
+  pub all_left_out : (left : List Split) → posting.waiting ≡ [] → PostStageWaits a stage Ended → PostStageEnds a a posting stage Ended → PostStep a a posting Ended (record posting { waiting = left })
+  all_left_out left none waits ends = left_out a posting stage left (owns []) none is waits ends
+
+-- at a node where it can be
+pub follows_left_out : (a : ArenaView) (posting : Posting) (node : NodeNo) (split : Split) (waiting : List Split) → posting.waiting ≡ split ∷ waiting → CanLeaveOut a posting node.0 → StageFollows a posting (Walks node) (record posting { waiting = waiting; stage = HalfLeftOut split })
+follows_left_out a posting node split waiting some (inl marked) = inl (is_some_weaker (head_at a.nodes node.0) _ _ (λ head deleted. inr (inr (deleted, (split, some, refl)))) marked)
+follows_left_out a posting node split waiting some (inr full) = inr (is_some_weaker (interior_at a.nodes node.0) _ _ (λ i at. inr (at.0, inr (at.1, inr (at.2, (split, some, refl))))) full)

@@ -1,5 +1,5 @@
 -- What is true of a posting, at each of its stages, and the law of its step.
-use Rattle.std.specs.Prelude.{ℕ, ◌≡◌, ◌≢◌, ◌⊎◌, ◌<◌, ◌≤◌, ◌+◌, List, [], ◌∷◌, length, drop, slice_get, Option, Some, None, IsSome, true, false}
+use Rattle.std.specs.Prelude.{ℕ, ◌≡◌, ◌⊎◌, ◌<◌, ◌≤◌, ◌+◌, List, [], ◌∷◌, length, drop, slice_get, Some, None, true, false}
 use Rattle.mt_types.specs.declared.limits.TheConstants.{MAX_LEVEL}
 use Rattle.mt_types.specs.declared.numbers.NodeNo.{NodeNo}
 use Rattle.mt_border.specs.Border.{BorderView}
@@ -66,6 +66,9 @@ IsHeadOf w begun number prefix = Known w.chart begun number top prefix 0
 abbrev pub goal : NodeNo → ℕ → List Split → Child
 goal half low [] = record { low = low; node = half; level = 0 }
 goal half low (split ∷ waiting) = split.half
+
+abbrev pub goal_of : Posting → Child
+goal_of posting = goal posting.half posting.low posting.waiting
 
 -- its level
 abbrev pub goal_level : List Split → ℕ

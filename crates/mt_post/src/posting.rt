@@ -5,6 +5,7 @@ ghost use Rattle.mt_arena.specs.Node.{head_at, interior_at};
 ghost use Rattle.mt_arena.specs.Arena.{IsArena};
 ghost use Rattle.mt_post.specs.Posting.{PostLaw, MayPost, NewPostingIsTrue, goal};
 ghost use Rattle.mt_post.specs.Causes.{PostWaits, PostEnds, CanLeaveOut, IsFullAt, HasRoomAt, IsRootStill};
+ghost use Rattle.mt_post.specs.Follows.{PostFollows, PostStep};
 
 use crate::split::Split;
 use crate::waiting::Waiting;
@@ -107,12 +108,9 @@ impl Posting {
     // What is to be named is left out, at a node that is seen.
     fn leave_out(&mut self, tree: &Tree, node: NodeNo) -> Progressed
         requires walks { self.old.stage ≡ PostStage.Walks node }
-        requires cause { CanLeaveOut tree.now node.0 }
+        requires cause { CanLeaveOut tree.now self.old node.0 }
         requires may { MayPost tree.now self.old }
-        ensures same { self.new ≡ record self.old { waiting = self.new.waiting; stage = self.new.stage } }
-        ensures steps { PostLaw tree.now tree.now self.old result self.new }
-        ensures waits { PostWaits tree.now self.old result }
-        ensures ends { PostEnds tree.now tree.now self.old result }
+        ensures { PostStep tree.now tree.now self.old result self.new }
     {
         let Some(split) = self.waiting.pop() else {
             return Progressed::Ended;
@@ -126,10 +124,7 @@ impl Posting {
         requires walks { self.old.stage ≡ PostStage.Walks node }
         requires head { IsSome (head_at tree.now.nodes node.0) }
         requires may { MayPost tree.now self.old }
-        ensures same { self.new ≡ record self.old { waiting = self.new.waiting; stage = self.new.stage } }
-        ensures steps { PostLaw tree.now tree.now self.old result self.new }
-        ensures waits { PostWaits tree.now self.old result }
-        ensures ends { PostEnds tree.now tree.now self.old result }
+        ensures { PostStep tree.now tree.now self.old result self.new }
     {
         let head = tree.head(node);
         if head.is_deleted() {
@@ -150,10 +145,7 @@ impl Posting {
         requires walks { self.old.stage ≡ PostStage.Walks node }
         requires room { HasRoomAt tree.old self.old node.0 }
         requires may { MayPost tree.old self.old }
-        ensures same { self.new ≡ record self.old { waiting = self.new.waiting; stage = self.new.stage } }
-        ensures steps { PostLaw tree.old tree.new self.old result self.new }
-        ensures waits { PostWaits tree.old self.old result }
-        ensures ends { PostEnds tree.old tree.new self.old result }
+        ensures { PostStep tree.old tree.new self.old result self.new }
     {
         let Some(split) = self.waiting.pop() else {
             tree.post_border(node, self.half);
@@ -167,12 +159,9 @@ impl Posting {
     // At an interior that is full: it is locked, to be split, but for one of the greatest level.
     fn meet_full(&mut self, tree: &mut Tree, node: NodeNo) -> Progressed
         requires walks { self.old.stage ≡ PostStage.Walks node }
-        requires full { IsFullAt tree.old node.0 }
+        requires full { IsFullAt tree.old self.old node.0 }
         requires may { MayPost tree.old self.old }
-        ensures same { self.new ≡ record self.old { waiting = self.new.waiting; stage = self.new.stage } }
-        ensures steps { PostLaw tree.old tree.new self.old result self.new }
-        ensures waits { PostWaits tree.old self.old result }
-        ensures ends { PostEnds tree.old tree.new self.old result }
+        ensures { PostStep tree.old tree.new self.old result self.new }
     {
         if tree.interior(node).level() == MAX_LEVEL {
             return self.leave_out(tree, node);
@@ -187,10 +176,7 @@ impl Posting {
         requires walks { self.old.stage ≡ PostStage.Walks node }
         requires interior { IsSome (interior_at tree.old.nodes node.0) }
         requires may { MayPost tree.old self.old }
-        ensures same { self.new ≡ record self.old { waiting = self.new.waiting; stage = self.new.stage } }
-        ensures steps { PostLaw tree.old tree.new self.old result self.new }
-        ensures waits { PostWaits tree.old self.old result }
-        ensures ends { PostEnds tree.old tree.new self.old result }
+        ensures { PostStep tree.old tree.new self.old result self.new }
     {
         let interior = tree.interior(node);
         if interior.is_deleted() {
@@ -217,10 +203,7 @@ impl Posting {
     fn visit(&mut self, tree: &mut Tree, node: NodeNo) -> Progressed
         requires walks { self.old.stage ≡ PostStage.Walks node }
         requires may { MayPost tree.old self.old }
-        ensures same { self.new ≡ record self.old { waiting = self.new.waiting; stage = self.new.stage } }
-        ensures steps { PostLaw tree.old tree.new self.old result self.new }
-        ensures waits { PostWaits tree.old self.old result }
-        ensures ends { PostEnds tree.old tree.new self.old result }
+        ensures { PostStep tree.old tree.new self.old result self.new }
     {
         match tree.node(node) {
             Node::Head(_) => self.visit_head(tree, node),
@@ -233,10 +216,7 @@ impl Posting {
     fn leave_out_root(&mut self, tree: &Tree, old: Root) -> Progressed
         requires wants { self.old.stage ≡ PostStage.RootWanted old }
         requires may { MayPost tree.now self.old }
-        ensures same { self.new ≡ record self.old { waiting = self.new.waiting; stage = self.new.stage } }
-        ensures steps { PostLaw tree.now tree.now self.old result self.new }
-        ensures waits { PostWaits tree.now self.old result }
-        ensures ends { PostEnds tree.now tree.now self.old result }
+        ensures { PostStep tree.now tree.now self.old result self.new }
     {
         let Some(split) = self.waiting.pop() else {
             return Progressed::Ended;
@@ -249,10 +229,7 @@ impl Posting {
     fn spare_root(&mut self, tree: &mut Tree, old: Root) -> Progressed
         requires wants { self.old.stage ≡ PostStage.RootWanted old }
         requires may { MayPost tree.old self.old }
-        ensures same { self.new ≡ record self.old { waiting = self.new.waiting; stage = self.new.stage } }
-        ensures steps { PostLaw tree.old tree.new self.old result self.new }
-        ensures waits { PostWaits tree.old self.old result }
-        ensures ends { PostEnds tree.old tree.new self.old result }
+        ensures { PostStep tree.old tree.new self.old result self.new }
     {
         let goal = self.goal();
         match tree.occupy(Node::Interior(Interior::new_locked(goal.level + 1, 0))) {
@@ -268,10 +245,7 @@ impl Posting {
     fn fill_root(&mut self, tree: &mut Tree, old: Root, root: NodeNo) -> Progressed
         requires spared { self.old.stage ≡ PostStage.RootSpared old root }
         requires may { MayPost tree.old self.old }
-        ensures same { self.new ≡ record self.old { waiting = self.new.waiting; stage = self.new.stage } }
-        ensures steps { PostLaw tree.old tree.new self.old result self.new }
-        ensures waits { PostWaits tree.old self.old result }
-        ensures ends { PostEnds tree.old tree.new self.old result }
+        ensures { PostStep tree.old tree.new self.old result self.new }
     {
         let first = Child {
             low: 0,
@@ -290,10 +264,7 @@ impl Posting {
         requires still { IsRootStill tree.old self.old.head.0 old }
         requires arena { IsArena tree.old }
         requires may { MayPost tree.old self.old }
-        ensures same { self.new ≡ record self.old { waiting = self.new.waiting; stage = self.new.stage } }
-        ensures steps { PostLaw tree.old tree.new self.old result self.new }
-        ensures waits { PostWaits tree.old self.old result }
-        ensures ends { PostEnds tree.old tree.new self.old result }
+        ensures { PostStep tree.old tree.new self.old result self.new }
     {
         let Some(split) = self.waiting.pop() else {
             tree.name_root(self.head, root);
@@ -308,10 +279,7 @@ impl Posting {
     fn name_root(&mut self, tree: &mut Tree, old: Root, root: NodeNo) -> Progressed
         requires filled { self.old.stage ≡ PostStage.RootFilled old root }
         requires may { MayPost tree.old self.old }
-        ensures same { self.new ≡ record self.old { waiting = self.new.waiting; stage = self.new.stage } }
-        ensures steps { PostLaw tree.old tree.new self.old result self.new }
-        ensures waits { PostWaits tree.old self.old result }
-        ensures ends { PostEnds tree.old tree.new self.old result }
+        ensures { PostStep tree.old tree.new self.old result self.new }
     {
         let head = tree.head(self.head);
         let (deleted, there) = (head.is_deleted(), head.root());
@@ -326,10 +294,7 @@ impl Posting {
     fn give_back(&mut self, tree: &mut Tree, root: NodeNo) -> Progressed
         requires late { self.old.stage ≡ PostStage.RootLate root }
         requires may { MayPost tree.old self.old }
-        ensures same { self.new ≡ record self.old { waiting = self.new.waiting; stage = self.new.stage } }
-        ensures steps { PostLaw tree.old tree.new self.old result self.new }
-        ensures waits { PostWaits tree.old self.old result }
-        ensures ends { PostEnds tree.old tree.new self.old result }
+        ensures { PostStep tree.old tree.new self.old result self.new }
     {
         tree.give_back(root);
         self.stage = PostStage::Walks(self.head);
@@ -340,10 +305,7 @@ impl Posting {
     fn spare_half(&mut self, tree: &mut Tree, interior: NodeNo) -> Progressed
         requires wants { self.old.stage ≡ PostStage.HalfWanted interior }
         requires may { MayPost tree.old self.old }
-        ensures same { self.new ≡ record self.old { waiting = self.new.waiting; stage = self.new.stage } }
-        ensures steps { PostLaw tree.old tree.new self.old result self.new }
-        ensures waits { PostWaits tree.old self.old result }
-        ensures ends { PostEnds tree.old tree.new self.old result }
+        ensures { PostStep tree.old tree.new self.old result self.new }
     {
         let split = tree.interior(interior);
         let (level, middle) = (split.level(), split.child(KEPT_CHILDREN));
@@ -363,10 +325,7 @@ impl Posting {
     fn fill_half(&mut self, tree: &mut Tree, interior: NodeNo, half: NodeNo) -> Progressed
         requires spared { self.old.stage ≡ PostStage.HalfSpared interior half }
         requires may { MayPost tree.old self.old }
-        ensures same { self.new ≡ record self.old { waiting = self.new.waiting; stage = self.new.stage } }
-        ensures steps { PostLaw tree.old tree.new self.old result self.new }
-        ensures waits { PostWaits tree.old self.old result }
-        ensures ends { PostEnds tree.old tree.new self.old result }
+        ensures { PostStep tree.old tree.new self.old result self.new }
     {
         let split = tree.interior(interior);
         let middle = split.child(KEPT_CHILDREN);
@@ -398,10 +357,7 @@ impl Posting {
     fn give_half_back(&mut self, tree: &mut Tree, split: Split) -> Progressed
         requires left { self.old.stage ≡ PostStage.HalfLeftOut split }
         requires may { MayPost tree.old self.old }
-        ensures same { self.new ≡ record self.old { waiting = self.new.waiting; stage = self.new.stage } }
-        ensures steps { PostLaw tree.old tree.new self.old result self.new }
-        ensures waits { PostWaits tree.old self.old result }
-        ensures ends { PostEnds tree.old tree.new self.old result }
+        ensures { PostStep tree.old tree.new self.old result self.new }
     {
         tree.give_back(split.half.node);
         self.stage = PostStage::LetGo(split.interior);
@@ -412,10 +368,7 @@ impl Posting {
     fn let_go(&mut self, tree: &mut Tree, interior: NodeNo) -> Progressed
         requires lets { self.old.stage ≡ PostStage.LetGo interior }
         requires may { MayPost tree.old self.old }
-        ensures same { self.new ≡ record self.old { waiting = self.new.waiting; stage = self.new.stage } }
-        ensures steps { PostLaw tree.old tree.new self.old result self.new }
-        ensures waits { PostWaits tree.old self.old result }
-        ensures ends { PostEnds tree.old tree.new self.old result }
+        ensures { PostStep tree.old tree.new self.old result self.new }
     {
         tree.unlock_interior(interior);
         let Some(split) = self.waiting.pop() else {
@@ -429,10 +382,7 @@ impl Posting {
     fn cut(&mut self, tree: &mut Tree, split: Split) -> Progressed
         requires posted { self.old.stage ≡ PostStage.HalfPosted split }
         requires may { MayPost tree.old self.old }
-        ensures same { self.new ≡ record self.old { waiting = self.new.waiting; stage = self.new.stage } }
-        ensures steps { PostLaw tree.old tree.new self.old result self.new }
-        ensures waits { PostWaits tree.old self.old result }
-        ensures ends { PostEnds tree.old tree.new self.old result }
+        ensures { PostStep tree.old tree.new self.old result self.new }
     {
         tree.keep_first(split.interior, KEPT_CHILDREN);
         tree.unlock_interior(split.interior);
@@ -444,23 +394,17 @@ impl Posting {
     fn unlock_half(&mut self, tree: &mut Tree, half: NodeNo) -> Progressed
         requires cut { self.old.stage ≡ PostStage.HalfCut half }
         requires may { MayPost tree.old self.old }
-        ensures same { self.new ≡ record self.old { waiting = self.new.waiting; stage = self.new.stage } }
-        ensures steps { PostLaw tree.old tree.new self.old result self.new }
-        ensures waits { PostWaits tree.old self.old result }
-        ensures ends { PostEnds tree.old tree.new self.old result }
+        ensures { PostStep tree.old tree.new self.old result self.new }
     {
         tree.unlock_interior(half);
         self.stage = PostStage::Walks(self.head);
         Progressed::Moved
     }
 
-    /// Visits one node.
-    pub fn step(&mut self, tree: &mut Tree) -> Progressed
+    // At each stage.
+    fn go(&mut self, tree: &mut Tree) -> Progressed
         requires { MayPost tree.old self.old }
-        ensures same { self.new ≡ record self.old { waiting = self.new.waiting; stage = self.new.stage } }
-        ensures steps { PostLaw tree.old tree.new self.old result self.new }
-        ensures waits { PostWaits tree.old self.old result }
-        ensures ends { PostEnds tree.old tree.new self.old result }
+        ensures { PostStep tree.old tree.new self.old result self.new }
     {
         match self.stage {
             PostStage::Walks(node) => self.visit(tree, node),
@@ -475,5 +419,16 @@ impl Posting {
             PostStage::HalfPosted(split) => self.cut(tree, split),
             PostStage::HalfCut(half) => self.unlock_half(tree, half),
         }
+    }
+    /// Visits one node. Constant cost, but for one search among the children of an interior.
+    pub fn step(&mut self, tree: &mut Tree) -> Progressed
+        requires { MayPost tree.old self.old }
+        ensures same { self.new ≡ record self.old { waiting = self.new.waiting; stage = self.new.stage } }
+        ensures steps { PostLaw tree.old tree.new self.old result self.new }
+        ensures waits { PostWaits tree.old self.old result }
+        ensures ends { PostEnds tree.old tree.new self.old result }
+        ensures gets_on { PostFollows tree.old self.old result self.new }
+    {
+        self.go(tree)
     }
 }

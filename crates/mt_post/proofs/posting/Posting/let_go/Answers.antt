@@ -5,10 +5,10 @@ use Rattle.mt_post.proofs.posting.Posting.let_go.Goals as goal
 pub unlock_interior-requires : goal.unlock_interior-requires
 unlock_interior-requires c = may_unlock_at c.args.tree.now c.args.self.now c.args.interior c.requires.may (inl c.requires.lets)
 
-pub returns-in_default-clause-steps : goal.returns-in_default-clause-steps
-returns-in_default-clause-steps c =
+pub returns-in_default : goal.returns-in_default
+returns-in_default c =
     lets_go c.args.tree.now c.args.self.now c.args.interior c.unlock_interior.new.self c.unlock_interior.ensures.value c.unlock_interior.ensures.keeps c.pop.new.self c.requires.lets c.in_default.ensures.none.0
 
-pub returns-clause-steps : goal.returns-clause-steps
-returns-clause-steps c =
+pub returns : goal.returns
+returns c =
     lets_next c.args.tree.now c.args.self.now c.args.interior c.unlock_interior.new.self c.unlock_interior.ensures.value c.unlock_interior.ensures.keeps c.in-Some.split c.pop.new.self c.requires.lets c.in-Some.ensures.some
