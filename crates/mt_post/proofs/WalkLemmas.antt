@@ -38,7 +38,7 @@ use Rattle.mt_post.specs.declared.posting.PostStage.{PostStage}
 use Rattle.mt_post.specs.declared.posting.PostStage.TheVariants.{Walks, RootWanted, HalfLeftOut}
 use Rattle.mt_post.specs.Posting.{stage_owns, owned_after, IsToPost, IsHeadOf, IsAbove, goal, split_owns, IsWalking, PostStageIsTrue, AreWaiting, PostingIsTrue, ThenPosts, NewPostingIsTrue, MayPost}
 use Rattle.mt_post.specs.Causes.{IsHeldBack, CanLeaveOut, PostStageWaits, PostStageEnds}
-use Rattle.mt_post.specs.Follows.{FollowsHead, FollowsInterior, StageFollows, Follows, PostStep}
+use Rattle.mt_post.specs.Follows.{FollowsHead, FollowsInterior, LeavesOut, StageFollows, Follows, PostStep}
 use Rattle.mt_calls.specs.World.{IsLockedBorder}
 use Rattle.mt_post.proofs.StepLemmas.{at_chart, goes_at, heads_beside, interior_others, interior_no_head, interior_border, interior_taken, interior_is_taken, not_both}
 
@@ -335,6 +335,13 @@ module _ (a : ArenaView) (posting : Posting) (stage : PostStage) (owns : (waitin
 
   pub all_left_out : (left : List Split) → posting.waiting ≡ [] → PostStageWaits a stage Ended → PostStageEnds a a posting stage Ended → PostStep a a posting Ended (record posting { waiting = left })
   all_left_out left none waits ends = left_out a posting stage left (owns []) none is waits ends
+
+-- one of the two
+pub left_out_so : (posting : Posting) (P : Progressed → Posting → Type 0) (p : Progressed) (then : Posting) → LeavesOut posting p then → ((left : List Split) → posting.waiting ≡ [] → P Ended (record posting { waiting = left }))
+    → ((split : Split) (waiting : List Split) → posting.waiting ≡ split ∷ waiting → P Moved (record posting { waiting = waiting; stage = HalfLeftOut split })) → P p then
+left_out_so posting P Moved then ((split, some, at), same) border half = subst (λ (t : Posting). P Moved t) (sym (same ∙ ap (λ (s : PostStage). record posting { waiting = then.waiting; stage = s }) at)) (half split then.waiting some)
+left_out_so posting P Waits then none border half = elim none [ ]
+left_out_so posting P Ended then (none, same) border half = subst (λ (t : Posting). P Ended t) (sym same) (border then.waiting none)
 
 -- at a node where it can be
 pub follows_left_out : (a : ArenaView) (posting : Posting) (node : NodeNo) (split : Split) (waiting : List Split) → posting.waiting ≡ split ∷ waiting → CanLeaveOut a posting node.0 → StageFollows a posting (Walks node) (record posting { waiting = waiting; stage = HalfLeftOut split })

@@ -28,6 +28,12 @@ IsNamed posting then = (split : Split) × (posting.waiting ≡ split ∷ then.wa
 abbrev pub IsLeftOut : Posting → Posting → Type 0
 IsLeftOut posting then = (split : Split) × (posting.waiting ≡ split ∷ then.waiting) × (then.stage ≡ HalfLeftOut split)
 
+-- what is to be named is left out: the newest new half; or the border, where none waits
+abbrev pub LeavesOut : Posting → Progressed → Posting → Type 0
+LeavesOut posting Moved then = IsLeftOut posting then × (then ≡ record posting { waiting = then.waiting; stage = then.stage })
+LeavesOut posting Waits then = ⊥
+LeavesOut posting Ended then = (posting.waiting ≡ []) × (then ≡ record posting { waiting = then.waiting })
+
 -- at a head: it goes to the root, where that is above what is to be named; else it wants a new root
 abbrev pub FollowsHead : Posting → Posting → HeadView → Type 0
 FollowsHead posting then head = ((goal_of posting).level < head.level × GoesTo posting then (Walks head.root))

@@ -5,7 +5,7 @@ ghost use Rattle.mt_arena.specs.Node.{head_at, interior_at};
 ghost use Rattle.mt_arena.specs.Arena.{IsArena};
 ghost use Rattle.mt_post.specs.Posting.{PostLaw, MayPost, NewPostingIsTrue, goal};
 ghost use Rattle.mt_post.specs.Causes.{PostWaits, PostEnds, CanLeaveOut, IsFullAt, HasRoomAt, IsRootStill};
-ghost use Rattle.mt_post.specs.Follows.{PostFollows, PostStep};
+ghost use Rattle.mt_post.specs.Follows.{LeavesOut, PostFollows, PostStep};
 
 use crate::split::Split;
 use crate::waiting::Waiting;
@@ -105,18 +105,25 @@ impl Posting {
         }
     }
 
-    // What is to be named is left out, at a node that is seen.
-    fn leave_out(&mut self, tree: &Tree, node: NodeNo) -> Progressed
-        requires walks { self.old.stage ≡ PostStage.Walks node }
-        requires cause { CanLeaveOut tree.now self.old node.0 }
-        requires may { MayPost tree.now self.old }
-        ensures { PostStep tree.now tree.now self.old result self.new }
+    // What is to be named is left out: the newest of the new halves that wait, or else the border.
+    fn left_out(&mut self) -> Progressed
+        ensures { LeavesOut self.old result self.new }
     {
         let Some(split) = self.waiting.pop() else {
             return Progressed::Ended;
         };
         self.stage = PostStage::HalfLeftOut(split);
         Progressed::Moved
+    }
+
+    // The same, at a node that is seen.
+    fn leave_out(&mut self, tree: &Tree, node: NodeNo) -> Progressed
+        requires walks { self.old.stage ≡ PostStage.Walks node }
+        requires cause { CanLeaveOut tree.now self.old node.0 }
+        requires may { MayPost tree.now self.old }
+        ensures { PostStep tree.now tree.now self.old result self.new }
+    {
+        self.left_out()
     }
 
     // At a head: to the root, or to a new one, where the root isn't above what is to be named.
@@ -212,17 +219,13 @@ impl Posting {
         }
     }
 
-    // What is to be named is left out: no number is had for a new root.
+    // The same, where no number is had for a new root.
     fn leave_out_root(&mut self, tree: &Tree, old: Root) -> Progressed
         requires wants { self.old.stage ≡ PostStage.RootWanted old }
         requires may { MayPost tree.now self.old }
         ensures { PostStep tree.now tree.now self.old result self.new }
     {
-        let Some(split) = self.waiting.pop() else {
-            return Progressed::Ended;
-        };
-        self.stage = PostStage::HalfLeftOut(split);
-        Progressed::Moved
+        self.left_out()
     }
 
     // A number for the new root.
@@ -371,11 +374,7 @@ impl Posting {
         ensures { PostStep tree.old tree.new self.old result self.new }
     {
         tree.unlock_interior(interior);
-        let Some(split) = self.waiting.pop() else {
-            return Progressed::Ended;
-        };
-        self.stage = PostStage::HalfLeftOut(split);
-        Progressed::Moved
+        self.left_out()
     }
 
     // The interior keeps the first of its children, and is unlocked.
