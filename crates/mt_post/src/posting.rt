@@ -1,4 +1,4 @@
-//! A posting: on its way from the head of its layer to the interior that is to name the border, or to a new root; an interior that is full is split.
+//! A posting: on its way to the interior that is to name the border, or to a new root; full interiors are split.
 
 ghost use Rattle.std.specs.Prelude.{◌≡◌, ℕ, IsSome};
 ghost use Rattle.mt_arena.specs.Node.{head_at, interior_at};
