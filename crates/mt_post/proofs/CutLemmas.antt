@@ -1,11 +1,11 @@
 -- The step of a posting that cuts the interior whose new half is posted: the two are twins no more.
-use Rattle.std.proofs.Common.{ℕ, zero, suc, ◌≡◌, ◌≢◌, ◌≤◌, ◌⊎◌, inl, inr, List, [], ◌∷◌, length, take, drop, Option, Some, None, true, false, refl, sym, ap, subst, ◌∙◌, arith, length-drop}
+use Rattle.std.proofs.Common.{ℕ, zero, suc, ◌≡◌, ◌≢◌, ◌≤◌, ◌<◌, ◌⊎◌, inl, inr, List, [], ◌∷◌, length, take, drop, Option, Some, true, false, refl, sym, ap, subst, ◌∙◌, arith, length-drop}
 use Rattle.std.specs.Prelude.{IsSomeAnd}
 use Rattle.std.specs.Option.{option_and_then}
 use Rattle.mt_interior.specs.Interior.{InteriorView, with_lock, with_first}
 use Rattle.mt_interior.specs.declared.child.Child.{Child}
 use Rattle.mt_interior.specs.declared.interior.TheConstants.{KEPT_CHILDREN}
-use Rattle.mt_arena.specs.Node.{node_at, interior_at, interior_of, border_of}
+use Rattle.mt_arena.specs.Node.{node_at, interior_at, interior_of}
 use Rattle.mt_arena.specs.Arena.{ArenaView, with_interior_changed}
 use Rattle.mt_chart.specs.Tree.{first, later, Among, head, interior, Arena, InteriorNode, Child as PlainChild, Node as PlainNode}
 use Rattle.mt_chart.specs.Chart.{at_level, on, gone, Spot, spot, Chart, NoChildTwice, Owns, by_head, by_interior}
@@ -19,17 +19,18 @@ use Rattle.mt_tree.specs.Keeping.{KeepsWhere}
 use Rattle.mt_tree.specs.InteriorSteps.{IsNotGone, CutsAt}
 use Rattle.mt_tree.proofs.SeenLemmas.{seen-interior}
 use Rattle.mt_tree.proofs.InteriorPlaces.{is_on_as}
-use Rattle.mt_calls.specs.World.{World, IsWorld, IsTaken, NotAmong, Goes}
+use Rattle.mt_calls.specs.World.{World, IsWorld, IsTaken, HasSameTwins, Goes}
 use Rattle.mt_calls.proofs.BorderLemmas.{keys_same, interior_kept}
 use Rattle.mt_calls.proofs.FoundLemmas.{some_at}
 use Rattle.mt_post.specs.declared.posting.Posting.{Posting}
 use Rattle.mt_post.specs.declared.posting.Progressed.TheVariants.{Moved}
-use Rattle.mt_post.specs.declared.posting.Split.{Split}
+use Rattle.mt_post.specs.declared.split.Split.{Split}
 use Rattle.mt_post.specs.declared.posting.PostStage.TheVariants.{HalfPosted, HalfCut}
-use Rattle.mt_post.specs.Posting.{IsToPost, IsHeadOf, IsPostedHalf, PostingIsTrue, PostLaw, MayPost}
+use Rattle.mt_post.specs.Posting.{goal_level, split_owns, AreWaiting, IsToPost, IsHeadOf, IsPostedHalf, PostingIsTrue, MayPost}
+use Rattle.mt_post.specs.Follows.{PostStep}
 use Rattle.mt_post.proofs.StepLemmas.{goes_with, heads_beside, interior_now, interior_others, interior_no_head, interior_taken, not_both}
 use Rattle.mt_post.proofs.WalkLemmas.{at_stage, true_at, known_some}
-use Rattle.mt_post.proofs.KeptLemmas.{apart_interior}
+use Rattle.mt_post.proofs.KeptLemmas.{all_stay, owns_below}
 
 -- ---- the twins but for those of a number
 abbrev kept_pair : {A B C D : Type 0} → Twin → A ⊎ B → C ⊎ D → List Twin → List Twin
@@ -108,6 +109,9 @@ module _ (a : ArenaView) (posting : Posting) (split : Split) (is : posting.stage
   abbrev new : ArenaView
   new = with_interior_changed middle i unlock
 
+  abbrev rest : List ℕ
+  rest = split_owns posting.half.0 posting.waiting
+
   abbrev then : Posting
   then = record posting { stage = HalfCut split.half.node }
 
@@ -124,13 +128,32 @@ module _ (a : ArenaView) (posting : Posting) (split : Split) (is : posting.stage
   not_gone : (w : World) (prefix : List ℕ) (p : IsPostedHalf a w prefix split) → IsNotGone w.chart i
   not_gone w prefix p role other low epoch e = (let clash : ◌≡◌ {A = Option Spot} (Some (spot (at_level p.stands.level) prefix p.stands.low (on p.stands.posted))) (Some (spot role other low (gone epoch))) = sym p.stands.place ∙ e in cc)
 
-  cut_so : (now begun : ℕ) (w : World) (prefix : List ℕ) → IsWorld a now w → begun ≤ now → IsToPost a w prefix posting.half.0 posting.low → IsHeadOf w begun posting.head.0 prefix → posting.split ≡ None → (p : IsPostedHalf a w prefix split)
+  -- others have the twins that they had
+  same_twins : (w : World) (prefix : List ℕ) (p : IsPostedHalf a w prefix split) (other : ℕ) → other ≢ m → other ≢ i → HasSameTwins w.twins (without i w.twins) other
+  same_twins w prefix p other out_m out_i one two here = (
+    (λ pair. (without_out i w.twins one two pair).0),
+    (λ pair. without_in i w.twins one two (λ e. beside one two here pair (inl e)) (λ e. beside one two here pair (inr e)) pair),
+  )
+    where
+      beside : (one two : ℕ) → (one ≡ other) ⊎ (two ≡ other) → AreTwins w.twins one two → (one ≡ i) ⊎ (two ≡ i) → ⊥
+      beside one two here pair at = elim here [
+        | inl h ↦ elim at [
+          | inl e ↦ out_i (sym h ∙ e)
+          | inr e ↦ elim (p.twins one two pair (inr e)) [ inl f ↦ out_m (sym h ∙ f) | inr f ↦ halves_differ w prefix p (sym f ∙ e) ]
+        ]
+        | inr h ↦ elim at [
+          | inl e ↦ elim (p.twins one two pair (inl e)) [ inl f ↦ halves_differ w prefix p (sym f ∙ e) | inr f ↦ out_m (sym h ∙ f) ]
+          | inr e ↦ out_i (sym h ∙ e)
+        ]
+      ]
+
+  cut_so : (now begun : ℕ) (w : World) (prefix : List ℕ) → IsWorld a now w → begun ≤ now → IsToPost a w prefix posting.half.0 posting.low → IsHeadOf w begun posting.head.0 prefix → AreWaiting a w prefix posting.waiting → goal_level posting.waiting < split.half.level → (p : IsPostedHalf a w prefix split)
       → KeepsWhere a middle (CutsAt a i KEPT_CHILDREN) → KeepsWhere middle new (λ chart. IsNotGone chart i ⊎ ((cut_one p.interior).version.deleted ≡ true))
-      → Goes now a new w (m ∷ i ∷ posting.half.0 ∷ []) (m ∷ posting.half.0 ∷ []) (λ next. PostingIsTrue begun then new next) × SameContent (arena_seen a) (arena_seen new)
-  cut_so now begun w prefix world before t known none p keeps keeps_again =
+      → Goes now a new w (m ∷ i ∷ rest) (m ∷ rest) (λ next. PostingIsTrue begun then new next) × SameContent (arena_seen a) (arena_seen new)
+  cut_so now begun w prefix world before t known all above p keeps keeps_again =
       let x = p.interior in
       let half : ℕ = posting.half.0 in
-      let owns : List ℕ = m ∷ i ∷ half ∷ [] in
+      let owns : List ℕ = m ∷ i ∷ rest in
       let differ = halves_differ w prefix p in
       let there : interior_at middle.nodes i ≡ Some (cut_one x) = interior_now a i x cut_one p.named in
       let kept = keeps.keeps now w.twins w.chart world.index (record { stays = not_gone w prefix p; split = x; half_number = m; half = p.half; is_split = p.named; is_half = p.half_named; upper = p.upper; prefix = prefix; half_stands = p.half_stands }) in
@@ -157,8 +180,12 @@ module _ (a : ArenaView) (posting : Posting) (split : Split) (is : posting.stage
           | inr not_other ↦ inr (without_in i w.twins one other not_one not_other pair)
         ]
       ]) in
+      let stay = all_stay a new w (record { twins = fewer; chart = w.chart }) prefix half posting.low posting.waiting (λ number k.
+      let not_half = owns_below a w prefix half posting.low m p.half posting.waiting t all p.half_named (subst (λ (l : ℕ). goal_level posting.waiting < l) (sym p.half_level) above) number k in
+      let not_split = owns_below a w prefix half posting.low i x posting.waiting t all p.named (subst (λ (l : ℕ). goal_level posting.waiting < l) (sym p.level) above) number k in
+      record { node = others number not_split; spot = refl; twins = same_twins w prefix p number not_half not_split }) t all in
       let content : SameContent (arena_seen a) (arena_seen new) = λ key row. ((λ h. (kept.content key row).0 ((again.content key row).0 h)), (λ h. (again.content key row).1 ((kept.content key row).1 h))) in (
-        goes_with now a new w (record { twins = fewer; chart = w.chart }) i owns (m ∷ half ∷ []) (λ next. PostingIsTrue begun then new next) (record {
+        goes_with now a new w (record { twins = fewer; chart = w.chart }) i owns (m ∷ rest) (λ next. PostingIsTrue begun then new next) (record {
           index = index;
           keys = keys_same a new content world.keys;
           heads = heads_beside a new w.chart w.chart i (λ number q h. h) (interior_no_head middle i (cut_one x) unlock there) others world.heads;
@@ -170,15 +197,12 @@ module _ (a : ArenaView) (posting : Posting) (split : Split) (is : posting.stage
           };
           retired = world.retired;
         }) (λ b le. evolves_same b w.chart) others (λ other apart. refl)
-            (λ other apart one two here. (
-              (λ pair. (without_out i w.twins one two pair).0),
-              (λ pair. without_in i w.twins one two (λ e. beside w prefix p other apart one two here pair (inl e)) (λ e. beside w prefix p other apart one two here pair (inr e)) pair),
-            ))
+            (λ other apart. same_twins w prefix p other (λ e. apart (subst (λ (v : ℕ). Among v owns) (sym e) first)) (λ e. apart (subst (λ (v : ℕ). Among v owns) (sym e) (later first))))
             (λ taken apart. absurd (apart (later first)))
-            (λ other taken out k. elim (among_cases other m (half ∷ []) k) [ inl e ↦ out (subst (λ (v : ℕ). Among v owns) (sym e) first) | inr j ↦ out (later (later j)) ])
-            (λ other k taken. elim (among_cases other m (i ∷ half ∷ []) k) [
-              | inl e ↦ subst (λ (v : ℕ). Among v (m ∷ half ∷ [])) (sym e) first
-              | inr j ↦ elim (among_cases other i (half ∷ []) j) [
+            (λ other taken out k. elim (among_cases other m rest k) [ inl e ↦ out (subst (λ (v : ℕ). Among v owns) (sym e) first) | inr j ↦ out (later (later j)) ])
+            (λ other k taken. elim (among_cases other m (i ∷ rest) k) [
+              | inl e ↦ subst (λ (v : ℕ). Among v (m ∷ rest)) (sym e) first
+              | inr j ↦ elim (among_cases other i rest j) [
                 | inl e ↦ absurd (not_both (unlock (cut_one x)).version.locked (w.chart i) refl (known_some w i _ p.stands.place) (interior_taken middle i (cut_one x) unlock there (record { twins = fewer; chart = w.chart }) (subst (λ (v : ℕ). IsTaken new (record { twins = fewer; chart = w.chart }) v) e taken)))
                 | inr l ↦ later l
               ]
@@ -186,65 +210,50 @@ module _ (a : ArenaView) (posting : Posting) (split : Split) (is : posting.stage
             (λ apart taken. absurd (apart (later first))) (
               prefix,
               record {
-                border = record { b = t.b; named = ap (option_and_then border_of) (others half (apart_interior a w prefix i half posting.low x t p.named)) ∙ t.named; low_is = t.low_is; locked = t.locked; place = t.place };
+                border = stay.0;
                 head = known;
-                stage = (
-                  none,
-                  record {
-                    interior = p.half;
-                    named = now_m;
-                    locked = p.half_locked;
-                    stands = p.half_stands;
-                    lone = (
-                      (λ other pair. let (old, not_one, not_other) = without_out i w.twins other m pair in elim (p.half_twins other m old (inr refl)) [ inl e ↦ not_one e | inr e ↦ not_other e ]),
-                      (λ other pair. let (old, not_one, not_other) = without_out i w.twins m other pair in elim (p.half_twins m other old (inl refl)) [ inl e ↦ not_one e | inr e ↦ not_other e ]),
-                    );
-                  },
-                );
+                waiting = stay.1;
+                stage = record {
+                  interior = p.half;
+                  named = now_m;
+                  locked = p.half_locked;
+                  stands = p.half_stands;
+                  lone = (
+                    (λ other pair. let (old, not_one, not_other) = without_out i w.twins other m pair in elim (p.half_twins other m old (inr refl)) [ inl e ↦ not_one e | inr e ↦ not_other e ]),
+                    (λ other pair. let (old, not_one, not_other) = without_out i w.twins m other pair in elim (p.half_twins m other old (inl refl)) [ inl e ↦ not_one e | inr e ↦ not_other e ]),
+                  );
+                  above = subst (λ (l : ℕ). goal_level posting.waiting < l) (sym p.half_level) above;
+                };
               },
             ),
         content,
       )
-    where
-      beside : (w : World) (prefix : List ℕ) (p : IsPostedHalf a w prefix split) (other : ℕ) → NotAmong other (m ∷ i ∷ posting.half.0 ∷ []) → (one two : ℕ) → (one ≡ other) ⊎ (two ≡ other) → AreTwins w.twins one two → (one ≡ i) ⊎ (two ≡ i) → ⊥
-      beside w prefix p other apart one two here pair at = elim here [
-        | inl h ↦ elim at [
-          | inl e ↦ out_i (sym h ∙ e)
-          | inr e ↦ elim (p.twins one two pair (inr e)) [ inl f ↦ out_m (sym h ∙ f) | inr f ↦ halves_differ w prefix p (sym f ∙ e) ]
-        ]
-        | inr h ↦ elim at [
-          | inl e ↦ elim (p.twins one two pair (inl e)) [ inl f ↦ halves_differ w prefix p (sym f ∙ e) | inr f ↦ out_m (sym h ∙ f) ]
-          | inr e ↦ out_i (sym h ∙ e)
-        ]
-      ]
-        where
-          out_i : other ≢ i
-          out_i e = apart (subst (λ (v : ℕ). Among v (m ∷ i ∷ posting.half.0 ∷ [])) (sym e) (later first))
-
-          out_m : other ≢ m
-          out_m e = apart (subst (λ (v : ℕ). Among v (m ∷ i ∷ posting.half.0 ∷ [])) (sym e) first)
 
   pub cuts : (between after : ArenaView) → between ≡ middle → KeepsWhere a between (CutsAt a i KEPT_CHILDREN) → after ≡ with_interior_changed between i unlock
-      → IsSomeAnd (interior_at between.nodes i) (λ x. KeepsWhere between after (λ chart. IsNotGone chart i ⊎ (x.version.deleted ≡ true))) → PostLaw a after posting Moved then
-  cuts between after cut_is keeps unlocked keeps_again = at_stage a after posting posting.split (HalfPosted split) Moved then refl is (record {
-    steps = λ now begun w prefix world before t known truth.
-        let (none, p) = truth in
+      → IsSomeAnd (interior_at between.nodes i) (λ x. KeepsWhere between after (λ chart. IsNotGone chart i ⊎ (x.version.deleted ≡ true))) → PostStep a after posting Moved then
+  cuts between after cut_is keeps unlocked keeps_again = at_stage a after posting posting.waiting (HalfPosted split) Moved then refl is (record {
+    steps = λ now begun w prefix world before t known all truth.
+        let (above, p) = truth in
         let is_new : after ≡ new = unlocked ∙ ap (λ (v : ArenaView). with_interior_changed v i unlock) cut_is in
         let there : interior_at middle.nodes i ≡ Some (cut_one p.interior) = interior_now a i p.interior cut_one p.named in
         let again = some_at _ (interior_at middle.nodes i) (cut_one p.interior) (subst (λ (v : ArenaView). IsSomeAnd (interior_at v.nodes i) (λ x. KeepsWhere v after (λ chart. IsNotGone chart i ⊎ (x.version.deleted ≡ true)))) cut_is keeps_again) there in
-        subst (λ (v : ArenaView). Goes now a v w (m ∷ i ∷ posting.half.0 ∷ []) (m ∷ posting.half.0 ∷ []) (λ next. PostingIsTrue begun then v next) × SameContent (arena_seen a) (arena_seen v)) (sym is_new)
-        (cut_so now begun w prefix world before t known none p (subst (λ (v : ArenaView). KeepsWhere a v (CutsAt a i KEPT_CHILDREN)) cut_is keeps)
+        subst (λ (v : ArenaView). Goes now a v w (m ∷ i ∷ rest) (m ∷ rest) (λ next. PostingIsTrue begun then v next) × SameContent (arena_seen a) (arena_seen v)) (sym is_new)
+        (cut_so now begun w prefix world before t known all above p (subst (λ (v : ArenaView). KeepsWhere a v (CutsAt a i KEPT_CHILDREN)) cut_is keeps)
         (subst (λ (v : ArenaView). KeepsWhere middle v (λ chart. IsNotGone chart i ⊎ ((cut_one p.interior).version.deleted ≡ true))) is_new again));
+    same = refl;
+    waits = tt;
+    ends = tt;
+    gets_on = refl;
   })
 
   -- what the calls ask
   pub may_cut : (may : MayPost a posting) → IsSomeAnd (interior_at a.nodes i) (λ x. KEPT_CHILDREN ≤ length x.children)
   may_cut may =
-      let (none, p) = true_at may.begun a may.w posting (HalfPosted split) is may.true in
+      let (above, p) = true_at may.begun a may.w posting (HalfPosted split) is may.true in
       subst (λ (o : Option InteriorView). IsSomeAnd o (λ x. KEPT_CHILDREN ≤ length x.children)) (sym p.named) (let full = p.full in omega (arith, full))
 
   pub may_unlock_cut : (may : MayPost a posting) (between : ArenaView) → between ≡ middle → IsSomeAnd (interior_at between.nodes i) (λ x. x.version.locked ≡ true)
   may_unlock_cut may between cut_is =
-      let (none, p) = true_at may.begun a may.w posting (HalfPosted split) is may.true in
+      let (above, p) = true_at may.begun a may.w posting (HalfPosted split) is may.true in
       let there : interior_at between.nodes i ≡ Some (cut_one p.interior) = ap (λ (v : ArenaView). interior_at v.nodes i) cut_is ∙ interior_now a i p.interior cut_one p.named in
       subst (λ (o : Option InteriorView). IsSomeAnd o (λ x. x.version.locked ≡ true)) (sym there) p.locked

@@ -1,6 +1,6 @@
 -- The steps of a posting that splits a full interior, but for those that make twins: it is locked, its new half spared and filled, or let go.
 use Rattle.std.proofs.Common.{ℕ, zero, suc, ◌≡◌, ◌≢◌, ◌≤◌, ◌<◌, ◌+◌, ◌⊎◌, inl, inr, List, [], ◌∷◌, length, slice_get, drop, Option, Some, None, IsSome, true, false, refl, sym, ap, subst, ◌∙◌, arith, length-drop}
-use Rattle.std.specs.Prelude.{IsSomeAnd, All, is_some}
+use Rattle.std.specs.Prelude.{IsSomeAnd, All}
 use Rattle.std.proofs.lemmas.Bool.{cases_lt}
 use Rattle.std.specs.Option.{option_and_then}
 use Rattle.std.proofs.lemmas.List.Elements.{All-drop}
@@ -10,6 +10,7 @@ use Rattle.mt_types.specs.declared.numbers.NodeNo.{NodeNo}
 use Rattle.mt_interior.specs.Interior.{InteriorView, IsInterior, StartsAt, with_children, with_lock}
 use Rattle.mt_interior.specs.declared.child.Child.{Child}
 use Rattle.mt_interior.specs.declared.interior.TheConstants.{MAX_CHILDREN, KEPT_CHILDREN}
+use Rattle.mt_post.specs.declared.waiting.TheConstants.{MAX_WAITING}
 use Rattle.mt_arena.specs.Node.{node_at, interior_at, interior_of, Updates}
 use Rattle.mt_arena.specs.Arena.{ArenaView, with_interior_changed, without_node}
 use Rattle.mt_arena.specs.declared.node.Node.{Node}
@@ -23,29 +24,33 @@ use Rattle.mt_chart.proofs.HeldNodes.{evolves_same}
 use Rattle.mt_tree.specs.Seen.{arena_seen}
 use Rattle.mt_tree.specs.Keeping.{KeepsTree, KeepsUnknown, KeepsWhere, IsUnknown}
 use Rattle.mt_tree.specs.InteriorSteps.{IsNotGone}
-use Rattle.mt_calls.specs.World.{World, IsWorld, IsLockedInterior, IsTaken, IsSame, Goes}
+use Rattle.mt_calls.specs.World.{World, IsWorld, IsLockedInterior, IsTaken, Goes}
 use Rattle.mt_calls.proofs.FoundLemmas.{some_at}
 use Rattle.mt_calls.proofs.SplitLemmas.{goes_occupied}
 use Rattle.mt_post.specs.declared.posting.Posting.{Posting}
 use Rattle.mt_post.specs.declared.posting.Progressed.TheVariants.{Moved, Ended}
-use Rattle.mt_post.specs.declared.posting.Split.{Split}
+use Rattle.mt_post.specs.declared.split.Split.{Split}
 use Rattle.mt_post.specs.declared.posting.PostStage.TheVariants.{Walks, HalfWanted, HalfSpared, HalfLeftOut, LetGo, HalfCut}
 use Rattle.mt_post.specs.Causes.{IsFullAt}
-use Rattle.mt_post.specs.Posting.{goal, split_owns, SplitIsTrue, IsToPost, IsHeadOf, IsWalking, IsSpareInterior, IsSplitting, IsHalved, StartsUpper, empty_half, upper_half, IsLetGo, PostingIsTrue, PostLaw, MayPost}
+use Rattle.mt_post.specs.Posting.{goal, goal_level, split_owns, AreWaiting, IsToPost, IsHeadOf, IsWalking, IsSpareInterior, IsSplitting, IsHalved, StartsUpper, empty_half, upper_half, IsLetGo, PostingIsTrue, MayPost}
+use Rattle.mt_post.specs.Follows.{FollowsInterior, PostStep}
 use Rattle.mt_calls.specs.World.{IsLockedBorder}
 use Rattle.mt_post.proofs.StepLemmas.{goes_at, goes_kept, twins_lone, heads_beside, interior_now, interior_others, interior_no_head, interior_taken, interior_is_taken, not_both}
-use Rattle.mt_post.proofs.WalkLemmas.{at_stage, true_at, known_some, still_locked, from_head, goes_on, in_layer}
-use Rattle.mt_post.proofs.KeptLemmas.{to_post_stays, splitting_stays, apart_known, apart_interior}
-use Rattle.mt_post.proofs.RootLemmas.{not_retired, gives_number}
+use Rattle.mt_post.proofs.WalkLemmas.{at_stage, true_at, known_some, still_locked, from_head, goes_on, in_layer, is_above}
+use Rattle.mt_post.proofs.KeptLemmas.{all_stay, same_beside, splitting_stays, apart_known, owns_below, owns_beside, goal_has_level, few_wait}
+use Rattle.mt_post.proofs.RootLemmas.{not_retired, gives_number, vacant_free}
 
 -- two interiors under one number are one
 pub same_interior : (a : ArenaView) (n : ℕ) (i j : InteriorView) → interior_at a.nodes n ≡ Some i → interior_at a.nodes n ≡ Some j → i ≡ j
 same_interior a n i j is js = (let both : ◌≡◌ {A = Option InteriorView} (Some i) (Some j) = sym is ∙ js in cc)
 
 -- ---- a full interior is locked
-module _ (a : ArenaView) (posting : Posting) (node : NodeNo) (is : posting.stage ≡ Walks node) (none : posting.split ≡ None) (f : IsFullAt a node.0) (below : f.interior.level + 1 ≤ MAX_LEVEL) where
+module _ (a : ArenaView) (posting : Posting) (node : NodeNo) (is : posting.stage ≡ Walks node) (f : IsFullAt a posting node.0) (below : f.interior.level + 1 ≤ MAX_LEVEL) where
   abbrev n : ℕ
   n = node.0
+
+  abbrev rest : List ℕ
+  rest = split_owns posting.half.0 posting.waiting
 
   abbrev lock : InteriorView → InteriorView
   lock i = with_lock i true
@@ -53,29 +58,33 @@ module _ (a : ArenaView) (posting : Posting) (node : NodeNo) (is : posting.stage
   abbrev locked_one : ArenaView
   locked_one = with_interior_changed a n lock
 
-  locked_so : (now begun : ℕ) (w : World) (prefix : List ℕ) → IsWorld a now w → (t : IsToPost a w prefix posting.half.0 posting.low) → IsHeadOf w begun posting.head.0 prefix → IsWalking begun prefix (goal posting.half posting.low None) n w
-      → KeepsTree a locked_one → IsSomeAnd (interior_at locked_one.nodes n) IsInterior
-      → Goes now a locked_one w (posting.half.0 ∷ []) (n ∷ posting.half.0 ∷ []) (λ next. PostingIsTrue begun (record posting { stage = HalfWanted node }) locked_one next) × SameContent (arena_seen a) (arena_seen locked_one)
-  locked_so now begun w prefix world t known truth keeps sound =
+  locked_so : (now begun : ℕ) (w : World) (prefix : List ℕ) → IsWorld a now w → (t : IsToPost a w prefix posting.half.0 posting.low) → IsHeadOf w begun posting.head.0 prefix → AreWaiting a w prefix posting.waiting
+      → IsWalking begun prefix (goal posting.half posting.low posting.waiting) n w → KeepsTree a locked_one → IsSomeAnd (interior_at locked_one.nodes n) IsInterior
+      → Goes now a locked_one w rest (n ∷ rest) (λ next. PostingIsTrue begun (record posting { stage = HalfWanted node }) locked_one next) × SameContent (arena_seen a) (arena_seen locked_one)
+  locked_so now begun w prefix world t known all truth keeps sound =
       let i = f.interior in
       let half : ℕ = posting.half.0 in
+      let wanted : Child = goal posting.half posting.low posting.waiting in
       let kept = keeps.keeps now w.twins w.chart world.index in
-      let stands = in_layer a posting node is (goal posting.half posting.low posting.split) refl i f.named f.alive f.unlocked begun w.chart prefix posting.low world.index.tree truth.held in
+      let others = interior_others a n i lock f.named in
+      let stands = in_layer a posting node is wanted refl i f.named f.alive f.unlocked begun w.chart prefix wanted.low world.index.tree truth.held in
       let is_known = known_some w n _ stands.place in
       let clash_locked : IsLockedInterior a w.chart n → ⊥ = λ locked. (let clash : false ≡ true = sym f.unlocked ∙ some_at _ (interior_at a.nodes n) i locked.locked f.named in cc) in
       let free : IsTaken a w n → ⊥ = λ taken. not_both i.version.locked (w.chart n) f.unlocked is_known (interior_is_taken a n i w f.named taken) in
-      goes_at now a locked_one w w.chart n (half ∷ []) (n ∷ half ∷ []) _ world kept refl (interior_others a n i lock f.named) (λ other apart. refl)
-      (heads_beside a locked_one w.chart w.chart n (λ number p h. h) (interior_no_head a n i lock f.named) (interior_others a n i lock f.named) world.heads)
+      let stay = all_stay a locked_one w w prefix half posting.low posting.waiting (λ number k. same_beside a locked_one w n others number (owns_beside a w prefix half posting.low n posting.waiting t all free number k)) t all in
+      goes_at now a locked_one w w.chart n rest (n ∷ rest) _ world kept refl others (λ other apart. refl)
+      (heads_beside a locked_one w.chart w.chart n (λ number p h. h) (interior_no_head a n i lock f.named) others world.heads)
       clash_locked (λ taken apart. free taken)
-      (λ other taken out k. elim (among_cases other n (half ∷ []) k) [ inl e ↦ free (subst (λ (m : ℕ). IsTaken a w m) e taken) | inr j ↦ out j ])
+      (λ other taken out k. elim (among_cases other n rest k) [ inl e ↦ free (subst (λ (m : ℕ). IsTaken a w m) e taken) | inr j ↦ out j ])
       (λ other k taken. later k) (λ apart taken. first) (
         prefix,
         record {
-          border = to_post_stays a locked_one w w prefix half posting.low (record { node = interior_others a n i lock f.named half (apart_interior a w prefix n half posting.low i t f.named); spot = refl; twins = λ one other here. ((λ h. h), (λ h. h)) }) t;
+          border = stay.0;
           head = known;
+          waiting = stay.1;
           stage = (
-            none,
             lock i,
+            (let level = is_above a posting node is wanted refl i f.named f.alive f.unlocked begun prefix w world.index.tree truth in let same = goal_has_level posting.half posting.low posting.waiting in omega (arith, level, same)),
             record {
               named = interior_now a n i lock f.named;
               locked = refl;
@@ -92,42 +101,63 @@ module _ (a : ArenaView) (posting : Posting) (node : NodeNo) (is : posting.stage
         },
       )
 
-  pub locks : (after : ArenaView) → after ≡ locked_one → KeepsTree a after → IsSomeAnd (interior_at after.nodes n) IsInterior → PostLaw a after posting Moved (record posting { stage = HalfWanted node })
-  locks after value keeps sound = at_stage a after posting None (Walks node) Moved (record posting { stage = HalfWanted node }) none is (record {
-    steps = λ now begun w prefix world before border known truth.
-        subst (λ (x : ArenaView). Goes now a x w (posting.half.0 ∷ []) (n ∷ posting.half.0 ∷ []) (λ next. PostingIsTrue begun (record posting { stage = HalfWanted node }) x next) × SameContent (arena_seen a) (arena_seen x)) (sym value)
-        (locked_so now begun w prefix world border known truth.1 (subst (λ (x : ArenaView). KeepsTree a x) value keeps) (subst (λ (x : ArenaView). IsSomeAnd (interior_at x.nodes n) IsInterior) value sound));
+  pub locks : (after : ArenaView) → after ≡ locked_one → KeepsTree a after → IsSomeAnd (interior_at after.nodes n) IsInterior → PostStep a after posting Moved (record posting { stage = HalfWanted node })
+  locks after value keeps sound = at_stage a after posting posting.waiting (Walks node) Moved (record posting { stage = HalfWanted node }) refl is (record {
+    steps = λ now begun w prefix world before border known all truth.
+        subst (λ (x : ArenaView). Goes now a x w rest (n ∷ rest) (λ next. PostingIsTrue begun (record posting { stage = HalfWanted node }) x next) × SameContent (arena_seen a) (arena_seen x)) (sym value)
+        (locked_so now begun w prefix world border known all truth (subst (λ (x : ArenaView). KeepsTree a x) value keeps) (subst (λ (x : ArenaView). IsSomeAnd (interior_at x.nodes n) IsInterior) value sound));
+    same = refl;
+    waits = tt;
+    ends = tt;
+    gets_on = inr (subst (λ (o : Option InteriorView). IsSomeAnd o (FollowsInterior posting (record posting { stage = HalfWanted node }) node)) (sym f.named) (inr (f.stops, inr (f.full, inl (omega (arith, below), refl)))));
   })
 
 -- ---- a number is spared for the new half
 module _ (a : ArenaView) (posting : Posting) (interior : NodeNo) (is : posting.stage ≡ HalfWanted interior) where
   pub is_there : (may : MayPost a posting) → (i : InteriorView) × (interior_at a.nodes interior.0 ≡ Some i) × (length i.children ≡ MAX_CHILDREN) × (i.level ≤ MAX_LEVEL) × (1 ≤ i.level)
-  is_there may = let (none, i, s) = true_at may.begun a may.w posting (HalfWanted interior) is may.true in (i, s.named, s.full, s.sound.most, s.sound.least)
+  is_there may = let (i, above, s) = true_at may.begun a may.w posting (HalfWanted interior) is may.true in (i, s.named, s.full, s.sound.most, s.sound.least)
 
-  pub half_refused : (after : ArenaView) → after ≡ a → PostLaw a after posting Moved (record posting { stage = LetGo interior })
-  half_refused after same = subst (λ (x : ArenaView). PostLaw a x posting Moved (record posting { stage = LetGo interior })) (sym same)
-      (goes_on a posting posting.split posting.split (HalfWanted interior) (LetGo interior) refl refl is (λ now begun w prefix world border known truth.
-      let (none, i, s) = truth in (none, record { interior = i; named = s.named; locked = s.locked; stands = s.stands; lone = s.lone })))
+  pub half_refused : (after : ArenaView) → after ≡ a → PostStep a after posting Moved (record posting { stage = LetGo interior })
+  half_refused after same = subst (λ (x : ArenaView). PostStep a x posting Moved (record posting { stage = LetGo interior })) (sym same)
+      (goes_on a posting posting.waiting posting.waiting (HalfWanted interior) (LetGo interior) refl refl is (λ now begun w prefix world border known all truth.
+      let (i, above, s) = truth in (all, record { interior = i; named = s.named; locked = s.locked; stands = s.stands; lone = s.lone; above = above })) tt tt (inr refl))
 
   pub half_spares : (i : InteriorView) (middle : Child) (spare : NodeNo) (after : ArenaView) → interior_at a.nodes interior.0 ≡ Some i → slice_get i.children KEPT_CHILDREN ≡ Some middle → IsInterior (empty_half i middle.low)
       → node_at a.nodes spare.0 ≡ None → Updates a.nodes after.nodes spare.0 (Some (Interior (empty_half i middle.low))) → after.retired ≡ a.retired → IsUnknown a spare.0 → KeepsTree a after
-      → PostLaw a after posting Moved (record posting { stage = HalfSpared interior spare })
-  half_spares i middle spare after named read sound vacant updates retired unknown keeps = at_stage a after posting posting.split (HalfWanted interior) Moved (record posting { stage = HalfSpared interior spare }) refl is (record {
-    steps = λ now begun w prefix world before border known truth.
-        let (none, j, was) = truth in
-        let s = subst (λ (x : InteriorView). IsSplitting a w prefix interior.0 x) (same_interior a interior.0 j i was.named named) was in
+      → PostStep a after posting Moved (record posting { stage = HalfSpared interior spare })
+  half_spares i middle spare after named read sound vacant updates retired unknown keeps = at_stage a after posting posting.waiting (HalfWanted interior) Moved (record posting { stage = HalfSpared interior spare }) refl is (record {
+    steps = λ now begun w prefix world before border known all truth.
+        let (j, above, was) = truth in
+        let half : ℕ = posting.half.0 in
+        let same_one = same_interior a interior.0 j i was.named named in
+        let s = subst (λ (x : InteriorView). IsSplitting a w prefix interior.0 x) same_one was in
         let out = unknown.unknown now w.twins w.chart world.index in
-        let same : (number : ℕ) (place : Spot) → w.chart number ≡ Some place → IsSame a after w w number = λ number place at. record { node = updates.others number (apart_known a w prefix number spare.0 place at out); spot = refl; twins = λ one other here. ((λ h. h), (λ h. h)) } in (
-          goes_occupied now a after w spare.0 (Interior (empty_half i middle.low)) (interior.0 ∷ posting.half.0 ∷ []) _ vacant updates retired unknown keeps world (
+        let free = vacant_free a w spare.0 vacant in
+        let same = same_beside a after w spare.0 updates.others in
+        let stay = all_stay a after w w prefix half posting.low posting.waiting (λ number k. same number (owns_beside a w prefix half posting.low spare.0 posting.waiting border all free number k)) border all in (
+          goes_occupied now a after w spare.0 (Interior (empty_half i middle.low)) (interior.0 ∷ split_owns half posting.waiting) _ vacant updates retired unknown keeps world (
             prefix,
             record {
-              border = to_post_stays a after w w prefix posting.half.0 posting.low (same posting.half.0 _ border.place) border;
+              border = stay.0;
               head = known;
-              stage = (none, i, splitting_stays a after w w prefix interior.0 i (same interior.0 _ s.stands.place) s, middle.low, (middle, read, refl), sound, record { named = ap (option_and_then interior_of) updates.changed; unknown = out });
+              waiting = stay.1;
+              stage = (
+                i,
+                subst (λ (x : InteriorView). goal_level posting.waiting < x.level) same_one above,
+                splitting_stays a after w w prefix interior.0 i (same interior.0 (apart_known a w prefix interior.0 spare.0 _ s.stands.place out)) s,
+                middle.low,
+                (middle, read, refl),
+                sound,
+                record { named = ap (option_and_then interior_of) updates.changed; unknown = out },
+              );
             },
           ),
           (keeps.keeps now w.twins w.chart world.index).content,
         );
+    same = refl;
+    waits = tt;
+    ends = tt;
+    gets_on = inl (spare, refl);
   })
 
 -- ---- it is filled
@@ -152,15 +182,24 @@ half_sound i low sound empty (middle, read, low_is) = record {
 
 module _ (a : ArenaView) (posting : Posting) (interior spare : NodeNo) (is : posting.stage ≡ HalfSpared interior spare) where
   pub is_there_still : (may : MayPost a posting) → (i : InteriorView) × (interior_at a.nodes interior.0 ≡ Some i) × (length i.children ≡ MAX_CHILDREN)
-  is_there_still may = let (none, i, s, least, starts, sound, spared) = true_at may.begun a may.w posting (HalfSpared interior spare) is may.true in (i, s.named, s.full)
+  is_there_still may = let (i, above, s, least, starts, sound, spared) = true_at may.begun a may.w posting (HalfSpared interior spare) is may.true in (i, s.named, s.full)
+
+  -- one more split may wait
+  pub room_waits : (may : MayPost a posting) → length posting.waiting < MAX_WAITING
+  room_waits may =
+      let (i, above, s, least, starts, sound, spared) = true_at may.begun a may.w posting (HalfSpared interior spare) is may.true in
+      let few = few_wait a may.w may.true.0 posting.waiting may.true.1.waiting in
+      let below = s.below_top in
+      omega (arith, few, above, below)
 
   module _ (i : InteriorView) (middle : Child) (upper : List Child) (named : interior_at a.nodes interior.0 ≡ Some i) (read : slice_get i.children KEPT_CHILDREN ≡ Some middle) (upper_is : upper ≡ drop KEPT_CHILDREN i.children) where
     -- the record, for what is read
-    seen_so : (w : World) (prefix : List ℕ) → ((j : InteriorView) × IsSplitting a w prefix interior.0 j × (least : ℕ) × StartsUpper j least × IsInterior (empty_half j least) × IsSpareInterior a w spare.0 (empty_half j least))
-        → IsSplitting a w prefix interior.0 i × IsInterior (empty_half i middle.low) × IsSpareInterior a w spare.0 (empty_half i middle.low)
-    seen_so w prefix (j, s, least, (mid, mid_read, low_is), sound, spared) =
+    seen_so : (w : World) (prefix : List ℕ) → ((j : InteriorView) × (goal_level posting.waiting < j.level) × IsSplitting a w prefix interior.0 j × (least : ℕ) × StartsUpper j least × IsInterior (empty_half j least) × IsSpareInterior a w spare.0 (empty_half j least))
+        → (goal_level posting.waiting < i.level) × IsSplitting a w prefix interior.0 i × IsInterior (empty_half i middle.low) × IsSpareInterior a w spare.0 (empty_half i middle.low)
+    seen_so w prefix (j, above, s, least, (mid, mid_read, low_is), sound, spared) =
         let same = same_interior a interior.0 j i s.named named in
         let same_low : least ≡ middle.low = sym low_is ∙ low_of mid (subst (λ (x : InteriorView). slice_get x.children KEPT_CHILDREN ≡ Some mid) same mid_read) in (
+          subst (λ (x : InteriorView). goal_level posting.waiting < x.level) same above,
           subst (λ (x : InteriorView). IsSplitting a w prefix interior.0 x) same s,
           subst (λ (l : ℕ). IsInterior (empty_half i l)) same_low (subst (λ (x : InteriorView). IsInterior (empty_half x least)) same sound),
           subst (λ (l : ℕ). IsSpareInterior a w spare.0 (empty_half i l)) same_low (subst (λ (x : InteriorView). IsSpareInterior a w spare.0 (empty_half x least)) same spared),
@@ -171,8 +210,7 @@ module _ (a : ArenaView) (posting : Posting) (interior spare : NodeNo) (is : pos
 
     pub may_fill_half : (may : MayPost a posting) → IsSomeAnd (interior_at a.nodes spare.0) (λ x. x.children ≡ []) × IsSomeAnd (interior_at a.nodes spare.0) (λ x. IsInterior (with_children x upper))
     may_fill_half may =
-        let (none, j, was, least, starts, whole, there) = true_at may.begun a may.w posting (HalfSpared interior spare) is may.true in
-        let (s, sound, spared) = seen_so may.w may.true.0 (j, was, least, starts, whole, there) in (
+        let (above, s, sound, spared) = seen_so may.w may.true.0 (true_at may.begun a may.w posting (HalfSpared interior spare) is may.true) in (
           subst (λ (o : Option InteriorView). IsSomeAnd o (λ x. x.children ≡ [])) (sym spared.named) refl,
           subst (λ (o : Option InteriorView). IsSomeAnd o (λ x. IsInterior (with_children x upper))) (sym spared.named)
               (subst (λ (l : List Child). IsInterior (with_children (empty_half i middle.low) l)) (sym upper_is) (half_sound i middle.low s.sound sound (middle, read, refl))),
@@ -187,37 +225,47 @@ module _ (a : ArenaView) (posting : Posting) (interior spare : NodeNo) (is : pos
     abbrev filled : ArenaView
     filled = with_interior_changed a spare.0 fill
 
-    pub fills_half : (after : ArenaView) → after ≡ filled → KeepsTree a after → PostLaw a after posting Moved (record posting { split = Some split; stage = Walks posting.head })
-    fills_half after value keeps = at_stage a after posting posting.split (HalfSpared interior spare) Moved (record posting { split = Some split; stage = Walks posting.head }) refl is (record {
-      steps = λ now begun w prefix world before border known truth.
-          let (none, j, was, least, starts, whole, there) = truth in
-          let (s, sound, spared) = seen_so w prefix (j, was, least, starts, whole, there) in
+    abbrev then : Posting
+    then = record posting { waiting = split ∷ posting.waiting; stage = Walks posting.head }
+
+    pub fills_half : (after : ArenaView) → after ≡ filled → KeepsTree a after → PostStep a after posting Moved then
+    fills_half after value keeps = at_stage a after posting posting.waiting (HalfSpared interior spare) Moved then refl is (record {
+      steps = λ now begun w prefix world before border known all truth.
+          let (above, s, sound, spared) = seen_so w prefix truth in
           let m : ℕ = spare.0 in
           let half : ℕ = posting.half.0 in
+          let owns : List ℕ = m ∷ interior.0 ∷ split_owns half posting.waiting in
           let kept = (subst (λ (x : ArenaView). KeepsTree a x) value keeps).keeps now w.twins w.chart world.index in
           let others = interior_others a m (empty_half i middle.low) fill spared.named in
-          let same : (number : ℕ) (place : Spot) → w.chart number ≡ Some place → IsSame a filled w w number = λ number place at. record { node = others number (apart_known a w prefix number m place at spared.unknown); spot = refl; twins = λ one other here. ((λ h. h), (λ h. h)) } in
-          subst (λ (x : ArenaView). Goes now a x w (m ∷ interior.0 ∷ half ∷ []) (m ∷ interior.0 ∷ half ∷ []) (λ next. PostingIsTrue begun (record posting { split = Some split; stage = Walks posting.head }) x next) × SameContent (arena_seen a) (arena_seen x)) (sym value)
-          (goes_at now a filled w w.chart m (m ∷ interior.0 ∷ half ∷ []) (m ∷ interior.0 ∷ half ∷ []) (λ next. PostingIsTrue begun (record posting { split = Some split; stage = Walks posting.head }) filled next) world kept refl others (λ other apart. refl)
+          let same = same_beside a filled w m others in
+          let stay = all_stay a filled w w prefix half posting.low posting.waiting (λ number k. same number (owns_below a w prefix half posting.low m (empty_half i middle.low) posting.waiting border all spared.named above number k)) border all in
+          subst (λ (x : ArenaView). Goes now a x w owns owns (λ next. PostingIsTrue begun then x next) × SameContent (arena_seen a) (arena_seen x)) (sym value)
+          (goes_at now a filled w w.chart m owns owns (λ next. PostingIsTrue begun then filled next) world kept refl others (λ other apart. refl)
           (heads_beside a filled w.chart w.chart m (λ number p h. h) (interior_no_head a m (empty_half i middle.low) fill spared.named) others world.heads)
           (λ locked. (let known_half = locked.known in let clash : false ≡ true = subst (λ (x : Option Spot). IsSome x) spared.unknown known_half in cc))
           (λ taken apart. absurd (apart first)) (λ other t out k. out k) (λ other k taken. k) (λ apart taken. absurd (apart first)) (
             prefix,
             record {
-              border = to_post_stays a filled w w prefix half posting.low (same half _ border.place) border;
+              border = stay.0;
               head = known;
-              stage = (
+              waiting = (
+                above,
                 record {
                   interior = i;
-                  splits = splitting_stays a filled w w prefix interior.0 i (same interior.0 _ s.stands.place) s;
+                  splits = splitting_stays a filled w w prefix interior.0 i (same interior.0 (apart_known a w prefix interior.0 m _ s.stands.place spared.unknown)) s;
                   spare = record { named = interior_now a m (empty_half i middle.low) fill spared.named ∙ ap (λ (l : List Child). Some (with_children (empty_half i middle.low) l)) upper_is; unknown = spared.unknown };
                   level = refl;
                   starts = (middle, read, refl);
                 },
-                from_head begun prefix split.half posting.head.0 w known,
+                stay.1,
               );
+              stage = from_head begun prefix split.half posting.head.0 w known;
             },
           ));
+      same = refl;
+      waits = tt;
+      ends = tt;
+      gets_on = (split, refl, refl, refl);
     })
 
 -- ---- the new half is given back
@@ -227,29 +275,37 @@ module _ (a : ArenaView) (posting : Posting) (left : Split) (is : posting.stage 
 
   pub may_give_half : (may : MayPost a posting) → IsSome (node_at a.nodes left.half.node.0) × All (λ retired. retired.node.0 ≢ left.half.node.0) a.retired
   may_give_half may =
-      let (none, h) = true_at may.begun a may.w posting (HalfLeftOut left) is may.true in
+      let (above, h) = true_at may.begun a may.w posting (HalfLeftOut left) is may.true in
       (half_named may.w may.true.0 h, not_retired a may.w may.now left.half.node.0 may.world h.spare.unknown)
 
-  pub gives_half_back : (after : ArenaView) → after ≡ without_node a left.half.node.0 → KeepsUnknown a after left.half.node.0 → PostLaw a after posting Moved (record posting { stage = LetGo left.interior })
-  gives_half_back after value keeps = at_stage a after posting posting.split (HalfLeftOut left) Moved (record posting { stage = LetGo left.interior }) refl is (record {
-    steps = λ now begun w prefix world before border known truth.
-        let (none, h) = truth in
+  pub gives_half_back : (after : ArenaView) → after ≡ without_node a left.half.node.0 → KeepsUnknown a after left.half.node.0 → PostStep a after posting Moved (record posting { stage = LetGo left.interior })
+  gives_half_back after value keeps = at_stage a after posting posting.waiting (HalfLeftOut left) Moved (record posting { stage = LetGo left.interior }) refl is (record {
+    steps = λ now begun w prefix world before border known all truth.
+        let (less, h) = truth in
+        let above : goal_level posting.waiting < h.interior.level = subst (λ (l : ℕ). goal_level posting.waiting < l) h.level less in
         let m : ℕ = left.half.node.0 in
         let half : ℕ = posting.half.0 in
+        let rest : List ℕ = split_owns half posting.waiting in
         let new : ArenaView = without_node a m in
         let updates : Updates a.nodes new.nodes m None = updates-without a.nodes m (half_named w prefix h) in
         let kept = (subst (λ (x : ArenaView). KeepsUnknown a x m) value keeps).keeps now w.twins w.chart world.index h.spare.unknown in
-        let same : (number : ℕ) (place : Spot) → w.chart number ≡ Some place → IsSame a new w w number = λ number place at. record { node = updates.others number (apart_known a w prefix number m place at h.spare.unknown); spot = refl; twins = λ one other here. ((λ x. x), (λ x. x)) } in
-        let s = splitting_stays a new w w prefix left.interior.0 h.interior (same left.interior.0 _ h.splits.stands.place) h.splits in
-        subst (λ (x : ArenaView). Goes now a x w (m ∷ left.interior.0 ∷ half ∷ []) (left.interior.0 ∷ half ∷ []) (λ next. PostingIsTrue begun (record posting { stage = LetGo left.interior }) x next) × SameContent (arena_seen a) (arena_seen x)) (sym value)
-        (gives_number now a w m (left.interior.0 ∷ half ∷ []) (λ next. PostingIsTrue begun (record posting { stage = LetGo left.interior }) new next) world (half_named w prefix h) h.spare.unknown kept (
+        let same = same_beside a new w m updates.others in
+        let s = splitting_stays a new w w prefix left.interior.0 h.interior (same left.interior.0 (apart_known a w prefix left.interior.0 m _ h.splits.stands.place h.spare.unknown)) h.splits in
+        let stay = all_stay a new w w prefix half posting.low posting.waiting (λ number k. same number (owns_below a w prefix half posting.low m _ posting.waiting border all h.spare.named above number k)) border all in
+        subst (λ (x : ArenaView). Goes now a x w (m ∷ left.interior.0 ∷ rest) (left.interior.0 ∷ rest) (λ next. PostingIsTrue begun (record posting { stage = LetGo left.interior }) x next) × SameContent (arena_seen a) (arena_seen x)) (sym value)
+        (gives_number now a w m (left.interior.0 ∷ rest) (λ next. PostingIsTrue begun (record posting { stage = LetGo left.interior }) new next) world (half_named w prefix h) h.spare.unknown kept (
           prefix,
           record {
-            border = to_post_stays a new w w prefix half posting.low (same half _ border.place) border;
+            border = stay.0;
             head = known;
-            stage = (none, record { interior = h.interior; named = s.named; locked = s.locked; stands = s.stands; lone = s.lone });
+            waiting = stay.1;
+            stage = record { interior = h.interior; named = s.named; locked = s.locked; stands = s.stands; lone = s.lone; above = above };
           },
         ));
+    same = refl;
+    waits = tt;
+    ends = tt;
+    gets_on = refl;
   })
 
 -- ---- an interior without a twin is unlocked
@@ -260,76 +316,86 @@ module _ (a : ArenaView) (posting : Posting) (n : ℕ) where
   abbrev unlocked : ArenaView
   unlocked = with_interior_changed a n unlock
 
-  pub may_unlock_lone : (w : World) (prefix : List ℕ) → IsLetGo a w prefix n → IsSomeAnd (interior_at a.nodes n) (λ i. i.version.locked ≡ true)
-  may_unlock_lone w prefix l = subst (λ (o : Option InteriorView). IsSomeAnd o (λ i. i.version.locked ≡ true)) (sym l.named) l.locked
+  abbrev Keeps : ArenaView → Type 0
+  Keeps after = IsSomeAnd (interior_at a.nodes n) (λ i. KeepsWhere a after (λ chart. IsNotGone chart n ⊎ (i.version.deleted ≡ true)))
 
-  -- the border is as it was
-  pub border_beside : (w : World) (prefix : List ℕ) (i : InteriorView) → interior_at a.nodes n ≡ Some i → IsToPost a w prefix posting.half.0 posting.low → IsToPost unlocked w prefix posting.half.0 posting.low
-  border_beside w prefix i named t = to_post_stays a unlocked w w prefix posting.half.0 posting.low (record { node = interior_others a n i unlock named posting.half.0 (apart_interior a w prefix n posting.half.0 posting.low i t named); spot = refl; twins = λ one other here. ((λ h. h), (λ h. h)) }) t
+  pub may_unlock_lone : (w : World) (prefix : List ℕ) (below : ℕ) → IsLetGo a w prefix n below → IsSomeAnd (interior_at a.nodes n) (λ i. i.version.locked ≡ true)
+  may_unlock_lone w prefix below l = subst (λ (o : Option InteriorView). IsSomeAnd o (λ i. i.version.locked ≡ true)) (sym l.named) l.locked
 
-  pub unlocks_lone : (now : ℕ) (after : ArenaView) (w : World) (prefix : List ℕ) (Then : ArenaView → World → Type 0) → IsWorld a now w → IsLetGo a w prefix n → after ≡ unlocked
-      → IsSomeAnd (interior_at a.nodes n) (λ i. KeepsWhere a after (λ chart. IsNotGone chart n ⊎ (i.version.deleted ≡ true))) → Then unlocked w
-      → Goes now a after w (n ∷ posting.half.0 ∷ []) (posting.half.0 ∷ []) (Then after) × SameContent (arena_seen a) (arena_seen after)
-  unlocks_lone now after w prefix Then world l value keeps truth =
+  -- the splits that wait are as they were, and the border
+  pub rest_beside : (w : World) (prefix : List ℕ) (waiting : List Split) → IsLetGo a w prefix n (goal_level waiting) → IsToPost a w prefix posting.half.0 posting.low → AreWaiting a w prefix waiting
+      → IsToPost unlocked w prefix posting.half.0 posting.low × AreWaiting unlocked w prefix waiting
+  rest_beside w prefix waiting l t all =
+      all_stay a unlocked w w prefix posting.half.0 posting.low waiting (λ number k. same_beside a unlocked w n (interior_others a n l.interior unlock l.named) number (owns_below a w prefix posting.half.0 posting.low n l.interior waiting t all l.named l.above number k)) t all
+
+  pub unlocks_lone : (now : ℕ) (after : ArenaView) (w : World) (prefix : List ℕ) (below : ℕ) (rest : List ℕ) (Then : ArenaView → World → Type 0) → IsWorld a now w → IsLetGo a w prefix n below → after ≡ unlocked → Keeps after → Then unlocked w
+      → Goes now a after w (n ∷ rest) rest (Then after) × SameContent (arena_seen a) (arena_seen after)
+  unlocks_lone now after w prefix below rest Then world l value keeps truth =
       let i = l.interior in
-      let half : ℕ = posting.half.0 in
       let kept = (subst (λ (x : ArenaView). KeepsWhere a x (λ chart. IsNotGone chart n ⊎ (i.version.deleted ≡ true))) value (some_at _ (interior_at a.nodes n) i keeps l.named)).keeps now w.twins w.chart world.index
       (inl (λ role p low epoch e. (let clash : ◌≡◌ {A = Option Spot} (Some (spot (at_level l.stands.level) prefix l.stands.low (on l.stands.posted))) (Some (spot role p low (gone epoch))) = sym l.stands.place ∙ e in cc))) in
       let others = interior_others a n i unlock l.named in
       let free : IsTaken unlocked w n → ⊥ = λ taken. not_both (unlock i).version.locked (w.chart n) refl (known_some w n _ l.stands.place) (interior_taken a n i unlock l.named w taken) in
-      subst (λ (x : ArenaView). Goes now a x w (n ∷ half ∷ []) (half ∷ []) (Then x) × SameContent (arena_seen a) (arena_seen x)) (sym value)
-      (goes_kept now a unlocked w w.chart n (n ∷ half ∷ []) (half ∷ []) (Then unlocked) world kept refl others (λ other apart. refl)
+      subst (λ (x : ArenaView). Goes now a x w (n ∷ rest) rest (Then x) × SameContent (arena_seen a) (arena_seen x)) (sym value)
+      (goes_kept now a unlocked w w.chart n (n ∷ rest) rest (Then unlocked) world kept refl others (λ other apart. refl)
       (heads_beside a unlocked w.chart w.chart n (λ number p h. h) (interior_no_head a n i unlock l.named) others world.heads)
       (twins_lone a unlocked w.chart w.chart w.twins n (evolves_same 0 w.chart) l.lone others world.twins)
       (λ taken apart. absurd (apart first)) (λ other t out k. out (later k))
-      (λ other k taken. elim (among_cases other n (half ∷ []) k) [ inl e ↦ absurd (free (subst (λ (m : ℕ). IsTaken unlocked w m) e taken)) | inr j ↦ j ])
+      (λ other k taken. elim (among_cases other n rest k) [ inl e ↦ absurd (free (subst (λ (m : ℕ). IsTaken unlocked w m) e taken)) | inr j ↦ j ])
       (λ apart taken. absurd (apart first)) truth)
 
--- the interior is let go, and the border left out
-module _ (a : ArenaView) (posting : Posting) (interior : NodeNo) where
-  pub lets_go : posting.stage ≡ LetGo interior → (after : ArenaView) → after ≡ with_interior_changed a interior.0 (λ i. with_lock i false)
-      → IsSomeAnd (interior_at a.nodes interior.0) (λ i. KeepsWhere a after (λ chart. IsNotGone chart interior.0 ⊎ (i.version.deleted ≡ true))) → PostLaw a after posting Ended posting
-  lets_go is after value keeps = at_stage a after posting posting.split (LetGo interior) Ended posting refl is (record {
-    steps = λ now begun w prefix world before border known truth.
-        let l = truth.1 in
-        unlocks_lone a posting interior.0 now after w prefix (λ x next. IsLockedBorder x next posting.half.0) world l value keeps
-        (still_locked (with_interior_changed a interior.0 (λ i. with_lock i false)) w prefix posting.half.0 posting.low (border_beside a posting interior.0 w prefix l.interior l.named border));
+module _ (a : ArenaView) (posting : Posting) (interior : NodeNo) (after : ArenaView) (value : after ≡ unlocked a posting interior.0) (keeps : Keeps a posting interior.0 after) where
+  -- the interior is let go, and the border left out
+  pub lets_go : (left : List Split) → posting.stage ≡ LetGo interior → posting.waiting ≡ [] → PostStep a after posting Ended (record posting { waiting = left })
+  lets_go left is none = at_stage a after posting [] (LetGo interior) Ended (record posting { waiting = left }) none is (record {
+    steps = λ now begun w prefix world before border known all truth.
+        unlocks_lone a posting interior.0 now after w prefix 0 (posting.half.0 ∷ []) (λ x next. IsLockedBorder x next posting.half.0) world truth value keeps
+        (still_locked (unlocked a posting interior.0) w prefix posting.half.0 posting.low (rest_beside a posting interior.0 w prefix [] truth border tt).0);
+    same = refl;
+    waits = tt;
+    ends = value;
+    gets_on = none;
   })
 
-  -- the new half is unlocked, and the border's way begins again
-  pub goes_again : posting.stage ≡ HalfCut interior → (after : ArenaView) → after ≡ with_interior_changed a interior.0 (λ i. with_lock i false)
-      → IsSomeAnd (interior_at a.nodes interior.0) (λ i. KeepsWhere a after (λ chart. IsNotGone chart interior.0 ⊎ (i.version.deleted ≡ true))) → PostLaw a after posting Moved (record posting { stage = Walks posting.head })
-  goes_again is after value keeps = at_stage a after posting posting.split (HalfCut interior) Moved (record posting { stage = Walks posting.head }) refl is (record {
-    steps = λ now begun w prefix world before border known truth.
-        let (none, l) = truth in
-        subst (λ (owns : List ℕ). Goes now a after w (interior.0 ∷ posting.half.0 ∷ []) owns (λ next. PostingIsTrue begun (record posting { stage = Walks posting.head }) after next) × SameContent (arena_seen a) (arena_seen after)) (sym (ap (split_owns posting.half.0) none))
-        (unlocks_lone a posting interior.0 now after w prefix (λ x next. PostingIsTrue begun (record posting { stage = Walks posting.head }) x next) world l value keeps (
-          prefix,
-          record {
-            border = border_beside a posting interior.0 w prefix l.interior l.named border;
-            head = known;
-            stage = (subst (λ (o : Option Split). SplitIsTrue (with_interior_changed a interior.0 (λ i. with_lock i false)) w prefix o) (sym none) tt, from_head begun prefix (goal posting.half posting.low posting.split) posting.head.0 w known);
-          },
-        ));
+  -- or the newest of the new halves that wait is left out
+  pub lets_next : (split : Split) (waiting : List Split) → posting.stage ≡ LetGo interior → posting.waiting ≡ split ∷ waiting → PostStep a after posting Moved (record posting { waiting = waiting; stage = HalfLeftOut split })
+  lets_next split waiting is some = at_stage a after posting (split ∷ waiting) (LetGo interior) Moved (record posting { waiting = waiting; stage = HalfLeftOut split }) some is (record {
+    steps = λ now begun w prefix world before border known all truth.
+        let (t, (above, halved, more)) = rest_beside a posting interior.0 w prefix (split ∷ waiting) truth border all in
+        unlocks_lone a posting interior.0 now after w prefix split.half.level (split_owns posting.half.0 (split ∷ waiting)) (λ x next. PostingIsTrue begun (record posting { waiting = waiting; stage = HalfLeftOut split }) x next) world truth value keeps
+        (prefix, record { border = t; head = known; waiting = more; stage = (above, halved) });
+    same = refl;
+    waits = tt;
+    ends = tt;
+    gets_on = (split, some, refl);
   })
 
-  pub may_unlock_at : (may : MayPost a posting) → ((posting.stage ≡ LetGo interior) ⊎ (posting.stage ≡ HalfCut interior)) → IsSomeAnd (interior_at a.nodes interior.0) (λ i. i.version.locked ≡ true)
-  may_unlock_at may (inl is) = may_unlock_lone a posting interior.0 may.w may.true.0 (true_at may.begun a may.w posting (LetGo interior) is may.true).1
-  may_unlock_at may (inr is) = may_unlock_lone a posting interior.0 may.w may.true.0 (true_at may.begun a may.w posting (HalfCut interior) is may.true).1
+  -- the new half is unlocked, and the way of what is to be named begins again
+  pub goes_again : posting.stage ≡ HalfCut interior → PostStep a after posting Moved (record posting { stage = Walks posting.head })
+  goes_again is = at_stage a after posting posting.waiting (HalfCut interior) Moved (record posting { stage = Walks posting.head }) refl is (record {
+    steps = λ now begun w prefix world before border known all truth.
+        let stay = rest_beside a posting interior.0 w prefix posting.waiting truth border all in
+        unlocks_lone a posting interior.0 now after w prefix (goal_level posting.waiting) (split_owns posting.half.0 posting.waiting) (λ x next. PostingIsTrue begun (record posting { stage = Walks posting.head }) x next) world truth value keeps
+        (prefix, record { border = stay.0; head = known; waiting = stay.1; stage = from_head begun prefix (goal posting.half posting.low posting.waiting) posting.head.0 w known });
+    same = refl;
+    waits = tt;
+    ends = tt;
+    gets_on = refl;
+  })
+
+pub may_unlock_at : (a : ArenaView) (posting : Posting) (interior : NodeNo) (may : MayPost a posting) → ((posting.stage ≡ LetGo interior) ⊎ (posting.stage ≡ HalfCut interior)) → IsSomeAnd (interior_at a.nodes interior.0) (λ i. i.version.locked ≡ true)
+may_unlock_at a posting interior may (inl is) = may_unlock_lone a posting interior.0 may.w may.true.0 _ (true_at may.begun a may.w posting (LetGo interior) is may.true)
+may_unlock_at a posting interior may (inr is) = may_unlock_lone a posting interior.0 may.w may.true.0 _ (true_at may.begun a may.w posting (HalfCut interior) is may.true)
 
 -- ---- what is read of an interior
 -- below the greatest level
 pub below_top : (level : ℕ) → level ≤ MAX_LEVEL → level ≢ MAX_LEVEL → level + 1 ≤ MAX_LEVEL
 below_top level most other = elim (cases_lt level MAX_LEVEL) [ inl less ↦ omega (arith, less) | inr from ↦ absurd (other (omega (arith, most, from))) ]
 
-pub full_below : (a : ArenaView) (n : ℕ) (f : IsFullAt a n) (i : InteriorView) (level : ℕ) → interior_at a.nodes n ≡ Some i → IsInterior i → level ≡ i.level → level ≢ MAX_LEVEL → f.interior.level + 1 ≤ MAX_LEVEL
-full_below a n f i level named sound is other =
+pub full_below : (a : ArenaView) (posting : Posting) (n : ℕ) (f : IsFullAt a posting n) (i : InteriorView) (level : ℕ) → interior_at a.nodes n ≡ Some i → IsInterior i → level ≡ i.level → level ≢ MAX_LEVEL → f.interior.level + 1 ≤ MAX_LEVEL
+full_below a posting n f i level named sound is other =
     let same = same_interior a n f.interior i f.named named in
     subst (λ (x : InteriorView). x.level + 1 ≤ MAX_LEVEL) (sym same) (below_top i.level sound.most (λ e. other (is ∙ e)))
-
-pub no_split : (o : Option Split) → is_some o ≡ false → o ≡ None
-no_split None e = refl
-no_split (Some split) e = absurd (let clash : true ≡ false = e in cc)
 
 -- what stands from a place on is the element there, and what stands from the next
 drop_read : (k : ℕ) (children : List Child) (child : Child) → slice_get children k ≡ Some child → drop k children ≡ child ∷ drop (suc k) children

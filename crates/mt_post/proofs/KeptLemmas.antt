@@ -1,5 +1,5 @@
 -- What stays of a posting's record where the numbers that it owns do, and which of its numbers differ.
-use Rattle.std.proofs.Common.{ℕ, ◌≡◌, ◌≢◌, ◌≤◌, ◌+◌, inl, inr, List, [], ◌∷◌, Option, Some, None, IsSome, true, false, refl, sym, ap, subst, ◌∙◌, arith}
+use Rattle.std.proofs.Common.{ℕ, ◌≡◌, ◌≢◌, ◌≤◌, ◌<◌, ◌+◌, inl, inr, List, [], ◌∷◌, length, Option, Some, None, IsSome, true, refl, sym, ap, subst, ◌∙◌, arith}
 use Rattle.std.specs.Option.{option_and_then}
 use Rattle.mt_types.specs.declared.limits.TheConstants.{MAX_LEVEL}
 use Rattle.mt_types.specs.declared.numbers.NodeNo.{NodeNo}
@@ -13,9 +13,9 @@ use Rattle.mt_chart.specs.Tree.{Among, first, later}
 use Rattle.mt_chart.specs.Chart.{Spot}
 use Rattle.mt_chart.specs.Steps.{NoTwin}
 use Rattle.mt_tree.specs.InteriorSteps.{IsInLayer}
-use Rattle.mt_calls.specs.World.{World, IsSame}
-use Rattle.mt_post.specs.declared.posting.Split.{Split}
-use Rattle.mt_post.specs.Posting.{IsToPost, IsSpareInterior, IsSplitting, IsHalved, SplitIsTrue, IsBeside, IsLetGo, IsPostedHalf, goal, split_owns, upper_half}
+use Rattle.mt_calls.specs.World.{World, IsLocked, IsTaken, IsSame}
+use Rattle.mt_post.specs.declared.split.Split.{Split}
+use Rattle.mt_post.specs.Posting.{IsToPost, IsSpareInterior, IsSplitting, IsHalved, AreWaiting, IsLetGo, IsPostedHalf, goal, goal_level, split_owns, upper_half}
 
 module _ (a after : ArenaView) (w next : World) (prefix : List ℕ) where
   -- the border that is to be posted stays so where its number does
@@ -56,17 +56,27 @@ module _ (a after : ArenaView) (w next : World) (prefix : List ℕ) where
     starts = h.starts;
   }
 
-  pub split_stays : (half : ℕ) (split : Option Split) → ((number : ℕ) → Among number (split_owns half split) → IsSame a after w next number) → SplitIsTrue a w prefix split → SplitIsTrue after next prefix split
-  split_stays half None same truth = tt
-  split_stays half (Some split) same truth = halved_stays split (same split.interior.0 (later first)) (same split.half.node.0 first) truth
+  -- the splits that wait stay, and the border
+  waiting_stays : (half : ℕ) (waiting : List Split) → ((number : ℕ) → Among number (split_owns half waiting) → IsSame a after w next number) → AreWaiting a w prefix waiting → AreWaiting after next prefix waiting
+  waiting_stays half [] same truth = tt
+  waiting_stays half (split ∷ waiting) same (above, h, more) = (above, halved_stays split (same split.interior.0 (later first)) (same split.half.node.0 first) h, waiting_stays half waiting (λ number i. same number (later (later i))) more)
 
-  pub let_go_stays : (number : ℕ) → IsSame a after w next number → IsLetGo a w prefix number → IsLetGo after next prefix number
-  let_go_stays number same l = record {
+  half_stays : (half low : ℕ) (waiting : List Split) → ((number : ℕ) → Among number (split_owns half waiting) → IsSame a after w next number) → IsToPost a w prefix half low → IsToPost after next prefix half low
+  half_stays half low [] same t = to_post_stays half low (same half first) t
+  half_stays half low (split ∷ waiting) same t = half_stays half low waiting (λ number i. same number (later (later i))) t
+
+  pub all_stay : (half low : ℕ) (waiting : List Split) → ((number : ℕ) → Among number (split_owns half waiting) → IsSame a after w next number) → IsToPost a w prefix half low → AreWaiting a w prefix waiting
+      → IsToPost after next prefix half low × AreWaiting after next prefix waiting
+  all_stay half low waiting same t truth = (half_stays half low waiting same t, waiting_stays half waiting same truth)
+
+  pub let_go_stays : (number below : ℕ) → IsSame a after w next number → IsLetGo a w prefix number below → IsLetGo after next prefix number below
+  let_go_stays number below same l = record {
     interior = l.interior;
     named = ap (option_and_then interior_of) same.node ∙ l.named;
     locked = l.locked;
     stands = layer_stays number same l.stands;
     lone = lone_stays number same l.lone;
+    above = l.above;
   }
 
   pub posted_half_stays : (split : Split) → IsSame a after w next split.interior.0 → IsSame a after w next split.half.node.0 → IsPostedHalf a w prefix split → IsPostedHalf after next prefix split
@@ -77,6 +87,8 @@ module _ (a after : ArenaView) (w next : World) (prefix : List ℕ) where
     half_named = ap (option_and_then interior_of) same_half.node ∙ p.half_named;
     locked = p.locked;
     half_locked = p.half_locked;
+    level = p.level;
+    half_level = p.half_level;
     stands = layer_stays split.interior.0 same p.stands;
     half_stands = layer_stays split.half.node.0 same_half p.half_stands;
     full = p.full;
@@ -110,31 +122,64 @@ module _ (a : ArenaView) (w : World) (prefix : List ℕ) where
   pub interior_apart_head : (number other : ℕ) (i : InteriorView) (h : HeadView) → interior_at a.nodes other ≡ Some i → head_at a.nodes number ≡ Some h → other ≢ number
   interior_apart_head number other i h named is e = (let clash : ◌≡◌ {A = Option HeadView} None (Some h) = sym (ap (option_and_then head_of) (node-from_interior a.nodes other i named)) ∙ (ap (λ (m : ℕ). head_at a.nodes m) e ∙ is) in cc)
 
-  -- what a split owns names a node
-  pub owns_named : (half low : ℕ) (split : Option Split) → IsToPost a w prefix half low → SplitIsTrue a w prefix split → (number : ℕ) → Among number (split_owns half split) → IsSome (node_at a.nodes number)
-  owns_named half low None t truth number i = only (λ (m : ℕ). IsSome (node_at a.nodes m)) half number (subst (λ (x : Option Node). IsSome x) (sym (node-from_border a.nodes half t.b t.named)) refl) i
-  owns_named half low (Some split) t truth number first = subst (λ (x : Option Node). IsSome x) (sym (node-from_interior a.nodes split.half.node.0 _ truth.spare.named)) refl
-  owns_named half low (Some split) t truth number (later first) = subst (λ (x : Option Node). IsSome x) (sym (node-from_interior a.nodes split.interior.0 truth.interior truth.splits.named)) refl
-  owns_named half low (Some split) t truth number (later (later i)) = only (λ (m : ℕ). IsSome (node_at a.nodes m)) half number (subst (λ (x : Option Node). IsSome x) (sym (node-from_border a.nodes half t.b t.named)) refl) i
+  -- interiors of two levels have two numbers
+  levels_apart : (number other : ℕ) (i j : InteriorView) → interior_at a.nodes number ≡ Some i → interior_at a.nodes other ≡ Some j → i.level < j.level → number ≢ other
+  levels_apart number other i j is js less e =
+      (let both : ◌≡◌ {A = Option InteriorView} (Some i) (Some j) = sym is ∙ (ap (λ (m : ℕ). interior_at a.nodes m) e ∙ js) in let same : i ≡ j = cc in let level = ap (λ (x : InteriorView). x.level) same in omega (arith, less, level))
 
-  -- and is not the spare of a new root
-  pub owns_beside : (half low root : ℕ) (split : Option Split) → IsToPost a w prefix half low → SplitIsTrue a w prefix split → w.chart root ≡ None → IsBeside root split → (number : ℕ) → Among number (split_owns half split) → number ≢ root
-  owns_beside half low root None t truth unknown beside number i = only (λ (m : ℕ). m ≢ root) half number (apart_from half low root t unknown) i
-  owns_beside half low root (Some split) t truth unknown beside number first = λ e. beside (sym e)
-  owns_beside half low root (Some split) t truth unknown beside number (later first) = apart_known split.interior.0 root _ truth.splits.stands.place unknown
-  owns_beside half low root (Some split) t truth unknown beside number (later (later i)) = only (λ (m : ℕ). m ≢ root) half number (apart_from half low root t unknown) i
+  -- what is above what is to be named is owned by no split that waits, and isn't the border
+  pub owns_below : (half low other : ℕ) (j : InteriorView) (waiting : List Split) → IsToPost a w prefix half low → AreWaiting a w prefix waiting → interior_at a.nodes other ≡ Some j → goal_level waiting < j.level → (number : ℕ) → Among number (split_owns half waiting) → number ≢ other
+  owns_below half low other j [] t truth named above number i = only (λ (m : ℕ). m ≢ other) half number (apart_interior other half low j t named) i
+  owns_below half low other j (split ∷ waiting) t (less, h, more) named above number first = levels_apart split.half.node.0 other _ j h.spare.named named (let level = h.level in omega (arith, above, level))
+  owns_below half low other j (split ∷ waiting) t (less, h, more) named above number (later first) = levels_apart split.interior.0 other _ j h.splits.named named (let level = h.level in omega (arith, above, level))
+  owns_below half low other j (split ∷ waiting) t (less, h, more) named above number (later (later i)) = owns_below half low other j waiting t more named (omega (arith, above, less)) number i
 
-  pub half_among : (half : ℕ) (split : Option Split) → Among half (split_owns half split)
-  half_among half None = first
-  half_among half (Some split) = later (later first)
+  -- the numbers of those below a split are neither of its two
+  pub beside_half : (split : Split) (half low : ℕ) (waiting : List Split) → IsToPost a w prefix half low → IsHalved a w prefix split → goal_level waiting < split.half.level → AreWaiting a w prefix waiting → (number : ℕ) → Among number (split_owns half waiting)
+      → (number ≢ split.half.node.0) × (number ≢ split.interior.0)
+  beside_half split half low waiting t h above more number k =
+      let less : goal_level waiting < h.interior.level = subst (λ (l : ℕ). goal_level waiting < l) h.level above in
+      (owns_below half low split.half.node.0 _ waiting t more h.spare.named less number k, owns_below half low split.interior.0 h.interior waiting t more h.splits.named less number k)
 
-  -- a number that named nothing is beside
-  pub vacant_beside : (half low root : ℕ) (split : Option Split) → IsToPost a w prefix half low → SplitIsTrue a w prefix split → node_at a.nodes root ≡ None → IsBeside root split
-  vacant_beside half low root None t truth vacant = tt
-  vacant_beside half low root (Some split) t truth vacant = λ e.
-      (let clash : false ≡ true = subst (λ (x : Option Node). IsSome x) (ap (λ (m : ℕ). node_at a.nodes m) (sym e) ∙ vacant) (owns_named half low (Some split) t truth split.half.node.0 first) in cc)
+  -- ---- what it owns is taken
+  pub spare_taken : (root : ℕ) (i : InteriorView) → IsSpareInterior a w root i → IsTaken a w root
+  spare_taken root i spare = inr (subst (λ (x : Option Node). IsSome x) (sym (node-from_interior a.nodes root i spare.named)) refl, spare.unknown)
 
-  -- what is to be named is below the greatest level
-  pub goal_below : (half : NodeNo) (low : ℕ) (split : Option Split) → SplitIsTrue a w prefix split → (goal half low split).level + 1 ≤ MAX_LEVEL
-  goal_below half low None truth = omega arith
-  goal_below half low (Some split) truth = subst (λ (l : ℕ). l + 1 ≤ MAX_LEVEL) (sym truth.level) truth.splits.below_top
+  pub locked_taken : (number : ℕ) (i : InteriorView) → interior_at a.nodes number ≡ Some i → i.version.locked ≡ true → IsTaken a w number
+  locked_taken number i named locked = inl (subst (λ (x : Option Node). IsLocked x) (sym (node-from_interior a.nodes number i named)) locked)
+
+  border_taken : (half low : ℕ) → IsToPost a w prefix half low → IsTaken a w half
+  border_taken half low t = inl (subst (λ (x : Option Node). IsLocked x) (sym (node-from_border a.nodes half t.b t.named)) t.locked)
+
+  pub owns_taken : (half low : ℕ) (waiting : List Split) → IsToPost a w prefix half low → AreWaiting a w prefix waiting → (number : ℕ) → Among number (split_owns half waiting) → IsTaken a w number
+  owns_taken half low [] t truth number i = only (λ (m : ℕ). IsTaken a w m) half number (border_taken half low t) i
+  owns_taken half low (split ∷ waiting) t (less, h, more) number first = spare_taken split.half.node.0 _ h.spare
+  owns_taken half low (split ∷ waiting) t (less, h, more) number (later first) = locked_taken split.interior.0 h.interior h.splits.named h.splits.locked
+  owns_taken half low (split ∷ waiting) t (less, h, more) number (later (later i)) = owns_taken half low waiting t more number i
+
+  -- so it is no number that isn't taken
+  pub owns_beside : (half low other : ℕ) (waiting : List Split) → IsToPost a w prefix half low → AreWaiting a w prefix waiting → (IsTaken a w other → ⊥) → (number : ℕ) → Among number (split_owns half waiting) → number ≢ other
+  owns_beside half low other waiting t truth free number i e = free (subst (λ (m : ℕ). IsTaken a w m) e (owns_taken half low waiting t truth number i))
+
+  -- what is to be named is below the greatest level, and has one more level for each split that waits
+  pub goal_below : (waiting : List Split) → AreWaiting a w prefix waiting → goal_level waiting + 1 ≤ MAX_LEVEL
+  goal_below [] truth = omega arith
+  goal_below (split ∷ waiting) (less, h, more) = subst (λ (l : ℕ). l + 1 ≤ MAX_LEVEL) (sym h.level) h.splits.below_top
+
+  pub few_wait : (waiting : List Split) → AreWaiting a w prefix waiting → length waiting ≤ goal_level waiting
+  few_wait [] truth = omega arith
+  few_wait (split ∷ waiting) (less, h, more) = let few = few_wait waiting more in omega (arith, few, less)
+
+-- the border is owned
+pub half_among : (half : ℕ) (waiting : List Split) → Among half (split_owns half waiting)
+half_among half [] = first
+half_among half (split ∷ waiting) = later (later (half_among half waiting))
+
+-- the level of what is to be named
+pub goal_has_level : (half : NodeNo) (low : ℕ) (waiting : List Split) → (goal half low waiting).level ≡ goal_level waiting
+goal_has_level half low [] = refl
+goal_has_level half low (split ∷ waiting) = refl
+
+-- what is another number than the one that changes is the same, where places and twins stay
+pub same_beside : (a after : ArenaView) (w : World) (n : ℕ) → ((other : ℕ) → other ≢ n → node_at after.nodes other ≡ node_at a.nodes other) → (number : ℕ) → number ≢ n → IsSame a after w w number
+same_beside a after w n others number apart = record { node = others number apart; spot = refl; twins = λ one other here. ((λ h. h), (λ h. h)) }

@@ -6,7 +6,7 @@ use Rattle.mt_types.specs.declared.numbers.NodeNo.{NodeNo}
 use Rattle.mt_interior.specs.Head.{HeadView, with_root}
 use Rattle.mt_interior.specs.Interior.{InteriorView, StartsAt}
 use Rattle.mt_interior.specs.declared.interior.TheConstants.{KEPT_CHILDREN}
-use Rattle.mt_arena.specs.Node.{head_at, head_of, interior_at, interior_of, border_of, Updates}
+use Rattle.mt_arena.specs.Node.{head_at, head_of, interior_at, interior_of, Updates}
 use Rattle.mt_arena.specs.Arena.{ArenaView, IsArena, with_head_changed}
 use Rattle.mt_arena.specs.declared.node.Node.{Node}
 use Rattle.mt_arena.specs.declared.node.Node.TheVariants.{Head}
@@ -28,17 +28,18 @@ use Rattle.mt_calls.proofs.SplitLemmas.{with_spot, spot_changes}
 use Rattle.mt_post.specs.declared.posting.Posting.{Posting}
 use Rattle.mt_post.specs.declared.posting.Progressed.TheVariants.{Moved}
 use Rattle.mt_post.specs.declared.posting.Root.{Root}
-use Rattle.mt_post.specs.declared.posting.Split.{Split}
+use Rattle.mt_post.specs.declared.split.Split.{Split}
 use Rattle.mt_post.specs.declared.posting.PostStage.TheVariants.{RootFilled, HalfPosted}
 use Rattle.mt_post.specs.Causes.{IsRootStill}
-use Rattle.mt_post.specs.Posting.{PostStageIsTrue, IsToPost, IsHeadOf, IsSpareInterior, IsHalved, upper_half, root_over, PostingIsTrue, PostLaw, MayPost}
+use Rattle.mt_post.specs.Posting.{split_owns, AreWaiting, PostStageIsTrue, IsToPost, IsHeadOf, IsSpareInterior, IsHalved, upper_half, root_over, PostingIsTrue, MayPost}
+use Rattle.mt_post.specs.Follows.{PostStep}
 use Rattle.mt_post.proofs.StepLemmas.{at_chart, goes_with, interior_is_taken, head_is_taken, not_both}
 use Rattle.mt_post.proofs.WalkLemmas.{at_stage, true_at, known_some, from_head, root_place, heads_were}
-use Rattle.mt_post.proofs.KeptLemmas.{apart_known, apart_head, interior_apart_head}
+use Rattle.mt_post.proofs.KeptLemmas.{all_stay, apart_known, interior_apart_head, owns_below, owns_beside, beside_half}
 use Rattle.mt_post.proofs.HalfLemmas.{from_place}
 use Rattle.mt_post.proofs.TwinLemmas.{with_pair, pair_cases, pair_same, half_is_posted, twins_now, has_upper, new_pair}
 
-module _ (a : ArenaView) (posting : Posting) (old : Root) (root : NodeNo) (split : Split) (is : posting.stage ≡ RootFilled old root) (some : posting.split ≡ Some split) (sound : IsArena a) (still : IsRootStill a posting.head.0 old) where
+module _ (a : ArenaView) (posting : Posting) (old : Root) (root : NodeNo) (split : Split) (waiting : List Split) (is : posting.stage ≡ RootFilled old root) (some : posting.waiting ≡ split ∷ waiting) (sound : IsArena a) (still : IsRootStill a posting.head.0 old) where
   abbrev n : ℕ
   n = posting.head.0
 
@@ -54,6 +55,9 @@ module _ (a : ArenaView) (posting : Posting) (old : Root) (root : NodeNo) (split
   abbrev half : ℕ
   half = posting.half.0
 
+  abbrev owns : List ℕ
+  owns = split_owns half (split ∷ waiting)
+
   abbrev top_root : InteriorView
   top_root = root_over old split.half
 
@@ -64,7 +68,7 @@ module _ (a : ArenaView) (posting : Posting) (old : Root) (root : NodeNo) (split
   new = with_head_changed a n change
 
   abbrev then : Posting
-  then = record posting { split = None; stage = HalfPosted split }
+  then = record posting { waiting = waiting; stage = HalfPosted split }
 
   updated : Updates a.nodes new.nodes n (Some (Head (change h)))
   updated = subst (λ (x : ArenaView). Updates a.nodes x.nodes n (Some (Head (change h)))) (sym (changed-head a n h change still.named))
@@ -90,12 +94,12 @@ module _ (a : ArenaView) (posting : Posting) (old : Root) (root : NodeNo) (split
     ];
   }
 
-  named_so : (now begun : ℕ) (w : World) (prefix : List ℕ) → IsWorld a now w → begun ≤ now → IsToPost a w prefix half posting.low → IsHeadOf w begun n prefix → (s : IsHalved a w prefix split) → old.level < split.half.level + 1 → root.0 ≢ m
+  named_so : (now begun : ℕ) (w : World) (prefix : List ℕ) → IsWorld a now w → begun ≤ now → IsToPost a w prefix half posting.low → IsHeadOf w begun n prefix → AreWaiting a w prefix (split ∷ waiting) → old.level < split.half.level + 1
       → IsSpareInterior a w root.0 top_root → KeepsRootOverHalf a new n root.0
-      → Goes now a new w (root.0 ∷ m ∷ i ∷ half ∷ []) (m ∷ i ∷ half ∷ []) (λ next. PostingIsTrue begun then new next) × SameContent (arena_seen a) (arena_seen new)
-  named_so now begun w prefix world before t known s less beside spare keeps =
+      → Goes now a new w (root.0 ∷ owns) owns (λ next. PostingIsTrue begun then new next) × SameContent (arena_seen a) (arena_seen new)
+  named_so now begun w prefix world before t known (above, s, more) less spare keeps =
       let (stands, is_root) = root_place a w.chart begun n split.half.low prefix h world.index.tree ((from_head begun prefix split.half n w known).held) still.named still.alive in
-      let owns : List ℕ = m ∷ i ∷ half ∷ [] in
+      let all : AreWaiting a w prefix (split ∷ waiting) = (above, s, more) in
       let u = upper_half s.interior split.half.low in
       let half_place : Spot = spot (at_level s.interior.level) prefix split.half.low (on true) in
       let root_at : Spot = spot (at_level top_root.level) prefix 0 (on true) in
@@ -109,9 +113,14 @@ module _ (a : ArenaView) (posting : Posting) (old : Root) (root : NodeNo) (split
       let i_apart = interior_apart_head a w prefix n i s.interior h s.splits.named still.named in
       let m_apart = interior_apart_head a w prefix n m u h s.spare.named still.named in
       let x_apart = interior_apart_head a w prefix n root.0 top_root h spare.named still.named in
+      let head_free : IsTaken a w n → ⊥ = λ taken. not_both h.version.locked (w.chart n) free is_known (head_is_taken a n h w still.named taken) in
+      let below_root : (number : ℕ) → Among number owns → number ≢ root.0 = owns_below a w prefix half posting.low root.0 top_root (split ∷ waiting) t all spare.named (omega arith) in
+      let apart_n : (number : ℕ) → Among number owns → number ≢ n = owns_beside a w prefix half posting.low n (split ∷ waiting) t all head_free in
       let i_spot = root_charted.rest i (apart_known a w prefix i root.0 _ s.splits.stands.place spare.unknown) ∙ half_charted.rest i (apart_known a w prefix i m _ s.splits.stands.place s.spare.unknown) in
-      let m_spot = root_charted.rest m (λ e. beside (sym e)) ∙ half_charted.now in
-      let t_spot = root_charted.rest half (apart_known a w prefix half root.0 _ t.place spare.unknown) ∙ half_charted.rest half (apart_known a w prefix half m _ t.place s.spare.unknown) in
+      let m_spot = root_charted.rest m (below_root m first) ∙ half_charted.now in
+      let stay = all_stay a new w (record { twins = with_pair m i w.twins; chart = chart }) prefix half posting.low waiting (λ number k.
+      let (not_half, not_split) = beside_half a w prefix split half posting.low waiting t s above more number k in
+      record { node = updated.others number (apart_n number (later (later k))); spot = root_charted.rest number (below_root number (later (later k))) ∙ half_charted.rest number not_half; twins = pair_same m i w.twins number not_half not_split }) t more in
       let kept = keeps.keeps now w.twins (with_pair m i w.twins) w.chart chart world.index (record {
         old = h;
         root = top_root;
@@ -153,7 +162,7 @@ module _ (a : ArenaView) (posting : Posting) (old : Root) (root : NodeNo) (split
         }) kept.evolves updated.others
             (λ other apart. root_charted.rest other (λ e. apart (subst (λ (k : ℕ). Among k (root.0 ∷ owns)) (sym e) first)) ∙ half_charted.rest other (λ e. apart (subst (λ (k : ℕ). Among k (root.0 ∷ owns)) (sym e) (later first))))
             (λ other apart. pair_same m i w.twins other (λ e. apart (subst (λ (k : ℕ). Among k (root.0 ∷ owns)) (sym e) (later first))) (λ e. apart (subst (λ (k : ℕ). Among k (root.0 ∷ owns)) (sym e) (later (later first)))))
-            (λ taken apart. not_both h.version.locked (w.chart n) free is_known (head_is_taken a n h w still.named taken))
+            (λ taken apart. head_free taken)
             (λ other taken out k. out (later k))
             (λ other k taken. elim (among_cases other root.0 owns k) [
               | inl e ↦ absurd (not_both top_root.version.locked (chart root.0) refl (known_some (at_chart w chart) root.0 root_at root_charted.now)
@@ -163,28 +172,34 @@ module _ (a : ArenaView) (posting : Posting) (old : Root) (root : NodeNo) (split
             (λ apart taken. absurd (not_both h.version.locked (chart n) free (known_stays w.chart chart n (kept.evolves 0 (omega arith)) is_known) (head_is_taken new n (change h) (at_chart w chart) (ap (option_and_then head_of) updated.changed) taken))) (
               prefix,
               record {
-                border = record { b = t.b; named = ap (option_and_then border_of) (updated.others half (apart_head a w prefix n half posting.low h t still.named)) ∙ t.named; low_is = t.low_is; locked = t.locked; place = t_spot ∙ t.place };
+                border = stay.0;
                 head = known_kept begun n _ prefix 0 w.chart chart (kept.evolves begun before) known;
-                stage = (refl, half_is_posted a new now w chart prefix split world s (updated.others i i_apart) (updated.others m m_apart) i_spot m_spot);
+                waiting = stay.1;
+                stage = (above, half_is_posted a new now w chart prefix split world s (updated.others i i_apart) (updated.others m m_apart) i_spot m_spot);
               },
             ),
         kept.content,
       )
 
-  pub names_half : (after : ArenaView) → IsSomeAnd (interior_at a.nodes root.0) (λ x. after ≡ with_head_changed a n (λ v. with_root v root x.level)) → KeepsRootOverHalf a after n root.0 → PostLaw a after posting Moved then
-  names_half after value keeps = at_stage a after posting (Some split) (RootFilled old root) Moved then some is (record {
-    steps = λ now begun w prefix world before t known truth.
-        let (s, less, beside, spare) = truth in
+  pub names_half : (after : ArenaView) → IsSomeAnd (interior_at a.nodes root.0) (λ x. after ≡ with_head_changed a n (λ v. with_root v root x.level)) → KeepsRootOverHalf a after n root.0 → PostStep a after posting Moved then
+  names_half after value keeps = at_stage a after posting (split ∷ waiting) (RootFilled old root) Moved then some is (record {
+    steps = λ now begun w prefix world before t known all truth.
+        let (less, spare) = truth in
         let same : after ≡ new = some_at _ (interior_at a.nodes root.0) top_root value spare.named in
-        subst (λ (x : ArenaView). Goes now a x w (root.0 ∷ m ∷ i ∷ half ∷ []) (m ∷ i ∷ half ∷ []) (λ next. PostingIsTrue begun then x next) × SameContent (arena_seen a) (arena_seen x)) (sym same)
-        (named_so now begun w prefix world before t known s less beside spare (subst (λ (x : ArenaView). KeepsRootOverHalf a x n root.0) same keeps));
+        subst (λ (x : ArenaView). Goes now a x w (root.0 ∷ owns) owns (λ next. PostingIsTrue begun then x next) × SameContent (arena_seen a) (arena_seen x)) (sym same)
+        (named_so now begun w prefix world before t known all less spare (subst (λ (x : ArenaView). KeepsRootOverHalf a x n root.0) same keeps));
+    same = refl;
+    waits = tt;
+    ends = tt;
+    gets_on = inl (still, (split, some, refl));
   })
 
   -- what the call asks
   pub may_name_half : (may : MayPost a posting) → IsSomeAnd (head_at a.nodes n) (λ x. IsSomeAnd (interior_at a.nodes root.0) (IsRootOverHalf a.nodes x))
   may_name_half may =
       let prefix = may.true.0 in
-      let (s, less, beside, spare) = subst (λ (o : Option Split). PostStageIsTrue may.begun prefix posting.half posting.low o (RootFilled old root) a may.w) some (true_at may.begun a may.w posting (RootFilled old root) is may.true) in
+      let s = (subst (λ (o : List Split). AreWaiting a may.w prefix o) some may.true.1.waiting).1 in
+      let (less, spare) = subst (λ (o : List Split). PostStageIsTrue may.begun prefix posting.half posting.low o (RootFilled old root) a may.w) some (true_at may.begun a may.w posting (RootFilled old root) is may.true) in
       let (stands, is_root) = root_place a may.w.chart may.begun n split.half.low prefix h may.world.index.tree ((from_head may.begun prefix split.half n may.w may.true.1.head).held) still.named still.alive in
       let is_i = root_is_split may.now may.begun may.w prefix may.world stands s less in
       let (middle, read, low_is) = s.starts in

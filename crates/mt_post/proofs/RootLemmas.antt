@@ -5,8 +5,8 @@ use Rattle.std.specs.Option.{option_and_then}
 use Rattle.std.proofs.lemmas.List.Elements.{All-weaker, All-nil, All-cons}
 use Rattle.std.proofs.lemmas.List.Sorted.{IsNonDecreasingBy-push, IsNonDecreasingBy-short}
 use Rattle.mt_types.specs.declared.limits.TheConstants.{MAX_LEVEL}
-use Rattle.mt_post.specs.declared.posting.Split.{Split}
-use Rattle.mt_post.proofs.KeptLemmas.{to_post_stays, split_stays, apart_from, apart_head, owns_beside, half_among, vacant_beside, goal_below}
+use Rattle.mt_post.specs.declared.split.Split.{Split}
+use Rattle.mt_post.proofs.KeptLemmas.{all_stay, same_beside, apart_from, apart_head, owns_below, owns_beside, goal_below, goal_has_level}
 use Rattle.mt_types.specs.declared.numbers.NodeNo.{NodeNo}
 use Rattle.mt_interior.specs.Head.{HeadView, with_root}
 use Rattle.mt_interior.specs.Interior.{InteriorView, IsInterior, with_children, with_lock}
@@ -36,7 +36,9 @@ use Rattle.mt_post.specs.declared.posting.Posting.{Posting}
 use Rattle.mt_post.specs.declared.posting.Progressed.TheVariants.{Moved, Ended}
 use Rattle.mt_post.specs.declared.posting.Root.{Root}
 use Rattle.mt_post.specs.declared.posting.PostStage.TheVariants.{Walks, RootWanted, RootSpared, RootFilled, RootLate}
-use Rattle.mt_post.specs.Posting.{goal, split_owns, IsToPost, IsHeadOf, IsSpareInterior, root_children, new_root, root_over, PostingIsTrue, ThenPosts, PostLaw, MayPost}
+use Rattle.mt_post.specs.Posting.{goal, goal_level, split_owns, AreWaiting, IsToPost, IsHeadOf, IsSpareInterior, root_children, new_root, root_over, PostingIsTrue, ThenPosts, MayPost}
+use Rattle.mt_post.specs.Causes.{IsRootStill}
+use Rattle.mt_post.specs.Follows.{PostStep}
 use Rattle.mt_post.proofs.StepLemmas.{at_chart, goes_at, heads_beside, interior_now, interior_others, interior_no_head, interior_is_taken, head_is_taken, not_both}
 use Rattle.mt_post.proofs.WalkLemmas.{at_stage, true_at, known_some, from_head, goes_on, root_place, heads_were}
 
@@ -45,9 +47,9 @@ pub same_node : (one other : NodeNo) → one.0 ≡ other.0 → one ≡ other
 same_node one other e = ap (λ (m : ℕ). record { 0 = m }) e
 
 -- what names nothing is not taken
-vacant : (a : ArenaView) (w : World) (number : ℕ) → node_at a.nodes number ≡ None → IsTaken a w number → ⊥
-vacant a w number none (inl locked) = subst (λ (x : Option Node). IsLocked x) none locked
-vacant a w number none (inr spare) = (let clash : false ≡ true = subst (λ (x : Option Node). IsSome x) none spare.0 in cc)
+pub vacant_free : (a : ArenaView) (w : World) (number : ℕ) → node_at a.nodes number ≡ None → IsTaken a w number → ⊥
+vacant_free a w number none (inl locked) = subst (λ (x : Option Node). IsLocked x) none locked
+vacant_free a w number none (inr spare) = (let clash : false ≡ true = subst (λ (x : Option Node). IsSome x) none spare.0 in cc)
 
 -- the head of the layer is there
 head_there : (a : ArenaView) (w : World) (begun number : ℕ) (prefix : List ℕ) (now : ℕ) → IsWorld a now w → IsHeadOf w begun number prefix → IsSome (head_at a.nodes number)
@@ -77,38 +79,46 @@ gives_number now a w n owns Then world named unknown kept truth =
     (λ locked. (let known_root = locked.known in let clash : false ≡ true = subst (λ (x : Option Spot). IsSome x) unknown known_root in cc))
     (λ taken apart. absurd (apart first)) (λ other t out k. out (later k))
     (λ other k taken. elim (among_cases other n owns k) [
-      | inl e ↦ absurd (vacant new w n updates.changed (subst (λ (m : ℕ). IsTaken new w m) e taken))
+      | inl e ↦ absurd (vacant_free new w n updates.changed (subst (λ (m : ℕ). IsTaken new w m) e taken))
       | inr j ↦ j
     ])
     (λ apart taken. absurd (apart first)) truth
 
+-- what is to be named is below the greatest level
+goal_fits : (a : ArenaView) (w : World) (prefix : List ℕ) (half : NodeNo) (low : ℕ) (waiting : List Split) → AreWaiting a w prefix waiting → (goal half low waiting).level + 1 ≤ MAX_LEVEL
+goal_fits a w prefix half low waiting all = subst (λ (l : ℕ). l + 1 ≤ MAX_LEVEL) (sym (goal_has_level half low waiting)) (goal_below a w prefix waiting all)
+
+-- a new root is above it
+root_above : (half : NodeNo) (low : ℕ) (waiting : List Split) → goal_level waiting < (goal half low waiting).level + 1
+root_above half low waiting = let same = goal_has_level half low waiting in omega (arith, same)
+
 -- ---- a number is spared
-module _ (a : ArenaView) (posting : Posting) (old : Root) (is : posting.stage ≡ RootWanted old) (wanted : Child) (is_goal : wanted ≡ goal posting.half posting.low posting.split) where
+module _ (a : ArenaView) (posting : Posting) (old : Root) (is : posting.stage ≡ RootWanted old) (wanted : Child) (is_goal : wanted ≡ goal posting.half posting.low posting.waiting) where
   pub may_spare : (may : MayPost a posting) → wanted.level + 1 ≤ MAX_LEVEL
   may_spare may =
-      let truth = true_at may.begun a may.w posting (RootWanted old) is may.true in
-      subst (λ (c : Child). c.level + 1 ≤ MAX_LEVEL) (sym is_goal) (goal_below a may.w may.true.0 posting.half posting.low posting.split truth.0)
+      subst (λ (c : Child). c.level + 1 ≤ MAX_LEVEL) (sym is_goal) (goal_fits a may.w may.true.0 posting.half posting.low posting.waiting may.true.1.waiting)
 
   pub spares : (root : NodeNo) (after : ArenaView) → node_at a.nodes root.0 ≡ None → Updates a.nodes after.nodes root.0 (Some (Interior (new_root wanted))) → after.retired ≡ a.retired → IsUnknown a root.0 → KeepsTree a after
-      → PostLaw a after posting Moved (record posting { stage = RootSpared old root })
-  spares root after vacant updates_wanted retired unknown keeps = at_stage a after posting posting.split (RootWanted old) Moved (record posting { stage = RootSpared old root }) refl is (record {
-    steps = λ now begun w prefix world before border known truth.
+      → PostStep a after posting Moved (record posting { stage = RootSpared old root })
+  spares root after vacant updates_wanted retired unknown keeps = at_stage a after posting posting.waiting (RootWanted old) Moved (record posting { stage = RootSpared old root }) refl is (record {
+    steps = λ now begun w prefix world before border known all truth.
         let half : ℕ = posting.half.0 in
-        let split : Option Split = posting.split in
+        let waiting : List Split = posting.waiting in
         let updates = subst (λ (c : Child). Updates a.nodes after.nodes root.0 (Some (Interior (new_root c)))) is_goal updates_wanted in
         let out = unknown.unknown now w.twins w.chart world.index in
-        let beside = vacant_beside a w prefix half posting.low root.0 split border truth.0 vacant in
-        let same : (number : ℕ) → Among number (split_owns half split) → IsSame a after w w number = λ number i. record { node = updates.others number (owns_beside a w prefix half posting.low root.0 split border truth.0 out beside number i); spot = refl; twins = λ one other here. ((λ h. h), (λ h. h)) } in (
-          goes_occupied now a after w root.0 (Interior (new_root (goal posting.half posting.low split))) (split_owns half split) _ vacant updates retired unknown keeps world (
+        let same : (number : ℕ) → Among number (split_owns half waiting) → IsSame a after w w number = λ number i.
+        same_beside a after w root.0 updates.others number (owns_beside a w prefix half posting.low root.0 waiting border all (vacant_free a w root.0 vacant) number i) in
+        let stay = all_stay a after w w prefix half posting.low waiting same border all in (
+          goes_occupied now a after w root.0 (Interior (new_root (goal posting.half posting.low waiting))) (split_owns half waiting) _ vacant updates retired unknown keeps world (
             prefix,
-            record {
-              border = to_post_stays a after w w prefix half posting.low (same half (half_among a w prefix half split)) border;
-              head = known;
-              stage = (split_stays a after w w prefix half split same truth.0, truth.1, beside, record { named = ap (option_and_then interior_of) updates.changed; unknown = out });
-            },
+            record { border = stay.0; head = known; waiting = stay.1; stage = (truth, record { named = ap (option_and_then interior_of) updates.changed; unknown = out }) },
           ),
           (keeps.keeps now w.twins w.chart world.index).content,
         );
+    same = refl;
+    waits = tt;
+    ends = tt;
+    gets_on = inl (root, refl);
   })
 
 -- ---- it is filled
@@ -126,7 +136,7 @@ children_sound old wanted less most = record {
   counters = record { vinsert_fits = omega arith; vsplit_fits = omega arith };
 }
 
-module _ (a : ArenaView) (posting : Posting) (old : Root) (root : NodeNo) (is : posting.stage ≡ RootSpared old root) (wanted : Child) (is_goal : wanted ≡ goal posting.half posting.low posting.split) where
+module _ (a : ArenaView) (posting : Posting) (old : Root) (root : NodeNo) (is : posting.stage ≡ RootSpared old root) (wanted : Child) (is_goal : wanted ≡ goal posting.half posting.low posting.waiting) where
   abbrev children : List Child
   children = root_children old wanted
 
@@ -137,34 +147,34 @@ module _ (a : ArenaView) (posting : Posting) (old : Root) (root : NodeNo) (is : 
   unlock i = with_lock i false
 
   -- the spare, for what is wanted
-  spare_wanted : (w : World) → IsSpareInterior a w root.0 (new_root (goal posting.half posting.low posting.split)) → IsSpareInterior a w root.0 (new_root wanted)
+  spare_wanted : (w : World) → IsSpareInterior a w root.0 (new_root (goal posting.half posting.low posting.waiting)) → IsSpareInterior a w root.0 (new_root wanted)
   spare_wanted w s = subst (λ (c : Child). IsSpareInterior a w root.0 (new_root c)) (sym is_goal) s
 
   -- what the calls ask
   pub may_fill : (may : MayPost a posting) → IsSomeAnd (interior_at a.nodes root.0) (λ i. i.children ≡ []) × IsSomeAnd (interior_at a.nodes root.0) (λ i. IsInterior (with_children i children))
   may_fill may =
-      let (split, less, beside, spare) = true_at may.begun a may.w posting (RootSpared old root) is may.true in
+      let (less, spare) = true_at may.begun a may.w posting (RootSpared old root) is may.true in
       let there = spare_wanted may.w spare in (
         subst (λ (o : Option InteriorView). IsSomeAnd o (λ i. i.children ≡ [])) (sym there.named) refl,
         subst (λ (o : Option InteriorView). IsSomeAnd o (λ i. IsInterior (with_children i children))) (sym there.named)
-            (children_sound old wanted (subst (λ (c : Child). old.level < c.level + 1) (sym is_goal) less) (subst (λ (c : Child). c.level + 1 ≤ MAX_LEVEL) (sym is_goal) (goal_below a may.w may.true.0 posting.half posting.low posting.split split))),
+            (children_sound old wanted (subst (λ (c : Child). old.level < c.level + 1) (sym is_goal) less) (subst (λ (c : Child). c.level + 1 ≤ MAX_LEVEL) (sym is_goal) (goal_fits a may.w may.true.0 posting.half posting.low posting.waiting may.true.1.waiting))),
       )
 
   pub may_unlock : (may : MayPost a posting) (between : ArenaView) → between ≡ with_interior_changed a root.0 fill → IsSomeAnd (interior_at between.nodes root.0) (λ i. i.version.locked ≡ true)
   may_unlock may between value =
-      let (split, less, beside, spare) = true_at may.begun a may.w posting (RootSpared old root) is may.true in
+      let (less, spare) = true_at may.begun a may.w posting (RootSpared old root) is may.true in
       let there : interior_at between.nodes root.0 ≡ Some (fill (new_root wanted)) = ap (λ (x : ArenaView). interior_at x.nodes root.0) value ∙ interior_now a root.0 (new_root wanted) fill (spare_wanted may.w spare).named in
       subst (λ (o : Option InteriorView). IsSomeAnd o (λ i. i.version.locked ≡ true)) (sym there) refl
 
   pub fills : (between after : ArenaView) → between ≡ with_interior_changed a root.0 fill → KeepsTree a between → after ≡ with_interior_changed between root.0 unlock
       → IsSomeAnd (interior_at between.nodes root.0) (λ i. KeepsWhere between after (λ chart. IsNotGone chart root.0 ⊎ (i.version.deleted ≡ true)))
-      → PostLaw a after posting Moved (record posting { stage = RootFilled old root })
-  fills between after filled keeps unlocked keeps_again = at_stage a after posting posting.split (RootSpared old root) Moved (record posting { stage = RootFilled old root }) refl is (record {
-    steps = λ now begun w prefix world before border known truth.
-        let (split_truth, less, beside, spare_goal) = truth in
+      → PostStep a after posting Moved (record posting { stage = RootFilled old root })
+  fills between after filled keeps unlocked keeps_again = at_stage a after posting posting.waiting (RootSpared old root) Moved (record posting { stage = RootFilled old root }) refl is (record {
+    steps = λ now begun w prefix world before border known all truth.
+        let (less, spare_goal) = truth in
         let spare = spare_wanted w spare_goal in
         let half : ℕ = posting.half.0 in
-        let split : Option Split = posting.split in
+        let waiting : List Split = posting.waiting in
         let n : ℕ = root.0 in
         let middle : ArenaView = with_interior_changed a n fill in
         let new : ArenaView = with_interior_changed middle n unlock in
@@ -175,9 +185,11 @@ module _ (a : ArenaView) (posting : Posting) (old : Root) (root : NodeNo) (is : 
         let kept_again = (subst (λ (x : ArenaView). KeepsWhere middle x (λ chart. IsNotGone chart n ⊎ ((fill (new_root wanted)).version.deleted ≡ true))) is_new again).keeps now w.twins w.chart kept.index
         (inl (λ role p low epoch e. (let clash : ◌≡◌ {A = Option Spot} None (Some (spot role p low (gone epoch))) = sym spare.unknown ∙ e in cc))) in
         let others : (other : ℕ) → other ≢ n → node_at new.nodes other ≡ node_at a.nodes other = λ other apart. interior_others middle n (fill (new_root wanted)) unlock there other apart ∙ interior_others a n (new_root wanted) fill spare.named other apart in
-        let same : (number : ℕ) → Among number (split_owns half split) → IsSame a new w w number = λ number i. record { node = others number (owns_beside a w prefix half posting.low n split border split_truth spare.unknown beside number i); spot = refl; twins = λ one other here. ((λ h. h), (λ h. h)) } in
-        subst (λ (x : ArenaView). Goes now a x w (n ∷ split_owns half split) (n ∷ split_owns half split) (λ next. PostingIsTrue begun (record posting { stage = RootFilled old root }) x next) × SameContent (arena_seen a) (arena_seen x)) (sym is_new)
-        (goes_at now a new w w.chart n (n ∷ split_owns half split) (n ∷ split_owns half split) (λ next. PostingIsTrue begun (record posting { stage = RootFilled old root }) new next) world
+        let above : goal_level waiting < wanted.level + 1 = subst (λ (c : Child). goal_level waiting < c.level + 1) (sym is_goal) (root_above posting.half posting.low waiting) in
+        let same : (number : ℕ) → Among number (split_owns half waiting) → IsSame a new w w number = λ number i. same_beside a new w n others number (owns_below a w prefix half posting.low n (new_root wanted) waiting border all spare.named above number i) in
+        let stay = all_stay a new w w prefix half posting.low waiting same border all in
+        subst (λ (x : ArenaView). Goes now a x w (n ∷ split_owns half waiting) (n ∷ split_owns half waiting) (λ next. PostingIsTrue begun (record posting { stage = RootFilled old root }) x next) × SameContent (arena_seen a) (arena_seen x)) (sym is_new)
+        (goes_at now a new w w.chart n (n ∷ split_owns half waiting) (n ∷ split_owns half waiting) (λ next. PostingIsTrue begun (record posting { stage = RootFilled old root }) new next) world
         (record { index = kept_again.index; content = λ key row. ((λ h. (kept.content key row).0 ((kept_again.content key row).0 h)), (λ h. (kept_again.content key row).1 ((kept.content key row).1 h))); evolves = λ b le. evolves_same b w.chart })
         refl others (λ other apart. refl)
         (heads_beside a new w.chart w.chart n (λ number p h. h) (interior_no_head middle n (fill (new_root wanted)) unlock there) others world.heads)
@@ -185,16 +197,16 @@ module _ (a : ArenaView) (posting : Posting) (old : Root) (root : NodeNo) (is : 
         (λ taken apart. absurd (apart first)) (λ other t out k. out k) (λ other k taken. k) (λ apart taken. absurd (apart first)) (
           prefix,
           record {
-            border = to_post_stays a new w w prefix half posting.low (same half (half_among a w prefix half split)) border;
+            border = stay.0;
             head = known;
-            stage = (
-              split_stays a new w w prefix half split same split_truth,
-              less,
-              beside,
-              subst (λ (c : Child). IsSpareInterior new w n (root_over old c)) is_goal (record { named = interior_now middle n (fill (new_root wanted)) unlock there; unknown = spare.unknown }),
-            );
+            waiting = stay.1;
+            stage = (less, subst (λ (c : Child). IsSpareInterior new w n (root_over old c)) is_goal (record { named = interior_now middle n (fill (new_root wanted)) unlock there; unknown = spare.unknown }));
           },
         ));
+    same = refl;
+    waits = tt;
+    ends = tt;
+    gets_on = refl;
   })
 
 -- ---- the head names it, or it comes too late
@@ -215,15 +227,28 @@ module _ (a : ArenaView) (posting : Posting) (old : Root) (root : NodeNo) (is : 
   pub has_head : (may : MayPost a posting) → IsSome (head_at a.nodes n)
   has_head may = head_there a may.w may.begun n may.true.0 may.now may.world may.true.1.head
 
-  pub too_late : PostLaw a a posting Moved (record posting { stage = RootLate root })
-  too_late = goes_on a posting posting.split posting.split (RootFilled old root) (RootLate root) refl refl is (λ now begun w prefix world border known truth. (truth.0, truth.2, root_over old (goal posting.half posting.low posting.split), truth.3))
+  -- the root isn't the old one still
+  pub not_still : (h : HeadView) → head_at a.nodes n ≡ Some h → (h.version.deleted ≡ true) ⊎ ((h.root.0 ≢ old.node.0) ⊎ (h.level ≢ old.level)) → IsRootStill a n old → ⊥
+  not_still h named why still =
+      let both : ◌≡◌ {A = Option HeadView} (Some still.head) (Some h) = sym still.named ∙ named in
+      let same : still.head ≡ h = cc in
+      elim why [
+        | inl deleted ↦ (let alive = still.alive in let clash : false ≡ true = sym alive ∙ (ap (λ (x : HeadView). x.version.deleted) same ∙ deleted) in cc)
+        | inr other ↦ elim other [
+          | inl root ↦ root (ap (λ (x : HeadView). x.root.0) (sym same) ∙ ap (λ (r : NodeNo). r.0) still.root_is)
+          | inr level ↦ level (ap (λ (x : HeadView). x.level) (sym same) ∙ still.level_is)
+        ]
+      ]
 
-  module _ (h : HeadView) (named : head_at a.nodes n ≡ Some h) (alive : h.version.deleted ≡ false) (same_root : h.root ≡ old.node) (same_level : h.level ≡ old.level) (none : posting.split ≡ None) where
+  pub too_late : (IsRootStill a posting.head.0 old → ⊥) → PostStep a a posting Moved (record posting { stage = RootLate root })
+  too_late not_still = goes_on a posting posting.waiting posting.waiting (RootFilled old root) (RootLate root) refl refl is (λ now begun w prefix world border known all truth. (all, (root_over old (goal posting.half posting.low posting.waiting), root_above posting.half posting.low posting.waiting, truth.1))) tt tt (inr (not_still, refl))
+
+  module _ (h : HeadView) (named : head_at a.nodes n ≡ Some h) (alive : h.version.deleted ≡ false) (same_root : h.root ≡ old.node) (same_level : h.level ≡ old.level) (none : posting.waiting ≡ []) where
     -- what the call asks
     pub may_name : (may : MayPost a posting) → IsSomeAnd (head_at a.nodes n) (λ head. IsSomeAnd (interior_at a.nodes root.0) (IsRootOver head))
     may_name may =
-        let (split, less, beside, spare_goal) = true_at may.begun a may.w posting (RootFilled old root) is may.true in
-        let spare = subst (λ (o : Option Split). IsSpareInterior a may.w root.0 (root_over old (goal posting.half posting.low o))) none spare_goal in
+        let (less, spare_goal) = true_at may.begun a may.w posting (RootFilled old root) is may.true in
+        let spare = subst (λ (o : List Split). IsSpareInterior a may.w root.0 (root_over old (goal posting.half posting.low o))) none spare_goal in
         subst (λ (o : Option HeadView). IsSomeAnd o (λ x. IsSomeAnd (interior_at a.nodes root.0) (IsRootOver x))) (sym named)
         (subst (λ (o : Option InteriorView). IsSomeAnd o (IsRootOver h)) (sym spare.named) (record {
           low = refl;
@@ -315,12 +340,19 @@ module _ (a : ArenaView) (posting : Posting) (old : Root) (root : NodeNo) (is : 
           ];
         }
 
-    pub names : (after : ArenaView) → IsSomeAnd (interior_at a.nodes root.0) (λ i. after ≡ with_head_changed a n (λ x. with_root x root i.level)) → KeepsAlong a after (NamesRootAt a n root.0) → PostLaw a after posting Ended posting
-    names after value keeps = at_stage a after posting None (RootFilled old root) Ended posting none is (record {
-      steps = λ now begun w prefix world before border known truth.
-          let same : after ≡ new = some_at _ (interior_at a.nodes root.0) top_root value truth.3.named in
+    pub names : (after : ArenaView) (left : List Split) → IsSomeAnd (interior_at a.nodes root.0) (λ i. after ≡ with_head_changed a n (λ x. with_root x root i.level)) → KeepsAlong a after (NamesRootAt a n root.0) → MayPost a posting → PostStep a after posting Ended (record posting { waiting = left })
+    names after left value keeps may = at_stage a after posting [] (RootFilled old root) Ended (record posting { waiting = left }) none is (record {
+      steps = λ now begun w prefix world before border known all truth.
+          let same : after ≡ new = some_at _ (interior_at a.nodes root.0) top_root value truth.1.named in
           subst (λ (x : ArenaView). Goes now a x w (root.0 ∷ half ∷ []) (half ∷ []) (ThenPosts Ended begun posting x) × SameContent (arena_seen a) (arena_seen x)) (sym same)
-          (named_so now begun w prefix world border known truth.3 (subst (λ (x : ArenaView). KeepsAlong a x (NamesRootAt a n root.0)) same keeps));
+          (named_so now begun w prefix world border known truth.1 (subst (λ (x : ArenaView). KeepsAlong a x (NamesRootAt a n root.0)) same keeps));
+      same = refl;
+      waits = tt;
+      ends =
+          let (less, spare_goal) = true_at may.begun a may.w posting (RootFilled old root) is may.true in
+          let spare = subst (λ (o : List Split). IsSpareInterior a may.w root.0 (root_over old (goal posting.half posting.low o))) none spare_goal in
+          some_at _ (interior_at a.nodes root.0) top_root value spare.named;
+      gets_on = none;
     })
 
 -- ---- the number is given back
@@ -331,29 +363,30 @@ module _ (a : ArenaView) (posting : Posting) (root : NodeNo) (is : posting.stage
   -- what the call asks
   pub may_give : (may : MayPost a posting) → IsSome (node_at a.nodes root.0) × All (λ retired. retired.node.0 ≢ root.0) a.retired
   may_give may =
-      let (split, beside, i, spare) = true_at may.begun a may.w posting (RootLate root) is may.true in (
+      let (i, above, spare) = true_at may.begun a may.w posting (RootLate root) is may.true in (
         is_named may.w i spare,
         not_retired a may.w may.now root.0 may.world spare.unknown,
       )
 
-  pub gives_back : (after : ArenaView) → after ≡ without_node a root.0 → KeepsUnknown a after root.0 → PostLaw a after posting Moved (record posting { stage = Walks posting.head })
-  gives_back after value keeps = at_stage a after posting posting.split (RootLate root) Moved (record posting { stage = Walks posting.head }) refl is (record {
-    steps = λ now begun w prefix world before border known truth.
-        let (split_truth, beside, i, spare) = truth in
+  pub gives_back : (after : ArenaView) → after ≡ without_node a root.0 → KeepsUnknown a after root.0 → PostStep a after posting Moved (record posting { stage = Walks posting.head })
+  gives_back after value keeps = at_stage a after posting posting.waiting (RootLate root) Moved (record posting { stage = Walks posting.head }) refl is (record {
+    steps = λ now begun w prefix world before border known all truth.
+        let (i, above, spare) = truth in
         let half : ℕ = posting.half.0 in
-        let split : Option Split = posting.split in
+        let waiting : List Split = posting.waiting in
         let n : ℕ = root.0 in
         let new : ArenaView = without_node a n in
         let updates : Updates a.nodes new.nodes n None = updates-without a.nodes n (is_named w i spare) in
         let kept = (subst (λ (x : ArenaView). KeepsUnknown a x n) value keeps).keeps now w.twins w.chart world.index spare.unknown in
-        let same : (number : ℕ) → Among number (split_owns half split) → IsSame a new w w number = λ number k. record { node = updates.others number (owns_beside a w prefix half posting.low n split border split_truth spare.unknown beside number k); spot = refl; twins = λ one other here. ((λ h. h), (λ h. h)) } in
-        subst (λ (x : ArenaView). Goes now a x w (n ∷ split_owns half split) (split_owns half split) (λ next. PostingIsTrue begun (record posting { stage = Walks posting.head }) x next) × SameContent (arena_seen a) (arena_seen x)) (sym value)
-        (gives_number now a w n (split_owns half split) (λ next. PostingIsTrue begun (record posting { stage = Walks posting.head }) new next) world (is_named w i spare) spare.unknown kept (
+        let same : (number : ℕ) → Among number (split_owns half waiting) → IsSame a new w w number = λ number k. same_beside a new w n updates.others number (owns_below a w prefix half posting.low n i waiting border all spare.named above number k) in
+        let stay = all_stay a new w w prefix half posting.low waiting same border all in
+        subst (λ (x : ArenaView). Goes now a x w (n ∷ split_owns half waiting) (split_owns half waiting) (λ next. PostingIsTrue begun (record posting { stage = Walks posting.head }) x next) × SameContent (arena_seen a) (arena_seen x)) (sym value)
+        (gives_number now a w n (split_owns half waiting) (λ next. PostingIsTrue begun (record posting { stage = Walks posting.head }) new next) world (is_named w i spare) spare.unknown kept (
           prefix,
-          record {
-            border = to_post_stays a new w w prefix half posting.low (same half (half_among a w prefix half split)) border;
-            head = known;
-            stage = (split_stays a new w w prefix half split same split_truth, from_head begun prefix (goal posting.half posting.low split) posting.head.0 w known);
-          },
+          record { border = stay.0; head = known; waiting = stay.1; stage = from_head begun prefix (goal posting.half posting.low waiting) posting.head.0 w known },
         ));
+    same = refl;
+    waits = tt;
+    ends = tt;
+    gets_on = refl;
   })

@@ -1,20 +1,19 @@
 -- The steps of a posting that make twins, and that end them: the new half of an interior is named, and then the interior is cut.
-use Rattle.std.proofs.Common.{ℕ, suc, ◌≡◌, ◌≢◌, ◌≤◌, ◌<◌, ◌⊎◌, inl, inr, List, [], ◌∷◌, Option, Some, None, IsSome, true, false, refl, sym, ap, subst, ◌∙◌, arith}
+use Rattle.std.proofs.Common.{ℕ, ◌≡◌, ◌≢◌, ◌≤◌, ◌<◌, ◌⊎◌, inl, inr, List, ◌∷◌, Option, Some, IsSome, true, false, refl, sym, ap, subst, ◌∙◌, arith}
 use Rattle.std.specs.Prelude.{IsSomeAnd}
 use Rattle.std.specs.Option.{option_and_then}
 use Rattle.mt_types.specs.declared.numbers.NodeNo.{NodeNo}
 use Rattle.mt_interior.specs.Interior.{InteriorView, with_child}
+use Rattle.mt_interior.specs.declared.child.Child.{Child}
 use Rattle.mt_interior.specs.declared.interior.TheConstants.{KEPT_CHILDREN}
 use Rattle.mt_arena.specs.Node.{node_at, interior_at, interior_of}
 use Rattle.mt_arena.specs.Arena.{ArenaView, with_interior_changed}
 use Rattle.mt_chart.specs.Tree.{first, later, Among}
-use Rattle.mt_chart.specs.Chart.{Role, at_level, on, Spot, spot, Chart}
+use Rattle.mt_chart.specs.Chart.{at_level, on, Spot, spot, Chart}
 use Rattle.mt_chart.specs.Steps.{Twin, AreTwins, SameContent}
 use Rattle.mt_chart.proofs.Entries.{among_cases}
 use Rattle.mt_chart.proofs.Walk.{known_kept}
-use Rattle.mt_tree.specs.Seen.{arena_seen, interior_seen}
-use Rattle.mt_tree.proofs.SeenLemmas.{seen-interior}
-use Rattle.mt_tree.proofs.InteriorPlaces.{stands_as}
+use Rattle.mt_tree.specs.Seen.{arena_seen}
 use Rattle.mt_tree.specs.InteriorSteps.{HasUpperChildren, HasRoomFrom, KeepsHalf}
 use Rattle.mt_calls.specs.World.{World, IsWorld, IsLockedInterior, TwinsAreLocked, HasSameTwins, IsTaken, Goes}
 use Rattle.mt_calls.proofs.BorderLemmas.{keys_same, known_stays, twins_beside, retired_kept}
@@ -22,13 +21,14 @@ use Rattle.mt_calls.proofs.FoundLemmas.{some_at}
 use Rattle.mt_calls.proofs.SplitLemmas.{with_spot, spot_changes}
 use Rattle.mt_post.specs.declared.posting.Posting.{Posting}
 use Rattle.mt_post.specs.declared.posting.Progressed.TheVariants.{Moved}
-use Rattle.mt_post.specs.declared.posting.Split.{Split}
+use Rattle.mt_post.specs.declared.split.Split.{Split}
 use Rattle.mt_post.specs.declared.posting.PostStage.TheVariants.{Walks, HalfPosted}
 use Rattle.mt_post.specs.Causes.{HasRoomAt}
-use Rattle.mt_post.specs.Posting.{goal, IsAbove, PostStageIsTrue, IsToPost, IsHeadOf, IsWalking, IsHalved, IsPostedHalf, upper_half, PostingIsTrue, PostLaw, MayPost}
-use Rattle.mt_post.proofs.StepLemmas.{goes_with, heads_beside, interior_others, interior_no_head, interior_border, interior_taken, interior_is_taken, not_both}
-use Rattle.mt_post.proofs.WalkLemmas.{at_stage, true_at, known_some, heads_were, in_layer, room_for}
-use Rattle.mt_post.proofs.KeptLemmas.{apart_known}
+use Rattle.mt_post.specs.Posting.{goal, split_owns, AreWaiting, IsToPost, IsHeadOf, IsWalking, IsHalved, IsPostedHalf, upper_half, PostingIsTrue, MayPost}
+use Rattle.mt_post.specs.Follows.{FollowsInterior, PostStep}
+use Rattle.mt_post.proofs.StepLemmas.{goes_with, heads_beside, interior_others, interior_no_head, interior_taken, interior_is_taken, not_both}
+use Rattle.mt_post.proofs.WalkLemmas.{at_stage, true_at, known_some, heads_were, in_layer, is_above, room_for}
+use Rattle.mt_post.proofs.KeptLemmas.{all_stay, apart_known, owns_beside, beside_half}
 
 -- ---- two more twins
 abbrev pub with_pair : ℕ → ℕ → List Twin → List Twin
@@ -99,6 +99,8 @@ module _ (a after : ArenaView) (now : ℕ) (w : World) (chart : Chart) (prefix :
     half_named = ap (option_and_then interior_of) same_half ∙ h.spare.named;
     locked = h.splits.locked;
     half_locked = refl;
+    level = sym h.level;
+    half_level = sym h.level;
     stands = record { level = h.splits.stands.level; low = h.splits.stands.low; posted = h.splits.stands.posted; place = same_spot ∙ h.splits.stands.place };
     half_stands = record { level = h.interior.level; low = split.half.low; posted = true; place = charted };
     full = h.splits.full;
@@ -145,39 +147,40 @@ module _ (a after : ArenaView) (now : ℕ) (w : World) (chart : Chart) (prefix :
   new_pair other (inr pair) = absurd (h.splits.lone.0 other pair)
 
 -- ---- an interior that has room names the new half
-module _ (a : ArenaView) (posting : Posting) (node : NodeNo) (split : Split) (is : posting.stage ≡ Walks node) (some : posting.split ≡ Some split) (r : HasRoomAt a posting node.0) where
+module _ (a : ArenaView) (posting : Posting) (node : NodeNo) (split : Split) (waiting : List Split) (is : posting.stage ≡ Walks node) (some : posting.waiting ≡ split ∷ waiting) (r : HasRoomAt a posting node.0) where
   abbrev n : ℕ
   n = node.0
+
+  abbrev owns : List ℕ
+  owns = split_owns posting.half.0 (split ∷ waiting)
 
   abbrev names : InteriorView → InteriorView → InteriorView
   names upper x = with_child x (record { low = upper.low; node = split.half.node; level = upper.level })
 
   abbrev then : Posting
-  then = record posting { split = None; stage = HalfPosted split }
+  then = record posting { waiting = waiting; stage = HalfPosted split }
 
-  named_so : (now begun : ℕ) (w : World) (prefix : List ℕ) → IsWorld a now w → begun ≤ now → IsToPost a w prefix posting.half.0 posting.low → IsHeadOf w begun posting.head.0 prefix → (h : IsHalved a w prefix split) → IsWalking begun prefix split.half n w
-      → KeepsHalf a (with_interior_changed a n (names (upper_half h.interior split.half.low))) n split.half.node.0
-      → Goes now a (with_interior_changed a n (names (upper_half h.interior split.half.low))) w (split.half.node.0 ∷ split.interior.0 ∷ posting.half.0 ∷ []) (split.half.node.0 ∷ split.interior.0 ∷ posting.half.0 ∷ [])
-      (λ next. PostingIsTrue begun then (with_interior_changed a n (names (upper_half h.interior split.half.low))) next) × SameContent (arena_seen a) (arena_seen (with_interior_changed a n (names (upper_half h.interior split.half.low))))
-  named_so now begun w prefix world before t known h truth keeps =
+  named_so : (now begun : ℕ) (w : World) (prefix : List ℕ) → IsWorld a now w → begun ≤ now → IsToPost a w prefix posting.half.0 posting.low → IsHeadOf w begun posting.head.0 prefix → (all : AreWaiting a w prefix (split ∷ waiting)) → IsWalking begun prefix split.half n w
+      → KeepsHalf a (with_interior_changed a n (names (upper_half all.1.interior split.half.low))) n split.half.node.0
+      → Goes now a (with_interior_changed a n (names (upper_half all.1.interior split.half.low))) w owns owns (λ next. PostingIsTrue begun then (with_interior_changed a n (names (upper_half all.1.interior split.half.low))) next)
+      × SameContent (arena_seen a) (arena_seen (with_interior_changed a n (names (upper_half all.1.interior split.half.low))))
+  named_so now begun w prefix world before t known (above, h, more) truth keeps =
       let x = r.interior in
       let i : ℕ = split.interior.0 in
       let m : ℕ = split.half.node.0 in
       let half : ℕ = posting.half.0 in
-      let owns : List ℕ = m ∷ i ∷ half ∷ [] in
       let change = names (upper_half h.interior split.half.low) in
       let new : ArenaView = with_interior_changed a n change in
       let place : Spot = spot (at_level h.interior.level) prefix split.half.low (on true) in
       let chart : Chart = with_spot w.chart m place in
+      let next : World = record { twins = with_pair m i w.twins; chart = chart } in
       let charted = spot_changes w.chart m place in
-      let stands = in_layer a posting node is (goal posting.half posting.low posting.split) refl x r.named r.alive r.unlocked begun w.chart prefix split.half.low world.index.tree truth.held in
+      let stands = in_layer a posting node is (goal posting.half posting.low posting.waiting) refl x r.named r.alive r.unlocked begun w.chart prefix split.half.low world.index.tree truth.held in
       let is_known = known_some w n _ stands.place in
       let others = interior_others a n x change r.named in
-      let i_apart : i ≢ n = λ e. (let both : ◌≡◌ {A = Option InteriorView} (Some h.interior) (Some x) = sym h.splits.named ∙ (ap (λ (k : ℕ). interior_at a.nodes k) e ∙ r.named) in
-      let same : h.interior ≡ x = cc in let clash : true ≡ false = sym h.splits.locked ∙ (ap (λ (v : InteriorView). v.version.locked) same ∙ r.unlocked) in cc) in
-      let m_apart : m ≢ n = λ e. apart_known a w prefix n m _ stands.place h.spare.unknown (sym e) in
+      let free : IsTaken a w n → ⊥ = λ taken. not_both x.version.locked (w.chart n) r.unlocked is_known (interior_is_taken a n x w r.named taken) in
+      let apart : (number : ℕ) → Among number owns → number ≢ n = owns_beside a w prefix half posting.low n (split ∷ waiting) t (above, h, more) free in
       let i_spot = charted.rest i (apart_known a w prefix i m _ h.splits.stands.place h.spare.unknown) in
-      let half_spot = charted.rest half (apart_known a w prefix half m _ t.place h.spare.unknown) in
       let kept = keeps.keeps now i w.twins (with_pair m i w.twins) w.chart chart world.index (record {
         split = h.interior;
         half = upper_half h.interior split.half.low;
@@ -192,48 +195,56 @@ module _ (a : ArenaView) (posting : Posting) (node : NodeNo) (split : Split) (is
         kept_twins = λ one other pair. later (later pair);
         new_twins = new_pair a new now w chart prefix split world h;
       }) in
-      let free : IsTaken a w n → ⊥ = λ taken. not_both x.version.locked (w.chart n) r.unlocked is_known (interior_is_taken a n x w r.named taken) in
-      let clash_locked : IsLockedInterior a w.chart n → ⊥ = λ locked. (let clash : false ≡ true = sym r.unlocked ∙ some_at _ (interior_at a.nodes n) x locked.locked r.named in cc) in (
-        goes_with now a new w (record { twins = with_pair m i w.twins; chart = chart }) n owns owns (λ next. PostingIsTrue begun then new next) (record {
+      let clash_locked : IsLockedInterior a w.chart n → ⊥ = λ locked. (let clash : false ≡ true = sym r.unlocked ∙ some_at _ (interior_at a.nodes n) x locked.locked r.named in cc) in
+      let stay = all_stay a new w next prefix half posting.low waiting (λ number k. record {
+        node = others number (apart number (later (later k)));
+        spot = charted.rest number (beside_half a w prefix split half posting.low waiting t h above more number k).0;
+        twins = pair_same m i w.twins number (beside_half a w prefix split half posting.low waiting t h above more number k).0 (beside_half a w prefix split half posting.low waiting t h above more number k).1;
+      }) t more in (
+        goes_with now a new w next n owns owns (λ v. PostingIsTrue begun then new v) (record {
           index = kept.index;
           keys = keys_same a new kept.content world.keys;
           heads = heads_beside a new w.chart chart n (heads_were w.chart chart m h.interior.level split.half.low prefix (on true) charted) (interior_no_head a n x change r.named) others world.heads;
-          twins = twins_now a new now w chart prefix split world h (others i i_apart) (others m m_apart) i_spot charted.now (twins_beside a new w.chart chart w.twins n (kept.evolves 0 (omega arith)) clash_locked others world.twins);
+          twins = twins_now a new now w chart prefix split world h (others i (apart i (later first))) (others m (apart m first)) i_spot charted.now (twins_beside a new w.chart chart w.twins n (kept.evolves 0 (omega arith)) clash_locked others world.twins);
           retired = retired_kept a.retired w.chart chart (kept.evolves 0 (omega arith)) world.retired;
         }) kept.evolves others
-            (λ other apart. charted.rest other (λ e. apart (subst (λ (k : ℕ). Among k owns) (sym e) first)))
-            (λ other apart. pair_same m i w.twins other (λ e. apart (subst (λ (k : ℕ). Among k owns) (sym e) first)) (λ e. apart (subst (λ (k : ℕ). Among k owns) (sym e) (later first))))
-            (λ taken apart. free taken) (λ other taken out k. out k) (λ other k taken. k)
-            (λ apart taken. absurd (not_both x.version.locked (chart n) r.unlocked (known_stays w.chart chart n (kept.evolves 0 (omega arith)) is_known) (interior_taken a n x change r.named (record { twins = w.twins; chart = chart }) taken))) (
+            (λ other out. charted.rest other (λ e. out (subst (λ (k : ℕ). Among k owns) (sym e) first)))
+            (λ other out. pair_same m i w.twins other (λ e. out (subst (λ (k : ℕ). Among k owns) (sym e) first)) (λ e. out (subst (λ (k : ℕ). Among k owns) (sym e) (later first))))
+            (λ taken out. free taken) (λ other taken out k. out k) (λ other k taken. k)
+            (λ out taken. absurd (not_both x.version.locked (chart n) r.unlocked (known_stays w.chart chart n (kept.evolves 0 (omega arith)) is_known) (interior_taken a n x change r.named (record { twins = w.twins; chart = chart }) taken))) (
               prefix,
               record {
-                border = record { b = t.b; named = interior_border a n x change r.named half t.b t.named; low_is = t.low_is; locked = t.locked; place = half_spot ∙ t.place };
+                border = stay.0;
                 head = known_kept begun posting.head.0 _ prefix 0 w.chart chart (kept.evolves begun before) known;
-                stage = (refl, half_is_posted a new now w chart prefix split world h (others i i_apart) (others m m_apart) i_spot charted.now);
+                waiting = stay.1;
+                stage = (above, half_is_posted a new now w chart prefix split world h (others i (apart i (later first))) (others m (apart m first)) i_spot charted.now);
               },
             ),
         kept.content,
       )
 
-  pub posts_half : (after : ArenaView) → IsSomeAnd (interior_at a.nodes split.half.node.0) (λ upper. after ≡ with_interior_changed a n (names upper)) → KeepsHalf a after n split.half.node.0 → PostLaw a after posting Moved then
-  posts_half after value keeps = at_stage a after posting (Some split) (Walks node) Moved then some is (record {
-    steps = λ now begun w prefix world before t known truth.
-        let h = truth.0 in
+  pub posts_half : (after : ArenaView) → IsSomeAnd (interior_at a.nodes split.half.node.0) (λ upper. after ≡ with_interior_changed a n (names upper)) → KeepsHalf a after n split.half.node.0 → PostStep a after posting Moved then
+  posts_half after value keeps = at_stage a after posting (split ∷ waiting) (Walks node) Moved then some is (record {
+    steps = λ now begun w prefix world before t known all truth.
+        let h = all.1 in
         let same : after ≡ with_interior_changed a n (names (upper_half h.interior split.half.low)) = some_at _ (interior_at a.nodes split.half.node.0) (upper_half h.interior split.half.low) value h.spare.named in
-        subst (λ (x : ArenaView). Goes now a x w (split.half.node.0 ∷ split.interior.0 ∷ posting.half.0 ∷ []) (split.half.node.0 ∷ split.interior.0 ∷ posting.half.0 ∷ []) (λ next. PostingIsTrue begun then x next) × SameContent (arena_seen a) (arena_seen x)) (sym same)
-        (named_so now begun w prefix world before t known h truth.1 (subst (λ (x : ArenaView). KeepsHalf a x n split.half.node.0) same keeps));
+        subst (λ (x : ArenaView). Goes now a x w owns owns (λ next. PostingIsTrue begun then x next) × SameContent (arena_seen a) (arena_seen x)) (sym same)
+        (named_so now begun w prefix world before t known all truth (subst (λ (x : ArenaView). KeepsHalf a x n split.half.node.0) same keeps));
+    same = refl;
+    waits = tt;
+    ends = tt;
+    gets_on = inr (subst (λ (o : Option InteriorView). IsSomeAnd o (FollowsInterior posting then node)) (sym r.named) (inr (r.stops, inl (r.room, (split, some, refl)))));
   })
 
   -- what the call asks
   pub may_post_half : (may : MayPost a posting) → IsSomeAnd (interior_at a.nodes split.half.node.0) (λ upper. IsSomeAnd (interior_at a.nodes n) (HasRoomFrom upper.low)) × IsSomeAnd (interior_at a.nodes split.half.node.0) (λ upper. IsSomeAnd (interior_at a.nodes n) (λ x. upper.level < x.level))
   may_post_half may =
-      let truth = subst (λ (o : Option Split). PostStageIsTrue may.begun may.true.0 posting.half posting.low o (Walks node) a may.w) some (true_at may.begun a may.w posting (Walks node) is may.true) in
-      let h = truth.0 in
-      let at = truth.1.held in
-      let room = room_for a posting node is (goal posting.half posting.low posting.split) refl r.interior r.named r.alive r.unlocked may r.room in
-      let stands = stands_as (arena_seen a) may.w.chart n (interior_seen r.interior) may.world.index.tree (seen-interior a n r.interior r.named) at.role may.true.0 at.low at.standing at.place in
-      let above : split.half.level < suc stands.below = subst (λ (role : Role). IsAbove split.half.level role) stands.is_role truth.1.inner in (
-        subst (λ (o : Option InteriorView). IsSomeAnd o (λ upper. IsSomeAnd (interior_at a.nodes n) (HasRoomFrom upper.low))) (sym h.spare.named) (subst (λ (o : Option Split). IsSomeAnd (interior_at a.nodes n) (HasRoomFrom (goal posting.half posting.low o).low)) some room),
+      let wanted : Child = goal posting.half posting.low posting.waiting in
+      let (less, h, more) = subst (λ (o : List Split). AreWaiting a may.w may.true.0 o) some may.true.1.waiting in
+      let room = room_for a posting node is wanted refl r.interior r.named r.alive r.unlocked may r.room in
+      let above : split.half.level < r.interior.level = subst (λ (o : List Split). (goal posting.half posting.low o).level < r.interior.level) some
+      (is_above a posting node is wanted refl r.interior r.named r.alive r.unlocked may.begun may.true.0 may.w may.world.index.tree (true_at may.begun a may.w posting (Walks node) is may.true)) in (
+        subst (λ (o : Option InteriorView). IsSomeAnd o (λ upper. IsSomeAnd (interior_at a.nodes n) (HasRoomFrom upper.low))) (sym h.spare.named) (subst (λ (o : List Split). IsSomeAnd (interior_at a.nodes n) (HasRoomFrom (goal posting.half posting.low o).low)) some room),
         subst (λ (o : Option InteriorView). IsSomeAnd o (λ upper. IsSomeAnd (interior_at a.nodes n) (λ x. upper.level < x.level))) (sym h.spare.named)
-            (subst (λ (o : Option InteriorView). IsSomeAnd o (λ x. h.interior.level < x.level)) (sym r.named) (let same = h.level in let node_level = stands.node_level in omega (arith, above, same, node_level))),
+            (subst (λ (o : Option InteriorView). IsSomeAnd o (λ x. h.interior.level < x.level)) (sym r.named) (let same = h.level in omega (arith, above, same))),
       )

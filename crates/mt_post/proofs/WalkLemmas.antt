@@ -5,7 +5,7 @@ use Rattle.std.specs.Option.{option_map}
 use Rattle.mt_types.specs.declared.numbers.NodeNo.{NodeNo}
 use Rattle.mt_border.specs.Border.{BorderView}
 use Rattle.mt_interior.specs.Head.{HeadView}
-use Rattle.mt_interior.specs.Interior.{InteriorView, with_child}
+use Rattle.mt_interior.specs.Interior.{InteriorView, children_up_to, with_child}
 use Rattle.mt_interior.specs.declared.child.Child.{Child}
 use Rattle.mt_interior.specs.declared.interior.TheConstants.{MAX_CHILDREN}
 use Rattle.mt_arena.specs.Node.{node_at, head_at, interior_at, border_at}
@@ -33,31 +33,43 @@ use Rattle.mt_post.specs.declared.posting.Posting.{Posting}
 use Rattle.mt_post.specs.declared.posting.Progressed.{Progressed}
 use Rattle.mt_post.specs.declared.posting.Progressed.TheVariants.{Moved, Waits, Ended}
 use Rattle.mt_post.specs.declared.posting.Root.{Root}
-use Rattle.mt_post.specs.declared.posting.Split.{Split}
+use Rattle.mt_post.specs.declared.split.Split.{Split}
 use Rattle.mt_post.specs.declared.posting.PostStage.{PostStage}
 use Rattle.mt_post.specs.declared.posting.PostStage.TheVariants.{Walks, RootWanted, HalfLeftOut}
-use Rattle.mt_post.specs.Posting.{stage_owns, owned_after, IsToPost, IsHeadOf, IsAbove, goal, split_owns, IsWalking, PostStageIsTrue, IsHalved, PostingIsTrue, ThenPosts, PostLaw, NewPostingIsTrue, MayPost}
+use Rattle.mt_post.specs.Posting.{stage_owns, owned_after, IsToPost, IsHeadOf, IsAbove, goal, split_owns, IsWalking, PostStageIsTrue, AreWaiting, PostingIsTrue, ThenPosts, NewPostingIsTrue, MayPost}
+use Rattle.mt_post.specs.Causes.{IsHeldBack, CanLeaveOut, PostStageWaits, PostStageEnds}
+use Rattle.mt_post.specs.Follows.{FollowsHead, FollowsInterior, LeavesOut, StageFollows, Follows, PostStep}
 use Rattle.mt_calls.specs.World.{IsLockedBorder}
 use Rattle.mt_post.proofs.StepLemmas.{at_chart, goes_at, heads_beside, interior_others, interior_no_head, interior_border, interior_taken, interior_is_taken, not_both}
 
--- ---- the law of a step, of a posting that is at a stage
-pub record StageLaw (a after : ArenaView) (posting : Posting) (split : Option Split) (stage : PostStage) (p : Progressed) (then : Posting) : Type 0 where
-  pub steps : (now begun : ℕ) (w : World) (prefix : List ℕ) → IsWorld a now w → begun ≤ now → IsToPost a w prefix posting.half.0 posting.low → IsHeadOf w begun posting.head.0 prefix
-      → PostStageIsTrue begun prefix posting.half posting.low split stage a w
-      → Goes now a after w (stage_owns posting.half.0 split stage) (owned_after p then) (ThenPosts p begun then after) × SameContent (arena_seen a) (arena_seen after)
+-- ---- what a step does, of a posting that is at a stage
+pub record StageStep (a after : ArenaView) (posting : Posting) (waiting : List Split) (stage : PostStage) (p : Progressed) (then : Posting) : Type 0 where
+  pub steps : (now begun : ℕ) (w : World) (prefix : List ℕ) → IsWorld a now w → begun ≤ now → IsToPost a w prefix posting.half.0 posting.low → IsHeadOf w begun posting.head.0 prefix → AreWaiting a w prefix waiting
+      → PostStageIsTrue begun prefix posting.half posting.low waiting stage a w
+      → Goes now a after w (stage_owns posting.half.0 waiting stage) (owned_after p then) (ThenPosts p begun then after) × SameContent (arena_seen a) (arena_seen after)
+  pub same : then ≡ record posting { waiting = then.waiting; stage = then.stage }
+  pub waits : PostStageWaits a stage p
+  pub ends : PostStageEnds a after posting stage p
+  pub gets_on : Follows a posting stage p then
 
-pub at_stage : (a after : ArenaView) (posting : Posting) (split : Option Split) (stage : PostStage) (p : Progressed) (then : Posting) → posting.split ≡ split → posting.stage ≡ stage → StageLaw a after posting split stage p then → PostLaw a after posting p then
-at_stage a after posting split stage p then has is law = record {
-  steps = λ now begun w world before truth.
-      let (prefix, t) = truth in
-      subst (λ (s : PostStage). Goes now a after w (stage_owns posting.half.0 posting.split s) (owned_after p then) (ThenPosts p begun then after) × SameContent (arena_seen a) (arena_seen after)) (sym is)
-      (subst (λ (o : Option Split). Goes now a after w (stage_owns posting.half.0 o stage) (owned_after p then) (ThenPosts p begun then after) × SameContent (arena_seen a) (arena_seen after)) (sym has)
-      (law.steps now begun w prefix world before t.border t.head (subst (λ (o : Option Split). PostStageIsTrue begun prefix posting.half posting.low o stage a w) has (subst (λ (s : PostStage). PostStageIsTrue begun prefix posting.half posting.low posting.split s a w) is t.stage))));
+pub at_stage : (a after : ArenaView) (posting : Posting) (waiting : List Split) (stage : PostStage) (p : Progressed) (then : Posting) → posting.waiting ≡ waiting → posting.stage ≡ stage → StageStep a after posting waiting stage p then → PostStep a after posting p then
+at_stage a after posting waiting stage p then has is step = record {
+  same = step.same;
+  law = record {
+    steps = λ now begun w world before truth.
+        let (prefix, t) = truth in
+        subst (λ (s : PostStage). Goes now a after w (stage_owns posting.half.0 posting.waiting s) (owned_after p then) (ThenPosts p begun then after) × SameContent (arena_seen a) (arena_seen after)) (sym is)
+        (subst (λ (o : List Split). Goes now a after w (stage_owns posting.half.0 o stage) (owned_after p then) (ThenPosts p begun then after) × SameContent (arena_seen a) (arena_seen after)) (sym has)
+        (step.steps now begun w prefix world before t.border t.head (subst (λ (o : List Split). AreWaiting a w prefix o) has t.waiting) (subst (λ (o : List Split). PostStageIsTrue begun prefix posting.half posting.low o stage a w) has (subst (λ (s : PostStage). PostStageIsTrue begun prefix posting.half posting.low posting.waiting s a w) is t.stage))));
+  };
+  waits = subst (λ (s : PostStage). PostStageWaits a s p) (sym is) step.waits;
+  ends = subst (λ (s : PostStage). PostStageEnds a after posting s p) (sym is) step.ends;
+  gets_on = subst (λ (s : PostStage). Follows a posting s p then) (sym is) step.gets_on;
 }
 
 -- what is true of the stage where it is
-pub true_at : (begun : ℕ) (a : ArenaView) (w : World) (posting : Posting) (stage : PostStage) → posting.stage ≡ stage → (truth : PostingIsTrue begun posting a w) → PostStageIsTrue begun truth.0 posting.half posting.low posting.split stage a w
-true_at begun a w posting stage is truth = subst (λ (s : PostStage). PostStageIsTrue begun truth.0 posting.half posting.low posting.split s a w) is truth.1.stage
+pub true_at : (begun : ℕ) (a : ArenaView) (w : World) (posting : Posting) (stage : PostStage) → posting.stage ≡ stage → (truth : PostingIsTrue begun posting a w) → PostStageIsTrue begun truth.0 posting.half posting.low posting.waiting stage a w
+true_at begun a w posting stage is truth = subst (λ (s : PostStage). PostStageIsTrue begun truth.0 posting.half posting.low posting.waiting s a w) is truth.1.stage
 
 pub known_some : (w : World) (number : ℕ) (place : Spot) → w.chart number ≡ Some place → IsSome (w.chart number)
 known_some w number place is = subst (λ (x : Option Spot). IsSome x) (sym is) refl
@@ -73,7 +85,7 @@ from_head begun prefix wanted number w known = record {
   inner = tt;
 }
 
-pub new_is_true : (posting : Posting) → posting.split ≡ None → posting.stage ≡ Walks posting.head → NewPostingIsTrue posting
+pub new_is_true : (posting : Posting) → posting.waiting ≡ [] → posting.stage ≡ Walks posting.head → NewPostingIsTrue posting
 new_is_true posting none is = record {
   begins = λ a w begun prefix border known. (
     (
@@ -81,11 +93,11 @@ new_is_true posting none is = record {
       record {
         border = border;
         head = known;
-        stage = subst (λ (s : PostStage). PostStageIsTrue begun prefix posting.half posting.low posting.split s a w) (sym is)
-            (subst (λ (o : Option Split). PostStageIsTrue begun prefix posting.half posting.low o (Walks posting.head) a w) (sym none) (tt, from_head begun prefix (goal posting.half posting.low None) posting.head.0 w known));
+        waiting = subst (λ (o : List Split). AreWaiting a w prefix o) (sym none) tt;
+        stage = subst (λ (s : PostStage). PostStageIsTrue begun prefix posting.half posting.low posting.waiting s a w) (sym is) (from_head begun prefix (goal posting.half posting.low posting.waiting) posting.head.0 w known);
       },
     ),
-    ap (stage_owns posting.half.0 posting.split) is ∙ ap (split_owns posting.half.0) none,
+    ap (stage_owns posting.half.0 posting.waiting) is ∙ ap (split_owns posting.half.0) none,
   );
 }
 
@@ -106,27 +118,49 @@ module _ (a : ArenaView) (posting : Posting) where
   same_content key row = ((λ h. h), (λ h. h))
 
   -- the border is left out
-  pub left_out : (stage : PostStage) → stage_owns posting.half.0 None stage ≡ posting.half.0 ∷ [] → posting.split ≡ None → posting.stage ≡ stage → PostLaw a a posting Ended posting
-  left_out stage owns none is = at_stage a a posting None stage Ended posting none is (record {
-    steps = λ now begun w prefix world before border known truth. (goes_same now a w _ (stage_owns posting.half.0 None stage) (posting.half.0 ∷ []) owns world (still_locked a w prefix posting.half.0 posting.low border), same_content);
+  pub left_out : (stage : PostStage) (left : List Split) → stage_owns posting.half.0 [] stage ≡ posting.half.0 ∷ [] → posting.waiting ≡ [] → posting.stage ≡ stage → PostStageWaits a stage Ended → PostStageEnds a a posting stage Ended
+      → PostStep a a posting Ended (record posting { waiting = left })
+  left_out stage left owns none is waits ends = at_stage a a posting [] stage Ended (record posting { waiting = left }) none is (record {
+    steps = λ now begun w prefix world before border known all truth. (goes_same now a w _ (stage_owns posting.half.0 [] stage) (posting.half.0 ∷ []) owns world (still_locked a w prefix posting.half.0 posting.low border), same_content);
+    same = refl;
+    waits = waits;
+    ends = ends;
+    gets_on = none;
   })
 
-  module _ (split next_split : Option Split) (stage next : PostStage) (owns : stage_owns posting.half.0 split stage ≡ stage_owns posting.half.0 next_split next) (has : posting.split ≡ split) (is : posting.stage ≡ stage) where
+  module _ (p : Progressed) (waiting next_waiting : List Split) (stage next : PostStage) (owns : stage_owns posting.half.0 waiting stage ≡ stage_owns posting.half.0 next_waiting next) (has : posting.waiting ≡ waiting) (is : posting.stage ≡ stage) where
+    abbrev then : Posting
+    then = record posting { waiting = next_waiting; stage = next }
+
     abbrev ThenStage : Type 0
-    ThenStage = (now begun : ℕ) (w : World) (prefix : List ℕ) → IsWorld a now w → IsToPost a w prefix posting.half.0 posting.low → IsHeadOf w begun posting.head.0 prefix
-        → PostStageIsTrue begun prefix posting.half posting.low split stage a w → PostStageIsTrue begun prefix posting.half posting.low next_split next a w
+    ThenStage = (now begun : ℕ) (w : World) (prefix : List ℕ) → IsWorld a now w → IsToPost a w prefix posting.half.0 posting.low → IsHeadOf w begun posting.head.0 prefix → AreWaiting a w prefix waiting
+        → PostStageIsTrue begun prefix posting.half posting.low waiting stage a w → AreWaiting a w prefix next_waiting × PostStageIsTrue begun prefix posting.half posting.low next_waiting next a w
 
-    pub goes_on : ThenStage → PostLaw a a posting Moved (record posting { split = next_split; stage = next })
-    goes_on then = at_stage a a posting split stage Moved (record posting { split = next_split; stage = next }) has is (record {
-      steps = λ now begun w prefix world before border known truth.
-          (goes_same now a w _ (stage_owns posting.half.0 split stage) (stage_owns posting.half.0 next_split next) owns world (prefix, record { border = border; head = known; stage = then now begun w prefix world border known truth }), same_content);
+    goes_so : (p ≡ Moved) ⊎ (p ≡ Waits) → ThenStage → PostStageWaits a stage p → PostStageEnds a a posting stage p → Follows a posting stage p then → PostStep a a posting p then
+    goes_so either goes waits ends gets_on = at_stage a a posting waiting stage p then has is (record {
+      steps = λ now begun w prefix world before border known all truth.
+          let both = goes now begun w prefix world border known all truth in
+          let t : PostingIsTrue begun then a w = (prefix, record { border = border; head = known; waiting = both.0; stage = both.1 }) in
+          elim either [
+            | inl e ↦ subst (λ (q : Progressed). Goes now a a w (stage_owns posting.half.0 waiting stage) (owned_after q then) (ThenPosts q begun then a) × SameContent (arena_seen a) (arena_seen a)) (sym e)
+                (goes_same now a w _ (stage_owns posting.half.0 waiting stage) (stage_owns posting.half.0 next_waiting next) owns world t, same_content)
+            | inr e ↦ subst (λ (q : Progressed). Goes now a a w (stage_owns posting.half.0 waiting stage) (owned_after q then) (ThenPosts q begun then a) × SameContent (arena_seen a) (arena_seen a)) (sym e)
+                (goes_same now a w _ (stage_owns posting.half.0 waiting stage) (stage_owns posting.half.0 next_waiting next) owns world t, same_content)
+          ];
+      same = refl;
+      waits = waits;
+      ends = ends;
+      gets_on = gets_on;
     })
 
-    pub waits_on : ThenStage → PostLaw a a posting Waits (record posting { split = next_split; stage = next })
-    waits_on then = at_stage a a posting split stage Waits (record posting { split = next_split; stage = next }) has is (record {
-      steps = λ now begun w prefix world before border known truth.
-          (goes_same now a w _ (stage_owns posting.half.0 split stage) (stage_owns posting.half.0 next_split next) owns world (prefix, record { border = border; head = known; stage = then now begun w prefix world border known truth }), same_content);
-    })
+  module _ (waiting next_waiting : List Split) (stage next : PostStage) (owns : stage_owns posting.half.0 waiting stage ≡ stage_owns posting.half.0 next_waiting next) (has : posting.waiting ≡ waiting) (is : posting.stage ≡ stage) where
+    pub goes_on : ThenStage Moved waiting next_waiting stage next owns has is → PostStageWaits a stage Moved → PostStageEnds a a posting stage Moved → Follows a posting stage Moved (record posting { waiting = next_waiting; stage = next })
+        → PostStep a a posting Moved (record posting { waiting = next_waiting; stage = next })
+    goes_on goes waits ends gets_on = goes_so Moved waiting next_waiting stage next owns has is (inl refl) goes waits ends gets_on
+
+    pub waits_on : ThenStage Waits waiting next_waiting stage next owns has is → PostStageWaits a stage Waits → PostStageEnds a a posting stage Waits → Follows a posting stage Waits (record posting { waiting = next_waiting; stage = next })
+        → PostStep a a posting Waits (record posting { waiting = next_waiting; stage = next })
+    waits_on goes waits ends gets_on = goes_so Waits waiting next_waiting stage next owns has is (inr refl) goes waits ends gets_on
 
 -- ---- at a head
 -- the root of a head that is not marked deleted
@@ -152,39 +186,47 @@ root_place a chart begun node low prefix h tree held named alive = go held.role 
     go (at_level zero) (gone epoch) place = absurd (let at_node = there in let (u, is_node, marked) = tree.gone_borders node prefix held.low epoch place in cc)
     go (at_level (suc below)) standing place = absurd (let at_node = there in let is_node = (tree.interiors node below prefix held.low standing place).is_node in cc)
 
-module _ (a : ArenaView) (posting : Posting) (node : NodeNo) (is : posting.stage ≡ Walks node) (wanted : Child) (is_goal : wanted ≡ goal posting.half posting.low posting.split) where
+module _ (a : ArenaView) (posting : Posting) (node : NodeNo) (is : posting.stage ≡ Walks node) (wanted : Child) (is_goal : wanted ≡ goal posting.half posting.low posting.waiting) where
   -- where it is, seen for what is wanted
-  walks_for : (begun : ℕ) (prefix : List ℕ) (number : ℕ) (w : World) → IsWalking begun prefix wanted number w → IsWalking begun prefix (goal posting.half posting.low posting.split) number w
+  walks_for : (begun : ℕ) (prefix : List ℕ) (number : ℕ) (w : World) → IsWalking begun prefix wanted number w → IsWalking begun prefix (goal posting.half posting.low posting.waiting) number w
   walks_for begun prefix number w at = subst (λ (g : Child). IsWalking begun prefix g number w) is_goal at
 
-  walks_wanted : (begun : ℕ) (prefix : List ℕ) (number : ℕ) (w : World) → IsWalking begun prefix (goal posting.half posting.low posting.split) number w → IsWalking begun prefix wanted number w
+  walks_wanted : (begun : ℕ) (prefix : List ℕ) (number : ℕ) (w : World) → IsWalking begun prefix (goal posting.half posting.low posting.waiting) number w → IsWalking begun prefix wanted number w
   walks_wanted begun prefix number w at = subst (λ (g : Child). IsWalking begun prefix g number w) (sym is_goal) at
 
-  pub head_leads : (h : HeadView) (root : NodeNo) (level : ℕ) → head_at a.nodes node.0 ≡ Some h → h.version.deleted ≡ false → root ≡ h.root → level ≡ h.level → wanted.level < level → PostLaw a a posting Moved (record posting { stage = Walks root })
-  head_leads h root level named alive same same_level from = goes_on a posting posting.split posting.split (Walks node) (Walks root) refl refl is (λ now begun w prefix world border known truth.
-      let (stands, is_root) = root_place a w.chart begun node.0 wanted.low prefix h world.index.tree ((walks_wanted begun prefix node.0 w truth.1).held) named alive in (
-        truth.0,
+  pub head_leads : (h : HeadView) (root : NodeNo) (level : ℕ) → head_at a.nodes node.0 ≡ Some h → h.version.deleted ≡ false → root ≡ h.root → level ≡ h.level → wanted.level < level → PostStep a a posting Moved (record posting { stage = Walks root })
+  head_leads h root level named alive same same_level from = goes_on a posting posting.waiting posting.waiting (Walks node) (Walks root) refl refl is (λ now begun w prefix world border known all truth.
+      let (stands, is_root) = root_place a w.chart begun node.0 wanted.low prefix h world.index.tree ((walks_wanted begun prefix node.0 w truth).held) named alive in (
+        all,
         walks_for begun prefix root.0 w (record {
           held = record { role = at_level h.level; low = 0; standing = on true; place = ap (λ (r : NodeNo). w.chart r.0) same ∙ is_root; at_most = omega arith; since = λ epoch e. absurd (let clash : on true ≡ gone epoch = e in cc) };
           inner = subst (λ (l : ℕ). wanted.level < l) same_level from;
         }),
-      ))
+      )) tt tt (inl (subst (λ (o : Option HeadView). IsSomeAnd o (FollowsHead posting (record posting { stage = Walks root }))) (sym named)
+      (inl (subst (λ (g : Child). g.level < h.level) is_goal (subst (λ (l : ℕ). wanted.level < l) same_level from), ap (λ (r : NodeNo). record posting { stage = Walks r }) same))))
 
-  pub head_lacks : (old : Root) → old.level ≤ wanted.level → PostLaw a a posting Moved (record posting { stage = RootWanted old })
-  head_lacks old less = goes_on a posting posting.split posting.split (Walks node) (RootWanted old) refl refl is (λ now begun w prefix world border known truth. (truth.0, subst (λ (g : Child). old.level < g.level + 1) is_goal (omega (arith, less))))
+  pub head_lacks : (h : HeadView) (old : Root) → head_at a.nodes node.0 ≡ Some h → old.node ≡ h.root → old.level ≡ h.level → old.level ≤ wanted.level → PostStep a a posting Moved (record posting { stage = RootWanted old })
+  head_lacks h old named same same_level less = goes_on a posting posting.waiting posting.waiting (Walks node) (RootWanted old) refl refl is (λ now begun w prefix world border known all truth. (all, subst (λ (g : Child). old.level < g.level + 1) is_goal (omega (arith, less)))) tt tt
+      (inl (subst (λ (o : Option HeadView). IsSomeAnd o (FollowsHead posting (record posting { stage = RootWanted old }))) (sym named)
+      (inr (inl (
+        subst (λ (g : Child). h.level ≤ g.level) is_goal (subst (λ (l : ℕ). l ≤ wanted.level) same_level less),
+        ap (λ (r : NodeNo). record posting { stage = RootWanted (record { node = r; level = old.level }) }) same ∙ ap (λ (l : ℕ). record posting { stage = RootWanted (record { node = h.root; level = l }) }) same_level,
+      )))))
 
   -- ---- at an interior
-  pub held_back : PostLaw a a posting Waits (record posting { stage = Walks posting.head })
-  held_back = waits_on a posting posting.split posting.split (Walks node) (Walks posting.head) refl refl is (λ now begun w prefix world border known truth. (truth.0, from_head begun prefix (goal posting.half posting.low posting.split) posting.head.0 w known))
+  pub held_back : IsHeldBack a node.0 → PostStep a a posting Waits (record posting { stage = Walks posting.head })
+  held_back cause = waits_on a posting posting.waiting posting.waiting (Walks node) (Walks posting.head) refl refl is (λ now begun w prefix world border known all truth. (all, from_head begun prefix (goal posting.half posting.low posting.waiting) posting.head.0 w known)) cause tt refl
 
-  pub child_leads : (i : InteriorView) (place : ℕ) (child : Child) → interior_at a.nodes node.0 ≡ Some i → i.version.deleted ≡ false → slice_get i.children place ≡ Some child → child.low ≤ wanted.low → wanted.level < child.level
-      → PostLaw a a posting Moved (record posting { stage = Walks child.node })
-  child_leads i place child named alive read from_low from = goes_on a posting posting.split posting.split (Walks node) (Walks child.node) refl refl is (λ now begun w prefix world border known truth.
+  pub child_leads : (i : InteriorView) (place : ℕ) (child : Child) → interior_at a.nodes node.0 ≡ Some i → i.version.deleted ≡ false → place + 1 ≡ children_up_to wanted.low i.children → slice_get i.children place ≡ Some child → child.low ≤ wanted.low → wanted.level < child.level
+      → PostStep a a posting Moved (record posting { stage = Walks child.node })
+  child_leads i place child named alive leads read from_low from = goes_on a posting posting.waiting posting.waiting (Walks node) (Walks child.node) refl refl is (λ now begun w prefix world border known all truth.
       let there = seen-interior a node.0 i named in
-      let at = walks_wanted begun prefix node.0 w truth.1 in
+      let at = walks_wanted begun prefix node.0 w truth in
       let stands = stands_as (arena_seen a) w.chart node.0 (interior_seen i) world.index.tree there at.held.role prefix at.held.low at.held.standing at.held.place in
       let held = children_held (arena_seen a) w.chart world.index.tree begun node.0 wanted.low prefix (interior_seen i) (child_seen child) at.held there alive (among_read i.children place child read) from_low in
-      (truth.0, walks_for begun prefix child.node.0 w (record { held = held; inner = subst (λ (r : Role). IsAbove wanted.level r) (sym (role_is w.chart held.role held.standing prefix held.low at.held.standing stands.below at.held.low held.place stands.ok)) from })))
+      (all, walks_for begun prefix child.node.0 w (record { held = held; inner = subst (λ (r : Role). IsAbove wanted.level r) (sym (role_is w.chart held.role held.standing prefix held.low at.held.standing stands.below at.held.low held.place stands.ok)) from }))) tt tt
+      (inr (subst (λ (o : Option InteriorView). IsSomeAnd o (FollowsInterior posting (record posting { stage = Walks child.node }) node)) (sym named)
+      (inl (record { place = place; child = child; leads = subst (λ (g : Child). place + 1 ≡ children_up_to g.low i.children) is_goal leads; is_child = read; above = subst (λ (g : Child). g.level < child.level) is_goal from; goes = refl }))))
     where
       role_is : (chart : Chart) (role : Role) (standing : Standing) (prefix : List ℕ) (low : ℕ) (namer : Standing) (below least : ℕ) → chart child.node.0 ≡ Some (spot role prefix low standing)
           → (((epoch : ℕ) × (namer ≡ gone epoch)) × ((interior_seen i).deleted ≡ true)) ⊎ AreChildren chart namer prefix least (suc below) (children_seen i.children) → role ≡ at_level child.level
@@ -195,12 +237,12 @@ module _ (a : ArenaView) (posting : Posting) (node : NodeNo) (is : posting.stage
   pub may_visit : (may : MayPost a posting) → MayVisit a node.0 wanted.low
   may_visit may =
       let truth = true_at may.begun a may.w posting (Walks node) is may.true in
-      held_may_visit a may.now may.w.twins may.w.chart may.begun node.0 wanted.low may.true.0 may.world.index ((walks_wanted may.begun may.true.0 node.0 may.w truth.1).held)
+      held_may_visit a may.now may.w.twins may.w.chart may.begun node.0 wanted.low may.true.0 may.world.index ((walks_wanted may.begun may.true.0 node.0 may.w truth).held)
 
   -- it is no border
   pub no_border : (may : MayPost a posting) (b : BorderView) → node_at a.nodes node.0 ≡ Some (Border b) → ⊥
   no_border may b named =
-      let truth = walks_wanted may.begun may.true.0 node.0 may.w (true_at may.begun a may.w posting (Walks node) is may.true).1 in
+      let truth = walks_wanted may.begun may.true.0 node.0 may.w (true_at may.begun a may.w posting (Walks node) is may.true) in
       go may.w.chart may.true.0 truth.held.low may.world.index.tree truth.held.role truth.held.standing truth.held.place truth.inner
     where
       there : arena_seen a node.0 ≡ Some (plain_border (border_seen b))
@@ -223,18 +265,30 @@ module _ (a : ArenaView) (posting : Posting) (node : NodeNo) (is : posting.stage
         let (posted, is_on) = free_interiors_on (arena_seen a) chart tree node.0 stands.below prefix held.low held.standing (interior_seen i) place there alive unlocked in
         record { level = suc stands.below; low = held.low; posted = posted; place = place ∙ ap (λ (s : Standing). Some (spot (at_level (suc stands.below)) prefix held.low s)) is_on }
 
+    -- it is above what is to be named
+    pub is_above : (begun : ℕ) (prefix : List ℕ) (w : World) → IsTree (arena_seen a) w.chart → IsWalking begun prefix wanted node.0 w → wanted.level < i.level
+    is_above begun prefix w tree at =
+        let stands = stands_as (arena_seen a) w.chart node.0 (interior_seen i) tree (seen-interior a node.0 i named) at.held.role prefix at.held.low at.held.standing at.held.place in
+        let above : wanted.level < suc stands.below = subst (λ (role : Role). IsAbove wanted.level role) stands.is_role at.inner in
+        let node_level = stands.node_level in
+        omega (arith, above, node_level)
+
     abbrev names : ℕ → InteriorView → InteriorView
     names low x = with_child x (record { low = low; node = posting.half; level = 0 })
 
-    pub posts : (after : ArenaView) → posting.split ≡ None → IsSomeAnd (border_at a.nodes posting.half.0) (λ border. after ≡ with_interior_changed a node.0 (names border.low)) → KeepsAlong a after (PostsAt node.0 posting.half.0) → PostLaw a after posting Ended posting
-    posts after none value keeps = at_stage a after posting None (Walks node) Ended posting none is (record {
-      steps = λ now begun w prefix world before border known truth.
+    pub posts : (after : ArenaView) (left : List Split) → posting.waiting ≡ [] → IsSomeAnd (border_at a.nodes posting.half.0) (λ border. after ≡ with_interior_changed a node.0 (names border.low)) → KeepsAlong a after (PostsAt node.0 posting.half.0) → MayPost a posting → PostStep a after posting Ended (record posting { waiting = left })
+    posts after left none value keeps may = at_stage a after posting [] (Walks node) Ended (record posting { waiting = left }) none is (record {
+      steps = λ now begun w prefix world before border known all truth.
           let same : after ≡ with_interior_changed a node.0 (names border.b.low) = some_at _ (border_at a.nodes posting.half.0) border.b value border.named in
           subst (λ (x : ArenaView). Goes now a x w (posting.half.0 ∷ []) (posting.half.0 ∷ []) (ThenPosts Ended begun posting x) × SameContent (arena_seen a) (arena_seen x)) (sym same)
-          (posted now begun w prefix world border truth.1 (subst (λ (x : ArenaView). KeepsAlong a x (PostsAt node.0 posting.half.0)) same keeps));
+          (posted now begun w prefix world border truth (subst (λ (x : ArenaView). KeepsAlong a x (PostsAt node.0 posting.half.0)) same keeps));
+      same = refl;
+      waits = tt;
+      ends = inl (let border = may.true.1.border in some_at _ (border_at a.nodes posting.half.0) border.b value border.named ∙ ap (λ (l : ℕ). with_interior_changed a node.0 (names l)) border.low_is);
+      gets_on = none;
     })
       where
-        posted : (now begun : ℕ) (w : World) (prefix : List ℕ) → IsWorld a now w → (border : IsToPost a w prefix posting.half.0 posting.low) → IsWalking begun prefix (goal posting.half posting.low None) node.0 w
+        posted : (now begun : ℕ) (w : World) (prefix : List ℕ) → IsWorld a now w → (border : IsToPost a w prefix posting.half.0 posting.low) → IsWalking begun prefix (goal posting.half posting.low []) node.0 w
             → KeepsAlong a (with_interior_changed a node.0 (names border.b.low)) (PostsAt node.0 posting.half.0)
             → Goes now a (with_interior_changed a node.0 (names border.b.low)) w (posting.half.0 ∷ []) (posting.half.0 ∷ []) (ThenPosts Ended begun posting (with_interior_changed a node.0 (names border.b.low)))
             × SameContent (arena_seen a) (arena_seen (with_interior_changed a node.0 (names border.b.low)))
@@ -263,18 +317,33 @@ module _ (a : ArenaView) (posting : Posting) (node : NodeNo) (is : posting.stage
         let can = (may_visit may).has_child i named alive in
         subst (λ (o : Option InteriorView). IsSomeAnd o (HasRoomFrom wanted.low)) (sym named) (record { some = can.0; room = room; from_low = can.1 })
 
-    pub has_room : (may : MayPost a posting) → posting.split ≡ None → length i.children < MAX_CHILDREN → IsSomeAnd (border_at a.nodes posting.half.0) (λ border. IsSomeAnd (interior_at a.nodes node.0) (HasRoomFrom border.low))
+    pub has_room : (may : MayPost a posting) → posting.waiting ≡ [] → length i.children < MAX_CHILDREN → IsSomeAnd (border_at a.nodes posting.half.0) (λ border. IsSomeAnd (interior_at a.nodes node.0) (HasRoomFrom border.low))
     has_room may none room =
         let border = may.true.1.border in
         subst (λ (o : Option BorderView). IsSomeAnd o (λ b. IsSomeAnd (interior_at a.nodes node.0) (HasRoomFrom b.low))) (sym border.named)
         (subst (λ (l : ℕ). IsSomeAnd (interior_at a.nodes node.0) (HasRoomFrom l)) (ap (λ (c : Child). c.low) (is_goal ∙ ap (goal posting.half posting.low) none) ∙ sym border.low_is) (room_for may room))
 
 -- ---- what is to be named is left out
-module _ (a : ArenaView) (posting : Posting) (stage : PostStage) (owns : (split : Option Split) → stage_owns posting.half.0 split stage ≡ split_owns posting.half.0 split) (is : posting.stage ≡ stage) where
-  pub half_left_out : (split : Split) → posting.split ≡ Some split
-      → ((begun : ℕ) (w : World) (prefix : List ℕ) → PostStageIsTrue begun prefix posting.half posting.low (Some split) stage a w → IsHalved a w prefix split)
-      → PostLaw a a posting Moved (record posting { split = None; stage = HalfLeftOut split })
-  half_left_out split some halved = goes_on a posting (Some split) None stage (HalfLeftOut split) (owns (Some split)) some is (λ now begun w prefix world border known truth. (refl, halved begun w prefix truth))
+is_some_weaker : {T : Type 0} (o : Option T) (P Q : T → Type 0) → ((x : T) → P x → Q x) → IsSomeAnd o P → IsSomeAnd o Q
+is_some_weaker None P Q weaker h = h
+is_some_weaker (Some x) P Q weaker h = weaker x h
 
-  pub all_left_out : posting.split ≡ None → PostLaw a a posting Ended posting
-  all_left_out none = left_out a posting stage (owns None) none is
+module _ (a : ArenaView) (posting : Posting) (stage : PostStage) (owns : (waiting : List Split) → stage_owns posting.half.0 waiting stage ≡ split_owns posting.half.0 waiting) (is : posting.stage ≡ stage) where
+  pub half_left_out : (split : Split) (waiting : List Split) → posting.waiting ≡ split ∷ waiting → PostStageWaits a stage Moved → PostStageEnds a a posting stage Moved → Follows a posting stage Moved (record posting { waiting = waiting; stage = HalfLeftOut split })
+      → PostStep a a posting Moved (record posting { waiting = waiting; stage = HalfLeftOut split })
+  half_left_out split waiting some waits ends gets_on = goes_on a posting (split ∷ waiting) waiting stage (HalfLeftOut split) (owns (split ∷ waiting)) some is (λ now begun w prefix world border known all truth. let (above, halved, more) = all in (more, (above, halved))) waits ends gets_on
+
+  pub all_left_out : (left : List Split) → posting.waiting ≡ [] → PostStageWaits a stage Ended → PostStageEnds a a posting stage Ended → PostStep a a posting Ended (record posting { waiting = left })
+  all_left_out left none waits ends = left_out a posting stage left (owns []) none is waits ends
+
+-- one of the two
+pub left_out_so : (posting : Posting) (P : Progressed → Posting → Type 0) (p : Progressed) (then : Posting) → LeavesOut posting p then → ((left : List Split) → posting.waiting ≡ [] → P Ended (record posting { waiting = left }))
+    → ((split : Split) (waiting : List Split) → posting.waiting ≡ split ∷ waiting → P Moved (record posting { waiting = waiting; stage = HalfLeftOut split })) → P p then
+left_out_so posting P Moved then ((split, some, at), same) border half = subst (λ (t : Posting). P Moved t) (sym (same ∙ ap (λ (s : PostStage). record posting { waiting = then.waiting; stage = s }) at)) (half split then.waiting some)
+left_out_so posting P Waits then none border half = elim none [ ]
+left_out_so posting P Ended then (none, same) border half = subst (λ (t : Posting). P Ended t) (sym same) (border then.waiting none)
+
+-- at a node where it can be
+pub follows_left_out : (a : ArenaView) (posting : Posting) (node : NodeNo) (split : Split) (waiting : List Split) → posting.waiting ≡ split ∷ waiting → CanLeaveOut a posting node.0 → StageFollows a posting (Walks node) (record posting { waiting = waiting; stage = HalfLeftOut split })
+follows_left_out a posting node split waiting some (inl marked) = inl (is_some_weaker (head_at a.nodes node.0) _ _ (λ head deleted. inr (inr (deleted, (split, some, refl)))) marked)
+follows_left_out a posting node split waiting some (inr full) = inr (is_some_weaker (interior_at a.nodes node.0) _ _ (λ i at. inr (at.0, inr (at.1, inr (at.2, (split, some, refl))))) full)

@@ -1,16 +1,17 @@
 -- Why a posting waits, and why it ends: said of the nodes alone.
-use Rattle.std.specs.Prelude.{ℕ, ◌≡◌, ◌<◌, ◌⊎◌, length, Option, Some, None, IsSome, IsSomeAnd, true, false}
+use Rattle.std.specs.Prelude.{ℕ, ◌≡◌, ◌<◌, ◌≤◌, ◌+◌, ◌⊎◌, length, slice_get, Some, IsSomeAnd, true, false}
 use Rattle.mt_types.specs.declared.limits.TheConstants.{MAX_LEVEL}
-use Rattle.mt_interior.specs.Interior.{InteriorView, with_child, with_lock}
+use Rattle.mt_interior.specs.Interior.{InteriorView, children_up_to, with_child, with_lock}
 use Rattle.mt_interior.specs.Head.{HeadView, with_root}
+use Rattle.mt_interior.specs.declared.child.Child.{Child}
 use Rattle.mt_interior.specs.declared.interior.TheConstants.{MAX_CHILDREN}
 use Rattle.mt_arena.specs.Node.{head_at, interior_at}
 use Rattle.mt_arena.specs.Arena.{ArenaView, with_interior_changed, with_head_changed}
 use Rattle.mt_post.specs.declared.posting.Posting.{Posting}
+use Rattle.mt_post.specs.Posting.{goal_of}
 use Rattle.mt_post.specs.declared.posting.Progressed.{Progressed}
 use Rattle.mt_post.specs.declared.posting.Progressed.TheVariants.{Waits, Ended}
 use Rattle.mt_post.specs.declared.posting.Root.{Root}
-use Rattle.mt_post.specs.declared.posting.Split.{Split}
 use Rattle.mt_post.specs.declared.posting.PostStage.{PostStage}
 use Rattle.mt_post.specs.declared.posting.PostStage.TheVariants.{Walks, RootWanted, RootFilled, LetGo}
 
@@ -28,27 +29,36 @@ PostStageWaits a _ _ = Unit {0}
 abbrev pub IsPosted : ArenaView → ArenaView → ℕ → Posting → Type 0
 IsPosted a after number posting = after ≡ with_interior_changed a number (λ interior. with_child interior (record { low = posting.low; node = posting.half; level = 0 }))
 
--- a node where what is to be named may be left out: a head that is marked deleted, or a full interior of the greatest level, or any full one
--- where that is the new half of an interior
-abbrev pub CanLeaveOut : ArenaView → ℕ → Option Split → Type 0
-CanLeaveOut a number split = IsSomeAnd (head_at a.nodes number) (λ head. head.version.deleted ≡ true)
-    ⊎ IsSomeAnd (interior_at a.nodes number) (λ interior. (length interior.children ≡ MAX_CHILDREN) × ((interior.level ≡ MAX_LEVEL) ⊎ IsSome split))
+-- the last child whose low is at most that of what is to be named is not above it: here it is to be named
+pub record StopsAt (posting : Posting) (interior : InteriorView) : Type 0 where
+  pub place : ℕ
+  pub child : Child
+  pub leads : place + 1 ≡ children_up_to (goal_of posting).low interior.children
+  pub is_child : slice_get interior.children place ≡ Some child
+  pub below : child.level ≤ (goal_of posting).level
 
--- the interior is neither marked deleted nor locked, and is full
-pub record IsFullAt (a : ArenaView) (number : ℕ) : Type 0 where
+-- a node where what is to be named may be left out: a head that is marked deleted, or a full interior of the greatest level
+abbrev pub CanLeaveOut : ArenaView → Posting → ℕ → Type 0
+CanLeaveOut a posting number = IsSomeAnd (head_at a.nodes number) (λ head. head.version.deleted ≡ true)
+    ⊎ IsSomeAnd (interior_at a.nodes number) (λ interior. StopsAt posting interior × (length interior.children ≡ MAX_CHILDREN) × (interior.level ≡ MAX_LEVEL))
+
+-- the interior is neither marked deleted nor locked, and is full where it is to be named
+pub record IsFullAt (a : ArenaView) (posting : Posting) (number : ℕ) : Type 0 where
   pub interior : InteriorView
   pub named : interior_at a.nodes number ≡ Some interior
   pub alive : interior.version.deleted ≡ false
   pub unlocked : interior.version.locked ≡ false
   pub full : length interior.children ≡ MAX_CHILDREN
+  pub stops : StopsAt posting interior
 
--- the interior is neither marked deleted nor locked, has room, and is above what is to be named
+-- the same, where it has room
 pub record HasRoomAt (a : ArenaView) (posting : Posting) (number : ℕ) : Type 0 where
   pub interior : InteriorView
   pub named : interior_at a.nodes number ≡ Some interior
   pub alive : interior.version.deleted ≡ false
   pub unlocked : interior.version.locked ≡ false
   pub room : length interior.children < MAX_CHILDREN
+  pub stops : StopsAt posting interior
 
 -- the head, which isn't marked deleted, has this root
 pub record IsRootStill (a : ArenaView) (number : ℕ) (root : Root) : Type 0 where
@@ -61,7 +71,7 @@ pub record IsRootStill (a : ArenaView) (number : ℕ) (root : Root) : Type 0 whe
 -- A posting ends where an interior that has room, or a new root, names the border; or it is left out: where it can be, or where no number
 -- or no memory is had for a new root or a new half.
 abbrev pub PostStageEnds : ArenaView → ArenaView → Posting → PostStage → Progressed → Type 0
-PostStageEnds a after posting (Walks node) Ended = IsPosted a after node.0 posting ⊎ ((after ≡ a) × CanLeaveOut a node.0 None)
+PostStageEnds a after posting (Walks node) Ended = IsPosted a after node.0 posting ⊎ ((after ≡ a) × CanLeaveOut a posting node.0)
 PostStageEnds a after posting (RootWanted old) Ended = after ≡ a
 PostStageEnds a after posting (RootFilled old root) Ended = after ≡ with_head_changed a posting.head.0 (λ head. with_root head root 1)
 PostStageEnds a after posting (LetGo interior) Ended = after ≡ with_interior_changed a interior.0 (λ x. with_lock x false)

@@ -1,5 +1,5 @@
 -- What is true of a posting, at each of its stages, and the law of its step.
-use Rattle.std.specs.Prelude.{ℕ, ◌≡◌, ◌≢◌, ◌⊎◌, ◌<◌, ◌≤◌, ◌+◌, List, [], ◌∷◌, length, drop, slice_get, Option, Some, None, IsSome, true, false}
+use Rattle.std.specs.Prelude.{ℕ, ◌≡◌, ◌⊎◌, ◌<◌, ◌≤◌, ◌+◌, List, [], ◌∷◌, length, drop, slice_get, Some, None, true, false}
 use Rattle.mt_types.specs.declared.limits.TheConstants.{MAX_LEVEL}
 use Rattle.mt_types.specs.declared.numbers.NodeNo.{NodeNo}
 use Rattle.mt_border.specs.Border.{BorderView}
@@ -18,30 +18,30 @@ use Rattle.mt_post.specs.declared.posting.Posting.{Posting}
 use Rattle.mt_post.specs.declared.posting.Progressed.{Progressed}
 use Rattle.mt_post.specs.declared.posting.Progressed.TheVariants.{Moved, Waits, Ended}
 use Rattle.mt_post.specs.declared.posting.Root.{Root}
-use Rattle.mt_post.specs.declared.posting.Split.{Split}
+use Rattle.mt_post.specs.declared.split.Split.{Split}
 use Rattle.mt_post.specs.declared.posting.PostStage.{PostStage}
 use Rattle.mt_post.specs.declared.posting.PostStage.TheVariants.{Walks, RootWanted, RootSpared, RootFilled, RootLate, HalfWanted, HalfSpared, HalfLeftOut, LetGo, HalfPosted, HalfCut}
 
--- ---- what a posting owns: the border that is to be posted; the interior that it splits, and its new half; the spare for a new root
-abbrev pub split_owns : ℕ → Option Split → List ℕ
-split_owns half None = half ∷ []
-split_owns half (Some split) = split.half.node.0 ∷ split.interior.0 ∷ half ∷ []
+-- ---- what a posting owns: the border that is to be posted; the interiors that it splits, and their new halves; the spare for a new root
+abbrev pub split_owns : ℕ → List Split → List ℕ
+split_owns half [] = half ∷ []
+split_owns half (split ∷ waiting) = split.half.node.0 ∷ split.interior.0 ∷ split_owns half waiting
 
-abbrev pub stage_owns : ℕ → Option Split → PostStage → List ℕ
-stage_owns half split (Walks node) = split_owns half split
-stage_owns half split (RootWanted old) = split_owns half split
-stage_owns half split (RootSpared old root) = root.0 ∷ split_owns half split
-stage_owns half split (RootFilled old root) = root.0 ∷ split_owns half split
-stage_owns half split (RootLate root) = root.0 ∷ split_owns half split
-stage_owns half split (HalfWanted interior) = interior.0 ∷ half ∷ []
-stage_owns half split (HalfSpared interior spare) = spare.0 ∷ interior.0 ∷ half ∷ []
-stage_owns half split (HalfLeftOut left) = left.half.node.0 ∷ left.interior.0 ∷ half ∷ []
-stage_owns half split (LetGo interior) = interior.0 ∷ half ∷ []
-stage_owns half split (HalfPosted posted) = posted.half.node.0 ∷ posted.interior.0 ∷ half ∷ []
-stage_owns half split (HalfCut posted) = posted.0 ∷ half ∷ []
+abbrev pub stage_owns : ℕ → List Split → PostStage → List ℕ
+stage_owns half waiting (Walks node) = split_owns half waiting
+stage_owns half waiting (RootWanted old) = split_owns half waiting
+stage_owns half waiting (RootSpared old root) = root.0 ∷ split_owns half waiting
+stage_owns half waiting (RootFilled old root) = root.0 ∷ split_owns half waiting
+stage_owns half waiting (RootLate root) = root.0 ∷ split_owns half waiting
+stage_owns half waiting (HalfWanted interior) = interior.0 ∷ split_owns half waiting
+stage_owns half waiting (HalfSpared interior spare) = spare.0 ∷ interior.0 ∷ split_owns half waiting
+stage_owns half waiting (HalfLeftOut left) = left.half.node.0 ∷ left.interior.0 ∷ split_owns half waiting
+stage_owns half waiting (LetGo interior) = interior.0 ∷ split_owns half waiting
+stage_owns half waiting (HalfPosted posted) = posted.half.node.0 ∷ posted.interior.0 ∷ split_owns half waiting
+stage_owns half waiting (HalfCut posted) = posted.0 ∷ split_owns half waiting
 
 abbrev pub owned : Posting → List ℕ
-owned posting = stage_owns posting.half.0 posting.split posting.stage
+owned posting = stage_owns posting.half.0 posting.waiting posting.stage
 
 -- once it has ended it owns the border alone
 abbrev pub owned_after : Progressed → Posting → List ℕ
@@ -62,10 +62,18 @@ pub record IsToPost (a : ArenaView) (w : World) (prefix : List ℕ) (number low 
 abbrev pub IsHeadOf : World → ℕ → ℕ → List ℕ → Type 0
 IsHeadOf w begun number prefix = Known w.chart begun number top prefix 0
 
--- what is to be named: the border, or the new half of the interior that is split
-abbrev pub goal : NodeNo → ℕ → Option Split → Child
-goal half low None = record { low = low; node = half; level = 0 }
-goal half low (Some split) = split.half
+-- what is to be named: the newest of the new halves that wait, or else the border
+abbrev pub goal : NodeNo → ℕ → List Split → Child
+goal half low [] = record { low = low; node = half; level = 0 }
+goal half low (split ∷ waiting) = split.half
+
+abbrev pub goal_of : Posting → Child
+goal_of posting = goal posting.half posting.low posting.waiting
+
+-- its level
+abbrev pub goal_level : List Split → ℕ
+goal_level [] = 0
+goal_level (split ∷ waiting) = split.half.level
 
 -- a head, or a node of a greater level than this
 abbrev pub IsAbove : ℕ → Role → Type 0
@@ -122,14 +130,10 @@ pub record IsHalved (a : ArenaView) (w : World) (prefix : List ℕ) (split : Spl
   pub level : split.half.level ≡ interior.level
   pub starts : StartsUpper interior split.half.low
 
-abbrev pub SplitIsTrue : ArenaView → World → List ℕ → Option Split → Type 0
-SplitIsTrue a w prefix None = Unit {0}
-SplitIsTrue a w prefix (Some split) = IsHalved a w prefix split
-
--- the new root is not the new half
-abbrev pub IsBeside : ℕ → Option Split → Type 0
-IsBeside root None = Unit {0}
-IsBeside root (Some split) = root ≢ split.half.node.0
+-- the splits that wait, the newest first: each is of a greater level than those before it
+abbrev pub AreWaiting : ArenaView → World → List ℕ → List Split → Type 0
+AreWaiting a w prefix [] = Unit {0}
+AreWaiting a w prefix (split ∷ waiting) = (goal_level waiting < split.half.level) × IsHalved a w prefix split × AreWaiting a w prefix waiting
 
 -- both halves are on and locked, and twins of each other alone; the new one has the upper children of the other
 pub record IsPostedHalf (a : ArenaView) (w : World) (prefix : List ℕ) (split : Split) : Type 0 where
@@ -139,6 +143,8 @@ pub record IsPostedHalf (a : ArenaView) (w : World) (prefix : List ℕ) (split :
   pub half_named : interior_at a.nodes split.half.node.0 ≡ Some half
   pub locked : interior.version.locked ≡ true
   pub half_locked : half.version.locked ≡ true
+  pub level : interior.level ≡ split.half.level
+  pub half_level : half.level ≡ split.half.level
   pub stands : IsInLayer w.chart split.interior.0 prefix
   pub half_stands : IsInLayer w.chart split.half.node.0 prefix
   pub full : length interior.children ≡ MAX_CHILDREN
@@ -146,32 +152,34 @@ pub record IsPostedHalf (a : ArenaView) (w : World) (prefix : List ℕ) (split :
   pub twins : (one other : ℕ) → AreTwins w.twins one other → (one ≡ split.interior.0) ⊎ (other ≡ split.interior.0) → (one ≡ split.half.node.0) ⊎ (other ≡ split.half.node.0)
   pub half_twins : (one other : ℕ) → AreTwins w.twins one other → (one ≡ split.half.node.0) ⊎ (other ≡ split.half.node.0) → (one ≡ split.interior.0) ⊎ (other ≡ split.interior.0)
 
--- an interior is on in the layer, is locked, and has no twin
-pub record IsLetGo (a : ArenaView) (w : World) (prefix : List ℕ) (number : ℕ) : Type 0 where
+-- an interior is on in the layer, is locked, and has no twin; it is above what is to be named
+pub record IsLetGo (a : ArenaView) (w : World) (prefix : List ℕ) (number below : ℕ) : Type 0 where
   pub interior : InteriorView
   pub named : interior_at a.nodes number ≡ Some interior
   pub locked : interior.version.locked ≡ true
   pub stands : IsInLayer w.chart number prefix
   pub lone : NoTwin w.twins number
+  pub above : below < interior.level
 
-abbrev pub PostStageIsTrue : ℕ → List ℕ → NodeNo → ℕ → Option Split → PostStage → ArenaView → World → Type 0
-PostStageIsTrue begun prefix half low split (Walks node) a w = SplitIsTrue a w prefix split × IsWalking begun prefix (goal half low split) node.0 w
-PostStageIsTrue begun prefix half low split (RootWanted old) a w = SplitIsTrue a w prefix split × (old.level < (goal half low split).level + 1)
-PostStageIsTrue begun prefix half low split (RootSpared old root) a w = SplitIsTrue a w prefix split × (old.level < (goal half low split).level + 1) × IsBeside root.0 split × IsSpareInterior a w root.0 (new_root (goal half low split))
-PostStageIsTrue begun prefix half low split (RootFilled old root) a w = SplitIsTrue a w prefix split × (old.level < (goal half low split).level + 1) × IsBeside root.0 split × IsSpareInterior a w root.0 (root_over old (goal half low split))
-PostStageIsTrue begun prefix half low split (RootLate root) a w = SplitIsTrue a w prefix split × IsBeside root.0 split × (spare : InteriorView) × IsSpareInterior a w root.0 spare
-PostStageIsTrue begun prefix half low split (HalfWanted interior) a w = (split ≡ None) × (i : InteriorView) × IsSplitting a w prefix interior.0 i
-PostStageIsTrue begun prefix half low split (HalfSpared interior spare) a w = (split ≡ None) × (i : InteriorView) × IsSplitting a w prefix interior.0 i × (least : ℕ) × StartsUpper i least × IsInterior (empty_half i least) × IsSpareInterior a w spare.0 (empty_half i least)
-PostStageIsTrue begun prefix half low split (HalfLeftOut left) a w = (split ≡ None) × IsHalved a w prefix left
-PostStageIsTrue begun prefix half low split (LetGo interior) a w = (split ≡ None) × IsLetGo a w prefix interior.0
-PostStageIsTrue begun prefix half low split (HalfPosted posted) a w = (split ≡ None) × IsPostedHalf a w prefix posted
-PostStageIsTrue begun prefix half low split (HalfCut posted) a w = (split ≡ None) × IsLetGo a w prefix posted.0
+abbrev pub PostStageIsTrue : ℕ → List ℕ → NodeNo → ℕ → List Split → PostStage → ArenaView → World → Type 0
+PostStageIsTrue begun prefix half low waiting (Walks node) a w = IsWalking begun prefix (goal half low waiting) node.0 w
+PostStageIsTrue begun prefix half low waiting (RootWanted old) a w = old.level < (goal half low waiting).level + 1
+PostStageIsTrue begun prefix half low waiting (RootSpared old root) a w = (old.level < (goal half low waiting).level + 1) × IsSpareInterior a w root.0 (new_root (goal half low waiting))
+PostStageIsTrue begun prefix half low waiting (RootFilled old root) a w = (old.level < (goal half low waiting).level + 1) × IsSpareInterior a w root.0 (root_over old (goal half low waiting))
+PostStageIsTrue begun prefix half low waiting (RootLate root) a w = (spare : InteriorView) × (goal_level waiting < spare.level) × IsSpareInterior a w root.0 spare
+PostStageIsTrue begun prefix half low waiting (HalfWanted interior) a w = (i : InteriorView) × (goal_level waiting < i.level) × IsSplitting a w prefix interior.0 i
+PostStageIsTrue begun prefix half low waiting (HalfSpared interior spare) a w = (i : InteriorView) × (goal_level waiting < i.level) × IsSplitting a w prefix interior.0 i × (least : ℕ) × StartsUpper i least × IsInterior (empty_half i least) × IsSpareInterior a w spare.0 (empty_half i least)
+PostStageIsTrue begun prefix half low waiting (HalfLeftOut left) a w = (goal_level waiting < left.half.level) × IsHalved a w prefix left
+PostStageIsTrue begun prefix half low waiting (LetGo interior) a w = IsLetGo a w prefix interior.0 (goal_level waiting)
+PostStageIsTrue begun prefix half low waiting (HalfPosted posted) a w = (goal_level waiting < posted.half.level) × IsPostedHalf a w prefix posted
+PostStageIsTrue begun prefix half low waiting (HalfCut posted) a w = IsLetGo a w prefix posted.0 (goal_level waiting)
 
 -- the layer has this prefix
 pub record PostsIn (prefix : List ℕ) (begun : ℕ) (posting : Posting) (a : ArenaView) (w : World) : Type 0 where
   pub border : IsToPost a w prefix posting.half.0 posting.low
   pub head : IsHeadOf w begun posting.head.0 prefix
-  pub stage : PostStageIsTrue begun prefix posting.half posting.low posting.split posting.stage a w
+  pub waiting : AreWaiting a w prefix posting.waiting
+  pub stage : PostStageIsTrue begun prefix posting.half posting.low posting.waiting posting.stage a w
 
 -- WHAT IS TRUE OF A POSTING whose call began in an epoch
 abbrev pub PostingIsTrue : ℕ → Posting → ArenaView → World → Type 0

@@ -2,5 +2,9 @@
 #![tactic(auto)]
 
 mod posting;
+mod split;
+mod waiting;
 
-pub use posting::{PostStage, Posting, Progressed, Root, Split};
+pub use posting::{PostStage, Posting, Progressed, Root};
+pub use split::Split;
+pub use waiting::{MAX_WAITING, Waiting};

@@ -1,11 +1,14 @@
-//! A posting: on its way from the head of its layer to the interior that is to name the border, or to a new root; an interior that is full is split.
+//! A posting: on its way to the interior that is to name the border, or to a new root; full interiors are split.
 
 ghost use Rattle.std.specs.Prelude.{◌≡◌, ℕ, IsSome};
 ghost use Rattle.mt_arena.specs.Node.{head_at, interior_at};
 ghost use Rattle.mt_arena.specs.Arena.{IsArena};
 ghost use Rattle.mt_post.specs.Posting.{PostLaw, MayPost, NewPostingIsTrue, goal};
 ghost use Rattle.mt_post.specs.Causes.{PostWaits, PostEnds, CanLeaveOut, IsFullAt, HasRoomAt, IsRootStill};
+ghost use Rattle.mt_post.specs.Follows.{LeavesOut, PostFollows, PostStep};
 
+use crate::split::Split;
+use crate::waiting::Waiting;
 use mt_arena::Node;
 use mt_interior::{Child, Interior, KEPT_CHILDREN};
 use mt_tree::Tree;
@@ -17,14 +20,6 @@ use mt_types::numbers::NodeNo;
 pub struct Root {
     pub node: NodeNo,
     pub level: u8,
-}
-
-/// The split of a full interior.
-#[derive(Clone, Copy)]
-pub struct Split {
-    pub interior: NodeNo,
-    /// Its new half, as the child of an interior above.
-    pub half: Child,
 }
 
 /// How far a posting is.
@@ -46,7 +41,7 @@ pub enum PostStage {
     HalfSpared { interior: NodeNo, half: NodeNo },
     /// The new half is left out: its number is to be given back.
     HalfLeftOut(Split),
-    /// The interior is to be unlocked, and the border left out.
+    /// The interior is to be unlocked, and what was to be named in it left out.
     LetGo(NodeNo),
     /// The new half is named: the interior is to keep the first of its children.
     HalfPosted(Split),
@@ -66,7 +61,7 @@ pub enum Progressed {
 }
 
 /// The posting of a border that was split off another, by the call that has locked it.
-#[derive(Clone, Copy)]
+#[derive(Drop)]
 pub struct Posting {
     /// The head of the layer.
     pub head: NodeNo,
@@ -74,8 +69,8 @@ pub struct Posting {
     pub half: NodeNo,
     /// Its low.
     pub low: u64,
-    /// The interior that it splits, whose new half is to be posted first.
-    pub split: Option<Split>,
+    /// The interiors that it splits, whose new halves are to be posted first.
+    pub waiting: Waiting,
     pub stage: PostStage,
 }
 
@@ -91,16 +86,16 @@ impl Posting {
             head,
             half,
             low,
-            split: None,
+            waiting: Waiting::new(),
             stage: PostStage::Walks(head),
         }
     }
 
-    // What is to be named: the border, or the new half of the interior that is split.
+    // What is to be named: the newest of the new halves that wait, or else the border.
     fn goal(&self) -> Child
-        ensures { result ≡ goal self.now.half self.now.low self.now.split }
+        ensures { result ≡ goal self.now.half self.now.low self.now.waiting }
     {
-        match self.split {
+        match self.waiting.newest() {
             None => Child {
                 low: self.low,
                 node: self.half,
@@ -110,22 +105,25 @@ impl Posting {
         }
     }
 
-    // What is to be named is left out, at a node that is seen.
-    fn leave_out(&mut self, tree: &Tree, node: NodeNo) -> Progressed
-        requires walks { self.old.stage ≡ PostStage.Walks node }
-        requires cause { CanLeaveOut tree.now node.0 self.old.split }
-        requires may { MayPost tree.now self.old }
-        ensures same { self.new ≡ record self.old { split = self.new.split; stage = self.new.stage } }
-        ensures steps { PostLaw tree.now tree.now self.old result self.new }
-        ensures waits { PostWaits tree.now self.old result }
-        ensures ends { PostEnds tree.now tree.now self.old result }
+    // What is to be named is left out: the newest of the new halves that wait, or else the border.
+    fn left_out(&mut self) -> Progressed
+        ensures { LeavesOut self.old result self.new }
     {
-        let Some(split) = self.split else {
+        let Some(split) = self.waiting.pop() else {
             return Progressed::Ended;
         };
-        self.split = None;
         self.stage = PostStage::HalfLeftOut(split);
         Progressed::Moved
+    }
+
+    // The same, at a node that is seen.
+    fn leave_out(&mut self, tree: &Tree, node: NodeNo) -> Progressed
+        requires walks { self.old.stage ≡ PostStage.Walks node }
+        requires cause { CanLeaveOut tree.now self.old node.0 }
+        requires may { MayPost tree.now self.old }
+        ensures { PostStep tree.now tree.now self.old result self.new }
+    {
+        self.left_out()
     }
 
     // At a head: to the root, or to a new one, where the root isn't above what is to be named.
@@ -133,10 +131,7 @@ impl Posting {
         requires walks { self.old.stage ≡ PostStage.Walks node }
         requires head { IsSome (head_at tree.now.nodes node.0) }
         requires may { MayPost tree.now self.old }
-        ensures same { self.new ≡ record self.old { split = self.new.split; stage = self.new.stage } }
-        ensures steps { PostLaw tree.now tree.now self.old result self.new }
-        ensures waits { PostWaits tree.now self.old result }
-        ensures ends { PostEnds tree.now tree.now self.old result }
+        ensures { PostStep tree.now tree.now self.old result self.new }
     {
         let head = tree.head(node);
         if head.is_deleted() {
@@ -157,32 +152,25 @@ impl Posting {
         requires walks { self.old.stage ≡ PostStage.Walks node }
         requires room { HasRoomAt tree.old self.old node.0 }
         requires may { MayPost tree.old self.old }
-        ensures same { self.new ≡ record self.old { split = self.new.split; stage = self.new.stage } }
-        ensures steps { PostLaw tree.old tree.new self.old result self.new }
-        ensures waits { PostWaits tree.old self.old result }
-        ensures ends { PostEnds tree.old tree.new self.old result }
+        ensures { PostStep tree.old tree.new self.old result self.new }
     {
-        let Some(split) = self.split else {
+        let Some(split) = self.waiting.pop() else {
             tree.post_border(node, self.half);
             return Progressed::Ended;
         };
         tree.post_half(node, split.half.node);
-        self.split = None;
         self.stage = PostStage::HalfPosted(split);
         Progressed::Moved
     }
 
-    // At an interior that is full: it is locked, to be split, but for one of the greatest level, or met for a new half.
+    // At an interior that is full: it is locked, to be split, but for one of the greatest level.
     fn meet_full(&mut self, tree: &mut Tree, node: NodeNo) -> Progressed
         requires walks { self.old.stage ≡ PostStage.Walks node }
-        requires full { IsFullAt tree.old node.0 }
+        requires full { IsFullAt tree.old self.old node.0 }
         requires may { MayPost tree.old self.old }
-        ensures same { self.new ≡ record self.old { split = self.new.split; stage = self.new.stage } }
-        ensures steps { PostLaw tree.old tree.new self.old result self.new }
-        ensures waits { PostWaits tree.old self.old result }
-        ensures ends { PostEnds tree.old tree.new self.old result }
+        ensures { PostStep tree.old tree.new self.old result self.new }
     {
-        if self.split.is_some() || tree.interior(node).level() == MAX_LEVEL {
+        if tree.interior(node).level() == MAX_LEVEL {
             return self.leave_out(tree, node);
         }
         tree.lock_interior(node);
@@ -195,10 +183,7 @@ impl Posting {
         requires walks { self.old.stage ≡ PostStage.Walks node }
         requires interior { IsSome (interior_at tree.old.nodes node.0) }
         requires may { MayPost tree.old self.old }
-        ensures same { self.new ≡ record self.old { split = self.new.split; stage = self.new.stage } }
-        ensures steps { PostLaw tree.old tree.new self.old result self.new }
-        ensures waits { PostWaits tree.old self.old result }
-        ensures ends { PostEnds tree.old tree.new self.old result }
+        ensures { PostStep tree.old tree.new self.old result self.new }
     {
         let interior = tree.interior(node);
         if interior.is_deleted() {
@@ -225,10 +210,7 @@ impl Posting {
     fn visit(&mut self, tree: &mut Tree, node: NodeNo) -> Progressed
         requires walks { self.old.stage ≡ PostStage.Walks node }
         requires may { MayPost tree.old self.old }
-        ensures same { self.new ≡ record self.old { split = self.new.split; stage = self.new.stage } }
-        ensures steps { PostLaw tree.old tree.new self.old result self.new }
-        ensures waits { PostWaits tree.old self.old result }
-        ensures ends { PostEnds tree.old tree.new self.old result }
+        ensures { PostStep tree.old tree.new self.old result self.new }
     {
         match tree.node(node) {
             Node::Head(_) => self.visit_head(tree, node),
@@ -237,31 +219,20 @@ impl Posting {
         }
     }
 
-    // What is to be named is left out: no number is had for a new root.
+    // The same, where no number is had for a new root.
     fn leave_out_root(&mut self, tree: &Tree, old: Root) -> Progressed
         requires wants { self.old.stage ≡ PostStage.RootWanted old }
         requires may { MayPost tree.now self.old }
-        ensures same { self.new ≡ record self.old { split = self.new.split; stage = self.new.stage } }
-        ensures steps { PostLaw tree.now tree.now self.old result self.new }
-        ensures waits { PostWaits tree.now self.old result }
-        ensures ends { PostEnds tree.now tree.now self.old result }
+        ensures { PostStep tree.now tree.now self.old result self.new }
     {
-        let Some(split) = self.split else {
-            return Progressed::Ended;
-        };
-        self.split = None;
-        self.stage = PostStage::HalfLeftOut(split);
-        Progressed::Moved
+        self.left_out()
     }
 
     // A number for the new root.
     fn spare_root(&mut self, tree: &mut Tree, old: Root) -> Progressed
         requires wants { self.old.stage ≡ PostStage.RootWanted old }
         requires may { MayPost tree.old self.old }
-        ensures same { self.new ≡ record self.old { split = self.new.split; stage = self.new.stage } }
-        ensures steps { PostLaw tree.old tree.new self.old result self.new }
-        ensures waits { PostWaits tree.old self.old result }
-        ensures ends { PostEnds tree.old tree.new self.old result }
+        ensures { PostStep tree.old tree.new self.old result self.new }
     {
         let goal = self.goal();
         match tree.occupy(Node::Interior(Interior::new_locked(goal.level + 1, 0))) {
@@ -277,10 +248,7 @@ impl Posting {
     fn fill_root(&mut self, tree: &mut Tree, old: Root, root: NodeNo) -> Progressed
         requires spared { self.old.stage ≡ PostStage.RootSpared old root }
         requires may { MayPost tree.old self.old }
-        ensures same { self.new ≡ record self.old { split = self.new.split; stage = self.new.stage } }
-        ensures steps { PostLaw tree.old tree.new self.old result self.new }
-        ensures waits { PostWaits tree.old self.old result }
-        ensures ends { PostEnds tree.old tree.new self.old result }
+        ensures { PostStep tree.old tree.new self.old result self.new }
     {
         let first = Child {
             low: 0,
@@ -299,17 +267,13 @@ impl Posting {
         requires still { IsRootStill tree.old self.old.head.0 old }
         requires arena { IsArena tree.old }
         requires may { MayPost tree.old self.old }
-        ensures same { self.new ≡ record self.old { split = self.new.split; stage = self.new.stage } }
-        ensures steps { PostLaw tree.old tree.new self.old result self.new }
-        ensures waits { PostWaits tree.old self.old result }
-        ensures ends { PostEnds tree.old tree.new self.old result }
+        ensures { PostStep tree.old tree.new self.old result self.new }
     {
-        let Some(split) = self.split else {
+        let Some(split) = self.waiting.pop() else {
             tree.name_root(self.head, root);
             return Progressed::Ended;
         };
         tree.name_root_over_half(self.head, root);
-        self.split = None;
         self.stage = PostStage::HalfPosted(split);
         Progressed::Moved
     }
@@ -318,10 +282,7 @@ impl Posting {
     fn name_root(&mut self, tree: &mut Tree, old: Root, root: NodeNo) -> Progressed
         requires filled { self.old.stage ≡ PostStage.RootFilled old root }
         requires may { MayPost tree.old self.old }
-        ensures same { self.new ≡ record self.old { split = self.new.split; stage = self.new.stage } }
-        ensures steps { PostLaw tree.old tree.new self.old result self.new }
-        ensures waits { PostWaits tree.old self.old result }
-        ensures ends { PostEnds tree.old tree.new self.old result }
+        ensures { PostStep tree.old tree.new self.old result self.new }
     {
         let head = tree.head(self.head);
         let (deleted, there) = (head.is_deleted(), head.root());
@@ -336,10 +297,7 @@ impl Posting {
     fn give_back(&mut self, tree: &mut Tree, root: NodeNo) -> Progressed
         requires late { self.old.stage ≡ PostStage.RootLate root }
         requires may { MayPost tree.old self.old }
-        ensures same { self.new ≡ record self.old { split = self.new.split; stage = self.new.stage } }
-        ensures steps { PostLaw tree.old tree.new self.old result self.new }
-        ensures waits { PostWaits tree.old self.old result }
-        ensures ends { PostEnds tree.old tree.new self.old result }
+        ensures { PostStep tree.old tree.new self.old result self.new }
     {
         tree.give_back(root);
         self.stage = PostStage::Walks(self.head);
@@ -350,10 +308,7 @@ impl Posting {
     fn spare_half(&mut self, tree: &mut Tree, interior: NodeNo) -> Progressed
         requires wants { self.old.stage ≡ PostStage.HalfWanted interior }
         requires may { MayPost tree.old self.old }
-        ensures same { self.new ≡ record self.old { split = self.new.split; stage = self.new.stage } }
-        ensures steps { PostLaw tree.old tree.new self.old result self.new }
-        ensures waits { PostWaits tree.old self.old result }
-        ensures ends { PostEnds tree.old tree.new self.old result }
+        ensures { PostStep tree.old tree.new self.old result self.new }
     {
         let split = tree.interior(interior);
         let (level, middle) = (split.level(), split.child(KEPT_CHILDREN));
@@ -373,10 +328,7 @@ impl Posting {
     fn fill_half(&mut self, tree: &mut Tree, interior: NodeNo, half: NodeNo) -> Progressed
         requires spared { self.old.stage ≡ PostStage.HalfSpared interior half }
         requires may { MayPost tree.old self.old }
-        ensures same { self.new ≡ record self.old { split = self.new.split; stage = self.new.stage } }
-        ensures steps { PostLaw tree.old tree.new self.old result self.new }
-        ensures waits { PostWaits tree.old self.old result }
-        ensures ends { PostEnds tree.old tree.new self.old result }
+        ensures { PostStep tree.old tree.new self.old result self.new }
     {
         let split = tree.interior(interior);
         let middle = split.child(KEPT_CHILDREN);
@@ -392,7 +344,7 @@ impl Posting {
         ];
         let level = split.level();
         tree.fill_interior(half, &upper);
-        self.split = Some(Split {
+        self.waiting.push(Split {
             interior,
             half: Child {
                 low: middle.low,
@@ -408,37 +360,28 @@ impl Posting {
     fn give_half_back(&mut self, tree: &mut Tree, split: Split) -> Progressed
         requires left { self.old.stage ≡ PostStage.HalfLeftOut split }
         requires may { MayPost tree.old self.old }
-        ensures same { self.new ≡ record self.old { split = self.new.split; stage = self.new.stage } }
-        ensures steps { PostLaw tree.old tree.new self.old result self.new }
-        ensures waits { PostWaits tree.old self.old result }
-        ensures ends { PostEnds tree.old tree.new self.old result }
+        ensures { PostStep tree.old tree.new self.old result self.new }
     {
         tree.give_back(split.half.node);
         self.stage = PostStage::LetGo(split.interior);
         Progressed::Moved
     }
 
-    // The interior is unlocked as it was, and the border left out.
+    // The interior is unlocked as it was, and what was to be named in it left out.
     fn let_go(&mut self, tree: &mut Tree, interior: NodeNo) -> Progressed
         requires lets { self.old.stage ≡ PostStage.LetGo interior }
         requires may { MayPost tree.old self.old }
-        ensures same { self.new ≡ record self.old { split = self.new.split; stage = self.new.stage } }
-        ensures steps { PostLaw tree.old tree.new self.old result self.new }
-        ensures waits { PostWaits tree.old self.old result }
-        ensures ends { PostEnds tree.old tree.new self.old result }
+        ensures { PostStep tree.old tree.new self.old result self.new }
     {
         tree.unlock_interior(interior);
-        Progressed::Ended
+        self.left_out()
     }
 
     // The interior keeps the first of its children, and is unlocked.
     fn cut(&mut self, tree: &mut Tree, split: Split) -> Progressed
         requires posted { self.old.stage ≡ PostStage.HalfPosted split }
         requires may { MayPost tree.old self.old }
-        ensures same { self.new ≡ record self.old { split = self.new.split; stage = self.new.stage } }
-        ensures steps { PostLaw tree.old tree.new self.old result self.new }
-        ensures waits { PostWaits tree.old self.old result }
-        ensures ends { PostEnds tree.old tree.new self.old result }
+        ensures { PostStep tree.old tree.new self.old result self.new }
     {
         tree.keep_first(split.interior, KEPT_CHILDREN);
         tree.unlock_interior(split.interior);
@@ -446,27 +389,21 @@ impl Posting {
         Progressed::Moved
     }
 
-    // The new half is unlocked, and the border's way begins again.
+    // The new half is unlocked, and the way of what waits below it begins again.
     fn unlock_half(&mut self, tree: &mut Tree, half: NodeNo) -> Progressed
         requires cut { self.old.stage ≡ PostStage.HalfCut half }
         requires may { MayPost tree.old self.old }
-        ensures same { self.new ≡ record self.old { split = self.new.split; stage = self.new.stage } }
-        ensures steps { PostLaw tree.old tree.new self.old result self.new }
-        ensures waits { PostWaits tree.old self.old result }
-        ensures ends { PostEnds tree.old tree.new self.old result }
+        ensures { PostStep tree.old tree.new self.old result self.new }
     {
         tree.unlock_interior(half);
         self.stage = PostStage::Walks(self.head);
         Progressed::Moved
     }
 
-    /// Visits one node.
-    pub fn step(&mut self, tree: &mut Tree) -> Progressed
+    // At each stage.
+    fn go(&mut self, tree: &mut Tree) -> Progressed
         requires { MayPost tree.old self.old }
-        ensures same { self.new ≡ record self.old { split = self.new.split; stage = self.new.stage } }
-        ensures steps { PostLaw tree.old tree.new self.old result self.new }
-        ensures waits { PostWaits tree.old self.old result }
-        ensures ends { PostEnds tree.old tree.new self.old result }
+        ensures { PostStep tree.old tree.new self.old result self.new }
     {
         match self.stage {
             PostStage::Walks(node) => self.visit(tree, node),
@@ -481,5 +418,16 @@ impl Posting {
             PostStage::HalfPosted(split) => self.cut(tree, split),
             PostStage::HalfCut(half) => self.unlock_half(tree, half),
         }
+    }
+    /// Visits one node. Constant cost, but for one search among the children of an interior.
+    pub fn step(&mut self, tree: &mut Tree) -> Progressed
+        requires { MayPost tree.old self.old }
+        ensures same { self.new ≡ record self.old { waiting = self.new.waiting; stage = self.new.stage } }
+        ensures steps { PostLaw tree.old tree.new self.old result self.new }
+        ensures waits { PostWaits tree.old self.old result }
+        ensures ends { PostEnds tree.old tree.new self.old result }
+        ensures gets_on { PostFollows tree.old self.old result self.new }
+    {
+        self.go(tree)
     }
 }

@@ -200,7 +200,7 @@ is_locked_border a w number k = subst (λ (o : Option BorderView). IsSomeAnd o (
 abbrev pub posting_step : ℕ → ArenaView → ArenaView → LogView → List ℕ → Edit → Way → NodeNo → Posting → Ending → Stage → Type 0
 posting_step C a after log key edit way head posting ending stage = StepLaw C a after log log (edit_request key edit) (stage_held way.node.0 (Posts posting ending)) Moved (stage_held way.node.0 stage) (λ begun moves past x w. HeadedStage C key edit way head (Posts posting ending) begun x w) (λ begun moves past x w. HeadedStage C key edit way head stage begun x w)
 
-module _ (C : ℕ) (a after : ArenaView) (log : LogView) (key : List ℕ) (edit : Edit) (way : Way) (head : NodeNo) (posting then : Posting) (ending : Ending) (same : then ≡ record posting { split = then.split; stage = then.stage }) where
+module _ (C : ℕ) (a after : ArenaView) (log : LogView) (key : List ℕ) (edit : Edit) (way : Way) (head : NodeNo) (posting then : Posting) (ending : Ending) (same : then ≡ record posting { waiting = then.waiting; stage = then.stage }) where
   abbrev PostingStep : Progress → Stage → Type 0
   PostingStep p stage = StepLaw C a after log log (edit_request key edit) (stage_held way.node.0 (Posts posting ending)) p (stage_held way.node.0 stage) (λ begun moves past x w. HeadedStage C key edit way head (Posts posting ending) begun x w) (λ begun moves past x w. HeadedStage C key edit way head stage begun x w)
 

@@ -1,5 +1,5 @@
 use Rattle.mt_post.proofs.RootLemmas.{gives_back}
 use Rattle.mt_post.proofs.posting.Posting.give_back.Goals as goal
 
-pub returns-clause-steps : goal.returns-clause-steps
-returns-clause-steps c = gives_back c.args.tree.now c.args.self.now c.args.root c.requires.late c.give_back.new.self c.give_back.ensures.value c.give_back.ensures.keeps
+pub returns : goal.returns
+returns c = gives_back c.args.tree.now c.args.self.now c.args.root c.requires.late c.give_back.new.self c.give_back.ensures.value c.give_back.ensures.keeps

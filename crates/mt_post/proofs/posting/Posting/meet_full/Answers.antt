@@ -1,9 +1,8 @@
-use Rattle.std.proofs.Common.{sym, ◌∙◌}
-use Rattle.mt_post.proofs.HalfLemmas.{locks, full_below, no_split}
+use Rattle.mt_post.proofs.HalfLemmas.{locks, full_below}
 use Rattle.mt_post.proofs.posting.Posting.meet_full.Goals as goal
 
-pub returns-clause-steps : goal.returns-clause-steps
-returns-clause-steps c =
-    locks c.args.tree.now c.args.self.now c.args.node c.requires.walks (no_split c.args.self.now.split (sym c.is_some.ensures ∙ c.if-is_some.false)) c.requires.full
-    (full_below c.args.tree.now c.args.node.0 c.requires.full c.interior.result.now c.level.result c.interior.ensures.value c.interior.ensures.sound c.level.ensures.value c.if-level-eq-MAX_LEVEL.false)
+pub returns : goal.returns
+returns c =
+    locks c.args.tree.now c.args.self.now c.args.node c.requires.walks c.requires.full
+    (full_below c.args.tree.now c.args.self.now c.args.node.0 c.requires.full c.interior.result.now c.level.result c.interior.ensures.value c.interior.ensures.sound c.level.ensures.value c.if-level-eq-MAX_LEVEL.false)
     c.lock_interior.new.self c.lock_interior.ensures.value c.lock_interior.ensures.keeps c.lock_interior.ensures.sound

@@ -5,13 +5,13 @@ use Rattle.mt_interior.specs.Interior.{InteriorView, IsInterior, new_interior}
 use Rattle.mt_post.proofs.HalfLemmas.{half_spares, half_refused}
 use Rattle.mt_post.proofs.posting.Posting.spare_half.Goals as goal
 
-pub returns-in-Ok-clause-steps : goal.returns-in-Ok-clause-steps
-returns-in-Ok-clause-steps c =
+pub returns-in-Ok : goal.returns-in-Ok
+returns-in-Ok c =
     let made = c.new_locked.ensures.value ∙ ap (λ l. new_interior l c.child-middle.result.low) c.level-level.ensures.value in
     half_spares c.args.tree.now c.args.self.now c.args.interior c.requires.wants c.interior-split.result.now c.child-middle.result c.in-Ok.half c.occupy.new.self c.interior-split.ensures.value c.child-middle.ensures.value
     (subst IsInterior made c.new_locked.ensures.sound) c.in-Ok.ensures.vacant
     (subst (λ (i : InteriorView). Updates c.args.tree.now.nodes c.occupy.new.self.nodes c.in-Ok.half.0 (Some (Interior i))) made c.in-Ok.ensures.updates)
     c.occupy.ensures.retired c.in-Ok.ensures.unknown c.in-Ok.ensures.keeps
 
-pub returns-in-Err-clause-steps : goal.returns-in-Err-clause-steps
-returns-in-Err-clause-steps c = half_refused c.args.tree.now c.args.self.now c.args.interior c.requires.wants c.occupy.new.self c.in-Err.ensures.err
+pub returns-in-Err : goal.returns-in-Err
+returns-in-Err c = half_refused c.args.tree.now c.args.self.now c.args.interior c.requires.wants c.occupy.new.self c.in-Err.ensures.err

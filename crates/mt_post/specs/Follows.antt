@@ -1,0 +1,100 @@
+-- Where a posting stands after a step: said of the nodes before it, and of the posting before and after it.
+use Rattle.std.specs.Prelude.{ℕ, ◌≡◌, ◌⊎◌, ◌<◌, ◌≤◌, ◌+◌, [], ◌∷◌, length, slice_get, Some, IsSomeAnd, true}
+use Rattle.mt_types.specs.declared.limits.TheConstants.{MAX_LEVEL}
+use Rattle.mt_types.specs.declared.numbers.NodeNo.{NodeNo}
+use Rattle.mt_interior.specs.Interior.{InteriorView, children_up_to}
+use Rattle.mt_interior.specs.Head.{HeadView}
+use Rattle.mt_interior.specs.declared.child.Child.{Child}
+use Rattle.mt_interior.specs.declared.interior.TheConstants.{MAX_CHILDREN}
+use Rattle.mt_arena.specs.Node.{head_at, interior_at}
+use Rattle.mt_arena.specs.Arena.{ArenaView}
+use Rattle.mt_post.specs.declared.posting.Posting.{Posting}
+use Rattle.mt_post.specs.declared.posting.Progressed.{Progressed}
+use Rattle.mt_post.specs.declared.posting.Progressed.TheVariants.{Moved, Waits, Ended}
+use Rattle.mt_post.specs.declared.split.Split.{Split}
+use Rattle.mt_post.specs.declared.posting.PostStage.{PostStage}
+use Rattle.mt_post.specs.declared.posting.PostStage.TheVariants.{Walks, RootWanted, RootSpared, RootFilled, RootLate, HalfWanted, HalfSpared, HalfLeftOut, LetGo, HalfPosted, HalfCut}
+use Rattle.mt_post.specs.Posting.{goal_of, PostLaw}
+use Rattle.mt_post.specs.Causes.{StopsAt, IsRootStill, PostWaits, PostEnds}
+
+-- it stands at this stage, and is as it was else
+abbrev pub GoesTo : Posting → Posting → PostStage → Type 0
+GoesTo posting then stage = then ≡ record posting { stage = stage }
+
+-- what was to be named is a new half, which waits no more: it is named, or left out
+abbrev pub IsNamed : Posting → Posting → Type 0
+IsNamed posting then = (split : Split) × (posting.waiting ≡ split ∷ then.waiting) × (then.stage ≡ HalfPosted split)
+
+abbrev pub IsLeftOut : Posting → Posting → Type 0
+IsLeftOut posting then = (split : Split) × (posting.waiting ≡ split ∷ then.waiting) × (then.stage ≡ HalfLeftOut split)
+
+-- what is to be named is left out: the newest new half; or the border, where none waits
+abbrev pub LeavesOut : Posting → Progressed → Posting → Type 0
+LeavesOut posting Moved then = IsLeftOut posting then × (then ≡ record posting { waiting = then.waiting; stage = then.stage })
+LeavesOut posting Waits then = ⊥
+LeavesOut posting Ended then = (posting.waiting ≡ []) × (then ≡ record posting { waiting = then.waiting })
+
+-- at a head: it goes to the root, where that is above what is to be named; else it wants a new root
+abbrev pub FollowsHead : Posting → Posting → HeadView → Type 0
+FollowsHead posting then head = ((goal_of posting).level < head.level × GoesTo posting then (Walks head.root))
+    ⊎ ((head.level ≤ (goal_of posting).level × GoesTo posting then (RootWanted (record { node = head.root; level = head.level })))
+    ⊎ ((head.version.deleted ≡ true) × IsLeftOut posting then))
+
+-- at an interior: it goes to the last child whose low is at most that of what is to be named, where that child is above it
+pub record LeadsOn (posting then : Posting) (interior : InteriorView) : Type 0 where
+  pub place : ℕ
+  pub child : Child
+  pub leads : place + 1 ≡ children_up_to (goal_of posting).low interior.children
+  pub is_child : slice_get interior.children place ≡ Some child
+  pub above : (goal_of posting).level < child.level
+  pub goes : GoesTo posting then (Walks child.node)
+
+-- a full interior is to be split, but for one of the greatest level
+abbrev pub FollowsFull : Posting → Posting → NodeNo → InteriorView → Type 0
+FollowsFull posting then node interior = (interior.level < MAX_LEVEL × GoesTo posting then (HalfWanted node))
+    ⊎ ((interior.level ≡ MAX_LEVEL) × IsLeftOut posting then)
+
+-- where no child leads on, what is to be named is named there, if there is room
+abbrev pub FollowsInterior : Posting → Posting → NodeNo → InteriorView → Type 0
+FollowsInterior posting then node interior = LeadsOn posting then interior ⊎ (StopsAt posting interior ×
+    ((length interior.children < MAX_CHILDREN × IsNamed posting then)
+    ⊎ ((length interior.children ≡ MAX_CHILDREN) × FollowsFull posting then node interior)))
+
+-- the split of this interior waits from now on, as the newest, and its new half is to be named
+abbrev pub IsFilled : Posting → Posting → NodeNo → NodeNo → Type 0
+IsFilled posting then interior half = (split : Split) × (split.interior ≡ interior) × (split.half.node ≡ half)
+    × (then ≡ record posting { waiting = split ∷ posting.waiting; stage = Walks posting.head })
+
+-- the stage that follows where it goes on
+abbrev pub StageFollows : ArenaView → Posting → PostStage → Posting → Type 0
+StageFollows a posting (Walks node) then = IsSomeAnd (head_at a.nodes node.0) (FollowsHead posting then)
+    ⊎ IsSomeAnd (interior_at a.nodes node.0) (FollowsInterior posting then node)
+StageFollows a posting (RootWanted old) then = ((root : NodeNo) × GoesTo posting then (RootSpared old root)) ⊎ IsLeftOut posting then
+StageFollows a posting (RootSpared old root) then = GoesTo posting then (RootFilled old root)
+StageFollows a posting (RootFilled old root) then = (IsRootStill a posting.head.0 old × IsNamed posting then)
+    ⊎ ((IsRootStill a posting.head.0 old → ⊥) × GoesTo posting then (RootLate root))
+StageFollows a posting (RootLate root) then = GoesTo posting then (Walks posting.head)
+StageFollows a posting (HalfWanted interior) then = ((half : NodeNo) × GoesTo posting then (HalfSpared interior half))
+    ⊎ GoesTo posting then (LetGo interior)
+StageFollows a posting (HalfSpared interior half) then = IsFilled posting then interior half
+StageFollows a posting (HalfLeftOut left) then = GoesTo posting then (LetGo left.interior)
+StageFollows a posting (LetGo interior) then = IsLeftOut posting then
+StageFollows a posting (HalfPosted posted) then = GoesTo posting then (HalfCut posted.half.node)
+StageFollows a posting (HalfCut half) then = GoesTo posting then (Walks posting.head)
+
+-- Where it waits, it begins its way again; where it has ended, no split waits.
+abbrev pub Follows : ArenaView → Posting → PostStage → Progressed → Posting → Type 0
+Follows a posting stage Moved then = StageFollows a posting stage then
+Follows a posting stage Waits then = GoesTo posting then (Walks posting.head)
+Follows a posting stage Ended then = posting.waiting ≡ []
+
+abbrev pub PostFollows : ArenaView → Posting → Progressed → Posting → Type 0
+PostFollows a posting p then = Follows a posting posting.stage p then
+
+-- WHAT A STEP DOES, all of it
+pub record PostStep (a after : ArenaView) (posting : Posting) (p : Progressed) (then : Posting) : Type 0 where
+  pub same : then ≡ record posting { waiting = then.waiting; stage = then.stage }
+  pub law : PostLaw a after posting p then
+  pub waits : PostWaits a posting p
+  pub ends : PostEnds a after posting p
+  pub gets_on : PostFollows a posting p then
