@@ -6,7 +6,7 @@ use Rattle.mt_drive.proofs.PlayLemmas.{Broke-none}
 use Rattle.mt_drive.proofs.script.script.Goals as goal
 
 pub play-requires : goal.play-requires
-play-requires g c = c.in-Ok.ensures.opened.1
+play-requires g c = c.in-Ok.ensures.opened.2
 
 pub returns-in-Ok-clause-answered : goal.returns-in-Ok-clause-answered
 returns-in-Ok-clause-answered g c =
