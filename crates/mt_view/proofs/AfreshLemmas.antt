@@ -21,11 +21,11 @@ both : (a b : Bool) → T a → T b → T (a && b)
 both true b p q = q
 both false b p q = p
 
-first : (a b : Bool) → T (a && b) → T a
+pub first : (a b : Bool) → T (a && b) → T a
 first true b p = tt
 first false b p = p
 
-second : (a b : Bool) → T (a && b) → T b
+pub second : (a b : Bool) → T (a && b) → T b
 second true b p = p
 second false b p = absurd p
 
@@ -40,10 +40,10 @@ equal Equal p = refl
 equal Greater p = cc
 
 -- keys that tie are the same
-same_key : (q k : List ℕ) → eq_by_cmp key_cmp q k ≡ true → q ≡ k
+pub same_key : (q k : List ℕ) → eq_by_cmp key_cmp q k ≡ true → q ≡ k
 same_key q k t = key_apart q k (equal (key_cmp q k) t)
 
-below_none : (q : List ℕ) (es : Entries) → T (below_all key_cmp q es) → map.find key_cmp q es ≡ None
+pub below_none : (q : List ℕ) (es : Entries) → T (below_all key_cmp q es) → map.find key_cmp q es ≡ None
 below_none q [] h = refl
 below_none q (e ∷ es) h =
     ap (λ o. cond (is_eq o) (Some e.1) (map.find key_cmp q es)) (less (key_cmp q e.0) (first _ _ h)) ∙ below_none q es (second _ _ h)
