@@ -104,7 +104,7 @@ afresh_from_each state rows h =
     map.same_map key_order key_apart _ _ (λ q. h q ∙ sym (get-afresh state.spec rows q) ∙ sym (map.get-from_sorted key_cmp (afresh state.spec rows) q sorted)) in
     ap map.entries same ∙ map.entries-from_sorted key_cmp (afresh state.spec rows) sorted
 
-belonging-cond : (spec : ViewSpec) (q key : List ℕ) (row old : Option Row)
+pub belonging-cond : (spec : ViewSpec) (q key : List ℕ) (row old : Option Row)
     → cond (eq_by_cmp key_cmp q key) (belonging spec key row) (belonging spec q old) ≡ belonging spec q (cond (eq_by_cmp key_cmp q key) row old)
 belonging-cond spec q key row old =
     elim (eq_by_cmp key_cmp q key) as (λ b. eq_by_cmp key_cmp q key ≡ b → cond b (belonging spec key row) (belonging spec q old) ≡ belonging spec q (cond b row old)) [

@@ -1,0 +1,2 @@
+-- Lemmas on what a build reads.
+pub mod HistoryLemmas
