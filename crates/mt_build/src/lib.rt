@@ -4,3 +4,5 @@
 pub mod build;
 mod end;
 pub mod laws;
+#[cfg(test)]
+mod tests;
