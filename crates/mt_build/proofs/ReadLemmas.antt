@@ -10,20 +10,20 @@ use Rattle.mt_types.specs.Rows.{Rows, shown}
 use Rattle.mt_types.specs.declared.row.Row.{Row}
 use Rattle.mt_slice.specs.Place.{Place, Precedes, AreBytes, first_slice, place_of, under}
 use Rattle.mt_types.specs.declared.view.ViewSpec.{ViewSpec}
-use Rattle.mt_slice.proofs.KeyOrder.{KeyLess, cmp_equal, place_order}
+use Rattle.mt_slice.proofs.KeyOrder.{cmp_equal, place_order}
 use Rattle.mt_border.specs.Border.{BorderView}
 use Rattle.mt_border.specs.Order.{IsBorder}
 use Rattle.mt_rows.proofs.MapLemmas.{Entries, key_order}
 use Rattle.mt_chart.specs.Tree.{Arena, Among, first, later, border, Below, Has, Right}
 use Rattle.mt_chart.specs.Tree.{Entry as PlainEntry}
-use Rattle.mt_chart.specs.Chart.{Chart, Holds, IsTree, Evolves}
+use Rattle.mt_chart.specs.Chart.{Chart, Holds, IsTree}
 use Rattle.mt_chart.specs.Scan.{Pair, AtMost, Listed, OpenRange, VisitOutcome, answers, goes, AtEnd, BorderVisit, Comes}
 use Rattle.mt_chart.specs.ScanRun.{Stood, AllHave, EntriesInOrder}
 use Rattle.mt_chart.specs.KeyAnswer.{as_places, KeysAreBytes}
 use Rattle.mt_chart.proofs.Entries.{InOrder}
 use Rattle.mt_chart.proofs.HeldNodes.{holds_kept}
 use Rattle.mt_chart.proofs.KeyAnswers.{key_bytes, among_place, place_among, place_is_one}
-use Rattle.mt_chart.proofs.PlaceOrder.{either, not_both}
+use Rattle.mt_chart.proofs.PlaceOrder.{either}
 use Rattle.mt_chart.proofs.Ranges.{holds_top, scan_begins, range_visits}
 use Rattle.mt_tree.specs.Seen.{border_seen, entry_seen}
 use Rattle.mt_tree.proofs.IntervalLemmas.{entries_in_order}
@@ -33,7 +33,7 @@ use Rattle.mt_scan.specs.declared.scan.ScanMove.TheVariants.{Done, To, Top}
 use Rattle.mt_view.specs.State.{StateView, IsAfresh, with_pairs}
 use Rattle.mt_view.proofs.AfreshLemmas.{same_key}
 use Rattle.mt_build.specs.Build.{BuildView, first_key, HasRead, IsScanning, IsBehindAll, ComesTo, VisitsOn, HasRows, HadRows}
-use Rattle.mt_build.specs.History.{is_within, GoesBy, WasAt, WasThroughout, IsReadOf, LeadsTo}
+use Rattle.mt_build.specs.History.{is_within, WasAt, WasThroughout}
 use Rattle.mt_build.specs.Laws.{OthersKeepScans, RestartsKeepScans, WaysKeepScans, BuildsAreExact}
 use Rattle.mt_build.proofs.HistoryLemmas.{scans_lead}
 use Rattle.mt_build.proofs.PrefixLemmas.{within_from_first}

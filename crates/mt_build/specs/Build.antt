@@ -26,8 +26,8 @@ abbrev pub first_key : ViewSpec → List ℕ
 first_key (Range lo hi test) = lo
 first_key (Prefix prefix test) = prefix
 
--- What was read of the keys that are done, where the tree was these arenas, newest first: the state is afresh for rows that stood at some
--- moment, one of each of those keys of the view that had a row throughout.
+-- What was read of the keys that are done, where the tree was these arenas, newest first: the state is afresh for rows
+-- that stood at some moment, with one of each of those keys of the view that had a row throughout.
 pub record HasRead (arenas : List Arena) (Done : Place → Type 0) (state : StateView) : Type 0 where
   pub read : Rows
   pub afresh : IsAfresh state read
@@ -57,8 +57,8 @@ ComesTo chart begun arenas (To next) build = IsScanning chart begun arenas next.
 ComesTo chart begun arenas Top build = IsScanning chart begun arenas 0 build
 ComesTo chart begun arenas Done build = HasScanned arenas build
 
--- The visit of a border by a build: in each tree where the build stands at this border, in whose interval its cursor's slice is and which
--- isn't marked deleted, it scans on from where the visit comes to, or has scanned all.
+-- The visit of a border by a build: in each tree where the build stands at this border, in whose interval its cursor's
+-- slice is and which isn't marked deleted, it scans on from where the visit comes to, or has scanned all.
 pub record VisitsOn (old : BuildView) (b : BorderView) (visited : ScanMove) (new : BuildView) : Type 0 where
   pub comes : (chart : Chart) (begun number : ℕ) (arena : Arena) (past : List Arena) → IsTree arena chart
       → arena number ≡ Some (border (border_seen b)) → b.version.deleted ≡ false

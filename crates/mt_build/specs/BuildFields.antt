@@ -1,7 +1,6 @@
 -- A build, read off its fields, and what they keep.
-use Rattle.std.specs.Prelude.{ℕ, ◌≡◌, IsTrue, List, [], Option, Some, None}
+use Rattle.std.specs.Prelude.{ℕ, ◌≡◌, IsTrue, List, []}
 use Rattle.mt_types.specs.Views.{is_before}
-use Rattle.mt_slice.specs.Place.{AreBytes}
 use Rattle.mt_build.specs.Build.{BuildView}
 use Rattle.mt_build.specs.History.{is_within}
 use Rattle.mt_build.specs.declared.build.TheConstants.{SCAN_LIMIT}
@@ -10,7 +9,8 @@ use Rattle.mt_build.specs.declared.build.Build.TheInside.{Inside}
 abbrev pub build_of : Inside → BuildView
 build_of build = record { prefix = build.scan.prefix; at = build.scan.at; state = build.state }
 
--- between two visits the scan has taken nothing; it is to show each column; and no key of the view is at the end or behind it
+-- between two visits the scan has taken nothing; it is to show each column; and no key of the view is at the end or
+-- behind it
 pub record IsBuild (build : Inside) : Type 0 where
   pub taken : build.scan.taken ≡ []
   pub asked : build.scan.asked ≡ []

@@ -1,4 +1,5 @@
--- What a build reads, told by rows alone: which rows there were since its begin, and which deltas led from one to the next.
+-- What a build reads, told by rows alone: which rows there were since its begin, and which deltas led from one to the
+-- next.
 use Rattle.std.specs.Prelude.{ℕ, ◌≡◌, ◌⊎◌, ◌&&◌, nat_eq, Bool, IsTrue, if◌then◌else◌, List, [], ◌∷◌, ◌++◌, Option, Some, IsSome}
 use Rattle.std.specs.FinMap.{get}
 use Rattle.std.specs.List.{starts_with}
@@ -13,8 +14,8 @@ use Rattle.mt_types.specs.declared.view.ViewSpec.TheVariants.{Range, Prefix}
 use Rattle.mt_commit.specs.Deltas.{redo}
 use Rattle.mt_view.specs.State.{StateView, belonging}
 
--- These are the rows at the moments since a begin, the newest first, and the deltas of the commits since, the oldest first: each moment has
--- the rows of the one before it, or those with the next delta.
+-- These are the rows at the moments since a begin, the newest first, and the deltas of the commits since, the oldest
+-- first: each moment has the rows of the one before it, or those with the next delta.
 abbrev pub GoesBy : List Rows → List Delta → Type 0
 GoesBy [] deltas = ⊥
 GoesBy (rows ∷ []) deltas = deltas ≡ []
@@ -38,8 +39,8 @@ abbrev pub is_within : ViewSpec → List ℕ → Bool
 is_within (Range lo hi test) key = is_ge (key_cmp key lo) && is_before key hi
 is_within (Prefix prefix test) key = starts_with nat_eq key prefix
 
--- what a scan of the keys of a view has read while these were the rows: only rows that stood under their keys at some moment, and one of
--- each key that had a row throughout
+-- what a scan of the keys of a view has read while these were the rows: only rows that stood under their keys at some
+-- moment, and one of each key of the view that had a row throughout
 pub record IsReadOf (spec : ViewSpec) (moments : List Rows) (read : Rows) : Type 0 where
   pub stood : (key : List ℕ) (row : Row) → get read key ≡ Some row → WasAt moments key (Some row)
   pub covered : (key : List ℕ) → IsTrue (is_within spec key) → WasThroughout moments key → IsSome (get read key)
@@ -50,8 +51,8 @@ row_after [] key row = row
 row_after (delta ∷ deltas) key row =
     row_after deltas key (if eq_by_cmp key_cmp key delta.key then delta.after else row)
 
--- The deltas lead the state to these rows: of each key it holds what belongs to the view of a row, or of none, from which the deltas make
--- the key's row.
+-- The deltas lead the state to these rows: of each key it holds what belongs to the view of a row, or of none, from
+-- which the deltas make the key's row.
 pub record LeadsTo (deltas : List Delta) (rows : Rows) (state : StateView) : Type 0 where
   pub from : (key : List ℕ) → (row : Option Row) × (get state.rows key ≡ belonging state.spec key row)
       × (row_after deltas key row ≡ get rows key)

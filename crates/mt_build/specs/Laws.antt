@@ -25,7 +25,8 @@ DeltasLeadOn =
 abbrev pub LedIsAfresh : Type 0
 LedIsAfresh = (rows : Rows) (state : StateView) → LeadsTo [] rows state → IsAfresh state rows
 
--- THE SCAN OF THE TREE, AND THE DELTAS SINCE ITS BEGIN, LEAD TO THE ROWS AT ITS END, whatever other calls did while it was open
+-- THE SCAN OF THE TREE, AND THE DELTAS SINCE ITS BEGIN, LEAD TO THE ROWS AT ITS END, whatever other calls did while it
+-- was open
 abbrev pub BuildsAreExact : Type 0
 BuildsAreExact =
     (arena : Arena) (arenas : List Arena) (rows : Rows) (past : List Rows) (deltas : List Delta) (state : StateView)
@@ -35,8 +36,8 @@ BuildsAreExact =
 -- what is true of a scan stays true at one moment more, whatever others did
 abbrev pub OthersKeepScans : Type 0
 OthersKeepScans =
-    (chart new : Chart) (begun number : ℕ) (arena : Arena) (arenas : List Arena) (build : BuildView) → Evolves begun chart new
-    → IsScanning chart begun arenas number build → IsScanning new begun (arena ∷ arenas) number build
+    (chart new : Chart) (begun number : ℕ) (arena : Arena) (arenas : List Arena) (build : BuildView)
+    → Evolves begun chart new → IsScanning chart begun arenas number build → IsScanning new begun (arena ∷ arenas) number build
 
 -- and of the build that has begun its way again
 abbrev pub RestartsKeepScans : Type 0

@@ -1,6 +1,7 @@
 //! The build itself: what it keeps from one visit of a border to the next, and what each of its steps does.
 
-ghost use Rattle.std.specs.Prelude.{◌≡◌, ℕ, List, [], ◌∷◌, IfOk, OnOk, OnErr, IsTrue};
+ghost use Rattle.std.specs.Prelude.{◌≡◌, ◌<◌, ◌⊎◌, ℕ, List, [], ◌∷◌, length, IfOk, IfErr, IsErrOf, OnOk, OnErr, IsTrue};
+ghost use Rattle.mt_types.specs.declared.limits.TheConstants.{MAX_KEY_BYTES};
 ghost use Rattle.std.specs.FinMap as map;
 ghost use Rattle.mt_types.specs.Rows.{Rows};
 ghost use Rattle.mt_types.specs.declared.row.Delta.{Delta as DeltaValue};
@@ -63,11 +64,16 @@ impl Build {
     ///
     /// # Errors
     ///
-    /// `KeyTooLong` where the first key of the view has too many bytes; `NoMemory` where an allocation is refused.
+    /// `KeyTooLong` where the first key of the view has more than `MAX_KEY_BYTES` bytes; `NoMemory` where an allocation
+    /// is refused.
     pub fn new(alloc: Global, columns: u8, spec: ViewSpec, at: u64) -> Result<Build, Refusal>
         ensures prefix { IfOk result (λ build. build.prefix ≡ []) }
         ensures start { IfOk result (λ build. build.at ≡ place_of (first_key spec)) }
-        ensures state { IfOk result (λ build. (build.state.spec ≡ spec) × (build.state.columns ≡ columns) × (build.state.at ≡ at)) }
+        ensures spec { IfOk result (λ build. build.state.spec ≡ spec) }
+        ensures columns { IfOk result (λ build. build.state.columns ≡ columns) }
+        ensures number { IfOk result (λ build. build.state.at ≡ at) }
+        ensures too_long { IsErrOf result Refusal.KeyTooLong → MAX_KEY_BYTES < length (first_key spec) }
+        ensures only { IfErr result (λ refusal. (refusal ≡ Refusal.KeyTooLong) ⊎ (refusal ≡ Refusal.NoMemory)) }
         ensures scans { IfOk result (λ build. (chart : Chart) (begun : ℕ) (arena : Arena) → IsTree arena chart
             → IsScanning chart begun (arena ∷ []) 0 build) }
     {
@@ -137,8 +143,8 @@ impl Build {
     ///
     /// `NoMemory` where an allocation is refused.
     pub fn take(&mut self, delta: &Delta) -> Result<(), NoMemory>
-        ensures leads { OnOk result ((deltas : List DeltaValue) (rows : Rows) → LeadsTo (delta.now ∷ deltas) rows self.old.state
-            → LeadsTo deltas rows self.new.state) }
+        ensures leads { OnOk result ((deltas : List DeltaValue) (rows : Rows)
+            → LeadsTo (delta.now ∷ deltas) rows self.old.state → LeadsTo deltas rows self.new.state) }
         ensures ok { OnOk result (self.new ≡ record self.old { state = applied delta.now self.old.state }) }
         ensures err { OnErr result (self.new ≡ self.old) }
     {

@@ -24,7 +24,8 @@ pub(crate) fn first_key(alloc: Global, spec: &ViewSpec) -> Result<Bytes, NoMemor
 
 // The least bytes that are behind all that begin with a prefix, if there are such bytes.
 fn end_of_prefix(alloc: Global, prefix: &[u8]) -> Result<Option<Bytes>, NoMemory>
-    ensures { IfOk result (λ end. (key : List ℕ) → IsTrue (starts_with nat_eq key prefix.now) → IsTrue (is_before key end)) }
+    ensures { IfOk result (λ end. (key : List ℕ) → IsTrue (starts_with nat_eq key prefix.now)
+        → IsTrue (is_before key end)) }
 {
     let mut bytes = prefix.to_vec(alloc)?;
     while let Some(last) = bytes.pop() {
@@ -39,7 +40,8 @@ fn end_of_prefix(alloc: Global, prefix: &[u8]) -> Result<Option<Bytes>, NoMemory
 /// A key that is behind each key of a view, if there is one. Shares the bytes of a range's end; of a prefix costs two
 /// allocations.
 pub(crate) fn end_of(alloc: Global, spec: &ViewSpec) -> Result<Option<Bytes>, NoMemory>
-    ensures { IfOk result (λ end. (key : List ℕ) → IsTrue (is_within spec.now key) → IsTrue (is_before key end)) }
+    ensures { IfOk result (λ end. (key : List ℕ) → IsTrue (is_within spec.now key)
+        → IsTrue (is_before key end)) }
 {
     match spec {
         ViewSpec::Range { hi, .. } => hi.copy(alloc),

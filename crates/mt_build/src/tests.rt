@@ -1,5 +1,5 @@
-//! Builds by example, over a border without entries: rows that come into a view and leave it, large sums, and a scan that
-//! ends with its view's keys. What a build reads of entries is said by its contract in full.
+//! Builds by example, over a border without entries: rows that come into a view and leave it, large sums, and a scan
+//! that ends with its view's keys. What a build reads of entries is said by its contract in full.
 
 use crate::build::Build;
 use bytes::Bytes;

@@ -1,5 +1,3 @@
-use Rattle.std.proofs.Common.{ap}
-use Rattle.mt_view.specs.State.{IsAfresh}
 use Rattle.mt_build.specs.Build.{BuildView}
 use Rattle.mt_build.specs.History.{LeadsTo}
 use Rattle.mt_build.proofs.HistoryLemmas.{led_is_afresh}

@@ -1,9 +1,9 @@
-use Rattle.std.proofs.Common.{ℕ, List, Option, subst, sym, ap, ◌∙◌, Some}
+use Rattle.std.proofs.Common.{ℕ, List, Option, subst}
 use Rattle.std.specs.Prelude.{IsTrue}
 use Rattle.mt_types.specs.Views.{is_before}
 use Rattle.mt_slice.specs.Place.{AreBytes, place_of, under}
 use Rattle.mt_chart.specs.Scan.{AtMost}
-use Rattle.mt_build.specs.Build.{BuildView, IsBehindAll}
+use Rattle.mt_build.specs.Build.{IsBehindAll}
 use Rattle.mt_build.specs.BuildFields.{build_of}
 use Rattle.mt_build.proofs.PrefixLemmas.{behind_all}
 use Rattle.mt_build.proofs.build.Build.is_at_end.Goals as goal

@@ -1,5 +1,4 @@
-use Rattle.std.proofs.Common.{◌≡◌, ℕ, List, [], ap, sym, ◌∙◌, subst}
-use Rattle.mt_types.specs.declared.view.ViewSpec.{ViewSpec}
+use Rattle.std.proofs.Common.{◌≡◌, [], ap, sym, ◌∙◌, subst}
 use Rattle.mt_slice.specs.Place.{AreBytes, place_of}
 use Rattle.mt_scan.specs.Scan.{ScanView}
 use Rattle.mt_build.specs.Build.{first_key}

@@ -1,6 +1,6 @@
 use Rattle.std.proofs.Common.{◌≡◌, sym, ap, ◌∙◌, subst}
 use Rattle.std.proofs.lemmas.Result.{on_ok_weaker}
-use Rattle.mt_view.specs.State.{StateView, applied}
+use Rattle.mt_view.specs.State.{applied}
 use Rattle.mt_build.specs.Build.{BuildView}
 use Rattle.mt_build.specs.History.{LeadsTo}
 use Rattle.mt_build.proofs.HistoryLemmas.{deltas_lead}
