@@ -18,17 +18,17 @@ use Rattle.mt_chart.proofs.Entries.{among_cases}
 use Rattle.mt_chart.proofs.PlaceOrder.{not_both}
 use Rattle.mt_types.specs.Keys.{key_cmp}
 
-key_bytes : {V : Type 0} (x : List ℕ × V) (xs : List (List ℕ × V)) → KeysAreBytes xs → Among x xs → AreBytes x.0
+pub key_bytes : {V : Type 0} (x : List ℕ × V) (xs : List (List ℕ × V)) → KeysAreBytes xs → Among x xs → AreBytes x.0
 key_bytes x [] b i = elim i [ ]
 key_bytes x (y ∷ ys) b first = b.0
 key_bytes x (y ∷ ys) b (later i) = key_bytes x ys b.1 i
 
-among_place : {V : Type 0} (x : List ℕ × V) (xs : List (List ℕ × V)) → Among x xs → Among (record { key = place_of x.0; value = x.1 }) (as_places xs)
+pub among_place : {V : Type 0} (x : List ℕ × V) (xs : List (List ℕ × V)) → Among x xs → Among (record { key = place_of x.0; value = x.1 }) (as_places xs)
 among_place x [] i = elim i [ ]
 among_place x (y ∷ ys) first = first
 among_place x (y ∷ ys) (later i) = later (among_place x ys i)
 
-place_among : {V : Type 0} (y : Pair V) (xs : List (List ℕ × V)) → Among y (as_places xs) → (x : List ℕ × V) × Among x xs × (y ≡ record { key = place_of x.0; value = x.1 })
+pub place_among : {V : Type 0} (y : Pair V) (xs : List (List ℕ × V)) → Among y (as_places xs) → (x : List ℕ × V) × Among x xs × (y ≡ record { key = place_of x.0; value = x.1 })
 place_among y [] i = elim i [ ]
 place_among {V} y (x ∷ xs) i = go (place_among y xs) (among_cases y (record { key = place_of x.0; value = x.1 }) (as_places xs) i)
   where
@@ -61,7 +61,7 @@ ge_from k start b c h = go (key_three k start)
     go (inr (inl e)) = ap is_ge (subst (λ (w : List ℕ). key_cmp k w ≡ Equal) e (cmp_equal k))
     go (inr (inr g)) = ap is_ge (cmp_greater k start g)
 
-from_ge : (k start : List ℕ) → AreBytes k → AreBytes start → is_ge (key_cmp k start) ≡ true → AtMost (place_of start) (place_of k)
+pub from_ge : (k start : List ℕ) → AreBytes k → AreBytes start → is_ge (key_cmp k start) ≡ true → AtMost (place_of start) (place_of k)
 from_ge k start b c h = go (key_three k start)
   where
     go : KeyLess k start ⊎ ((k ≡ start) ⊎ KeyLess start k) → AtMost (place_of start) (place_of k)
@@ -98,7 +98,7 @@ keys_rise {V} (x ∷ xs) b r = and_true _ _ (below xs b.1 r.0) (keys_rise xs b.1
     below [] c h = refl
     below (y ∷ ys) c h = and_true _ _ (ap is_lt (cmp_less x.0 y.0 ((place_order x.0 y.0 b.0 c.0).1 (h (record { key = place_of y.0; value = y.1 }) first)))) (below ys c.1 (λ z i. h z (later i)))
 
-same_length : {V : Type 0} (xs : List (List ℕ × V)) → length (as_places xs) ≡ length xs
+pub same_length : {V : Type 0} (xs : List (List ℕ × V)) → length (as_places xs) ≡ length xs
 same_length [] = refl
 same_length (x ∷ xs) = ap suc (same_length xs)
 

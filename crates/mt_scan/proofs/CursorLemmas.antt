@@ -1,12 +1,14 @@
 -- The moves of a cursor, in its slices.
-use Rattle.std.proofs.Common.{ℕ, ◌≡◌, ◌<◌, ◌≤◌, ◌+◌, inl, inr, true, false, cond, leb, nat_eq, List, [], ◌∷◌, ◌++◌, length, take, drop, reverse, get_or, refl, sym, ap, ◌∙◌, arith}
+use Rattle.std.proofs.Common.{ℕ, ◌≡◌, ◌<◌, ◌≤◌, ◌+◌, inl, inr, Bool, true, false, cond, leb, nat_eq, List, [], ◌∷◌, ◌++◌, length, take, drop, reverse, get_or, refl, sym, ap, ◌∙◌, arith, rules}
 use Rattle.std.proofs.lemmas.Bool.{cases_lt, eqb-true, le-leb, cond-true, false≢true}
 use Rattle.std.proofs.lemmas.List.{take-append-drop, drop_more, drop_all, take_more, get_or_default, reverse-append, reverse-reverse, length-reverse, length-take-le}
-use Rattle.mt_slice.specs.Place.{Place, last, deeper, under, place_of, slice_number}
-use Rattle.mt_slice.specs.Classes.{class_number, class_of}
+use Rattle.std.specs.declared.cmp.Ordering.{Ordering}
+use Rattle.mt_slice.specs.Place.{Place, last, deeper, under, place_of, place_cmp, slice_number}
+use Rattle.mt_slice.specs.Classes.{IsClass, class_number, class_of, place_at}
+use Rattle.mt_slice.specs.declared.slice_class.Class.{Class}
 use Rattle.mt_slice.specs.declared.slice_class.Class.TheVariants.{Len, Long}
 use Rattle.mt_slice.proofs.PlaceOn.{place_of-short}
-use Rattle.mt_scan.specs.Cursor.{CursorView, place_from, cursor_view, is_inside, entered_at, Leaves}
+use Rattle.mt_scan.specs.Cursor.{CursorView, place_from, place_with, cursor_view, is_inside, entered_at, Leaves}
 
 pub under-last : (above : List ℕ) (slice : ℕ) (rest : Place) → under (above ++ slice ∷ []) rest ≡ deeper slice (under above rest)
 under-last [] slice rest = refl
@@ -104,3 +106,21 @@ module _ (slices : List ℕ) (class depth slice : ℕ) (old : CursorView) (withi
   inside-here own more here =
       let same : own ≡ get_or slices depth 0 = here ∙ get_or_default slices depth own 0 within in
       ap (λ s. nat_eq s slice) same ∙ sym (ap (is_inside slice) (at_deeper slices class depth within more)) ∙ ap (λ (c : CursorView). is_inside slice c.at) is
+
+-- the place of a class by its number
+with-number : (slice : ℕ) (c : Class) (rest : Place) → IsClass c → place_with slice (class_number c) rest ≡ place_at slice c rest
+with-number slice (Len bytes) rest h = ap (λ (b : Bool). cond b (deeper slice rest) (last slice bytes)) (no_nine bytes h)
+  where
+    no_nine : (n : ℕ) → n ≤ 8 → nat_eq n 9 ≡ false
+    no_nine n le = search (rules, le)
+with-number slice Long rest h = refl
+
+-- bytes as they compare with a cursor
+pub compared : (lent slices : List ℕ) (class depth : ℕ) (old : CursorView) (bytes rest : List ℕ) (slice : ℕ) (c : Class) (number : ℕ) (order : Ordering) → depth < length slices
+    → cursor_view slices class depth ≡ old → lent ≡ slices → rest ≡ drop 8 bytes → IsClass c → number ≡ class_number c → place_of bytes ≡ place_at slice c (place_of (drop 8 bytes))
+    → order ≡ place_cmp (place_with slice number (place_of rest)) (place_from class lent) → order ≡ place_cmp (place_of bytes) (under old.prefix old.at)
+compared lent slices class depth old bytes rest slice c number order within is same follows known numbered place e =
+    e ∙ ap (λ (n : ℕ). place_cmp (place_with slice n (place_of rest)) (place_from class lent)) numbered
+    ∙ ap (λ (p : Place). place_cmp p (place_from class lent)) (with-number slice c (place_of rest) known ∙ ap (λ (r : List ℕ). place_at slice c (place_of r)) follows ∙ sym place)
+    ∙ ap (λ (ss : List ℕ). place_cmp (place_of bytes) (place_from class ss)) same
+    ∙ ap (λ (v : CursorView). place_cmp (place_of bytes) v.at) (restarted slices class depth within old is)

@@ -78,6 +78,10 @@ at_most x y le = go (three x y)
     go (inr (inl e)) = inl e
     go (inr (inr h)) = absurd (let f : false ≡ true = sym (ap is_le (place_cmp-greater x y h)) ∙ le in cc)
 
+pub from_at_most : (x y : Place) → AtMost x y → is_le (place_cmp x y) ≡ true
+from_at_most x y (inl e) = ap is_le ((place_cmp-Equal x y).1 e)
+from_at_most x y (inr h) = ap is_le (place_cmp-less x y h)
+
 pub after : (x y : Place) → is_le (place_cmp x y) ≡ false → Precedes y x
 after x y no_le = go (three x y)
   where

@@ -1,6 +1,7 @@
 //! The cursor of a scan: a place of the tree, and the layer in which the scan stands.
 
 ghost use Rattle.std.specs.Prelude.{◌≡◌, ◌<◌, ◌≤◌, ◌≢◌, ◌∷◌, ◌++◌, [], length, vec_len, take, reverse, IfOk, OnOk};
+ghost use Rattle.std.specs.Ordering.{is_le};
 ghost use Rattle.mt_slice.specs.Place.{last, under, place_of, place_cmp, first_slice};
 ghost use Rattle.mt_scan.specs.Cursor.{StepsAt, Leaves, is_inside, entered_at, place_from, place_with, content_end};
 
@@ -119,6 +120,21 @@ impl Cursor {
         ensures { self.new ≡ record { prefix = []; at = under self.old.prefix self.old.at } }
     {
         self.depth = 0;
+    }
+
+    /// Whether it is at or behind the place of these bytes. Costs a look at each slice of them at most.
+    pub(crate) fn is_from(&self, bytes: &[u8]) -> bool
+        ensures { result ≡ is_le (place_cmp (place_of bytes.now) (under self.now.prefix self.now.at)) }
+    {
+        let (slice, class) = slice_of(bytes);
+        compare(
+            slice,
+            class.number(),
+            rest_of(bytes),
+            &self.slices,
+            self.class,
+        )
+        .is_le()
     }
 
     // How what stands at an entry compares with the cursor: the row's key, or the end of the link's layer.

@@ -1,9 +1,9 @@
 //! The scan itself: what it keeps from one visit of a border to the next, and what a visit does.
 
 ghost use Rattle.std.specs.Prelude.{◌≡◌, ◌<◌, ◌↔◌, [], ◌∷◌, length, option_map, IfOk, IsSome, IsTrue, IsFalse, OnOk};
-ghost use Rattle.mt_slice.specs.Place.{first_slice, place_of, under};
+ghost use Rattle.mt_slice.specs.Place.{AreBytes, first_slice, place_of, under};
 ghost use Rattle.mt_border.specs.Entry.{entry_row};
-ghost use Rattle.mt_chart.specs.Scan.{AtEnd};
+ghost use Rattle.mt_chart.specs.Scan.{AtEnd, AtMost};
 ghost use Rattle.mt_chart.specs.KeyAnswer.{as_places, KeysAreBytes};
 ghost use Rattle.mt_tree.specs.Seen.{right_seen};
 ghost use Rattle.mt_scan.specs.Cursor.{StepsAt, entered_at};
@@ -114,6 +114,15 @@ impl Scan {
         ensures { self.new ≡ record self.old { prefix = []; at = under self.old.prefix self.old.at } }
     {
         self.cursor.restart();
+    }
+
+    /// Whether its cursor is at or behind the place of a key: then it is done with each key before that one. Costs a
+    /// look at each slice of the key at most.
+    pub fn is_from(&self, key: &[u8]) -> bool
+        ensures value { IsTrue result ↔ AtMost (place_of key.now) (under self.now.prefix self.now.at) }
+        ensures bytes { AreBytes key.now }
+    {
+        self.cursor.is_from(key)
     }
 
     // Whether it has as many pairs as it may take.

@@ -21,11 +21,11 @@ both : (a b : Bool) → T a → T b → T (a && b)
 both true b p q = q
 both false b p q = p
 
-first : (a b : Bool) → T (a && b) → T a
+pub first : (a b : Bool) → T (a && b) → T a
 first true b p = tt
 first false b p = p
 
-second : (a b : Bool) → T (a && b) → T b
+pub second : (a b : Bool) → T (a && b) → T b
 second true b p = p
 second false b p = absurd p
 
@@ -40,10 +40,10 @@ equal Equal p = refl
 equal Greater p = cc
 
 -- keys that tie are the same
-same_key : (q k : List ℕ) → eq_by_cmp key_cmp q k ≡ true → q ≡ k
+pub same_key : (q k : List ℕ) → eq_by_cmp key_cmp q k ≡ true → q ≡ k
 same_key q k t = key_apart q k (equal (key_cmp q k) t)
 
-below_none : (q : List ℕ) (es : Entries) → T (below_all key_cmp q es) → map.find key_cmp q es ≡ None
+pub below_none : (q : List ℕ) (es : Entries) → T (below_all key_cmp q es) → map.find key_cmp q es ≡ None
 below_none q [] h = refl
 below_none q (e ∷ es) h =
     ap (λ o. cond (is_eq o) (Some e.1) (map.find key_cmp q es)) (less (key_cmp q e.0) (first _ _ h)) ∙ below_none q es (second _ _ h)
@@ -104,7 +104,7 @@ afresh_from_each state rows h =
     map.same_map key_order key_apart _ _ (λ q. h q ∙ sym (get-afresh state.spec rows q) ∙ sym (map.get-from_sorted key_cmp (afresh state.spec rows) q sorted)) in
     ap map.entries same ∙ map.entries-from_sorted key_cmp (afresh state.spec rows) sorted
 
-belonging-cond : (spec : ViewSpec) (q key : List ℕ) (row old : Option Row)
+pub belonging-cond : (spec : ViewSpec) (q key : List ℕ) (row old : Option Row)
     → cond (eq_by_cmp key_cmp q key) (belonging spec key row) (belonging spec q old) ≡ belonging spec q (cond (eq_by_cmp key_cmp q key) row old)
 belonging-cond spec q key row old =
     elim (eq_by_cmp key_cmp q key) as (λ b. eq_by_cmp key_cmp q key ≡ b → cond b (belonging spec key row) (belonging spec q old) ≡ belonging spec q (cond b row old)) [

@@ -1,6 +1,7 @@
--- Lemmas on keys and amounts, on sorted maps, on sums and on when a state is afresh.
+-- Lemmas on keys and amounts, on lists of pairs, on sorted maps, on sums and on when a state is afresh.
 pub mod AfreshLemmas
 pub mod MapLemmas
 pub mod MemberLemmas
+pub mod PairLemmas
 pub mod StateLemmas
 pub mod SumLemmas

@@ -1,12 +1,14 @@
 -- Laws of states: what a delta leaves true, and what an afresh state shows.
-use Rattle.std.specs.Prelude.{ℕ, ◌≡◌, ◌↔◌, List, take}
-use Rattle.std.specs.FinMap.{get}
+use Rattle.std.specs.Prelude.{ℕ, ◌≡◌, ◌↔◌, IsTrue, List, take}
+use Rattle.std.specs.FinMap.{get, entries, empty, is_sorted}
+use Rattle.mt_types.specs.Keys.{key_cmp}
 use Rattle.mt_types.specs.Rows.{Rows, after}
+use Rattle.mt_types.specs.declared.row.Row.{Row}
 use Rattle.mt_promise.specs.History.{Moment, StandingView}
 use Rattle.mt_promise.specs.Legal.{page_of}
 use Rattle.mt_types.specs.declared.row.Delta.{Delta}
 use Rattle.mt_commit.specs.Deltas.{redo}
-use Rattle.mt_view.specs.State.{StateView, IsAfresh, belonging, applied, page_of_state}
+use Rattle.mt_view.specs.State.{StateView, IsAfresh, belonging, applied, with_pairs, page_of_state}
 
 -- a state is afresh for some rows exactly where it holds, under each key, the row that stands there, if it belongs to
 --     the view
@@ -20,6 +22,11 @@ abbrev pub AppliedIsAfresh : Type 0
 AppliedIsAfresh =
     (state : StateView) (delta : Delta) (rows : Rows) → IsAfresh state rows
     → IsAfresh (applied delta state) (redo delta rows)
+
+-- rows that are told by pairs in the order of their keys are exactly those pairs
+abbrev pub SortedPairsAreRows : Type 0
+SortedPairsAreRows =
+    (pairs : List (List ℕ × Row)) → IsTrue (is_sorted key_cmp pairs) → entries (with_pairs pairs empty) ≡ pairs
 
 -- the state is that of a standing view: it has its specification and its number, and is afresh for the rows at that
 --     number of commits of an index of C columns

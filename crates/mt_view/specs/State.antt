@@ -1,6 +1,6 @@
 -- The state of a view as its contracts see it: what a delta makes of it, what it shows, and when it is afresh.
-use Rattle.std.specs.Prelude.{ℕ, ◌≡◌, if◌then◌else◌, List, length, Option, Some, None}
-use Rattle.std.specs.FinMap.{entries}
+use Rattle.std.specs.Prelude.{ℕ, ◌≡◌, if◌then◌else◌, List, [], ◌∷◌, length, Option, Some, None}
+use Rattle.std.specs.FinMap.{entries, insert}
 use Rattle.mt_types.specs.Rows.{Rows}
 use Rattle.mt_types.specs.Views.{afresh, belongs, column_sums, page_from}
 use Rattle.mt_types.specs.declared.row.Row.{Row}
@@ -31,6 +31,11 @@ applied delta state =
 -- the state holds what its view shows of these rows
 abbrev pub IsAfresh : StateView → Rows → Type 0
 IsAfresh state rows = entries state.rows ≡ afresh state.spec rows
+
+-- the rows with these, each in place of what stood under its key
+abbrev pub with_pairs : List (List ℕ × Row) → Rows → Rows
+with_pairs [] rows = rows
+with_pairs (pair ∷ pairs) rows = with_pairs pairs (insert rows pair.0 pair.1)
 
 -- the first rows of the state from a key on, up to a limit, with its number, its count and its sums
 abbrev pub page_of_state : StateView → List ℕ → ℕ → Page

@@ -1,6 +1,6 @@
 //! What holds of the states of views, as laws. Their bodies do nothing.
 
-ghost use Rattle.mt_view.specs.Laws.{AfreshByKey, AppliedIsAfresh, ShowsPage};
+ghost use Rattle.mt_view.specs.Laws.{AfreshByKey, AppliedIsAfresh, SortedPairsAreRows, ShowsPage};
 
 /// A state is afresh for some rows exactly where it holds, under each key, the row that stands there, if that belongs
 /// to the view.
@@ -11,6 +11,11 @@ pub fn afresh_is_told_by_key()
 /// A state that is afresh for some rows is, after a delta, afresh for the rows with that delta.
 pub fn deltas_keep_afresh()
     ensures { AppliedIsAfresh }
+{}
+
+/// Pairs in the order of their keys are the rows that they tell, one by one.
+pub fn sorted_pairs_are_rows()
+    ensures { SortedPairsAreRows }
 {}
 
 /// The state of a standing view shows exactly the page of that view.

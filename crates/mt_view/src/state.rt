@@ -49,8 +49,8 @@ impl Model for ViewState {
 }
 
 impl ViewState {
-    ghost use Rattle.mt_commit.specs.Deltas.{redo};
-    ghost use Rattle.mt_view.specs.State.{StateView, IsAfresh, belonging, applied, page_of_state};
+    ghost use Rattle.mt_commit.specs.Deltas.{redo, with_row};
+    ghost use Rattle.mt_view.specs.State.{StateView, IsAfresh, belonging, applied, with_pairs, page_of_state};
 
     /// The state of a view of no rows, at number 0, which sums `columns` columns. O(n) in `columns`; one allocation.
     pub fn open(alloc: Global, columns: u8, spec: ViewSpec) -> Result<ViewState, NoMemory>
@@ -69,6 +69,31 @@ impl ViewState {
             rows: BTreeMap::new(alloc),
             sums: vec![in alloc; 0u128; columns as usize]?,
         })
+    }
+
+    /// The state of a view of these rows, each with its key, at the number of a commit: it holds those that belong to
+    /// the view. Of two rows of one key the later counts. It sums `columns` columns. Shares the bytes. O(n log n) in
+    /// the rows, with an allocation for each.
+    ///
+    /// # Errors
+    ///
+    /// `NoMemory` where an allocation is refused.
+    pub fn open_at(
+        alloc: Global,
+        columns: u8,
+        spec: ViewSpec,
+        at: u64,
+        pairs: &[(Key, Row)],
+    ) -> Result<ViewState, NoMemory>
+        ensures afresh { IfOk result (λ state. IsAfresh state (with_pairs pairs.now map.empty)) }
+        ensures spec { IfOk result (λ state. state.spec ≡ spec) }
+        ensures columns { IfOk result (λ state. state.columns ≡ columns) }
+        ensures number { IfOk result (λ state. state.at ≡ at) }
+    {
+        let mut state = ViewState::open(alloc, columns, spec)?;
+        state.at = at;
+        state.take_in(pairs)?;
+        Ok(state)
     }
 
     /// The number of the commit at which the state stands.
@@ -110,6 +135,37 @@ impl ViewState {
             _ => self.take_out(&delta.key),
         }
         self.at = delta.number;
+        Ok(())
+    }
+
+    /// Takes in rows that were read, each with its key, in place of what the state shows under that key: it holds those
+    /// that belong to the view. Its number stays. Shares the bytes. O(m log n) for m rows, with an allocation for each.
+    ///
+    /// # Errors
+    ///
+    /// `NoMemory` where an allocation is refused: some of the rows may then have been taken in.
+    pub fn take_in(&mut self, pairs: &[(Key, Row)]) -> Result<(), NoMemory>
+        ensures afresh { OnOk result ((rows : Rows) → IsAfresh self.old rows
+            → IsAfresh self.new (with_pairs pairs.now rows)) }
+        ensures kept { self.new ≡ record self.old { rows = self.new.rows } }
+    {
+        for (key, row) in pairs {
+            self.hold(key, row)?;
+        }
+        Ok(())
+    }
+
+    // Holds the row under the key where it belongs to the view, and else none.
+    fn hold(&mut self, key: &Key, row: &Row) -> Result<(), NoMemory>
+        ensures ok { OnOk result (self.new ≡ record self.old {
+          rows = with_row key.now (belonging self.old.spec key.now (Some row.now)) self.old.rows;
+        }) }
+        ensures err { OnErr result (self.new ≡ self.old) }
+    {
+        if belongs(&self.spec, key, row) {
+            return self.put(key, row);
+        }
+        self.take_out(key);
         Ok(())
     }
 

@@ -5,7 +5,7 @@ use bytes::Bytes;
 use mt_types::copying::TryCopy;
 use mt_types::key::Key;
 use mt_types::refusal::Refusal;
-use mt_types::row::{Columns, Delta, Row};
+use mt_types::row::{Columns, Delta, Pairs, Row};
 use mt_types::view::{Page, RowTest, ViewSpec};
 use std::alloc::Global;
 use std::test::Fail;
@@ -128,6 +128,32 @@ fn first_from_b(state: &ViewState) -> Result<(usize, u64), Refusal> {
 fn page_from_a_key(rt: HostRuntime) -> Result<(), Fail> {
     let state = walked(rt.alloc(), range(RowTest::Any), &THREE_KEYS)?;
     assert_eq!(rt; first_from_b(&state)?, (1, 2));
+    Ok(())
+}
+
+// Three rows that were read, of commits 2, 3 and 4.
+fn pairs_read(alloc: Global) -> Result<Pairs, Refusal> {
+    let mut pairs = Vec::new(alloc);
+    for (index, (key, column, _, _)) in THREE_KEYS.iter().enumerate() {
+        let key = Key::new(Bytes::from_static(*key))?;
+        pairs.push((key, row(alloc, index as u64 + 2, *column)?))?;
+    }
+    Ok(Pairs::from_vec(pairs))
+}
+
+// Of the rows from key b on. It stands at commit 7, and key c has its row of commit 3.
+#[test]
+fn state_over_rows(rt: HostRuntime) -> Result<(), Fail> {
+    let alloc = rt.alloc();
+    let pairs = pairs_read(alloc)?;
+    let lo = Bytes::from_static(b"b");
+    let test = RowTest::Any;
+    let spec = ViewSpec::Range { lo, hi: None, test };
+    let mut state = ViewState::open_at(alloc, 1, spec, 7, pairs.as_slice())?;
+    assert_eq!(rt; (state.at(), state.count(), state.sum(0)), (7, 2, 5));
+    assert_eq!(rt; first_from_b(&state)?, (1, 3));
+    take_on(alloc, &mut state, 8, &(b"a", b"\x01", 2, 5))?;
+    take_on(alloc, &mut state, 9, &(b"c", b"", 1, 3))?;
     Ok(())
 }
 
