@@ -2,3 +2,4 @@
 pub mod Writing
 pub mod Works
 pub mod Causes
+pub mod Follows

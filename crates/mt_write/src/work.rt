@@ -4,6 +4,7 @@ ghost use Rattle.std.specs.Prelude.{◌≡◌, IfOk};
 ghost use Rattle.mt_promise.specs.Legal.{reads_log};
 ghost use Rattle.mt_calls.specs.Step.{StepLaw, MayStep};
 ghost use Rattle.mt_write.specs.Causes.{WorkWaits, WorkFails};
+ghost use Rattle.mt_write.specs.Follows.{WorkFollows};
 ghost use Rattle.mt_write.specs.Works.{request_of, held, IsTrue, IsNew, IsServedRequest};
 
 use crate::writing::{Edit, Stage, Write};
@@ -43,6 +44,7 @@ impl Work {
         ensures steps { StepLaw columns tree.old tree.new log.old log.new (request_of self.old) (held self.old) result (held self.new) (IsTrue columns self.old) (IsTrue columns self.new) }
         ensures waits { WorkWaits tree.old self.old result }
         ensures fails { WorkFails tree.old log.old self.old result self.new }
+        ensures gets_on { WorkFollows tree.old self.old result self.new }
     {
         match self {
             Work::Get(get) => get.step(alloc, tree),

@@ -2,6 +2,7 @@
 
 ghost use Rattle.std.specs.Prelude.{◌≡◌, ◌≢◌, ◌⊎◌, ℕ, Some, None};
 ghost use Rattle.mt_commit.specs.Log.{LogView};
+ghost use Rattle.mt_write.specs.Follows.{Follows, WriteFollows};
 ghost use Rattle.mt_write.specs.Causes.{WriteWaits, WriteFails, StageFails, IsPosting, PostingWaits, BorderWaits, IsNotRefused, IsNotFailed};
 ghost use Rattle.mt_calls.specs.Step.{StepLaw, MayStep};
 ghost use Rattle.mt_write.specs.Writing.{write_request, write_held, written_answer, WriteIsTrue, StageLaw, MayStage, ending_stage};
@@ -170,6 +171,7 @@ impl Write {
         ensures steps { (C : ℕ) (log : LogView) → StepLaw C tree.old tree.new log log (write_request self.old) (write_held self.old) result (write_held self.new) (WriteIsTrue C self.old) (WriteIsTrue C self.new) }
         ensures waits { BorderWaits tree.old self.old.way.node.0 result }
         ensures fails { IsNotRefused result × IsNotFailed self.new.stage }
+        ensures gets_on { Follows tree.old self.old.key self.old.way Stage.Seeks result self.new.way self.new.stage }
     {
         match self.way.visit(tree, &self.key) {
             Went::Again => {
@@ -200,6 +202,7 @@ impl Write {
         ensures steps { StageLaw columns tree.old tree.new log.old log.new self.old (Stage.Locked) result self.new }
         ensures waits { BorderWaits tree.old self.old.way.node.0 result }
         ensures fails { StageFails tree.old log.old self.old.key self.old.edit self.old.way Stage.Locked result self.new.stage }
+        ensures gets_on { Follows tree.old self.old.key self.old.way Stage.Locked result self.new.way self.new.stage }
     {
         let number = self.way.node;
         match &self.edit {
@@ -231,6 +234,7 @@ impl Write {
         ensures steps { (C : ℕ) (log : LogView) → StageLaw C tree.old tree.new log log self.old (Stage.Spared half cut entries) result self.new }
         ensures waits { BorderWaits tree.old self.old.way.node.0 result }
         ensures fails { IsNotRefused result × IsNotFailed self.new.stage }
+        ensures gets_on { Follows tree.old self.old.key self.old.way (Stage.Spared half cut entries) result self.new.way self.new.stage }
     {
         fill_spare(tree, self.way.node, half, entries);
         self.stage = Stage::HalfFilled { half, cut };
@@ -244,6 +248,7 @@ impl Write {
         ensures steps { (C : ℕ) (log : LogView) → StageLaw C tree.old tree.new log log self.old (Stage.HalfFilled half cut) result self.new }
         ensures waits { BorderWaits tree.old self.old.way.node.0 result }
         ensures fails { IsNotRefused result × IsNotFailed self.new.stage }
+        ensures gets_on { Follows tree.old self.old.key self.old.way (Stage.HalfFilled half cut) result self.new.way self.new.stage }
     {
         let left = self.way.node;
         self.way = link_halves(tree, self.way, &self.key, half, cut);
@@ -265,6 +270,7 @@ impl Write {
         ensures steps { StageLaw columns tree.old tree.new log.old log.new self.old (Stage.Halved split) result self.new }
         ensures waits { BorderWaits tree.old self.old.way.node.0 result }
         ensures fails { StageFails tree.old log.old self.old.key self.old.edit self.old.way (Stage.Halved split) result self.new.stage }
+        ensures gets_on { Follows tree.old self.old.key self.old.way (Stage.Halved split) result self.new.way self.new.stage }
     {
         self.stage = fill_half(
             alloc, columns, tree, log, self.way, split, &self.key, &self.edit,
@@ -279,6 +285,7 @@ impl Write {
         ensures steps { (C : ℕ) (log : LogView) → StageLaw C tree.old tree.new log log self.old (Stage.LayerSpared layer entries) result self.new }
         ensures waits { BorderWaits tree.old self.old.way.node.0 result }
         ensures fails { IsNotRefused result × IsNotFailed self.new.stage }
+        ensures gets_on { Follows tree.old self.old.key self.old.way (Stage.LayerSpared layer entries) result self.new.way self.new.stage }
     {
         tree.fill_border(layer.root, entries, None);
         self.stage = Stage::LayerFilled(layer);
@@ -292,6 +299,7 @@ impl Write {
         ensures steps { (C : ℕ) (log : LogView) → StageLaw C tree.old tree.new log log self.old (Stage.LayerFilled layer) result self.new }
         ensures waits { BorderWaits tree.old self.old.way.node.0 result }
         ensures fails { IsNotRefused result × IsNotFailed self.new.stage }
+        ensures gets_on { Follows tree.old self.old.key self.old.way (Stage.LayerFilled layer) result self.new.way self.new.stage }
     {
         tree.unlock_head(layer.head);
         self.stage = Stage::LayerReady(layer);
@@ -305,6 +313,7 @@ impl Write {
         ensures steps { (C : ℕ) (log : LogView) → StageLaw C tree.old tree.new log log self.old (Stage.LayerReady layer) result self.new }
         ensures waits { BorderWaits tree.old self.old.way.node.0 result }
         ensures fails { IsNotRefused result × IsNotFailed self.new.stage }
+        ensures gets_on { Follows tree.old self.old.key self.old.way (Stage.LayerReady layer) result self.new.way self.new.stage }
     {
         tree.make_link(self.way.node, layer.place, layer.head);
         self.stage = Stage::Layered(layer.head);
@@ -318,6 +327,7 @@ impl Write {
         ensures steps { (C : ℕ) (log : LogView) → StageLaw C tree.old tree.new log log self.old (Stage.Layered head) result self.new }
         ensures waits { BorderWaits tree.old self.old.way.node.0 result }
         ensures fails { IsNotRefused result × IsNotFailed self.new.stage }
+        ensures gets_on { Follows tree.old self.old.key self.old.way (Stage.Layered head) result self.new.way self.new.stage }
     {
         let _bytes = rest_of(&self.key, self.way.layer);
         tree.unlock_border(self.way.node);
@@ -350,6 +360,7 @@ impl Write {
         ensures steps { (C : ℕ) (log : LogView) → StageLaw C tree.old tree.new log log self.old (Stage.Posts posting ending) result self.new }
         ensures waits { PostingWaits tree.old posting result }
         ensures fails { (log : LogView) → StageFails tree.old log self.old.key self.old.edit self.old.way (Stage.Posts posting ending) result self.new.stage }
+        ensures gets_on { Follows tree.old self.old.key self.old.way (Stage.Posts posting ending) result self.new.way self.new.stage }
     {
         let mut posting = posting;
         match posting.step(tree) {
@@ -376,6 +387,7 @@ impl Write {
         ensures steps { (C : ℕ) (log : LogView) → StageLaw C tree.old tree.new log log self.old (Stage.Stored commit split) result self.new }
         ensures waits { BorderWaits tree.old self.old.way.node.0 result }
         ensures fails { IsNotRefused result × IsNotFailed self.new.stage }
+        ensures gets_on { Follows tree.old self.old.key self.old.way (Stage.Stored commit split) result self.new.way self.new.stage }
     {
         let Some(split) = split else {
             tree.unlock_border(self.way.node);
@@ -392,6 +404,7 @@ impl Write {
         ensures steps { (C : ℕ) (log : LogView) → StageLaw C tree.old tree.new log log self.old (Stage.Failed refusal split) result self.new }
         ensures waits { BorderWaits tree.old self.old.way.node.0 result }
         ensures fails { (log : LogView) → StageFails tree.old log self.old.key self.old.edit self.old.way (Stage.Failed refusal split) result self.new.stage }
+        ensures gets_on { Follows tree.old self.old.key self.old.way (Stage.Failed refusal split) result self.new.way self.new.stage }
     {
         let Some(split) = split else {
             tree.unlock_border(self.way.node);
@@ -408,6 +421,7 @@ impl Write {
         ensures steps { StepLaw columns tree.old tree.new log.old log.new (write_request self.old) (write_held self.old) result (write_held self.new) (WriteIsTrue columns self.old) (WriteIsTrue columns self.new) }
         ensures waits { WriteWaits tree.old self.old result }
         ensures fails { WriteFails tree.old log.old self.old result self.new }
+        ensures gets_on { WriteFollows tree.old self.old result self.new }
     {
         let number = self.way.node;
         match mem::replace(&mut self.stage, Stage::Seeks) {
