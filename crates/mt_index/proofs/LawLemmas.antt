@@ -7,9 +7,9 @@ use Rattle.mt_types.specs.declared.row.Change.{Change}
 use Rattle.mt_types.specs.declared.row.Delta.{Delta}
 use Rattle.mt_promise.specs.History.{moment, rows}
 use Rattle.mt_commit.specs.Deltas.{FitsNewestFirst, rows_before}
-use Rattle.mt_index.specs.Logged.{key_of, delta_made, deltas_of}
+use Rattle.mt_commit.specs.Logged.{key_of, delta_made, deltas_of}
 use Rattle.mt_index.specs.Laws.{LogTellsThePast, LogFits, EachCommitIsLogged}
-use Rattle.mt_index.proofs.DeltaLemmas.{redone, last_undone, all_fit, delta_at, taken_more}
+use Rattle.mt_commit.proofs.DeltaLemmas.{redone, last_undone, all_fit, delta_at, taken_more}
 
 pub log_tells_the_past : LogTellsThePast
 log_tells_the_past s h number st =

@@ -5,5 +5,4 @@ pub mod PastLemmas
 pub mod StepStands
 pub mod EventStands
 pub mod CauseLemmas
-pub mod DeltaLemmas
 pub mod LawLemmas

@@ -44,11 +44,11 @@ use Rattle.mt_write.specs.declared.writing.Edit.{Edit}
 use Rattle.mt_write.specs.declared.writing.Edit.TheVariants.{Put as PutEdit, Remove as RemoveEdit}
 use Rattle.mt_write.specs.Writing.{edit_request}
 use Rattle.mt_write.specs.Works.{request_of, held, IsTrue}
-use Rattle.mt_index.specs.Logged.{key_of, delta_made, deltas_of}
+use Rattle.mt_commit.specs.Logged.{key_of, delta_made, deltas_of}
 use Rattle.mt_index.specs.Paired.{Paired}
 use Rattle.mt_index.specs.Calls.{call_at, with_changed, with_work, without, AreApart, all_reserved}
 use Rattle.mt_index.specs.Stands.{AllOwned, MachineView, CallStands, HasRowsOf, IsPast, Stands}
-use Rattle.mt_index.proofs.DeltaLemmas.{delta_is, deltas_of-append}
+use Rattle.mt_commit.proofs.DeltaLemmas.{delta_is, deltas_of-append}
 use Rattle.mt_index.proofs.PastLemmas.{past_more, right_range}
 use Rattle.mt_index.proofs.NumberLemmas.{Entries}
 use Rattle.mt_index.proofs.PairedLemmas.{Others, Found, paired-change, paired-without, paired-each, paired-one}

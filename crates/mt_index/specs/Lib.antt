@@ -2,5 +2,4 @@ pub mod Calls
 pub mod Paired
 pub mod Stands
 pub mod Causes
-pub mod Logged
 pub mod Laws

@@ -1,0 +1,13 @@
+//! The checker of receipts: whether each answer of an index was right, told from the deltas of its log.
+#![tactic(auto)]
+
+mod calls;
+pub mod check;
+pub mod fault;
+mod judge;
+mod log;
+mod pages;
+mod ranges;
+pub mod receipt;
+mod versions;
+mod writes;
