@@ -1,6 +1,7 @@
 -- Lemmas on the versions of keys, and on a log that is read.
 pub mod CallLemmas
 pub mod CheckLemmas
+pub mod CommitLemmas
 pub mod EntryLemmas
 pub mod JudgeLemmas
 pub mod LogLemmas
@@ -9,4 +10,5 @@ pub mod PageLemmas
 pub mod RangeLemmas
 pub mod VersionLemmas
 pub mod WalkLemmas
+pub mod WorthLemmas
 pub mod WriteLemmas

@@ -5,6 +5,7 @@ mod calls;
 pub mod check;
 pub mod fault;
 mod judge;
+pub mod laws;
 mod log;
 mod pages;
 mod ranges;
