@@ -37,6 +37,18 @@ pub fn is_asked(columns: u8, receipt: &Receipt) -> bool
     }
 }
 
+/// Whether each receipt is one that `check` takes.
+pub fn are_asked(columns: u8, receipts: &[Receipt]) -> bool
+    ensures { IsTrue result ↔ All (IsAsked columns) receipts.now }
+{
+    for receipt in receipts {
+        if !is_asked(columns, receipt) {
+            return false;
+        }
+    }
+    true
+}
+
 // No marks, for so many numbers.
 fn new_marks(alloc: Global, count: usize) -> Result<Vec<bool>, NoMemory>
     ensures { IfOk result (λ marks. marks.items ≡ replicate count false) }

@@ -4,6 +4,8 @@ ghost use Rattle.std.specs.Prelude.{◌≡◌};
 ghost use Rattle.mt_check.specs.Faults.{rule_number, IsWantOfMemory};
 
 use mt_types::refusal::NoMemory;
+use std::fmt;
+use std::fmt::{Display, Formatter, Write};
 
 /// What a log and its receipts have to keep, in the order in which the rules of one line are told.
 #[derive(Clone, Copy, Debug, PartialEq, Eq)]
@@ -45,6 +47,14 @@ impl Rule {
             Rule::RangeAnswer => 7,
             Rule::ViewPage => 8,
         }
+    }
+}
+
+impl Display for Rule {
+    /// The number.
+    fn fmt<W: Write>(&self, f: &mut Formatter<W>) -> Result<(), fmt::Error> {
+        let number = self.number();
+        write!(f, "{number}")
     }
 }
 

@@ -10,5 +10,7 @@ mod log;
 mod pages;
 mod ranges;
 pub mod receipt;
+#[cfg(test)]
+mod tests;
 mod versions;
 mod writes;
