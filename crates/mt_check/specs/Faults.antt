@@ -63,7 +63,8 @@ AreClean {X} Breaks lines count =
     (i : ℕ) (line : X) (rule : Rule) → i < count → slice_get lines i ≡ Some line → ¬ Breaks (take i lines) line rule
 
 -- The first line that breaks a rule, counted from 1, and the smallest rule that it breaks.
-pub record IsFirstFault {X : Type 0} (Breaks : List X → X → Rule → Type 0) (lines : List X) (fault : Fault) : Type 0 where
+pub record IsFirstFault {X : Type 0} (Breaks : List X → X → Rule → Type 0) (lines : List X)
+    (fault : Fault) : Type 0 where
   pub line : X
   pub there : 0 < fault.index
   pub at : slice_get lines (fault.index - 1) ≡ Some line

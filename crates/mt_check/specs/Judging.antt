@@ -21,7 +21,8 @@ pub record IsRead (deltas : List Delta) (versions : Versions) : Type 0 where
 abbrev pub MadeBy : ℕ → Delta → Change → Type 0
 MadeBy C delta (Put key sets) =
     (delta.key ≡ key)
-    × (delta.after ≡ Some (record { version = delta.number; columns = new_columns sets 0 (columns_before C delta.before) }))
+    × (delta.after
+    ≡ Some (record { version = delta.number; columns = new_columns sets 0 (columns_before C delta.before) }))
 MadeBy C delta (Drop key) = (delta.key ≡ key) × (delta.after ≡ None)
 
 -- the state of a view over the log's rows at its number

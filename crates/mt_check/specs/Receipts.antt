@@ -1,4 +1,4 @@
--- When a receipt is sound against the deltas of a log, where the rows at each number of commits are what the deltas say.
+-- When a receipt is sound against the deltas of a log: the rows at each number of commits are what the deltas say.
 use Rattle.std.specs.Prelude.{ℕ, ◌-◌, ◌≡◌, ◌<◌, ◌≤◌, ◌⊎◌, List, [], ◌∷◌, take, length, slice_get, Option, Some, None, IsSome, IfSome}
 use Rattle.std.specs.FinMap.{get, empty}
 use Rattle.mt_types.specs.Limits.{request_fault, spec_fault, page_fault}
@@ -133,7 +133,8 @@ claim (Page spec floor start limit page from to) = None
 
 -- a receipt among these claims the number
 abbrev pub IsClaimed : List Receipt → ℕ → Type 0
-IsClaimed receipts number = (i : ℕ) × (receipt : Receipt) × (slice_get receipts i ≡ Some receipt) × (claim receipt ≡ Some number)
+IsClaimed receipts number =
+    (i : ℕ) × (receipt : Receipt) × (slice_get receipts i ≡ Some receipt) × (claim receipt ≡ Some number)
 
 -- the number that the receipt claims is claimed by one of these too
 abbrev pub ClaimsAgain : List Receipt → Receipt → Type 0

@@ -95,9 +95,9 @@ fn gives(
     Ok(walk(&log.versions, &asked, span, pairs))
 }
 
-/// Whether an answer is right for a call over a span. A get costs O(log n + m) in the keys and its key's versions in the
-/// span; a put or remove O(1) and the row that it makes; a range O(log n + m) in the keys and those that it covers, with
-/// their versions in the span.
+/// Whether an answer is right for a call over a span. A get costs O(log n + m) in the keys and its key's versions in
+/// the span; a put or remove O(1) and the row that it makes; a range O(log n + m) in the keys and those that it covers,
+/// with their versions in the span.
 pub(crate) fn is_right_answer(
     alloc: Global,
     log: &Log<'_>,

@@ -18,8 +18,8 @@ use mt_types::refusal::NoMemory;
 use mt_types::row::Delta;
 use std::alloc::Global;
 
-/// Whether a receipt is one that `check` takes, of an index of `columns` columns: of a get, put, remove or range, or of a
-/// page, whose request, or specification, start and limit, would not be refused for a limit.
+/// Whether a receipt is one that `check` takes, of an index of `columns` columns: of a get, put, remove or range, or of
+/// a page, whose request, or specification, start and limit, would not be refused for a limit.
 pub fn is_asked(columns: u8, receipt: &Receipt) -> bool
     ensures { IsTrue result ↔ IsAsked columns receipt.now }
 {
@@ -92,15 +92,15 @@ fn judge(alloc: Global, log: &Log<'_>, receipts: &[Receipt]) -> Result<(), Fault
 
 /// Whether each receipt is sound against a log, from its first commit on, of an index of `columns` columns.
 ///
-/// Reading the log costs O(n log n) in the deltas. Then a get costs O(log n + m) in the keys and its key's commits within
-/// its span, a put or remove O(1) and the row that it makes, a range O(log n + m) in the keys and those that it covers
-/// with their commits within its span, and a page the deltas from the page of the same view before it (of up to 64 that
-/// are kept), or from the first on where that one stands later.
+/// Reading the log costs O(n log n) in the deltas. Then a get costs O(log n + m) in the keys and its key's commits
+/// within its span, a put or remove O(1) and the row that it makes, a range O(log n + m) in the keys and those that it
+/// covers with their commits within its span, and a page the deltas from the page of the same view before it (of up to
+/// 64 that are kept), or from the first on where that one stands later.
 ///
 /// # Errors
 ///
-/// The first fault in the order of the deltas and then of the receipts, and of one delta or receipt the smallest rule that
-/// it breaks; or want of memory.
+/// The first fault in the order of the deltas and then of the receipts, and of one delta or receipt the smallest rule
+/// that it breaks; or want of memory.
 pub fn check(
     alloc: Global,
     columns: u8,

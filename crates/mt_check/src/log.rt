@@ -44,7 +44,8 @@ fn fits(delta: &Delta, standing: Option<&Row>) -> bool
 
 fn delta_fault(delta: &Delta, place: u64, standing: Option<&Row>) -> Option<Rule>
     ensures fine { result ≡ None → (delta.now.number ≡ place) × FitsRow (option_copied standing.entry) delta.now }
-    ensures fault { IfSome result (λ rule. IsSmallest (BreaksThere place (option_copied standing.entry) delta.now) rule) }
+    ensures fault { IfSome result (λ rule.
+        IsSmallest (BreaksThere place (option_copied standing.entry) delta.now) rule) }
 {
     if delta.number != place {
         Some(Rule::DeltaNumber)

@@ -40,7 +40,8 @@ fn from_key<'a>(versions: &'a Versions, start: &Key) -> Range<'a, Key, Vec<Versi
 pub(crate) fn walk(versions: &Versions, asked: &Asked<'_>, span: Span, pairs: &[(Key, Row)]) -> bool
     requires { (key : List ℕ) → Rising 0 (versions_in versions.now key) }
     ensures ordered { IsOrdered key_cmp versions.now.of }
-    ensures walked { result ≡ walks_in versions.now asked.now.start.now asked.now.limit asked.now.columns.now span.from span.to
+    ensures walked { result
+        ≡ walks_in versions.now asked.now.start.now asked.now.limit asked.now.columns.now span.from span.to
         pairs.now }
 {
     let full = pairs.len() >= asked.limit as usize;

@@ -89,7 +89,8 @@ pub(crate) fn is_put_at(
     sets: &Sets,
 ) -> Result<bool, NoMemory>
     requires { IsSoundLog deltas.now }
-    ensures { IfOk result (λ yes. IsTrue yes ↔ IsCommit columns deltas.now span.from span.to number (Put key.now sets.now)) }
+    ensures { IfOk result (λ yes. IsTrue yes
+        ↔ IsCommit columns deltas.now span.from span.to number (Put key.now sets.now)) }
 {
     match commit_at(deltas, span, number) {
         Some(delta) => is_put(alloc, columns, delta, key, sets),
