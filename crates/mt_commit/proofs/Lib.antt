@@ -3,3 +3,4 @@ pub mod HolderLemmas
 pub mod LogLemmas
 pub mod RowLemmas
 pub mod CountLemmas
+pub mod DeltaLemmas

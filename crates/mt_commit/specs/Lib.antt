@@ -4,3 +4,4 @@ pub mod Holders
 pub mod Laws
 pub mod Log
 pub mod LogFields
+pub mod Logged

@@ -5,7 +5,7 @@ use Rattle.std.specs.Prelude.{IsTrue as IsTrueBool}
 use Rattle.mt_types.specs.Keys.{key_cmp}
 use Rattle.mt_types.specs.Rows.{Rows, after}
 use Rattle.mt_tree.specs.Seen.{arena_seen, HasRow}
-use Rattle.mt_index.specs.Logged.{deltas_of}
+use Rattle.mt_commit.specs.Logged.{deltas_of}
 use Rattle.std.specs.Prelude.{min, nat_le, Contains, filter, MatchOption, Result, Ok, Err}
 use Rattle.mt_types.specs.declared.refusal.Refusal.{Refusal}
 use Rattle.mt_types.specs.declared.row.Row.{Row}

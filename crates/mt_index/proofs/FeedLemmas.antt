@@ -9,7 +9,8 @@ use Rattle.mt_types.specs.declared.row.Delta.{Delta}
 use Rattle.mt_types.specs.declared.refusal.Refusal.TheVariants.{Behind}
 use Rattle.mt_commit.specs.Log.{LogView, newest, delta_of}
 use Rattle.mt_promise.specs.History.{History, moment}
-use Rattle.mt_index.specs.Logged.{deltas_of, feed_fault, deltas_after}
+use Rattle.mt_commit.specs.Logged.{deltas_of}
+use Rattle.mt_index.specs.Feed.{feed_fault, deltas_after}
 use Rattle.mt_index.specs.Stands.{MachineView, Stands}
 use Rattle.mt_index.proofs.NumberLemmas.{or_none}
 use Rattle.mt_index.proofs.LawLemmas.{slice_get-drop}

@@ -8,14 +8,14 @@ use Rattle.mt_types.specs.declared.row.Delta.{Delta}
 use Rattle.std.proofs.lemmas.List.{drop-drop}
 use Rattle.mt_promise.specs.History.{History, moment, rows}
 use Rattle.mt_commit.specs.Deltas.{FitsNewestFirst, rows_before}
-use Rattle.mt_index.specs.Logged.{key_of, delta_made, deltas_of}
+use Rattle.mt_commit.specs.Logged.{key_of, delta_made, deltas_of}
 use Rattle.mt_index.specs.Laws.{LogTellsThePast, LogFits, EachCommitIsLogged}
 use Rattle.mt_commit.specs.Log.{LogView, newest, slowest}
 use Rattle.mt_commit.proofs.RowLemmas.{trimming_fits}
 use Rattle.mt_promise.specs.Legal.{held_from}
 use Rattle.mt_index.specs.Stands.{MachineView}
 use Rattle.mt_index.proofs.LogStands.{slowest_is}
-use Rattle.mt_index.proofs.DeltaLemmas.{deltas_of-length, redone, last_undone, all_fit, delta_at, taken_more}
+use Rattle.mt_commit.proofs.DeltaLemmas.{deltas_of-length, redone, last_undone, all_fit, delta_at, taken_more}
 
 pub log_tells_the_past : LogTellsThePast
 log_tells_the_past s h number st reaches =

@@ -6,6 +6,5 @@ pub mod LogStands
 pub mod StepStands
 pub mod EventStands
 pub mod CauseLemmas
-pub mod DeltaLemmas
 pub mod LawLemmas
 pub mod FeedLemmas

@@ -21,7 +21,7 @@ use Rattle.mt_calls.specs.declared.progress.Progress.{Progress}
 use Rattle.mt_calls.specs.declared.progress.Progress.TheVariants.{Moved, Waits, Committed, Answered, Refused}
 use Rattle.mt_index.specs.declared.calls.Call.{Call}
 use Rattle.mt_write.specs.Works.{request_of}
-use Rattle.mt_index.specs.Logged.{deltas_of}
+use Rattle.mt_commit.specs.Logged.{deltas_of}
 use Rattle.mt_index.specs.Paired.{Paired}
 use Rattle.mt_index.specs.Calls.{call_at, total}
 use Rattle.mt_index.specs.Stands.{holding, WasBlocked, released, pinned, log_after}

@@ -45,11 +45,11 @@ use Rattle.mt_write.specs.declared.writing.Edit.{Edit}
 use Rattle.mt_write.specs.declared.writing.Edit.TheVariants.{Put as PutEdit, Remove as RemoveEdit}
 use Rattle.mt_write.specs.Writing.{edit_request}
 use Rattle.mt_write.specs.Works.{request_of, held, IsTrue}
-use Rattle.mt_index.specs.Logged.{key_of, delta_made, deltas_of}
+use Rattle.mt_commit.specs.Logged.{key_of, delta_made, deltas_of}
 use Rattle.mt_index.specs.Paired.{Paired}
 use Rattle.mt_index.specs.Calls.{call_at, with_changed, with_work, without, AreApart, total, all_reserved}
 use Rattle.mt_index.specs.Stands.{AllOwned, MachineView, CallStands, WasBlocked, HasRowsOf, IsPast, Stands, holding}
-use Rattle.mt_index.proofs.DeltaLemmas.{delta_is, deltas_of-append, deltas_of-length}
+use Rattle.mt_commit.proofs.DeltaLemmas.{delta_is, deltas_of-append, deltas_of-length}
 use Rattle.mt_index.proofs.LogStands.{holds_from, all-held, slowest_is, trims, was_later, blocked_now}
 use Rattle.mt_index.proofs.PastLemmas.{past_more, right_range}
 use Rattle.mt_index.proofs.NumberLemmas.{Entries}

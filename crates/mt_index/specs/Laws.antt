@@ -7,7 +7,7 @@ use Rattle.mt_types.specs.declared.row.Delta.{Delta}
 use Rattle.mt_promise.specs.History.{History, moment, rows}
 use Rattle.mt_commit.specs.Log.{delta_of}
 use Rattle.mt_commit.specs.Deltas.{Fits, redo, rows_at}
-use Rattle.mt_index.specs.Logged.{key_of}
+use Rattle.mt_commit.specs.Logged.{key_of}
 use Rattle.mt_index.specs.Stands.{MachineView, Stands}
 
 -- the present rows, with the deltas after a number that the log reaches undone from the newest on, are those after the first so many

@@ -2,5 +2,5 @@ pub mod Calls
 pub mod Paired
 pub mod Stands
 pub mod Causes
-pub mod Logged
 pub mod Laws
+pub mod Feed

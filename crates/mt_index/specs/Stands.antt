@@ -30,7 +30,7 @@ use Rattle.mt_calls.specs.declared.progress.Progress.TheVariants.{Moved as WentO
 use Rattle.mt_calls.specs.World.{World, IsWorld, IsTaken}
 use Rattle.mt_write.specs.Works.{request_of, held, IsTrue, IsNew, IsServedRequest}
 use Rattle.mt_index.specs.Paired.{Paired}
-use Rattle.mt_index.specs.Logged.{deltas_of}
+use Rattle.mt_commit.specs.Logged.{deltas_of}
 use Rattle.mt_index.specs.Calls.{CallsView, call_at, without, AreApart, all_reserved, StepsCall}
 
 -- the machine as contracts see it

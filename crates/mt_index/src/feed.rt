@@ -1,7 +1,7 @@
 //! The feed: what a reader of the log is given, the deltas of the commits after a number.
 
 ghost use Rattle.std.specs.Prelude.{◌≡◌, IfOk, IfErr, MatchOption, Err};
-ghost use Rattle.mt_index.specs.Logged.{feed_fault, deltas_after};
+ghost use Rattle.mt_index.specs.Feed.{feed_fault, deltas_after};
 
 use mt_commit::log::Log;
 use mt_types::copying::TryCopy;

@@ -38,16 +38,16 @@ both : (a b : Bool) → T a → T b → T (a && b)
 both true b p q = q
 both false b p q = p
 
-below_from_all : (k : List ℕ) (es : Entries) → AllByRecursion (λ y. key_cmp k y ≡ Less) (keys_of es) → T (below_all key_cmp k es)
+below_from_all : {X : Type 0} (k : List ℕ) (es : List (List ℕ × X)) → AllByRecursion (λ y. key_cmp k y ≡ Less) (keys_of es) → T (below_all key_cmp k es)
 below_from_all k [] h = tt
 below_from_all k (e ∷ es) h = both _ _ (subst (λ r. T (is_lt r)) (sym h.0) tt) (below_from_all k es h.1)
 
-sorted_entries : (es : Entries) → IsStrictlySortedBy key_cmp (keys_of es) → T (map.is_sorted key_cmp es)
+pub sorted_entries : {X : Type 0} (es : List (List ℕ × X)) → IsStrictlySortedBy key_cmp (keys_of es) → T (map.is_sorted key_cmp es)
 unfolding IsStrictlySortedBy
 sorted_entries [] h = tt
 sorted_entries (e ∷ es) h = both _ _ (below_from_all e.0 es h.0) (sorted_entries es h.1)
 
-find_lookup : (q : List ℕ) (es : Entries) → map.find key_cmp q es ≡ lookup (tree.is_at (key_cmp q)) es
+pub find_lookup : {X : Type 0} (q : List ℕ) (es : List (List ℕ × X)) → map.find key_cmp q es ≡ lookup (tree.is_at (key_cmp q)) es
 find_lookup q [] = refl
 find_lookup q (e ∷ es) = ap (cond (eq_by_cmp key_cmp q e.0) (Some e.1)) (find_lookup q es)
 
@@ -94,6 +94,6 @@ from_start : (start k : List ℕ) → (is_le (key_cmp start k) && true) ≡ is_g
 from_start start k = turned (key_cmp start k) ∙ ap is_ge (sym (key_order.antisymm k start))
 
 -- the range of a sorted map from a key on
-pub between-from : (start : List ℕ) (es : Entries) → entries_between key_cmp (Included start) Unbounded es ≡ filter (λ pair. is_ge (key_cmp pair.0 start)) es
+pub between-from : {X : Type 0} (start : List ℕ) (es : List (List ℕ × X)) → entries_between key_cmp (Included start) Unbounded es ≡ filter (λ pair. is_ge (key_cmp pair.0 start)) es
 between-from start [] = refl
 between-from start (e ∷ es) = λ t. cond (from_start start e.0 t) (e ∷ between-from start es t) (between-from start es t)

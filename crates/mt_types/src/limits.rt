@@ -163,7 +163,9 @@ fn range_fault(columns: u8, lo: &Bytes, hi: &Bytes, test: &RowTest) -> Option<Re
         .or_else(|| end_fault(lo, hi))
 }
 
-fn spec_fault(columns: u8, spec: &ViewSpec) -> Option<Refusal>
+/// The first limit that a specification of a view breaks on an index of `columns` columns: of keys, then of its test, then
+/// that its range ends before it begins.
+pub fn spec_fault(columns: u8, spec: &ViewSpec) -> Option<Refusal>
     ensures { result ≡ spec_fault columns spec.now }
 {
     match spec {

@@ -1,15 +1,10 @@
 -- What the log holds: the deltas of changes, one for each, in their order.
-use Rattle.std.specs.Prelude.{ℕ, ◌+◌, ◌-◌, nat_lt, List, [], ◌∷◌, take, drop, Option}
-use Rattle.std.specs.Option.{option_or}
+use Rattle.std.specs.Prelude.{ℕ, ◌+◌, List, [], ◌∷◌}
 use Rattle.std.specs.FinMap.{get, empty}
 use Rattle.mt_types.specs.Rows.{Rows, after_change}
 use Rattle.mt_types.specs.declared.row.Change.{Change}
 use Rattle.mt_types.specs.declared.row.Change.TheVariants.{Put, Drop}
 use Rattle.mt_types.specs.declared.row.Delta.{Delta}
-use Rattle.mt_types.specs.declared.refusal.Refusal.{Refusal}
-use Rattle.mt_types.specs.declared.refusal.Refusal.TheVariants.{Behind}
-use Rattle.mt_types.specs.Limits.{limit_fault, refused_if}
-use Rattle.mt_commit.specs.Log.{LogView}
 
 -- the key whose row a change makes or takes away
 abbrev pub key_of : Change → List ℕ
@@ -35,11 +30,3 @@ deltas_from C number rows (change ∷ changes) =
 -- the deltas of these changes of an index of C columns, from none on: the i-th is that of the commit of number i
 abbrev pub deltas_of : ℕ → List Change → List Delta
 deltas_of C changes = deltas_from C 0 empty changes
-
--- why a reader isn't given the deltas after a number: the limit is out of its bounds, or some of them were trimmed
-abbrev pub feed_fault : LogView → ℕ → ℕ → Option Refusal
-feed_fault log from limit = option_or (limit_fault limit) (refused_if (nat_lt from log.held_after) (Behind log.held_after))
-
--- the deltas of the commits after a number that a log has, so many at most
-abbrev pub deltas_after : LogView → ℕ → ℕ → List Delta
-deltas_after log from limit = take limit (drop (from - log.held_after) log.deltas)

@@ -10,7 +10,7 @@ use Rattle.mt_types.specs.declared.row.Change.TheVariants.{Put, Drop}
 use Rattle.mt_types.specs.declared.row.Delta.{Delta}
 use Rattle.mt_commit.specs.Deltas.{with_row, redo, undo, rows_before, FitsNewestFirst}
 use Rattle.mt_commit.proofs.RowLemmas.{done_is_undone, undone_leaves_before, rows_before-append}
-use Rattle.mt_index.specs.Logged.{key_of, delta_made, deltas_from, deltas_of}
+use Rattle.mt_commit.specs.Logged.{key_of, delta_made, deltas_from, deltas_of}
 
 -- the row that is put under a key, or none, is there
 pub get-row_put : (key : List ℕ) (row : Option Row) (rows : Rows) → get (with_row key row rows) key ≡ row

@@ -1,0 +1,8 @@
+-- When an audit says that all is right: what a reader must believe.
+pub mod Receipts
+pub mod Faults
+pub mod Worth
+-- behind it: what the code computes
+pub mod Versions
+pub mod Ranges
+pub mod Judging

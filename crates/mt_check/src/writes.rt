@@ -1,0 +1,116 @@
+//! Whether the answer of a put or a remove is right over a span of numbers.
+
+ghost use Rattle.std.specs.Prelude.{◌≡◌, ◌↔◌, ◌-◌, ◌&&◌, nat_lt, nat_le, if◌then◌else◌, slice_get, None, IsTrue, IfOk};
+ghost use Rattle.std.specs.Option.{option_copied};
+ghost use Rattle.mt_types.specs.Rows.{new_columns, columns_before};
+ghost use Rattle.mt_types.specs.declared.row.Change.TheVariants.{Put, Drop as DropChange};
+ghost use Rattle.mt_check.specs.Receipts.{IsSoundLog, IsCommit};
+ghost use Rattle.mt_check.specs.Judging.{MadeBy};
+
+use crate::ranges::Span;
+use bytes::Bytes;
+use mt_promise::exact::Exact;
+use mt_rows::columns::{new_row, rewrite};
+use mt_types::copying::TryCopy;
+use mt_types::refusal::NoMemory;
+use mt_types::row::{Delta, Row, Sets};
+use std::alloc::Global;
+
+// The row that a put by the commit of this number makes of the row before it.
+fn put_row(
+    alloc: Global,
+    columns: u8,
+    number: u64,
+    before: &Option<Row>,
+    sets: &Sets,
+) -> Result<Row, NoMemory>
+    ensures { IfOk result (λ row. row ≡ record {
+      version = number;
+      columns = new_columns sets.now 0 (columns_before columns before.now);
+    }) }
+{
+    let sets = sets.copy(alloc)?;
+    match before {
+        Some(row) => {
+            let mut made = row.copy(alloc)?;
+            rewrite(alloc, &mut made, number, sets);
+            Ok(made)
+        }
+        None => new_row(alloc, columns, number, sets),
+    }
+}
+
+fn is_put(
+    alloc: Global,
+    columns: u8,
+    delta: &Delta,
+    key: &Bytes,
+    sets: &Sets,
+) -> Result<bool, NoMemory>
+    ensures { IfOk result (λ yes. IsTrue yes ↔ MadeBy columns delta.now (Put key.now sets.now)) }
+{
+    match &delta.after {
+        Some(after) if delta.key.as_slice() == key.as_slice() => {
+            let made = put_row(alloc, columns, delta.number, &delta.before, sets)?;
+            Ok(after.is_same(&made))
+        }
+        _ => Ok(false),
+    }
+}
+
+fn is_drop(columns: u8, delta: &Delta, key: &Bytes) -> bool
+    ensures { IsTrue result ↔ MadeBy columns delta.now (DropChange key.now) }
+{
+    delta.key.as_slice() == key.as_slice() && delta.after.is_none()
+}
+
+// The delta of a number, where it is after the begin of a span and not after its end.
+fn commit_at(deltas: &[Delta], span: Span, number: u64) -> Option<&Delta>
+    ensures { option_copied result ≡ (if nat_lt span.from number && nat_le number span.to
+        then slice_get deltas.now (number - 1)
+        else None) }
+{
+    if span.from < number && number <= span.to {
+        deltas.get((number - 1) as usize)
+    } else {
+        None
+    }
+}
+
+/// Whether the commit of this number is in the span and put these bytes under the key. O(n) in the columns, with an
+/// allocation for the row that the put makes.
+pub(crate) fn is_put_at(
+    alloc: Global,
+    columns: u8,
+    deltas: &[Delta],
+    span: Span,
+    number: u64,
+    key: &Bytes,
+    sets: &Sets,
+) -> Result<bool, NoMemory>
+    requires { IsSoundLog deltas.now }
+    ensures { IfOk result (λ yes. IsTrue yes
+        ↔ IsCommit columns deltas.now span.from span.to number (Put key.now sets.now)) }
+{
+    match commit_at(deltas, span, number) {
+        Some(delta) => is_put(alloc, columns, delta, key, sets),
+        None => Ok(false),
+    }
+}
+
+/// Whether the commit of this number is in the span and took the key's row away. O(1).
+pub(crate) fn is_drop_at(
+    columns: u8,
+    deltas: &[Delta],
+    span: Span,
+    number: u64,
+    key: &Bytes,
+) -> bool
+    requires { IsSoundLog deltas.now }
+    ensures { IsTrue result ↔ IsCommit columns deltas.now span.from span.to number (DropChange key.now) }
+{
+    match commit_at(deltas, span, number) {
+        Some(delta) => is_drop(columns, delta, key),
+        None => false,
+    }
+}
