@@ -1,5 +1,5 @@
-//! Builds by example, over a border without entries: rows that come into a view and leave it, large sums, and a scan
-//! that ends with its view's keys. What a build reads of entries is said by its contract in full.
+//! Builds by example, over a border without entries: rows that come into a view and leave it, and a scan that
+//! ends with its view's keys. What a build reads of entries is said by its contract in full.
 
 use crate::build::Build;
 use bytes::Bytes;
@@ -24,28 +24,6 @@ const COME_AND_GO: [Step; 4] = [
     (b"a", b"\x05", 1, 5),
     (b"a", b"\x04", 0, 0),
     (b"a", b"", 0, 0),
-];
-
-// Of each row: nine bytes count 0.
-const LARGE: [Step; 3] = [
-    (
-        b"\x01",
-        b"\xff\xff\xff\xff\xff\xff\xff\xff",
-        1,
-        18_446_744_073_709_551_615,
-    ),
-    (
-        b"\x02",
-        b"\xff\xff\xff\xff\xff\xff\xff\xff",
-        2,
-        36_893_488_147_419_103_230,
-    ),
-    (
-        b"\x03",
-        b"\x01\x02\x03\x04\x05\x06\x07\x08\x09",
-        3,
-        36_893_488_147_419_103_230,
-    ),
 ];
 
 fn row(alloc: Global, version: u64, column: Bytes) -> Result<Row, Refusal> {
@@ -108,13 +86,6 @@ fn in_and_out_of_a_view(rt: HostRuntime) -> Result<(), Fail> {
         let state = built(rt.alloc(), spec, &COME_AND_GO[..end + 1])?;
         expect(&state, end as u64 + 1, step)?;
     }
-    Ok(())
-}
-
-#[test]
-fn large_sums(rt: HostRuntime) -> Result<(), Fail> {
-    let state = built(rt.alloc(), all_that(RowTest::Any), &LARGE)?;
-    expect(&state, 3, &LARGE[2])?;
     Ok(())
 }
 
