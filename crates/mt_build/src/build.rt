@@ -87,6 +87,13 @@ impl Build {
         })
     }
 
+    /// The number of commits at which its view stands so far: that of its begin, or of the last delta that was taken.
+    pub fn at(&self) -> u64
+        ensures { result ≡ self.now.state.at }
+    {
+        self.state.at()
+    }
+
     /// The slice that its scan seeks in its layer: it goes down to the border where that slice would stand.
     pub fn slice(&self) -> u64
         ensures { result ≡ first_slice self.now.at }

@@ -6,7 +6,7 @@ use Rattle.mt_types.specs.Keys.{key_cmp}
 use Rattle.mt_types.specs.Rows.{Rows, after}
 use Rattle.mt_tree.specs.Seen.{arena_seen, HasRow}
 use Rattle.mt_commit.specs.Logged.{deltas_of}
-use Rattle.std.specs.Prelude.{min, nat_le, Contains, filter, MatchOption, Result, Ok, Err}
+use Rattle.std.specs.Prelude.{min, nat_le, count_by, Contains, filter, MatchOption, Result, Ok, Err}
 use Rattle.mt_types.specs.declared.refusal.Refusal.{Refusal}
 use Rattle.mt_types.specs.declared.row.Row.{Row}
 use Rattle.mt_types.specs.declared.numbers.PassNo.{PassNo}
@@ -16,18 +16,19 @@ use Rattle.mt_types.specs.declared.event.Request.{Request}
 use Rattle.mt_types.specs.declared.event.Request.TheVariants.{Get as GetRequest, Put as PutRequest, Remove, Range, Tidy, Build}
 use Rattle.mt_types.specs.declared.event.Outcome.{Outcome}
 use Rattle.mt_types.specs.declared.event.Outcome.TheVariants.{Call as Called, Moved as MovedOutcome, Again, Commit, Done, Applied, Current, View, Dropped, Epoch, Freed, Refused as RefusedOutcome}
-use Rattle.mt_types.specs.declared.refusal.Refusal.TheVariants.{NoSuchCall, TooManyCalls, Spent}
+use Rattle.mt_types.specs.declared.refusal.Refusal.TheVariants.{NoSuchCall, TooManyCalls, TooManyViews, Spent}
 use Rattle.mt_promise.specs.History.{History, Happening, OpenCall, StandingView, happening, moment, rows, after_step, after_call_step, change_of, new_call, view_built}
-use Rattle.mt_promise.specs.Legal.{MayHappen, MayBegin, MayStepAt, MayEnd, MayCommit, begin_fault, view_places, is_get}
+use Rattle.mt_promise.specs.Legal.{MayHappen, MayBegin, MayStepAt, MayEnd, MayCommit, begin_fault, view_places, is_get, is_build}
 use Rattle.mt_promise.specs.RightAnswers.{RightAnswer}
 use Rattle.mt_promise.proofs.HistoryLemmas.{happened_is}
 use Rattle.std.proofs.lemmas.Bool.{leb-false}
-use Rattle.std.proofs.lemmas.List.{append-nil, length-map}
+use Rattle.std.proofs.lemmas.List.{append-nil, length-map, length-append}
+use Rattle.std.proofs.Math.Nat.{min-le_left}
 use Rattle.std.proofs.lemmas.List.Sums.{length-filter, count_by-le-length}
 use Rattle.std.specs.Option.{option_or}
 use Rattle.mt_types.specs.Limits.{refused_if, request_fault}
 use Rattle.mt_types.specs.Numbers.{greatest_number}
-use Rattle.mt_types.specs.declared.limits.TheConstants.{MAX_OPEN_CALLS}
+use Rattle.mt_types.specs.declared.limits.TheConstants.{MAX_OPEN_CALLS, MAX_VIEWS}
 use Rattle.mt_types.specs.Numbers.{least}
 use Rattle.mt_types.specs.declared.row.Change.{Change}
 use Rattle.mt_types.specs.declared.event.Answer.{Answer}
@@ -44,8 +45,8 @@ use Rattle.mt_interior.specs.Head.{HeadView, new_head}
 use Rattle.mt_tree.specs.Seen.{head_seen}
 use Rattle.mt_tree.proofs.SeenLemmas.{seen-head}
 use Rattle.mt_index.specs.declared.calls.Call.{Call}
-use Rattle.mt_write.specs.declared.work.Work.{Work}
-use Rattle.mt_write.specs.declared.work.Work.TheVariants.{Get as GetWork, Write as WriteWork, Range as RangeWork}
+use Rattle.mt_works.specs.declared.work.Work.{Work}
+use Rattle.mt_works.specs.declared.work.Work.TheVariants.{Get as GetWork, Write as WriteWork, Range as RangeWork, Build as BuildWork}
 use Rattle.mt_slice.specs.Place.{Place}
 use Rattle.mt_calls.specs.declared.progress.Progress.{Progress}
 use Rattle.mt_calls.specs.declared.progress.Progress.TheVariants.{Moved, Waits, Committed, Answered, Refused}
@@ -58,27 +59,58 @@ use Rattle.mt_arena.proofs.NodeLemmas.{node-from_head, node-from_border}
 use Rattle.mt_chart.proofs.Basics.{same_number}
 use Rattle.mt_tree.specs.NewTree.{IsNewTree}
 use Rattle.mt_calls.specs.World.{IsLocked, IsTaken, World, IsWorld, RowsAreOfKeys, HeadsAreAlive, TwinsAreLocked, IsGone, RetiredAreGone, Goes}
-use Rattle.mt_calls.specs.Step.{Held, IsQuiet, Stepped, Commits, bounds, put_row}
+use Rattle.mt_calls.specs.Step.{Held, IsQuiet, IsRight, Stepped, Commits, bounds, put_row}
+use Rattle.mt_chart.specs.Tree.{Arena}
 use Rattle.mt_types.specs.declared.row.Change.TheVariants.{Put as PutChange, Drop}
 use Rattle.mt_write.specs.declared.writing.Write.{Write}
 use Rattle.mt_write.specs.declared.writing.Edit.{Edit}
 use Rattle.mt_write.specs.declared.writing.Edit.TheVariants.{Put as PutEdit, Remove as RemoveEdit}
 use Rattle.mt_write.specs.Writing.{edit_request}
-use Rattle.mt_write.specs.Works.{request_of, held, IsTrue, IsNew, IsServedRequest}
+use Rattle.mt_works.specs.Works.{request_of, held, IsTrue, IsNew, OpensAt, IsBuiltWork, WorkBuilds}
+use Rattle.mt_views.specs.Views.{ViewsView, places, standing}
+use Rattle.mt_index.specs.Viewing.{ViewsStand, ReadsFrom, ReadsOf}
+use Rattle.mt_index.proofs.Reading.{reads_still, reads_on, has_next}
+use Rattle.mt_index.proofs.ViewStands.{all_exact_still, builds_of, paired-builds, least_held}
 use Rattle.mt_index.specs.Paired.{Paired}
-use Rattle.mt_index.specs.Calls.{CallsView, call_at, with_changed, with_work, without, total, all_reserved, StepsCall, MayStepOf}
-use Rattle.mt_index.specs.Stands.{MachineView, CallStands, WasBlocked, HasRowsOf, IsPast, Stands, HasBounds, StepsOpen, Steps, holding, pinned, log_after, outcome_of, calls_after, Begins, fault_of, with_call}
+use Rattle.mt_index.specs.Calls.{CallsView, call_at, with_changed, with_work, without, total, all_reserved, StepsCall, MayStepOf, IsBuiltCall}
+use Rattle.mt_index.specs.Stands.{MachineView, CallStands, WasBlocked, HasRowsOf, IsPast, Stands, HasBounds, StepsOpen, Steps, holding, pinned, placed, log_after, views_after, outcome_of, calls_after, Begins, fault_of, with_call}
 use Rattle.mt_index.proofs.NumberLemmas.{Entries}
 use Rattle.mt_index.proofs.PairedLemmas.{Found, paired-some, paired-none, paired-above, paired-append, paired-length}
 use Rattle.mt_index.proofs.ListLemmas.{reserves, among_before, among_append, total_append, total_changed, total_without, without_changed}
-use Rattle.mt_index.proofs.NumberLemmas.{or_none, not_broken}
-use Rattle.mt_index.proofs.LogStands.{holds_from, froms, holders_after, log_after_is, pinned_is, least_pinned, held_less, held_more, reader_holds, length_by_counts, slowest_is, all-held, was_later}
-use Rattle.mt_index.proofs.StepStands.{HoldersAre, held_before, step_event, may_end, right_answer, apart_changed, apart_without, owned_on, owned_end, next_seen, calls_on, calls_end, content_still, still, commit_stands}
+use Rattle.mt_index.proofs.NumberLemmas.{or_none}
+use Rattle.mt_index.proofs.LogStands.{holds_from, froms, holders_after, log_after_is, pinned_is, least_pinned, held_less, held_more, reader_counts, reader_holds, length_by_counts, slowest_is, all-held, was_later}
+use Rattle.mt_index.proofs.StepStands.{HoldersAre, held_before, builds_before, with_building, step_event, may_end, right_answer, apart_changed, apart_without, owned_on, owned_end, next_seen, calls_on, calls_end, content_still, keys_still, grows_still, still, commit_stands}
 use Rattle.mt_index.proofs.PastLemmas.{past_later, past_new}
+
+-- ---- the places of builds after a step
+abbrev building_after : Bool → Progress → ℕ → ℕ
+building_after builds (Answered answer) building = cond builds (building - 1) building
+building_after builds (Refused refusal) building = cond builds (building - 1) building
+building_after builds _ building = building
+
+views_after_is : (builds : Bool) (p : Progress) (views : ViewsView) → views_after builds p views ≡ with_building (building_after builds p views.building) views
+views_after_is true (Answered answer) views = refl
+views_after_is false (Answered answer) views = refl
+views_after_is true (Refused refusal) views = refl
+views_after_is false (Refused refusal) views = refl
+views_after_is builds Moved views = refl
+views_after_is builds Waits views = refl
+views_after_is builds (Committed number) views = refl
+
+-- the log reaches back to the begin of a call that reads it
+pub held_reaches : (s : MachineView) (h : History) (st : Stands s h) (n : ℕ) (kept : Call) → call_at n s.calls.calls ≡ Some kept → reads_log (request_of kept.work) ≡ true → s.log.held_after ≤ kept.from
+held_reaches s h st n kept at reads =
+    let held = reader_counts n _ kept s.calls.calls s.log.holders at (held_before s h st kept.from) reads in
+    let low = least_held (newest s.log) kept.from s.log.holders held in
+    let is = slowest_is s.log (moment h) st.commits st.held in
+    let trim = st.trimmed in
+    let less = min-le_left (held_from (moment h)) (length (moment h).commits - s.log.keep) in
+    omega (arith, low, is, trim, less)
 
 -- ---- a step of an open call
 module _ (s : MachineView) (h : History) (n : ℕ) (st : Stands s h) (kept : Call) (at : call_at n s.calls.calls ≡ Some kept) (f : Found (CallStands s.columns s.epoch s.tree st.w h) n kept (moment h).calls)
-    (then_tree : ArenaView) (left : LogView) (work : Work) (request : request_of work ≡ request_of kept.work) (pass : PassNo) (pass_is : pass ≡ kept.pass) (reads : Bool) (reads_is : reads ≡ reads_log (request_of kept.work)) (from : ℕ) (from_is : from ≡ kept.from) where
+    (then_tree : ArenaView) (left : LogView) (work : Work) (request : request_of work ≡ request_of kept.work) (pass : PassNo) (pass_is : pass ≡ kept.pass) (reads builds : Bool) (reads_is : reads ≡ reads_log (request_of kept.work)) (builds_is : builds ≡ is_build (request_of kept.work)) (from : ℕ) (from_is : from ≡ kept.from)
+    (unbuilt : IsBuiltWork kept.work → ⊥) where
   abbrev Law : Progress → Type 0
   Law p = Stepped s.columns s.epoch f.call.moves f.related.past s.tree then_tree s.log left st.w (request_of kept.work) (held kept.work) p (held work) (λ m next. IsTrue s.columns work kept.epoch m (arena_seen s.tree ∷ f.related.past) then_tree next)
 
@@ -87,7 +119,33 @@ module _ (s : MachineView) (h : History) (n : ℕ) (st : Stands s h) (kept : Cal
   settled p = record left { holders = holders_after reads from p left.holders }
 
   abbrev Leads : Progress → Type 0
-  Leads p = IsLog (settled p) → Stands (record { columns = s.columns; epoch = s.epoch; tree = then_tree; log = trimmed (settled p); calls = calls_after n p (record s.calls { calls = with_changed (with_work work) n s.calls.calls }) }) (happening (step_event n) (outcome_of n pass from (newest left) p) 0 ∷ h)
+  Leads p = WorkBuilds s.tree s.log kept.work p work → IsLog (settled p) → Stands (record { columns = s.columns; epoch = s.epoch; tree = then_tree; log = trimmed (settled p); calls = calls_after n p (record s.calls { calls = with_changed (with_work work) n s.calls.calls }); views = with_building (building_after builds p s.views.building) s.views }) (happening (step_event n) (outcome_of n pass from (newest left) p) 0 ∷ h)
+
+  -- what is true of a build is true after a step by which it goes on
+  reads_then : (p : Progress) → WorkBuilds s.tree s.log kept.work p work → ((refusal : Refusal) → p ≡ Refused refusal → ⊥) → ReadsOf s.columns (moment h).commits f.call.from work
+  reads_then p goes_on goes = reads_on s h st f.call.from f.call.began kept.epoch f.related.past f.related.passed kept.work work p (λ reader. let low = held_reaches s h st n kept at reader in let same = f.related.from in omega (arith, low, same)) goes_on request f.call.moves f.related.true unbuilt goes f.related.reads
+
+  -- for how many builds places are kept, where the call goes on, and where it ends
+  building_on : s.views.building ≡ total builds_of (with_changed (with_work work) n s.calls.calls)
+  building_on =
+      let all = builds_before s h st in
+      let changed = total_changed n kept builds_of (with_work work) s.calls.calls at in
+      let same : builds_of (with_work work kept) ≡ builds_of kept = ap (λ (q : Request). cond (is_build q) 1 0) request in
+      omega (arith, all, changed, same)
+
+  building_end : cond builds (s.views.building - 1) s.views.building ≡ total builds_of (without n s.calls.calls)
+  building_end =
+      let all = builds_before s h st in
+      let rest = total_without n kept builds_of s.calls.calls at in
+      let one : ◌≡◌ {A = ℕ} (cond builds 1 0) (builds_of kept) = ap (λ (b : Bool). cond b 1 0) builds_is in
+      less builds s.views.building _ (omega (arith, all, rest, one))
+    where
+      less : (b : Bool) (now left : ℕ) → left + cond b 1 0 ≡ now → cond b (now - 1) now ≡ left
+      less true now left is = omega (arith, is)
+      less false now left is = omega (arith, is)
+
+  fewer : cond builds (s.views.building - 1) s.views.building ≤ s.views.building
+  fewer = elim builds as (λ (b : Bool). cond b (s.views.building - 1) s.views.building ≤ s.views.building) [ true ↦ omega arith | false ↦ omega arith ]
 
   -- a step that commits nothing leaves the rows of the history
   alike : {owns : List ℕ} {Then : World → Type 0} (goes : Goes s.epoch s.tree then_tree st.w (held kept.work).owns owns Then) → bounds left ≡ bounds s.log → IsQuiet s.tree then_tree s.log left
@@ -118,61 +176,72 @@ module _ (s : MachineView) (h : History) (n : ℕ) (st : Stands s h) (kept : Cal
       held_less reads from number _ _ _ left.holders (before number same) (omega (arith, rest, one))
 
   -- a call that ends has ended
-  ended : (o : Outcome) (log : LogView) → Stands (next_seen s then_tree log (without n s.calls.calls)) (happening (step_event n) o 0 ∷ h) → Stands (next_seen s then_tree log (without n (with_changed (with_work work) n s.calls.calls))) (happening (step_event n) o 0 ∷ h)
-  ended o log t = subst (λ (l : Entries). Stands (next_seen s then_tree log l) (happening (step_event n) o 0 ∷ h)) (sym (without_changed (with_work work) n s.calls.calls)) t
+  ended : (o : Outcome) (log : LogView) (views : ViewsView) → Stands (next_seen s then_tree log views (without n s.calls.calls)) (happening (step_event n) o 0 ∷ h) → Stands (next_seen s then_tree log views (without n (with_changed (with_work work) n s.calls.calls))) (happening (step_event n) o 0 ∷ h)
+  ended o log views t = subst (λ (l : Entries). Stands (next_seen s then_tree log views l) (happening (step_event n) o 0 ∷ h)) (sym (without_changed (with_work work) n s.calls.calls)) t
 
   -- it builds no view
-  no_view : (work : Work) (answer : Answer) → view_built (request_of work) answer 0 ≡ []
-  no_view (GetWork g) answer = refl
-  no_view (RangeWork g) answer = refl
-  no_view (WriteWork g) answer = by_edit g.edit
+  no_view : (past : List Arena) (committed : Option ℕ) (work : Work) (answer : Answer) → IsRight past s.tree (request_of work) committed answer → view_built (request_of work) answer 0 ≡ []
+  no_view past committed (GetWork g) answer right = refl
+  no_view past committed (RangeWork g) answer right = refl
+  no_view past committed (BuildWork g) answer right = absurd right
+  no_view past committed (WriteWork g) answer right = by_edit g.edit
     where
       by_edit : (edit : Edit) → view_built (edit_request g.key edit) answer 0 ≡ []
       by_edit (PutEdit sets) = refl
       by_edit RemoveEdit = refl
 
-  views_stay : (reply : Reply) → (after_step (moment h) f.call (Done reply) 0).views ≡ (moment h).views
-  views_stay reply =
-      ap (λ (q : Request). (moment h).views ++ view_built q reply.answer 0) f.related.request
-      ∙ ap (λ (vs : List StandingView). (moment h).views ++ vs) (no_view kept.work reply.answer)
-      ∙ append-nil (moment h).views
+  none_built : (past : List Arena) (committed : Option ℕ) (reply : Reply) → IsRight past s.tree (request_of kept.work) committed reply.answer → view_built f.call.request reply.answer 0 ≡ []
+  none_built past committed reply right = ap (λ (q : Request). view_built q reply.answer 0) f.related.request ∙ no_view past committed kept.work reply.answer right
+
+  views_stay : (past : List Arena) (committed : Option ℕ) (reply : Reply) → IsRight past s.tree (request_of kept.work) committed reply.answer → (after_step (moment h) f.call (Done reply) 0).views ≡ (moment h).views
+  views_stay past committed reply right = ap (λ (vs : List StandingView). (moment h).views ++ vs) (none_built past committed reply right) ∙ append-nil (moment h).views
+
+  built_stays : (past : List Arena) (committed : Option ℕ) (reply : Reply) → IsRight past s.tree (request_of kept.work) committed reply.answer → (after_step (moment h) f.call (Done reply) 0).built ≡ (moment h).built
+  built_stays past committed reply right = let none = ap (λ (vs : List StandingView). length vs) (none_built past committed reply right) in omega (arith, none)
 
   commit_write : (number : ℕ) (g : Write) (edit : Edit) → g.edit ≡ edit → kept.work ≡ WriteWork g → Law (Committed number) → Leads (Committed number)
-  commit_write number g (PutEdit sets) e is l sound =
+  commit_write number g (PutEdit sets) e is l goes_on sound =
       let asked : f.call.request ≡ PutRequest g.key sets = f.related.request ∙ (ap request_of is ∙ ap (edit_request g.key) e) in
       let (before, changes) = subst (λ (r : Request). Commits s.columns s.tree then_tree s.log left r number) (ap request_of is ∙ ap (edit_request g.key) e) l.does.0 in
       commit_stands s h n kept st at f then_tree left work _ _ l.goes request l.bounds g.key before (Some (put_row s.columns number sets before)) number changes (PutChange g.key sets) refl (ap change_of asked)
       (λ stood. ap (λ (b : Option Row). insert (rows s.columns (moment h)) g.key (put_row s.columns number sets b)) stood)
       (λ next stood. subst (λ (r : Request). MayCommit s.columns h f.call r number) (sym asked) (next, f.related.committed ∙ l.does.1))
-      refl l.does.2 l.blocked l.goes.true (room_on l.reserved) sound (held_on l.bounds)
-  commit_write number g RemoveEdit e is l sound =
+      refl l.does.2 l.blocked l.goes.true (reads_then (Committed number) goes_on (λ refusal e. let clash : Committed number ≡ Refused refusal = e in cc)) (room_on l.reserved) sound (held_on l.bounds) building_on
+  commit_write number g RemoveEdit e is l goes_on sound =
       let asked : f.call.request ≡ Remove g.key = f.related.request ∙ (ap request_of is ∙ ap (edit_request g.key) e) in
       let (before, changes) = subst (λ (r : Request). Commits s.columns s.tree then_tree s.log left r number) (ap request_of is ∙ ap (edit_request g.key) e) l.does.0 in
       commit_stands s h n kept st at f then_tree left work _ _ l.goes request l.bounds g.key (Some before) None number changes (Drop g.key) refl (ap change_of asked)
       (λ stood. refl)
       (λ next stood. subst (λ (r : Request). MayCommit s.columns h f.call r number) (sym asked) (next, f.related.committed ∙ l.does.1, subst (λ (x : Option Row). IsSome x) (sym stood) refl))
-      refl l.does.2 l.blocked l.goes.true (room_on l.reserved) sound (held_on l.bounds)
+      refl l.does.2 l.blocked l.goes.true (reads_then (Committed number) goes_on (λ refusal e. let clash : Committed number ≡ Refused refusal = e in cc)) (room_on l.reserved) sound (held_on l.bounds) building_on
 
   commit_leads : (number : ℕ) (kind : Work) → kept.work ≡ kind → Law (Committed number) → Leads (Committed number)
-  commit_leads number (GetWork g) is l sound =
+  commit_leads number (GetWork g) is l goes_on sound =
       absurd (subst (λ (x : Work). Commits s.columns s.tree then_tree s.log left (request_of x) number) is l.does.0)
-  commit_leads number (RangeWork g) is l sound =
+  commit_leads number (BuildWork g) is l goes_on sound =
       absurd (subst (λ (x : Work). Commits s.columns s.tree then_tree s.log left (request_of x) number) is l.does.0)
-  commit_leads number (WriteWork g) is l sound = commit_write number g g.edit refl is l sound
+  commit_leads number (RangeWork g) is l goes_on sound =
+      absurd (subst (λ (x : Work). Commits s.columns s.tree then_tree s.log left (request_of x) number) is l.does.0)
+  commit_leads number (WriteWork g) is l goes_on sound = commit_write number g g.edit refl is l goes_on sound
 
   leads : (p : Progress) → Law p → Leads p
-  leads Moved l sound =
-      still s h n kept st at f then_tree left work _ _ l.goes request l.bounds l.does.0 MovedOutcome _ left.holders
-      (λ get. l.may (subst (λ (r : Request). IsTrueBool (is_get r)) f.related.request get)) refl refl refl
-      (calls_on s h n kept st at f then_tree left work _ _ l.goes request l.bounds MovedOutcome (record f.call { moves = f.call.moves + 1 }) _ refl refl refl refl refl refl (f.related.committed ∙ sym l.does.1) l.blocked (alike l.goes l.bounds l.does.0 MovedOutcome refl) l.goes.true)
-      (apart_changed s h n kept st at f then_tree work _ _ l.goes refl) (owned_on s h n kept st at f then_tree work _ _ l.goes refl) (room_on l.reserved) sound (held_on l.bounds)
-  leads Waits l sound =
-      still s h n kept st at f then_tree left work _ _ l.goes request l.bounds l.does.0 Again _ left.holders tt refl refl refl
-      (calls_on s h n kept st at f then_tree left work _ _ l.goes request l.bounds Again (record f.call { moves = 0 }) _ refl refl refl refl refl refl (f.related.committed ∙ sym l.does.1) l.blocked (alike l.goes l.bounds l.does.0 Again refl) l.goes.true)
-      (apart_changed s h n kept st at f then_tree work _ _ l.goes refl) (owned_on s h n kept st at f then_tree work _ _ l.goes refl) (room_on l.reserved) sound (held_on l.bounds)
-  leads (Committed number) l sound = commit_leads number kept.work refl l sound
-  leads (Answered answer) l sound =
-      ended _ _ (still s h n kept st at f then_tree left work _ _ l.goes request l.bounds l.does.0 _ _ (cond reads (without_holder from left.holders) left.holders)
+  leads Moved l goes_on sound =
+      still s h n kept st at f then_tree left work _ _ l.goes request l.bounds l.does.0 MovedOutcome _ left.holders s.views.building
+      (λ get. l.may (subst (λ (r : Request). IsTrueBool (is_get r)) f.related.request get)) refl refl refl refl
+      (calls_on s h n kept st at f then_tree left work _ _ l.goes request l.bounds MovedOutcome (record f.call { moves = f.call.moves + 1 }) _ refl refl refl refl refl refl (f.related.committed ∙ sym l.does.1) l.blocked (alike l.goes l.bounds l.does.0 MovedOutcome refl)
+      (keys_still s h n kept st at f then_tree left work _ _ l.goes request l.bounds l.does.0 MovedOutcome refl) (grows_still s h n kept st at f then_tree left work _ _ l.goes request l.bounds l.does.0 MovedOutcome refl) l.goes.true
+      (reads_then Moved goes_on (λ refusal e. let clash : Moved ≡ Refused refusal = e in cc)))
+      (apart_changed s h n kept st at f then_tree work _ _ l.goes refl) (owned_on s h n kept st at f then_tree work _ _ l.goes refl) (room_on l.reserved) sound (held_on l.bounds) building_on (omega arith)
+  leads Waits l goes_on sound =
+      still s h n kept st at f then_tree left work _ _ l.goes request l.bounds l.does.0 Again _ left.holders s.views.building tt refl refl refl refl
+      (calls_on s h n kept st at f then_tree left work _ _ l.goes request l.bounds Again (record f.call { moves = 0 }) _ refl refl refl refl refl refl (f.related.committed ∙ sym l.does.1) l.blocked (alike l.goes l.bounds l.does.0 Again refl)
+      (keys_still s h n kept st at f then_tree left work _ _ l.goes request l.bounds l.does.0 Again refl) (grows_still s h n kept st at f then_tree left work _ _ l.goes request l.bounds l.does.0 Again refl) l.goes.true
+      (reads_then Waits goes_on (λ refusal e. let clash : Waits ≡ Refused refusal = e in cc)))
+      (apart_changed s h n kept st at f then_tree work _ _ l.goes refl) (owned_on s h n kept st at f then_tree work _ _ l.goes refl) (room_on l.reserved) sound (held_on l.bounds) building_on (omega arith)
+  leads (Committed number) l goes_on sound = commit_leads number kept.work refl l goes_on sound
+  leads (Answered answer) l goes_on sound =
+      let reply : Reply = record { pass = pass; call = record { 0 = n }; from = from; to = newest left; answer = answer } in
+      ended _ _ _ (still s h n kept st at f then_tree left work _ _ l.goes request l.bounds l.does.0 (Done reply) _ (cond reads (without_holder from left.holders) left.holders) (cond builds (s.views.building - 1) s.views.building)
       (record {
         pass = ap (λ (p : PassNo). p.0) pass_is ∙ sym f.related.pass;
         number = sym f.numbered;
@@ -180,33 +249,60 @@ module _ (s : MachineView) (h : History) (n : ℕ) (st : Stands s h) (kept : Cal
         to = ap (λ (m : ℕ). m + length left.deltas) l.does.0.trimmed ∙ ap (λ ds. s.log.held_after + length ds) l.does.0.deltas ∙ st.commits;
         answer = subst (λ (q : Request). RightAnswer s.columns h f.call q answer 0) (sym f.related.request) (right_answer s h st f.call kept.work answer f.related.began f.related.committed f.related.past f.related.passed l.does.1);
       })
-      refl refl (views_stay (record { pass = pass; call = record { 0 = n }; from = from; to = newest left; answer = answer })) (calls_end s h n kept st at f then_tree left work _ _ l.goes request l.bounds _ refl (alike l.goes l.bounds l.does.0 _ refl)) (apart_without n s.calls.calls st.apart) (owned_end s h n kept st at f then_tree work _ _ l.goes refl) (room_end l.reserved) sound (held_end l.bounds))
-  leads (Refused refusal) l sound =
-      ended _ _ (still s h n kept st at f then_tree left work _ _ l.goes request l.bounds l.does.0 (RefusedOutcome refusal) _ (cond reads (without_holder from left.holders) left.holders)
+      refl refl (views_stay _ _ reply l.does.1) (built_stays _ _ reply l.does.1)
+      (calls_end s h n kept st at f then_tree left work _ _ l.goes request l.bounds (Done reply) refl (alike l.goes l.bounds l.does.0 (Done reply) refl)
+      (keys_still s h n kept st at f then_tree left work _ _ l.goes request l.bounds l.does.0 (Done reply) refl) (grows_still s h n kept st at f then_tree left work _ _ l.goes request l.bounds l.does.0 (Done reply) refl))
+      (apart_without n s.calls.calls st.apart) (owned_end s h n kept st at f then_tree work _ _ l.goes refl) (room_end l.reserved) sound (held_end l.bounds) building_end fewer)
+  leads (Refused refusal) l goes_on sound =
+      ended _ _ _ (still s h n kept st at f then_tree left work _ _ l.goes request l.bounds l.does.0 (RefusedOutcome refusal) _ (cond reads (without_holder from left.holders) left.holders) (cond builds (s.views.building - 1) s.views.building)
       (f.related.committed ∙ l.does.1, subst (λ (q : Request). MayEnd h f.call.began q refusal) (sym f.related.request) (may_end h f.call.began kept.work refusal (subst (WasBlocked f.call.began h) l.blocked f.related.blocked) l.does.2))
-      refl refl refl (calls_end s h n kept st at f then_tree left work _ _ l.goes request l.bounds _ refl (alike l.goes l.bounds l.does.0 _ refl)) (apart_without n s.calls.calls st.apart) (owned_end s h n kept st at f then_tree work _ _ l.goes refl) (room_end l.reserved) sound (held_end l.bounds))
+      refl refl refl refl
+      (calls_end s h n kept st at f then_tree left work _ _ l.goes request l.bounds (RefusedOutcome refusal) refl (alike l.goes l.bounds l.does.0 (RefusedOutcome refusal) refl)
+      (keys_still s h n kept st at f then_tree left work _ _ l.goes request l.bounds l.does.0 (RefusedOutcome refusal) refl) (grows_still s h n kept st at f then_tree left work _ _ l.goes request l.bounds l.does.0 (RefusedOutcome refusal) refl))
+      (apart_without n s.calls.calls st.apart) (owned_end s h n kept st at f then_tree work _ _ l.goes refl) (room_end l.reserved) sound (held_end l.bounds) building_end fewer)
 
-step_open : (s t : MachineView) (n : ℕ) (outcome : Outcome) (h : History) → StepsOpen s n outcome t → Stands s h → Stands t (happening (step_event n) outcome 0 ∷ h)
+pub step_open : (s t : MachineView) (n : ℕ) (outcome : Outcome) (h : History) → StepsOpen s n outcome t → Stands s h → Stands t (happening (step_event n) outcome 0 ∷ h)
 step_open s t n outcome h o st =
     let so = o.steps in
     let f = paired-some (CallStands s.columns s.epoch s.tree st.w h) 0 s.calls.begun n s.calls.calls (moment h).calls so.call st.calls so.is_open in
     let l = so.law.steps s.epoch so.call.epoch f.call.moves f.related.past st.w st.world f.related.epoch f.related.true in
     let log_is = log_after_is o.reads o.from o.p o.log in
+    let next : LogView → CallsView → ViewsView → MachineView = λ g c v. record { columns = s.columns; epoch = s.epoch; tree = o.tree; log = trimmed g; calls = c; views = v } in
+    let log : LogView = record o.log { holders = holders_after o.reads o.from o.p o.log.holders } in
+    let calls : CallsView = calls_after n o.p (record s.calls { calls = with_changed (with_work so.work) n s.calls.calls }) in
+    let views : ViewsView = with_building (building_after o.builds o.p s.views.building) s.views in
     subst (λ (u : MachineView). Stands u (happening (step_event n) outcome 0 ∷ h))
-    (sym (o.is_next ∙ ap (λ (c : CallsView). record { columns = s.columns; epoch = s.epoch; tree = o.tree; log = trimmed (log_after o.reads o.from o.p o.log); calls = calls_after n o.p c }) so.changed
-    ∙ ap (λ (g : LogView). record { columns = s.columns; epoch = s.epoch; tree = o.tree; log = trimmed g; calls = calls_after n o.p (record s.calls { calls = with_changed (with_work so.work) n s.calls.calls }) }) log_is))
-    (subst (λ (z : Outcome). Stands (record { columns = s.columns; epoch = s.epoch; tree = o.tree; log = trimmed (record o.log { holders = holders_after o.reads o.from o.p o.log.holders }); calls = calls_after n o.p (record s.calls { calls = with_changed (with_work so.work) n s.calls.calls }) }) (happening (step_event n) z 0 ∷ h)) (sym o.is_outcome)
-    (leads s h n st so.call so.is_open f o.tree o.log so.work so.same_request o.pass so.pass_is o.reads so.reads_is o.from so.from_is o.p l (subst IsLog log_is o.sound)))
+    (sym (o.is_next ∙ ap (λ (c : CallsView). next (log_after o.reads o.from o.p o.log) (calls_after n o.p c) (views_after o.builds o.p s.views)) so.changed
+    ∙ ap (λ (g : LogView). next g calls (views_after o.builds o.p s.views)) log_is
+    ∙ ap (next log calls) (views_after_is o.builds o.p s.views)))
+    (subst (λ (z : Outcome). Stands (next log calls views) (happening (step_event n) z 0 ∷ h)) (sym o.is_outcome)
+    (leads s h n st so.call so.is_open f o.tree o.log so.work so.same_request o.pass so.pass_is o.reads o.builds so.reads_is so.builds_is o.from so.from_is
+    (λ built. o.unbuilt (subst IsBuiltCall (sym so.is_open) built)) o.p l so.goes_on (subst IsLog log_is o.sound)))
 
 -- ---- an event that changes nothing
--- what is true of each call stays true
-all_later : (s : MachineView) (h : History) (x : Happening) (st : Stands s h) → Paired (CallStands s.columns s.epoch s.tree st.w (x ∷ h)) 0 s.calls.begun s.calls.calls (moment h).calls
-all_later s h x st =
-    paired-above 0 (CallStands s.columns s.epoch s.tree st.w h) (CallStands s.columns s.epoch s.tree st.w (x ∷ h)) 0 s.calls.begun s.calls.calls (moment h).calls
-    (λ k c i ne r. record { pass = r.pass; request = r.request; from = r.from; began = let b = r.began in omega (arith, b); epoch = r.epoch; committed = r.committed; blocked = was_later c.began x h (held k.1.work).blocked r.blocked; past = r.past; passed = past_later s.columns c.began x h (arena_seen s.tree ∷ r.past) r.passed; true = r.true }) (omega arith) st.calls
+-- what is true of a call stays true
+pub call_later : (s : MachineView) (h : History) (x : Happening) (w : World) → (moment (x ∷ h)).commits ≡ (moment h).commits → (k : ℕ × Call) (c : OpenCall) → CallStands s.columns s.epoch s.tree w h k c → CallStands s.columns s.epoch s.tree w (x ∷ h) k c
+call_later s h x w commits k c r = record {
+  pass = r.pass;
+  request = r.request;
+  from = r.from;
+  began = let b = r.began in omega (arith, b);
+  epoch = r.epoch;
+  committed = r.committed;
+  blocked = was_later c.began x h (held k.1.work).blocked r.blocked;
+  past = r.past;
+  passed = past_later s.columns c.began c.from x h (arena_seen s.tree ∷ r.past) commits r.passed;
+  true = r.true;
+  reads = reads_still s.columns (moment h) (moment (x ∷ h)) (inl commits) c.from k.1.work r.reads;
+}
 
-same_stands : (s : MachineView) (h : History) (x : Happening) → Stands s h → MayHappen s.columns h x.event x.outcome x.opens → (moment (x ∷ h)).commits ≡ (moment h).commits → (moment (x ∷ h)).begun ≡ (moment h).begun → (moment (x ∷ h)).calls ≡ (moment h).calls → (moment (x ∷ h)).views ≡ (moment h).views → Stands s (x ∷ h)
-same_stands s h x st may commits begun calls views =
+pub all_later : (s : MachineView) (h : History) (x : Happening) (st : Stands s h) → (moment (x ∷ h)).commits ≡ (moment h).commits → Paired (CallStands s.columns s.epoch s.tree st.w (x ∷ h)) 0 s.calls.begun s.calls.calls (moment h).calls
+all_later s h x st commits =
+    paired-above 0 (CallStands s.columns s.epoch s.tree st.w h) (CallStands s.columns s.epoch s.tree st.w (x ∷ h)) 0 s.calls.begun s.calls.calls (moment h).calls
+    (λ k c i ne r. call_later s h x st.w commits k c r) (omega arith) st.calls
+
+pub same_stands : (s : MachineView) (h : History) (x : Happening) → Stands s h → MayHappen s.columns h x.event x.outcome x.opens → (moment (x ∷ h)).commits ≡ (moment h).commits → (moment (x ∷ h)).begun ≡ (moment h).begun → (moment (x ∷ h)).calls ≡ (moment h).calls → (moment (x ∷ h)).views ≡ (moment h).views → (moment (x ∷ h)).built ≡ (moment h).built → Stands s (x ∷ h)
+same_stands s h x st may commits begun calls views built =
     let same_rows : rows s.columns (moment (x ∷ h)) ≡ rows s.columns (moment h) = ap (λ cs. after s.columns cs) commits in
     record {
       legal = (st.legal, may);
@@ -219,8 +315,15 @@ same_stands s h x st may commits begun calls views =
       logged = st.logged ∙ ap (λ (cs : List Change). drop s.log.held_after (deltas_of s.columns cs)) (sym commits);
       trimmed = st.trimmed ∙ same_bound commits (same_holding calls views);
       held = λ number. st.held number ∙ ap (times_held number) (same_holding calls views);
-      views = views ∙ st.views;
-      calls = subst (λ cs. Paired (CallStands s.columns s.epoch s.tree st.w (x ∷ h)) 0 s.calls.begun s.calls.calls cs) (sym calls) (all_later s h x st);
+      views = record {
+        built = st.views.built ∙ sym built;
+        standing = views ∙ st.views.standing;
+        exact = all_exact_still s.columns (moment h) (moment (x ∷ h)) (inl commits) s.views.views st.views.exact;
+        rises = st.views.rises;
+        building = st.views.building ∙ ap (count_by (λ (call : OpenCall). is_build call.request)) (sym calls);
+        few = st.views.few;
+      };
+      calls = subst (λ cs. Paired (CallStands s.columns s.epoch s.tree st.w (x ∷ h)) 0 s.calls.begun s.calls.calls cs) (sym calls) (all_later s h x st commits);
       apart = st.apart;
       owned = st.owned;
       reserved = st.reserved;
@@ -234,7 +337,7 @@ same_stands s h x st may commits begun calls views =
         ap (λ (l : List ℕ). min (least (length (moment h).commits) l) (length (moment h).commits - s.log.keep)) same
         ∙ ap (λ (cs : List Change). min (least (length cs) (holding (moment (x ∷ h)))) (length cs - s.log.keep)) (sym few)
 
-unknown : (s : MachineView) (n : ℕ) (h : History) → call_at n s.calls.calls ≡ None → Stands s h → Stands s (happening (step_event n) (RefusedOutcome NoSuchCall) 0 ∷ h)
+pub unknown : (s : MachineView) (n : ℕ) (h : History) → call_at n s.calls.calls ≡ None → Stands s h → Stands s (happening (step_event n) (RefusedOutcome NoSuchCall) 0 ∷ h)
 unknown s n h at st =
     let of = paired-none (CallStands s.columns s.epoch s.tree st.w h) 0 s.calls.begun n s.calls.calls (moment h).calls st.calls at in
     same_stands s h (happening (step_event n) (RefusedOutcome NoSuchCall) 0) st (subst (λ r. MayStepAt s.columns h r (RefusedOutcome NoSuchCall) 0) (sym of) refl)
@@ -242,38 +345,37 @@ unknown s n h at st =
     (ap (λ r. (after_call_step (moment h) r (RefusedOutcome NoSuchCall) 0).begun) of)
     (ap (λ r. (after_call_step (moment h) r (RefusedOutcome NoSuchCall) 0).calls) of)
     (ap (λ r. (after_call_step (moment h) r (RefusedOutcome NoSuchCall) 0).views) of)
-
-pub steps-stand : (s t : MachineView) (n : ℕ) (outcome : Outcome) (h : History) → Steps s n outcome t → Stands s h → Stands t (happening (step_event n) outcome 0 ∷ h)
-steps-stand s t n outcome h (inl none) st =
-    subst (λ (o : Outcome). Stands t (happening (step_event n) o 0 ∷ h)) (sym none.1)
-    (subst (λ (u : MachineView). Stands u (happening (step_event n) (RefusedOutcome NoSuchCall) 0 ∷ h)) (sym none.2) (unknown s n h none.0 st))
-steps-stand s t n outcome h (inr o) st = step_open s t n outcome h o st
+    (ap (λ r. (after_call_step (moment h) r (RefusedOutcome NoSuchCall) 0).built) of)
 
 -- ---- begins
-fault-same : (C b b' o o' places : ℕ) (request : Request) → IsServedRequest request → b ≡ b' → o ≡ o' → begin_fault C b o 0 request ≡ begin_fault C b' o' places request
-fault-same C b b' o o' places (GetRequest key asked) served e f =
-    ap (λ x. begin_fault C x o 0 (GetRequest key asked)) e ∙ ap (λ x. begin_fault C b' x 0 (GetRequest key asked)) f
-fault-same C b b' o o' places (PutRequest key sets) served e f =
-    ap (λ x. begin_fault C x o 0 (PutRequest key sets)) e ∙ ap (λ x. begin_fault C b' x 0 (PutRequest key sets)) f
-fault-same C b b' o o' places (Remove key) served e f =
-    ap (λ x. begin_fault C x o 0 (Remove key)) e ∙ ap (λ x. begin_fault C b' x 0 (Remove key)) f
-fault-same C b b' o o' places (Range start limit asked) served e f =
-    ap (λ x. begin_fault C x o 0 (Range start limit asked)) e ∙ ap (λ x. begin_fault C b' x 0 (Range start limit asked)) f
-fault-same C b b' o o' places (Tidy key) served e f = absurd served
-fault-same C b b' o o' places (Build spec) served e f = absurd served
+machine_fault : (s : MachineView) (h : History) (request : Request) → Stands s h → fault_of s request ≡ begin_fault s.columns (moment h).begun (length (moment h).calls) (view_places (moment h)) request
+machine_fault s h request st =
+    let views = ap (λ (vs : List StandingView). length vs) st.views.standing ∙ length-map s.views.views standing in
+    let all = st.views.building in
+    let places : length s.views.views + s.views.building ≡ view_places (moment h) = omega (arith, views, all) in
+    ap (λ (n : ℕ). begin_fault s.columns n (length s.calls.calls) (length s.views.views + s.views.building) request) st.begun
+    ∙ ap (λ (n : ℕ). begin_fault s.columns (moment h).begun n (length s.views.views + s.views.building) request) (paired-length _ _ _ _ _ st.calls)
+    ∙ ap (λ (n : ℕ). begin_fault s.columns (moment h).begun (length (moment h).calls) n request) places
 
-machine_fault : (s : MachineView) (h : History) (request : Request) → IsServedRequest request → Stands s h
-    → fault_of s request ≡ begin_fault s.columns (moment h).begun (length (moment h).calls) (view_places (moment h)) request
-machine_fault s h request served st = fault-same _ _ _ _ _ _ request served st.begun (paired-length _ _ _ _ _ st.calls)
+-- a build that can begin finds a place
+pub begun_place : (C begun opened taken : ℕ) (request : Request) → begin_fault C begun opened taken request ≡ None → is_build request ≡ true → taken < MAX_VIEWS
+begun_place C begun opened taken request none builds =
+    leb-false MAX_VIEWS taken (not_refused (nat_le MAX_VIEWS taken)
+    (sym (ap (λ (b : Bool). cond b (refused_if (nat_le MAX_VIEWS taken) TooManyViews) None) builds)
+    ∙ or_none (refused_if (nat_le MAX_OPEN_CALLS opened) TooManyCalls) _ (or_none (refused_if (nat_le greatest_number begun) Spent) _ (or_none (request_fault C request) _ none))))
+  where
+    not_refused : (b : Bool) → refused_if b TooManyViews ≡ None → b ≡ false
+    not_refused false e = refl
+    not_refused true e = absurd (let clash : ◌≡◌ {A = Option Refusal} (Some TooManyViews) None = e in cc)
 
-called : (s : MachineView) (pass : PassNo) (request : Request) (work : Work) (h : History) → IsServedRequest request → Stands s h → fault_of s request ≡ None → request_of work ≡ request → IsNew s.columns work
+pub called : (s : MachineView) (pass : PassNo) (request : Request) (work : Work) (h : History) → Stands s h → fault_of s request ≡ None → request_of work ≡ request → IsNew s.columns (newest s.log) work
     → Stands (with_call s pass work) (happening (Begin pass request) (Called (record { 0 = s.calls.begun + 1 })) 0 ∷ h)
-called s pass request work h served st none is new =
+called s pass request work h st none is new =
     let log_is = pinned_is (reads_log (request_of work)) s.log in
-    subst (λ (g : LogView). Stands (record s { log = g; calls = calls }) (x ∷ h)) (sym log_is) (record {
+    subst (λ (g : LogView). Stands (record s { log = g; calls = calls; views = placed (is_build (request_of work)) s.views }) (x ∷ h)) (sym log_is) (record {
       legal = (
         st.legal,
-        subst (λ r. MayBegin (moment h) r (Called (record { 0 = s.calls.begun + 1 }))) (sym none ∙ machine_fault s h request served st)
+        subst (λ r. MayBegin (moment h) r (Called (record { 0 = s.calls.begun + 1 }))) (sym none ∙ machine_fault s h request st)
             (inl (ap (λ (n : ℕ). Called (record { 0 = n + 1 })) st.begun)),
       );
       commits = st.commits;
@@ -285,7 +387,7 @@ called s pass request work h served st none is new =
       logged = st.logged;
       trimmed = st.trimmed ∙ ap (λ (n : ℕ). min n (length (moment h).commits - s.log.keep)) still_bound;
       held = now_holds;
-      views = st.views;
+      views = now_placed;
       calls = paired;
       apart = λ one other i j ne number owned mine. elim (among_append s.calls.calls (s.calls.begun + 1, call) one i) [
         | inl a ↦ elim (among_append s.calls.calls (s.calls.begun + 1, call) other j) [
@@ -310,8 +412,15 @@ called s pass request work h served st none is new =
     owns_none : (number : ℕ) → Among number [] → ⊥
     owns_none number i = elim i [ ]
 
+    -- a build opens at the commits that there are
+    new_reads : (w : Work) → OpensAt s.columns (newest s.log) w → ReadsOf s.columns (moment h).commits (length (moment h).commits) w
+    new_reads (BuildWork building) (scans, at, columns) = (columns, subst (λ (u : Option ℕ). ReadsFrom s.columns (moment h).commits (length (moment h).commits) u building.build.state) (sym scans) (at ∙ st.commits))
+    new_reads (GetWork g) opens = tt
+    new_reads (WriteWork g) opens = tt
+    new_reads (RangeWork g) opens = tt
+
     paired : Paired (CallStands s.columns s.epoch s.tree st.w (x ∷ h)) 0 (s.calls.begun + 1) (s.calls.calls ++ (s.calls.begun + 1, call) ∷ []) (moment (x ∷ h)).calls
-    paired = paired-append (CallStands s.columns s.epoch s.tree st.w (x ∷ h)) 0 s.calls.begun s.calls.calls (moment h).calls (s.calls.begun + 1, call) (new_call (moment h) pass.0 request (s.calls.begun + 1)) (all_later s h x st) (ap (λ (n : ℕ). n + 1) refl) refl
+    paired = paired-append (CallStands s.columns s.epoch s.tree st.w (x ∷ h)) 0 s.calls.begun s.calls.calls (moment h).calls (s.calls.begun + 1, call) (new_call (moment h) pass.0 request (s.calls.begun + 1)) (all_later s h x st refl) (ap (λ (n : ℕ). n + 1) refl) refl
         (record {
           pass = refl;
           request = sym is;
@@ -321,9 +430,39 @@ called s pass request work h served st none is new =
           committed = sym (ap (λ (d : Held). d.committed) new.has);
           blocked = subst (λ (b : Option ℕ). WasBlocked (moment h).happened (x ∷ h) b) (sym (ap (λ (d : Held). d.blocked) new.has)) tt;
           past = [];
-          passed = subst (λ (m : ℕ). IsPast s.columns m (x ∷ h) (arena_seen s.tree ∷ [])) (sym (happened_is h)) (past_new s.columns x h s.tree st.content);
+          passed = subst (λ (m : ℕ). IsPast s.columns m (length (moment h).commits) (x ∷ h) (arena_seen s.tree ∷ [])) (sym (happened_is h)) (past_new s.columns x h s.tree st.content st.keys);
           true = new.true s.tree s.epoch s.epoch st.w st.world;
+          reads = new_reads work new.opens;
         })
+
+    -- a build keeps a place
+    now_placed : ViewsStand s.columns (moment (x ∷ h)) (placed (is_build (request_of work)) s.views)
+    now_placed = by_kind (is_build (request_of work)) refl
+      where
+        counted : s.views.building + cond (is_build (request_of work)) 1 0 ≡ count_by (λ (call : OpenCall). is_build call.request) (moment (x ∷ h)).calls
+        counted =
+            let all = builds_before s h st in
+            let more = total_append builds_of s.calls.calls (s.calls.begun + 1, call) in
+            let there = paired-builds (CallStands s.columns s.epoch s.tree st.w (x ∷ h)) (λ k c r. r.request) 0 (s.calls.begun + 1) (s.calls.calls ++ (s.calls.begun + 1, call) ∷ []) (moment (x ∷ h)).calls paired in
+            omega (arith, all, more, there)
+
+        by_kind : (b : Bool) → is_build (request_of work) ≡ b → ViewsStand s.columns (moment (x ∷ h)) (placed b s.views)
+        by_kind true builds = record {
+          built = st.views.built;
+          standing = st.views.standing;
+          exact = all_exact_still s.columns (moment h) (moment (x ∷ h)) (inl refl) s.views.views st.views.exact;
+          rises = st.views.rises;
+          building = let one : ◌≡◌ {A = ℕ} (cond (is_build (request_of work)) 1 0) 1 = ap (λ (t : Bool). cond t 1 0) builds in let all = counted in omega (arith, one, all);
+          few = let room = begun_place s.columns s.calls.begun (length s.calls.calls) (places s.views) request none (ap is_build (sym is) ∙ builds) in omega (arith, room);
+        }
+        by_kind false builds = record {
+          built = st.views.built;
+          standing = st.views.standing;
+          exact = all_exact_still s.columns (moment h) (moment (x ∷ h)) (inl refl) s.views.views st.views.exact;
+          rises = st.views.rises;
+          building = let zero : ◌≡◌ {A = ℕ} (cond (is_build (request_of work)) 1 0) 0 = ap (λ (t : Bool). cond t 1 0) builds in let all = counted in omega (arith, zero, all);
+          few = st.views.few;
+        }
 
     -- it holds the log, if it reads it, from the newest commit on
     now_holds : (number : ℕ) → times_held number (cond (reads_log (request_of work)) (with_holder (newest s.log) s.log.holders) s.log.holders) ≡ times_held number (holding (moment (x ∷ h)))
@@ -338,87 +477,94 @@ called s pass request work h served st none is new =
         ∙ sym (least_pinned (reads_log (request_of work)) s.log)
         ∙ slowest_is (record s.log { holders = cond (reads_log (request_of work)) (with_holder (newest s.log) s.log.holders) s.log.holders }) (moment (x ∷ h)) st.commits now_holds
 
-pub begins-stands : (s t : MachineView) (pass : PassNo) (request : Request) (outcome : Outcome) (h : History) → IsServedRequest request
+pub begins-stands : (s t : MachineView) (pass : PassNo) (request : Request) (outcome : Outcome) (h : History)
     → Begins s pass request outcome t → Stands s h → Stands t (happening (Begin pass request) outcome 0 ∷ h)
-begins-stands s t pass request (Called number) h served b st =
+begins-stands s t pass request (Called number) h b st =
     subst (λ (n : CallNo). Stands t (happening (Begin pass request) (Called n) 0 ∷ h)) (sym b.1)
-    (subst (λ (u : MachineView). Stands u (happening (Begin pass request) (Called (record { 0 = s.calls.begun + 1 })) 0 ∷ h)) (sym b.5) (called s pass request b.2 h served st b.0 b.3 b.4))
-begins-stands s t pass request (RefusedOutcome refusal) h served b st =
+    (subst (λ (u : MachineView). Stands u (happening (Begin pass request) (Called (record { 0 = s.calls.begun + 1 })) 0 ∷ h)) (sym b.5) (called s pass request b.2 h st b.0 b.3 b.4))
+begins-stands s t pass request (RefusedOutcome refusal) h b st =
     subst (λ (u : MachineView). Stands u (happening (Begin pass request) (RefusedOutcome refusal) 0 ∷ h)) (sym b.1)
     (same_stands s h (happening (Begin pass request) (RefusedOutcome refusal) 0) st
     (elim b.0 [
-      | inl e ↦ subst (λ r. MayBegin (moment h) r (RefusedOutcome refusal)) (sym e ∙ machine_fault s h request served st) refl
-      | inr e ↦ subst (λ r. MayBegin (moment h) r (RefusedOutcome refusal)) (sym e.0 ∙ machine_fault s h request served st) (inr (ap (λ r. RefusedOutcome r) e.1))
+      | inl e ↦ subst (λ r. MayBegin (moment h) r (RefusedOutcome refusal)) (sym e ∙ machine_fault s h request st) refl
+      | inr e ↦ subst (λ r. MayBegin (moment h) r (RefusedOutcome refusal)) (sym e.0 ∙ machine_fault s h request st) (inr (ap (λ r. RefusedOutcome r) e.1))
     ])
-    refl refl refl refl)
-begins-stands s t pass request MovedOutcome h served b st = absurd b
-begins-stands s t pass request Again h served b st = absurd b
-begins-stands s t pass request (Commit n) h served b st = absurd b
-begins-stands s t pass request (Done r) h served b st = absurd b
-begins-stands s t pass request (Applied n) h served b st = absurd b
-begins-stands s t pass request Current h served b st = absurd b
-begins-stands s t pass request (View p) h served b st = absurd b
-begins-stands s t pass request Dropped h served b st = absurd b
-begins-stands s t pass request (Epoch n) h served b st = absurd b
-begins-stands s t pass request (Freed n) h served b st = absurd b
+    refl refl refl refl refl)
+begins-stands s t pass request MovedOutcome h b st = absurd b
+begins-stands s t pass request Again h b st = absurd b
+begins-stands s t pass request (Commit n) h b st = absurd b
+begins-stands s t pass request (Done r) h b st = absurd b
+begins-stands s t pass request (Applied n) h b st = absurd b
+begins-stands s t pass request Current h b st = absurd b
+begins-stands s t pass request (View p) h b st = absurd b
+begins-stands s t pass request Dropped h b st = absurd b
+begins-stands s t pass request (Epoch n) h b st = absurd b
+begins-stands s t pass request (Freed n) h b st = absurd b
 
 -- ---- each call may step
-pub may_step : (s : MachineView) (h : History) (n : ℕ) → Stands s h → MayStepOf s.columns s.tree s.log (call_at n s.calls.calls)
+pub may_step : (s : MachineView) (h : History) (n : ℕ) → Stands s h → (IsBuiltCall (call_at n s.calls.calls) → ⊥) → MayStepOf s.columns s.tree s.log (call_at n s.calls.calls)
 may_step s h n st = go (call_at n s.calls.calls) refl
   where
-    go : (r : Option Call) → call_at n s.calls.calls ≡ r → MayStepOf s.columns s.tree s.log r
-    go None at = tt
-    go (Some kept) at =
-        let f = paired-some (CallStands s.columns s.epoch s.tree st.w h) 0 s.calls.begun n s.calls.calls (moment h).calls kept st.calls at in
-        record {
-          now = s.epoch;
-          begun = kept.epoch;
-          moves = f.call.moves;
-          past = f.related.past;
-          w = st.w;
-          world = st.world;
-          true = f.related.true;
-          room = let all = st.reserved in let rest = total_without n kept reserves s.calls.calls at in omega (arith, all, rest);
-        }
+    go : (r : Option Call) → call_at n s.calls.calls ≡ r → (IsBuiltCall r → ⊥) → MayStepOf s.columns s.tree s.log r
+    go None at unbuilt = tt
+    go (Some kept) at unbuilt =
+        let f = paired-some (CallStands s.columns s.epoch s.tree st.w h) 0 s.calls.begun n s.calls.calls (moment h).calls kept st.calls at in (
+          record {
+            now = s.epoch;
+            begun = kept.epoch;
+            moves = f.call.moves;
+            past = f.related.past;
+            w = st.w;
+            world = st.world;
+            true = f.related.true;
+            room = let all = st.reserved in let rest = total_without n kept reserves s.calls.calls at in omega (arith, all, rest);
+          },
+          has_next s h st f.call.from f.call.began kept.epoch f.related.past f.related.passed kept.work (λ reader. let low = held_reaches s h st n kept at reader in let same = f.related.from in omega (arith, low, same)) f.related.reads unbuilt,
+        )
 
 -- ---- who holds the log
--- it has no more holders than there are open calls
-pub few_hold : (s : MachineView) (h : History) → Stands s h → length s.log.holders ≤ length s.calls.calls
+-- it has no more holders than there are views and open calls
+pub few_hold : (s : MachineView) (h : History) → Stands s h → length s.log.holders ≤ places s.views + length s.calls.calls
 few_hold s h st =
     let as_many = length_by_counts s.log.holders (holding (moment h)) st.held in
-    let none = ap (λ (vs : List StandingView). length (map (λ (v : StandingView). v.at) vs ++ froms (moment h).calls)) st.views in
+    let both = length-append (map (λ (v : StandingView). v.at) (moment h).views) (froms (moment h).calls) in
+    let of_views = length-map (moment h).views (λ (v : StandingView). v.at) in
+    let views = ap (λ (vs : List StandingView). length vs) st.views.standing ∙ length-map s.views.views standing in
     let read = length-map (filter (λ (call : OpenCall). reads_log call.request) (moment h).calls) (λ (call : OpenCall). call.from) in
     let fewer = length-filter (λ (call : OpenCall). reads_log call.request) (moment h).calls in
     let counted = count_by-le-length (λ (call : OpenCall). reads_log call.request) (moment h).calls in
     let all = paired-length (CallStands s.columns s.epoch s.tree st.w h) 0 s.calls.begun s.calls.calls (moment h).calls st.calls in
-    omega (arith, as_many, none, read, fewer, counted, all)
-
--- a call that can begin finds fewer open than there may be
-pub begun_few : (C begun opened places : ℕ) (request : Request) → begin_fault C begun opened places request ≡ None → opened < MAX_OPEN_CALLS
-begun_few C begun opened places request none =
-    leb-false MAX_OPEN_CALLS opened (not_broken (nat_le MAX_OPEN_CALLS opened) TooManyCalls _ (or_none (refused_if (nat_le greatest_number begun) Spent) _ (or_none (request_fault C request) _ none)))
+    omega (arith, as_many, both, of_views, views, read, fewer, counted, all)
 
 -- a step of a call leaves who holds the log, and how much it may hold
-pub step_bounds : (s : MachineView) (h : History) (n : ℕ) (calls : CallsView) (then_tree : ArenaView) (left : LogView) (pass : PassNo) (reads : Bool) (from : ℕ) (p : Progress) → StepsCall s.columns n s.calls calls s.tree then_tree s.log left pass reads from p → Stands s h → bounds left ≡ bounds s.log
-step_bounds s h n calls then_tree left pass reads from p steps st =
+pub step_bounds : (s : MachineView) (h : History) (n : ℕ) (calls : CallsView) (then_tree : ArenaView) (left : LogView) (pass : PassNo) (reads builds : Bool) (from : ℕ) (p : Progress) → StepsCall s.columns n s.calls calls s.tree then_tree s.log left pass reads builds from p → Stands s h → bounds left ≡ bounds s.log
+step_bounds s h n calls then_tree left pass reads builds from p steps st =
     let f = paired-some (CallStands s.columns s.epoch s.tree st.w h) 0 s.calls.begun n s.calls.calls (moment h).calls steps.call st.calls steps.is_open in
     (steps.law.steps s.epoch steps.call.epoch f.call.moves f.related.past st.w st.world f.related.epoch f.related.true).bounds
 
 -- a call that reads the log is one of its holders
-pub may_settle : (s : MachineView) (h : History) (n : ℕ) (calls : CallsView) (then_tree : ArenaView) (left : LogView) (pass : PassNo) (reads : Bool) (from : ℕ) (p : Progress) → StepsCall s.columns n s.calls calls s.tree then_tree s.log left pass reads from p → Stands s h → IsTrueBool reads → Contains left.holders from
-may_settle s h n calls then_tree left pass reads from p steps st is =
-    let same = step_bounds s h n calls then_tree left pass reads from p steps st in
+pub may_settle : (s : MachineView) (h : History) (n : ℕ) (calls : CallsView) (then_tree : ArenaView) (left : LogView) (pass : PassNo) (reads builds : Bool) (from : ℕ) (p : Progress) → StepsCall s.columns n s.calls calls s.tree then_tree s.log left pass reads builds from p → Stands s h → IsTrueBool reads → Contains left.holders from
+may_settle s h n calls then_tree left pass reads builds from p steps st is =
+    let same = step_bounds s h n calls then_tree left pass reads builds from p steps st in
     subst (λ (b : List ℕ × ℕ × ℕ). Contains b.0 from) (sym same)
     (subst (λ (m : ℕ). Contains s.log.holders m) (sym steps.from_is)
     (reader_holds n _ steps.call s.calls.calls s.log.holders steps.is_open (held_before s h st steps.call.from) (sym steps.reads_is ∙ is)))
+
+-- and a build keeps a place
+pub may_vacate : (s : MachineView) (h : History) (n : ℕ) (calls : CallsView) (then_tree : ArenaView) (left : LogView) (pass : PassNo) (reads builds : Bool) (from : ℕ) (p : Progress) → StepsCall s.columns n s.calls calls s.tree then_tree s.log left pass reads builds from p → Stands s h → IsTrueBool builds → 0 < s.views.building
+may_vacate s h n calls then_tree left pass reads builds from p steps st is =
+    let all = builds_before s h st in
+    let rest = total_without n steps.call builds_of s.calls.calls steps.is_open in
+    let one : builds_of steps.call ≡ 1 = ap (λ (b : Bool). cond b 1 0) (sym steps.builds_is ∙ is) in
+    omega (arith, all, rest, one)
 
 pub settled_bounds : (reads : Bool) (from : ℕ) (p : Progress) (left : LogView) (feed keep : ℕ) → (left.feed ≡ feed) × (left.keep ≡ keep) → HasBounds feed keep (trimmed (log_after reads from p left))
 settled_bounds reads from p left feed keep had = subst (λ (l : LogView). HasBounds feed keep (trimmed l)) (sym (log_after_is reads from p left)) had
 
 -- ---- the new machine
 pub opens-stands : (C feed keep : ℕ) (a : ArenaView) (log : LogView) (w : World) → IsWorld a 0 w → ((number : ℕ) → IsTaken a w number → ⊥) → ((key : List ℕ) (row : Row) → HasRow a key row → ⊥) → log ≡ record { held_after = 0; deltas = []; reserved = 0; holders = []; feed = feed; keep = keep }
-    → Stands (record { columns = C; epoch = 0; tree = a; log = log; calls = record { begun = 0; calls = [] } }) []
-opens-stands C feed keep a log w world nobody empty is = subst (λ (l : LogView). Stands (record { columns = C; epoch = 0; tree = a; log = l; calls = record { begun = 0; calls = [] } }) []) (sym is) (record {
+    → Stands (record { columns = C; epoch = 0; tree = a; log = log; calls = record { begun = 0; calls = [] }; views = record { built = 0; building = 0; views = [] } }) []
+opens-stands C feed keep a log w world nobody empty is = subst (λ (l : LogView). Stands (record { columns = C; epoch = 0; tree = a; log = l; calls = record { begun = 0; calls = [] }; views = record { built = 0; building = 0; views = [] } }) []) (sym is) (record {
   legal = tt;
   commits = refl;
   begun = refl;
@@ -429,7 +575,7 @@ opens-stands C feed keep a log w world nobody empty is = subst (λ (l : LogView)
   logged = refl;
   trimmed = let none : 0 ≡ min 0 (0 - keep) = omega arith in none;
   held = λ number. refl;
-  views = refl;
+  views = record { built = refl; standing = refl; exact = tt; rises = omega arith; building = refl; few = omega arith };
   calls = omega arith;
   apart = λ one other i. elim i [ ];
   owned = λ number taken. absurd (nobody number taken);
@@ -437,13 +583,13 @@ opens-stands C feed keep a log w world nobody empty is = subst (λ (l : LogView)
 })
 
 -- ---- as the code takes it
-abbrev pub seen : ℕ → ℕ → ArenaView → LogView → CallsView → MachineView
-seen C epoch a log calls = record { columns = C; epoch = epoch; tree = a; log = log; calls = calls }
+abbrev pub seen : ℕ → ℕ → ArenaView → LogView → CallsView → ViewsView → MachineView
+seen C epoch a log calls views = record { columns = C; epoch = epoch; tree = a; log = log; calls = calls; views = views }
 
-module _ (C epoch : ℕ) (a after_tree : ArenaView) (log left : LogView) (calls new final : CallsView) (n : ℕ) (pass : PassNo) (reads : Bool) (from : ℕ) (p : Progress)
-    (steps : StepsCall C n calls new a after_tree log left pass reads from p) (last : final ≡ calls_after n p new) (settled_log : LogView) (log_is : settled_log ≡ log_after reads from p left) (sound : IsLog settled_log) where
-  taken : Steps (seen C epoch a log calls) n (outcome_of n pass from (newest left) p) (seen C epoch after_tree (trimmed settled_log) final)
-  taken = inr (record {
+module _ (C epoch : ℕ) (a after_tree : ArenaView) (log left : LogView) (calls new final : CallsView) (views kept_views : ViewsView) (n : ℕ) (pass : PassNo) (reads builds : Bool) (from : ℕ) (p : Progress)
+    (unbuilt : IsBuiltCall (call_at n calls.calls) → ⊥) (steps : StepsCall C n calls new a after_tree log left pass reads builds from p) (last : final ≡ calls_after n p new) (settled_log : LogView) (log_is : settled_log ≡ log_after reads from p left) (views_are : kept_views ≡ views_after builds p views) (sound : IsLog settled_log) where
+  taken : StepsOpen (seen C epoch a log calls views) n (outcome_of n pass from (newest left) p) (seen C epoch after_tree (trimmed settled_log) final kept_views)
+  taken = record {
     pass = pass;
     from = from;
     p = p;
@@ -451,35 +597,37 @@ module _ (C epoch : ℕ) (a after_tree : ArenaView) (log left : LogView) (calls 
     tree = after_tree;
     log = left;
     reads = reads;
+    builds = builds;
+    unbuilt = unbuilt;
     steps = steps;
     sound = subst IsLog log_is sound;
     is_outcome = refl;
-    is_next = ap (seen C epoch after_tree (trimmed settled_log)) last ∙ ap (λ (g : LogView). seen C epoch after_tree (trimmed g) (calls_after n p new)) log_is;
-  })
+    is_next = ap (λ (c : CallsView). seen C epoch after_tree (trimmed settled_log) c kept_views) last
+        ∙ ap (λ (g : LogView). seen C epoch after_tree (trimmed g) (calls_after n p new) kept_views) log_is
+        ∙ ap (seen C epoch after_tree (trimmed (log_after reads from p left)) (calls_after n p new)) views_are;
+  }
 
-  pub taken-steps : (now : MachineView) (outcome : Outcome) (trimmed_log : LogView) → trimmed_log ≡ trimmed settled_log → seen C epoch a log calls ≡ now → outcome ≡ outcome_of n pass from (newest left) p → Steps now n outcome (seen C epoch after_tree trimmed_log final)
+  pub taken-steps : (now : MachineView) (outcome : Outcome) (trimmed_log : LogView) → trimmed_log ≡ trimmed settled_log → seen C epoch a log calls views ≡ now → outcome ≡ outcome_of n pass from (newest left) p → Steps now n outcome (seen C epoch after_tree trimmed_log final kept_views)
   taken-steps now outcome trimmed_log done same e =
-      subst (λ (g : LogView). Steps now n outcome (seen C epoch after_tree g final)) (sym done)
-      (subst (λ (s : MachineView). Steps s n outcome (seen C epoch after_tree (trimmed settled_log) final)) same
-      (subst (λ (o : Outcome). Steps (seen C epoch a log calls) n o (seen C epoch after_tree (trimmed settled_log) final)) (sym e) taken))
+      inr (inl (subst (λ (g : LogView). StepsOpen now n outcome (seen C epoch after_tree g final kept_views)) (sym done)
+      (subst (λ (s : MachineView). StepsOpen s n outcome (seen C epoch after_tree (trimmed settled_log) final kept_views)) same
+      (subst (λ (o : Outcome). StepsOpen (seen C epoch a log calls views) n o (seen C epoch after_tree (trimmed settled_log) final kept_views)) (sym e) taken))))
 
-  pub taken-stands : (trimmed_log : LogView) → trimmed_log ≡ trimmed settled_log → (h : History) × Stands (seen C epoch a log calls) h → (h : History) × Stands (seen C epoch after_tree trimmed_log final) h
+  pub taken-stands : (trimmed_log : LogView) → trimmed_log ≡ trimmed settled_log → (h : History) × Stands (seen C epoch a log calls views) h → (h : History) × Stands (seen C epoch after_tree trimmed_log final kept_views) h
   taken-stands trimmed_log done (h, st) = (
     happening (step_event n) (outcome_of n pass from (newest left) p) 0 ∷ h,
-    subst (λ (g : LogView). Stands (seen C epoch after_tree g final) (happening (step_event n) (outcome_of n pass from (newest left) p) 0 ∷ h)) (sym done) (steps-stand _ _ n _ h taken st),
+    subst (λ (g : LogView). Stands (seen C epoch after_tree g final kept_views) (happening (step_event n) (outcome_of n pass from (newest left) p) 0 ∷ h)) (sym done) (step_open _ _ n _ h taken st),
   )
 
 -- a begin leaves a machine that stands somewhere
-pub begun-stands : (C epoch : ℕ) (a : ArenaView) (log pinned_log : LogView) (calls new : CallsView) (pass : PassNo) (from : ℕ) (request : Request) (work : Work) → IsServedRequest request → begin_fault C calls.begun (length calls.calls) 0 request ≡ None → request_of work ≡ request → IsNew C work → from ≡ newest log
-    → new ≡ record { begun = calls.begun + 1; calls = calls.calls ++ (calls.begun + 1, record { pass = pass; from = from; epoch = epoch; work = work }) ∷ [] } → pinned_log ≡ pinned (reads_log (request_of work)) log
-    → (h : History) × Stands (seen C epoch a log calls) h → (h : History) × Stands (seen C epoch a pinned_log new) h
-begun-stands C epoch a log pinned_log calls new pass from request work served none is is_new from_is more log_is (h, st) = (
-  happening (Begin pass request) (Called (record { 0 = calls.begun + 1 })) 0 ∷ h,
-  subst (λ (g : LogView). Stands (seen C epoch a g new) (happening (Begin pass request) (Called (record { 0 = calls.begun + 1 })) 0 ∷ h)) (sym log_is)
-      (subst (λ (c : CallsView). Stands (seen C epoch a (pinned (reads_log (request_of work)) log) c) (happening (Begin pass request) (Called (record { 0 = calls.begun + 1 })) 0 ∷ h))
-      (sym (more ∙ ap (λ (m : ℕ). record { begun = calls.begun + 1; calls = calls.calls ++ (calls.begun + 1, record { pass = pass; from = m; epoch = epoch; work = work }) ∷ [] }) from_is))
-      (called (seen C epoch a log calls) pass request work h served st none is is_new)),
-)
+pub begun-stands : (s : MachineView) (pinned_log : LogView) (new : CallsView) (kept_views : ViewsView) (pass : PassNo) (from : ℕ) (request : Request) (work : Work) → fault_of s request ≡ None → request_of work ≡ request → IsNew s.columns (newest s.log) work → from ≡ newest s.log
+    → new ≡ record { begun = s.calls.begun + 1; calls = s.calls.calls ++ (s.calls.begun + 1, record { pass = pass; from = from; epoch = s.epoch; work = work }) ∷ [] } → pinned_log ≡ pinned (reads_log (request_of work)) s.log → kept_views ≡ placed (is_build (request_of work)) s.views
+    → seen s.columns s.epoch s.tree pinned_log new kept_views ≡ with_call s pass work
+begun-stands s pinned_log new kept_views pass from request work none is is_new from_is more log_is views_are =
+    ap (λ (g : LogView). seen s.columns s.epoch s.tree g new kept_views) log_is
+    ∙ ap (λ (c : CallsView). seen s.columns s.epoch s.tree (pinned (reads_log (request_of work)) s.log) c kept_views)
+    (more ∙ ap (λ (m : ℕ). record { begun = s.calls.begun + 1; calls = s.calls.calls ++ (s.calls.begun + 1, record { pass = pass; from = m; epoch = s.epoch; work = work }) ∷ [] }) from_is)
+    ∙ ap (seen s.columns s.epoch s.tree (pinned (reads_log (request_of work)) s.log) (record { begun = s.calls.begun + 1; calls = s.calls.calls ++ (s.calls.begun + 1, record { pass = pass; from = newest s.log; epoch = s.epoch; work = work }) ∷ [] })) views_are
 
 -- a new tree has no row
 pub new_keys : (a : ArenaView) → ((place : Place) (row : Row) → Has (arena_seen a) place row → ⊥) → RowsAreOfKeys a
@@ -546,7 +694,3 @@ pub begins-columns : (s t : MachineView) (pass : PassNo) (request : Request) (ou
 begins-columns s t pass request (Called number) (none, numbered, work, asks, new, next) = ap (λ (m : MachineView). m.columns) next
 begins-columns s t pass request (RefusedOutcome refusal) (why, same) = ap (λ (m : MachineView). m.columns) same
 begins-columns s t pass request _ never = absurd never
-
-pub steps-columns : (s t : MachineView) (n : ℕ) (outcome : Outcome) → Steps s n outcome t → t.columns ≡ s.columns
-steps-columns s t n outcome (inl (none, refused, same)) = ap (λ (m : MachineView). m.columns) same
-steps-columns s t n outcome (inr open_) = ap (λ (m : MachineView). m.columns) open_.is_next

@@ -1,10 +1,16 @@
 pub mod NumberLemmas
 pub mod ListLemmas
 pub mod PairedLemmas
+pub mod OpenLemmas
 pub mod PastLemmas
 pub mod LogStands
+pub mod Reading
+pub mod ViewStands
 pub mod StepStands
 pub mod EventStands
+pub mod ViewEvents
+pub mod ApplyStands
+pub mod MachineLemmas
 pub mod CauseLemmas
 pub mod LawLemmas
 pub mod FeedLemmas

@@ -4,7 +4,7 @@ use Rattle.std.proofs.lemmas.Bool.Decides.{eqb_tells}
 use Rattle.mt_chart.specs.Tree.{Among, first, later}
 use Rattle.mt_chart.proofs.Entries.{among_cases}
 use Rattle.mt_index.specs.declared.calls.Call.{Call}
-use Rattle.mt_write.specs.Works.{held}
+use Rattle.mt_works.specs.Works.{held}
 use Rattle.mt_index.specs.Calls.{call_at, with_changed, without, total}
 use Rattle.mt_index.proofs.NumberLemmas.{Entries, found-here, found-there, changed-here, changed-there, without-here, without-there}
 

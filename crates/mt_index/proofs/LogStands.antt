@@ -1,5 +1,5 @@
 -- The log of a machine at a history: the deltas that it has, and from where it is held.
-use Rattle.std.proofs.Common.{ℕ, ◌≡◌, ◌≤◌, ◌+◌, ◌-◌, ◌==◌, Bool, true, false, cond, List, [], ◌∷◌, ◌++◌, length, drop, map, filter, Option, Some, None, refl, sym, ap, ◌∙◌, inl, inr, arith}
+use Rattle.std.proofs.Common.{ℕ, ◌≡◌, ◌≤◌, ◌<◌, ◌+◌, ◌-◌, ◌==◌, Bool, true, false, cond, List, [], ◌∷◌, ◌++◌, length, drop, map, filter, Option, Some, None, refl, sym, ap, ◌∙◌, inl, inr, arith}
 use Rattle.std.specs.Prelude.{min, nat_le, Contains}
 use Rattle.std.proofs.lemmas.Bool.{eq-eqb, ne_eqb}
 use Rattle.std.proofs.lemmas.Bool.Decides.{leb_tells}
@@ -20,7 +20,7 @@ use Rattle.mt_commit.proofs.LogLemmas.{trim_rises, newest-trimmed}
 use Rattle.mt_calls.specs.declared.progress.Progress.{Progress}
 use Rattle.mt_calls.specs.declared.progress.Progress.TheVariants.{Moved, Waits, Committed, Answered, Refused}
 use Rattle.mt_index.specs.declared.calls.Call.{Call}
-use Rattle.mt_write.specs.Works.{request_of}
+use Rattle.mt_works.specs.Works.{request_of}
 use Rattle.mt_commit.specs.Logged.{deltas_of}
 use Rattle.mt_index.specs.Paired.{Paired}
 use Rattle.mt_index.specs.Calls.{call_at, total}
@@ -127,12 +127,16 @@ pub held_more : (reads : Bool) (from number views all more : ℕ) (holders : Lis
 held_more true from number views all more holders had begun = let one = pinning_counts from number holders in omega (arith, had, begun, one)
 held_more false from number views all more holders had begun = omega (arith, had, begun)
 
--- a call that reads the log is one of its holders
-pub reader_holds : (n views : ℕ) (kept : Call) (ks : Entries) (holders : List ℕ) → call_at n ks ≡ Some kept → times_held kept.from holders ≡ views + total (holds_from kept.from) ks → reads_log (request_of kept.work) ≡ true → Contains holders kept.from
-reader_holds n views kept ks holders at held reads =
+-- a call that reads the log holds it
+pub reader_counts : (n views : ℕ) (kept : Call) (ks : Entries) (holders : List ℕ) → call_at n ks ≡ Some kept → times_held kept.from holders ≡ views + total (holds_from kept.from) ks → reads_log (request_of kept.work) ≡ true → 0 < times_held kept.from holders
+reader_counts n views kept ks holders at held reads =
     let rest = total_without n kept (holds_from kept.from) ks at in
     let one : holds_from kept.from kept ≡ 1 = ap (λ b. cond b (cond (kept.from == kept.from) 1 0) 0) reads ∙ ap (λ b. cond b 1 0) (eq-eqb kept.from kept.from refl) in
-    counted_is_held kept.from holders (omega (arith, held, rest, one))
+    omega (arith, held, rest, one)
+
+-- so it is one of its holders
+pub reader_holds : (n views : ℕ) (kept : Call) (ks : Entries) (holders : List ℕ) → call_at n ks ≡ Some kept → times_held kept.from holders ≡ views + total (holds_from kept.from) ks → reads_log (request_of kept.work) ≡ true → Contains holders kept.from
+reader_holds n views kept ks holders at held reads = counted_is_held kept.from holders (reader_counts n views kept ks holders at held reads)
 
 pub pinned_is : (reads : Bool) (log : LogView) → pinned reads log ≡ record log { holders = cond reads (with_holder (newest log) log.holders) log.holders }
 pinned_is true log = refl
@@ -159,7 +163,7 @@ pinned_holds true log is =
 pinned_holds false log is = absurd (let clash : false ≡ true = is in cc)
 
 -- a holder that is let go leaves those that there were
-without_with : (number : ℕ) (holders : List ℕ) → without_holder number (with_holder number holders) ≡ holders
+pub without_with : (number : ℕ) (holders : List ℕ) → without_holder number (with_holder number holders) ≡ holders
 without_with number [] = ap (λ b. cond b [] (number ∷ [])) (eq-eqb number number refl)
 without_with number (holder ∷ holders) = elim (leb_tells number holder) [
   | inl p ↦ ap (λ b. without_holder number (cond b (number ∷ holder ∷ holders) (holder ∷ with_holder number holders))) p.0
@@ -193,3 +197,17 @@ length_by_counts (x ∷ xs) ys same =
     omega (arith, all, cons, less)) in
     let shorter = length-without x ys found in
     omega (arith, rest, shorter)
+
+-- a number that is pinned is held
+pub with_holds : (number : ℕ) (holders : List ℕ) → Contains (with_holder number holders) number
+with_holds number holders =
+    let more = pinning_counts number number holders in
+    let one : ◌≡◌ {A = ℕ} (cond (number == number) 1 0) 1 = ap (λ b. cond b 1 0) (eq-eqb number number refl) in
+    counted_is_held number (with_holder number holders) (omega (arith, more, one))
+
+-- and what was held is held still
+pub still_holds : (number other : ℕ) (holders : List ℕ) → 0 < times_held other holders → Contains (with_holder number holders) other
+still_holds number other holders held = let more = pinning_counts number other holders in counted_is_held other (with_holder number holders) (omega (arith, more, held))
+
+pub still_holds_after : (number other : ℕ) (holders : List ℕ) → 0 < times_held other holders → 0 < times_held other (with_holder number holders)
+still_holds_after number other holders held = let more = pinning_counts number other holders in omega (arith, more, held)

@@ -11,6 +11,14 @@ use Rattle.std.specs.Ordering.{nat_cmp, is_eq, match_ordering, MatchOrdering}
 use Rattle.std.specs.BTreeMap.{insert_entry, is_at}
 use Rattle.std.proofs.lemmas.Bool.{eq-eqb, ne_eqb}
 use Rattle.std.proofs.lemmas.Bool.Decides.{eqb_tells}
+use Rattle.std.specs.Prelude.{nat_le}
+use Rattle.std.proofs.lemmas.Bool.{leb-false}
+use Rattle.mt_types.specs.Limits.{request_fault}
+use Rattle.mt_types.specs.Numbers.{greatest_number}
+use Rattle.mt_types.specs.declared.limits.TheConstants.{MAX_OPEN_CALLS}
+use Rattle.mt_types.specs.declared.refusal.Refusal.TheVariants.{TooManyCalls, Spent}
+use Rattle.mt_types.specs.declared.event.Request.{Request}
+use Rattle.mt_promise.specs.Legal.{begin_fault}
 use Rattle.mt_index.specs.declared.calls.Call.{Call}
 use Rattle.mt_index.specs.Calls.{call_at, with_changed, without, AreBegun}
 
@@ -125,3 +133,8 @@ or_none (Some r) y e = absurd (let clash : ◌≡◌ {A = Option Refusal} (Some 
 pub not_broken : (broken : Bool) (refusal : Refusal) (y : Option Refusal) → option_or (refused_if broken refusal) y ≡ None → broken ≡ false
 not_broken false refusal y e = refl
 not_broken true refusal y e = absurd (let clash : ◌≡◌ {A = Option Refusal} (Some refusal) None = e in cc)
+
+-- a call that can begin finds fewer open than there may be
+pub begun_few : (C begun opened places : ℕ) (request : Request) → begin_fault C begun opened places request ≡ None → opened < MAX_OPEN_CALLS
+begun_few C begun opened places request none =
+    leb-false MAX_OPEN_CALLS opened (not_broken (nat_le MAX_OPEN_CALLS opened) TooManyCalls _ (or_none (refused_if (nat_le greatest_number begun) Spent) _ (or_none (request_fault C request) _ none)))

@@ -37,25 +37,29 @@ use Rattle.mt_chart.specs.Tree.{Arena, Among}
 use Rattle.mt_chart.proofs.Basics.{same_number}
 use Rattle.mt_tree.specs.Seen.{arena_seen, HasRow}
 use Rattle.mt_index.specs.declared.calls.Call.{Call}
-use Rattle.mt_write.specs.declared.work.Work.{Work}
-use Rattle.mt_write.specs.declared.work.Work.TheVariants.{Get as GetWork, Write as WriteWork, Range as RangeWork}
+use Rattle.mt_works.specs.declared.work.Work.{Work}
+use Rattle.mt_works.specs.declared.work.Work.TheVariants.{Get as GetWork, Write as WriteWork, Range as RangeWork, Build as BuildWork}
 use Rattle.mt_calls.specs.World.{IsTaken, World, IsSame, Goes, NotAmong}
 use Rattle.mt_calls.specs.Step.{RowIs, IsQuiet, Changes, IsRight, MayRefuse, blocked_by, bounds}
 use Rattle.mt_write.specs.declared.writing.Edit.{Edit}
 use Rattle.mt_write.specs.declared.writing.Edit.TheVariants.{Put as PutEdit, Remove as RemoveEdit}
 use Rattle.mt_write.specs.Writing.{edit_request}
-use Rattle.mt_write.specs.Works.{request_of, held, IsTrue}
+use Rattle.mt_works.specs.Works.{request_of, held, IsTrue}
 use Rattle.mt_commit.specs.Logged.{key_of, delta_made, deltas_of}
 use Rattle.mt_index.specs.Paired.{Paired}
 use Rattle.mt_index.specs.Calls.{call_at, with_changed, with_work, without, AreApart, total, all_reserved}
 use Rattle.mt_index.specs.Stands.{AllOwned, MachineView, CallStands, WasBlocked, HasRowsOf, IsPast, Stands, holding}
 use Rattle.mt_commit.proofs.DeltaLemmas.{delta_is, deltas_of-append, deltas_of-length}
 use Rattle.mt_index.proofs.LogStands.{holds_from, all-held, slowest_is, trims, was_later, blocked_now}
-use Rattle.mt_index.proofs.PastLemmas.{past_more, right_range}
+use Rattle.mt_views.specs.Views.{ViewsView}
+use Rattle.mt_index.specs.Viewing.{ViewsStand, ReadsOf}
+use Rattle.mt_index.proofs.PastLemmas.{Grows, past_more, right_range}
+use Rattle.mt_index.proofs.Reading.{reads_still}
+use Rattle.mt_index.proofs.ViewStands.{all_exact_still, builds_of, paired-builds}
 use Rattle.mt_index.proofs.NumberLemmas.{Entries}
 use Rattle.mt_index.proofs.PairedLemmas.{Others, Found, paired-change, paired-without, paired-each, paired-one}
 use Rattle.mt_index.proofs.ListLemmas.{among_kept, among_new, among_left, among_at, among_changed, among_without}
-use Rattle.mt_write.proofs.WorkLemmas.{stays, owned_taken}
+use Rattle.mt_works.proofs.WorkLemmas.{stays, owned_taken}
 
 abbrev pub step_event : ℕ → Event
 step_event n = Step (record { 0 = n })
@@ -109,6 +113,8 @@ may_end past began (GetWork g) NoMemory was m = tt
 may_end past began (GetWork g) _ was m = absurd m
 may_end past began (RangeWork g) NoMemory was m = tt
 may_end past began (RangeWork g) _ was m = absurd m
+may_end past began (BuildWork g) NoMemory was m = tt
+may_end past began (BuildWork g) _ was m = absurd m
 
 -- and what it answers is right
 answer_write : (s : MachineView) (h : History) (st : Stands s h) (call : OpenCall) (key : List ℕ) (edit : Edit) (committed : Option ℕ) (answer : Answer) (past : List Arena) → call.began ≤ length h → call.committed ≡ committed → IsRight past s.tree (edit_request key edit) committed answer
@@ -128,7 +134,7 @@ answer_write s h st call key RemoveEdit committed (RowsAnswer pairs) past began 
 answer_write s h st call key RemoveEdit committed (Tidied rule) past began is m = absurd m
 answer_write s h st call key RemoveEdit committed (Built view) past began is m = absurd m
 
-pub right_answer : (s : MachineView) (h : History) (st : Stands s h) (call : OpenCall) (work : Work) (answer : Answer) → call.began ≤ length h → call.committed ≡ (held work).committed → (past : List Arena) → IsPast s.columns call.began h (arena_seen s.tree ∷ past) → IsRight past s.tree (request_of work) (held work).committed answer
+pub right_answer : (s : MachineView) (h : History) (st : Stands s h) (call : OpenCall) (work : Work) (answer : Answer) → call.began ≤ length h → call.committed ≡ (held work).committed → (past : List Arena) → IsPast s.columns call.began call.from h (arena_seen s.tree ∷ past) → IsRight past s.tree (request_of work) (held work).committed answer
     → RightAnswer s.columns h call (request_of work) answer 0
 right_answer s h st call (WriteWork g) answer began committed past passed m = answer_write s h st call g.key g.edit (held (WriteWork g)).committed answer past began committed m
 right_answer s h st call (GetWork g) Absent began committed past passed (bytes, is) = Sometime-here call.began (Lacks s.columns g.key) h began (row_is s h st g.key None bytes is)
@@ -142,9 +148,20 @@ right_answer s h st call (RangeWork g) Absent began committed past passed m = ab
 right_answer s h st call (RangeWork g) (FoundAnswer row) began committed past passed m = absurd m
 right_answer s h st call (RangeWork g) (StoredAnswer number) began committed past passed m = absurd m
 right_answer s h st call (RangeWork g) (Removed number) began committed past passed m = absurd m
-right_answer s h st call (RangeWork g) (RowsAnswer pairs) began committed past passed m = right_range s.columns call.began h (arena_seen s.tree ∷ past) g.start g.columns g.limit pairs began passed st.keys m
+right_answer s h st call (RangeWork g) (RowsAnswer pairs) began committed past passed m = right_range s.columns call.began call.from h (arena_seen s.tree ∷ past) g.start g.columns g.limit pairs began passed st.keys m
 right_answer s h st call (RangeWork g) (Tidied rule) began committed past passed m = absurd m
 right_answer s h st call (RangeWork g) (Built view) began committed past passed m = absurd m
+right_answer s h st call (BuildWork g) Absent began committed past passed m = absurd m
+right_answer s h st call (BuildWork g) (FoundAnswer row) began committed past passed m = absurd m
+right_answer s h st call (BuildWork g) (StoredAnswer number) began committed past passed m = absurd m
+right_answer s h st call (BuildWork g) (Removed number) began committed past passed m = absurd m
+right_answer s h st call (BuildWork g) (RowsAnswer pairs) began committed past passed m = absurd m
+right_answer s h st call (BuildWork g) (Tidied rule) began committed past passed m = absurd m
+right_answer s h st call (BuildWork g) (Built view) began committed past passed m = absurd m
+
+-- each row of a history is under a key of bytes
+abbrev pub HasKeys : ℕ → History → Type 0
+HasKeys C h = (key : List ℕ) (row : Row) → get (rows C (moment h)) key ≡ Some row → AreBytes key
 
 -- ---- the list of calls: one step of one call leaves what is true of the others, and keeps what they own apart
 module _ (s : MachineView) (h : History) (n : ℕ) (kept : Call) (st : Stands s h) (at : call_at n s.calls.calls ≡ Some kept) (f : Found (CallStands s.columns s.epoch s.tree st.w h) n kept (moment h).calls)
@@ -157,8 +174,8 @@ module _ (s : MachineView) (h : History) (n : ℕ) (kept : Call) (st : Stands s 
       goes.leaves number (owned_taken s.columns k.1.epoch c.moves r.past s.tree st.w k.1.work r.true number owned)
       (λ mine. st.apart (n, kept) k (among_at n kept s.calls.calls at) i (λ e. ne (sym e)) number mine owned)
 
-  pub others_stand : (x : Happening) → HasRowsOf s.columns after_tree (x ∷ h) → Others n s.calls.calls before (CallStands s.columns s.epoch after_tree goes.next (x ∷ h))
-  others_stand x content k c i ne r = record {
+  pub others_stand : (x : Happening) → HasRowsOf s.columns after_tree (x ∷ h) → HasKeys s.columns (x ∷ h) → Grows s.columns (moment h) (moment (x ∷ h)) → Others n s.calls.calls before (CallStands s.columns s.epoch after_tree goes.next (x ∷ h))
+  others_stand x content keys grows k c i ne r = record {
     pass = r.pass;
     request = r.request;
     from = r.from;
@@ -167,8 +184,9 @@ module _ (s : MachineView) (h : History) (n : ℕ) (kept : Call) (st : Stands s 
     committed = r.committed;
     blocked = was_later c.began x h (held k.1.work).blocked r.blocked;
     past = arena_seen s.tree ∷ r.past;
-    passed = let b = r.began in past_more s.columns c.began x h after_tree (arena_seen s.tree ∷ r.past) (omega arith) content r.passed;
+    passed = let b = r.began in past_more s.columns c.began c.from x h after_tree (arena_seen s.tree ∷ r.past) (omega arith) content keys grows r.passed;
     true = stays s.tree after_tree st.w goes.next s.columns k.1.epoch c.moves r.past (goes.evolves k.1.epoch r.epoch) k.1.work (λ number owned. (others_left k i ne c r number owned).0) r.true;
+    reads = reads_still s.columns (moment h) (moment (x ∷ h)) grows c.from k.1.work r.reads;
   }
 
   each : (k : ℕ × Call) → Among k s.calls.calls → (c : OpenCall) × before k c
@@ -240,8 +258,28 @@ now_held s h x holders entries next after_tree calls views held number =
     ∙ sym (all-held (CallStands s.columns s.epoch after_tree next (x ∷ h)) (λ k c r. r.from) (λ k c r. r.request) number 0 s.calls.begun entries (moment (x ∷ h)) calls)
 
 -- ---- the machine after a step of a call
-abbrev pub next_seen : MachineView → ArenaView → LogView → Entries → MachineView
-next_seen s after left ks = record { columns = s.columns; epoch = s.epoch; tree = after; log = left; calls = record s.calls { calls = ks } }
+abbrev pub next_seen : MachineView → ArenaView → LogView → ViewsView → Entries → MachineView
+next_seen s after left views ks = record { columns = s.columns; epoch = s.epoch; tree = after; log = left; calls = record s.calls { calls = ks }; views = views }
+
+-- what the views are that a step leaves: those that stood, with so many places for builds
+abbrev pub with_building : ℕ → ViewsView → ViewsView
+with_building building views = record views { building = building }
+
+-- the places that builds keep are as many as the machine's calls tell
+pub now_views : (s : MachineView) (h : History) (x : Happening) (building : ℕ) (entries : Entries) (next : World) (after_tree : ArenaView) → Paired (CallStands s.columns s.epoch after_tree next (x ∷ h)) 0 s.calls.begun entries (moment (x ∷ h)).calls
+    → (moment (x ∷ h)).views ≡ (moment h).views → (moment (x ∷ h)).built ≡ (moment h).built → Grows s.columns (moment h) (moment (x ∷ h)) → building ≡ total builds_of entries → building ≤ s.views.building → ViewsStand s.columns (moment h) s.views → ViewsStand s.columns (moment (x ∷ h)) (with_building building s.views)
+now_views s h x building entries next after_tree calls views built grows counted fewer stand = record {
+  built = stand.built ∙ sym built;
+  standing = views ∙ stand.standing;
+  exact = all_exact_still s.columns (moment h) (moment (x ∷ h)) grows s.views.views stand.exact;
+  rises = stand.rises;
+  building = counted ∙ sym (paired-builds (CallStands s.columns s.epoch after_tree next (x ∷ h)) (λ k c r. r.request) 0 s.calls.begun entries (moment (x ∷ h)).calls calls);
+  few = let f = stand.few in omega (arith, f, fewer);
+}
+
+-- for how many builds places are kept
+pub builds_before : (s : MachineView) (h : History) (st : Stands s h) → s.views.building ≡ total builds_of s.calls.calls
+builds_before s h st = st.views.building ∙ paired-builds (CallStands s.columns s.epoch s.tree st.w h) (λ k c r. r.request) 0 s.calls.begun s.calls.calls (moment h).calls st.calls
 
 module _ (s : MachineView) (h : History) (n : ℕ) (kept : Call) (st : Stands s h) (at : call_at n s.calls.calls ≡ Some kept) (f : Found (CallStands s.columns s.epoch s.tree st.w h) n kept (moment h).calls)
     (after_tree : ArenaView) (left : LogView) (work : Work) (owns : List ℕ) (Then : World → Type 0) (goes : Goes s.epoch s.tree after_tree st.w (held kept.work).owns owns Then)
@@ -260,13 +298,14 @@ module _ (s : MachineView) (h : History) (n : ℕ) (kept : Call) (st : Stands s 
   pub calls_on : (o : Outcome) (new : OpenCall) (commits : List Change) → after_step (moment h) f.call o 0 ≡ record (moment h) { commits = commits; calls = replace_call new (moment h).calls }
       → new.number ≡ f.call.number → new.pass ≡ f.call.pass → new.request ≡ f.call.request → new.began ≡ f.call.began → new.from ≡ f.call.from → new.committed ≡ (held work).committed
       → ((held work).blocked ≡ (held kept.work).blocked) ⊎ ((held work).blocked ≡ Some (slowest s.log))
-      → HasRowsOf s.columns after_tree (happening (step_event n) o 0 ∷ h) → IsTrue s.columns work kept.epoch new.moves (arena_seen s.tree ∷ f.related.past) after_tree goes.next
+      → HasRowsOf s.columns after_tree (happening (step_event n) o 0 ∷ h) → HasKeys s.columns (happening (step_event n) o 0 ∷ h) → Grows s.columns (moment h) (moment (happening (step_event n) o 0 ∷ h))
+      → IsTrue s.columns work kept.epoch new.moves (arena_seen s.tree ∷ f.related.past) after_tree goes.next → ReadsOf s.columns (moment h).commits f.call.from work
       → Paired (R (happening (step_event n) o 0 ∷ h)) 0 s.calls.begun ks (moment (happening (step_event n) o 0 ∷ h)).calls
-  calls_on o new commits makes number pass asked began from committed blocks content truth =
+  calls_on o new commits makes number pass asked began from committed blocks content keys grows truth reads =
       let x : Happening = happening (step_event n) o 0 in
       let r = f.related in
       subst (λ cs. Paired (R (x ∷ h)) 0 s.calls.begun ks cs) (sym (ap (λ m. m.calls) (then_is o _ makes)))
-      (paired-change (with_work work) n (CallStands s.columns s.epoch s.tree st.w h) (R (x ∷ h)) 0 s.calls.begun s.calls.calls (moment h).calls kept new (others_stand s h n kept st at f after_tree work owns Then goes x content) st.calls at (number ∙ f.numbered)
+      (paired-change (with_work work) n (CallStands s.columns s.epoch s.tree st.w h) (R (x ∷ h)) 0 s.calls.begun s.calls.calls (moment h).calls kept new (others_stand s h n kept st at f after_tree work owns Then goes x content keys grows) st.calls at (number ∙ f.numbered)
       (record {
         pass = pass ∙ r.pass;
         request = asked ∙ r.request ∙ sym request;
@@ -279,17 +318,19 @@ module _ (s : MachineView) (h : History) (n : ℕ) (kept : Call) (st : Stands s 
           | inr now ↦ subst (λ (b : Option ℕ). WasBlocked f.call.began (x ∷ h) b) (sym now) (blocked_now f.call.began x h s.log (slowest_is s.log (moment h) st.commits st.held) r.began)
         ]);
         past = arena_seen s.tree ∷ r.past;
-        passed = let b = r.began in past_more s.columns new.began x h after_tree (arena_seen s.tree ∷ r.past) (omega (arith, b, began)) content (subst (λ (m : ℕ). IsPast s.columns m h (arena_seen s.tree ∷ r.past)) (sym began) r.passed);
+        passed = let b = r.began in past_more s.columns new.began new.from x h after_tree (arena_seen s.tree ∷ r.past) (omega (arith, b, began)) content keys grows
+            (subst (λ (m : ℕ). IsPast s.columns new.began m h (arena_seen s.tree ∷ r.past)) (sym from) (subst (λ (m : ℕ). IsPast s.columns m f.call.from h (arena_seen s.tree ∷ r.past)) (sym began) r.passed));
         true = truth;
+        reads = subst (λ (m : ℕ). ReadsOf s.columns (moment (x ∷ h)).commits m work) (sym from) (reads_still s.columns (moment h) (moment (x ∷ h)) grows f.call.from work reads);
       }))
 
   -- the calls, where this one ends
-  pub calls_end : (o : Outcome) → (after_step (moment h) f.call o 0).calls ≡ without_call f.call.number (moment h).calls → HasRowsOf s.columns after_tree (happening (step_event n) o 0 ∷ h)
+  pub calls_end : (o : Outcome) → (after_step (moment h) f.call o 0).calls ≡ without_call f.call.number (moment h).calls → HasRowsOf s.columns after_tree (happening (step_event n) o 0 ∷ h) → HasKeys s.columns (happening (step_event n) o 0 ∷ h) → Grows s.columns (moment h) (moment (happening (step_event n) o 0 ∷ h))
       → Paired (R (happening (step_event n) o 0 ∷ h)) 0 s.calls.begun (without n s.calls.calls) (moment (happening (step_event n) o 0 ∷ h)).calls
-  calls_end o makes content =
+  calls_end o makes content keys grows =
       let x : Happening = happening (step_event n) o 0 in
       subst (λ cs. Paired (R (x ∷ h)) 0 s.calls.begun (without n s.calls.calls) cs) (sym (ap (λ m. m.calls) (then_is o _ refl) ∙ makes ∙ ap (λ m. without_call m (moment h).calls) f.numbered))
-      (paired-without n (CallStands s.columns s.epoch s.tree st.w h) (R (x ∷ h)) 0 s.calls.begun s.calls.calls (moment h).calls (others_stand s h n kept st at f after_tree work owns Then goes x content) st.calls)
+      (paired-without n (CallStands s.columns s.epoch s.tree st.w h) (R (x ∷ h)) 0 s.calls.begun s.calls.calls (moment h).calls (others_stand s h n kept st at f after_tree work owns Then goes x content keys grows) st.calls)
 
   -- a step that commits nothing
   module _ (quiet : IsQuiet s.tree after_tree s.log left) where
@@ -303,12 +344,18 @@ module _ (s : MachineView) (h : History) (n : ℕ) (kept : Call) (st : Stands s 
       (λ e. (quiet.content (place_of key) row).1 ((st.content key bytes row).1 (sym (ap (λ (rs : Rows). get rs key) (same_rows o commits)) ∙ e))),
     )
 
-    pub still : (o : Outcome) (entries : Entries) (holders : List ℕ) → MayStep s.columns h f.call o 0 → (after_step (moment h) f.call o 0).commits ≡ (moment h).commits → (after_step (moment h) f.call o 0).begun ≡ (moment h).begun
-        → (after_step (moment h) f.call o 0).views ≡ (moment h).views
+    pub keys_still : (o : Outcome) → (after_step (moment h) f.call o 0).commits ≡ (moment h).commits → HasKeys s.columns (happening (step_event n) o 0 ∷ h)
+    keys_still o commits key row is = st.keys key row (sym (ap (λ (rs : Rows). get rs key) (same_rows o commits)) ∙ is)
+
+    pub grows_still : (o : Outcome) → (after_step (moment h) f.call o 0).commits ≡ (moment h).commits → Grows s.columns (moment h) (moment (happening (step_event n) o 0 ∷ h))
+    grows_still o commits = inl (ap (λ m. m.commits) (then_is o _ refl) ∙ commits)
+
+    pub still : (o : Outcome) (entries : Entries) (holders : List ℕ) (building : ℕ) → MayStep s.columns h f.call o 0 → (after_step (moment h) f.call o 0).commits ≡ (moment h).commits → (after_step (moment h) f.call o 0).begun ≡ (moment h).begun
+        → (after_step (moment h) f.call o 0).views ≡ (moment h).views → (after_step (moment h) f.call o 0).built ≡ (moment h).built
         → Paired (R (happening (step_event n) o 0 ∷ h)) 0 s.calls.begun entries (moment (happening (step_event n) o 0 ∷ h)).calls → AreApart entries → AllOwned after_tree goes.next entries → left.reserved ≡ all_reserved entries
-        → IsLog (record left { holders = holders }) → HoldersAre s h holders entries
-        → Stands (next_seen s after_tree (trimmed (record left { holders = holders })) entries) (happening (step_event n) o 0 ∷ h)
-    still o entries holders may commits begun views calls apart owned reserved sound held =
+        → IsLog (record left { holders = holders }) → HoldersAre s h holders entries → building ≡ total builds_of entries → building ≤ s.views.building
+        → Stands (next_seen s after_tree (trimmed (record left { holders = holders })) (with_building building s.views) entries) (happening (step_event n) o 0 ∷ h)
+    still o entries holders building may commits begun views built calls apart owned reserved sound held counted fewer =
         let x : Happening = happening (step_event n) o 0 in
         let then = then_is o _ refl in
         let same : (moment (x ∷ h)).commits ≡ (moment h).commits = ap (λ m. m.commits) then ∙ commits in
@@ -329,7 +376,7 @@ module _ (s : MachineView) (h : History) (n : ℕ) (kept : Call) (st : Stands s 
           logged = log.logged;
           trimmed = log.trimmed;
           held = log.held;
-          views = ap (λ m. m.views) then ∙ views ∙ st.views;
+          views = now_views s h x building entries goes.next after_tree calls (ap (λ m. m.views) then ∙ views) (ap (λ m. m.built) then ∙ built) (inl same) counted fewer st.views;
           calls = calls;
           apart = apart;
           owned = owned;
@@ -408,16 +455,19 @@ module _ (s : MachineView) (h : History) (n : ℕ) (kept : Call) (st : Stands s 
         ∙ sym (drop-append-le s.log.held_after (deltas_of s.columns (moment h).commits) (delta ∷ []) reaches)
         ∙ ap (drop s.log.held_after) (made_now)
 
+    grows : Grows s.columns (moment h) (moment (happened ∷ h))
+    grows = inr (record { change = change; commits = commits_are; delta = delta; deltas = sym made_now; made = rows_are })
+
     pub commit_stands : (held work).owns ≡ owns → (held work).committed ≡ Some number → ((held work).blocked ≡ (held kept.work).blocked) ⊎ ((held work).blocked ≡ Some (slowest s.log))
-        → IsTrue s.columns work kept.epoch 0 (arena_seen s.tree ∷ f.related.past) after_tree goes.next → left.reserved ≡ all_reserved ks
-        → IsLog left → HoldersAre s h left.holders ks
-        → Stands (next_seen s after_tree (trimmed left) ks) (happened ∷ h)
-    commit_stands same_owns committed blocks truth reserved sound held =
+        → IsTrue s.columns work kept.epoch 0 (arena_seen s.tree ∷ f.related.past) after_tree goes.next → ReadsOf s.columns (moment h).commits f.call.from work → left.reserved ≡ all_reserved ks
+        → IsLog left → HoldersAre s h left.holders ks → s.views.building ≡ total builds_of ks
+        → Stands (next_seen s after_tree (trimmed left) s.views ks) (happened ∷ h)
+    commit_stands same_owns committed blocks truth reads reserved sound held building_is =
         let longer : length (s.log.deltas ++ delta ∷ []) ≡ length s.log.deltas + 1 = length-append s.log.deltas (delta ∷ []) in
         let longer_commits : length ((moment h).commits ++ change ∷ []) ≡ length (moment h).commits + 1 = length-append (moment h).commits (change ∷ []) in
         let as_many = st.commits in
         let counted : newest (with_delta s.log delta) ≡ length ((moment h).commits ++ change ∷ []) = omega (arith, longer, longer_commits, as_many) in
-        let calls = calls_on (Commit number) (record f.call { committed = Some number; moves = 0 }) _ refl refl refl refl refl refl (sym committed) blocks content_then truth in
+        let calls = calls_on (Commit number) (record f.call { committed = Some number; moves = 0 }) _ refl refl refl refl refl refl (sym committed) blocks content_then keys_then grows truth reads in
         let then = then_is (Commit number) _ refl in
         let log = trims s.columns left (moment (happened ∷ h)) sound (record {
           commits = ap newest changes.logged ∙ counted ∙ sym (ap length commits_are);
@@ -438,7 +488,7 @@ module _ (s : MachineView) (h : History) (n : ℕ) (kept : Call) (st : Stands s 
           logged = log.logged;
           trimmed = log.trimmed;
           held = log.held;
-          views = ap (λ m. m.views) then ∙ st.views;
+          views = now_views s h happened s.views.building ks goes.next after_tree calls (ap (λ m. m.views) then) (ap (λ m. m.built) then) grows building_is (omega arith) st.views;
           calls = calls;
           apart = apart_changed s h n kept st at f after_tree work owns Then goes same_owns;
           owned = owned_on s h n kept st at f after_tree work owns Then goes same_owns;

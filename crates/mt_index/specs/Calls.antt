@@ -1,17 +1,17 @@
 -- The calls that are open, as contracts see them.
 use Rattle.std.specs.Prelude.{ℕ, ◌≡◌, ◌≢◌, ◌≤◌, ◌+◌, ◌==◌, if◌then◌else◌, Bool, List, [], ◌∷◌, Option, Some, None}
 use Rattle.mt_types.specs.declared.numbers.PassNo.{PassNo}
-use Rattle.mt_promise.specs.Legal.{reads_log}
+use Rattle.mt_promise.specs.Legal.{reads_log, is_build}
 use Rattle.mt_commit.specs.Log.{LogView}
 use Rattle.mt_arena.specs.Arena.{ArenaView}
 use Rattle.mt_chart.specs.Tree.{Among}
 use Rattle.mt_index.specs.declared.calls.Call.{Call}
-use Rattle.mt_write.specs.declared.work.Work.{Work}
+use Rattle.mt_works.specs.declared.work.Work.{Work}
 use Rattle.mt_calls.specs.declared.progress.Progress.{Progress}
 use Rattle.mt_calls.specs.World.{NotAmong}
 use Rattle.mt_calls.specs.Step.{StepLaw, MayStep}
-use Rattle.mt_write.specs.Causes.{WorkWaits, WorkFails}
-use Rattle.mt_write.specs.Works.{request_of, held, IsTrue}
+use Rattle.mt_works.specs.Causes.{WorkWaits, WorkFails}
+use Rattle.mt_works.specs.Works.{request_of, held, IsTrue, HasNext, IsBuiltWork, WorkBuilds}
 
 pub record CallsView : Type 0 where
   pub begun : ℕ  -- how many calls have begun
@@ -58,18 +58,25 @@ all_reserved calls = total (λ call. (held call.work).reserves) calls
 -- the call of this number may step
 abbrev pub MayStepOf : ℕ → ArenaView → LogView → Option Call → Type 0
 MayStepOf C a log None = Unit {0}
-MayStepOf C a log (Some call) = MayStep a log (held call.work) (IsTrue C call.work)
+MayStepOf C a log (Some call) = MayStep a log (held call.work) (IsTrue C call.work) × HasNext log call.work
 
 -- a step of the call of this number: it comes so far
-pub record StepsCall (C number : ℕ) (old new : CallsView) (a after : ArenaView) (log left : LogView) (pass : PassNo) (reads : Bool) (from : ℕ) (p : Progress) : Type 0 where
+pub record StepsCall (C number : ℕ) (old new : CallsView) (a after : ArenaView) (log left : LogView) (pass : PassNo) (reads builds : Bool) (from : ℕ) (p : Progress) : Type 0 where
   pub call : Call
   pub is_open : call_at number old.calls ≡ Some call
   pub work : Work
   pub same_request : request_of work ≡ request_of call.work
   pub law : StepLaw C a after log left (request_of call.work) (held call.work) p (held work) (IsTrue C call.work) (IsTrue C work)
+  pub goes_on : WorkBuilds a log call.work p work
   pub waits : WorkWaits a call.work p
   pub fails : WorkFails a log call.work p work
   pub changed : new ≡ record old { calls = with_changed (with_work work) number old.calls }
   pub pass_is : pass ≡ call.pass
   pub reads_is : reads ≡ reads_log (request_of call.work)
+  pub builds_is : builds ≡ is_build (request_of call.work)
   pub from_is : from ≡ call.from
+
+-- the open call of this number is a build that has taken all, whose view is to be opened
+abbrev pub IsBuiltCall : Option Call → Type 0
+IsBuiltCall None = ⊥
+IsBuiltCall (Some call) = IsBuiltWork call.work

@@ -1,13 +1,15 @@
 -- Why a call waits, fails or is refused: what a history doesn't show.
-use Rattle.std.specs.Prelude.{ℕ, ◌≡◌, Option, Some, None}
+use Rattle.std.specs.Prelude.{ℕ, ◌≡◌, ◌≤◌, ◌⊎◌, Option, Some, None}
 use Rattle.mt_types.specs.declared.refusal.Refusal.{Refusal}
-use Rattle.mt_types.specs.declared.refusal.Refusal.TheVariants.{NoSuchCall}
+use Rattle.mt_types.specs.declared.refusal.Refusal.TheVariants.{NoSuchCall, Spent}
 use Rattle.mt_types.specs.declared.event.Event.{Event}
 use Rattle.mt_types.specs.declared.event.Event.TheVariants.{Step}
 use Rattle.mt_types.specs.declared.event.Outcome.{Outcome}
 use Rattle.mt_types.specs.declared.event.Outcome.TheVariants.{Again, Moved, Refused}
 use Rattle.mt_calls.specs.declared.progress.Progress.TheVariants.{Moved as WentOn, Waits}
-use Rattle.mt_write.specs.Causes.{WorkWaits, WorkFails, WorkRefuses}
+use Rattle.mt_works.specs.Causes.{WorkWaits, WorkFails, WorkRefuses}
+use Rattle.mt_types.specs.Numbers.{greatest_number}
+use Rattle.mt_works.specs.Works.{IsBuiltWork}
 use Rattle.mt_index.specs.declared.calls.Call.{Call}
 use Rattle.mt_index.specs.Calls.{call_at}
 use Rattle.mt_index.specs.Stands.{MachineView}
@@ -22,10 +24,14 @@ WaitsFor s (Some call) = WorkWaits s.tree call.work Waits
 abbrev pub FailsFor : MachineView → ℕ → MachineView → Type 0
 FailsFor s number t = (before after : Call) → call_at number s.calls.calls ≡ Some before → call_at number t.calls.calls ≡ Some after → WorkFails s.tree s.log before.work WentOn after.work
 
--- the call is refused for what it had failed for; a get or range, for want of memory at a border
+-- no number of a view is left for the build that would open one
+abbrev pub SpentFor : MachineView → Call → Refusal → Type 0
+SpentFor s call refusal = (refusal ≡ Spent) × (greatest_number ≤ s.views.built) × IsBuiltWork call.work
+
+-- the call is refused for what it had failed for; a get or range, for want of memory at a border; a build for that, or for the number of its view
 abbrev pub RefusedFor : MachineView → Option Call → Refusal → Type 0
 RefusedFor s None refusal = refusal ≡ NoSuchCall
-RefusedFor s (Some call) refusal = WorkRefuses s.tree call.work refusal
+RefusedFor s (Some call) refusal = WorkRefuses s.tree call.work refusal ⊎ SpentFor s call refusal
 
 -- WHY A CALL WAITS, FAILS OR IS REFUSED, by the machine before the step and after it. It waits only where the node that its step visits is marked
 -- deleted; or, for a put or remove, is a border that is locked or, while it posts, an interior that is. So a get or range never waits at a lock.

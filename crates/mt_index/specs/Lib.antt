@@ -1,5 +1,6 @@
 pub mod Calls
 pub mod Paired
+pub mod Viewing
 pub mod Stands
 pub mod Causes
 pub mod Laws

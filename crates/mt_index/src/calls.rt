@@ -1,14 +1,15 @@
 //! The calls that are open, by their numbers.
 
 ghost use Rattle.std.specs.Prelude.{◌≡◌, ◌+◌, ◌-◌, ◌^◌, ◌<◌, ◌++◌, [], ◌∷◌, length, IfOk, OnOk, OnErr, None, MatchOption};
-ghost use Rattle.mt_index.specs.Calls.{call_at, without, MayStepOf, StepsCall};
+ghost use Rattle.std.specs.Prelude.{◌↔◌, IsTrue};
+ghost use Rattle.mt_index.specs.Calls.{call_at, without, MayStepOf, StepsCall, IsBuiltCall};
 
 use mt_calls::progress::Progress;
 use mt_commit::log::Log;
 use mt_tree::Tree;
 use mt_types::numbers::PassNo;
 use mt_types::refusal::NoMemory;
-use mt_write::work::Work;
+use mt_works::work::Work;
 use std::alloc::Global;
 use std::collections::BTreeMap;
 use std::marker::Model;
@@ -31,6 +32,8 @@ pub(crate) struct Stepped {
     pub(crate) from: u64,
     /// Whether it reads the log from the commits of its begin on.
     pub(crate) reads: bool,
+    /// Whether it is a build, which keeps a place among the views.
+    pub(crate) builds: bool,
     pub(crate) progress: Progress,
 }
 
@@ -50,7 +53,9 @@ impl Model for Calls {
 
     ghost Value = { CallsView };
 
-    ghost coded = { Prim.hlevel (codes, place_code) };
+    ghost use Rattle.mt_view.specs.StateCode.{state_code};
+
+    ghost coded = { Prim.hlevel (codes, place_code, state_code) };
 
     ghost view = { λ c. record { begun = c.begun; calls = c.calls.entries } };
 
@@ -106,7 +111,7 @@ impl Calls {
     ) -> Option<Stepped>
         requires { MayStepOf columns tree.old log.old (call_at number self.old.calls) }
         ensures none { result ≡ None → (call_at number self.old.calls ≡ None) × (self.new ≡ self.old) × (tree.new ≡ tree.old) × (log.new ≡ log.old) }
-        ensures steps { MatchOption result (Unit {0}) (λ stepped. StepsCall columns number self.old self.new tree.old tree.new log.old log.new stepped.pass stepped.reads stepped.from stepped.progress) }
+        ensures steps { MatchOption result (Unit {0}) (λ stepped. StepsCall columns number self.old self.new tree.old tree.new log.old log.new stepped.pass stepped.reads stepped.builds stepped.from stepped.progress) }
     {
         let Some(call) = self.calls.get_mut(&number) else {
             return None;
@@ -116,14 +121,33 @@ impl Calls {
             pass: call.pass,
             from: call.from,
             reads: call.work.reads_log(),
+            builds: call.work.is_build(),
             progress,
         })
+    }
+
+    /// Whether the call of this number is a build that has taken all, whose view is to be opened.
+    pub(crate) fn is_built(&self, number: u64) -> bool
+        ensures { IsTrue result ↔ IsBuiltCall (call_at number self.now.calls) }
+    {
+        match self.calls.get(&number) {
+            Some(call) => call.work.is_built(),
+            None => false,
+        }
+    }
+
+    /// The call of this number ends, and is given back if it was open.
+    pub(crate) fn remove(&mut self, number: u64) -> Option<Call>
+        ensures value { result ≡ call_at number self.old.calls }
+        ensures left { self.new ≡ record self.old { calls = without number self.old.calls } }
+    {
+        self.calls.remove(&number)
     }
 
     /// The call of this number ends.
     pub(crate) fn end(&mut self, number: u64)
         ensures { self.new ≡ record self.old { calls = without number self.old.calls } }
     {
-        let _ = self.calls.remove(&number);
+        let _ = self.remove(number);
     }
 }

@@ -9,3 +9,4 @@ pub mod machine;
 pub mod options;
 #[cfg(test)]
 mod tests;
+mod viewing;

@@ -1,30 +1,37 @@
 //! The machine over the whole tree: events in, outcomes out, one visit of one node an event.
 
-ghost use Rattle.std.specs.Prelude.{◌≡◌, ◌↔◌, ◌<◌, [], ◌∷◌, take, drop, IsTrue, Contains, OnOk, OnErr, length, IfOk, IfErr, MatchOption, All, Some, None, Err};
+ghost use Rattle.std.specs.Prelude.{ℕ, ◌≡◌, ◌↔◌, ◌<◌, [], ◌∷◌, take, drop, IsTrue, Contains, OnOk, OnErr, length, IfOk, IfErr, MatchOption, All, Some, None, Err};
 ghost use Rattle.mt_types.specs.Limits.{open_fault};
 ghost use Rattle.mt_promise.specs.History.{History, happening, moment};
-ghost use Rattle.mt_promise.specs.Legal.{begin_fault};
+ghost use Rattle.mt_promise.specs.Legal.{begin_fault, is_build};
+ghost use Rattle.mt_views.specs.Views.{places};
+ghost use Rattle.mt_types.specs.declared.limits.TheConstants.{MAX_VIEWS};
 ghost use Rattle.mt_arena.specs.Node.{occupied};
-ghost use Rattle.mt_write.specs.Works.{IsServedRequest};
+ghost use Rattle.mt_works.specs.Works.{IsServedRequest};
 ghost use Rattle.mt_index.specs.Causes.{IsCaused};
 ghost use Rattle.mt_commit.specs.Logged.{deltas_of};
 ghost use Rattle.mt_index.specs.Feed.{feed_fault};
 ghost use Rattle.mt_commit.specs.Log.{newest};
 ghost use Rattle.mt_commit.specs.declared.log.TheConstants.{MAX_HOLDERS};
-ghost use Rattle.mt_index.specs.Stands.{Stands, IsServed, Begins, Steps, IsRun, HasBounds, pinned, released, outcome_of, calls_after, log_after};
+ghost use Rattle.mt_index.specs.Calls.{call_at, IsBuiltCall};
+ghost use Rattle.mt_index.specs.Stands.{Stands, IsServed, Begins, Steps, EndsBuild, Applies, ReadsView, Drops, IsRun, HasBounds, pinned, released, outcome_of, built_outcome, calls_after, log_after, views_after, placed, vacated};
 
 use crate::calls::{Call, Calls, Stepped};
 use crate::feed::deltas_after;
 use crate::options::Options;
+use crate::viewing::{close_build, page, take_on};
 use mt_calls::progress::Progress;
 use mt_commit::log::Log;
 use mt_tree::Tree;
-use mt_types::event::{Event, Outcome, Reply, Request};
-use mt_types::limits::{MAX_NODES, MAX_OPEN_CALLS, open_fault, request_fault};
-use mt_types::numbers::{CallNo, PassNo};
+use bytes::Bytes;
+use mt_types::event::{Answer, Event, Outcome, Reply, Request};
+use mt_types::limits::{MAX_NODES, MAX_OPEN_CALLS, MAX_VIEWS, open_fault, page_fault, request_fault};
+use mt_types::numbers::{CallNo, PassNo, ViewNo};
 use mt_types::refusal::{NoMemory, Refusal};
 use mt_types::row::Delta;
-use mt_write::work::work_of;
+use mt_views::views::Views;
+use mt_works::building::Building;
+use mt_works::work::{Work, work_of};
 use std::alloc::Global;
 use std::marker::Model;
 
@@ -36,6 +43,7 @@ pub struct Machine {
     tree: Tree,
     log: Log,
     calls: Calls,
+    views: Views,
 }
 
 impl Model for Machine {
@@ -46,37 +54,47 @@ impl Model for Machine {
 
     ghost Value = { MachineView };
 
-    ghost coded = { Prim.hlevel (codes, place_code) };
+    ghost use Rattle.mt_view.specs.StateCode.{state_code};
 
-    ghost view = { λ m. record { columns = m.columns; epoch = m.epoch; tree = m.tree; log = m.log; calls = m.calls } };
+    ghost coded = { Prim.hlevel (codes, place_code, state_code) };
 
-    ghost invariant = { λ m. (h : History) × Stands (record { columns = m.columns; epoch = m.epoch; tree = m.tree; log = m.log; calls = m.calls }) h };
+    ghost view = { λ m. record { columns = m.columns; epoch = m.epoch; tree = m.tree; log = m.log; calls = m.calls; views = m.views } };
+
+    ghost invariant = { λ m. (h : History) × Stands (record { columns = m.columns; epoch = m.epoch; tree = m.tree; log = m.log; calls = m.calls; views = m.views }) h };
 }
 
-/// Whether the index serves this event: steps, and begins of gets, puts, removes and ranges.
+/// Whether the index serves this event: all but begins of tidies, and epochs.
 pub fn is_served(event: &Event) -> bool
     ensures { IsTrue result ↔ IsServed event.now }
 {
     match event {
         Event::Begin(_, request) => is_served_request(request),
-        Event::Step(_) => true,
-        _ => false,
+        Event::Advance | Event::Collect => false,
+        _ => true,
     }
 }
 
 fn is_served_request(request: &Request) -> bool
     ensures { IsTrue result ↔ IsServedRequest request.now }
 {
-    matches!(
-        request,
-        Request::Get { .. } | Request::Put { .. } | Request::Remove { .. } | Request::Range { .. }
-    )
+    !matches!(request, Request::Tidy { .. })
 }
 
-// Why a call can't begin.
-fn begin_fault(columns: u8, begun: u64, opened: usize, request: &Request) -> Option<Refusal>
-    requires { IsServedRequest request.now }
-    ensures { result ≡ begin_fault columns begun opened 0 request.now }
+fn is_build(request: &Request) -> bool
+    ensures { result ≡ is_build request.now }
+{
+    matches!(request, Request::Build { .. })
+}
+
+// Why a call can't begin, where so many have begun, are open, and so many places of views are taken.
+fn begin_fault(
+    columns: u8,
+    begun: u64,
+    opened: usize,
+    places: usize,
+    request: &Request,
+) -> Option<Refusal>
+    ensures { result ≡ begin_fault columns begun opened places request.now }
 {
     if let Some(refusal) = request_fault(columns, request) {
         return Some(refusal);
@@ -84,7 +102,30 @@ fn begin_fault(columns: u8, begun: u64, opened: usize, request: &Request) -> Opt
     if begun == u64::MAX {
         return Some(Refusal::Spent);
     }
-    (opened >= MAX_OPEN_CALLS).then_some(Refusal::TooManyCalls)
+    if opened >= MAX_OPEN_CALLS {
+        return Some(Refusal::TooManyCalls);
+    }
+    (is_build(request) && places >= MAX_VIEWS).then_some(Refusal::TooManyViews)
+}
+
+// A call begins, which keeps a place among the views if it is a build.
+fn occupy(views: &mut Views, builds: bool)
+    requires { IsTrue builds → places views.old < MAX_VIEWS }
+    ensures { views.new ≡ placed builds views.old }
+{
+    if builds {
+        views.reserve();
+    }
+}
+
+// A call has ended, and keeps a place no longer.
+fn vacate(views: &mut Views, builds: bool)
+    requires { IsTrue builds → 0 < views.old.building }
+    ensures { views.new ≡ vacated builds views.old }
+{
+    if builds {
+        views.release();
+    }
 }
 
 // A call begins, which holds the log if it reads it. On an error nothing changes.
@@ -111,39 +152,66 @@ fn release(log: &mut Log, reads: bool, from: u64)
 }
 
 // What a step came to, as an outcome; a call that has ended is open no longer.
-fn settle(calls: &mut Calls, log: &mut Log, number: u64, stepped: Stepped) -> Outcome
-    requires { IsTrue stepped.reads → Contains log.old.holders stepped.from }
+fn settle(
+    calls: &mut Calls,
+    log: &mut Log,
+    views: &mut Views,
+    number: u64,
+    stepped: Stepped,
+) -> Outcome
+    requires holds { IsTrue stepped.reads → Contains log.old.holders stepped.from }
+    requires place { IsTrue stepped.builds → 0 < views.old.building }
     ensures outcome { result ≡ outcome_of number stepped.pass stepped.from (newest log.old) stepped.progress }
     ensures calls { calls.new ≡ calls_after number stepped.progress calls.old }
     ensures log { log.new ≡ log_after stepped.reads stepped.from stepped.progress log.old }
+    ensures views { views.new ≡ views_after stepped.builds stepped.progress views.old }
 {
     let Stepped {
         pass,
         from,
         reads,
+        builds,
         progress,
     } = stepped;
-    match progress {
-        Progress::Moved => Outcome::Moved,
-        Progress::Waits => Outcome::Again,
-        Progress::Committed(commit) => Outcome::Commit(commit),
-        Progress::Answered(answer) => {
-            let to = log.number();
-            calls.end(number);
-            release(log, reads, from);
-            Outcome::Done(Reply {
-                pass,
-                call: CallNo(number),
-                from,
-                to,
-                answer,
-            })
-        }
-        Progress::Refused(refusal) => {
-            calls.end(number);
-            release(log, reads, from);
-            Outcome::Refused(refusal)
-        }
+    let to = log.number();
+    let outcome = match progress {
+        Progress::Moved => return Outcome::Moved,
+        Progress::Waits => return Outcome::Again,
+        Progress::Committed(commit) => return Outcome::Commit(commit),
+        Progress::Answered(answer) => Outcome::Done(Reply {
+            pass,
+            call: CallNo(number),
+            from,
+            to,
+            answer,
+        }),
+        Progress::Refused(refusal) => Outcome::Refused(refusal),
+    };
+    calls.end(number);
+    release(log, reads, from);
+    vacate(views, builds);
+    outcome
+}
+
+// What the end of a build comes to, as an outcome.
+fn built_outcome(
+    pass: PassNo,
+    number: u64,
+    from: u64,
+    to: u64,
+    opened: Result<u64, Refusal>,
+) -> Outcome
+    ensures { result ≡ built_outcome pass number from to opened }
+{
+    match opened {
+        Ok(view) => Outcome::Done(Reply {
+            pass,
+            call: CallNo(number),
+            from,
+            to,
+            answer: Answer::Built(ViewNo(view)),
+        }),
+        Err(refusal) => Outcome::Refused(refusal),
     }
 }
 
@@ -167,6 +235,7 @@ impl Machine {
             tree: Tree::open(alloc)?,
             log: Log::open(alloc, options.feed, options.keep),
             calls: Calls::new(alloc),
+            views: Views::new(alloc),
         })
     }
 
@@ -206,14 +275,15 @@ impl Machine {
         ensures begins { Begins self.old pass request.now result self.new }
         ensures bounds { HasBounds self.old.log.feed self.old.log.keep self.new.log }
     {
-        let begun = self.calls.begun();
-        if let Some(refusal) = begin_fault(self.columns, begun, self.calls.len(), request) {
+        let (begun, opened, places) = (self.calls.begun(), self.calls.len(), self.views.places());
+        if let Some(refusal) = begin_fault(self.columns, begun, opened, places, request) {
             return Outcome::Refused(refusal);
         }
-        let Ok(work) = work_of(alloc, self.columns, request) else {
+        let from = self.log.number();
+        let Ok(work) = work_of(alloc, self.columns, from, request) else {
             return Outcome::Refused(Refusal::NoMemory);
         };
-        let (from, reads) = (self.log.number(), work.reads_log());
+        let (reads, builds) = (work.reads_log(), work.is_build());
         let Ok(()) = hold(&mut self.log, reads) else {
             return Outcome::Refused(Refusal::NoMemory);
         };
@@ -223,29 +293,120 @@ impl Machine {
             epoch: self.epoch,
             work,
         };
-        match self.calls.begin(call) {
-            Ok(number) => Outcome::Call(CallNo(number)),
-            Err(_) => {
-                release(&mut self.log, reads, from);
-                Outcome::Refused(Refusal::NoMemory)
-            }
-        }
+        let Ok(number) = self.calls.begin(call) else {
+            release(&mut self.log, reads, from);
+            return Outcome::Refused(Refusal::NoMemory);
+        };
+        occupy(&mut self.views, builds);
+        Outcome::Call(CallNo(number))
     }
 
     fn step(&mut self, alloc: Global, number: u64) -> Outcome
         ensures steps { Steps self.old number result self.new }
         ensures bounds { HasBounds self.old.log.feed self.old.log.keep self.new.log }
     {
+        if self.calls.is_built(number) {
+            return self.end_build(number);
+        }
         let Some(stepped) = self
             .calls
             .step(alloc, self.columns, number, &mut self.tree, &mut self.log)
         else {
             return Outcome::Refused(Refusal::NoSuchCall);
         };
-        let outcome = settle(&mut self.calls, &mut self.log, number, stepped);
+        let outcome = settle(
+            &mut self.calls,
+            &mut self.log,
+            &mut self.views,
+            number,
+            stepped,
+        );
         let _sound = self.log.number();
         self.log.trim();
         outcome
+    }
+
+    // A build that has taken all ends, and its view is opened where it stands.
+    fn end_build(&mut self, number: u64) -> Outcome
+        requires { IsBuiltCall (call_at number self.old.calls.calls) }
+        ensures ends { EndsBuild self.old number result self.new }
+        ensures bounds { HasBounds self.old.log.feed self.old.log.keep self.new.log }
+    {
+        let Some(call) = self.calls.remove(number) else {
+            unreachable!()
+        };
+        let Call {
+            pass, from, work, ..
+        } = call;
+        let Work::Build(building) = work else {
+            unreachable!()
+        };
+        let Building { build, .. } = building;
+        let to = self.log.number();
+        let opened = close_build(&mut self.log, &mut self.views, from, build.finish());
+        self.log.trim();
+        built_outcome(pass, number, from, to, opened)
+    }
+
+    fn apply(&mut self, view: u64) -> Outcome
+        ensures applies { Applies self.old view result self.new }
+        ensures bounds { HasBounds self.old.log.feed self.old.log.keep self.new.log }
+    {
+        let Some(number) = self.views.meant(view) else {
+            if view == 0 {
+                return Outcome::Current;
+            }
+            return Outcome::Refused(Refusal::NoSuchView);
+        };
+        let Some(at) = self.views.at(number) else {
+            unreachable!()
+        };
+        if self.log.number() <= at {
+            return Outcome::Current;
+        }
+        let Ok(()) = take_on(&mut self.log, &mut self.views, number, at) else {
+            return Outcome::Refused(Refusal::NoMemory);
+        };
+        self.log.trim();
+        Outcome::Applied(at + 1)
+    }
+
+    fn view_read(
+        &self,
+        alloc: Global,
+        view: u64,
+        floor: u64,
+        start: &Bytes,
+        limit: u16,
+    ) -> Outcome
+        ensures { ReadsView self.now view floor start.now limit result }
+    {
+        if let Some(refusal) = page_fault(start.as_slice(), limit) {
+            return Outcome::Refused(refusal);
+        }
+        let Some(at) = self.views.at(view) else {
+            return Outcome::Refused(Refusal::NoSuchView);
+        };
+        if at < floor {
+            return Outcome::Refused(Refusal::Behind(at));
+        }
+        match page(alloc, &self.views, view, start, limit) {
+            Ok(page) => Outcome::View(page),
+            Err(_) => Outcome::Refused(Refusal::NoMemory),
+        }
+    }
+
+    fn view_drop(&mut self, view: u64) -> Outcome
+        ensures drops { Drops self.old view result self.new }
+        ensures bounds { HasBounds self.old.log.feed self.old.log.keep self.new.log }
+    {
+        let Some(at) = self.views.at(view) else {
+            return Outcome::Refused(Refusal::NoSuchView);
+        };
+        self.views.end(view);
+        self.log.unpin(at);
+        self.log.trim();
+        Outcome::Dropped
     }
 
     /// One event, and what came of it. Wherever the machine stands, it then stands where this has happened too, and that
@@ -256,7 +417,7 @@ impl Machine {
     /// its call at the cost of a way down the tree of open calls.
     pub fn event(&mut self, alloc: Global, event: &Event) -> Outcome
         requires { IsServed event.now }
-        ensures stands { (h : History) → Stands self.old h → Stands self.new (happening event.now result 0 ∷ h) }
+        ensures stands { (h : History) → Stands self.old h → (opens : ℕ) × Stands self.new (happening event.now result opens ∷ h) }
         ensures caused { IsCaused self.old event.now result self.new }
         ensures columns { self.new.columns ≡ self.old.columns }
         ensures bounds { HasBounds self.old.log.feed self.old.log.keep self.new.log }
@@ -264,7 +425,15 @@ impl Machine {
         match event {
             Event::Begin(pass, request) => self.begin(alloc, *pass, request),
             Event::Step(call) => self.step(alloc, call.0),
-            _ => unreachable!(),
+            Event::Apply(view) => self.apply(view.0),
+            Event::ViewRead {
+                view,
+                floor,
+                start,
+                limit,
+            } => self.view_read(alloc, view.0, *floor, start, *limit),
+            Event::ViewDrop(view) => self.view_drop(view.0),
+            Event::Advance | Event::Collect => unreachable!(),
         }
     }
 

@@ -4,8 +4,6 @@ use Rattle.mt_types.specs.declared.refusal.Refusal.{Refusal}
 use Rattle.mt_types.specs.declared.refusal.Refusal.TheVariants.{NoMemory}
 use Rattle.mt_write.specs.declared.writing.Halves.{Halves}
 use Rattle.mt_write.specs.declared.writing.Edit.{Edit}
-use Rattle.mt_write.specs.declared.work.Work.{Work}
-use Rattle.mt_write.specs.declared.work.Work.TheVariants.{Get as GetWork, Write as WriteWork, Range as RangeWork}
 use Rattle.mt_calls.specs.declared.progress.Progress.TheVariants.{Refused}
 use Rattle.mt_write.specs.declared.writing.Stage.{Stage}
 use Rattle.mt_write.specs.declared.writing.Stage.TheVariants.{Seeks, Locked, Spared, HalfFilled, Halved, Posts, LayerSpared, LayerFilled, LayerReady, Layered, Filled, Made, Taken, Stored, Failed}
@@ -19,7 +17,7 @@ use Rattle.mt_tree.specs.Descent.{found_for}
 use Rattle.mt_calls.specs.declared.way.Way.{Way}
 use Rattle.mt_calls.specs.Way.{rest_of}
 use Rattle.mt_calls.proofs.FoundLemmas.{some_and}
-use Rattle.mt_write.specs.Causes.{ReadyFor, FailsBy, IsNotFailed, StageFails, WorkFails, WorkRefuses, put_fault, split_fault, fill_fault}
+use Rattle.mt_write.specs.Causes.{ReadyFor, FailsBy, IsNotFailed, StageFails, put_fault, split_fault, fill_fault}
 use Rattle.std.proofs.lemmas.Bool.{eq-eqb}
 use Rattle.mt_word.specs.declared.permutation_word.TheConstants.{SLOTS}
 use Rattle.mt_border.specs.declared.found.Found.TheVariants.{Absent}
@@ -70,7 +68,7 @@ pub room_ready : (a : ArenaView) (log : LogView) (b : BorderView) (place : ℕ) 
 room_ready a log b place made room ready = subst (λ (t : Bool). ReadyFor (if t then split_fault a b else fill_fault log b) made) (sym (eqb-ne (length b.live) SLOTS (λ e. omega (arith, room, e)))) ready
 
 -- ---- a call is refused for what it had failed for
-stage_refused : (a : ArenaView) (log : LogView) (key : List ℕ) (edit : Edit) (way : Way) (stage : Stage) (refusal : Refusal) (new : Stage) → StageFails a log key edit way stage (Refused refusal) new → stage ≡ Failed refusal None
+pub stage_refused : (a : ArenaView) (log : LogView) (key : List ℕ) (edit : Edit) (way : Way) (stage : Stage) (refusal : Refusal) (new : Stage) → StageFails a log key edit way stage (Refused refusal) new → stage ≡ Failed refusal None
 stage_refused a log key edit way (Failed refused split) refusal new (same, none) = ap (λ (r : Refusal). Failed r split) (sym same) ∙ ap (Failed refusal) none
 stage_refused a log key edit way Seeks refusal new (never, h) = absurd never
 stage_refused a log key edit way Locked refusal new (never, h) = absurd never
@@ -86,10 +84,3 @@ stage_refused a log key edit way (Filled place stored logged split) refusal new 
 stage_refused a log key edit way (Made place stored columns logged) refusal new (never, h) = absurd never
 stage_refused a log key edit way (Taken place stored before) refusal new (never, h) = absurd never
 stage_refused a log key edit way (Stored commit split) refusal new (never, h) = absurd never
-
-pub refused_for : (a : ArenaView) (log : LogView) (work : Work) (refusal : Refusal) (new : Work) → WorkFails a log work (Refused refusal) new → WorkRefuses a work refusal
-refused_for a log (GetWork get) refusal new fails = fails
-refused_for a log (RangeWork range) refusal new fails = fails
-refused_for a log (WriteWork write) refusal (WriteWork new) fails = stage_refused a log write.key write.edit write.way write.stage refusal new.stage fails
-refused_for a log (WriteWork write) refusal (GetWork new) fails = absurd fails
-refused_for a log (WriteWork write) refusal (RangeWork new) fails = absurd fails

@@ -6,4 +6,3 @@ pub mod HalfLemmas
 pub mod PostLemmas
 pub mod NewLayerLemmas
 pub mod WorkLemmas
-pub mod NewWorks

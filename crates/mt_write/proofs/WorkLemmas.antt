@@ -1,7 +1,6 @@
--- What others' steps leave of each kind of call, and what each kind owns.
+-- What others' steps leave of a put or remove, and what it owns.
 use Rattle.std.proofs.Common.{ℕ, ◌≡◌, inl, inr, List, [], ◌∷◌, Option, Some, None, IsSome, Bool, true, false, refl, sym, ap, subst, ◌∙◌}
 use Rattle.std.specs.Option.{option_map, option_and_then}
-use Rattle.mt_commit.specs.Log.{LogView}
 use Rattle.mt_border.specs.Border.{BorderView}
 use Rattle.mt_arena.specs.Node.{head_of, border_at, border_of}
 use Rattle.mt_arena.specs.Arena.{ArenaView}
@@ -9,50 +8,22 @@ use Rattle.mt_arena.specs.declared.node.Node.{Node}
 use Rattle.mt_arena.proofs.NodeLemmas.{node-from_head, node-from_border}
 use Rattle.mt_chart.specs.Tree.{Arena, Among, first, later}
 use Rattle.mt_chart.specs.Chart.{Spot, Evolves}
-use Rattle.mt_chart.specs.Walk.{others}
 use Rattle.mt_chart.proofs.HeldNodes.{holds_kept}
 use Rattle.mt_tree.specs.Seen.{arena_seen, node_seen}
-use Rattle.mt_types.specs.Rows.{shown}
-use Rattle.mt_slice.specs.Place.{place_of}
-use Rattle.mt_chart.specs.ScanRun.{Stood, AllHave}
-use Rattle.mt_chart.specs.KeyAnswer.{as_places}
-use Rattle.mt_chart.proofs.Ranges.{range_kept}
-use Rattle.mt_calls.specs.declared.ranging.Range.{Range}
-use Rattle.mt_calls.specs.Ranging.{range_request, RangeIsTrue}
 use Rattle.mt_calls.specs.declared.way.Way.{Way}
-use Rattle.mt_calls.specs.declared.getting.Get.{Get}
 use Rattle.mt_write.specs.declared.writing.Write.{Write}
 use Rattle.mt_write.specs.declared.writing.Edit.{Edit}
 use Rattle.mt_write.specs.declared.writing.Stage.{Stage}
 use Rattle.mt_write.specs.declared.writing.Stage.TheVariants.{Seeks, Locked, Spared, HalfFilled, Halved, Posts, LayerSpared, LayerFilled, LayerReady, Layered, Filled, Made, Taken, Stored, Failed}
 use Rattle.mt_write.specs.declared.writing.Halves.{Halves}
 use Rattle.mt_write.specs.declared.writing.Layer.{Layer}
-use Rattle.mt_calls.specs.declared.progress.Progress.{Progress}
-use Rattle.mt_write.specs.declared.work.Work.{Work}
-use Rattle.mt_write.specs.declared.work.Work.TheVariants.{Get as GetWork, Write as WriteWork, Range as RangeWork}
 use Rattle.mt_calls.specs.World.{World, IsLocked, IsTaken, IsSame}
 use Rattle.mt_calls.specs.Way.{IsOnWay, prefix_of}
 use Rattle.mt_chart.specs.Chart.{top}
 use Rattle.mt_chart.proofs.Walk.{known_kept}
 use Rattle.mt_post.proofs.PostingLasts.{posting_stays, posting_taken}
-use Rattle.mt_calls.specs.Step.{Held, Truth, StepLaw, nothing}
-use Rattle.mt_calls.specs.Getting.{GetIsTrue, get_request}
-use Rattle.mt_write.specs.Writing.{StageIsTrue, stage_held, IsLockedAt, HasLocked, AreHalves, HasLayer, IsSpare, owned, layer_owned, way_below, WriteIsTrue, write_request, write_held}
+use Rattle.mt_write.specs.Writing.{StageIsTrue, stage_held, IsLockedAt, HasLocked, AreHalves, HasLayer, IsSpare, owned, layer_owned, way_below, WriteIsTrue, write_held}
 use Rattle.mt_calls.specs.World.{IsLockedBorder}
-use Rattle.mt_write.specs.Works.{request_of, held, IsTrue}
-
--- ---- a step of one kind is a step of a call
-pub step_get : (C : ℕ) (a after : ArenaView) (log left : LogView) (work : Work) (get : Get) (p : Progress) (then : Held) (Then : Truth) → work ≡ GetWork get → StepLaw C a after log left (get_request get) nothing p then (GetIsTrue get) Then
-    → StepLaw C a after log left (request_of work) (held work) p then (IsTrue C work) Then
-step_get C a after log left work get p then Then is law = subst (λ (x : Work). StepLaw C a after log left (request_of x) (held x) p then (IsTrue C x) Then) (sym is) law
-
-pub step_write : (C : ℕ) (a after : ArenaView) (log left : LogView) (work : Work) (write : Write) (p : Progress) (then : Held) (Then : Truth) → work ≡ WriteWork write → StepLaw C a after log left (write_request write) (write_held write) p then (WriteIsTrue C write) Then
-    → StepLaw C a after log left (request_of work) (held work) p then (IsTrue C work) Then
-step_write C a after log left work write p then Then is law = subst (λ (x : Work). StepLaw C a after log left (request_of x) (held x) p then (IsTrue C x) Then) (sym is) law
-
-pub step_range : (C : ℕ) (a after : ArenaView) (log left : LogView) (work : Work) (range : Range) (p : Progress) (then : Held) (Then : Truth) → work ≡ RangeWork range → StepLaw C a after log left (range_request range) nothing p then (RangeIsTrue range) Then
-    → StepLaw C a after log left (request_of work) (held work) p then (IsTrue C work) Then
-step_range C a after log left work range p then Then is law = subst (λ (x : Work). StepLaw C a after log left (request_of x) (held x) p then (IsTrue C x) Then) (sym is) law
 
 -- ---- what others' steps leave
 module _ (a after : ArenaView) (w next : World) where
@@ -60,7 +31,7 @@ module _ (a after : ArenaView) (w next : World) where
   same_border : (number : ℕ) (b : BorderView) → IsSame a after w next number → border_at a.nodes number ≡ Some b → border_at after.nodes number ≡ Some b
   same_border number b same named = ap (option_and_then border_of) same.node ∙ named
 
-  way_stays : (begun : ℕ) (key : List ℕ) (way : Way) → Evolves begun w.chart next.chart → IsOnWay begun key way w → IsOnWay begun key way next
+  pub way_stays : (begun : ℕ) (key : List ℕ) (way : Way) → Evolves begun w.chart next.chart → IsOnWay begun key way w → IsOnWay begun key way next
   way_stays begun key way evolves stands = record { layer = stands.layer; held = holds_kept begun way.node.0 _ _ w.chart next.chart evolves stands.held }
 
   pub locked_at_stays : (key : List ℕ) (way : Way) (b : BorderView) → IsSame a after w next way.node.0 → IsLockedAt a key way b w → IsLockedAt after key way b next
@@ -132,17 +103,9 @@ module _ (a after : ArenaView) (w next : World) where
     stage_stays key edit way (Stored number split) same truth = has_locked_stays (prefix_of key way) way.node.0 split same truth
     stage_stays key edit way (Failed refusal split) same truth = (has_locked_stays (prefix_of key way) way.node.0 split same truth.0, truth.1)
 
-    -- the law of others' steps: where they leave what a call owns, what is true of it stays true
-    pub stays : (work : Work) → ((number : ℕ) → Among number (held work).owns → IsSame a after w next number) → IsTrue C work begun moves past a w → IsTrue C work begun moves (arena_seen a ∷ past) after next
-    stays (GetWork get) same truth = (way_stays begun get.key get.way evolves truth.0, others evolves truth.1)
-    stays (WriteWork write) same truth = (stage_stays write.key write.edit write.way write.stage same truth.0, known_kept begun write.head.0 top (prefix_of write.key write.way) 0 w.chart next.chart evolves truth.1)
-    stays (RangeWork range) same truth = record {
-      bytes = truth.bytes;
-      limit = truth.limit;
-      asked = truth.asked;
-      scans = range_kept begun w.chart next.chart (Stood (shown range.columns) (arena_seen a ∷ past)) (Stood (shown range.columns) (arena_seen after ∷ (arena_seen a ∷ past))) (AllHave (arena_seen a ∷ past)) (AllHave (arena_seen after ∷ (arena_seen a ∷ past)))
-          (place_of range.start) range.limit range.scan.prefix range.node.0 range.scan.at (as_places range.scan.taken) evolves (λ key v h. inr h) (λ key t. t.1) truth.scans;
-    }
+    -- the law of others' steps: where they leave what a put or remove owns, what is true of it stays true
+    pub write_stays : (write : Write) → ((number : ℕ) → Among number (write_held write).owns → IsSame a after w next number) → WriteIsTrue C write begun moves past a w → WriteIsTrue C write begun moves (arena_seen a ∷ past) after next
+    write_stays write same truth = (stage_stays write.key write.edit write.way write.stage same truth.0, known_kept begun write.head.0 top (prefix_of write.key write.way) 0 w.chart next.chart evolves truth.1)
 
 -- ---- what a call owns is taken
 border_taken : (a : ArenaView) (w : World) (n number : ℕ) (b : BorderView) → border_at a.nodes n ≡ Some b → b.version.locked ≡ true → Among number (n ∷ []) → IsTaken a w number
@@ -179,7 +142,5 @@ module _ (C begun moves : ℕ) (past : List Arena) (a : ArenaView) (w : World) w
   stage_taken key edit way (Stored commit split) truth number i = all_taken (prefix_of key way) way.node.0 split truth number i
   stage_taken key edit way (Failed refusal split) truth number i = all_taken (prefix_of key way) way.node.0 split truth.0 number i
 
-  pub owned_taken : (work : Work) → IsTrue C work begun moves past a w → (number : ℕ) → Among number (held work).owns → IsTaken a w number
-  owned_taken (GetWork get) truth number i = elim i [ ]
-  owned_taken (WriteWork write) truth number i = stage_taken write.key write.edit write.way write.stage truth.0 number i
-  owned_taken (RangeWork range) truth number i = elim i [ ]
+  pub write_taken : (write : Write) → WriteIsTrue C write begun moves past a w → (number : ℕ) → Among number (write_held write).owns → IsTaken a w number
+  write_taken write truth number i = stage_taken write.key write.edit write.way write.stage truth.0 number i

@@ -18,9 +18,7 @@ use Rattle.mt_calls.specs.declared.progress.Progress.{Progress}
 use Rattle.mt_calls.specs.declared.progress.Progress.TheVariants.{Waits, Answered, Refused}
 use Rattle.mt_calls.specs.declared.way.Way.{Way}
 use Rattle.mt_calls.specs.Way.{rest_of}
-use Rattle.mt_calls.specs.Causes.{IsMarkedAt, IsLockedAlready, ReadWaits, ReadFails}
-use Rattle.mt_write.specs.declared.work.Work.{Work}
-use Rattle.mt_write.specs.declared.work.Work.TheVariants.{Get, Write, Range}
+use Rattle.mt_calls.specs.Causes.{IsMarkedAt, IsLockedAlready}
 use Rattle.mt_write.specs.declared.writing.Write.{Write as WriteView}
 use Rattle.mt_write.specs.declared.writing.Edit.{Edit}
 use Rattle.mt_write.specs.declared.writing.Edit.TheVariants.{Put, Remove}
@@ -49,11 +47,6 @@ StageWaits a number stage p = BorderWaits a number p
 
 abbrev pub WriteWaits : ArenaView → WriteView → Progress → Type 0
 WriteWaits a write p = StageWaits a write.way.node.0 write.stage p
-
-abbrev pub WorkWaits : ArenaView → Work → Progress → Type 0
-WorkWaits a (Get get) p = ReadWaits a get.way.node.0 p
-WorkWaits a (Write write) p = WriteWaits a write p
-WorkWaits a (Range range) p = ReadWaits a range.node.0 p
 
 -- ---- why a put or remove fails, unless memory is wanting
 -- a new row can't be made ready where the slot's counter of insertions would rise and is spent, or no commit's number is left
@@ -131,16 +124,3 @@ StageFails a log key edit way stage p new = IsNotRefused p × IsNotFailed new
 
 abbrev pub WriteFails : ArenaView → LogView → WriteView → Progress → WriteView → Type 0
 WriteFails a log write p new = StageFails a log write.key write.edit write.way write.stage p new.stage
-
--- the same of each kind of call
-abbrev pub WorkFails : ArenaView → LogView → Work → Progress → Work → Type 0
-WorkFails a log (Get get) p new = ReadFails a get.way.node.0 p
-WorkFails a log (Write write) p (Write new) = WriteFails a log write p new
-WorkFails a log (Write write) p _ = ⊥
-WorkFails a log (Range range) p new = ReadFails a range.node.0 p
-
--- a call is refused for this: a put or remove for what it had failed for
-abbrev pub WorkRefuses : ArenaView → Work → Refusal → Type 0
-WorkRefuses a (Get get) refusal = ReadFails a get.way.node.0 (Refused refusal)
-WorkRefuses a (Write write) refusal = write.stage ≡ Failed refusal None
-WorkRefuses a (Range range) refusal = ReadFails a range.node.0 (Refused refusal)

@@ -15,8 +15,6 @@ use Rattle.mt_write.specs.declared.writing.Ending.TheVariants.{Stored as EndStor
 use Rattle.mt_write.specs.declared.writing.Stage.{Stage}
 use Rattle.mt_write.specs.declared.writing.Stage.TheVariants.{Seeks, Locked, Spared, HalfFilled, Halved, Posts, LayerSpared, LayerFilled, LayerReady, Layered, Filled, Made, Taken, Stored, Failed}
 use Rattle.mt_write.specs.declared.writing.Write.{Write as WriteView}
-use Rattle.mt_write.specs.declared.work.Work.{Work}
-use Rattle.mt_write.specs.declared.work.Work.TheVariants.{Get, Write, Range}
 use Rattle.mt_write.specs.Writing.{ending_stage}
 use Rattle.mt_write.specs.Causes.{IsPosting}
 
@@ -74,9 +72,3 @@ Follows a key way stage _ next new = Unit {0}
 
 abbrev pub WriteFollows : ArenaView → WriteView → Progress → WriteView → Type 0
 WriteFollows a write p new = Follows a write.key write.way write.stage p new.way new.stage
-
--- of a put or remove among the calls; of a get's and a range's moves the law of a step tells
-abbrev pub WorkFollows : ArenaView → Work → Progress → Work → Type 0
-WorkFollows a (Write write) p (Write new) = WriteFollows a write p new
-WorkFollows a (Write write) p _ = ⊥
-WorkFollows a _ p new = Unit {0}

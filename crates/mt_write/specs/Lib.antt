@@ -1,5 +1,4 @@
--- What the contracts cite: puts and removes, and then all kinds of calls.
+-- What the contracts of puts and removes cite.
 pub mod Writing
-pub mod Works
 pub mod Causes
 pub mod Follows

@@ -1,4 +1,4 @@
-//! Puts and removes over the whole tree, and the kinds of calls in one type.
+//! Puts and removes over the whole tree.
 #![tactic(auto)]
 
 mod columns;
@@ -6,5 +6,4 @@ mod commit;
 mod layering;
 mod ready;
 mod splitting;
-pub mod work;
 pub mod writing;

@@ -1,6 +1,6 @@
 use Rattle.std.proofs.Common.{◌∙◌, ap, sym, subst, refl, Option}
 use Rattle.std.specs.BTreeMap as tree
-use Rattle.mt_promise.specs.Legal.{reads_log}
+use Rattle.mt_promise.specs.Legal.{reads_log, is_build}
 use Rattle.mt_index.specs.Calls.{CallsView, AreBegun, call_at, with_changed, with_work, MayStepOf}
 use Rattle.mt_index.specs.declared.calls.Call.{Call}
 use Rattle.mt_index.proofs.NumberLemmas.{Entries, lookup-call_at, set-changed, begun-changed}
@@ -17,7 +17,8 @@ returns-in_default-clause-none c = λ none. (
 pub step-progress-requires : goal.step-progress-requires
 step-progress-requires c =
     let found = sym (c.in-Some.ensures.value ∙ lookup-call_at c.args.number c.self.inside.calls.entries ∙ ap (λ (s : CallsView). call_at c.args.number s.calls) c.self.view_is) in
-    subst (λ (r : Option Call). MayStepOf c.args.columns c.args.tree.now c.args.log.now r) found c.requires
+    let (may, next) = subst (λ (r : Option Call). MayStepOf c.args.columns c.args.tree.now c.args.log.now r) found c.requires in
+    record { may = may; next = next }
 
 pub invariant_of-self-2 : goal.invariant_of-self-2
 invariant_of-self-2 c =
@@ -39,6 +40,7 @@ returns-clause-steps c =
       work = c.step-progress.new.self;
       same_request = c.step-progress.ensures.request;
       law = c.step-progress.ensures.steps;
+      goes_on = c.step-progress.ensures.builds;
       waits = c.step-progress.ensures.waits;
       fails = c.step-progress.ensures.fails;
       changed = ap (λ (entries : Entries). record { begun = c.self.inside.begun; calls = entries })
@@ -46,5 +48,6 @@ returns-clause-steps c =
           ∙ ap (λ (s : CallsView). record { begun = s.begun; calls = with_changed (with_work c.step-progress.new.self) c.args.number s.calls }) c.self.view_is;
       pass_is = refl;
       reads_is = c.reads_log.ensures ∙ ap reads_log c.step-progress.ensures.request;
+      builds_is = c.is_build.ensures ∙ ap is_build c.step-progress.ensures.request;
       from_is = refl;
     }

@@ -1,47 +1,53 @@
-use Rattle.std.proofs.Common.{◌∙◌, ◌≡◌, ◌≤◌, ◌<◌, length, arith, ap, sym, subst, inr, refl}
+use Rattle.std.proofs.Common.{ℕ, ◌∙◌, ◌≡◌, ◌≤◌, ◌<◌, ◌+◌, ◌∷◌, length, arith, Some, None, ap, sym, subst, inr, refl}
 use Rattle.std.specs.Prelude.{Contains}
 use Rattle.mt_promise.specs.Legal.{begin_fault}
-use Rattle.mt_types.specs.declared.limits.TheConstants.{MAX_OPEN_CALLS}
+use Rattle.mt_types.specs.declared.event.Outcome.TheVariants.{Call as Called}
+use Rattle.mt_types.specs.declared.event.Event.TheVariants.{Begin}
+use Rattle.mt_promise.specs.History.{happening}
 use Rattle.mt_commit.specs.Log.{LogView, newest}
+use Rattle.mt_views.specs.Views.{ViewsView, places}
+use Rattle.mt_works.specs.Works.{IsNew}
 use Rattle.mt_index.specs.Calls.{CallsView}
-use Rattle.mt_index.specs.Stands.{Stands, pinned, released}
+use Rattle.mt_index.specs.Stands.{MachineView, Stands, Begins, fault_of, pinned, placed, released, with_call}
 use Rattle.mt_index.proofs.LogStands.{pinned_holds, pinned_back}
-use Rattle.mt_index.proofs.EventStands.{begun-stands, begun_few, few_hold, seen}
+use Rattle.mt_index.proofs.EventStands.{begun-stands, called, seen}
+use Rattle.mt_index.proofs.MachineLemmas.{room_to_pin, no_fault_of}
 use Rattle.mt_index.proofs.machine.Machine.begin.Goals as goal
 
 pub hold-requires : goal.hold-requires
-hold-requires c =
-    let (h, st) = c.self.invariant in
-    let few : length c.self.inside.log.holders ≤ length c.self.inside.calls.calls = few_hold (seen c.self.inside.columns c.self.inside.epoch c.self.inside.tree c.self.inside.log c.self.inside.calls) h st in
-    let begun : c.len.result < MAX_OPEN_CALLS = begun_few c.self.inside.columns c.begun-begun.result c.len.result 0 c.args.request.now (sym c.in_default.ensures) in
-    let open_calls : c.len.result ≡ length c.self.inside.calls.calls = c.len.ensures in
-    record { few = omega (arith, few, begun, open_calls) }
-
-pub invariant_of-self-in-Ok-begin : goal.invariant_of-self-in-Ok-begin
-invariant_of-self-in-Ok-begin c =
-    let none = sym (c.in_default.ensures ∙ ap (λ b. begin_fault c.self.inside.columns b c.len.result 0 c.args.request.now) c.begun-begun.ensures ∙ ap (λ l. begin_fault c.self.inside.columns c.self.inside.calls.begun l 0 c.args.request.now) c.len.ensures) in
-    begun-stands c.self.inside.columns c.self.inside.epoch c.self.inside.tree c.self.inside.log c.hold.new.log c.self.inside.calls c.begin.new.self c.args.pass c.number-from.result c.args.request.now c.in-Ok.work c.requires none c.in-Ok.ensures.request c.in-Ok.ensures.new c.number-from.ensures.value
-    c.in-Ok-begin.ensures.ok (c.in-Ok-hold.ensures.ok ∙ ap (λ reads. pinned reads c.self.inside.log) c.reads_log-reads.ensures) c.self.invariant
+hold-requires c = let (h, st) = c.self.invariant in record { few = room_to_pin (seen c.self.inside.columns c.self.inside.epoch c.self.inside.tree c.self.inside.log c.self.inside.calls c.self.inside.views) h st }
 
 pub release-requires : goal.release-requires
 release-requires c = λ is.
     subst (λ (l : LogView). Contains l.holders c.number-from.result) (sym c.in-Ok-hold.ensures.ok)
     (subst (λ n. Contains (pinned c.reads_log-reads.result c.self.inside.log).holders n) (sym c.number-from.ensures.value) (pinned_holds c.reads_log-reads.result c.self.inside.log is))
 
-pub invariant_of-self-in-Err : goal.invariant_of-self-in-Err
-invariant_of-self-in-Err c =
+pub invariant_of-self-in_default-begin : goal.invariant_of-self-in_default-begin
+invariant_of-self-in_default-begin c =
     let (h, st) = c.self.invariant in (
       h,
-      subst (λ (l : LogView). Stands (seen c.self.inside.columns c.self.inside.epoch c.self.inside.tree l c.begin.new.self) h)
+      subst (λ (l : LogView). Stands (seen c.self.inside.columns c.self.inside.epoch c.self.inside.tree l c.begin.new.self c.self.inside.views) h)
           (sym (c.release.ensures ∙ ap (λ n. released c.reads_log-reads.result n c.hold.new.log) c.number-from.ensures.value ∙ ap (released c.reads_log-reads.result (newest c.self.inside.log)) c.in-Ok-hold.ensures.ok ∙ pinned_back c.reads_log-reads.result c.self.inside.log))
-          (subst (λ (k : CallsView). Stands (seen c.self.inside.columns c.self.inside.epoch c.self.inside.tree c.self.inside.log k) h) (sym c.in-Err.ensures.err) st),
+          (subst (λ (k : CallsView). Stands (seen c.self.inside.columns c.self.inside.epoch c.self.inside.tree c.self.inside.log k c.self.inside.views) h) (sym c.in_default-begin.ensures.err) st),
     )
 
-pub returns-in-Err-clause-begins : goal.returns-in-Err-clause-begins
-returns-in-Err-clause-begins c =
-    let none = sym (c.in_default.ensures ∙ ap (λ b. begin_fault c.self.inside.columns b c.len.result 0 c.args.request.now) c.begun-begun.ensures ∙ ap (λ l. begin_fault c.self.inside.columns c.self.inside.calls.begun l 0 c.args.request.now) c.len.ensures) in (
-      inr (ap (λ s. begin_fault s.columns s.calls.begun (length s.calls.calls) 0 c.args.request.now) (sym c.self.view_is) ∙ none, refl),
-      ap (λ l. seen c.self.inside.columns c.self.inside.epoch c.self.inside.tree l c.begin.new.self)
+pub returns-in_default-begin-clause-begins : goal.returns-in_default-begin-clause-begins
+returns-in_default-begin-clause-begins c =
+    let none = no_fault_of (seen c.self.inside.columns c.self.inside.epoch c.self.inside.tree c.self.inside.log c.self.inside.calls c.self.inside.views) c.args.request.now c.begun-begun.result c.len-opened.result c.places-places.result c.begun-begun.ensures c.len-opened.ensures c.places-places.ensures.value (sym c.in_default.ensures) in (
+      inr (subst (λ (s : MachineView). fault_of s c.args.request.now ≡ None) c.self.view_is none, refl),
+      ap (λ (l : LogView). seen c.self.inside.columns c.self.inside.epoch c.self.inside.tree l c.begin.new.self c.self.inside.views)
           (c.release.ensures ∙ ap (λ n. released c.reads_log-reads.result n c.hold.new.log) c.number-from.ensures.value ∙ ap (released c.reads_log-reads.result (newest c.self.inside.log)) c.in-Ok-hold.ensures.ok ∙ pinned_back c.reads_log-reads.result c.self.inside.log)
-          ∙ ap (seen c.self.inside.columns c.self.inside.epoch c.self.inside.tree c.self.inside.log) c.in-Err.ensures.err ∙ c.self.view_is,
+          ∙ ap (λ (k : CallsView). seen c.self.inside.columns c.self.inside.epoch c.self.inside.tree c.self.inside.log k c.self.inside.views) c.in_default-begin.ensures.err ∙ c.self.view_is,
+    )
+
+pub invariant_of-self-2 : goal.invariant_of-self-2
+invariant_of-self-2 c =
+    let (h, st) = c.self.invariant in
+    let s : MachineView = seen c.self.inside.columns c.self.inside.epoch c.self.inside.tree c.self.inside.log c.self.inside.calls c.self.inside.views in
+    let none = no_fault_of s c.args.request.now c.begun-begun.result c.len-opened.result c.places-places.result c.begun-begun.ensures c.len-opened.ensures c.places-places.ensures.value (sym c.in_default.ensures) in (
+      happening (Begin c.args.pass c.args.request.now) (Called (record { 0 = c.self.inside.calls.begun + 1 })) 0 ∷ h,
+      subst (λ (u : MachineView). Stands u (happening (Begin c.args.pass c.args.request.now) (Called (record { 0 = c.self.inside.calls.begun + 1 })) 0 ∷ h))
+          (sym (begun-stands s c.hold.new.log c.begin.new.self c.occupy.new.views c.args.pass c.number-from.result c.args.request.now c.in-Ok.work none c.in-Ok.ensures.request (subst (λ n. IsNew c.self.inside.columns n c.in-Ok.work) c.number-from.ensures.value c.in-Ok.ensures.new) c.number-from.ensures.value
+          c.in-Ok-begin.ensures.ok (c.in-Ok-hold.ensures.ok ∙ ap (λ reads. pinned reads c.self.inside.log) c.reads_log-reads.ensures) (c.occupy.ensures ∙ ap (λ builds. placed builds c.self.inside.views) c.is_build-builds.ensures)))
+          (called s c.args.pass c.args.request.now c.in-Ok.work h st none c.in-Ok.ensures.request (subst (λ n. IsNew c.self.inside.columns n c.in-Ok.work) c.number-from.ensures.value c.in-Ok.ensures.new)),
     )

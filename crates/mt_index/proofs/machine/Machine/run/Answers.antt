@@ -31,13 +31,14 @@ loop-event-preserved c =
       columns = c.event-outcome.ensures.columns ∙ c.loop-event.invariant.columns;
       bounds = (c.event-outcome.ensures.bounds.0 ∙ c.loop-event.invariant.bounds.0, c.event-outcome.ensures.bounds.1 ∙ c.loop-event.invariant.bounds.1);
       opened = c.loop-event.invariant.opened;
-      told = (
-        happening c.event-item.result c.event-outcome.result 0 ∷ h,
-        subst (λ (es : List Event). GoesOn [] es c.push.new.self.items (happening c.event-item.result c.event-outcome.result 0 ∷ h)) (sym more)
-            (subst (λ (os : List Outcome). GoesOn [] (take c.loop-event.event-index c.args.events.now ++ c.event-item.result ∷ []) os (happening c.event-item.result c.event-outcome.result 0 ∷ h)) (sym c.in-Ok.ensures.items)
-            (GoesOn-append [] h _ _ c.event-item.result c.event-outcome.result 0 told.1)),
-        c.event-outcome.ensures.stands h told.2,
-      );
+      told =
+          let (opens, stands) = c.event-outcome.ensures.stands h told.2 in (
+            happening c.event-item.result c.event-outcome.result opens ∷ h,
+            subst (λ (es : List Event). GoesOn [] es c.push.new.self.items (happening c.event-item.result c.event-outcome.result opens ∷ h)) (sym more)
+                (subst (λ (os : List Outcome). GoesOn [] (take c.loop-event.event-index c.args.events.now ++ c.event-item.result ∷ []) os (happening c.event-item.result c.event-outcome.result opens ∷ h)) (sym c.in-Ok.ensures.items)
+                (GoesOn-append [] h _ _ c.event-item.result c.event-outcome.result opens told.1)),
+            stands,
+          );
     }
 
 pub returns-clause-legal : goal.returns-clause-legal

@@ -1,0 +1,60 @@
+-- What is true of views that stand, and of builds that are open, by the commits of the history.
+use Rattle.std.specs.Prelude.{ℕ, ◌+◌, ◌-◌, ◌≡◌, ◌≤◌, List, [], ◌∷◌, length, take, drop, count_by, Option, Some, None}
+use Rattle.mt_types.specs.Rows.{after}
+use Rattle.mt_types.specs.declared.row.Change.{Change}
+use Rattle.mt_types.specs.declared.row.Delta.{Delta}
+use Rattle.mt_types.specs.declared.limits.TheConstants.{MAX_VIEWS}
+use Rattle.mt_promise.specs.History.{Moment, OpenCall}
+use Rattle.mt_promise.specs.Legal.{is_build}
+use Rattle.mt_commit.specs.Logged.{deltas_of}
+use Rattle.mt_commit.specs.Log.{LogView, delta_of}
+use Rattle.mt_view.specs.State.{StateView, applied}
+use Rattle.mt_view.specs.Laws.{IsStateOf}
+use Rattle.mt_build.specs.History.{LeadsTo}
+use Rattle.mt_views.specs.Views.{ViewsView, Rises, all_standing, places, standing, with_state}
+use Rattle.mt_works.specs.declared.work.Work.{Work}
+use Rattle.mt_works.specs.declared.work.Work.TheVariants.{Build}
+
+-- ---- views
+-- a view stands at a number of commits that there were, and is exactly what its specification gives afresh on the rows after so many
+pub record IsExact (C : ℕ) (m : Moment) (view : ℕ × StateView) : Type 0 where
+  pub reached : view.1.at ≤ length m.commits
+  pub state : IsStateOf C m (standing view) view.1
+
+abbrev pub AreExact : ℕ → Moment → List (ℕ × StateView) → Type 0
+AreExact C m [] = Unit {0}
+AreExact C m (view ∷ views) = IsExact C m view × AreExact C m views
+
+-- the views that stand are those of the history, each is exact, and a place is kept for each build that is open
+pub record ViewsStand (C : ℕ) (m : Moment) (views : ViewsView) : Type 0 where
+  pub built : views.built ≡ m.built
+  pub standing : m.views ≡ all_standing views.views
+  pub exact : AreExact C m views.views
+  pub rises : Rises 0 views.built views.views
+  pub building : views.building ≡ count_by (λ (call : OpenCall). is_build call.request) m.calls
+  pub few : places views ≤ MAX_VIEWS
+
+-- ---- builds
+-- the deltas of the commits after a number, up to that of another
+abbrev pub deltas_between : ℕ → List Change → ℕ → ℕ → List Delta
+deltas_between C commits from upto = take (upto - from) (drop from (deltas_of C commits))
+
+-- while a build scans, its view stands at the commits of its begin; then the deltas that it is still to take lead it to the rows
+-- after the last of them
+abbrev pub ReadsFrom : ℕ → List Change → ℕ → Option ℕ → StateView → Type 0
+ReadsFrom C commits from None state = state.at ≡ from
+ReadsFrom C commits from (Some upto) state =
+    (from ≤ state.at) × (state.at ≤ upto) × (upto ≤ length commits)
+    × LeadsTo (deltas_between C commits state.at upto) (after C (take upto commits)) state
+
+-- what is true of a build that began at so many commits; of other calls nothing is said
+abbrev pub ReadsOf : ℕ → List Change → ℕ → Work → Type 0
+ReadsOf C commits from (Build building) =
+    (building.build.state.columns ≡ C) × ReadsFrom C commits from building.upto building.build.state
+ReadsOf C commits from _ = Unit {0}
+
+-- a view has been taken on by the delta of the next commit
+pub record TakesView (number at : ℕ) (log : LogView) (old : ViewsView) (state : StateView) (new : ViewsView) : Type 0 where
+  pub delta : Delta
+  pub is_delta : delta_of log (at + 1) ≡ Some delta
+  pub taken : new ≡ record old { views = with_state number (applied delta state) old.views }

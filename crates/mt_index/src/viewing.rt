@@ -1,0 +1,125 @@
+//! Views in the machine: how one is opened, taken on and read, while it holds the log from where it stands.
+
+ghost use Rattle.std.specs.Prelude.{◌≡◌, ◌+◌, ◌<◌, ◌≤◌, ◌⊎◌, length, IfOk, IfErr, IsSome, OnOk, OnErr, Some, true};
+ghost use Rattle.mt_commit.specs.Laws.{times_held};
+ghost use Rattle.mt_types.specs.Numbers.{greatest_number};
+ghost use Rattle.mt_types.specs.declared.row.Delta.{Delta as DeltaValue};
+ghost use Rattle.mt_commit.specs.Log.{newest, delta_of};
+ghost use Rattle.mt_commit.specs.Holders.{with_holder, without_holder};
+ghost use Rattle.mt_commit.specs.declared.log.TheConstants.{MAX_HOLDERS};
+ghost use Rattle.mt_view.specs.State.{StateView, applied, page_of_state};
+ghost use Rattle.mt_views.specs.Views.{state_at, with_state};
+ghost use Rattle.mt_commit.specs.Log.{IsLog};
+ghost use Rattle.mt_index.specs.Stands.{with_view, vacated};
+ghost use Rattle.mt_index.specs.Viewing.{TakesView};
+
+use bytes::Bytes;
+use mt_commit::log::Log;
+use mt_types::copying::TryCopy;
+use mt_types::key::Key;
+use mt_types::refusal::{NoMemory, Refusal};
+use mt_types::view::Page;
+use mt_view::state::ViewState;
+use mt_views::views::Views;
+use std::alloc::Global;
+
+// Opens a view in the place of a build; it holds the log from where it stands. On an error nothing changes.
+fn open_view(log: &mut Log, views: &mut Views, state: ViewState) -> Result<u64, Refusal>
+    requires place { 0 < views.old.building }
+    requires here { log.old.held_after ≤ state.at }
+    requires done { state.at ≤ newest log.old }
+    requires few { length log.old.holders < MAX_HOLDERS }
+    ensures number { IfOk result (λ number. number ≡ views.old.built + 1) }
+    ensures unspent { OnOk result (views.old.built < greatest_number) }
+    ensures log { OnOk result (log.new ≡ record log.old { holders = with_holder state.at log.old.holders }) }
+    ensures views { OnOk result (views.new ≡ with_view state views.old) }
+    ensures err { OnErr result ((log.new ≡ log.old) × (views.new ≡ views.old)) }
+    ensures why { IfErr result (λ refusal. (refusal ≡ Refusal.NoMemory) ⊎ ((refusal ≡ Refusal.Spent) × (greatest_number ≤ views.old.built))) }
+{
+    if views.is_spent() {
+        return Err(Refusal::Spent);
+    }
+    let at = state.at();
+    log.pin(at)?;
+    match views.open(state) {
+        Ok(number) => Ok(number),
+        Err(refusal) => {
+            log.unpin(at);
+            Err(refusal)
+        }
+    }
+}
+
+/// A build that has taken all ends, which began when there were `from` commits: its view is opened, or it is refused. The
+/// build holds the log no longer.
+pub(crate) fn close_build(
+    log: &mut Log,
+    views: &mut Views,
+    from: u64,
+    state: ViewState,
+) -> Result<u64, Refusal>
+    requires place { 0 < views.old.building }
+    requires here { log.old.held_after ≤ state.at }
+    requires done { state.at ≤ newest log.old }
+    requires few { length log.old.holders < MAX_HOLDERS }
+    requires held { 0 < times_held from log.old.holders }
+    ensures number { IfOk result (λ number. number ≡ views.old.built + 1) }
+    ensures unspent { OnOk result (views.old.built < greatest_number) }
+    ensures log { OnOk result (log.new ≡ record log.old { holders = without_holder from (with_holder state.at log.old.holders) }) }
+    ensures views { OnOk result (views.new ≡ with_view state views.old) }
+    ensures err_log { OnErr result (log.new ≡ record log.old { holders = without_holder from log.old.holders }) }
+    ensures err_views { OnErr result (views.new ≡ vacated true views.old) }
+    ensures why { IfErr result (λ refusal. (refusal ≡ Refusal.NoMemory) ⊎ ((refusal ≡ Refusal.Spent) × (greatest_number ≤ views.old.built))) }
+    ensures sound { IsLog log.new }
+{
+    match open_view(log, views, state) {
+        Ok(number) => {
+            log.unpin(from);
+            Ok(number)
+        }
+        Err(refusal) => {
+            log.unpin(from);
+            views.release();
+            Err(refusal)
+        }
+    }
+}
+
+/// Takes a view on by the delta of the next commit; it then holds the log from there. On an error nothing changes.
+pub(crate) fn take_on(log: &mut Log, views: &mut Views, number: u64, at: u64) -> Result<(), NoMemory>
+    requires there { IsSome (state_at number views.old.views) }
+    requires here { log.old.held_after ≤ at }
+    requires behind { at < newest log.old }
+    requires few { length log.old.holders < MAX_HOLDERS }
+    requires held { 0 < times_held at log.old.holders }
+    ensures log { OnOk result (log.new ≡ record log.old { holders = without_holder at (with_holder (at + 1) log.old.holders) }) }
+    ensures sound { IsLog log.new }
+    ensures views { OnOk result ((state : StateView) → state_at number views.old.views ≡ Some state → TakesView number at log.old views.old state views.new) }
+    ensures err { OnErr result ((log.new ≡ log.old) × (views.new ≡ views.old)) }
+{
+    prove!(at < log.number());
+    let next = at + 1;
+    log.pin(next)?;
+    match views.take(number, log.delta(next)) {
+        Ok(()) => {
+            log.unpin(at);
+            Ok(())
+        }
+        Err(_) => {
+            log.unpin(next);
+            Err(NoMemory)
+        }
+    }
+}
+
+/// A page of a view that stands.
+pub(crate) fn page(alloc: Global, views: &Views, number: u64, start: &Bytes, limit: u16) -> Result<Page, NoMemory>
+    requires { IsSome (state_at number views.now.views) }
+    ensures { IfOk result (λ page. (state : StateView) → state_at number views.now.views ≡ Some state
+        → page ≡ page_of_state state start.now limit) }
+{
+    let Ok(start) = Key::new(start.copy(alloc)?) else {
+        return Err(NoMemory);
+    };
+    views.read(number, &start, limit)
+}

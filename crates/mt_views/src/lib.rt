@@ -1,0 +1,4 @@
+//! The views that stand, by their numbers.
+#![tactic(auto)]
+
+pub mod views;

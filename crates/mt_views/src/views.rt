@@ -1,0 +1,210 @@
+//! The views that stand, by their numbers, and the places that open builds keep among them.
+
+ghost use Rattle.std.specs.Prelude.{◌≡◌, ◌+◌, ◌-◌, ◌<◌, ◌≤◌, ◌⊎◌, ◌↔◌, ◌++◌, [], ◌∷◌, IfOk, IfErr, IsErrOf, IsSome, IsTrue, OnOk, OnErr};
+ghost use Rattle.std.specs.Option.{option_map};
+ghost use Rattle.mt_types.specs.Numbers.{greatest_number};
+ghost use Rattle.mt_types.specs.declared.limits.TheConstants.{MAX_VIEWS};
+ghost use Rattle.mt_promise.specs.History.{StandingView, furthest, meant_view};
+ghost use Rattle.mt_view.specs.State.{StateView, applied, page_of_state};
+ghost use Rattle.mt_views.specs.Views.{all_standing, places, slower, state_at, with_state, without};
+
+use mt_types::key::Key;
+use mt_types::refusal::{NoMemory, Refusal};
+use mt_types::row::Delta;
+use mt_types::view::Page;
+use mt_view::state::ViewState;
+use std::alloc::Global;
+use std::collections::BTreeMap;
+use std::marker::Model;
+
+/// The views that stand, in a B-tree by their numbers, and how many places are kept for builds: together at most 64.
+#[derive(Drop)]
+pub struct Views {
+    built: u64,
+    building: usize,
+    views: BTreeMap<u64, ViewState>,
+}
+
+impl Model for Views {
+    ghost use Rattle.std.specs.Coded.{codes};
+    ghost use Rattle.mt_views.specs.Views.{ViewsView};
+    ghost use Rattle.mt_views.specs.ViewsFields.{views_of, AreViews};
+    ghost use Rattle.mt_view.specs.StateCode.{state_code};
+
+    ghost Value = { ViewsView };
+
+    ghost coded = { Prim.hlevel (codes, state_code) };
+
+    ghost view = { views_of };
+
+    ghost invariant = { AreViews };
+}
+
+// Of two views, each with its number and the number of commits at which it stands, the one that is further behind; the
+// first where both are as far.
+fn slower(best: Option<(u64, u64)>, view: (u64, u64)) -> (u64, u64)
+    ensures { result ≡ slower best view }
+{
+    match best {
+        Some(best) => {
+            if view.1 < best.1 {
+                view
+            } else {
+                best
+            }
+        }
+        None => view,
+    }
+}
+
+impl Views {
+    /// No view stands, none was opened. Takes no memory.
+    pub fn new(alloc: Global) -> Views
+        ensures { result ≡ record { built = 0; building = 0; views = [] } }
+    {
+        Views {
+            built: 0,
+            building: 0,
+            views: BTreeMap::new(alloc),
+        }
+    }
+
+    /// How many places are taken, by views that stand and by builds.
+    pub fn places(&self) -> usize
+        ensures value { result ≡ places self.now }
+        ensures few { result ≤ MAX_VIEWS }
+    {
+        self.views.len() + self.building
+    }
+
+    /// Whether the greatest number was given to a view: then none can be opened any more.
+    pub fn is_spent(&self) -> bool
+        ensures { IsTrue result ↔ (greatest_number ≤ self.now.built) }
+    {
+        self.built == u64::MAX
+    }
+
+    /// Keeps a place for a build.
+    pub fn reserve(&mut self)
+        requires { places self.old < MAX_VIEWS }
+        ensures { self.new ≡ record self.old { building = self.old.building + 1 } }
+    {
+        self.building += 1;
+    }
+
+    /// Gives back the place of a build that has ended without a view.
+    pub fn release(&mut self)
+        requires { 0 < self.old.building }
+        ensures { self.new ≡ record self.old { building = self.old.building - 1 } }
+    {
+        self.building -= 1;
+    }
+
+    /// Opens a view in the place of a build, under the next number: numbers are never used again. On an error nothing
+    /// changes. O(log n) in the views.
+    ///
+    /// # Errors
+    ///
+    /// `Spent` where the greatest number was given to a view; else `NoMemory` for want of it.
+    pub fn open(&mut self, state: ViewState) -> Result<u64, Refusal>
+        requires { 0 < self.old.building }
+        ensures number { IfOk result (λ number. number ≡ self.old.built + 1) }
+        ensures ok { OnOk result (self.new ≡ record {
+          built = self.old.built + 1;
+          building = self.old.building - 1;
+          views = self.old.views ++ (self.old.built + 1, state) ∷ [];
+        }) }
+        ensures err { OnErr result (self.new ≡ self.old) }
+        ensures spent { IsErrOf result Refusal.Spent ↔ (greatest_number ≤ self.old.built) }
+        ensures only { IfErr result (λ refusal. (refusal ≡ Refusal.Spent) ⊎ (refusal ≡ Refusal.NoMemory)) }
+    {
+        if self.is_spent() {
+            return Err(Refusal::Spent);
+        }
+        let number = self.built + 1;
+        self.views.insert(number, state)?;
+        self.built = number;
+        self.building -= 1;
+        Ok(number)
+    }
+
+    /// The number of the view that an apply means: 0 stands for the one that is furthest behind, and of several for the
+    /// first of them. O(log n) in the views, and O(n) for 0: at most 64.
+    pub fn meant(&self, asked: u64) -> Option<u64>
+        ensures { result ≡ option_map (λ (v : StandingView). v.number) (meant_view asked (all_standing self.now.views)) }
+    {
+        if asked == 0 {
+            return self.furthest();
+        }
+        match self.views.get(&asked) {
+            Some(_) => Some(asked),
+            None => None,
+        }
+    }
+
+    // The number of the view that is furthest behind.
+    fn furthest(&self) -> Option<u64>
+        ensures { result ≡ option_map (λ (v : StandingView). v.number) (furthest None (all_standing self.now.views)) }
+    {
+        let mut best = None;
+        for (number, state) in self.views.iter() {
+            best = Some(slower(best, (*number, state.at())));
+        }
+        match best {
+            Some((number, _)) => Some(number),
+            None => None,
+        }
+    }
+
+    /// At which number of commits a view stands. O(log n) in the views.
+    pub fn at(&self, number: u64) -> Option<u64>
+        ensures { result ≡ option_map (λ (s : StateView). s.at) (state_at number self.now.views) }
+    {
+        match self.views.get(&number) {
+            Some(state) => Some(state.at()),
+            None => None,
+        }
+    }
+
+    /// Takes a view on by the delta of the next commit. O(log n) in the views and in the rows of this one. On an error
+    /// nothing changes.
+    ///
+    /// # Errors
+    ///
+    /// `NoMemory` where an allocation is refused.
+    pub fn take(&mut self, number: u64, delta: &Delta) -> Result<(), NoMemory>
+        requires { IsSome (state_at number self.old.views) }
+        ensures ok { OnOk result ((state : StateView) → state_at number self.old.views ≡ Some state
+            → self.new ≡ record self.old { views = with_state number (applied delta.now state) self.old.views }) }
+        ensures err { OnErr result (self.new ≡ self.old) }
+    {
+        match self.views.get_mut(&number) {
+            Some(state) => state.apply(delta),
+            None => unreachable!(),
+        }
+    }
+
+    /// A page of a view: what it shows from a key on, up to the limit. O(log n + m) in its rows and the columns that it
+    /// gives, with an allocation for each row that it gives. Shares the bytes.
+    ///
+    /// # Errors
+    ///
+    /// `NoMemory` where an allocation is refused.
+    pub fn read(&self, number: u64, start: &Key, limit: u16) -> Result<Page, NoMemory>
+        requires { IsSome (state_at number self.now.views) }
+        ensures { IfOk result (λ page. (state : StateView) → state_at number self.now.views ≡ Some state
+            → page ≡ page_of_state state start.now limit) }
+    {
+        match self.views.get(&number) {
+            Some(state) => state.read(start, limit),
+            None => unreachable!(),
+        }
+    }
+
+    /// A view ends. O(log n) in the views.
+    pub fn end(&mut self, number: u64)
+        ensures { self.new ≡ record self.old { views = without number self.old.views } }
+    {
+        let _ = self.views.remove(&number);
+    }
+}

@@ -1,0 +1,189 @@
+-- The steps of a build as a call: each is a quiet one of the law.
+use Rattle.std.proofs.Common.{ℕ, ◌≡◌, ◌≤◌, ◌<◌, ◌+◌, inl, List, [], ◌∷◌, Option, Some, None, IsSome, true, false, refl, sym, ap, subst, ◌∙◌}
+use Rattle.mt_types.specs.declared.numbers.NodeNo.{NodeNo}
+use Rattle.mt_types.specs.declared.refusal.Refusal.TheVariants.{NoMemory}
+use Rattle.mt_types.specs.declared.row.Delta.{Delta}
+use Rattle.mt_slice.specs.Place.{first_slice, under}
+use Rattle.mt_commit.specs.Log.{LogView, newest, delta_of}
+use Rattle.mt_border.specs.Border.{BorderView}
+use Rattle.mt_arena.specs.Node.{border_at}
+use Rattle.mt_arena.specs.Arena.{ArenaView}
+use Rattle.mt_chart.specs.Tree.{Arena, Below}
+use Rattle.mt_chart.specs.Chart.{Chart, Holds}
+use Rattle.mt_chart.proofs.HeldNodes.{evolves_same}
+use Rattle.mt_tree.specs.Seen.{arena_seen, border_seen}
+use Rattle.mt_tree.proofs.SeenLemmas.{seen-border}
+use Rattle.mt_scan.specs.Scan.{HoldsKeys}
+use Rattle.mt_scan.specs.declared.scan.ScanMove.{ScanMove}
+use Rattle.mt_scan.specs.declared.scan.ScanMove.TheVariants.{Done, To as VisitedTo, Top}
+use Rattle.mt_view.specs.State.{StateView, applied}
+use Rattle.mt_build.specs.Build.{BuildView, IsScanning, HasScanned, ComesTo, VisitsOn}
+use Rattle.mt_build.proofs.ReadLemmas.{others_keep, restarts_keep, ways_keep}
+use Rattle.mt_calls.specs.declared.progress.Progress.{Progress}
+use Rattle.mt_calls.specs.declared.progress.Progress.TheVariants.{Moved, Waits, Refused}
+use Rattle.mt_calls.specs.declared.ranging.Sought.{Sought}
+use Rattle.mt_calls.specs.declared.ranging.Sought.TheVariants.{Again, To, Here}
+use Rattle.mt_calls.specs.World.{World, IsWorld}
+use Rattle.mt_calls.specs.Step.{StepLaw, nothing}
+use Rattle.mt_calls.specs.Ranging.{IsHeldFor, IsAtSlice, KnowsOfSlice, Seeks}
+use Rattle.mt_calls.proofs.FrameLemmas.{goes_same, quiet_same}
+use Rattle.mt_calls.proofs.RangeLemmas.{holds_keys}
+use Rattle.mt_works.specs.declared.building.Building.{Building}
+use Rattle.mt_calls.specs.Causes.{ReadFails}
+use Rattle.mt_works.specs.Building.{building_request, BuildingIsTrue, BuildingLaw, ScansOn, ScansAll, KeepsView, TakesNext, GoesOn, FailsAt, OnlyForMemory, IsInLog}
+
+-- one moment more, in which nothing changes
+later : (w : World) (begun number : ℕ) (arena : Arena) (past : List Arena) (build : BuildView) → IsScanning w.chart begun (arena ∷ past) number build
+    → IsScanning w.chart begun (arena ∷ (arena ∷ past)) number build
+later w begun number arena past build = others_keep w.chart w.chart begun number arena (arena ∷ past) build (evolves_same begun w.chart)
+
+module _ (a : ArenaView) (log : LogView) (old : Building) where
+  -- what is to be true of it after a step that is quiet
+  abbrev Then : Building → Type 0
+  Then new = (now begun moves more : ℕ) (past : List Arena) (w : World) → IsWorld a now w → BuildingIsTrue old begun moves past a w → BuildingIsTrue new begun more (arena_seen a ∷ past) a w
+
+  pub build_moves : (new : Building) → Then new → (C : ℕ) → BuildingLaw C a log old Moved new
+  build_moves new then C = record {
+    steps = λ now begun moves past w world before truth. record {
+      goes = goes_same now a w _ [] [] refl world (then now begun moves (moves + 1) past w world truth);
+      does = (quiet_same a log, refl);
+      reserved = refl;
+      bounds = refl;
+      blocked = inl refl;
+      may = λ get. absurd (let clash : false ≡ true = get in cc);
+    };
+  }
+
+  pub build_waits : (new : Building) → Then new → (C : ℕ) → BuildingLaw C a log old Waits new
+  build_waits new then C = record {
+    steps = λ now begun moves past w world before truth. record {
+      goes = goes_same now a w _ [] [] refl world (then now begun moves 0 past w world truth);
+      does = (quiet_same a log, refl);
+      reserved = refl;
+      bounds = refl;
+      blocked = inl refl;
+      may = tt;
+    };
+  }
+
+  pub build_fails : (new : Building) (C : ℕ) → BuildingLaw C a log old (Refused NoMemory) new
+  build_fails new C = record {
+    steps = λ now begun moves past w world before truth. record {
+      goes = goes_same now a w _ [] [] refl world tt;
+      does = (quiet_same a log, refl, tt);
+      reserved = refl;
+      bounds = refl;
+      blocked = refl;
+      may = tt;
+    };
+  }
+
+-- ---- while it scans
+module _ (a : ArenaView) (log : LogView) (build : BuildView) (number : NodeNo) where
+  abbrev at : BuildView → NodeNo → Option ℕ → Building
+  at view node upto = record { build = view; node = node; upto = upto }
+
+  pub scan_may : (now begun : ℕ) (past : List Arena) (w : World) → IsWorld a now w → IsScanning w.chart begun (arena_seen a ∷ past) number.0 build → (slice : ℕ) → slice ≡ first_slice build.at → IsHeldFor a number.0 slice
+  scan_may now begun past w world truth slice is = record {
+    now = now;
+    twins = w.twins;
+    chart = w.chart;
+    begun = begun;
+    prefix = build.prefix;
+    index = world.index;
+    holds = subst (λ (s : ℕ). Holds w.chart begun number.0 build.prefix s) (sym is) truth.held;
+  }
+
+  pub scan_again : (new : BuildView) → new ≡ record build { prefix = []; at = under build.prefix build.at } → (C : ℕ) → BuildingLaw C a log (at build number None) Waits (at new (record { 0 = 0 }) None)
+  scan_again new is C = build_waits a log (at build number None) (at new (record { 0 = 0 }) None)
+      (λ now begun moves more past w world truth. subst (λ (v : BuildView). IsScanning w.chart begun (arena_seen a ∷ (arena_seen a ∷ past)) 0 v) (sym is)
+      (later w begun 0 (arena_seen a) past _ (restarts_keep w.chart begun number.0 (arena_seen a) (arena_seen a ∷ past) build world.index.tree truth))) C
+
+  module _ (sought : Sought) (seeks : Seeks a number.0 (first_slice build.at) sought) where
+    knows : (now begun : ℕ) (past : List Arena) (w : World) → IsWorld a now w → IsScanning w.chart begun (arena_seen a ∷ past) number.0 build → (found : Sought) → sought ≡ found → KnowsOfSlice a w.chart begun number.0 build.prefix (first_slice build.at) found
+    knows now begun past w world truth found is = subst (λ (s : Sought). KnowsOfSlice a w.chart begun number.0 build.prefix (first_slice build.at) s) is (seeks.leads now w.twins w.chart begun build.prefix world.index truth.held)
+
+    pub scan_moves : (next : NodeNo) → sought ≡ To next → (C : ℕ) → BuildingLaw C a log (at build number None) Moved (at build next None)
+    scan_moves next is C = build_moves a log (at build number None) (at build next None)
+        (λ now begun moves more past w world truth. later w begun next.0 (arena_seen a) past build (ways_keep w.chart begun number.0 next.0 (arena_seen a ∷ past) build (knows now begun past w world truth (To next) is) truth)) C
+
+    -- there is a border
+    pub scan_border : (now begun : ℕ) (past : List Arena) (w : World) → IsWorld a now w → IsScanning w.chart begun (arena_seen a ∷ past) number.0 build → sought ≡ Here → IsSome (border_at a.nodes number.0)
+    scan_border now begun past w world truth is =
+        let here : IsAtSlice a number.0 (first_slice build.at) = knows now begun past w world truth Here is in
+        subst (λ (b : Option BorderView). IsSome b) (sym here.named) refl
+
+    module _ (b : BorderView) (named : border_at a.nodes number.0 ≡ Some b) (is : sought ≡ Here) where
+      same_border : (here : IsAtSlice a number.0 (first_slice build.at)) → here.border ≡ b
+      same_border here = let both : ◌≡◌ {A = Option BorderView} (Some here.border) (Some b) = sym here.named ∙ named in cc
+
+      -- whose rows are those of keys
+      pub scan_keys : (now begun : ℕ) (past : List Arena) (w : World) → IsWorld a now w → IsScanning w.chart begun (arena_seen a ∷ past) number.0 build → HoldsKeys build.prefix b.live
+      scan_keys now begun past w world truth =
+          let here : IsAtSlice a number.0 (first_slice build.at) = knows now begun past w world truth Here is in
+          holds_keys a now begun number.0 (first_slice build.at) w build.prefix b world truth.held named (ap (λ (x : BorderView). x.version.deleted) (sym (same_border here)) ∙ here.alive)
+
+      module _ (visited : ScanMove) (new : BuildView) (visits : VisitsOn build b visited new) where
+        comes : (move : ScanMove) → visited ≡ move → (now begun : ℕ) (past : List Arena) (w : World) → IsWorld a now w → IsScanning w.chart begun (arena_seen a ∷ past) number.0 build → ComesTo w.chart begun (arena_seen a ∷ past) move new
+        comes move to now begun past w world truth =
+            let here : IsAtSlice a number.0 (first_slice build.at) = knows now begun past w world truth Here is in
+            subst (λ (v : ScanMove). ComesTo w.chart begun (arena_seen a ∷ past) v new) to
+            (visits.comes w.chart begun number.0 (arena_seen a) past world.index.tree (seen-border a number.0 b named) (ap (λ (x : BorderView). x.version.deleted) (sym (same_border here)) ∙ here.alive)
+            (subst (λ (x : BorderView). Below (first_slice build.at) (border_seen x).right) (same_border here) here.to_right) truth)
+
+        pub scan_goes : (next : NodeNo) → visited ≡ VisitedTo next → (C : ℕ) → BuildingLaw C a log (at build number None) Moved (at new next None)
+        scan_goes next to C = build_moves a log (at build number None) (at new next None)
+            (λ now begun moves more past w world truth. later w begun next.0 (arena_seen a) past new (comes (VisitedTo next) to now begun past w world truth)) C
+
+        pub scan_tops : visited ≡ Top → (C : ℕ) → BuildingLaw C a log (at build number None) Moved (at new (record { 0 = 0 }) None)
+        scan_tops to C = build_moves a log (at build number None) (at new (record { 0 = 0 }) None)
+            (λ now begun moves more past w world truth. later w begun 0 (arena_seen a) past new (comes Top to now begun past w world truth)) C
+
+        pub scan_ends : (upto : ℕ) (C : ℕ) → BuildingLaw C a log (at build number None) Moved (at new number (Some upto))
+        scan_ends upto C = build_moves a log (at build number None) (at new number (Some upto)) (λ now begun moves more past w world truth. tt) C
+
+        pub scans_all : visited ≡ Done → ScansAll a build number.0 new
+        scans_all to = λ now begun past w world truth. comes Done to now begun past w world truth
+
+-- ---- as the code has it: what it is to take isn't known before the scan's end
+module _ (a : ArenaView) (log : LogView) (old : Building) (scanning : old.upto ≡ None) where
+  pub as_scanning : (C : ℕ) (p : Progress) (view : BuildView) (node : NodeNo) → BuildingLaw C a log (record { build = old.build; node = old.node; upto = None }) p (record { build = view; node = node; upto = None }) → BuildingLaw C a log old p (record { build = view; node = node; upto = old.upto })
+  as_scanning C p view node law = subst (λ (u : Option ℕ). BuildingLaw C a log (record { build = old.build; node = old.node; upto = u }) p (record { build = view; node = node; upto = u })) (sym scanning) law
+
+  pub as_ended : (C : ℕ) (p : Progress) (new : Building) → BuildingLaw C a log (record { build = old.build; node = old.node; upto = None }) p new → BuildingLaw C a log old p new
+  as_ended C p new law = subst (λ (u : Option ℕ). BuildingLaw C a log (record { build = old.build; node = old.node; upto = u }) p new) (sym scanning) law
+
+  pub as_truth : (begun moves : ℕ) (past : List Arena) (w : World) → BuildingIsTrue old begun moves past a w → IsScanning w.chart begun (arena_seen a ∷ past) old.node.0 old.build
+  as_truth begun moves past w truth = subst (λ (u : Option ℕ). ScansOn u old.build old.node.0 begun past a w) scanning truth
+
+  -- it scans on, and its view keeps what it is
+  pub scans_on : (new : BuildView) → KeepsView old.build.state new.state → GoesOn a log old.upto old.build old.node.0 old.upto new
+  scans_on new keeps = subst (λ (u : Option ℕ). GoesOn a log u old.build old.node.0 u new) (sym scanning) keeps
+
+  pub has_scanned : (upto : ℕ) (new : BuildView) → upto ≡ newest log → KeepsView old.build.state new.state → ScansAll a old.build old.node.0 new → GoesOn a log old.upto old.build old.node.0 (Some upto) new
+  has_scanned upto new is keeps all = subst (λ (u : Option ℕ). GoesOn a log u old.build old.node.0 (Some upto) new) (sym scanning) (is, keeps, all)
+
+  pub scan_fails : (p : Progress) → ReadFails a old.node.0 p → FailsAt a old.node.0 old.upto p
+  scan_fails p fails = subst (λ (u : Option ℕ). FailsAt a old.node.0 u p) (sym scanning) fails
+
+-- ---- while it takes deltas
+module _ (a : ArenaView) (log : LogView) (old : Building) (upto : ℕ) (scanned : old.upto ≡ Some upto) where
+  pub take_moves : (view : BuildView) (C : ℕ) → BuildingLaw C a log old Moved (record { build = view; node = old.node; upto = old.upto })
+  take_moves view C = build_moves a log old (record { build = view; node = old.node; upto = old.upto })
+      (λ now begun moves more past w world truth. subst (λ (u : Option ℕ). ScansOn u view old.node.0 begun (arena_seen a ∷ past) a w) (sym scanned) tt) C
+
+  pub takes : (new : BuildView) → TakesNext log old.build.state new.state → GoesOn a log old.upto old.build old.node.0 old.upto new
+  takes new next = subst (λ (u : Option ℕ). GoesOn a log u old.build old.node.0 u new) (sym scanned) (refl, next)
+
+  pub take_fails : (p : Progress) → OnlyForMemory p → FailsAt a old.node.0 old.upto p
+  take_fails p fails = subst (λ (u : Option ℕ). FailsAt a old.node.0 u p) (sym scanned) fails
+
+-- a number that is known is one
+pub is_scanned : (upto : Option ℕ) → IsSome upto → (number : ℕ) × (upto ≡ Some number)
+is_scanned (Some number) some = (number, refl)
+is_scanned None some = absurd (let clash : false ≡ true = some in cc)
+
+-- what it takes next is in the log
+pub in_log : (log : LogView) (at : ℕ) (upto : Option ℕ) → IsSome upto → IsInLog log at upto → (log.held_after ≤ at) × (at < newest log)
+in_log log at (Some number) some is = is
+in_log log at None some is = absurd (let clash : false ≡ true = some in cc)

@@ -1,0 +1,3 @@
+pub mod BuildingLemmas
+pub mod WorkLemmas
+pub mod NewWorks

@@ -1,0 +1,59 @@
+use Rattle.std.proofs.Common.{ℕ, Some, subst}
+use Rattle.mt_calls.specs.Ranging.{Seeks}
+use Rattle.mt_works.proofs.BuildingLemmas.{scan_may, scan_again, scan_moves, scan_border, scan_keys, scan_goes, scan_tops, scan_ends, scans_all, as_scanning, as_ended, as_truth, has_scanned, build_fails}
+use Rattle.mt_works.proofs.building.Building.scan.Goals as goal
+
+pub seek-requires : goal.seek-requires
+seek-requires c =
+    let may = c.requires.may in
+    scan_may c.args.tree.now c.args.log.now c.args.self.now.build c.args.self.now.node may.now may.begun may.past may.w may.world (as_truth c.args.tree.now c.args.log.now c.args.self.now c.requires.scans may.begun may.moves may.past may.w may.true) c.slice.result c.slice.ensures
+
+pub border-requires : goal.border-requires
+border-requires c =
+    let may = c.requires.may in
+    scan_border c.args.tree.now c.args.log.now c.args.self.now.build c.args.self.now.node c.seek.result (subst (λ (s : ℕ). Seeks c.args.tree.now c.args.self.now.node.0 s c.seek.result) c.slice.ensures c.seek.ensures.seeks)
+    may.now may.begun may.past may.w may.world (as_truth c.args.tree.now c.args.log.now c.args.self.now c.requires.scans may.begun may.moves may.past may.w may.true) c.in-Here.is
+
+pub visit-requires : goal.visit-requires
+visit-requires c =
+    let may = c.requires.may in
+    scan_keys c.args.tree.now c.args.log.now c.args.self.now.build c.args.self.now.node c.seek.result (subst (λ (s : ℕ). Seeks c.args.tree.now c.args.self.now.node.0 s c.seek.result) c.slice.ensures c.seek.ensures.seeks)
+    c.border.result.now c.border.ensures.value c.in-Here.is
+    may.now may.begun may.past may.w may.world (as_truth c.args.tree.now c.args.log.now c.args.self.now c.requires.scans may.begun may.moves may.past may.w may.true)
+
+pub returns-in-Again-clause-steps : goal.returns-in-Again-clause-steps
+returns-in-Again-clause-steps c = λ C.
+    as_scanning c.args.tree.now c.args.log.now c.args.self.now c.requires.scans C _ _ _
+    (scan_again c.args.tree.now c.args.log.now c.args.self.now.build c.args.self.now.node c.restart.new.self c.restart.ensures C)
+
+pub returns-in-To-clause-steps : goal.returns-in-To-clause-steps
+returns-in-To-clause-steps c = λ C.
+    as_scanning c.args.tree.now c.args.log.now c.args.self.now c.requires.scans C _ _ _
+    (scan_moves c.args.tree.now c.args.log.now c.args.self.now.build c.args.self.now.node c.seek.result (subst (λ (s : ℕ). Seeks c.args.tree.now c.args.self.now.node.0 s c.seek.result) c.slice.ensures c.seek.ensures.seeks) c.in-To.next c.in-To.is C)
+
+pub returns-in-Ok-To-clause-steps : goal.returns-in-Ok-To-clause-steps
+returns-in-Ok-To-clause-steps c = λ C.
+    as_scanning c.args.tree.now c.args.log.now c.args.self.now c.requires.scans C _ _ _
+    (scan_goes c.args.tree.now c.args.log.now c.args.self.now.build c.args.self.now.node c.seek.result (subst (λ (s : ℕ). Seeks c.args.tree.now c.args.self.now.node.0 s c.seek.result) c.slice.ensures c.seek.ensures.seeks)
+    c.border.result.now c.border.ensures.value c.in-Here.is c.in-Ok-To.field-0 c.visit.new.self c.in-Ok-To.ensures.visited c.in-Ok-To.next c.in-Ok-To.field-0-is C)
+
+pub returns-in-Ok-Top-clause-steps : goal.returns-in-Ok-Top-clause-steps
+returns-in-Ok-Top-clause-steps c = λ C.
+    as_scanning c.args.tree.now c.args.log.now c.args.self.now c.requires.scans C _ _ _
+    (scan_tops c.args.tree.now c.args.log.now c.args.self.now.build c.args.self.now.node c.seek.result (subst (λ (s : ℕ). Seeks c.args.tree.now c.args.self.now.node.0 s c.seek.result) c.slice.ensures c.seek.ensures.seeks)
+    c.border.result.now c.border.ensures.value c.in-Here.is c.in-Ok-Top.field-0 c.visit.new.self c.in-Ok-Top.ensures.visited c.in-Ok-Top.field-0-is C)
+
+pub returns-in-Ok-Done-clause-steps : goal.returns-in-Ok-Done-clause-steps
+returns-in-Ok-Done-clause-steps c = λ C.
+    as_ended c.args.tree.now c.args.log.now c.args.self.now c.requires.scans C _ (record { build = c.visit.new.self; node = c.args.self.now.node; upto = Some c.number.result })
+    (scan_ends c.args.tree.now c.args.log.now c.args.self.now.build c.args.self.now.node c.seek.result (subst (λ (s : ℕ). Seeks c.args.tree.now c.args.self.now.node.0 s c.seek.result) c.slice.ensures c.seek.ensures.seeks)
+    c.border.result.now c.border.ensures.value c.in-Here.is c.in-Ok-Done.field-0 c.visit.new.self c.in-Ok-Done.ensures.visited c.number.result C)
+
+pub returns-in-Ok-Done-clause-builds : goal.returns-in-Ok-Done-clause-builds
+returns-in-Ok-Done-clause-builds c =
+    has_scanned c.args.tree.now c.args.log.now c.args.self.now c.requires.scans c.number.result c.visit.new.self c.number.ensures.value c.visit.ensures.state
+    (scans_all c.args.tree.now c.args.log.now c.args.self.now.build c.args.self.now.node c.seek.result (subst (λ (s : ℕ). Seeks c.args.tree.now c.args.self.now.node.0 s c.seek.result) c.slice.ensures c.seek.ensures.seeks)
+    c.border.result.now c.border.ensures.value c.in-Here.is c.in-Ok-Done.field-0 c.visit.new.self c.in-Ok-Done.ensures.visited c.in-Ok-Done.field-0-is)
+
+pub returns-in-Err-clause-steps : goal.returns-in-Err-clause-steps
+returns-in-Err-clause-steps c = λ C. build_fails c.args.tree.now c.args.log.now c.args.self.now _ C

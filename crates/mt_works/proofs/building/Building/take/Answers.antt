@@ -1,0 +1,10 @@
+use Rattle.mt_works.proofs.BuildingLemmas.{in_log, is_scanned, take_moves, takes, build_fails}
+use Rattle.mt_works.proofs.building.Building.take.Goals as goal
+
+pub returns-in-Ok-clause-steps : goal.returns-in-Ok-clause-steps
+returns-in-Ok-clause-steps c = λ a C.
+    let (upto, is) = is_scanned c.args.self.now.upto c.requires.scanned in
+    take_moves a c.args.log.now c.args.self.now upto is _ C
+
+pub returns-in-Err-clause-steps : goal.returns-in-Err-clause-steps
+returns-in-Err-clause-steps c = λ a C. build_fails a c.args.log.now c.args.self.now _ C

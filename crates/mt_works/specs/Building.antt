@@ -1,0 +1,92 @@
+-- A build as a call: what it asks for, what is true of it while it scans the tree, and what its steps do.
+use Rattle.std.specs.Prelude.{ℕ, ◌≡◌, ◌≤◌, ◌<◌, ◌+◌, List, ◌∷◌, Option, Some, None}
+use Rattle.mt_types.specs.declared.row.Delta.{Delta}
+use Rattle.mt_types.specs.declared.refusal.Refusal.{Refusal}
+use Rattle.mt_types.specs.declared.refusal.Refusal.TheVariants.{NoMemory}
+use Rattle.mt_types.specs.declared.event.Request.{Request}
+use Rattle.mt_types.specs.declared.event.Request.TheVariants.{Build as BuildRequest}
+use Rattle.mt_commit.specs.Log.{LogView, newest, delta_of}
+use Rattle.mt_arena.specs.Arena.{ArenaView}
+use Rattle.mt_chart.specs.Tree.{Arena}
+use Rattle.mt_tree.specs.Seen.{arena_seen}
+use Rattle.mt_view.specs.State.{StateView, applied}
+use Rattle.mt_build.specs.Build.{BuildView, IsScanning, HasScanned}
+use Rattle.mt_calls.specs.declared.progress.Progress.{Progress}
+use Rattle.mt_calls.specs.declared.progress.Progress.TheVariants.{Refused}
+use Rattle.mt_calls.specs.World.{World, IsWorld}
+use Rattle.mt_calls.specs.Causes.{ReadWaits, ReadFails}
+use Rattle.mt_calls.specs.Step.{StepLaw, nothing}
+use Rattle.mt_works.specs.declared.building.Building.{Building}
+
+abbrev pub building_request : Building → Request
+building_request building = BuildRequest building.build.state.spec
+
+-- while it scans, it holds the node where it stands, and has read all before its cursor, by the arenas of its moments; once it
+-- has scanned all, nothing is said of the tree any more
+abbrev pub ScansOn : Option ℕ → BuildView → ℕ → ℕ → List Arena → ArenaView → World → Type 0
+ScansOn None build number begun past a w = IsScanning w.chart begun (arena_seen a ∷ past) number build
+ScansOn (Some upto) build number begun past a w = Unit {0}
+
+abbrev pub BuildingIsTrue : Building → ℕ → ℕ → List Arena → ArenaView → World → Type 0
+BuildingIsTrue building begun moves past a w = ScansOn building.upto building.build building.node.0 begun past a w
+
+-- it has taken each delta that it was to take
+abbrev pub IsUpTo : Option ℕ → ℕ → Type 0
+IsUpTo None at = ⊥
+IsUpTo (Some upto) at = at ≡ upto
+
+abbrev pub IsBuilt : Building → Type 0
+IsBuilt building = IsUpTo building.upto building.build.state.at
+
+-- the delta that it is to take next is one of the log's
+abbrev pub IsInLog : LogView → ℕ → Option ℕ → Type 0
+IsInLog log at None = Unit {0}
+IsInLog log at (Some upto) = (log.held_after ≤ at) × (at < newest log)
+
+-- of its view the scan changes the rows alone
+abbrev pub KeepsView : StateView → StateView → Type 0
+KeepsView old new = new ≡ record old { rows = new.rows }
+
+-- the scan has read each key of the view, by the arenas of its moments, in every world in which it was true
+abbrev pub ScansAll : ArenaView → BuildView → ℕ → BuildView → Type 0
+ScansAll a old number new =
+    (now begun : ℕ) (past : List Arena) (w : World) → IsWorld a now w → IsScanning w.chart begun (arena_seen a ∷ past) number old
+    → HasScanned (arena_seen a ∷ past) new
+
+-- the state has taken the next delta of the log
+pub record TakesNext (log : LogView) (old new : StateView) : Type 0 where
+  pub delta : Delta
+  pub is_next : delta_of log (old.at + 1) ≡ Some delta
+  pub taken : new ≡ applied delta old
+
+-- A step of a build that goes on: it scans; or its scan ends, and it is to take the deltas up to that of the newest commit; or it
+-- takes the next of them.
+abbrev pub GoesOn : ArenaView → LogView → Option ℕ → BuildView → ℕ → Option ℕ → BuildView → Type 0
+GoesOn a log None old number None new = KeepsView old.state new.state
+GoesOn a log None old number (Some upto) new = (upto ≡ newest log) × KeepsView old.state new.state × ScansAll a old number new
+GoesOn a log (Some upto) old number then new = (then ≡ Some upto) × TakesNext log old.state new.state
+
+abbrev pub BuildsOn : ArenaView → LogView → Building → Progress → Building → Type 0
+BuildsOn a log old (Refused refusal) new = Unit {0}
+BuildsOn a log old p new = GoesOn a log old.upto old.build old.node.0 new.upto new.build
+
+-- its step is the law's, whatever the tree has: it changes neither the tree nor the log
+abbrev pub BuildingLaw : ℕ → ArenaView → LogView → Building → Progress → Building → Type 0
+BuildingLaw C a log old p new =
+    StepLaw C a a log log (building_request old) nothing p nothing (BuildingIsTrue old) (BuildingIsTrue new)
+
+-- it waits only where the node that its scan visits is marked deleted
+abbrev pub BuildWaits : ArenaView → Building → Progress → Type 0
+BuildWaits a building p = ReadWaits a building.node.0 p
+
+abbrev pub OnlyForMemory : Progress → Type 0
+OnlyForMemory (Refused refusal) = refusal ≡ NoMemory
+OnlyForMemory p = Unit {0}
+
+-- it is refused only for want of memory: at a border, or for the row of a delta
+abbrev pub FailsAt : ArenaView → ℕ → Option ℕ → Progress → Type 0
+FailsAt a number None p = ReadFails a number p
+FailsAt a number (Some upto) p = OnlyForMemory p
+
+abbrev pub BuildFails : ArenaView → Building → Progress → Type 0
+BuildFails a building p = FailsAt a building.node.0 building.upto p

@@ -1,0 +1,70 @@
+-- The kinds of calls: what each asks for, what it has, and what is true of it.
+use Rattle.std.specs.Prelude.{ℕ, ◌≡◌, List, [], Option, None}
+use Rattle.mt_types.specs.declared.event.Request.{Request}
+use Rattle.mt_types.specs.declared.event.Request.TheVariants.{Tidy as TidyRequest}
+use Rattle.mt_commit.specs.Log.{LogView}
+use Rattle.mt_arena.specs.Arena.{ArenaView}
+use Rattle.mt_chart.specs.Tree.{Arena}
+use Rattle.mt_calls.specs.declared.progress.Progress.{Progress}
+use Rattle.mt_calls.specs.World.{World, IsWorld}
+use Rattle.mt_calls.specs.Step.{Held, nothing}
+use Rattle.mt_calls.specs.Getting.{get_request, GetIsTrue}
+use Rattle.mt_calls.specs.Ranging.{range_request, RangeIsTrue}
+use Rattle.mt_write.specs.Writing.{write_request, write_held, WriteIsTrue}
+use Rattle.mt_works.specs.Building.{building_request, BuildingIsTrue, IsInLog, IsBuilt, BuildsOn}
+use Rattle.mt_works.specs.declared.building.Building.{Building}
+use Rattle.mt_works.specs.declared.work.Work.{Work}
+use Rattle.mt_works.specs.declared.work.Work.TheVariants.{Get, Write, Range, Build}
+
+abbrev pub request_of : Work → Request
+request_of (Get get) = get_request get
+request_of (Write write) = write_request write
+request_of (Range range) = range_request range
+request_of (Build building) = building_request building
+
+-- what it owns, has reserved and has committed
+abbrev pub held : Work → Held
+held (Get get) = nothing
+held (Write write) = write_held write
+held (Range range) = nothing
+held (Build building) = nothing
+
+-- what is true of it
+abbrev pub IsTrue : ℕ → Work → ℕ → ℕ → List Arena → ArenaView → World → Type 0
+IsTrue C (Get get) begun moves past a w = GetIsTrue get begun moves past a w
+IsTrue C (Write write) begun moves past a w = WriteIsTrue C write begun moves past a w
+IsTrue C (Range range) begun moves past a w = RangeIsTrue range begun moves past a w
+IsTrue C (Build building) begun moves past a w = BuildingIsTrue building begun moves past a w
+
+-- the delta that a build is to take next is one of the log's
+abbrev pub HasNext : LogView → Work → Type 0
+HasNext log (Build building) = IsInLog log building.build.state.at building.upto
+HasNext log _ = Unit {0}
+
+-- it is a build that has taken all, whose view is to be opened
+abbrev pub IsBuiltWork : Work → Type 0
+IsBuiltWork (Build building) = IsBuilt building
+IsBuiltWork _ = ⊥
+
+-- what a step of a build has done to its view
+abbrev pub WorkBuilds : ArenaView → LogView → Work → Progress → Work → Type 0
+WorkBuilds a log (Build old) p (Build new) = BuildsOn a log old p new
+WorkBuilds a log (Build old) p _ = ⊥
+WorkBuilds a log _ p new = Unit {0}
+
+-- a build that begins at this number of commits is to scan, and its view, of so many columns, opens there
+abbrev pub OpensAt : ℕ → ℕ → Work → Type 0
+OpensAt C number (Build building) =
+    (building.upto ≡ None) × (building.build.state.at ≡ number) × (building.build.state.columns ≡ C)
+OpensAt C number _ = Unit {0}
+
+-- a call that begins has nothing, and its record is true
+pub record IsNew (C number : ℕ) (work : Work) : Type 0 where
+  pub has : held work ≡ nothing
+  pub true : (a : ArenaView) (now begun : ℕ) (w : World) → IsWorld a now w → IsTrue C work begun 0 [] a w
+  pub opens : OpensAt C number work
+
+-- the requests for which there is a work
+abbrev pub IsServedRequest : Request → Type 0
+IsServedRequest (TidyRequest key) = ⊥
+IsServedRequest _ = Unit {0}

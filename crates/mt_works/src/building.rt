@@ -1,0 +1,112 @@
+//! A build of a view as a call: a scan of the view's keys, border by border, and then a step for each delta since its begin.
+
+ghost use Rattle.std.specs.Prelude.{◌≡◌, ◌≢◌, ◌↔◌, ℕ, IsTrue, IsSome, None};
+ghost use Rattle.mt_arena.specs.Arena.{ArenaView};
+ghost use Rattle.mt_calls.specs.Step.{MayStep, nothing};
+ghost use Rattle.mt_calls.specs.Causes.{ReadWaits, ReadFails};
+ghost use Rattle.mt_works.specs.Building.{building_request, BuildingIsTrue, BuildingLaw, IsBuilt, IsInLog, BuildsOn, BuildWaits, BuildFails, OnlyForMemory};
+
+use mt_build::build::Build;
+use mt_calls::progress::Progress;
+use mt_calls::ranging::{Sought, seek};
+use mt_commit::log::Log;
+use mt_scan::ScanMove;
+use mt_tree::{TOP, Tree};
+use mt_types::numbers::NodeNo;
+use mt_types::refusal::Refusal;
+use std::alloc::Global;
+
+/// A build of a view.
+#[derive(Drop)]
+pub struct Building {
+    pub build: Build,
+    /// The node where its scan is.
+    pub node: NodeNo,
+    /// Once it has scanned all: the number of the last commit whose delta it is to take.
+    pub upto: Option<u64>,
+}
+
+impl Building {
+    /// Whether it has taken all that it was to take: then its view is to be opened, by the machine.
+    pub fn is_built(&self) -> bool
+        ensures { IsTrue result ↔ IsBuilt self.now }
+    {
+        match self.upto {
+            Some(upto) => self.build.at() == upto,
+            None => false,
+        }
+    }
+
+    /// Visits one node; or takes the next delta, once it has scanned all.
+    pub fn step(&mut self, alloc: Global, tree: &Tree, log: &Log) -> Progress
+        requires may { MayStep tree.now log.now nothing (BuildingIsTrue self.old) }
+        requires next { IsInLog log.now self.old.build.state.at self.old.upto }
+        ensures request { building_request self.new ≡ building_request self.old }
+        ensures steps { (C : ℕ) → BuildingLaw C tree.now log.now self.old result self.new }
+        ensures builds { BuildsOn tree.now log.now self.old result self.new }
+        ensures waits { BuildWaits tree.now self.old result }
+        ensures fails { BuildFails tree.now self.old result }
+    {
+        match self.upto {
+            Some(_) => self.take(log),
+            None => self.scan(alloc, tree, log),
+        }
+    }
+
+    // Visits one node: on the way to the border where its cursor is, or that border.
+    fn scan(&mut self, alloc: Global, tree: &Tree, log: &Log) -> Progress
+        requires may { MayStep tree.now log.now nothing (BuildingIsTrue self.old) }
+        requires scans { self.old.upto ≡ None }
+        ensures request { building_request self.new ≡ building_request self.old }
+        ensures steps { (C : ℕ) → BuildingLaw C tree.now log.now self.old result self.new }
+        ensures builds { BuildsOn tree.now log.now self.old result self.new }
+        ensures waits { ReadWaits tree.now self.old.node.0 result }
+        ensures fails { ReadFails tree.now self.old.node.0 result }
+    {
+        match seek(tree, self.node, self.build.slice()) {
+            Sought::Again => {
+                self.build.restart();
+                self.node = TOP;
+                Progress::Waits
+            }
+            Sought::To(next) => {
+                self.node = next;
+                Progress::Moved
+            }
+            Sought::Here => match self.build.visit(alloc, tree.border(self.node)) {
+                Ok(ScanMove::To(next)) => {
+                    self.node = next;
+                    Progress::Moved
+                }
+                Ok(ScanMove::Top) => {
+                    self.node = TOP;
+                    Progress::Moved
+                }
+                Ok(ScanMove::Done) => {
+                    self.upto = Some(log.number());
+                    Progress::Moved
+                }
+                Err(_) => Progress::Refused(Refusal::NoMemory),
+            },
+        }
+    }
+
+    // Takes the delta of the next commit.
+    fn take(&mut self, log: &Log) -> Progress
+        requires next { IsInLog log.now self.old.build.state.at self.old.upto }
+        requires scanned { IsSome self.old.upto }
+        ensures request { building_request self.new ≡ building_request self.old }
+        ensures steps { (a : ArenaView) (C : ℕ) → BuildingLaw C a log.now self.old result self.new }
+        ensures builds { (a : ArenaView) → BuildsOn a log.now self.old result self.new }
+        ensures waits { result ≢ Progress.Waits }
+        ensures fails { OnlyForMemory result }
+    {
+        let at = self.build.at();
+        prove!(at < log.number());
+        let next = at + 1;
+        match self.build.take(log.delta(next)) {
+            Ok(()) => Progress::Moved,
+            Err(_) => Progress::Refused(Refusal::NoMemory),
+        }
+    }
+}

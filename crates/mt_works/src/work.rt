@@ -1,0 +1,174 @@
+//! The kinds of calls.
+
+ghost use Rattle.std.specs.Prelude.{◌≡◌, ◌↔◌, ℕ, IfOk, IsTrue as IsTrueBool};
+ghost use Rattle.mt_types.specs.declared.event.Request.TheVariants.{Range as RangeRequest, Build as BuildRequest};
+ghost use Rattle.mt_promise.specs.Legal.{reads_log, is_build};
+ghost use Rattle.mt_calls.specs.Step.{StepLaw, MayStep};
+ghost use Rattle.mt_calls.specs.Ranging.{range_request};
+ghost use Rattle.mt_works.specs.Building.{building_request};
+ghost use Rattle.mt_works.specs.Causes.{WorkWaits, WorkFails};
+ghost use Rattle.mt_works.specs.Follows.{WorkFollows};
+ghost use Rattle.mt_works.specs.Works.{request_of, held, IsTrue, IsNew, IsServedRequest, IsBuiltWork, HasNext, WorkBuilds};
+
+use crate::building::Building;
+use bytes::Bytes;
+use mt_build::build::Build;
+use mt_calls::getting::Get;
+use mt_calls::progress::Progress;
+use mt_calls::ranging::Range;
+use mt_calls::way::{START, rest_of};
+use mt_commit::log::Log;
+use mt_scan::Scan;
+use mt_tree::{TOP, Tree};
+use mt_types::copying::TryCopy;
+use mt_types::event::Request;
+use mt_types::key::Key;
+use mt_types::refusal::NoMemory;
+use mt_types::row::ColumnNumbers;
+use mt_types::view::ViewSpec;
+use mt_write::writing::{Edit, Stage, Write};
+use std::alloc::Global;
+
+/// What a call is at work on.
+#[derive(Drop)]
+pub enum Work {
+    Get(Get),
+    Write(Write),
+    Range(Range),
+    Build(Building),
+}
+
+impl Work {
+    /// Whether it reads the log from the commits of its begin on, as a range and a build do.
+    pub fn reads_log(&self) -> bool
+        ensures { result ≡ reads_log (request_of self.now) }
+    {
+        matches!(self, Work::Range(_) | Work::Build(_))
+    }
+
+    /// Whether it is a build.
+    pub fn is_build(&self) -> bool
+        ensures { result ≡ is_build (request_of self.now) }
+    {
+        matches!(self, Work::Build(_))
+    }
+
+    /// Whether it is a build that has taken all that it was to take: its view is then to be opened.
+    pub fn is_built(&self) -> bool
+        ensures { IsTrueBool result ↔ IsBuiltWork self.now }
+    {
+        match self {
+            Work::Build(building) => building.is_built(),
+            _ => false,
+        }
+    }
+
+    /// Visits one node; a build that has scanned its keys takes one delta.
+    pub fn step(&mut self, alloc: Global, columns: u8, tree: &mut Tree, log: &mut Log) -> Progress
+        requires may { MayStep tree.old log.old (held self.old) (IsTrue columns self.old) }
+        requires next { HasNext log.old self.old }
+        ensures request { request_of self.new ≡ request_of self.old }
+        ensures steps { StepLaw columns tree.old tree.new log.old log.new (request_of self.old) (held self.old) result (held self.new) (IsTrue columns self.old) (IsTrue columns self.new) }
+        ensures builds { WorkBuilds tree.old log.old self.old result self.new }
+        ensures waits { WorkWaits tree.old self.old result }
+        ensures fails { WorkFails tree.old log.old self.old result self.new }
+        ensures gets_on { WorkFollows tree.old self.old result self.new }
+    {
+        match self {
+            Work::Get(get) => get.step(alloc, tree),
+            Work::Write(write) => write.step(alloc, columns, tree, log),
+            Work::Range(range) => range.step(alloc, tree),
+            Work::Build(building) => building.step(alloc, tree, log),
+        }
+    }
+}
+
+// The key of these bytes, which are few enough: the begin of a call tests that. Shares them.
+fn key_of(alloc: Global, bytes: &Bytes) -> Result<Key, NoMemory>
+    ensures { IfOk result (λ key. key ≡ bytes.now) }
+{
+    Key::new(bytes.copy(alloc)?).map_err(|_| NoMemory)
+}
+
+// A put or remove on its way.
+fn new_write(key: Key, edit: Edit) -> Write
+    ensures key { result.key ≡ key }
+    ensures edit { result.edit ≡ edit }
+    ensures new { (C number : ℕ) → IsNew C number (Work.Write result) }
+{
+    Write {
+        key,
+        edit,
+        way: START,
+        head: TOP,
+        stage: Stage::Seeks,
+    }
+}
+
+// A range at its first key.
+fn new_range(alloc: Global, start: Key, limit: u16, columns: &ColumnNumbers) -> Result<Range, NoMemory>
+    ensures request { IfOk result (λ range. range_request range ≡ RangeRequest start limit columns.now) }
+    ensures new { IfOk result (λ range. (C number : ℕ) → IsNew C number (Work.Range range)) }
+{
+    let _bytes = rest_of(&start, 0);
+    let scan = Scan::new(alloc, &start, limit, columns.copy(alloc)?)?;
+    Ok(Range {
+        start,
+        limit,
+        columns: columns.copy(alloc)?,
+        scan,
+        node: TOP,
+    })
+}
+
+// A build at the first key of its view, which opens at this number of commits.
+fn new_building(alloc: Global, columns: u8, number: u64, spec: &ViewSpec) -> Result<Building, NoMemory>
+    ensures request { IfOk result (λ building. building_request building ≡ BuildRequest spec.now) }
+    ensures new { IfOk result (λ building. IsNew columns number (Work.Build building)) }
+{
+    let Ok(build) = Build::new(alloc, columns, spec.copy(alloc)?, number) else {
+        return Err(NoMemory);
+    };
+    Ok(Building {
+        build,
+        node: TOP,
+        upto: None,
+    })
+}
+
+/// The work of a call that asks for this, which is served, and whose keys are not too long; it begins when there are so
+/// many commits. Shares the bytes.
+///
+/// # Errors
+///
+/// `NoMemory` for want of it, or where a key is too long: the begin of a call tests that.
+pub fn work_of(alloc: Global, columns: u8, number: u64, request: &Request) -> Result<Work, NoMemory>
+    requires served { IsServedRequest request.now }
+    ensures request { IfOk result (λ work. request_of work ≡ request.now) }
+    ensures new { IfOk result (IsNew columns number) }
+{
+    match request {
+        Request::Get { key, columns } => Ok(Work::Get(Get {
+            key: key_of(alloc, key)?,
+            columns: columns.copy(alloc)?,
+            way: START,
+        })),
+        Request::Put { key, sets } => Ok(Work::Write(new_write(
+            key_of(alloc, key)?,
+            Edit::Put(sets.copy(alloc)?),
+        ))),
+        Request::Remove { key } => Ok(Work::Write(new_write(key_of(alloc, key)?, Edit::Remove))),
+        Request::Range {
+            start,
+            limit,
+            columns,
+        } => Ok(Work::Range(new_range(
+            alloc,
+            key_of(alloc, start)?,
+            *limit,
+            columns,
+        )?)),
+        Request::Build { spec } => Ok(Work::Build(new_building(alloc, columns, number, spec)?)),
+        Request::Tidy { .. } => unreachable!(),
+    }
+}
