@@ -7,7 +7,7 @@ use Rattle.std.specs.Option.{MatchOption}
 use Rattle.std.proofs.lemmas.Option.{MatchOption-at_some, MatchOption-at_none}
 use Rattle.mt_drive.specs.declared.fault.LineError.{LineError}
 use Rattle.mt_drive.specs.declared.fault.LineError.TheVariants.{Memory, Bad}
-use Rattle.mt_drive.specs.Reading.{Fails, ◌>>=◌, word_at, digits_from, number_of, at_most, each, parts}
+use Rattle.mt_drive.specs.Words.{Fails, ◌>>=◌, word_at, last_from, last_word_at, digits_from, number_of, at_most, each, parts}
 
 module _ (stop : ℕ) where
   pub word_at_stop : (xs : List ℕ) (i : ℕ) → i < length xs → ((k : ℕ) → k < i → get_or xs k 0 ≢ stop) → get_or xs i 0 ≡ stop → word_at stop xs ≡ Some (take i xs, drop (suc i) xs)
@@ -22,6 +22,21 @@ module _ (stop : ℕ) where
   word_at_none (x ∷ xs) before =
       ap (λ t. cond t (Some ([], xs)) (word_at stop xs >>= λ y. Some (x ∷ y.0, y.1))) (ne_eqb x stop (before 0 (omega arith)))
       ∙ ap (λ o. o >>= λ y. Some (x ∷ y.0, y.1)) (word_at_none xs (λ k h. before (suc k) (omega arith)))
+
+  pub last_word_at_none : (xs : List ℕ) → ((k : ℕ) → k < length xs → get_or xs k 0 ≢ stop) → last_word_at stop xs ≡ None
+  last_word_at_none [] before = refl
+  last_word_at_none (x ∷ xs) before =
+      ap (last_from stop x xs) (last_word_at_none xs (λ k h. before (suc k) (omega arith)))
+      ∙ ap (λ t. cond t (Some ([], xs)) None) (ne_eqb x stop (before 0 (omega arith)))
+
+  pub last_word_at_stop : (xs : List ℕ) (i : ℕ) → i < length xs → ((k : ℕ) → i < k → k < length xs → get_or xs k 0 ≢ stop) → get_or xs i 0 ≡ stop
+      → last_word_at stop xs ≡ Some (take i xs, drop (suc i) xs)
+  last_word_at_stop [] i within behind here = absurd (omega arith)
+  last_word_at_stop (x ∷ xs) zero within behind here =
+      ap (last_from stop x xs) (last_word_at_none xs (λ k h. behind (suc k) (omega arith) (omega arith)))
+      ∙ ap (λ t. cond t (Some ([], xs)) None) (eq-eqb x stop here)
+  last_word_at_stop (x ∷ xs) (suc i) within behind here =
+      ap (last_from stop x xs) (last_word_at_stop xs i (omega arith) (λ k h w. behind (suc k) (omega arith) (omega arith)) here)
 
 leb_over : (n most : ℕ) → most < n → nat_le n most ≡ false
 leb_over n most over = search (rules, nat_tests)

@@ -1,3 +1,4 @@
+pub mod Commands
 pub mod Lines
 pub mod Machine
 pub mod Reading
@@ -5,3 +6,4 @@ pub mod Script
 pub mod Showing
 pub mod Sink
 pub mod Source
+pub mod Words

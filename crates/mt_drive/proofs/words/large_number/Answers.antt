@@ -1,6 +1,6 @@
 use Rattle.std.proofs.Common.{arith}
 use Rattle.mt_drive.proofs.WordLemmas.{over_at}
-use Rattle.mt_drive.proofs.reading.number.Goals as goal
+use Rattle.mt_drive.proofs.words.large_number.Goals as goal
 
 pub returns-in-None-checked_add-clause-value : goal.returns-in-None-checked_add-clause-value
 returns-in-None-checked_add-clause-value c = over_at c.args.most c.loop-c.n c.loop-c.c-index c.args.word.now c.loop-c.invariant.0 (omega arith) (omega arith)

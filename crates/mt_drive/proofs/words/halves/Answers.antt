@@ -1,6 +1,6 @@
 use Rattle.std.proofs.Common.{◌-◌, ◌+◌, length, drop, arith, take_all, length-drop, add-one}
 use Rattle.mt_drive.proofs.WordLemmas.{word_at_stop, word_at_none}
-use Rattle.mt_drive.proofs.reading.halves.Goals as goal
+use Rattle.mt_drive.proofs.words.halves.Goals as goal
 
 pub returns-then-b-stop-clause-found : goal.returns-then-b-stop-clause-found
 returns-then-b-stop-clause-found c =
