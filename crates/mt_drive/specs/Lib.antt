@@ -6,4 +6,5 @@ pub mod Script
 pub mod Showing
 pub mod Sink
 pub mod Source
+pub mod Values
 pub mod Words

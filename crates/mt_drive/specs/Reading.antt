@@ -11,7 +11,7 @@ use Rattle.mt_drive.specs.Words.{◌>>=◌, word_at, number_of, bytes_of, each, 
 
 -- `all`, which asks for none by name, or numbers joined by commas
 unfoldable pub columns_of : List ℕ → Option (List ℕ)
-columns_of text = if bytes_eq text (codes "all") then Some [] else each (number_of 255) (parts text)
+columns_of text = if bytes_eq text (codes "all") then Some [] else each (number_of 255) (parts 44 text)
 
 -- COL=BYTES
 unfoldable pub set_of : List ℕ → Option (ℕ × List ℕ)
@@ -23,7 +23,7 @@ set_of text = do
 
 -- `-` for none, or COL=BYTES joined by commas
 unfoldable pub sets_of : List ℕ → Option (List (ℕ × List ℕ))
-sets_of text = if bytes_eq text (codes "-") then Some [] else each set_of (parts text)
+sets_of text = if bytes_eq text (codes "-") then Some [] else each set_of (parts 44 text)
 
 -- KEY COLS
 unfoldable pub get_of : List ℕ → Option Request

@@ -68,6 +68,6 @@ each f (word ∷ words) = do
   xs ← each f words
   Some (x ∷ xs)
 
--- the parts between commas
-abbrev pub parts : List ℕ → List (List ℕ)
-parts text = slice_split (λ b. b == 44) text
+-- the parts between stops
+abbrev pub parts : ℕ → List ℕ → List (List ℕ)
+parts stop text = slice_split (λ b. b == stop) text

@@ -14,4 +14,5 @@ pub mod sink;
 pub mod source;
 #[cfg(test)]
 mod tests;
+pub mod values;
 pub mod words;

@@ -34,7 +34,7 @@ fn columns(alloc: Global, text: &[u8]) -> Result<ColumnNumbers, LineError>
     if text == b"all".as_slice() {
         return Ok(Items::new(alloc));
     }
-    let numbers: Vec<u8> = read_parts(alloc, text)?;
+    let numbers: Vec<u8> = read_parts(alloc, text, b',')?;
     Ok(Items::from_vec(numbers))
 }
 
@@ -45,7 +45,7 @@ fn sets(alloc: Global, text: &[u8]) -> Result<Sets, LineError>
     if text == b"-".as_slice() {
         return Ok(Items::new(alloc));
     }
-    let sets: Vec<(u8, Column)> = read_parts(alloc, text)?;
+    let sets: Vec<(u8, Column)> = read_parts(alloc, text, b',')?;
     Ok(Items::from_vec(sets))
 }
 

@@ -1,4 +1,4 @@
-//! Words, numbers and bytes in a text, and lists of them between commas.
+//! Words, numbers and bytes in a text, and lists of them between stops.
 
 ghost use Rattle.std.specs.Prelude.{◌≡◌, ◌≤◌, ◌<◌, length, MatchOption, IfSome, IfOk};
 ghost use Rattle.mt_drive.specs.Words.{Gives, Pushes, word_at, last_word_at, number_of, bytes_of, each, parts};
@@ -8,8 +8,8 @@ use bytes::Bytes;
 use hex::FromHexError;
 use std::alloc::Global;
 
-// What stands before the first stop, and what after it.
-fn halves(text: &[u8], stop: u8) -> Option<(&[u8], &[u8])>
+/// What stands before the first stop, and what after it.
+pub fn halves(text: &[u8], stop: u8) -> Option<(&[u8], &[u8])>
     ensures found { MatchOption result (word_at stop text.now ≡ None)
         (λ x. word_at stop text.now ≡ Some (x.0.now, x.1.now)) }
     ensures shorter { IfSome result (λ x. length x.1.now < length text.now) }
@@ -111,7 +111,7 @@ pub fn bytes_from(alloc: Global, word: &[u8]) -> Result<Bytes, LineError>
     }
 }
 
-/// What stands between the commas of a list.
+/// What stands between the stops of a list.
 pub trait Part: Drop {
     ghost use Rattle.std.specs.Prelude.{ℕ, List, Option};
 
@@ -164,13 +164,13 @@ fn push_part<T: Part>(alloc: Global, read: &mut Vec<T>, text: &[u8]) -> Result<(
     Ok(())
 }
 
-/// The parts between commas. Costs what they cost, and a list of them that doubles as it grows.
-pub fn read_parts<T: Part>(alloc: Global, text: &[u8]) -> Result<Vec<T>, LineError>
-    ensures { Gives (λ v. v.items) result (each T.part_of (parts text.now)) }
+/// The parts between stops. Costs what they cost, and a list of them that doubles as it grows.
+pub fn read_parts<T: Part>(alloc: Global, text: &[u8], stop: u8) -> Result<Vec<T>, LineError>
+    ensures { Gives (λ v. v.items) result (each T.part_of (parts stop text.now)) }
 {
     let mut read = Vec::new(alloc);
     let mut rest = text;
-    while let Some((word, more)) = halves(rest, b',') {
+    while let Some((word, more)) = halves(rest, stop) {
         push_part(alloc, &mut read, word)?;
         rest = more;
     }
