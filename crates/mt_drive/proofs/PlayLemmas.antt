@@ -13,7 +13,7 @@ use Rattle.mt_drive.specs.Machine.{Leads, IsAsBefore}
 use Rattle.mt_drive.specs.declared.command.Reply.{Reply}
 use Rattle.mt_drive.specs.Script.{reply_lines, output_of, is_bad, bad_lines, Answers, AnswersAll, Played, Broke}
 
-append_none : {A : Type 0} (xs : List A) → xs ++ [] ≡ xs
+pub append_none : {A : Type 0} (xs : List A) → xs ++ [] ≡ xs
 append_none [] = refl
 append_none (x ∷ xs) = ap (λ l. x ∷ l) (append_none xs)
 
@@ -55,25 +55,25 @@ went_whole line sent unsent a b split went none = subst (Appends a b) (sym (spli
 abbrev pub Goes : Option (List ℕ) → Option (List ℕ) → List (List ℕ) → Type 0
 Goes input now lines = IfSome input (λ xs. (rest : List ℕ) × (now ≡ Some rest) × (lines_of xs ≡ lines ++ lines_of rest))
 
-Goes-start : (input : Option (List ℕ)) → Goes input input []
+pub Goes-start : (input : Option (List ℕ)) → Goes input input []
 Goes-start None = tt
 Goes-start (Some xs) = (xs, refl, refl)
 
-Goes-more : (input now next : Option (List ℕ)) (lines : List (List ℕ)) (line : List ℕ) → Goes input now lines → IfSome now (λ xs. LosesLine xs next (Some line)) → Goes input next (lines ++ line ∷ [])
+pub Goes-more : (input now next : Option (List ℕ)) (lines : List (List ℕ)) (line : List ℕ) → Goes input now lines → IfSome now (λ xs. LosesLine xs next (Some line)) → Goes input next (lines ++ line ∷ [])
 Goes-more None now next lines line so_far lost = tt
 Goes-more (Some xs) None next lines line so_far lost = absurd (cc so_far.1)
 Goes-more (Some xs) (Some ys) next lines line so_far lost =
     let same : ys ≡ so_far.0 = cc so_far.1 in
     (lost.0, lost.1, so_far.2 ∙ ap (λ r. lines ++ lines_of r) (sym same) ∙ ap (λ l. lines ++ l) lost.2 ∙ sym (append_assoc lines (line ∷ []) (lines_of lost.0)))
 
-Goes-end : (input now next : Option (List ℕ)) (lines : List (List ℕ)) → Goes input now lines → IfSome now (λ xs. LosesLine xs next None) → IfSome input (λ xs. lines_of xs ≡ lines)
+pub Goes-end : (input now next : Option (List ℕ)) (lines : List (List ℕ)) → Goes input now lines → IfSome now (λ xs. LosesLine xs next None) → IfSome input (λ xs. lines_of xs ≡ lines)
 Goes-end None now next lines so_far lost = tt
 Goes-end (Some xs) None next lines so_far lost = absurd (cc so_far.1)
 Goes-end (Some xs) (Some ys) next lines so_far lost =
     let same : ys ≡ so_far.0 = cc so_far.1 in
     so_far.2 ∙ ap (λ r. lines ++ lines_of r) (sym same) ∙ ap (λ l. lines ++ l) lost ∙ append_none lines
 
-Goes-front : (input now : Option (List ℕ)) (lines : List (List ℕ)) → Goes input now lines → (more : List (List ℕ)) × IfSome input (λ xs. lines_of xs ≡ lines ++ more)
+pub Goes-front : (input now : Option (List ℕ)) (lines : List (List ℕ)) → Goes input now lines → (more : List (List ℕ)) × IfSome input (λ xs. lines_of xs ≡ lines ++ more)
 Goes-front None now lines so_far = ([], tt)
 Goes-front (Some xs) now lines so_far = (lines_of so_far.0, so_far.2)
 
