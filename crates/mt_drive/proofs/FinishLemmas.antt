@@ -1,5 +1,5 @@
 -- Steps of a call that hasn't finished, and the one that ends them.
-use Rattle.std.proofs.Common.{◌≡◌, ◌<◌, ℕ, ◌+◌, true, List, [], ◌∷◌, ◌++◌, length, map, refl, subst, sym, arith, length-append}
+use Rattle.std.proofs.Common.{◌≡◌, ◌<◌, ℕ, ◌+◌, true, List, [], ◌∷◌, ◌++◌, length, map, refl, subst, sym, ◌∙◌, arith, length-append}
 use Rattle.std.proofs.lemmas.List.{map-append}
 use Rattle.std.proofs.lemmas.List.Elements.{All-nil, All-push}
 use Rattle.mt_types.specs.declared.numbers.CallNo.{CallNo}
@@ -9,8 +9,11 @@ use Rattle.mt_types.specs.declared.event.Outcome.{Outcome}
 use Rattle.mt_promise.specs.History.{History, GoesOn}
 use Rattle.mt_promise.proofs.HistoryLemmas.{GoesOn-append}
 use Rattle.mt_index.specs.Stands.{MachineView}
-use Rattle.mt_drive.specs.Machine.{Leads}
+use Rattle.mt_drive.specs.Machine.{Leads, IsAsBefore}
 use Rattle.mt_drive.specs.Script.{goes_on, AllGoOn, Happens, Steps, Finishes}
+
+pub as_before : (s between t : MachineView) → IsAsBefore between t → IsAsBefore s between → IsAsBefore s t
+as_before s between t late early = (late.0 ∙ early.0, late.1 ∙ early.1)
 
 -- one step fewer than n, none of which finished the call
 pub record Passes (n : ℕ) (past : History) (call : CallNo) (h : History) : Type 0 where

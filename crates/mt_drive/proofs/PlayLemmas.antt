@@ -8,11 +8,12 @@ use Rattle.mt_index.specs.Stands.{MachineView, Stands}
 use Rattle.mt_drive.specs.declared.fault.ScriptFault.{ScriptFault}
 use Rattle.mt_drive.specs.declared.fault.ScriptFault.TheVariants.{Read, Write, NoMemory}
 use Rattle.mt_drive.specs.Lines.{lines_of, LosesLine}
-use Rattle.mt_drive.specs.Reading.{command_of}
-use Rattle.mt_drive.specs.Machine.{Leads}
-use Rattle.mt_drive.specs.Script.{Reply, reply_line, output_of, is_bad, bad_lines, Answers, AnswersAll, Played, Broke}
+use Rattle.mt_drive.specs.Commands.{command_of}
+use Rattle.mt_drive.specs.Machine.{Leads, IsAsBefore}
+use Rattle.mt_drive.specs.declared.command.Reply.{Reply}
+use Rattle.mt_drive.specs.Script.{reply_lines, output_of, is_bad, bad_lines, Answers, AnswersAll, Played, Broke}
 
-append_none : {A : Type 0} (xs : List A) → xs ++ [] ≡ xs
+pub append_none : {A : Type 0} (xs : List A) → xs ++ [] ≡ xs
 append_none [] = refl
 append_none (x ∷ xs) = ap (λ l. x ∷ l) (append_none xs)
 
@@ -26,9 +27,9 @@ Appends-both (Some u) None c x y p q = absurd p
 Appends-both (Some u) (Some v) None x y p q = absurd q
 Appends-both (Some u) (Some v) (Some w) x y p q = q ∙ ap (λ l. l ++ y) p ∙ append_assoc u x y
 
-output-push : (replies : List Reply) (reply : Reply) → output_of (replies ++ reply ∷ []) ≡ output_of replies ++ reply_line reply
-output-push [] reply = append_none (reply_line reply)
-output-push (r ∷ rs) reply = ap (λ l. reply_line r ++ l) (output-push rs reply) ∙ sym (append_assoc (reply_line r) (output_of rs) (reply_line reply))
+output-push : (replies : List Reply) (reply : Reply) → output_of (replies ++ reply ∷ []) ≡ output_of replies ++ reply_lines reply
+output-push [] reply = append_none (reply_lines reply)
+output-push (r ∷ rs) reply = ap (λ l. reply_lines r ++ l) (output-push rs reply) ∙ sym (append_assoc (reply_lines r) (output_of rs) (reply_lines reply))
 
 bad-push_from : (n : ℕ) (replies : List Reply) (reply : Reply) → fold (λ a x. a + cond (is_bad x) 1 0) n (replies ++ reply ∷ []) ≡ fold (λ a x. a + cond (is_bad x) 1 0) n replies + cond (is_bad reply) 1 0
 bad-push_from n [] reply = refl
@@ -54,25 +55,25 @@ went_whole line sent unsent a b split went none = subst (Appends a b) (sym (spli
 abbrev pub Goes : Option (List ℕ) → Option (List ℕ) → List (List ℕ) → Type 0
 Goes input now lines = IfSome input (λ xs. (rest : List ℕ) × (now ≡ Some rest) × (lines_of xs ≡ lines ++ lines_of rest))
 
-Goes-start : (input : Option (List ℕ)) → Goes input input []
+pub Goes-start : (input : Option (List ℕ)) → Goes input input []
 Goes-start None = tt
 Goes-start (Some xs) = (xs, refl, refl)
 
-Goes-more : (input now next : Option (List ℕ)) (lines : List (List ℕ)) (line : List ℕ) → Goes input now lines → IfSome now (λ xs. LosesLine xs next (Some line)) → Goes input next (lines ++ line ∷ [])
+pub Goes-more : (input now next : Option (List ℕ)) (lines : List (List ℕ)) (line : List ℕ) → Goes input now lines → IfSome now (λ xs. LosesLine xs next (Some line)) → Goes input next (lines ++ line ∷ [])
 Goes-more None now next lines line so_far lost = tt
 Goes-more (Some xs) None next lines line so_far lost = absurd (cc so_far.1)
 Goes-more (Some xs) (Some ys) next lines line so_far lost =
     let same : ys ≡ so_far.0 = cc so_far.1 in
     (lost.0, lost.1, so_far.2 ∙ ap (λ r. lines ++ lines_of r) (sym same) ∙ ap (λ l. lines ++ l) lost.2 ∙ sym (append_assoc lines (line ∷ []) (lines_of lost.0)))
 
-Goes-end : (input now next : Option (List ℕ)) (lines : List (List ℕ)) → Goes input now lines → IfSome now (λ xs. LosesLine xs next None) → IfSome input (λ xs. lines_of xs ≡ lines)
+pub Goes-end : (input now next : Option (List ℕ)) (lines : List (List ℕ)) → Goes input now lines → IfSome now (λ xs. LosesLine xs next None) → IfSome input (λ xs. lines_of xs ≡ lines)
 Goes-end None now next lines so_far lost = tt
 Goes-end (Some xs) None next lines so_far lost = absurd (cc so_far.1)
 Goes-end (Some xs) (Some ys) next lines so_far lost =
     let same : ys ≡ so_far.0 = cc so_far.1 in
     so_far.2 ∙ ap (λ r. lines ++ lines_of r) (sym same) ∙ ap (λ l. lines ++ l) lost ∙ append_none lines
 
-Goes-front : (input now : Option (List ℕ)) (lines : List (List ℕ)) → Goes input now lines → (more : List (List ℕ)) × IfSome input (λ xs. lines_of xs ≡ lines ++ more)
+pub Goes-front : (input now : Option (List ℕ)) (lines : List (List ℕ)) → Goes input now lines → (more : List (List ℕ)) × IfSome input (λ xs. lines_of xs ≡ lines ++ more)
 Goes-front None now lines so_far = ([], tt)
 Goes-front (Some xs) now lines so_far = (lines_of so_far.0, so_far.2)
 
@@ -81,29 +82,30 @@ no_read fault (inl e) read = cc
 no_read fault (inr e) read = cc
 
 -- one line more
-AnswersAll-push : (past between h : History) (lines : List (List ℕ)) (replies : List Reply) (line : List ℕ) (reply : Reply)
-    → AnswersAll past lines replies between → Answers (command_of line) between reply h → AnswersAll past (lines ++ line ∷ []) (replies ++ reply ∷ []) h
-AnswersAll-push past between h [] [] line reply all one = (h, subst (λ (p : History). Answers (command_of line) p reply h) all one, refl)
-AnswersAll-push past between h [] (r ∷ rs) line reply all one = absurd all
-AnswersAll-push past between h (l ∷ ls) [] line reply all one = absurd all
-AnswersAll-push past between h (l ∷ ls) (r ∷ rs) line reply all one = (all.0, all.1, AnswersAll-push all.0 between h ls rs line reply all.2 one)
+AnswersAll-push : (C keep : ℕ) (past between h : History) (lines : List (List ℕ)) (replies : List Reply) (line : List ℕ) (reply : Reply)
+    → AnswersAll C keep past lines replies between → Answers C keep (command_of line) between reply h → AnswersAll C keep past (lines ++ line ∷ []) (replies ++ reply ∷ []) h
+AnswersAll-push C keep past between h [] [] line reply all one = (h, subst (λ (p : History). Answers C keep (command_of line) p reply h) all one, refl)
+AnswersAll-push C keep past between h [] (r ∷ rs) line reply all one = absurd all
+AnswersAll-push C keep past between h (l ∷ ls) [] line reply all one = absurd all
+AnswersAll-push C keep past between h (l ∷ ls) (r ∷ rs) line reply all one = (all.0, all.1, AnswersAll-push C keep all.0 between h ls rs line reply all.2 one)
 
 -- lines that were answered so far on an empty index of C columns, which left the machine s
-pub record Playing (C : ℕ) (input old : Option (List ℕ)) (bad : ℕ) (s : MachineView) (now new : Option (List ℕ)) : Type 0 where
+pub record Playing (C keep : ℕ) (input old : Option (List ℕ)) (bad : ℕ) (s : MachineView) (now new : Option (List ℕ)) : Type 0 where
   pub lines : List (List ℕ)
   pub replies : List Reply
   pub h : History
   pub read : Goes input now lines
-  pub answered : AnswersAll [] lines replies h
+  pub answered : AnswersAll C keep [] lines replies h
   pub stands : Stands s h
   pub columns : s.columns ≡ C
+  pub keeps : s.log.keep ≡ keep
   pub written : Appends old new (output_of replies)
   pub counted : bad ≡ bad_lines replies
 
-legal_of : {C : ℕ} {input old : Option (List ℕ)} {bad : ℕ} {s : MachineView} {now new : Option (List ℕ)} → (p : Playing C input old bad s now new) → Legal C p.h
+legal_of : {C keep : ℕ} {input old : Option (List ℕ)} {bad : ℕ} {s : MachineView} {now new : Option (List ℕ)} → (p : Playing C keep input old bad s now new) → Legal C p.h
 legal_of p = subst (λ n. Legal n p.h) p.columns p.stands.legal
 
-pub Playing-none : (s : MachineView) (input old : Option (List ℕ)) → Stands s [] → Playing s.columns input old 0 s input old
+pub Playing-none : (s : MachineView) (input old : Option (List ℕ)) → Stands s [] → Playing s.columns s.log.keep input old 0 s input old
 Playing-none s input old stands = record {
   lines = [];
   replies = [];
@@ -112,37 +114,41 @@ Playing-none s input old stands = record {
   answered = refl;
   stands = stands;
   columns = refl;
+  keeps = refl;
   written = Appends-none old;
   counted = refl;
 }
 
 -- a line more is read and answered
-answered_more : {C : ℕ} {input old : Option (List ℕ)} {bad : ℕ} {s : MachineView} {now new : Option (List ℕ)} (t : MachineView) (next : Option (List ℕ)) (line : List ℕ) (reply : Reply) → (p : Playing C input old bad s now new)
-    → Leads s (λ past h. Answers (command_of line) past reply h) t → t.columns ≡ s.columns
-    → (h : History) × AnswersAll [] (p.lines ++ line ∷ []) (p.replies ++ reply ∷ []) h × Stands t h × Legal C h
-answered_more t next line reply p leads columns =
+answered_more : {C keep : ℕ} {input old : Option (List ℕ)} {bad : ℕ} {s : MachineView} {now new : Option (List ℕ)} (t : MachineView) (next : Option (List ℕ)) (line : List ℕ) (reply : Reply) → (p : Playing C keep input old bad s now new)
+    → Leads s (λ past h. Answers s.columns s.log.keep (command_of line) past reply h) t → IsAsBefore s t
+    → (h : History) × AnswersAll C keep [] (p.lines ++ line ∷ []) (p.replies ++ reply ∷ []) h × Stands t h × Legal C h
+answered_more {C} {keep} {input} {old} {bad} {s} t next line reply p leads as_before =
     let led = leads p.h p.stands in
-    (led.0, AnswersAll-push [] p.h led.0 p.lines p.replies line reply p.answered led.1, led.2, subst (λ n. Legal n led.0) (columns ∙ p.columns) led.2.legal)
+    let one : Answers C keep (command_of line) p.h reply led.0 =
+    subst (λ (k : ℕ). Answers C k (command_of line) p.h reply led.0) p.keeps (subst (λ (n : ℕ). Answers n s.log.keep (command_of line) p.h reply led.0) p.columns led.1) in
+    (led.0, AnswersAll-push C keep [] p.h led.0 p.lines p.replies line reply p.answered one, led.2, subst (λ n. Legal n led.0) (as_before.0 ∙ p.columns) led.2.legal)
 
-pub Playing-more : {C : ℕ} {input old : Option (List ℕ)} {bad : ℕ} {s : MachineView} {now new : Option (List ℕ)} (t : MachineView) (next out : Option (List ℕ)) (more : ℕ) (line : List ℕ) (reply : Reply) → (p : Playing C input old bad s now new)
-    → IfSome now (λ xs. LosesLine xs next (Some line)) → Leads s (λ past h. Answers (command_of line) past reply h) t → t.columns ≡ s.columns
-    → Appends new out (reply_line reply) → more ≡ bad + bad_lines (reply ∷ []) → Playing C input old more t next out
-Playing-more {C} {input} {old} {bad} {s} {now} {new} t next out more line reply p lost leads columns sent counted =
-    let one = answered_more t next line reply p leads columns in record {
+pub Playing-more : {C keep : ℕ} {input old : Option (List ℕ)} {bad : ℕ} {s : MachineView} {now new : Option (List ℕ)} (t : MachineView) (next out : Option (List ℕ)) (more : ℕ) (line : List ℕ) (reply : Reply) → (p : Playing C keep input old bad s now new)
+    → IfSome now (λ xs. LosesLine xs next (Some line)) → Leads s (λ past h. Answers s.columns s.log.keep (command_of line) past reply h) t → IsAsBefore s t
+    → Appends new out (reply_lines reply) → more ≡ bad + bad_lines (reply ∷ []) → Playing C keep input old more t next out
+Playing-more {C} {keep} {input} {old} {bad} {s} {now} {new} t next out more line reply p lost leads as_before sent counted =
+    let one = answered_more t next line reply p leads as_before in record {
       lines = p.lines ++ line ∷ [];
       replies = p.replies ++ reply ∷ [];
       h = one.0;
       read = Goes-more input now next p.lines line p.read lost;
       answered = one.1;
       stands = one.2;
-      columns = columns ∙ p.columns;
-      written = subst (Appends old out) (sym (output-push p.replies reply)) (Appends-both old new out (output_of p.replies) (reply_line reply) p.written sent);
+      columns = as_before.0 ∙ p.columns;
+      keeps = as_before.1 ∙ p.keeps;
+      written = subst (Appends old out) (sym (output-push p.replies reply)) (Appends-both old new out (output_of p.replies) (reply_lines reply) p.written sent);
       counted = counted ∙ ap (λ n. n + bad_lines (reply ∷ [])) p.counted ∙ sym (bad-push p.replies reply);
     }
 
-pub Played-end : {C : ℕ} {input old : Option (List ℕ)} {bad : ℕ} {s : MachineView} {now new : Option (List ℕ)} (next : Option (List ℕ)) → Playing C input old bad s now new
-    → IfSome now (λ xs. LosesLine xs next None) → Played C input old bad new
-Played-end {C} {input} {old} {bad} {s} {now} {new} next p lost = record {
+pub Played-end : {C keep : ℕ} {input old : Option (List ℕ)} {bad : ℕ} {s : MachineView} {now new : Option (List ℕ)} (next : Option (List ℕ)) → Playing C keep input old bad s now new
+    → IfSome now (λ xs. LosesLine xs next None) → Played C keep input old bad new
+Played-end {C} {keep} {input} {old} {bad} {s} {now} {new} next p lost = record {
   lines = p.lines;
   replies = p.replies;
   h = p.h;
@@ -154,8 +160,8 @@ Played-end {C} {input} {old} {bad} {s} {now} {new} next p lost = record {
   counted = p.counted;
 }
 
-pub Broke-between : (fault : ScriptFault) {C : ℕ} {input old : Option (List ℕ)} {bad : ℕ} {s : MachineView} {now new : Option (List ℕ)} → Playing C input old bad s now new → Broke C fault input old new
-Broke-between fault {C} {input} {old} {bad} {s} {now} {new} p =
+pub Broke-between : (fault : ScriptFault) {C keep : ℕ} {input old : Option (List ℕ)} {bad : ℕ} {s : MachineView} {now new : Option (List ℕ)} → Playing C keep input old bad s now new → Broke C keep fault input old new
+Broke-between fault {C} {keep} {input} {old} {bad} {s} {now} {new} p =
     let front : (more : List (List ℕ)) × IfSome input (λ xs. lines_of xs ≡ p.lines ++ more) = Goes-front input now p.lines p.read in record {
       lines = p.lines;
       more = front.0;
@@ -172,11 +178,11 @@ Broke-between fault {C} {input} {old} {bad} {s} {now} {new} p =
       whole = λ read. refl;
     }
 
-pub Broke-sending : (fault : ScriptFault) {C : ℕ} {input old : Option (List ℕ)} {bad : ℕ} {s : MachineView} {now new : Option (List ℕ)} (t : MachineView) (next out : Option (List ℕ)) (line : List ℕ) (reply : Reply) (sent unsent : List ℕ)
-    → (p : Playing C input old bad s now new) → IfSome now (λ xs. LosesLine xs next (Some line)) → Leads s (λ past h. Answers (command_of line) past reply h) t → t.columns ≡ s.columns
-    → reply_line reply ≡ sent ++ unsent → Appends new out sent → (fault ≡ Write) ⊎ (fault ≡ NoMemory) → Broke C fault input old out
-Broke-sending fault {C} {input} {old} {bad} {s} {now} {new} t next out line reply sent unsent p lost leads columns split went cause =
-    let one = answered_more t next line reply p leads columns in
+pub Broke-sending : (fault : ScriptFault) {C keep : ℕ} {input old : Option (List ℕ)} {bad : ℕ} {s : MachineView} {now new : Option (List ℕ)} (t : MachineView) (next out : Option (List ℕ)) (line : List ℕ) (reply : Reply) (sent unsent : List ℕ)
+    → (p : Playing C keep input old bad s now new) → IfSome now (λ xs. LosesLine xs next (Some line)) → Leads s (λ past h. Answers s.columns s.log.keep (command_of line) past reply h) t → IsAsBefore s t
+    → reply_lines reply ≡ sent ++ unsent → Appends new out sent → (fault ≡ Write) ⊎ (fault ≡ NoMemory) → Broke C keep fault input old out
+Broke-sending fault {C} {keep} {input} {old} {bad} {s} {now} {new} t next out line reply sent unsent p lost leads as_before split went cause =
+    let one = answered_more t next line reply p leads as_before in
     let front : (more : List (List ℕ)) × IfSome input (λ xs. lines_of xs ≡ (p.lines ++ line ∷ []) ++ more) =
     Goes-front input next (p.lines ++ line ∷ []) (Goes-more input now next p.lines line p.read lost) in record {
       lines = p.lines ++ line ∷ [];
@@ -195,8 +201,8 @@ Broke-sending fault {C} {input} {old} {bad} {s} {now} {new} t next out line repl
     }
 
 -- nothing was read or written
-pub Broke-none : (fault : ScriptFault) (C : ℕ) (input old : Option (List ℕ)) → Broke C fault input old old
-Broke-none fault C input old =
+pub Broke-none : (fault : ScriptFault) (C keep : ℕ) (input old : Option (List ℕ)) → Broke C keep fault input old old
+Broke-none fault C keep input old =
     let front : (more : List (List ℕ)) × IfSome input (λ xs. lines_of xs ≡ [] ++ more) = Goes-front input input [] (Goes-start input) in record {
       lines = [];
       more = front.0;

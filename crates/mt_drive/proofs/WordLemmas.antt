@@ -7,7 +7,7 @@ use Rattle.std.specs.Option.{MatchOption}
 use Rattle.std.proofs.lemmas.Option.{MatchOption-at_some, MatchOption-at_none}
 use Rattle.mt_drive.specs.declared.fault.LineError.{LineError}
 use Rattle.mt_drive.specs.declared.fault.LineError.TheVariants.{Memory, Bad}
-use Rattle.mt_drive.specs.Reading.{Fails, ◌>>=◌, word_at, digits_from, number_of, at_most, each, parts}
+use Rattle.mt_drive.specs.Words.{Fails, ◌>>=◌, word_at, last_from, last_word_at, digits_from, number_of, at_most, each, parts}
 
 module _ (stop : ℕ) where
   pub word_at_stop : (xs : List ℕ) (i : ℕ) → i < length xs → ((k : ℕ) → k < i → get_or xs k 0 ≢ stop) → get_or xs i 0 ≡ stop → word_at stop xs ≡ Some (take i xs, drop (suc i) xs)
@@ -22,6 +22,21 @@ module _ (stop : ℕ) where
   word_at_none (x ∷ xs) before =
       ap (λ t. cond t (Some ([], xs)) (word_at stop xs >>= λ y. Some (x ∷ y.0, y.1))) (ne_eqb x stop (before 0 (omega arith)))
       ∙ ap (λ o. o >>= λ y. Some (x ∷ y.0, y.1)) (word_at_none xs (λ k h. before (suc k) (omega arith)))
+
+  pub last_word_at_none : (xs : List ℕ) → ((k : ℕ) → k < length xs → get_or xs k 0 ≢ stop) → last_word_at stop xs ≡ None
+  last_word_at_none [] before = refl
+  last_word_at_none (x ∷ xs) before =
+      ap (last_from stop x xs) (last_word_at_none xs (λ k h. before (suc k) (omega arith)))
+      ∙ ap (λ t. cond t (Some ([], xs)) None) (ne_eqb x stop (before 0 (omega arith)))
+
+  pub last_word_at_stop : (xs : List ℕ) (i : ℕ) → i < length xs → ((k : ℕ) → i < k → k < length xs → get_or xs k 0 ≢ stop) → get_or xs i 0 ≡ stop
+      → last_word_at stop xs ≡ Some (take i xs, drop (suc i) xs)
+  last_word_at_stop [] i within behind here = absurd (omega arith)
+  last_word_at_stop (x ∷ xs) zero within behind here =
+      ap (last_from stop x xs) (last_word_at_none xs (λ k h. behind (suc k) (omega arith) (omega arith)))
+      ∙ ap (λ t. cond t (Some ([], xs)) None) (eq-eqb x stop here)
+  last_word_at_stop (x ∷ xs) (suc i) within behind here =
+      ap (last_from stop x xs) (last_word_at_stop xs i (omega arith) (λ k h w. behind (suc k) (omega arith) (omega arith)) here)
 
 leb_over : (n most : ℕ) → most < n → nat_le n most ≡ false
 leb_over n most over = search (rules, nat_tests)
@@ -43,46 +58,46 @@ over_at most n i word so_far within over =
 abbrev pub with_front : {A : Type 0} → List A → Option (List A) → Option (List A)
 with_front front read = read >>= λ xs. Some (front ++ xs)
 
-parts-cut : (text : List ℕ) → MatchOption {T = List ℕ × List ℕ} (word_at 44 text) (parts text ≡ text ∷ []) (λ x. parts text ≡ x.0 ∷ parts x.1)
-parts-cut [] = refl
-parts-cut (b ∷ bs) = parts_at b bs (eqb b 44) (word_at 44 bs) (parts-cut bs)
+parts-cut : (stop : ℕ) (text : List ℕ) → MatchOption {T = List ℕ × List ℕ} (word_at stop text) (parts stop text ≡ text ∷ []) (λ x. parts stop text ≡ x.0 ∷ parts stop x.1)
+parts-cut stop [] = refl
+parts-cut stop (b ∷ bs) = parts_at stop b bs (eqb b stop) (word_at stop bs) (parts-cut stop bs)
   where
-    parts_at : (b : ℕ) (bs : List ℕ) (t : Bool) (found : Option (List ℕ × List ℕ)) → MatchOption {T = List ℕ × List ℕ} found (parts bs ≡ bs ∷ []) (λ x. parts bs ≡ x.0 ∷ parts x.1)
-        → MatchOption {T = List ℕ × List ℕ} (cond t (Some ([], bs)) (found >>= λ x. Some (b ∷ x.0, x.1))) (cond t ([] ∷ parts bs) (onto_first b (parts bs)) ≡ (b ∷ bs) ∷ []) (λ x. cond t ([] ∷ parts bs) (onto_first b (parts bs)) ≡ x.0 ∷ parts x.1)
-    parts_at b bs true found more = refl
-    parts_at b bs false None more = ap (onto_first b) more
-    parts_at b bs false (Some x) more = ap (onto_first b) more
+    parts_at : (stop b : ℕ) (bs : List ℕ) (t : Bool) (found : Option (List ℕ × List ℕ)) → MatchOption {T = List ℕ × List ℕ} found (parts stop bs ≡ bs ∷ []) (λ x. parts stop bs ≡ x.0 ∷ parts stop x.1)
+        → MatchOption {T = List ℕ × List ℕ} (cond t (Some ([], bs)) (found >>= λ x. Some (b ∷ x.0, x.1))) (cond t ([] ∷ parts stop bs) (onto_first b (parts stop bs)) ≡ (b ∷ bs) ∷ []) (λ x. cond t ([] ∷ parts stop bs) (onto_first b (parts stop bs)) ≡ x.0 ∷ parts stop x.1)
+    parts_at stop b bs true found more = refl
+    parts_at stop b bs false None more = ap (onto_first b) more
+    parts_at stop b bs false (Some x) more = ap (onto_first b) more
 
-parts_some : (text word rest : List ℕ) → word_at 44 text ≡ Some (word, rest) → parts text ≡ word ∷ parts rest
-parts_some text word rest found = MatchOption-at_some (parts text ≡ text ∷ []) (λ x. parts text ≡ x.0 ∷ parts x.1) (word, rest) found (parts-cut text)
+parts_some : (stop : ℕ) (text word rest : List ℕ) → word_at stop text ≡ Some (word, rest) → parts stop text ≡ word ∷ parts stop rest
+parts_some stop text word rest found = MatchOption-at_some (parts stop text ≡ text ∷ []) (λ x. parts stop text ≡ x.0 ∷ parts stop x.1) (word, rest) found (parts-cut stop text)
 
-parts_none : (text : List ℕ) → word_at 44 text ≡ None → parts text ≡ text ∷ []
-parts_none text found = MatchOption-at_none (parts text ≡ text ∷ []) (λ x. parts text ≡ x.0 ∷ parts x.1) found (parts-cut text)
+parts_none : (stop : ℕ) (text : List ℕ) → word_at stop text ≡ None → parts stop text ≡ text ∷ []
+parts_none stop text found = MatchOption-at_none (parts stop text ≡ text ∷ []) (λ x. parts stop text ≡ x.0 ∷ parts stop x.1) found (parts-cut stop text)
 
 -- A loop over parts that reads each of them: read is what is read of all, front what was read so far.
-module _ {A : Type 0} (f : List ℕ → Option A) (read : Option (List A)) (front : List A) (text : List ℕ) (so_far : read ≡ with_front front (each f (parts text))) where
-  pub part_more : (word rest : List ℕ) (x : A) (new : List A) → word_at 44 text ≡ Some (word, rest) → f word ≡ Some x → new ≡ front ++ x ∷ [] → read ≡ with_front new (each f (parts rest))
+module _ (stop : ℕ) {A : Type 0} (f : List ℕ → Option A) (read : Option (List A)) (front : List A) (text : List ℕ) (so_far : read ≡ with_front front (each f (parts stop text))) where
+  pub part_more : (word rest : List ℕ) (x : A) (new : List A) → word_at stop text ≡ Some (word, rest) → f word ≡ Some x → new ≡ front ++ x ∷ [] → read ≡ with_front new (each f (parts stop rest))
   part_more word rest x new found at pushed =
-      so_far ∙ ap (λ ps. with_front front (each f ps)) (parts_some text word rest found)
-      ∙ ap (λ o. with_front front (o >>= λ y. each f (parts rest) >>= λ ys. Some (y ∷ ys))) at ∙ joined (each f (parts rest)) ∙ ap (λ l. with_front l (each f (parts rest))) (sym pushed)
+      so_far ∙ ap (λ ps. with_front front (each f ps)) (parts_some stop text word rest found)
+      ∙ ap (λ o. with_front front (o >>= λ y. each f (parts stop rest) >>= λ ys. Some (y ∷ ys))) at ∙ joined (each f (parts stop rest)) ∙ ap (λ l. with_front l (each f (parts stop rest))) (sym pushed)
     where
       joined : (o : Option (List A)) → with_front front (o >>= λ ys. Some (x ∷ ys)) ≡ with_front (front ++ x ∷ []) o
       joined None = refl
       joined (Some ys) = ap Some (sym (append_assoc front (x ∷ []) ys))
 
-  pub part_fails : (word rest : List ℕ) (e : LineError) → word_at 44 text ≡ Some (word, rest) → Fails e (f word) → Fails e read
+  pub part_fails : (word rest : List ℕ) (e : LineError) → word_at stop text ≡ Some (word, rest) → Fails e (f word) → Fails e read
   part_fails word rest Memory found at = tt
   part_fails word rest Bad found at =
-      so_far ∙ ap (λ ps. with_front front (each f ps)) (parts_some text word rest found)
-      ∙ ap (λ o. with_front front (o >>= λ y. each f (parts rest) >>= λ ys. Some (y ∷ ys))) at
+      so_far ∙ ap (λ ps. with_front front (each f ps)) (parts_some stop text word rest found)
+      ∙ ap (λ o. with_front front (o >>= λ y. each f (parts stop rest) >>= λ ys. Some (y ∷ ys))) at
 
-  pub part_last : (x : A) (new : List A) → word_at 44 text ≡ None → f text ≡ Some x → new ≡ front ++ x ∷ [] → read ≡ Some new
+  pub part_last : (x : A) (new : List A) → word_at stop text ≡ None → f text ≡ Some x → new ≡ front ++ x ∷ [] → read ≡ Some new
   part_last x new found at pushed =
-      so_far ∙ ap (λ ps. with_front front (each f ps)) (parts_none text found)
+      so_far ∙ ap (λ ps. with_front front (each f ps)) (parts_none stop text found)
       ∙ ap (λ o. with_front front (o >>= λ y. Some (y ∷ []))) at ∙ ap Some (sym pushed)
 
-  pub last_fails : (e : LineError) → word_at 44 text ≡ None → Fails e (f text) → Fails e read
+  pub last_fails : (e : LineError) → word_at stop text ≡ None → Fails e (f text) → Fails e read
   last_fails Memory found at = tt
   last_fails Bad found at =
-      so_far ∙ ap (λ ps. with_front front (each f ps)) (parts_none text found)
+      so_far ∙ ap (λ ps. with_front front (each f ps)) (parts_none stop text found)
       ∙ ap (λ o. with_front front (o >>= λ y. Some (y ∷ []))) at

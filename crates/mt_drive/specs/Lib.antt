@@ -1,3 +1,4 @@
+pub mod Commands
 pub mod Lines
 pub mod Machine
 pub mod Reading
@@ -5,3 +6,5 @@ pub mod Script
 pub mod Showing
 pub mod Sink
 pub mod Source
+pub mod Values
+pub mod Words

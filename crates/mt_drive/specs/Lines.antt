@@ -1,5 +1,5 @@
 -- The lines of a text.
-use Rattle.std.specs.Prelude.{◌≡◌, ℕ, ◌==◌, if◌then◌else◌, List, [], ◌∷◌, Option, Some, None}
+use Rattle.std.specs.Prelude.{◌≡◌, ℕ, ◌==◌, if◌then◌else◌, List, [], ◌∷◌, ◌++◌, Option, Some, None}
 use Rattle.std.specs.List.{onto_first}
 
 -- each line ends with a line feed, which isn't part of it; the last line may lack it
@@ -11,3 +11,7 @@ lines_of (b ∷ bs) = if b == 10 then [] ∷ lines_of bs else onto_first b (line
 abbrev pub LosesLine : List ℕ → Option (List ℕ) → Option (List ℕ) → Type 0
 LosesLine xs new None = lines_of xs ≡ []
 LosesLine xs new (Some line) = (rest : List ℕ) × (new ≡ Some rest) × (lines_of xs ≡ line ∷ lines_of rest)
+
+-- a text as a line
+abbrev pub line_text : List ℕ → List ℕ
+line_text text = text ++ 10 ∷ []

@@ -1,45 +1,45 @@
 -- What the lines of a script do to an index, and what is written of it.
-use Rattle.std.specs.Prelude.{◌≡◌, ℕ, ◌<◌, Bool, true, false, List, [], ◌∷◌, ◌++◌, length, map, All, codes, Option, Some, None, IfSome}
+use Rattle.std.specs.Prelude.{◌≡◌, ◌⊎◌, ℕ, ◌-◌, ◌<◌, min, nat_lt, Bool, true, false, List, [], ◌∷◌, ◌++◌, length, map, take, drop, All, codes, Option, Some, None, IfSome}
 use Rattle.std.specs.List.{flat_map, count_by}
+use Rattle.std.specs.Option.{option_or}
 use Rattle.std.specs.Io.KnownBytes.{Appends}
 use Rattle.mt_types.specs.declared.numbers.CallNo.{CallNo}
 use Rattle.mt_types.specs.declared.refusal.Refusal.{Refusal}
-use Rattle.mt_types.specs.declared.refusal.Refusal.TheVariants.{NoMemory as WantOfMemory}
+use Rattle.mt_types.specs.declared.refusal.Refusal.TheVariants.{NoMemory as WantOfMemory, Behind}
 use Rattle.mt_types.specs.declared.event.Event.{Event}
 use Rattle.mt_types.specs.declared.event.Event.TheVariants.{Step}
 use Rattle.mt_types.specs.declared.event.Outcome.{Outcome}
 use Rattle.mt_types.specs.declared.event.Outcome.TheVariants.{Moved, Commit}
-use Rattle.mt_promise.specs.History.{History, GoesOn}
-use Rattle.mt_promise.specs.Legal.{Legal}
+use Rattle.mt_types.specs.Limits.{limit_fault, refused_if}
+use Rattle.mt_promise.specs.History.{History, GoesOn, moment}
+use Rattle.mt_promise.specs.Legal.{Legal, held_from}
 use Rattle.mt_promise.specs.Headline.{KeepsPromise}
+use Rattle.mt_commit.specs.Logged.{deltas_of}
 use Rattle.mt_index.specs.Stands.{IsServed}
 use Rattle.mt_drive.specs.declared.fault.ScriptFault.{ScriptFault}
 use Rattle.mt_drive.specs.declared.fault.ScriptFault.TheVariants.{Read, Start, NoMemory}
 use Rattle.mt_drive.specs.declared.command.Command.{Command}
-use Rattle.mt_drive.specs.declared.command.Command.TheVariants.{Once, Finish}
-use Rattle.mt_drive.specs.Lines.{lines_of}
-use Rattle.mt_drive.specs.Reading.{command_of}
-use Rattle.mt_drive.specs.Showing.{outcome_text}
+use Rattle.mt_drive.specs.declared.command.Command.TheVariants.{Once, Finish, Feed}
+use Rattle.mt_drive.specs.declared.command.Reply.{Reply}
+use Rattle.mt_drive.specs.declared.command.Reply.TheVariants.{Bad, Came, Fed, NotFed}
+use Rattle.mt_drive.specs.Lines.{lines_of, line_text}
+use Rattle.mt_drive.specs.Commands.{command_of}
+use Rattle.mt_drive.specs.Showing.{outcome_text, refusal_text, delta_text}
 
--- what a line is answered: the outcome of its last event, or nothing where it is a bad line
-abbrev pub Reply : Type 0
-Reply = Option Outcome
+-- the lines of a reply, each with a line feed
+abbrev pub reply_lines : Reply → List ℕ
+reply_lines Bad = line_text (codes "bad line")
+reply_lines (Came outcome) = line_text (outcome_text outcome)
+reply_lines (Fed deltas) = flat_map (λ delta. line_text (delta_text delta)) deltas
+reply_lines (NotFed refusal) = line_text (refusal_text refusal)
 
-abbrev pub reply_text : Reply → List ℕ
-reply_text None = codes "bad line"
-reply_text (Some outcome) = outcome_text outcome
-
--- with a line feed
-abbrev pub reply_line : Reply → List ℕ
-reply_line reply = reply_text reply ++ 10 ∷ []
-
--- a line for each reply
+-- the lines of each reply
 abbrev pub output_of : List Reply → List ℕ
-output_of replies = flat_map reply_line replies
+output_of replies = flat_map reply_lines replies
 
 abbrev pub is_bad : Reply → Bool
-is_bad None = true
-is_bad (Some outcome) = false
+is_bad Bad = true
+is_bad _ = false
 
 abbrev pub bad_lines : List Reply → ℕ
 bad_lines replies = count_by is_bad replies
@@ -76,31 +76,57 @@ pub record Finishes (past : History) (call : CallNo) (outcome : Outcome) (h : Hi
 
 -- an event that a line says: where the index serves it, it happens; else the line is bad, and nothing happens
 abbrev pub Asks : Event → History → Reply → History → Type 0
-Asks event past (Some outcome) h = IsServed event × Happens past event outcome h
-Asks event past None h = ¬ IsServed event × (h ≡ past)
+Asks event past (Came outcome) h = IsServed event × Happens past event outcome h
+Asks event past Bad h = ¬ IsServed event × (h ≡ past)
+Asks event past _ h = ⊥
 
--- what a line says was answered so after this past, and led to this history
-abbrev pub Answers : Option Command → History → Reply → History → Type 0
-Answers None past reply h = (reply ≡ None) × (h ≡ past)
-Answers (Some (Once event)) past reply h = Asks event past reply h
-Answers (Some (Finish call)) past reply h = (outcome : Outcome) × (reply ≡ Some outcome) × Finishes past call outcome h
+-- steps of a call
+abbrev pub Ends : CallNo → History → Reply → History → Type 0
+Ends call past (Came outcome) h = Finishes past call outcome h
+Ends call past _ h = ⊥
+
+-- after so many commits the log of an index begins that keeps this many for nobody: it has all that is held, and the last ones
+abbrev pub feed_begin : ℕ → History → ℕ
+feed_begin keep past = min (held_from (moment past)) (length (moment past).commits - keep)
+
+-- why a feed is refused: its limit is out of its bounds, or the log begins after what is asked for
+abbrev pub feed_refusal : ℕ → ℕ → ℕ → History → Option Refusal
+feed_refusal keep from limit past =
+    option_or (limit_fault limit) (refused_if (nat_lt from (feed_begin keep past)) (Behind (feed_begin keep past)))
+
+-- what a feed gives: the deltas of the commits so far but for the first ones, so many at most; or why it gives none
+abbrev pub Feeds : ℕ → ℕ → ℕ → ℕ → History → Reply → Type 0
+Feeds C keep from limit past (Fed deltas) =
+    (feed_refusal keep from limit past ≡ None) × (deltas ≡ take limit (drop from (deltas_of C (moment past).commits)))
+Feeds C keep from limit past (NotFed refusal) =
+    (feed_refusal keep from limit past ≡ Some refusal) ⊎ ((feed_refusal keep from limit past ≡ None) × (refusal ≡ WantOfMemory))
+Feeds C keep from limit past _ = ⊥
+
+-- what a line says was answered so after this past, on an index of C columns that keeps this many commits for nobody, and
+-- led to this history
+abbrev pub Answers : ℕ → ℕ → Option Command → History → Reply → History → Type 0
+Answers C keep None past reply h = (reply ≡ Bad) × (h ≡ past)
+Answers C keep (Some (Once event)) past reply h = Asks event past reply h
+Answers C keep (Some (Finish call)) past reply h = Ends call past reply h
+Answers C keep (Some (Feed from limit)) past reply h = Feeds C keep from limit past reply × (h ≡ past)
 
 -- these lines, one after the other, were answered so, each by one reply
-abbrev pub AnswersAll : History → List (List ℕ) → List Reply → History → Type 0
-AnswersAll past [] [] h = h ≡ past
-AnswersAll past (line ∷ lines) (reply ∷ replies) h =
-    (between : History) × Answers (command_of line) past reply between × AnswersAll between lines replies h
-AnswersAll past [] (reply ∷ replies) h = ⊥
-AnswersAll past (line ∷ lines) [] h = ⊥
+abbrev pub AnswersAll : ℕ → ℕ → History → List (List ℕ) → List Reply → History → Type 0
+AnswersAll C keep past [] [] h = h ≡ past
+AnswersAll C keep past (line ∷ lines) (reply ∷ replies) h =
+    (between : History) × Answers C keep (command_of line) past reply between × AnswersAll C keep between lines replies h
+AnswersAll C keep past [] (reply ∷ replies) h = ⊥
+AnswersAll C keep past (line ∷ lines) [] h = ⊥
 
--- All lines of the input, where it is known, were answered on an empty index of C columns; what happened there is
--- legal, and so keeps the promise; the replies were written, each with a line feed; and so many lines were bad.
-pub record Played (C : ℕ) (input old : Option (List ℕ)) (bad : ℕ) (new : Option (List ℕ)) : Type 0 where
+-- All lines of the input, where it is known, were answered on an empty index of C columns that keeps so many commits for
+-- nobody; what happened there is legal, and so keeps the promise; the lines of the replies were written; and so many lines
+-- of the input were bad.
+pub record Played (C keep : ℕ) (input old : Option (List ℕ)) (bad : ℕ) (new : Option (List ℕ)) : Type 0 where
   pub lines : List (List ℕ)
   pub replies : List Reply
   pub h : History
   pub read : IfSome input (λ bytes. lines_of bytes ≡ lines)
-  pub answered : AnswersAll [] lines replies h
+  pub answered : AnswersAll C keep [] lines replies h
   pub legal : Legal C h
   pub promise : KeepsPromise C h
   pub written : Appends old new (output_of replies)
@@ -108,13 +134,13 @@ pub record Played (C : ℕ) (input old : Option (List ℕ)) (bad : ℕ) (new : O
 
 -- The same of the first lines of the input, of which the first bytes of their replies were written: all of them where
 -- a read failed.
-pub record Broke (C : ℕ) (fault : ScriptFault) (input old new : Option (List ℕ)) : Type 0 where
+pub record Broke (C keep : ℕ) (fault : ScriptFault) (input old new : Option (List ℕ)) : Type 0 where
   pub lines : List (List ℕ)
   pub more : List (List ℕ)
   pub replies : List Reply
   pub h : History
   pub read : IfSome input (λ bytes. lines_of bytes ≡ lines ++ more)
-  pub answered : AnswersAll [] lines replies h
+  pub answered : AnswersAll C keep [] lines replies h
   pub legal : Legal C h
   pub promise : KeepsPromise C h
   pub sent : List ℕ

@@ -3,6 +3,13 @@ use Rattle.std.specs.Prelude.{ℕ, zero, suc, ◌==◌, if◌then◌else◌, Lis
 use Rattle.std.specs.List.{join_with_byte, flat_map}
 use Rattle.hex.specs.Hex.{encode_lower}
 use Rattle.mt_types.specs.declared.row.Row.{Row}
+use Rattle.mt_types.specs.declared.row.Delta.{Delta}
+use Rattle.mt_types.specs.declared.view.RowTest.{RowTest}
+use Rattle.mt_types.specs.declared.view.RowTest.TheVariants as tests
+use Rattle.mt_types.specs.declared.view.ViewSpec.{ViewSpec}
+use Rattle.mt_types.specs.declared.view.ViewSpec.TheVariants as views
+use Rattle.mt_types.specs.declared.event.Request.{Request}
+use Rattle.mt_types.specs.declared.event.Request.TheVariants as requests
 use Rattle.mt_types.specs.declared.event.Answer.{Answer}
 use Rattle.mt_types.specs.declared.event.Answer.TheVariants.{Absent, Found, Stored, Removed, Rows, Tidied, Built}
 use Rattle.mt_types.specs.declared.event.TidyRule.{TidyRule}
@@ -74,3 +81,48 @@ outcome_text Dropped = codes "dropped"
 outcome_text (Epoch number) = codes "epoch " ++ decimal number
 outcome_text (Freed count) = codes "freed " ++ decimal count
 outcome_text (Refused refusal) = refusal_text refusal
+
+-- VERSION:VALUES, or none
+unfoldable pub row_or_none : Option Row → List ℕ
+row_or_none None = codes "none"
+row_or_none (Some row) = decimal row.version ++ codes ":" ++ values_text row.columns
+
+-- delta N KEY BEFORE AFTER
+abbrev pub delta_text : Delta → List ℕ
+delta_text delta =
+    codes "delta " ++ decimal delta.number ++ codes " " ++ bytes_text delta.key ++ codes " " ++ row_or_none delta.before ++ codes " " ++ row_or_none delta.after
+
+-- numbers of columns joined by commas, or all for none
+unfoldable pub columns_text : List ℕ → List ℕ
+columns_text columns = if length columns == 0 then codes "all" else join_with_byte 44 (map decimal columns)
+
+-- COL=BYTES
+unfoldable pub set_text : ℕ × List ℕ → List ℕ
+set_text set = decimal set.0 ++ codes "=" ++ bytes_text set.1
+
+-- sets joined by commas, or `-` for none
+unfoldable pub sets_text : List (ℕ × List ℕ) → List ℕ
+sets_text sets = if length sets == 0 then codes "-" else join_with_byte 44 (map set_text sets)
+
+abbrev pub test_text : RowTest → List ℕ
+test_text tests.Any = codes "any"
+test_text (tests.Equals column bytes) = codes "equals " ++ decimal column ++ codes " " ++ bytes_text bytes
+test_text (tests.AtLeast column least) = codes "atleast " ++ decimal column ++ codes " " ++ decimal least
+
+-- the key before which a range ends, or none
+unfoldable pub end_text : Option (List ℕ) → List ℕ
+end_text None = codes "none"
+end_text (Some hi) = bytes_text hi
+
+abbrev pub spec_text : ViewSpec → List ℕ
+spec_text (views.Range lo hi test) = codes "range " ++ bytes_text lo ++ codes " " ++ end_text hi ++ codes " " ++ test_text test
+spec_text (views.Prefix key test) = codes "prefix " ++ bytes_text key ++ codes " " ++ test_text test
+
+abbrev pub request_text : Request → List ℕ
+request_text (requests.Get key columns) = codes "get " ++ bytes_text key ++ codes " " ++ columns_text columns
+request_text (requests.Put key sets) = codes "put " ++ bytes_text key ++ codes " " ++ sets_text sets
+request_text (requests.Remove key) = codes "remove " ++ bytes_text key
+request_text (requests.Range start limit columns) =
+    codes "range " ++ bytes_text start ++ (codes " " ++ decimal limit ++ codes " ") ++ columns_text columns
+request_text (requests.Tidy key) = codes "tidy " ++ bytes_text key
+request_text (requests.Build spec) = codes "build " ++ spec_text spec

@@ -1,7 +1,10 @@
-//! What a line of a script asks for.
+//! What a line of a script asks for, and what it is answered.
 
-use mt_types::event::Event;
+use mt_types::event::{Event, Outcome};
+use mt_types::items::Items;
 use mt_types::numbers::CallNo;
+use mt_types::refusal::Refusal;
+use mt_types::row::Delta;
 
 /// What a line of a script asks for.
 #[derive(Debug, PartialEq, Eq, Drop)]
@@ -10,4 +13,19 @@ pub enum Command {
     Once(Event),
     /// Steps of a call, until one is neither moved nor a commit.
     Finish(CallNo),
+    /// The deltas of the commits after a number, so many at most. No event happens.
+    Feed { from: u64, limit: u16 },
+}
+
+/// What a line of a script is answered.
+#[derive(Debug, PartialEq, Eq, Drop)]
+pub enum Reply {
+    /// The line says nothing, or what the index doesn't serve yet.
+    Bad,
+    /// What came of its last event.
+    Came(Outcome),
+    /// The deltas that a feed gave.
+    Fed(Items<Delta>),
+    /// Why a feed gave none.
+    NotFed(Refusal),
 }

@@ -1,13 +1,18 @@
 //! Scripts: what a line says, how an outcome is written, and the run of a script on an index.
 #![tactic(auto)]
 
+pub mod asking;
 pub mod command;
+pub mod commands;
 mod counted;
 pub mod fault;
 pub mod reading;
+mod replies;
 pub mod script;
 pub mod showing;
 pub mod sink;
 pub mod source;
 #[cfg(test)]
 mod tests;
+pub mod values;
+pub mod words;

@@ -1,105 +1,30 @@
-//! What the words of a line say.
+//! What the words of a request and of a view's specification say.
 
-ghost use Rattle.std.specs.Prelude.{◌≡◌, ◌≤◌, ◌<◌, length, MatchOption, IfSome, IfOk};
-ghost use Rattle.mt_drive.specs.Reading.{Gives, Pushes, word_at, number_of, bytes_of, each, parts, columns_of, set_of, sets_of, get_of, put_of, remove_of, range_of, request_of, begin_of, step_of, finish_of, command_of};
+ghost use Rattle.std.specs.Prelude.{◌≡◌};
+ghost use Rattle.mt_drive.specs.Words.{Gives};
+ghost use Rattle.mt_drive.specs.Reading.{columns_of, sets_of, get_of, put_of, remove_of, range_of, tidy_of, equals_of, at_least_of, column_test_of, test_of, end_of, keys_of, prefix_of, spec_of, build_of, upkeep_of, request_of};
 
-use crate::command::Command;
 use crate::fault::LineError;
+use crate::words::{Part, bytes_from, cut, number, read_parts};
 use bytes::Bytes;
-use hex::FromHexError;
-use mt_types::event::{Event, Request};
+use mt_types::event::Request;
 use mt_types::items::Items;
-use mt_types::numbers::{CallNo, PassNo};
 use mt_types::row::{Column, ColumnNumbers, Sets};
+use mt_types::view::{RowTest, ViewSpec};
 use std::alloc::Global;
 
-/// What stands before the first stop, and what after it.
-fn halves(text: &[u8], stop: u8) -> Option<(&[u8], &[u8])>
-    ensures found { MatchOption result (word_at stop text.now ≡ None)
-        (λ x. word_at stop text.now ≡ Some (x.0.now, x.1.now)) }
-    ensures shorter { IfSome result (λ x. length x.1.now < length text.now) }
-{
-    for (i, b) in text.iter().enumerate() {
-        if *b == stop {
-            return Some((&text[..i], &text[i + 1..]));
-        }
-    }
-    None
-}
+impl Part for (u8, Column) {
+    ghost use Rattle.mt_drive.specs.Reading.{set_of};
 
-fn cut(text: &[u8], stop: u8) -> Result<(&[u8], &[u8]), LineError>
-    ensures { Gives (λ x. (x.0.now, x.1.now)) result (word_at stop text.now) }
-{
-    match halves(text, stop) {
-        Some(found) => Ok(found),
-        None => Err(LineError::Bad),
-    }
-}
+    ghost part_of = { set_of };
 
-/// A decimal number.
-fn number(word: &[u8], most: u64) -> Result<u64, LineError>
-    ensures value { Gives (λ n. n) result (number_of most word.now) }
-    ensures bound { IfOk result (λ n. n ≤ most) }
-{
-    if word.is_empty() {
-        return Err(LineError::Bad);
+    #[tactic(auto, unfolding(crate::specs::Reading::set_of))]
+    fn read(alloc: Global, text: &[u8]) -> Result<(u8, Column), LineError> {
+        let (word, rest) = cut(text, b'=')?;
+        let column = number(word, 255)? as u8;
+        let bytes = bytes_from(alloc, rest)?;
+        Ok((column, bytes))
     }
-    let mut n: u64 = 0;
-    for c in word {
-        if !c.is_ascii_digit() {
-            return Err(LineError::Bad);
-        }
-        let digit = u64::from(*c - b'0');
-        n = match n.checked_mul(10) {
-            Some(tens) => match tens.checked_add(digit) {
-                Some(m) => m,
-                None => return Err(LineError::Bad),
-            },
-            None => return Err(LineError::Bad),
-        };
-        if n > most {
-            return Err(LineError::Bad);
-        }
-    }
-    Ok(n)
-}
-
-/// A key or the bytes of a column.
-fn bytes_from(alloc: Global, word: &[u8]) -> Result<Bytes, LineError>
-    ensures { Gives (λ b. b) result (bytes_of word.now) }
-{
-    if word == b"-".as_slice() {
-        return Ok(Bytes::new());
-    }
-    if word.is_empty() {
-        return Err(LineError::Bad);
-    }
-    match hex::decode(alloc, word) {
-        Ok(bytes) => Ok(Bytes::from_vec(bytes)?),
-        Err(FromHexError::OutOfMemory) => Err(LineError::Memory),
-        Err(_) => Err(LineError::Bad),
-    }
-}
-
-fn push_number(numbers: &mut Vec<u8>, word: &[u8]) -> Result<(), LineError>
-    ensures { Pushes (number_of 255 word.now) numbers.old.items numbers.new.items result }
-{
-    let column = number(word, 255)? as u8;
-    numbers.push(column)?;
-    Ok(())
-}
-
-fn numbers(alloc: Global, text: &[u8]) -> Result<Vec<u8>, LineError>
-    ensures { Gives (λ v. v.items) result (each (number_of 255) (parts text.now)) }
-{
-    let mut numbers = Vec::new(alloc);
-    let mut rest = text;
-    while let Some((word, more)) = halves(rest, b',') {
-        push_number(&mut numbers, word)?;
-        rest = more;
-    }
-    push_number(&mut numbers, rest)?;
-    Ok(numbers)
 }
 
 #[tactic(auto, unfolding(crate::specs::Reading::columns_of))]
@@ -109,38 +34,8 @@ fn columns(alloc: Global, text: &[u8]) -> Result<ColumnNumbers, LineError>
     if text == b"all".as_slice() {
         return Ok(Items::new(alloc));
     }
-    Ok(Items::from_vec(numbers(alloc, text)?))
-}
-
-#[tactic(auto, unfolding(crate::specs::Reading::set_of))]
-fn set(alloc: Global, text: &[u8]) -> Result<(u8, Column), LineError>
-    ensures { Gives (λ s. s) result (set_of text.now) }
-{
-    let (word, rest) = cut(text, b'=')?;
-    let column = number(word, 255)? as u8;
-    let bytes = bytes_from(alloc, rest)?;
-    Ok((column, bytes))
-}
-
-fn push_set(alloc: Global, sets: &mut Vec<(u8, Column)>, word: &[u8]) -> Result<(), LineError>
-    ensures { Pushes (set_of word.now) sets.old.items sets.new.items result }
-{
-    let set = set(alloc, word)?;
-    sets.push(set)?;
-    Ok(())
-}
-
-fn several(alloc: Global, text: &[u8]) -> Result<Vec<(u8, Column)>, LineError>
-    ensures { Gives (λ v. v.items) result (each set_of (parts text.now)) }
-{
-    let mut sets = Vec::new(alloc);
-    let mut rest = text;
-    while let Some((word, more)) = halves(rest, b',') {
-        push_set(alloc, &mut sets, word)?;
-        rest = more;
-    }
-    push_set(alloc, &mut sets, rest)?;
-    Ok(sets)
+    let numbers: Vec<u8> = read_parts(alloc, text, b',')?;
+    Ok(Items::from_vec(numbers))
 }
 
 #[tactic(auto, unfolding(crate::specs::Reading::sets_of))]
@@ -150,7 +45,8 @@ fn sets(alloc: Global, text: &[u8]) -> Result<Sets, LineError>
     if text == b"-".as_slice() {
         return Ok(Items::new(alloc));
     }
-    Ok(Items::from_vec(several(alloc, text)?))
+    let sets: Vec<(u8, Column)> = read_parts(alloc, text, b',')?;
+    Ok(Items::from_vec(sets))
 }
 
 #[tactic(auto, unfolding(crate::specs::Reading::get_of))]
@@ -197,8 +93,132 @@ fn range(alloc: Global, text: &[u8]) -> Result<Request, LineError>
     })
 }
 
-/// The request that a text says: `get KEY COLS`, `put KEY SETS`, `remove KEY` or `range START LIMIT COLS`, its words
-/// parted by one space. Costs a look at each byte, and an allocation for each key, each list and each column.
+#[tactic(auto, unfolding(crate::specs::Reading::tidy_of))]
+fn tidy(alloc: Global, text: &[u8]) -> Result<Request, LineError>
+    ensures { Gives (λ r. r) result (tidy_of text.now) }
+{
+    let key = bytes_from(alloc, text)?;
+    Ok(Request::Tidy { key })
+}
+
+#[tactic(auto, unfolding(crate::specs::Reading::equals_of))]
+fn equals(alloc: Global, text: &[u8]) -> Result<RowTest, LineError>
+    ensures { Gives (λ t. t) result (equals_of text.now) }
+{
+    let (word, rest) = cut(text, b' ')?;
+    let column = number(word, 255)? as u8;
+    let bytes = bytes_from(alloc, rest)?;
+    Ok(RowTest::Equals(column, bytes))
+}
+
+#[tactic(auto, unfolding(crate::specs::Reading::at_least_of))]
+fn at_least(text: &[u8]) -> Result<RowTest, LineError>
+    ensures { Gives (λ t. t) result (at_least_of text.now) }
+{
+    let (word, rest) = cut(text, b' ')?;
+    let column = number(word, 255)? as u8;
+    let least = number(rest, u64::MAX)?;
+    Ok(RowTest::AtLeast(column, least))
+}
+
+#[tactic(auto, unfolding(crate::specs::Reading::column_test_of))]
+fn column_test(alloc: Global, text: &[u8]) -> Result<RowTest, LineError>
+    ensures { Gives (λ t. t) result (column_test_of text.now) }
+{
+    let (word, rest) = cut(text, b' ')?;
+    if word == b"equals".as_slice() {
+        equals(alloc, rest)
+    } else if word == b"atleast".as_slice() {
+        at_least(rest)
+    } else {
+        Err(LineError::Bad)
+    }
+}
+
+#[tactic(auto, unfolding(crate::specs::Reading::test_of))]
+fn test(alloc: Global, text: &[u8]) -> Result<RowTest, LineError>
+    ensures { Gives (λ t. t) result (test_of text.now) }
+{
+    if text == b"any".as_slice() {
+        return Ok(RowTest::Any);
+    }
+    column_test(alloc, text)
+}
+
+#[tactic(auto, unfolding(crate::specs::Reading::end_of))]
+fn end(alloc: Global, word: &[u8]) -> Result<Option<Bytes>, LineError>
+    ensures { Gives (λ e. e) result (end_of word.now) }
+{
+    if word == b"none".as_slice() {
+        return Ok(None);
+    }
+    let bytes = bytes_from(alloc, word)?;
+    Ok(Some(bytes))
+}
+
+#[tactic(auto, unfolding(crate::specs::Reading::keys_of))]
+fn keys(alloc: Global, text: &[u8]) -> Result<ViewSpec, LineError>
+    ensures { Gives (λ s. s) result (keys_of text.now) }
+{
+    let (word, rest) = cut(text, b' ')?;
+    let lo = bytes_from(alloc, word)?;
+    let (word, rest) = cut(rest, b' ')?;
+    let hi = end(alloc, word)?;
+    let test = test(alloc, rest)?;
+    Ok(ViewSpec::Range { lo, hi, test })
+}
+
+#[tactic(auto, unfolding(crate::specs::Reading::prefix_of))]
+fn prefix(alloc: Global, text: &[u8]) -> Result<ViewSpec, LineError>
+    ensures { Gives (λ s. s) result (prefix_of text.now) }
+{
+    let (word, rest) = cut(text, b' ')?;
+    let key = bytes_from(alloc, word)?;
+    let test = test(alloc, rest)?;
+    Ok(ViewSpec::Prefix { key, test })
+}
+
+/// The specification of a view that a text says: `range LO HI TEST`, where HI is a key or `none`, or `prefix KEY TEST`. A
+/// TEST is `any`, `equals COL BYTES` or `atleast COL NUMBER`. Costs a look at each byte, and an allocation or two for
+/// each key and the bytes.
+#[tactic(auto, unfolding(crate::specs::Reading::spec_of))]
+pub fn read_spec(alloc: Global, text: &[u8]) -> Result<ViewSpec, LineError>
+    ensures { Gives (λ s. s) result (spec_of text.now) }
+{
+    let (word, rest) = cut(text, b' ')?;
+    if word == b"range".as_slice() {
+        keys(alloc, rest)
+    } else if word == b"prefix".as_slice() {
+        prefix(alloc, rest)
+    } else {
+        Err(LineError::Bad)
+    }
+}
+
+#[tactic(auto, unfolding(crate::specs::Reading::build_of))]
+fn build(alloc: Global, text: &[u8]) -> Result<Request, LineError>
+    ensures { Gives (λ r. r) result (build_of text.now) }
+{
+    let spec = read_spec(alloc, text)?;
+    Ok(Request::Build { spec })
+}
+
+#[tactic(auto, unfolding(crate::specs::Reading::upkeep_of))]
+fn upkeep(alloc: Global, word: &[u8], text: &[u8]) -> Result<Request, LineError>
+    ensures { Gives (λ r. r) result (upkeep_of word.now text.now) }
+{
+    if word == b"tidy".as_slice() {
+        tidy(alloc, text)
+    } else if word == b"build".as_slice() {
+        build(alloc, text)
+    } else {
+        Err(LineError::Bad)
+    }
+}
+
+/// The request that a text says: `get KEY COLS`, `put KEY SETS`, `remove KEY`, `range START LIMIT COLS`, `tidy KEY` or
+/// `build SPEC`, its words parted by one space. Costs a look at each byte, and an allocation for each key, each list and
+/// each column.
 #[tactic(auto, unfolding(crate::specs::Reading::request_of))]
 pub fn read_request(alloc: Global, text: &[u8]) -> Result<Request, LineError>
     ensures { Gives (λ r. r) result (request_of text.now) }
@@ -213,50 +233,6 @@ pub fn read_request(alloc: Global, text: &[u8]) -> Result<Request, LineError>
     } else if word == b"range".as_slice() {
         range(alloc, rest)
     } else {
-        Err(LineError::Bad)
-    }
-}
-
-#[tactic(auto, unfolding(crate::specs::Reading::begin_of))]
-fn begin(alloc: Global, text: &[u8]) -> Result<Command, LineError>
-    ensures { Gives (λ c. c) result (begin_of text.now) }
-{
-    let (word, rest) = cut(text, b' ')?;
-    let pass = PassNo(number(word, 65535)? as u16);
-    let request = read_request(alloc, rest)?;
-    Ok(Command::Once(Event::Begin(pass, request)))
-}
-
-#[tactic(auto, unfolding(crate::specs::Reading::step_of))]
-fn step(text: &[u8]) -> Result<Command, LineError>
-    ensures { Gives (λ c. c) result (step_of text.now) }
-{
-    let call = CallNo(number(text, u64::MAX)?);
-    Ok(Command::Once(Event::Step(call)))
-}
-
-#[tactic(auto, unfolding(crate::specs::Reading::finish_of))]
-fn finish(text: &[u8]) -> Result<Command, LineError>
-    ensures { Gives (λ c. c) result (finish_of text.now) }
-{
-    let call = CallNo(number(text, u64::MAX)?);
-    Ok(Command::Finish(call))
-}
-
-/// What a line says: `begin PASS REQUEST`, `step CALL` or `finish CALL`, its words parted by one space. Costs what its
-/// request costs to read.
-#[tactic(auto, unfolding(crate::specs::Reading::command_of))]
-pub fn read_command(alloc: Global, line: &[u8]) -> Result<Command, LineError>
-    ensures { Gives (λ c. c) result (command_of line.now) }
-{
-    let (word, rest) = cut(line, b' ')?;
-    if word == b"begin".as_slice() {
-        begin(alloc, rest)
-    } else if word == b"step".as_slice() {
-        step(rest)
-    } else if word == b"finish".as_slice() {
-        finish(rest)
-    } else {
-        Err(LineError::Bad)
+        upkeep(alloc, word, rest)
     }
 }

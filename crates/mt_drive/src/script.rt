@@ -1,25 +1,29 @@
 //! The run of a script on an index.
 
-ghost use Rattle.std.specs.Prelude.{◌≡◌, ◌≢◌, ◌+◌, ◌-◌, ◌^◌, ◌<◌, ◌≤◌, true, [], ◌∷◌, IfOk, IfErr, IfSome, Err};
+ghost use Rattle.std.specs.Prelude.{◌≡◌, ◌≢◌, ◌⊎◌, ◌+◌, ◌-◌, ◌^◌, ◌<◌, ◌≤◌, ℕ, List, true, [], ◌∷◌, ◌++◌, OnOk, IfOk, IfErr, IfSome, Err};
+ghost use Rattle.std.specs.Io.KnownBytes.{Appends};
 ghost use Rattle.mt_types.specs.Limits.{open_fault};
 ghost use Rattle.mt_types.specs.declared.refusal.Refusal.{Refusal};
-ghost use Rattle.mt_index.specs.Stands.{Stands};
-ghost use Rattle.mt_drive.specs.Reading.{command_of};
-ghost use Rattle.mt_drive.specs.Machine.{Leads};
-ghost use Rattle.mt_drive.specs.Script.{goes_on, bad_lines, start_fault, Happens, Finishes, Asks, Answers, Played, Broke};
 ghost use Rattle.mt_types.specs.declared.event.Event.TheVariants.{Step};
+ghost use Rattle.mt_promise.specs.History.{History};
+ghost use Rattle.mt_index.specs.Stands.{Stands};
+ghost use Rattle.mt_drive.specs.Commands.{command_of};
+ghost use Rattle.mt_drive.specs.Machine.{Leads, IsAsBefore};
+ghost use Rattle.mt_drive.specs.Script.{goes_on, reply_lines, bad_lines, start_fault, Happens, Finishes, Asks, Feeds, Answers, Played, Broke};
 ghost use Rattle.mt_drive.specs.Sink.{sink_writer, write_failed};
 ghost use Rattle.mt_drive.specs.Source.{source_rest, GivesNoMore};
 ghost use Rattle.mt_drive.specs.declared.fault.ScriptFault.TheVariants.{Read as ReadFault, Write as WriteFault, Start, NoMemory};
 
-use crate::command::Command;
+use crate::command::{Command, Reply};
+use crate::commands::read_command;
 use crate::fault::{LineError, ScriptFault};
-use crate::reading::read_command;
+use crate::replies::reply_text;
 use crate::sink::Sink;
 use crate::source::Source;
 use mt_index::machine::{Machine, is_served};
 use mt_index::options::Options;
 use mt_types::event::{Event, Outcome};
+use mt_types::items::Items;
 use mt_types::numbers::CallNo;
 use mt_types::refusal::Refusal;
 use std::alloc::Global;
@@ -37,7 +41,7 @@ fn goes_on(outcome: &Outcome) -> bool
 // One step of a call.
 fn step(machine: &mut Machine, alloc: Global, call: CallNo) -> Outcome
     ensures stands { Leads machine.old (λ past h. Happens past (Step call) result h) machine.new }
-    ensures columns { machine.new.columns ≡ machine.old.columns }
+    ensures options { IsAsBefore machine.old machine.new }
 {
     machine.event(alloc, &Event::Step(call))
 }
@@ -45,7 +49,7 @@ fn step(machine: &mut Machine, alloc: Global, call: CallNo) -> Outcome
 // Steps of a call, until one is neither moved nor a commit.
 fn finish(machine: &mut Machine, alloc: Global, call: CallNo) -> Outcome
     ensures stands { Leads machine.old (λ past h. Finishes past call result h) machine.new }
-    ensures columns { machine.new.columns ≡ machine.old.columns }
+    ensures options { IsAsBefore machine.old machine.new }
 {
     for _ in 1..MAX_STEPS {
         let outcome = step(machine, alloc, call);
@@ -57,39 +61,68 @@ fn finish(machine: &mut Machine, alloc: Global, call: CallNo) -> Outcome
 }
 
 // One event, where the index serves it.
-fn ask(machine: &mut Machine, alloc: Global, event: &Event) -> Option<Outcome>
+fn ask(machine: &mut Machine, alloc: Global, event: &Event) -> Reply
     ensures stands { Leads machine.old (λ past h. Asks event.now past result h) machine.new }
-    ensures columns { machine.new.columns ≡ machine.old.columns }
+    ensures options { IsAsBefore machine.old machine.new }
 {
     if is_served(event) {
-        Some(machine.event(alloc, event))
+        Reply::Came(machine.event(alloc, event))
     } else {
-        None
+        Reply::Bad
+    }
+}
+
+// The deltas of the commits after a number. No event happens.
+fn feed(machine: &Machine, alloc: Global, from: u64, limit: u16) -> Reply
+    ensures { (h : History) → Stands machine.now h
+        → Feeds machine.now.columns machine.now.log.keep from limit h result }
+{
+    match machine.feed(alloc, from, limit) {
+        Ok(deltas) => Reply::Fed(Items::from_vec(deltas)),
+        Err(refusal) => Reply::NotFed(refusal),
     }
 }
 
 // What a line is answered.
-fn answer(machine: &mut Machine, alloc: Global, line: &[u8]) -> Result<Option<Outcome>, ScriptFault>
+fn answer(machine: &mut Machine, alloc: Global, line: &[u8]) -> Result<Reply, ScriptFault>
     ensures stands { IfOk result (λ reply. Leads machine.old
-        (λ past h. Answers (command_of line.now) past reply h) machine.new) }
-    ensures columns { machine.new.columns ≡ machine.old.columns }
+        (λ past h. Answers machine.old.columns machine.old.log.keep (command_of line.now) past reply h) machine.new) }
+    ensures options { IsAsBefore machine.old machine.new }
     ensures err { IfErr result (λ fault. (fault ≡ NoMemory) × (machine.new ≡ machine.old)) }
 {
     match read_command(alloc, line) {
         Ok(Command::Once(event)) => Ok(ask(machine, alloc, &event)),
-        Ok(Command::Finish(call)) => Ok(Some(finish(machine, alloc, call))),
-        Err(LineError::Bad) => Ok(None),
+        Ok(Command::Finish(call)) => Ok(Reply::Came(finish(machine, alloc, call))),
+        Ok(Command::Feed { from, limit }) => Ok(feed(machine, alloc, from, limit)),
+        Err(LineError::Bad) => Ok(Reply::Bad),
         Err(LineError::Memory) => Err(ScriptFault::NoMemory),
     }
 }
 
 // One more where the line was bad.
-fn count(bad: u64, reply: &Option<Outcome>) -> u64
+fn count(bad: u64, reply: &Reply) -> u64
     requires { bad < 2 ^ 64 - 1 }
     ensures value { result ≡ bad + bad_lines (reply.now ∷ []) }
     ensures within { result ≤ bad + 1 }
 {
-    if reply.is_none() { bad + 1 } else { bad }
+    match reply {
+        Reply::Bad => bad + 1,
+        _ => bad,
+    }
+}
+
+// Writes the lines of a reply, or a front of them.
+fn send<W: Write>(writer: &mut Sink<W>, alloc: Global, reply: &Reply) -> Result<(), ScriptFault>
+    ensures sent { (sent : List ℕ) × (unsent : List ℕ) × (reply_lines reply.now ≡ sent ++ unsent)
+        × Appends (W.contents (sink_writer writer.old)) (W.contents (sink_writer writer.new)) sent
+        × OnOk result (unsent ≡ []) }
+    ensures fault { IfErr result (λ fault. (fault ≡ WriteFault) ⊎ (fault ≡ NoMemory)) }
+    ensures write { IfErr result (λ fault. fault ≡ WriteFault → write_failed writer.new ≡ true) }
+{
+    match reply_text(alloc, reply) {
+        Ok(text) => writer.send(text.as_bytes()),
+        Err(_) => Err(ScriptFault::NoMemory),
+    }
 }
 
 // Answers the lines that the source gives, on an empty index.
@@ -100,10 +133,10 @@ fn play<R: Read, W: Write>(
     writer: &mut Sink<W>,
 ) -> Result<u64, ScriptFault>
     requires { Stands machine.old [] }
-    ensures ok { IfOk result (λ bad. Played machine.old.columns (source_rest R.remaining reader.old)
+    ensures ok { IfOk result (λ bad. Played machine.old.columns machine.old.log.keep (source_rest R.remaining reader.old)
         (W.contents (sink_writer writer.old)) bad (W.contents (sink_writer writer.new))) }
-    ensures err { IfErr result (λ fault. Broke machine.old.columns fault (source_rest R.remaining reader.old)
-        (W.contents (sink_writer writer.old)) (W.contents (sink_writer writer.new))) }
+    ensures err { IfErr result (λ fault. Broke machine.old.columns machine.old.log.keep fault
+        (source_rest R.remaining reader.old) (W.contents (sink_writer writer.old)) (W.contents (sink_writer writer.new))) }
     ensures read { IfErr result (λ fault. fault ≡ ReadFault → GivesNoMore reader.new) }
     ensures write { IfErr result (λ fault. fault ≡ WriteFault → write_failed writer.new ≡ true) }
     ensures opened { IfErr result (λ fault. (refusal : Refusal) → fault ≢ Start refusal) }
@@ -112,7 +145,7 @@ fn play<R: Read, W: Write>(
     while let Some(line) = reader.next_line(alloc)? {
         let reply = answer(machine, alloc, &line)?;
         bad = count(bad, &reply);
-        writer.send(alloc, &reply)?;
+        send(writer, alloc, &reply)?;
     }
     Ok(bad)
 }
@@ -127,15 +160,15 @@ fn start_fault(refusal: Refusal) -> ScriptFault
     }
 }
 
-/// Answers the lines of a script on an empty index, a line of text for each, and gives the number of bad lines.
+/// Answers the lines of a script on an empty index, one after the other, and gives the number of bad lines.
 ///
-/// A line is `begin PASS REQUEST`, `step CALL` or `finish CALL`; a request is `get KEY COLS`, `put KEY SETS`,
-/// `remove KEY` or `range START LIMIT COLS`. A line of other bytes, or of what the index doesn't serve yet, is answered
-/// `bad line`. What a line says and how an outcome is written is told in `reading` and `showing`. `finish` makes at most
-/// 1,000,000 steps.
+/// A line is `begin PASS REQUEST`, `step CALL` or `finish CALL`, `apply VIEW`, `view VIEW FLOOR START LIMIT` or
+/// `drop VIEW`, `advance`, `collect`, or `feed FROM LIMIT`, which is answered by a line for each delta. A line of other
+/// bytes, or of what the index doesn't serve yet, is answered `bad line`. What a line says and how an outcome is written
+/// is told in `commands`, `reading` and `showing`. `finish` makes at most 1,000,000 steps.
 ///
-/// The writer is given each reply in one piece, and is not flushed. A line costs its event, or its steps, and some
-/// allocations for its words and its reply.
+/// The writer is given each reply in one piece, and is not flushed. A line costs its event, its steps or its deltas, and
+/// some allocations for its words and its reply.
 ///
 /// # Errors
 ///
@@ -149,10 +182,10 @@ pub fn script<R: Read, W: Write>(
     reader: &mut Source<R>,
     writer: &mut Sink<W>,
 ) -> Result<u64, ScriptFault>
-    ensures answered { IfOk result (λ bad. Played options.columns (source_rest R.remaining reader.old)
+    ensures answered { IfOk result (λ bad. Played options.columns options.keep (source_rest R.remaining reader.old)
         (W.contents (sink_writer writer.old)) bad (W.contents (sink_writer writer.new))) }
-    ensures broke { IfErr result (λ fault. Broke options.columns fault (source_rest R.remaining reader.old)
-        (W.contents (sink_writer writer.old)) (W.contents (sink_writer writer.new))) }
+    ensures broke { IfErr result (λ fault. Broke options.columns options.keep fault
+        (source_rest R.remaining reader.old) (W.contents (sink_writer writer.old)) (W.contents (sink_writer writer.new))) }
     ensures read { result ≡ Err ReadFault → GivesNoMore reader.new }
     ensures write { result ≡ Err WriteFault → write_failed writer.new ≡ true }
     ensures start { IfSome (open_fault options.columns options.feed options.keep)

@@ -1,18 +1,18 @@
-//! Outcomes as text.
+//! Outcomes and deltas as text.
 
-ghost use Rattle.std.specs.Prelude.{◌≡◌, ◌++◌, OnOk, string_bytes, decimal, codes};
-ghost use Rattle.mt_drive.specs.Showing.{comma_before, bytes_text, values_text, row_text, rows_text, sums_text, answer_text, refusal_text, rule_text, outcome_text};
+ghost use Rattle.std.specs.Prelude.{◌≡◌, ◌++◌, OnOk, IfOk, string_bytes};
+ghost use Rattle.mt_drive.specs.Showing.{comma_before, bytes_text, values_text, row_text, rows_text, sums_text, answer_text, refusal_text, rule_text, outcome_text, row_or_none, delta_text};
 ghost use Rattle.mt_types.specs.declared.event.Outcome.TheVariants.{View, Done};
 
 use bytes::Bytes;
 use mt_types::event::{Answer, Outcome, Reply, TidyRule};
 use mt_types::key::Key;
 use mt_types::refusal::Refusal;
-use mt_types::row::Row;
+use mt_types::row::{Delta, Row};
 use mt_types::view::Page;
 use std::alloc::{AllocError, Global};
 
-fn push_bytes(alloc: Global, out: &mut String, bytes: &[u8]) -> Result<(), AllocError>
+pub(crate) fn push_bytes(alloc: Global, out: &mut String, bytes: &[u8]) -> Result<(), AllocError>
     ensures { OnOk result (string_bytes out.new ≡ string_bytes out.old ++ bytes_text bytes.now) }
 {
     if bytes.is_empty() {
@@ -22,8 +22,8 @@ fn push_bytes(alloc: Global, out: &mut String, bytes: &[u8]) -> Result<(), Alloc
     out.push_str(text.as_str())
 }
 
-/// A comma, but before the first.
-fn push_comma(out: &mut String, place: usize) -> Result<(), AllocError>
+// A comma, but before the first.
+pub(crate) fn push_comma(out: &mut String, place: usize) -> Result<(), AllocError>
     ensures { OnOk result (string_bytes out.new ≡ string_bytes out.old ++ comma_before place) }
 {
     if place == 0 {
@@ -116,7 +116,7 @@ fn push_rule(out: &mut String, rule: TidyRule) -> Result<(), AllocError>
     }
 }
 
-fn push_refusal(out: &mut String, refusal: Refusal) -> Result<(), AllocError>
+pub(crate) fn push_refusal(out: &mut String, refusal: Refusal) -> Result<(), AllocError>
     ensures { OnOk result (string_bytes out.new ≡ string_bytes out.old ++ refusal_text refusal) }
 {
     let number = refusal.number();
@@ -169,4 +169,41 @@ pub fn push_outcome(alloc: Global, out: &mut String, outcome: &Outcome) -> Resul
         Outcome::Freed(count) => write!(out, "freed {count}"),
         Outcome::Refused(refusal) => push_refusal(out, *refusal),
     }
+}
+
+#[tactic(auto, unfolding(crate::specs::Showing::row_or_none))]
+fn push_row_or_none(alloc: Global, out: &mut String, row: &Option<Row>) -> Result<(), AllocError>
+    ensures { OnOk result (string_bytes out.new ≡ string_bytes out.old ++ row_or_none row.now) }
+{
+    match row {
+        Some(row) => {
+            let version = row.version;
+            write!(out, "{version}:")?;
+            push_values(alloc, out, row.columns.as_slice())
+        }
+        None => out.push_str("none"),
+    }
+}
+
+// Writes the text of a delta at the end, without a line feed.
+pub(crate) fn push_delta(alloc: Global, out: &mut String, delta: &Delta) -> Result<(), AllocError>
+    ensures { OnOk result (string_bytes out.new ≡ string_bytes out.old ++ delta_text delta.now) }
+{
+    let number = delta.number;
+    write!(out, "delta {number} ")?;
+    push_bytes(alloc, out, delta.key.as_slice())?;
+    out.push_str(" ")?;
+    push_row_or_none(alloc, out, &delta.before)?;
+    out.push_str(" ")?;
+    push_row_or_none(alloc, out, &delta.after)
+}
+
+/// The line of a delta, without a line feed: `delta N KEY BEFORE AFTER`, a row as VERSION:VALUES, or `none`. Costs what
+/// the text is long.
+pub fn delta_line(alloc: Global, delta: &Delta) -> Result<String, AllocError>
+    ensures { IfOk result (λ text. string_bytes text ≡ delta_text delta.now) }
+{
+    let mut text = String::new(alloc);
+    push_delta(alloc, &mut text, delta)?;
+    Ok(text)
 }

@@ -55,7 +55,11 @@ impl<R: Read> Source<R> {
     }
 
     /// The next line without the line feed at its end, or nothing at the end of the input.
-    pub(crate) fn next_line(&mut self, alloc: Global) -> Result<Option<Vec<u8>>, ScriptFault>
+    ///
+    /// # Errors
+    ///
+    /// `Read` where a read failed, or all the lines that a source gives are spent; `NoMemory` for want of it.
+    pub fn next_line(&mut self, alloc: Global) -> Result<Option<Vec<u8>>, ScriptFault>
         ensures line { IfOk result (λ line. IfSome (source_rest R.remaining self.old)
             (λ xs. LosesLine xs (source_rest R.remaining self.new) (option_map vec_items line))) }
         ensures within { lines_left self.old < 18446744073709551616 }

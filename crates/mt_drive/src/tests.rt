@@ -15,7 +15,7 @@ fn options(columns: u64) -> Options {
     Options {
         columns,
         feed: 4096,
-        keep: 0,
+        keep: 1,
     }
 }
 
@@ -28,8 +28,9 @@ struct Run {
 }
 
 // An empty index; a row that is visible by its commit alone; columns; a full border, which is split; two long keys of
-// one slice, which get a layer; what says nothing, the last of it without a line feed.
-const RUNS: [Run; 6] = [
+// one slice, which get a layer; the feed, of which all but the last commit was trimmed; what says nothing, the last of it
+// without a line feed.
+const RUNS: [Run; 7] = [
     Run {
         columns: 1,
         script: b"begin 1 get - all\nstep 1\nstep 1\n",
@@ -85,7 +86,15 @@ const RUNS: [Run; 6] = [
     },
     Run {
         columns: 1,
-        script: b"st\xffp 1\n\nstep  1\nbegin 1 tidy 61\nstep 1\nbegin 1 get 61 1\nadvance",
+        script: b"begin 1 put 61 0=76\nfinish 1\nfeed 0 10\nfeed 1 10\nfeed 0 0\n\
+        begin 1 remove 61\nfinish 2\nfeed 1 10\nfeed 0 10\n",
+        written: b"call 1\ndone 0 1 put 1\ndelta 1 61 none 1:76\nrefused 5\n\
+        call 2\ndone 1 2 removed 2\ndelta 2 61 1:76 none\nrefused 12 1\n",
+        bad: 0,
+    },
+    Run {
+        columns: 1,
+        script: b"st\xffp 1\n\nstep  1\nbegin 1 tidy 61\nstep 1\nbegin 1 get 61 1\nadvance 1",
         written: b"bad line\nbad line\nbad line\nbad line\nrefused 9\nrefused 3\nbad line\n",
         bad: 5,
     },

@@ -57,10 +57,11 @@ status_of (Err Read) = 3
 status_of (Err Write) = 3
 status_of (Err NoMemory) = 3
 
--- how a script ended on an index of so many columns: what was read of the input, and written after the old bytes
-abbrev pub Ended : ℕ → Result ℕ ScriptFault → Option (List ℕ) → Option (List ℕ) → Option (List ℕ) → Type 0
-Ended C (Ok bad) input old new = Played C input old bad new
-Ended C (Err fault) input old new = Broke C fault input old new
+-- how a script ended on an index of so many columns that keeps so many commits for nobody: what was read of the input, and
+-- written after the old bytes
+abbrev pub Ended : ℕ → ℕ → Result ℕ ScriptFault → Option (List ℕ) → Option (List ℕ) → Option (List ℕ) → Type 0
+Ended C keep (Ok bad) input old new = Played C keep input old bad new
+Ended C keep (Err fault) input old new = Broke C keep fault input old new
 
 -- a script was answered as these words of the command line ask, and ended so
 pub record Answered (words : List (List ℕ)) (ending : Ending) (input old new : Option (List ℕ)) : Type 0 where
@@ -68,6 +69,6 @@ pub record Answered (words : List (List ℕ)) (ending : Ending) (input old new :
   pub played : Result ℕ ScriptFault
   pub said : AreSaid words options
   pub opened : IfSome (open_fault options.columns options.feed options.keep) (λ refusal. played ≡ Err (Start refusal))
-  pub ended : Ended options.columns played input old new
+  pub ended : Ended options.columns options.keep played input old new
   pub status : ending.status ≡ status_of played
   pub fault : ending.fault ≡ result_err played

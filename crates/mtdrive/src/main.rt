@@ -28,9 +28,16 @@ Each line of standard input is one of
   begin PASS REQUEST   begins a call: prints `call N` or a refusal
   step CALL            one step of it: `moved`, `again`, `commit N`, `done FROM TO ANSWER` or a refusal
   finish CALL          steps until one is neither moved nor a commit, at most 1,000,000; prints the last
-A request is `get KEY COLS`, `put KEY SETS`, `remove KEY` or `range START LIMIT COLS`. Keys and columns
-are hex, `-` is empty; COLS is `all` or numbers joined by commas, SETS is `-` or NUMBER=BYTES joined by
-commas. Other lines print `bad line`.
+  apply VIEW           takes a view on by one commit: `applied N`, `current` or a refusal
+  view VIEW FLOOR START LIMIT   reads a view that stands at FLOOR or later: `view AT COUNT SUMS K ROWS` or a refusal
+  drop VIEW            ends a view: `dropped` or a refusal
+  advance, collect     the next epoch: `epoch N`; frees retired nodes: `freed N`
+  feed FROM LIMIT      the commits after FROM, at most LIMIT: a line `delta N KEY BEFORE AFTER` for each, or a refusal
+A REQUEST is `get KEY COLS`, `put KEY SETS`, `remove KEY`, `range START LIMIT COLS`, `tidy KEY` or `build SPEC`.
+Keys and columns are hex, `-` is empty; COLS is `all` or numbers joined by commas, SETS is `-` or COL=BYTES
+joined by commas. A SPEC is `range LO HI TEST`, where HI is a key or `none`, or `prefix KEY TEST`; a TEST is `any`,
+`equals COL BYTES` or `atleast COL NUMBER`. Other lines print `bad line`, and so do, as yet, tidy, build, apply,
+view, drop, advance and collect, which the index doesn't serve.
 
 The status is 0; 1 where a line was bad; 2 for a bad command line; 3 where reading or writing failed.";
 

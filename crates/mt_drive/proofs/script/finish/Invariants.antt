@@ -1,10 +1,9 @@
-use Rattle.std.proofs.Common.{◌≡◌}
-use Rattle.mt_drive.specs.Machine.{Leads}
+use Rattle.mt_drive.specs.Machine.{Leads, IsAsBefore}
 use Rattle.mt_drive.proofs.FinishLemmas.{Passes}
 use Rattle.mt_drive.proofs.script.finish.Given as goal
 
 abbrev pub invariant-loop : goal.invariant-loop
 invariant-loop l = record {
   passed : Leads l.initial.machine (λ past h. Passes l.counter past l.call h) l.machine;
-  columns : l.machine.columns ≡ l.initial.machine.columns;
+  options : IsAsBefore l.initial.machine l.machine;
 }

@@ -1,7 +1,7 @@
 use Rattle.std.proofs.Common.{◌≡◌, ◌+◌, arith}
 use Rattle.mt_drive.proofs.PlayLemmas.{Playing-none, Playing-more, Played-end, Broke-between, Broke-sending, went_whole}
 use Rattle.std.proofs.lemmas.Result.{err_from_is_err_and}
-use Rattle.mt_drive.specs.Script.{reply_line}
+use Rattle.mt_drive.specs.Script.{reply_lines}
 use Rattle.mt_drive.specs.Source.{source_rest, lines_left}
 use Rattle.mt_drive.specs.Sink.{sink_writer}
 use Rattle.mt_drive.proofs.script.play.Goals as goal
@@ -30,17 +30,17 @@ returns-in_err-send-clause-err g c =
     let h = c.in_err-send.ensures.sent in
     let p = err_from_is_err_and c.from_residual-in_err-send.result c.from_residual-in_err-send.ensures.1 in
     rw (p.1, p.2)
-    (Broke-sending c.in_err-send.field-0.0 c.answer.new.machine (source_rest g.R.Read.remaining c.next_line.new.self) (g.W.Write.contents (sink_writer c.send.new.self))
+    (Broke-sending c.in_err-send.field-0.0 c.answer.new.machine (source_rest g.R.Read.remaining c.next_line.new.self) (g.W.Write.contents (sink_writer c.send.new.writer))
     c.in-Some.line.items c.in_ok-reply.reply h.0 h.1 c.loop-line.invariant.playing (rw c.in-Some.is at c.in_ok-line.ensures.line)
-    (rw c.deref.ensures.value at c.in_ok-reply.ensures.stands) c.answer.ensures.columns h.2 h.3 c.in_err-send.ensures.fault)
+    (rw c.deref.ensures.value at c.in_ok-reply.ensures.stands) c.answer.ensures.options h.2 h.3 c.in_err-send.ensures.fault)
 
 pub loop-line-preserved : goal.loop-line-preserved
 loop-line-preserved g c =
     let h = c.in_ok-send.ensures.sent in
     let fewer : lines_left c.next_line.new.self + 1 ≡ lines_left c.loop-line.reader = rw c.in-Some.is at c.in_ok-line.ensures.fewer in record {
-      playing = Playing-more c.answer.new.machine (source_rest g.R.Read.remaining c.next_line.new.self) (g.W.Write.contents (sink_writer c.send.new.self)) c.count-bad.result
+      playing = Playing-more c.answer.new.machine (source_rest g.R.Read.remaining c.next_line.new.self) (g.W.Write.contents (sink_writer c.send.new.writer)) c.count-bad.result
           c.in-Some.line.items c.in_ok-reply.reply c.loop-line.invariant.playing (rw c.in-Some.is at c.in_ok-line.ensures.line)
-          (rw c.deref.ensures.value at c.in_ok-reply.ensures.stands) c.answer.ensures.columns
-          (went_whole (reply_line c.in_ok-reply.reply) h.0 h.1 (g.W.Write.contents (sink_writer c.loop-line.writer)) (g.W.Write.contents (sink_writer c.send.new.self)) h.2 h.3 h.4) c.count-bad.ensures.value;
+          (rw c.deref.ensures.value at c.in_ok-reply.ensures.stands) c.answer.ensures.options
+          (went_whole (reply_lines c.in_ok-reply.reply) h.0 h.1 (g.W.Write.contents (sink_writer c.loop-line.writer)) (g.W.Write.contents (sink_writer c.send.new.writer)) h.2 h.3 h.4) c.count-bad.ensures.value;
       few = omega (arith, c.loop-line.invariant.few, c.count-bad.ensures.within, c.next_line.ensures.within, fewer);
     }

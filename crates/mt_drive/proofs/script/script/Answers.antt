@@ -13,14 +13,16 @@ returns-in-Ok-clause-answered g c =
     let input = source_rest g.R.Read.remaining c.args.reader.now in
     let old = g.W.Write.contents (sink_writer c.args.writer.now) in
     let new = g.W.Write.contents (sink_writer c.play.new.writer) in
-    subst (λ (C : ℕ). IfOk c.play.result (λ bad. Played C input old bad new)) c.in-Ok.ensures.opened.0 c.play.ensures.ok
+    subst (λ (k : ℕ). IfOk c.play.result (λ bad. Played c.args.options.columns k input old bad new)) c.in-Ok.ensures.opened.1.1
+    (subst (λ (C : ℕ). IfOk c.play.result (λ bad. Played C c.in-Ok.machine.log.keep input old bad new)) c.in-Ok.ensures.opened.0 c.play.ensures.ok)
 
 pub returns-in-Ok-clause-broke : goal.returns-in-Ok-clause-broke
 returns-in-Ok-clause-broke g c =
     let input = source_rest g.R.Read.remaining c.args.reader.now in
     let old = g.W.Write.contents (sink_writer c.args.writer.now) in
     let new = g.W.Write.contents (sink_writer c.play.new.writer) in
-    subst (λ (C : ℕ). IfErr c.play.result (λ fault. Broke C fault input old new)) c.in-Ok.ensures.opened.0 c.play.ensures.err
+    subst (λ (k : ℕ). IfErr c.play.result (λ fault. Broke c.args.options.columns k fault input old new)) c.in-Ok.ensures.opened.1.1
+    (subst (λ (C : ℕ). IfErr c.play.result (λ fault. Broke C c.in-Ok.machine.log.keep fault input old new)) c.in-Ok.ensures.opened.0 c.play.ensures.err)
 
 pub returns-in-Err-clause-broke : goal.returns-in-Err-clause-broke
-returns-in-Err-clause-broke g c = Broke-none c.start_fault.result c.args.options.columns (source_rest g.R.Read.remaining c.args.reader.now) (g.W.Write.contents (sink_writer c.args.writer.now))
+returns-in-Err-clause-broke g c = Broke-none c.start_fault.result c.args.options.columns c.args.options.keep (source_rest g.R.Read.remaining c.args.reader.now) (g.W.Write.contents (sink_writer c.args.writer.now))

@@ -1,0 +1,7 @@
+-- the verdict: what a reader must believe
+pub mod Audit
+-- what a line says
+pub mod Lines
+pub mod Answers
+-- behind it: what the code has read
+pub mod Book
