@@ -6,7 +6,7 @@ use Rattle.mt_interior.specs.Head.{HeadView}
 use Rattle.mt_interior.specs.Interior.{InteriorView}
 use Rattle.mt_arena.specs.Node.{node_at, head_at, head_of, interior_at, interior_of, border_at, border_of, Updates}
 use Rattle.mt_arena.specs.Arena.{ArenaView, with_interior_changed}
-use Rattle.mt_arena.specs.declared.retired.Retired.{Retired}
+use Rattle.std.specs.Prelude.{IsSomeAnd}
 use Rattle.mt_arena.specs.declared.node.Node.{Node}
 use Rattle.mt_arena.specs.declared.node.Node.TheVariants.{Interior}
 use Rattle.mt_arena.proofs.NodeLemmas.{updates-with_node, node-from_head, node-from_interior}
@@ -16,17 +16,17 @@ use Rattle.mt_chart.specs.Steps.{Twin, AreTwins, NoTwin, Keeps, SameContent}
 use Rattle.mt_chart.proofs.Basics.{same_number}
 use Rattle.mt_tree.specs.Seen.{arena_seen}
 use Rattle.mt_tree.proofs.SeenLemmas.{changed-interior}
-use Rattle.mt_calls.specs.World.{World, IsWorld, HeadsAreAlive, IsLockedInterior, TwinsAreLocked, RetiredAreGone, IsLocked, IsTaken, HasSameTwins, NotAmong, Goes}
-use Rattle.mt_calls.proofs.FrameLemmas.{is_among, taken_back}
-use Rattle.mt_calls.proofs.BorderLemmas.{interior_kept, keys_same, twins_beside, retired_kept}
+use Rattle.mt_calls.specs.World.{World, IsWorld, HeadsStand, IsLockedInterior, TwinsAreLocked, NotRetired, IsLocked, IsTaken, HasSameTwins, NotAmong, Goes}
+use Rattle.mt_calls.proofs.FrameLemmas.{is_among, taken_back, retired_same}
+use Rattle.mt_calls.proofs.BorderLemmas.{interior_kept, keys_same, twins_beside, retired_kept, no_root, roots_kept}
 
 -- the same twins, at another chart
 abbrev pub at_chart : World → Chart → World
-at_chart w chart = record { twins = w.twins; chart = chart }
+at_chart w chart = record { twins = w.twins; closing = w.closing; chart = chart }
 
 -- The node of one number changes, which no other call has taken, and the places and twins of own numbers: what the step leaves.
 pub goes_with : (now : ℕ) (a after : ArenaView) (w next : World) (n : ℕ) (owned owns : List ℕ) (Then : World → Type 0)
-    → IsWorld after now next → ((begun : ℕ) → begun ≤ now → Evolves begun w.chart next.chart)
+    → IsWorld after now next → next.closing ≡ w.closing → after.retired ≡ a.retired → ((begun : ℕ) → begun ≤ now → Evolves begun w.chart next.chart)
     → ((other : ℕ) → other ≢ n → node_at after.nodes other ≡ node_at a.nodes other)
     → ((other : ℕ) → NotAmong other owned → next.chart other ≡ w.chart other)
     → ((other : ℕ) → NotAmong other owned → HasSameTwins w.twins next.twins other)
@@ -36,7 +36,7 @@ pub goes_with : (now : ℕ) (a after : ArenaView) (w next : World) (n : ℕ) (ow
     → (NotAmong n owned → IsTaken after next n → Among n owns)
     → Then next
     → Goes now a after w owned owns Then
-goes_with now a after w next n owned owns Then world evolves others spots twins nobody no_more stays not_taken truth = record {
+goes_with now a after w next n owned owns Then world closing retired evolves others spots twins nobody no_more stays not_taken truth = record {
   next = next;
   world = world;
   evolves = evolves;
@@ -45,6 +45,8 @@ goes_with now a after w next n owned owns Then world evolves others spots twins 
       node = others other (λ e. nobody (subst (λ (m : ℕ). IsTaken a w m) e taken) (λ i. apart (subst (λ (m : ℕ). Among m owned) (sym e) i)));
       spot = spots other apart;
       twins = twins other apart;
+      closing = λ i. subst (λ (l : List ℕ). Among other l) closing i;
+      retired = retired_same a.retired after.retired other retired;
     },
     no_more other taken apart,
   );
@@ -52,7 +54,7 @@ goes_with now a after w next n owned owns Then world evolves others spots twins 
     | inl i ↦ inl (stays other i taken)
     | inr out ↦ elim (same_number other n) [
       | inl e ↦ inl (subst (λ (m : ℕ). Among m owns) (sym e) (not_taken (λ i. out (subst (λ (m : ℕ). Among m owned) (sym e) i)) (subst (λ (m : ℕ). IsTaken after next m) e taken)))
-      | inr differ ↦ inr (taken_back a after w next other (record { node = others other differ; spot = spots other out; twins = twins other out }) taken, out)
+      | inr differ ↦ inr (taken_back a after w next other (record { node = others other differ; spot = spots other out; twins = twins other out; closing = λ i. subst (λ (l : List ℕ). Among other l) closing i; retired = retired_same a.retired after.retired other retired }) taken, out)
     ]
   ];
   true = truth;
@@ -60,10 +62,10 @@ goes_with now a after w next n owned owns Then world evolves others spots twins 
 
 -- the same, where the twins stay
 pub goes_kept : (now : ℕ) (a after : ArenaView) (w : World) (chart : Chart) (n : ℕ) (owned owns : List ℕ) (Then : World → Type 0)
-    → IsWorld a now w → Keeps now w.twins (arena_seen a) (arena_seen after) w.chart chart → after.retired ≡ a.retired
+    → IsWorld a now w → Keeps now w.twins (arena_seen a) (arena_seen after) w.chart chart → after.retired ≡ a.retired → NotRetired a.retired n
     → ((other : ℕ) → other ≢ n → node_at after.nodes other ≡ node_at a.nodes other)
     → ((other : ℕ) → NotAmong other owned → chart other ≡ w.chart other)
-    → HeadsAreAlive after chart
+    → HeadsStand after w.closing chart
     → TwinsAreLocked after chart w.twins
     → (IsTaken a w n → NotAmong n owned → ⊥)
     → ((other : ℕ) → IsTaken a w other → NotAmong other owned → NotAmong other owns)
@@ -71,23 +73,23 @@ pub goes_kept : (now : ℕ) (a after : ArenaView) (w : World) (chart : Chart) (n
     → (NotAmong n owned → IsTaken after (at_chart w chart) n → Among n owns)
     → Then (at_chart w chart)
     → Goes now a after w owned owns Then × SameContent (arena_seen a) (arena_seen after)
-goes_kept now a after w chart n owned owns Then world kept retired others spots heads twins nobody no_more stays not_taken truth = (
+goes_kept now a after w chart n owned owns Then world kept retired apart others spots heads twins nobody no_more stays not_taken truth = (
   goes_with now a after w (at_chart w chart) n owned owns Then (record {
     index = kept.index;
     keys = keys_same a after kept.content world.keys;
     heads = heads;
     twins = twins;
-    retired = subst (λ (r : List Retired). RetiredAreGone r chart) (sym retired) (retired_kept a.retired w.chart chart (kept.evolves 0 (omega arith)) world.retired);
-  }) kept.evolves others spots (λ other apart one two here. ((λ h. h), (λ h. h))) nobody no_more stays not_taken truth,
+    retired = retired_kept a after now w.chart chart n (kept.evolves 0 (omega arith)) apart others retired world.retired;
+  }) refl retired kept.evolves others spots (λ other apart one two here. ((λ h. h), (λ h. h))) nobody no_more stays not_taken truth,
   kept.content,
 )
 
 -- the same, where the number is no locked interior
 pub goes_at : (now : ℕ) (a after : ArenaView) (w : World) (chart : Chart) (n : ℕ) (owned owns : List ℕ) (Then : World → Type 0)
-    → IsWorld a now w → Keeps now w.twins (arena_seen a) (arena_seen after) w.chart chart → after.retired ≡ a.retired
+    → IsWorld a now w → Keeps now w.twins (arena_seen a) (arena_seen after) w.chart chart → after.retired ≡ a.retired → NotRetired a.retired n
     → ((other : ℕ) → other ≢ n → node_at after.nodes other ≡ node_at a.nodes other)
     → ((other : ℕ) → NotAmong other owned → chart other ≡ w.chart other)
-    → HeadsAreAlive after chart
+    → HeadsStand after w.closing chart
     → (IsLockedInterior a w.chart n → ⊥)
     → (IsTaken a w n → NotAmong n owned → ⊥)
     → ((other : ℕ) → IsTaken a w other → NotAmong other owned → NotAmong other owns)
@@ -95,8 +97,8 @@ pub goes_at : (now : ℕ) (a after : ArenaView) (w : World) (chart : Chart) (n :
     → (NotAmong n owned → IsTaken after (at_chart w chart) n → Among n owns)
     → Then (at_chart w chart)
     → Goes now a after w owned owns Then × SameContent (arena_seen a) (arena_seen after)
-goes_at now a after w chart n owned owns Then world kept retired others spots heads free nobody no_more stays not_taken truth =
-    goes_kept now a after w chart n owned owns Then world kept retired others spots heads (twins_beside a after w.chart chart w.twins n (kept.evolves 0 (omega arith)) free others world.twins) nobody no_more stays not_taken truth
+goes_at now a after w chart n owned owns Then world kept retired apart others spots heads free nobody no_more stays not_taken truth =
+    goes_kept now a after w chart n owned owns Then world kept retired apart others spots heads (twins_beside a after w.chart chart w.twins n (kept.evolves 0 (omega arith)) free others world.twins) nobody no_more stays not_taken truth
 
 -- twins are locked still, where the one interior that changes is none
 pub twins_lone : (a after : ArenaView) (chart next : Chart) (twins : List Twin) (n : ℕ) → Evolves 0 chart next → NoTwin twins n → ((other : ℕ) → other ≢ n → node_at after.nodes other ≡ node_at a.nodes other) → TwinsAreLocked a chart twins → TwinsAreLocked after next twins
@@ -109,13 +111,14 @@ twins_lone a after chart next twins n evolves lone others all = record {
 }
 
 -- ---- heads are as they were, where one number that is no head changes
-pub heads_beside : (a after : ArenaView) (chart next : Chart) (n : ℕ) → ((number : ℕ) (prefix : List ℕ) → OnHead next number prefix → OnHead chart number prefix)
-    → head_at after.nodes n ≡ None → ((other : ℕ) → other ≢ n → node_at after.nodes other ≡ node_at a.nodes other) → HeadsAreAlive a chart → HeadsAreAlive after next
-heads_beside a after chart next n were none others heads = record {
+pub heads_beside : {closing : List ℕ} (a after : ArenaView) (chart next : Chart) (n : ℕ) → ((number : ℕ) (prefix : List ℕ) → OnHead next number prefix → OnHead chart number prefix)
+    → head_at after.nodes n ≡ None → border_at a.nodes n ≡ None → ((other : ℕ) → other ≢ n → node_at after.nodes other ≡ node_at a.nodes other) → HeadsStand a closing chart → HeadsStand after closing next
+heads_beside {closing = closing} a after chart next n were none was others heads = record {
   alive = λ number prefix head place is. elim (same_number number n) [
     | inl e ↦ absurd (let clash : ◌≡◌ {A = Option HeadView} None (Some head) = sym none ∙ (ap (λ (m : ℕ). head_at after.nodes m) (sym e) ∙ is) in cc)
     | inr differ ↦ heads.alive number prefix head (were number prefix place) (sym (ap (option_and_then head_of) (others number differ)) ∙ is)
   ];
+  roots = roots_kept a after closing n (λ i. absurd (no_root a closing chart n was heads i)) others heads.roots;
 }
 
 -- ---- an interior is changed
@@ -136,6 +139,9 @@ module _ (a : ArenaView) (n : ℕ) (i : InteriorView) (change : InteriorView →
   pub interior_no_head : head_at changed.nodes n ≡ None
   interior_no_head = ap (option_and_then head_of) interior_updated.changed
 
+  pub interior_no_border : border_at a.nodes n ≡ None
+  interior_no_border = ap (option_and_then border_of) (node-from_interior a.nodes n i named)
+
   -- a border is named as it was
   pub interior_border : (other : ℕ) (b : BorderView) → border_at a.nodes other ≡ Some b → border_at changed.nodes other ≡ Some b
   interior_border other b is = ap (option_and_then border_of) (interior_others other apart) ∙ is
@@ -146,16 +152,20 @@ module _ (a : ArenaView) (n : ℕ) (i : InteriorView) (change : InteriorView →
   -- the interior is taken where it is locked, or the chart doesn't know it
   pub interior_taken : (w : World) → IsTaken changed w n → ((change i).version.locked ≡ true) ⊎ (w.chart n ≡ None)
   interior_taken w (inl locked) = inl (subst (λ (x : Option Node). IsLocked x) interior_updated.changed locked)
-  interior_taken w (inr spare) = inr spare.1
+  interior_taken w (inr (inl spare)) = inr spare.1
+  interior_taken w (inr (inr head)) = absurd (subst (λ (o : Option HeadView). IsSomeAnd o (λ h. h.version.deleted ≡ true)) interior_no_head head.marked)
 
 -- an interior is taken where it is locked, or the chart doesn't know it
 pub interior_is_taken : (a : ArenaView) (n : ℕ) (i : InteriorView) (w : World) → interior_at a.nodes n ≡ Some i → IsTaken a w n → (i.version.locked ≡ true) ⊎ (w.chart n ≡ None)
 interior_is_taken a n i w named (inl locked) = inl (subst (λ (x : Option Node). IsLocked x) (node-from_interior a.nodes n i named) locked)
-interior_is_taken a n i w named (inr spare) = inr spare.1
+interior_is_taken a n i w named (inr (inl spare)) = inr spare.1
+interior_is_taken a n i w named (inr (inr head)) = absurd (subst (λ (o : Option HeadView). IsSomeAnd o (λ h. h.version.deleted ≡ true)) (ap (option_and_then head_of) (node-from_interior a.nodes n i named)) head.marked)
 
-pub head_is_taken : (a : ArenaView) (n : ℕ) (h : HeadView) (w : World) → head_at a.nodes n ≡ Some h → IsTaken a w n → (h.version.locked ≡ true) ⊎ (w.chart n ≡ None)
-head_is_taken a n h w named (inl locked) = inl (subst (λ (x : Option Node). IsLocked x) (node-from_head a.nodes n h named) locked)
-head_is_taken a n h w named (inr spare) = inr spare.1
+-- a head that is known, and neither locked nor marked deleted, is not taken
+pub alive_free : (a : ArenaView) (n : ℕ) (h : HeadView) (w : World) → head_at a.nodes n ≡ Some h → h.version.locked ≡ false → h.version.deleted ≡ false → IsSome (w.chart n) → IsTaken a w n → ⊥
+alive_free a n h w named free alive known (inl locked) = (let clash : false ≡ true = sym free ∙ subst (λ (x : Option Node). IsLocked x) (node-from_head a.nodes n h named) locked in cc)
+alive_free a n h w named free alive known (inr (inl spare)) = (let clash : false ≡ true = subst (λ (x : Option Spot). IsSome x) spare.1 known in cc)
+alive_free a n h w named free alive known (inr (inr head)) = (let clash : false ≡ true = sym alive ∙ subst (λ (o : Option HeadView). IsSomeAnd o (λ x. x.version.deleted ≡ true)) named head.marked in cc)
 
 -- what is unlocked and known is not taken
 pub not_both : (locked : _) (place : Option Spot) → locked ≡ false → IsSome place → (locked ≡ true) ⊎ (place ≡ None) → ⊥

@@ -26,7 +26,7 @@ use Rattle.mt_tree.proofs.InteriorPlaces.{stands_as}
 use Rattle.mt_tree.proofs.ChildLists.{among_read}
 use Rattle.mt_calls.specs.World.{World, IsWorld, Goes}
 use Rattle.mt_calls.proofs.FrameLemmas.{goes_same}
-use Rattle.mt_calls.proofs.BorderLemmas.{known_stays}
+use Rattle.mt_calls.proofs.BorderLemmas.{known_stays, on_kept}
 use Rattle.mt_calls.proofs.FoundLemmas.{some_at}
 use Rattle.mt_calls.proofs.SplitLemmas.{with_spot, spot_changes}
 use Rattle.mt_post.specs.declared.posting.Posting.{Posting}
@@ -40,7 +40,7 @@ use Rattle.mt_post.specs.Posting.{stage_owns, owned_after, IsToPost, IsHeadOf, I
 use Rattle.mt_post.specs.Causes.{IsHeldBack, CanLeaveOut, PostStageWaits, PostStageEnds}
 use Rattle.mt_post.specs.Follows.{FollowsHead, FollowsInterior, LeavesOut, StageFollows, Follows, PostStep}
 use Rattle.mt_calls.specs.World.{IsLockedBorder}
-use Rattle.mt_post.proofs.StepLemmas.{at_chart, goes_at, heads_beside, interior_others, interior_no_head, interior_border, interior_taken, interior_is_taken, not_both}
+use Rattle.mt_post.proofs.StepLemmas.{at_chart, goes_at, heads_beside, interior_others, interior_no_head, interior_no_border, interior_border, interior_taken, interior_is_taken, not_both}
 
 -- ---- what a step does, of a posting that is at a stage
 pub record StageStep (a after : ArenaView) (posting : Posting) (waiting : List Split) (stage : PostStage) (p : Progressed) (then : Posting) : Type 0 where
@@ -76,7 +76,7 @@ known_some w number place is = subst (λ (x : Option Spot). IsSome x) (sym is) r
 
 -- the border that was to be posted is locked
 pub still_locked : (a : ArenaView) (w : World) (prefix : List ℕ) (number low : ℕ) → IsToPost a w prefix number low → IsLockedBorder a w number
-still_locked a w prefix number low t = record { b = t.b; named = t.named; known = known_some w number _ t.place; locked = t.locked }
+still_locked a w prefix number low t = record { b = t.b; named = t.named; known = known_some w number _ t.place; locked = t.locked; free = t.free }
 
 -- from the head it begins its way
 pub from_head : (begun : ℕ) (prefix : List ℕ) (wanted : Child) (number : ℕ) (w : World) → IsHeadOf w begun number prefix → IsWalking begun prefix wanted number w
@@ -302,14 +302,14 @@ module _ (a : ArenaView) (posting : Posting) (node : NodeNo) (is : posting.stage
             let stands = in_layer begun w.chart prefix posting.low world.index.tree truth.held in
             let kept = keeps_new.keeps now w.twins w.chart chart world.index (record { prefix = prefix; stands = stands; low = posting.low; unnamed = border.place; charted = charted }) in
             let is_known = known_some w n _ stands.place in
-            goes_at now a new w chart n (posting.half.0 ∷ []) (posting.half.0 ∷ []) _ world kept refl (interior_others a n i change named)
+            goes_at now a new w chart n (posting.half.0 ∷ []) (posting.half.0 ∷ []) _ world kept refl (on_kept a now w.chart n _ _ _ _ stands.place world.retired) (interior_others a n i change named)
             (λ other apart. charted.rest other (λ e. apart (subst (λ (m : ℕ). Among m (posting.half.0 ∷ [])) (sym e) first)))
-            (heads_beside a new w.chart chart n (heads_were w.chart chart posting.half.0 0 posting.low prefix (on true) charted) (interior_no_head a n i change named) (interior_others a n i change named) world.heads)
+            (heads_beside a new w.chart chart n (heads_were w.chart chart posting.half.0 0 posting.low prefix (on true) charted) (interior_no_head a n i change named) (interior_no_border a n i change named) (interior_others a n i change named) world.heads)
             (λ locked. (let clash : false ≡ true = sym unlocked ∙ some_at _ (interior_at a.nodes n) i locked.locked named in cc))
             (λ taken apart. not_both i.version.locked (w.chart n) unlocked is_known (interior_is_taken a n i w named taken))
             (λ other t out k. out k) (λ other k taken. k)
             (λ apart taken. absurd (not_both i.version.locked (chart n) unlocked (known_stays w.chart chart n (kept.evolves 0 (omega arith)) is_known) (interior_taken a n i change named (at_chart w chart) taken)))
-            (record { b = border.b; named = interior_border a n i change named posting.half.0 border.b border.named; known = known_some (at_chart w chart) posting.half.0 place charted.now; locked = border.locked })
+            (record { b = border.b; named = interior_border a n i change named posting.half.0 border.b border.named; known = known_some (at_chart w chart) posting.half.0 place charted.now; locked = border.locked; free = border.free })
 
     -- it has room, and its low is at most that of what is to be named
     pub room_for : (may : MayPost a posting) → length i.children < MAX_CHILDREN → IsSomeAnd (interior_at a.nodes node.0) (HasRoomFrom wanted.low)
