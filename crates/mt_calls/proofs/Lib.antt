@@ -4,5 +4,7 @@ pub mod FoundLemmas
 pub mod BorderLemmas
 pub mod SplitLemmas
 pub mod LayerLemmas
+pub mod NodeLemmas
+pub mod RetireLemmas
 pub mod GetLemmas
 pub mod RangeLemmas

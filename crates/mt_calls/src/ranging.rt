@@ -37,8 +37,8 @@ pub struct Range {
     pub node: NodeNo,
 }
 
-// Visits a node on the way to a slice of its layer. No link leads on from a slice alone.
-fn seek(tree: &Tree, number: NodeNo, slice: u64) -> Sought
+/// Visits a node on the way to a slice of its layer. No link leads on from a slice alone.
+pub fn seek(tree: &Tree, number: NodeNo, slice: u64) -> Sought
     requires { IsHeldFor tree.now number.0 slice }
     ensures seeks { Seeks tree.now number.0 slice result }
     ensures again { result ≡ Sought.Again → IsMarkedAt tree.now number.0 }

@@ -28,8 +28,8 @@ use Rattle.mt_post.specs.declared.split.Split.{Split}
 use Rattle.mt_post.specs.declared.posting.PostStage.TheVariants.{HalfPosted, HalfCut}
 use Rattle.mt_post.specs.Posting.{goal_level, split_owns, AreWaiting, IsToPost, IsHeadOf, IsPostedHalf, PostingIsTrue, MayPost}
 use Rattle.mt_post.specs.Follows.{PostStep}
-use Rattle.mt_post.proofs.StepLemmas.{goes_with, heads_beside, interior_now, interior_others, interior_no_head, interior_no_border, interior_taken, not_both}
-use Rattle.mt_post.proofs.WalkLemmas.{at_stage, true_at, known_some}
+use Rattle.mt_calls.proofs.NodeLemmas.{goes_with, heads_beside, interior_now, interior_others, interior_no_head, interior_no_border, interior_taken, not_both, known_some}
+use Rattle.mt_post.proofs.WalkLemmas.{at_stage, true_at}
 use Rattle.mt_post.proofs.KeptLemmas.{all_stay, owns_below}
 
 -- ---- the twins but for those of a number

@@ -36,8 +36,8 @@ use Rattle.mt_post.specs.Posting.{goal, goal_level, split_owns, AreWaiting, IsTo
 use Rattle.mt_post.specs.Follows.{FollowsInterior, PostStep}
 use Rattle.mt_calls.specs.World.{IsLockedBorder}
 use Rattle.mt_calls.proofs.BorderLemmas.{unknown_kept, on_kept}
-use Rattle.mt_post.proofs.StepLemmas.{goes_at, goes_kept, twins_lone, heads_beside, interior_now, interior_others, interior_no_head, interior_no_border, interior_taken, interior_is_taken, not_both}
-use Rattle.mt_post.proofs.WalkLemmas.{at_stage, true_at, known_some, still_locked, from_head, goes_on, in_layer, is_above}
+use Rattle.mt_calls.proofs.NodeLemmas.{goes_at, goes_kept, twins_lone, heads_beside, interior_now, interior_others, interior_no_head, interior_no_border, interior_taken, interior_is_taken, not_both, known_some}
+use Rattle.mt_post.proofs.WalkLemmas.{at_stage, true_at, still_locked, from_head, goes_on, in_layer, is_above}
 use Rattle.mt_post.proofs.KeptLemmas.{all_stay, same_beside, splitting_stays, apart_known, owns_below, owns_beside, goal_has_level, few_wait}
 use Rattle.mt_post.proofs.RootLemmas.{not_retired, gives_number, vacant_free}
 

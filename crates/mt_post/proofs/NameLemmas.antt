@@ -33,8 +33,8 @@ use Rattle.mt_post.specs.declared.posting.PostStage.TheVariants.{RootFilled, Hal
 use Rattle.mt_post.specs.Causes.{IsRootStill}
 use Rattle.mt_post.specs.Posting.{split_owns, AreWaiting, PostStageIsTrue, IsToPost, IsHeadOf, IsSpareInterior, IsHalved, upper_half, root_over, PostingIsTrue, MayPost}
 use Rattle.mt_post.specs.Follows.{PostStep}
-use Rattle.mt_post.proofs.StepLemmas.{at_chart, goes_with, interior_is_taken, alive_free, not_both}
-use Rattle.mt_post.proofs.WalkLemmas.{at_stage, true_at, known_some, from_head, root_place, heads_were}
+use Rattle.mt_calls.proofs.NodeLemmas.{at_chart, goes_with, interior_is_taken, alive_free, not_both, known_some, root_place, heads_were}
+use Rattle.mt_post.proofs.WalkLemmas.{at_stage, true_at, from_head}
 use Rattle.mt_post.proofs.KeptLemmas.{all_stay, apart_known, interior_apart_head, owns_below, owns_beside, beside_half}
 use Rattle.mt_post.proofs.HalfLemmas.{from_place}
 use Rattle.mt_post.proofs.TwinLemmas.{with_pair, pair_cases, pair_same, half_is_posted, twins_now, has_upper, new_pair}

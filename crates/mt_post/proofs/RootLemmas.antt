@@ -39,8 +39,8 @@ use Rattle.mt_post.specs.declared.posting.PostStage.TheVariants.{Walks, RootWant
 use Rattle.mt_post.specs.Posting.{goal, goal_level, split_owns, AreWaiting, IsToPost, IsHeadOf, IsSpareInterior, root_children, new_root, root_over, PostingIsTrue, ThenPosts, MayPost}
 use Rattle.mt_post.specs.Causes.{IsRootStill}
 use Rattle.mt_post.specs.Follows.{PostStep}
-use Rattle.mt_post.proofs.StepLemmas.{at_chart, goes_at, heads_beside, interior_now, interior_others, interior_no_head, interior_no_border, interior_is_taken, alive_free, not_both}
-use Rattle.mt_post.proofs.WalkLemmas.{at_stage, true_at, known_some, from_head, goes_on, root_place, heads_were}
+use Rattle.mt_calls.proofs.NodeLemmas.{at_chart, goes_at, heads_beside, interior_now, interior_others, interior_no_head, interior_no_border, interior_is_taken, alive_free, not_both, known_some, root_place, heads_were, head_there}
+use Rattle.mt_post.proofs.WalkLemmas.{at_stage, true_at, from_head, goes_on}
 
 -- a node's number says which it is
 pub same_node : (one other : NodeNo) → one.0 ≡ other.0 → one ≡ other
@@ -51,17 +51,6 @@ pub vacant_free : (a : ArenaView) (w : World) (number : ℕ) → node_at a.nodes
 vacant_free a w number none (inl locked) = subst (λ (x : Option Node). IsLocked x) none locked
 vacant_free a w number none (inr (inl spare)) = (let clash : false ≡ true = subst (λ (x : Option Node). IsSome x) none spare.0 in cc)
 vacant_free a w number none (inr (inr m)) = subst (λ (o : Option HeadView). IsSomeAnd o (λ h. h.version.deleted ≡ true)) (ap (option_and_then head_of) none) m.marked
-
--- the head of the layer is there
-head_there : (a : ArenaView) (w : World) (begun number : ℕ) (prefix : List ℕ) (now : ℕ) → IsWorld a now w → IsHeadOf w begun number prefix → IsSome (head_at a.nodes number)
-head_there a w begun number prefix now world known = go known.standing known.place
-  where
-    some : (node : HeadNode) → arena_seen a number ≡ Some (head node) → IsSome (head_at a.nodes number)
-    some node seen = let (h, named, same) = head-seen a number node seen in subst (λ (x : Option HeadView). IsSome x) (sym named) refl
-
-    go : (standing : Standing) → w.chart number ≡ Some (spot top prefix 0 standing) → IsSome (head_at a.nodes number)
-    go (on posted) place = let u = world.index.tree.heads number prefix 0 posted place in some u.node u.is_node
-    go (gone epoch) place = let (u, is_node, marked) = world.index.tree.gone_heads number prefix 0 epoch place in some u is_node
 
 -- what the chart doesn't know is not retired
 pub not_retired : (a : ArenaView) (w : World) (now number : ℕ) → IsWorld a now w → w.chart number ≡ None → All (λ retired. retired.node.0 ≢ number) a.retired

@@ -26,8 +26,8 @@ use Rattle.mt_post.specs.declared.posting.PostStage.TheVariants.{Walks, HalfPost
 use Rattle.mt_post.specs.Causes.{HasRoomAt}
 use Rattle.mt_post.specs.Posting.{goal, split_owns, AreWaiting, IsToPost, IsHeadOf, IsWalking, IsHalved, IsPostedHalf, upper_half, PostingIsTrue, MayPost}
 use Rattle.mt_post.specs.Follows.{FollowsInterior, PostStep}
-use Rattle.mt_post.proofs.StepLemmas.{goes_with, heads_beside, interior_others, interior_no_head, interior_no_border, interior_taken, interior_is_taken, not_both}
-use Rattle.mt_post.proofs.WalkLemmas.{at_stage, true_at, known_some, heads_were, in_layer, is_above, room_for}
+use Rattle.mt_calls.proofs.NodeLemmas.{goes_with, heads_beside, interior_others, interior_no_head, interior_no_border, interior_taken, interior_is_taken, not_both, known_some, heads_were}
+use Rattle.mt_post.proofs.WalkLemmas.{at_stage, true_at, in_layer, is_above, room_for}
 use Rattle.mt_post.proofs.KeptLemmas.{all_stay, apart_known, owns_beside, beside_half}
 
 -- ---- two more twins
