@@ -6,5 +6,6 @@ pub mod SplitLemmas
 pub mod LayerLemmas
 pub mod NodeLemmas
 pub mod RetireLemmas
+pub mod CollectLemmas
 pub mod GetLemmas
 pub mod RangeLemmas

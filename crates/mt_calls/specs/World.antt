@@ -1,5 +1,5 @@
 -- What the proofs know of the tree between two steps, and what a step of one call leaves of it to the others.
-use Rattle.std.specs.Prelude.{ℕ, ◌≡◌, ◌≢◌, ◌≤◌, ◌⊎◌, ◌↔◌, List, length, Option, Some, None, IsSome, IsSomeAnd, All, Bool, true, false}
+use Rattle.std.specs.Prelude.{ℕ, suc, ◌≡◌, ◌≢◌, ◌≤◌, ◌⊎◌, ◌↔◌, List, length, Option, Some, None, IsSome, IsSomeAnd, All, Bool, true, false}
 use Rattle.mt_types.specs.declared.limits.TheConstants.{MAX_KEY_BYTES}
 use Rattle.mt_types.specs.declared.row.Row.{Row}
 use Rattle.mt_slice.specs.Place.{Place, AreBytes, place_of}
@@ -11,7 +11,7 @@ use Rattle.mt_arena.specs.declared.retired.Retired.{Retired}
 use Rattle.mt_arena.specs.declared.node.Node.{Node}
 use Rattle.mt_arena.specs.declared.node.Node.TheVariants.{Head, Interior, Border}
 use Rattle.mt_chart.specs.Tree.{Among, Has}
-use Rattle.mt_chart.specs.Chart.{Role, gone, spot, Chart, OnHead, Evolves}
+use Rattle.mt_chart.specs.Chart.{Role, at_level, gone, spot, Chart, OnHead, Evolves}
 use Rattle.mt_chart.specs.Steps.{Twin, AreTwins}
 use Rattle.mt_tree.specs.Seen.{arena_seen}
 use Rattle.mt_tree.specs.Keeping.{IsIndexAt}
@@ -122,6 +122,10 @@ pub record IsLockedBorder (a : ArenaView) (w : World) (number : ℕ) : Type 0 wh
   pub known : IsSome (w.chart number)
   pub locked : b.version.locked ≡ true
   pub free : NotAmong number w.closing
+
+-- each interior among these numbers that is gone went in this epoch or later
+abbrev pub GoneSince : ℕ → World → List ℕ → Type 0
+GoneSince begun w numbers = (number : ℕ) → Among number numbers → (below : ℕ) (prefix : List ℕ) (low epoch : ℕ) → w.chart number ≡ Some (spot (at_level (suc below)) prefix low (gone epoch)) → begun ≤ epoch
 
 -- what a step of one call leaves, which owned these numbers and then owns those: there is a next world in which the tree is an index;
 -- all that calls rely on stays; each number that is taken by another call is as it was, and is not this call's; and what is then to be true

@@ -4,3 +4,4 @@ pub mod DropLemmas
 pub mod UnlinkLemmas
 pub mod LoneLemmas
 pub mod LawLemmas
+pub mod TidyLasts

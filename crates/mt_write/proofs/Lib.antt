@@ -7,3 +7,4 @@ pub mod PostLemmas
 pub mod NewLayerLemmas
 pub mod WorkLemmas
 pub mod NewWorks
+pub mod WriteLasts
