@@ -1,10 +1,13 @@
 -- What steps leave: where nothing changes, and where one border does.
-use Rattle.std.proofs.Common.{ℕ, ◌≡◌, ◌<◌, ◌⊎◌, inl, inr, List, [], ◌∷◌, Option, Some, None, IsSome, refl, sym, ap, subst, ◌∙◌, arith}
-use Rattle.std.specs.Option.{option_map}
+use Rattle.std.proofs.Common.{ℕ, ◌≡◌, ◌<◌, ◌⊎◌, ◌↔◌, true, inl, inr, List, [], ◌∷◌, Option, Some, None, IsSome, refl, sym, ap, subst, ◌∙◌, arith}
+use Rattle.std.specs.Option.{option_map, option_and_then}
 use Rattle.std.proofs.lemmas.Bool.{cases_lt}
 use Rattle.mt_types.specs.declared.limits.TheConstants.{MAX_NODES}
 use Rattle.mt_commit.specs.Log.{LogView}
-use Rattle.mt_arena.specs.Node.{node_at}
+use Rattle.std.specs.Prelude.{IsSomeAnd}
+use Rattle.mt_interior.specs.Head.{HeadView}
+use Rattle.mt_arena.specs.declared.retired.Retired.{Retired}
+use Rattle.mt_arena.specs.Node.{node_at, head_of}
 use Rattle.mt_arena.specs.Arena.{ArenaView, IsArena}
 use Rattle.mt_arena.specs.declared.node.Node.{Node}
 use Rattle.mt_chart.specs.Tree.{Among, first, later, Node as PlainNode}
@@ -16,7 +19,7 @@ use Rattle.mt_chart.proofs.HeldNodes.{evolves_same}
 use Rattle.mt_chart.proofs.TreeLemmas.{nodes_there}
 use Rattle.mt_chart.proofs.Trail.{trail_bound}
 use Rattle.mt_tree.specs.Seen.{arena_seen, node_seen}
-use Rattle.mt_calls.specs.World.{World, IsWorld, IsLocked, IsTaken, IsSame, NotAmong, Goes}
+use Rattle.mt_calls.specs.World.{World, IsWorld, NotRetired, IsLocked, IsMarkedHead, IsTaken, IsSame, NotAmong, Goes}
 use Rattle.mt_calls.specs.Step.{IsQuiet}
 
 -- a number is one of a list, or not
@@ -33,7 +36,15 @@ is_among number (other ∷ l) = elim (same_number number other) [
 -- what names the same node in the same place is taken as it was
 pub taken_back : (a after : ArenaView) (w next : World) (number : ℕ) → IsSame a after w next number → IsTaken after next number → IsTaken a w number
 taken_back a after w next number same (inl locked) = inl (subst (λ (x : Option Node). IsLocked x) same.node locked)
-taken_back a after w next number same (inr spare) = inr (subst (λ (x : Option Node). IsSome x) same.node spare.0, sym same.spot ∙ spare.1)
+taken_back a after w next number same (inr (inl spare)) = inr (inl (subst (λ (x : Option Node). IsSome x) same.node spare.0, sym same.spot ∙ spare.1))
+taken_back a after w next number same (inr (inr head)) = inr (inr (record {
+  marked = subst (λ (x : Option HeadView). IsSomeAnd x (λ h. h.version.deleted ≡ true)) (ap (option_and_then head_of) same.node) head.marked;
+  kept = same.retired.0 head.kept;
+}))
+
+-- the same numbers are retired, where the list stays
+pub retired_same : (retired then : List Retired) (number : ℕ) → then ≡ retired → NotRetired then number ↔ NotRetired retired number
+retired_same retired then number same = ((λ h. subst (λ (l : List Retired). NotRetired l number) same h), (λ h. subst (λ (l : List Retired). NotRetired l number) (sym same) h))
 
 -- nothing changes, and the call owns what it owned
 pub goes_same : (now : ℕ) (a : ArenaView) (w : World) (Then : World → Type 0) (owned owns : List ℕ) → owned ≡ owns → IsWorld a now w → Then w → Goes now a a w owned owns Then
@@ -41,7 +52,7 @@ goes_same now a w Then owned owns same world truth = record {
   next = w;
   world = world;
   evolves = λ begun before. evolves_same begun w.chart;
-  leaves = λ other taken apart. (record { node = refl; spot = refl; twins = λ one other here. ((λ h. h), (λ h. h)) }, λ i. apart (subst (λ (l : List ℕ). Among other l) (sym same) i));
+  leaves = λ other taken apart. (record { node = refl; spot = refl; twins = λ one other here. ((λ h. h), (λ h. h)); closing = λ i. i; retired = ((λ h. h), (λ h. h)) }, λ i. apart (subst (λ (l : List ℕ). Among other l) (sym same) i));
   takes = λ number taken. elim (is_among number owned) [ inl i ↦ inl (subst (λ (l : List ℕ). Among number l) same i) | inr out ↦ inr (taken, out) ];
   true = truth;
 }

@@ -1,6 +1,7 @@
 -- What the steps that make a new layer leave: two spares, a spare given back or changed, and the link to the layer.
 use Rattle.std.proofs.Common.{ℕ, ◌≡◌, ◌≢◌, inl, inr, true, false, List, [], ◌∷◌, slice_get, Option, Some, None, IsSome, refl, sym, ap, subst, ◌∙◌, arith}
 use Rattle.std.specs.Option.{option_and_then}
+use Rattle.std.specs.Prelude.{IsSomeAnd}
 use Rattle.mt_types.specs.declared.numbers.NodeNo.{NodeNo}
 use Rattle.mt_border.specs.Border.{BorderView}
 use Rattle.mt_border.specs.declared.entry.Entry.{Entry}
@@ -18,10 +19,10 @@ use Rattle.mt_chart.proofs.HeldNodes.{evolves_same, evolves_again}
 use Rattle.mt_tree.specs.Seen.{arena_seen}
 use Rattle.mt_tree.specs.Keeping.{KeepsTree, KeepsUnknown, IsUnknown, IsOnIn}
 use Rattle.mt_tree.specs.BorderSteps.{MakesLayerAt}
-use Rattle.mt_calls.specs.World.{World, IsWorld, HeadsAreAlive, IsLockedInterior, RetiredAreGone, IsLocked, IsTaken, NotAmong, Goes}
-use Rattle.mt_calls.proofs.FrameLemmas.{is_among, taken_back}
-use Rattle.mt_calls.proofs.BorderLemmas.{keys_same, heads_changed, twins_changed, twins_beside, no_interior, retired_kept, others_named}
-use Rattle.mt_calls.proofs.SplitLemmas.{vacant_free, heads_occupied, with_spot, spot_changes}
+use Rattle.mt_calls.specs.World.{World, IsWorld, HeadsStand, IsLockedInterior, NotRetired, IsLocked, IsTaken, NotAmong, Goes}
+use Rattle.mt_calls.proofs.FrameLemmas.{is_among, taken_back, retired_same}
+use Rattle.mt_calls.proofs.BorderLemmas.{keys_same, heads_changed, twins_changed, twins_beside, no_interior, retired_kept, unknown_kept, MayChange, others_named}
+use Rattle.mt_calls.proofs.SplitLemmas.{vacant_free, vacant_root, heads_occupied, with_spot, spot_changes}
 
 -- ---- two spares
 -- what the chart doesn't know is no locked interior of the tree
@@ -54,21 +55,23 @@ module _ (now : ℕ) (a mid after : ArenaView) (w : World) (one two : ℕ) (node
           world = record {
             index = again.index;
             keys = keys_same a after content world.keys;
-            heads = heads_occupied mid after w two (Some node_two) updates_two (unknown_two.unknown now w.twins w.chart kept.index) (heads_occupied a mid w one (Some node_one) updates_one (unknown_one.unknown now w.twins w.chart world.index) world.heads);
+            heads = heads_occupied mid after w two (Some node_two) updates_two (unknown_two.unknown now w.twins w.chart kept.index) (vacant_root a w two vacant_first world.heads)
+                (heads_occupied a mid w one (Some node_one) updates_one (unknown_one.unknown now w.twins w.chart world.index) (vacant_root a w one vacant_one world.heads) world.heads);
             twins = twins_beside mid after w.chart w.chart w.twins two (evolves_same 0 w.chart) (no_interior mid w.chart two (ap (option_and_then interior_of) vacant_two)) updates_two.others
                 (twins_beside a mid w.chart w.chart w.twins one (evolves_same 0 w.chart) (no_interior a w.chart one (ap (option_and_then interior_of) vacant_one)) updates_one.others world.twins);
-            retired = subst (λ (r : List Retired). RetiredAreGone r w.chart) (sym (retired_two ∙ retired_one)) world.retired;
+            retired = retired_kept mid after now w.chart w.chart two (evolves_same 0 w.chart) (subst (λ (l : List Retired). NotRetired l two) (sym retired_one) (unknown_kept a now w.chart two (unknown_two.unknown now w.twins w.chart kept.index) world.retired)) updates_two.others retired_two
+                (retired_kept a mid now w.chart w.chart one (evolves_same 0 w.chart) (unknown_kept a now w.chart one (unknown_one.unknown now w.twins w.chart world.index) world.retired) updates_one.others retired_one world.retired);
           };
           evolves = λ begun before. evolves_again begun w.chart w.chart w.chart (kept.evolves begun before) (again.evolves begun before);
           leaves = λ other taken apart.
               let not_one = vacant_free a w one other vacant_one taken in
               let not_two = vacant_free a w two other vacant_first taken in
-              (record { node = others_same other not_one not_two; spot = refl; twins = λ one other here. ((λ h. h), (λ h. h)) }, λ i. neither other not_one not_two apart i);
+              (record { node = others_same other not_one not_two; spot = refl; twins = λ one other here. ((λ h. h), (λ h. h)); closing = λ i. i; retired = retired_same a.retired after.retired other (retired_two ∙ retired_one) }, λ i. neither other not_one not_two apart i);
           takes = λ other taken. elim (same_number other two) [
             | inl e ↦ inl (subst (λ (m : ℕ). Among other (m ∷ (one ∷ owned))) e first)
             | inr not_two ↦ elim (same_number other one) [
               | inl e ↦ inl (later (subst (λ (m : ℕ). Among other (m ∷ owned)) e first))
-              | inr not_one ↦ elim (is_among other owned) [ inl i ↦ inl (later (later i)) | inr out ↦ inr (taken_back a after w w other (record { node = others_same other not_one not_two; spot = refl; twins = λ one other here. ((λ h. h), (λ h. h)) }) taken, out) ]
+              | inr not_one ↦ elim (is_among other owned) [ inl i ↦ inl (later (later i)) | inr out ↦ inr (taken_back a after w w other (record { node = others_same other not_one not_two; spot = refl; twins = λ one other here. ((λ h. h), (λ h. h)); closing = λ i. i; retired = retired_same a.retired after.retired other (retired_two ∙ retired_one) }) taken, out) ]
             ]
           ];
           true = truth;
@@ -88,20 +91,22 @@ goes_given_back now a mid after w number node owned Then vacant updates retired 
     let kept = keeps.keeps now w.twins w.chart world.index in
     let unknown_now = unknown.unknown now w.twins w.chart world.index in
     let again = keeps_back.keeps now w.twins w.chart kept.index unknown_now in
-    let content = content_twice a mid after kept.content again.content in (
+    let content = content_twice a mid after kept.content again.content in
+    let free = vacant_root a w number vacant world.heads in (
       record {
         next = w;
         world = record {
           index = again.index;
           keys = keys_same a after content world.keys;
-          heads = heads_occupied mid after w number None back unknown_now (heads_occupied a mid w number (Some node) updates unknown_now world.heads);
+          heads = heads_occupied mid after w number None back unknown_now free (heads_occupied a mid w number (Some node) updates unknown_now free world.heads);
           twins = twins_beside mid after w.chart w.chart w.twins number (evolves_same 0 w.chart) (unknown_free mid w.chart number unknown_now) back.others
               (twins_beside a mid w.chart w.chart w.twins number (evolves_same 0 w.chart) (unknown_free a w.chart number unknown_now) updates.others world.twins);
-          retired = subst (λ (r : List Retired). RetiredAreGone r w.chart) (sym (retired_back ∙ retired)) world.retired;
+          retired = retired_kept mid after now w.chart w.chart number (evolves_same 0 w.chart) (subst (λ (l : List Retired). NotRetired l number) (sym retired) (unknown_kept a now w.chart number unknown_now world.retired)) back.others retired_back
+              (retired_kept a mid now w.chart w.chart number (evolves_same 0 w.chart) (unknown_kept a now w.chart number unknown_now world.retired) updates.others retired world.retired);
         };
         evolves = λ begun before. evolves_again begun w.chart w.chart w.chart (kept.evolves begun before) (again.evolves begun before);
-        leaves = λ other taken apart. (record { node = same other; spot = refl; twins = λ one other here. ((λ h. h), (λ h. h)) }, apart);
-        takes = λ other taken. elim (is_among other owned) [ inl i ↦ inl i | inr out ↦ inr (taken_back a after w w other (record { node = same other; spot = refl; twins = λ one other here. ((λ h. h), (λ h. h)) }) taken, out) ];
+        leaves = λ other taken apart. (record { node = same other; spot = refl; twins = λ one other here. ((λ h. h), (λ h. h)); closing = λ i. i; retired = retired_same a.retired after.retired other (retired_back ∙ retired) }, apart);
+        takes = λ other taken. elim (is_among other owned) [ inl i ↦ inl i | inr out ↦ inr (taken_back a after w w other (record { node = same other; spot = refl; twins = λ one other here. ((λ h. h), (λ h. h)); closing = λ i. i; retired = retired_same a.retired after.retired other (retired_back ∙ retired) }) taken, out) ];
         true = truth;
       },
       content,
@@ -114,18 +119,18 @@ goes_given_back now a mid after w number node owned Then vacant updates retired 
     ]
 
 -- ---- a spare that the call owns is changed
-pub goes_spare_changed : (now : ℕ) (a after : ArenaView) (w : World) (number : ℕ) (node : Node) (owned : List ℕ) (Then : World → Type 0) → Updates a.nodes after.nodes number (Some node) → after.retired ≡ a.retired → KeepsTree a after → w.chart number ≡ None → Among number owned
+pub goes_spare_changed : (now : ℕ) (a after : ArenaView) (w : World) (number : ℕ) (node : Node) (owned : List ℕ) (Then : World → Type 0) → Updates a.nodes after.nodes number (Some node) → after.retired ≡ a.retired → KeepsTree a after → w.chart number ≡ None → NotAmong number w.closing → Among number owned
     → IsWorld a now w → Then w → Goes now a after w owned owned Then
-goes_spare_changed now a after w number node owned Then updates retired keeps unknown mine world truth =
+goes_spare_changed now a after w number node owned Then updates retired keeps unknown free mine world truth =
     let kept = keeps.keeps now w.twins w.chart world.index in
     record {
       next = w;
-      world = record { index = kept.index; keys = keys_same a after kept.content world.keys; heads = heads_occupied a after w number (Some node) updates unknown world.heads; twins = twins_beside a after w.chart w.chart w.twins number (evolves_same 0 w.chart) (unknown_free a w.chart number unknown) updates.others world.twins; retired = subst (λ (r : List Retired). RetiredAreGone r w.chart) (sym retired) world.retired };
+      world = record { index = kept.index; keys = keys_same a after kept.content world.keys; heads = heads_occupied a after w number (Some node) updates unknown free world.heads; twins = twins_beside a after w.chart w.chart w.twins number (evolves_same 0 w.chart) (unknown_free a w.chart number unknown) updates.others world.twins; retired = retired_kept a after now w.chart w.chart number (evolves_same 0 w.chart) (unknown_kept a now w.chart number unknown world.retired) updates.others retired world.retired };
       evolves = kept.evolves;
-      leaves = λ other taken apart. (record { node = updates.others other (λ e. apart (subst (λ (m : ℕ). Among m owned) (sym e) mine)); spot = refl; twins = λ one other here. ((λ h. h), (λ h. h)) }, apart);
+      leaves = λ other taken apart. (record { node = updates.others other (λ e. apart (subst (λ (m : ℕ). Among m owned) (sym e) mine)); spot = refl; twins = λ one other here. ((λ h. h), (λ h. h)); closing = λ i. i; retired = retired_same a.retired after.retired other retired }, apart);
       takes = λ other taken. elim (is_among other owned) [
         | inl i ↦ inl i
-        | inr out ↦ inr (taken_back a after w w other (record { node = updates.others other (λ e. out (subst (λ (m : ℕ). Among m owned) (sym e) mine)); spot = refl; twins = λ one other here. ((λ h. h), (λ h. h)) }) taken, out)
+        | inr out ↦ inr (taken_back a after w w other (record { node = updates.others other (λ e. out (subst (λ (m : ℕ). Among m owned) (sym e) mine)); spot = refl; twins = λ one other here. ((λ h. h), (λ h. h)); closing = λ i. i; retired = retired_same a.retired after.retired other retired }) taken, out)
       ];
       true = truth;
     }
@@ -146,13 +151,13 @@ root_spot prefix = spot (at_level 0) prefix 0 (on true)
 
 -- the world that knows the layer
 abbrev pub layered : World → ℕ → ℕ → List ℕ → World
-layered w head root prefix = record { twins = w.twins; chart = with_spot (with_spot w.chart root (root_spot prefix)) head (head_spot prefix) }
+layered w head root prefix = record { twins = w.twins; closing = w.closing; chart = with_spot (with_spot w.chart root (root_spot prefix)) head (head_spot prefix) }
 
 -- Once the link to the layer is made, the tree is an index in the world that knows the layer. The head and its root are unlocked, and the call
 -- owns the border alone.
 module _ (now : ℕ) (a : ArenaView) (w : World) (n head : ℕ) (root : NodeNo) (b root_b : BorderView) (prefix : List ℕ) (place : ℕ) (entry : Entry) (change : BorderView → BorderView)
     (named : border_at a.nodes n ≡ Some b) (stands : slice_get b.live place ≡ Some entry) (is_head : head_at a.nodes head ≡ Some (new_head root 0 false)) (is_root : border_at a.nodes root.0 ≡ Some root_b) (unlocked : root_b.version.locked ≡ false)
-    (apart_head : n ≢ head) (apart_root : n ≢ root.0) (head_unknown : w.chart head ≡ None) (root_unknown : w.chart root.0 ≡ None) (world : IsWorld a now w) where
+    (apart_head : n ≢ head) (apart_root : n ≢ root.0) (head_unknown : w.chart head ≡ None) (root_unknown : w.chart root.0 ≡ None) (world : IsWorld a now w) (may : MayChange a n b change named w) where
   abbrev below : List ℕ
   below = entry.slice ∷ prefix
 
@@ -181,26 +186,28 @@ module _ (now : ℕ) (a : ArenaView) (w : World) (n head : ℕ) (root : NodeNo) 
   root_now = others_named a n b change named root.0 (λ e. apart_root (sym e))
 
   -- an unlocked node that the chart knows is not taken
-  free : (number : ℕ) (node : Option Node) (place : Spot) → node_at new.nodes number ≡ node → (IsLocked node → ⊥) → next.chart number ≡ Some place → IsTaken new next number → ⊥
-  free number node place is unlocked known (inl locked) = unlocked (subst (λ (x : Option Node). IsLocked x) is locked)
-  free number node place is unlocked known (inr spare) = (let clash : ◌≡◌ {A = Option Spot} None (Some place) = sym spare.1 ∙ known in cc)
+  free : (number : ℕ) (node : Option Node) (place : Spot) → node_at new.nodes number ≡ node → (IsLocked node → ⊥) → (IsSomeAnd (option_and_then head_of node) (λ h. h.version.deleted ≡ true) → ⊥) → next.chart number ≡ Some place → IsTaken new next number → ⊥
+  free number node place is unlocked unmarked known (inl locked) = unlocked (subst (λ (x : Option Node). IsLocked x) is locked)
+  free number node place is unlocked unmarked known (inr (inr h)) = unmarked (subst (λ (o : Option HeadView). IsSomeAnd o (λ x. x.version.deleted ≡ true)) (ap (option_and_then head_of) is) h.marked)
+  free number node place is unlocked unmarked known (inr (inl spare)) = (let clash : ◌≡◌ {A = Option Spot} None (Some place) = sym spare.1 ∙ known in cc)
 
   head_free : IsTaken new next head → ⊥
-  head_free = free head _ (head_spot below) (head_now ∙ node-from_head a.nodes head (new_head root 0 false) is_head) (λ locked. (let clash : false ≡ true = locked in cc)) head_placed
+  head_free = free head _ (head_spot below) (head_now ∙ node-from_head a.nodes head (new_head root 0 false) is_head) (λ locked. (let clash : false ≡ true = locked in cc)) (λ marked. (let clash : false ≡ true = marked in cc)) head_placed
 
   root_free : IsTaken new next root.0 → ⊥
-  root_free = free root.0 _ (root_spot below) (root_now ∙ node-from_border a.nodes root.0 root_b is_root) (λ locked. (let clash : false ≡ true = sym unlocked ∙ locked in cc)) root_placed
+  root_free = free root.0 _ (root_spot below) (root_now ∙ node-from_border a.nodes root.0 root_b is_root) (λ locked. (let clash : false ≡ true = sym unlocked ∙ locked in cc)) (λ marked. marked) root_placed
 
-  heads_layered : HeadsAreAlive new next.chart
+  heads_layered : HeadsStand new next.closing next.chart
   heads_layered = record {
     alive = λ number other h standing is. elim (same_number number head) [
       | inl e ↦ (let both : ◌≡◌ {A = Option HeadView} (Some (new_head root 0 false)) (Some h) = sym is_head ∙ (sym (ap (option_and_then head_of) head_now) ∙ (ap (λ (m : ℕ). head_at new.nodes m) (sym e) ∙ is)) in
-          let same : new_head root 0 false ≡ h = cc in (ap (λ (x : HeadView). x.version.deleted) (sym same), ap (λ (x : HeadView). x.version.locked) (sym same)))
+          let same : new_head root 0 false ≡ h = cc in (inl (ap (λ (x : HeadView). x.version.deleted) (sym same)), ap (λ (x : HeadView). x.version.locked) (sym same)))
       | inr ne_head ↦ elim (same_number number root.0) [
         | inl e ↦ absurd (no_head (root_spot below) other (sym root_placed ∙ (ap next.chart (sym e) ∙ standing)))
-        | inr ne_root ↦ (heads_changed a n b change named w.chart world.heads).alive number other h (sym (others_placed number ne_head ne_root) ∙ standing) is
+        | inr ne_root ↦ (heads_changed a n b change named w.chart may.1 world.heads).alive number other h (sym (others_placed number ne_head ne_root) ∙ standing) is
       ]
     ];
+    roots = (heads_changed a n b change named w.chart may.1 world.heads).roots;
   }
     where
       no_head : (place : Spot) (other : List ℕ) → ◌≡◌ {A = Option Spot} (Some (root_spot below)) (Some (head_spot other)) → ⊥
@@ -212,13 +219,15 @@ module _ (now : ℕ) (a : ArenaView) (w : World) (n head : ℕ) (root : NodeNo) 
       (record { prefix = prefix; stands = on_in; head_unknown = head_unknown; root_unknown = root_unknown; head_charted = head_placed; root_charted = root_placed; others = others_placed }) in (
         record {
           next = next;
-          world = record { index = kept.index; keys = keys_same a new kept.content world.keys; heads = heads_layered; twins = twins_changed a n b change named w.chart next.chart w.twins (kept.evolves 0 (omega arith)) world.twins; retired = retired_kept a.retired w.chart next.chart (kept.evolves 0 (omega arith)) world.retired };
+          world = record { index = kept.index; keys = keys_same a new kept.content world.keys; heads = heads_layered; twins = twins_changed a n b change named w.chart next.chart w.twins (kept.evolves 0 (omega arith)) world.twins; retired = retired_kept a new now w.chart next.chart n (kept.evolves 0 (omega arith)) may.0 (others_named a n b change named) refl world.retired };
           evolves = kept.evolves;
           leaves = λ other taken apart. (
             record {
               node = others_named a n b change named other (λ e. apart (subst (λ (m : ℕ). Among m (head ∷ root.0 ∷ n ∷ [])) (sym e) (later (later first))));
               spot = others_placed other (λ e. apart (subst (λ (m : ℕ). Among m (head ∷ root.0 ∷ n ∷ [])) (sym e) first)) (λ e. apart (subst (λ (m : ℕ). Among m (head ∷ root.0 ∷ n ∷ [])) (sym e) (later first)));
               twins = λ one other here. ((λ h. h), (λ h. h));
+              closing = λ i. i;
+              retired = ((λ h. h), (λ h. h));
             },
             λ i. apart (later (later i)),
           );
@@ -229,7 +238,7 @@ module _ (now : ℕ) (a : ArenaView) (w : World) (n head : ℕ) (root : NodeNo) 
               | inr ne_head ↦ elim (same_number other root.0) [
                 | inl e ↦ absurd (root_free (subst (λ (m : ℕ). IsTaken new next m) e taken))
                 | inr ne_root ↦ inr (
-                  taken_back a new w next other (record { node = others_named a n b change named other ne; spot = others_placed other ne_head ne_root; twins = λ one other here. ((λ h. h), (λ h. h)) }) taken,
+                  taken_back a new w next other (record { node = others_named a n b change named other ne; spot = others_placed other ne_head ne_root; twins = λ one other here. ((λ h. h), (λ h. h)); closing = λ i. i; retired = ((λ h. h), (λ h. h)) }) taken,
                   λ i. none_of other ne ne_head ne_root i,
                 )
               ]

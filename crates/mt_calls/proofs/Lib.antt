@@ -4,5 +4,8 @@ pub mod FoundLemmas
 pub mod BorderLemmas
 pub mod SplitLemmas
 pub mod LayerLemmas
+pub mod NodeLemmas
+pub mod RetireLemmas
+pub mod CollectLemmas
 pub mod GetLemmas
 pub mod RangeLemmas

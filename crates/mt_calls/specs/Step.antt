@@ -5,9 +5,9 @@ use Rattle.mt_promise.specs.Legal.{is_get}
 use Rattle.mt_types.specs.declared.limits.TheConstants.{MAX_NODES, MAX_KEY_BYTES}
 use Rattle.mt_types.specs.declared.row.Row.{Row}
 use Rattle.mt_types.specs.declared.event.Answer.{Answer}
-use Rattle.mt_types.specs.declared.event.Answer.TheVariants.{Absent, Found, Stored, Removed, Rows}
+use Rattle.mt_types.specs.declared.event.Answer.TheVariants.{Absent, Found, Stored, Removed, Rows, Tidied}
 use Rattle.mt_types.specs.declared.event.Request.{Request}
-use Rattle.mt_types.specs.declared.event.Request.TheVariants.{Get as GetRequest, Put as PutRequest, Remove as RemoveRequest, Range as RangeRequest}
+use Rattle.mt_types.specs.declared.event.Request.TheVariants.{Get as GetRequest, Put as PutRequest, Remove as RemoveRequest, Range as RangeRequest, Tidy as TidyRequest}
 use Rattle.mt_types.specs.declared.refusal.Refusal.{Refusal}
 use Rattle.mt_types.specs.declared.refusal.Refusal.TheVariants.{NoMemory, ArenaFull, FeedFull, Spent}
 use Rattle.mt_slice.specs.Place.{Place, AreBytes, place_of}
@@ -99,6 +99,7 @@ IsRight past a (PutRequest key sets) committed (Stored number) = committed ≡ S
 IsRight past a (RemoveRequest key) committed (Removed number) = committed ≡ Some number
 IsRight past a (RemoveRequest key) committed Absent = (committed ≡ None) × AreBytes key × RowIs a key None
 IsRight past a (RangeRequest start limit asked) committed (Rows pairs) = IsRangeOf (arena_seen a ∷ past) start asked limit pairs
+IsRight past a (TidyRequest key) committed (Tidied rule) = committed ≡ None
 IsRight past a _ committed _ = ⊥
 
 -- the call may end with this refusal
@@ -161,6 +162,10 @@ pub record Stepped (C now moves : ℕ) (past : List Arena) (a after : ArenaView)
 pub record StepLaw (C : ℕ) (a after : ArenaView) (log left : LogView) (request : Request) (held : Held) (p : Progress) (then : Held) (True Then : Truth) : Type 0 where
   pub steps : (now begun moves : ℕ) (past : List Arena) (w : World) → IsWorld a now w → begun ≤ now → True begun moves past a w → Stepped C now moves past a after log left w request held p then (λ m next. Then begun m (arena_seen a ∷ past) after next)
 
+-- the same in one epoch, of a kind of call whose step is told the present one
+pub record StepLawIn (now C : ℕ) (a after : ArenaView) (log left : LogView) (request : Request) (held : Held) (p : Progress) (then : Held) (True Then : Truth) : Type 0 where
+  pub steps : (begun moves : ℕ) (past : List Arena) (w : World) → IsWorld a now w → begun ≤ now → True begun moves past a w → Stepped C now moves past a after log left w request held p then (λ m next. Then begun m (arena_seen a ∷ past) after next)
+
 -- what a step asks: there is a world in which the call's record is true, and the log has the room that the call has reserved
 pub record MayStep (a : ArenaView) (log : LogView) (held : Held) (True : Truth) : Type 0 where
   pub now : ℕ
@@ -171,3 +176,12 @@ pub record MayStep (a : ArenaView) (log : LogView) (held : Held) (True : Truth) 
   pub world : IsWorld a now w
   pub true : True begun moves past a w
   pub room : held.reserves ≤ log.reserved
+
+-- the same in one epoch, of a kind of call that reads and writes no log
+pub record MayStepIn (now : ℕ) (a : ArenaView) (True : Truth) : Type 0 where
+  pub begun : ℕ
+  pub moves : ℕ
+  pub past : List Arena
+  pub w : World
+  pub world : IsWorld a now w
+  pub true : True begun moves past a w

@@ -5,6 +5,8 @@ use Rattle.mt_arena.specs.Arena.{ArenaView}
 use Rattle.mt_chart.specs.Chart.{Holds, top}
 use Rattle.mt_chart.specs.Walk.{Known, Moves}
 use Rattle.mt_tree.specs.Seen.{arena_seen}
+use Rattle.mt_tree.specs.declared.visit.Visit.{Visit}
+use Rattle.mt_tree.specs.declared.visit.Visit.TheVariants.{Again as VisitAgain, To as VisitTo, Below, Here as VisitHere}
 use Rattle.mt_tree.specs.Descent.{IsHere, IsLast, MayVisit, found_for}
 use Rattle.mt_calls.specs.declared.way.Way.{Way}
 use Rattle.mt_calls.specs.declared.way.Went.{Went}
@@ -48,6 +50,13 @@ abbrev pub GoesTo : ArenaView → ℕ → List ℕ → Way → World → Went �
 GoesTo a begun key way w Again = Unit {0}
 GoesTo a begun key way w (To next) = IsOnWay begun key next w × Moves (arena_seen a) way.node.0 next.node.0 × LeadsToHead begun key w way next
 GoesTo a begun key way w Here = IsAtPlace a key way w
+
+-- what a visit comes to, on the way
+abbrev pub went_by : Way → Visit → Went
+went_by way VisitAgain = Again
+went_by way (VisitTo next) = To (record { node = next; layer = way.layer })
+went_by way (Below below) = To (record { node = below; layer = way.layer + 1 })
+went_by way VisitHere = Here
 
 -- what a call must know before it visits the node where it stands
 pub record MayGo (a : ArenaView) (key : List ℕ) (way : Way) : Type 0 where

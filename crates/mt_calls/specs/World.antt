@@ -1,5 +1,5 @@
 -- What the proofs know of the tree between two steps, and what a step of one call leaves of it to the others.
-use Rattle.std.specs.Prelude.{ℕ, ◌≡◌, ◌≤◌, ◌⊎◌, ◌↔◌, List, length, Option, Some, None, IsSome, IsSomeAnd, All, Bool, true, false}
+use Rattle.std.specs.Prelude.{ℕ, suc, ◌≡◌, ◌≢◌, ◌≤◌, ◌⊎◌, ◌↔◌, List, length, Option, Some, None, IsSome, IsSomeAnd, All, Bool, true, false}
 use Rattle.mt_types.specs.declared.limits.TheConstants.{MAX_KEY_BYTES}
 use Rattle.mt_types.specs.declared.row.Row.{Row}
 use Rattle.mt_slice.specs.Place.{Place, AreBytes, place_of}
@@ -11,14 +11,16 @@ use Rattle.mt_arena.specs.declared.retired.Retired.{Retired}
 use Rattle.mt_arena.specs.declared.node.Node.{Node}
 use Rattle.mt_arena.specs.declared.node.Node.TheVariants.{Head, Interior, Border}
 use Rattle.mt_chart.specs.Tree.{Among, Has}
-use Rattle.mt_chart.specs.Chart.{Role, gone, spot, Chart, OnHead, Evolves}
+use Rattle.mt_chart.specs.Chart.{Role, at_level, gone, spot, Chart, OnHead, Evolves}
 use Rattle.mt_chart.specs.Steps.{Twin, AreTwins}
 use Rattle.mt_tree.specs.Seen.{arena_seen}
 use Rattle.mt_tree.specs.Keeping.{IsIndexAt}
 
--- what the proofs know beside the arena: where each node stands, and which interiors are being split
+-- what the proofs know beside the arena: where each node stands, which interiors are being split, and which borders are the roots of layers
+-- that are being taken out
 pub record World : Type 0 where
   pub twins : List Twin
+  pub closing : List ℕ
   pub chart : Chart
 
 -- the place is that of a key, of bytes and not too long
@@ -32,9 +34,15 @@ pub record IsKeyPlace (place : Place) : Type 0 where
 pub record RowsAreOfKeys (a : ArenaView) : Type 0 where
   pub key_of : (place : Place) (row : Row) → Has (arena_seen a) place row → IsKeyPlace place
 
--- no head of the tree is marked deleted or locked
-pub record HeadsAreAlive (a : ArenaView) (chart : Chart) : Type 0 where
-  pub alive : (number : ℕ) (prefix : List ℕ) (head : HeadView) → OnHead chart number prefix → head_at a.nodes number ≡ Some head → (head.version.deleted ≡ false) × (head.version.locked ≡ false)
+-- the number names a border that is locked
+abbrev pub IsLockedRoot : ArenaView → ℕ → Type 0
+IsLockedRoot a number = IsSomeAnd (border_at a.nodes number) (λ b. b.version.locked ≡ true)
+
+-- No head of the tree is locked. One that is marked deleted is the head of a layer that is being taken out: its root is among the closing
+-- borders, each of which is locked.
+pub record HeadsStand (a : ArenaView) (closing : List ℕ) (chart : Chart) : Type 0 where
+  pub alive : (number : ℕ) (prefix : List ℕ) (head : HeadView) → OnHead chart number prefix → head_at a.nodes number ≡ Some head → ((head.version.deleted ≡ false) ⊎ Among head.root.0 closing) × (head.version.locked ≡ false)
+  pub roots : (number : ℕ) → Among number closing → IsLockedRoot a number
 
 -- the number names an interior of the tree, which is locked
 pub record IsLockedInterior (a : ArenaView) (chart : Chart) (number : ℕ) : Type 0 where
@@ -44,26 +52,6 @@ pub record IsLockedInterior (a : ArenaView) (chart : Chart) (number : ℕ) : Typ
 -- the two halves of each interior that is being split are locked
 pub record TwinsAreLocked (a : ArenaView) (chart : Chart) (twins : List Twin) : Type 0 where
   pub locked : (one other : ℕ) → AreTwins twins one other → IsLockedInterior a chart one × IsLockedInterior a chart other
-
--- the number is gone
-pub record IsGone (chart : Chart) (number : ℕ) : Type 0 where
-  pub role : Role
-  pub prefix : List ℕ
-  pub low : ℕ
-  pub epoch : ℕ
-  pub place : chart number ≡ Some (spot role prefix low (gone epoch))
-
--- what is retired is gone
-pub record RetiredAreGone (retired : List Retired) (chart : Chart) : Type 0 where
-  pub each : All (λ node. IsGone chart node.node.0) retired
-
--- the tree is an index in an epoch, in this world
-pub record IsWorld (a : ArenaView) (now : ℕ) (w : World) : Type 0 where
-  pub index : IsIndexAt a now w.twins w.chart
-  pub keys : RowsAreOfKeys a
-  pub heads : HeadsAreAlive a w.chart
-  pub twins : TwinsAreLocked a w.chart w.twins
-  pub retired : RetiredAreGone a.retired w.chart
 
 -- the node is locked
 abbrev pub is_locked : Node → Bool
@@ -75,30 +63,69 @@ abbrev pub IsLocked : Option Node → Type 0
 IsLocked None = ⊥
 IsLocked (Some node) = is_locked node ≡ true
 
--- a number is taken: it names a locked node, or a spare, which the chart doesn't know
+-- a retired node is gone, since an epoch that is not after that of its retiring, which is not to come; and it is not locked
+pub record IsGone (a : ArenaView) (now : ℕ) (chart : Chart) (node : Retired) : Type 0 where
+  pub role : Role
+  pub prefix : List ℕ
+  pub low : ℕ
+  pub epoch : ℕ
+  pub place : chart node.node.0 ≡ Some (spot role prefix low (gone epoch))
+  pub before : epoch ≤ node.epoch
+  pub dated : node.epoch ≤ now
+  pub unlocked : IsLocked (node_at a.nodes node.node.0) → ⊥
+
+-- what is retired is gone
+pub record RetiredAreGone (a : ArenaView) (now : ℕ) (chart : Chart) : Type 0 where
+  pub each : All (IsGone a now chart) a.retired
+
+-- the tree is an index in an epoch, in this world
+pub record IsWorld (a : ArenaView) (now : ℕ) (w : World) : Type 0 where
+  pub index : IsIndexAt a now w.twins w.chart
+  pub keys : RowsAreOfKeys a
+  pub heads : HeadsStand a w.closing w.chart
+  pub twins : TwinsAreLocked a w.chart w.twins
+  pub retired : RetiredAreGone a now w.chart
+
+-- the number is not retired
+abbrev pub NotRetired : List Retired → ℕ → Type 0
+NotRetired retired number = All (λ node. node.node.0 ≢ number) retired
+
+-- the number names a head that is marked deleted, and that is not retired yet
+pub record IsMarkedHead (a : ArenaView) (number : ℕ) : Type 0 where
+  pub marked : IsSomeAnd (head_at a.nodes number) (λ head. head.version.deleted ≡ true)
+  pub kept : NotRetired a.retired number
+
+-- a number is taken: it names a locked node; or a spare, which the chart doesn't know; or a head that is marked deleted and is not retired
 abbrev pub IsTaken : ArenaView → World → ℕ → Type 0
-IsTaken a w number = IsLocked (node_at a.nodes number) ⊎ (IsSome (node_at a.nodes number) × (w.chart number ≡ None))
+IsTaken a w number = IsLocked (node_at a.nodes number) ⊎ ((IsSome (node_at a.nodes number) × (w.chart number ≡ None)) ⊎ IsMarkedHead a number)
 
 -- the number has the same twins
 abbrev pub HasSameTwins : List Twin → List Twin → ℕ → Type 0
 HasSameTwins twins then number = (one other : ℕ) → (one ≡ number) ⊎ (other ≡ number) → AreTwins then one other ↔ AreTwins twins one other
 
--- the number names the same node, which stands where it stood and has the twins that it had
+-- the number names the same node, which stands where it stood, has the twins that it had, and is closing or retired only if it was
 pub record IsSame (a after : ArenaView) (w next : World) (number : ℕ) : Type 0 where
   pub node : node_at after.nodes number ≡ node_at a.nodes number
   pub spot : next.chart number ≡ w.chart number
   pub twins : HasSameTwins w.twins next.twins number
+  pub closing : Among number next.closing → Among number w.closing
+  pub retired : NotRetired after.retired number ↔ NotRetired a.retired number
 
--- the number is a border of the tree, and is locked
+-- not one of these numbers
+abbrev pub NotAmong : ℕ → List ℕ → Type 0
+NotAmong number numbers = Among number numbers → ⊥
+
+-- the number is a border of the tree, and is locked, and not by a call that takes its layer out
 pub record IsLockedBorder (a : ArenaView) (w : World) (number : ℕ) : Type 0 where
   pub b : BorderView
   pub named : border_at a.nodes number ≡ Some b
   pub known : IsSome (w.chart number)
   pub locked : b.version.locked ≡ true
+  pub free : NotAmong number w.closing
 
--- not one of these numbers
-abbrev pub NotAmong : ℕ → List ℕ → Type 0
-NotAmong number numbers = Among number numbers → ⊥
+-- each interior among these numbers that is gone went in this epoch or later
+abbrev pub GoneSince : ℕ → World → List ℕ → Type 0
+GoneSince begun w numbers = (number : ℕ) → Among number numbers → (below : ℕ) (prefix : List ℕ) (low epoch : ℕ) → w.chart number ≡ Some (spot (at_level (suc below)) prefix low (gone epoch)) → begun ≤ epoch
 
 -- what a step of one call leaves, which owned these numbers and then owns those: there is a next world in which the tree is an index;
 -- all that calls rely on stays; each number that is taken by another call is as it was, and is not this call's; and what is then to be true

@@ -53,12 +53,13 @@ use Rattle.mt_calls.specs.declared.progress.Progress.TheVariants.{Moved, Waits, 
 use Rattle.std.proofs.lemmas.List.Elements.{All-nil}
 use Rattle.mt_arena.specs.declared.retired.Retired.{Retired}
 use Rattle.mt_arena.specs.declared.node.Node.{Node}
+use Rattle.std.specs.Prelude.{IsSomeAnd, All, ◌⊎◌}
 use Rattle.std.specs.Option.{option_and_then}
 use Rattle.mt_arena.specs.Node.{node_at, head_at, head_of}
 use Rattle.mt_arena.proofs.NodeLemmas.{node-from_head, node-from_border}
 use Rattle.mt_chart.proofs.Basics.{same_number}
 use Rattle.mt_tree.specs.NewTree.{IsNewTree}
-use Rattle.mt_calls.specs.World.{IsLocked, IsTaken, World, IsWorld, RowsAreOfKeys, HeadsAreAlive, TwinsAreLocked, IsGone, RetiredAreGone, Goes}
+use Rattle.mt_calls.specs.World.{IsLocked, IsTaken, World, IsWorld, RowsAreOfKeys, HeadsStand, TwinsAreLocked, IsGone, RetiredAreGone, Goes}
 use Rattle.mt_calls.specs.Step.{Held, IsQuiet, IsRight, Stepped, Commits, bounds, put_row}
 use Rattle.mt_chart.specs.Tree.{Arena}
 use Rattle.mt_types.specs.declared.row.Change.TheVariants.{Put as PutChange, Drop}
@@ -638,23 +639,24 @@ pub new_twins : (a : ArenaView) (chart : Chart) → TwinsAreLocked a chart []
 new_twins a chart = record { locked = λ one other pair. elim pair [ ] }
 
 -- nothing is retired
-pub new_retired : (a : ArenaView) → IsNewTree a → (chart : Chart) → RetiredAreGone a.retired chart
-new_retired a new chart = subst (λ (r : List Retired). RetiredAreGone r chart) (sym new.retired) (record { each = All-nil (λ (node : Retired). IsGone chart node.node.0) })
+pub new_retired : (a : ArenaView) → IsNewTree a → (now : ℕ) (chart : Chart) → RetiredAreGone a now chart
+new_retired a new now chart = record { each = subst (λ (r : List Retired). All (IsGone a now chart) r) (sym new.retired) (All-nil (IsGone a now chart)) }
 
--- and its only head is not marked deleted or locked
-pub new_heads : (a : ArenaView) → IsNewTree a → (chart : Chart) → HeadsAreAlive a chart
+-- its only head is not marked deleted or locked, and nothing is closing
+pub new_heads : (a : ArenaView) → IsNewTree a → (chart : Chart) → HeadsStand a [] chart
 new_heads a new chart = record {
   alive = λ number prefix head place is. elim (same_number number 0) [
     | inl e ↦ (let both : ◌≡◌ {A = Option HeadView} (Some (new_head new.root 0 false)) (Some head) = sym new.top ∙ (ap (λ (m : ℕ). head_at a.nodes m) (sym e) ∙ is) in
-        let same : new_head new.root 0 false ≡ head = cc in (ap (λ (h : HeadView). h.version.deleted) (sym same), ap (λ (h : HeadView). h.version.locked) (sym same)))
+        let same : new_head new.root 0 false ≡ head = cc in (inl (ap (λ (h : HeadView). h.version.deleted) (sym same)), ap (λ (h : HeadView). h.version.locked) (sym same)))
     | inr apart ↦ elim (same_number number new.root.0) [
       | inl e ↦ no_head (sym (ap (option_and_then head_of) (ap (λ (m : ℕ). node_at a.nodes m) e ∙ node-from_border a.nodes new.root.0 _ new.below)) ∙ is)
       | inr other ↦ no_head (sym (ap (option_and_then head_of) (new.rest number apart other)) ∙ is)
     ]
   ];
+  roots = λ number i. elim i [ ];
 }
   where
-    no_head : {head : HeadView} → ◌≡◌ {A = Option HeadView} None (Some head) → (head.version.deleted ≡ false) × (head.version.locked ≡ false)
+    no_head : {head : HeadView} → ◌≡◌ {A = Option HeadView} None (Some head) → ((head.version.deleted ≡ false) ⊎ Among head.root.0 []) × (head.version.locked ≡ false)
     no_head e = absurd (cc)
 
 -- and nothing in it is locked
@@ -667,10 +669,21 @@ new_unlocked a new number locked = elim (same_number number 0) [
   ]
 ]
 
+-- nor is a head marked deleted
+new_unmarked : (a : ArenaView) → IsNewTree a → (number : ℕ) → IsSomeAnd (head_at a.nodes number) (λ h. h.version.deleted ≡ true) → ⊥
+new_unmarked a new number marked = elim (same_number number 0) [
+  | inl e ↦ (let here : false ≡ true = subst (λ (o : Option HeadView). IsSomeAnd o (λ h. h.version.deleted ≡ true)) (ap (λ (m : ℕ). head_at a.nodes m) e ∙ new.top) marked in cc)
+  | inr apart ↦ elim (same_number number new.root.0) [
+    | inl e ↦ subst (λ (o : Option HeadView). IsSomeAnd o (λ h. h.version.deleted ≡ true)) (ap (option_and_then head_of) (ap (λ (m : ℕ). node_at a.nodes m) e ∙ node-from_border a.nodes new.root.0 _ new.below)) marked
+    | inr other ↦ subst (λ (o : Option HeadView). IsSomeAnd o (λ h. h.version.deleted ≡ true)) (ap (option_and_then head_of) (new.rest number apart other)) marked
+  ]
+]
+
 -- and nothing in it is a spare
 pub new_untaken : (a : ArenaView) (new : IsNewTree a) (now : ℕ) (w : World) → IsWorld a now w → (number : ℕ) → IsTaken a w number → ⊥
 new_untaken a new now w world number (inl locked) = new_unlocked a new number locked
-new_untaken a new now w world number (inr spare) = elim (same_number number 0) [
+new_untaken a new now w world number (inr (inr marked)) = new_unmarked a new number marked.marked
+new_untaken a new now w world number (inr (inl spare)) = elim (same_number number 0) [
   | inl e ↦ known w.chart number _ (ap w.chart e ∙ world.index.tree.layer_0) spare.1
   | inr apart ↦ elim (same_number number new.root.0) [
     | inl e ↦ (let at = world.index.tree.heads 0 [] 0 true world.index.tree.layer_0 in

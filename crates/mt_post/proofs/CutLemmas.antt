@@ -20,7 +20,7 @@ use Rattle.mt_tree.specs.InteriorSteps.{IsNotGone, CutsAt}
 use Rattle.mt_tree.proofs.SeenLemmas.{seen-interior}
 use Rattle.mt_tree.proofs.InteriorPlaces.{is_on_as}
 use Rattle.mt_calls.specs.World.{World, IsWorld, IsTaken, HasSameTwins, Goes}
-use Rattle.mt_calls.proofs.BorderLemmas.{keys_same, interior_kept}
+use Rattle.mt_calls.proofs.BorderLemmas.{keys_same, interior_kept, retired_kept, on_kept}
 use Rattle.mt_calls.proofs.FoundLemmas.{some_at}
 use Rattle.mt_post.specs.declared.posting.Posting.{Posting}
 use Rattle.mt_post.specs.declared.posting.Progressed.TheVariants.{Moved}
@@ -28,8 +28,8 @@ use Rattle.mt_post.specs.declared.split.Split.{Split}
 use Rattle.mt_post.specs.declared.posting.PostStage.TheVariants.{HalfPosted, HalfCut}
 use Rattle.mt_post.specs.Posting.{goal_level, split_owns, AreWaiting, IsToPost, IsHeadOf, IsPostedHalf, PostingIsTrue, MayPost}
 use Rattle.mt_post.specs.Follows.{PostStep}
-use Rattle.mt_post.proofs.StepLemmas.{goes_with, heads_beside, interior_now, interior_others, interior_no_head, interior_taken, not_both}
-use Rattle.mt_post.proofs.WalkLemmas.{at_stage, true_at, known_some}
+use Rattle.mt_calls.proofs.NodeLemmas.{goes_with, heads_beside, interior_now, interior_others, interior_no_head, interior_no_border, interior_taken, not_both, known_some}
+use Rattle.mt_post.proofs.WalkLemmas.{at_stage, true_at}
 use Rattle.mt_post.proofs.KeptLemmas.{all_stay, owns_below}
 
 -- ---- the twins but for those of a number
@@ -180,30 +180,30 @@ module _ (a : ArenaView) (posting : Posting) (split : Split) (is : posting.stage
           | inr not_other ↦ inr (without_in i w.twins one other not_one not_other pair)
         ]
       ]) in
-      let stay = all_stay a new w (record { twins = fewer; chart = w.chart }) prefix half posting.low posting.waiting (λ number k.
+      let stay = all_stay a new w (record { twins = fewer; closing = w.closing; chart = w.chart }) prefix half posting.low posting.waiting (λ number k.
       let not_half = owns_below a w prefix half posting.low m p.half posting.waiting t all p.half_named (subst (λ (l : ℕ). goal_level posting.waiting < l) (sym p.half_level) above) number k in
       let not_split = owns_below a w prefix half posting.low i x posting.waiting t all p.named (subst (λ (l : ℕ). goal_level posting.waiting < l) (sym p.level) above) number k in
-      record { node = others number not_split; spot = refl; twins = same_twins w prefix p number not_half not_split }) t all in
+      record { node = others number not_split; spot = refl; twins = same_twins w prefix p number not_half not_split; closing = λ j. j; retired = ((λ e. e), (λ e. e)) }) t all in
       let content : SameContent (arena_seen a) (arena_seen new) = λ key row. ((λ h. (kept.content key row).0 ((again.content key row).0 h)), (λ h. (again.content key row).1 ((kept.content key row).1 h))) in (
-        goes_with now a new w (record { twins = fewer; chart = w.chart }) i owns (m ∷ rest) (λ next. PostingIsTrue begun then new next) (record {
+        goes_with now a new w (record { twins = fewer; closing = w.closing; chart = w.chart }) i owns (m ∷ rest) (λ next. PostingIsTrue begun then new next) (record {
           index = index;
           keys = keys_same a new content world.keys;
-          heads = heads_beside a new w.chart w.chart i (λ number q h. h) (interior_no_head middle i (cut_one x) unlock there) others world.heads;
+          heads = heads_beside a new w.chart w.chart i (λ number q h. h) (interior_no_head middle i (cut_one x) unlock there) (interior_no_border a i x cut_one p.named) others world.heads;
           twins = record {
             locked = λ one other pair.
                 let (old, not_one, not_other) = without_out i w.twins one other pair in
                 let both = world.twins.locked one other old in
                 (interior_kept a new w.chart w.chart one (evolves_same 0 w.chart) (others one not_one) both.0, interior_kept a new w.chart w.chart other (evolves_same 0 w.chart) (others other not_other) both.1);
           };
-          retired = world.retired;
-        }) (λ b le. evolves_same b w.chart) others (λ other apart. refl)
+          retired = retired_kept a new now w.chart w.chart i (evolves_same 0 w.chart) (on_kept a now w.chart i _ _ _ _ p.stands.place world.retired) others refl world.retired;
+        }) refl refl (λ b le. evolves_same b w.chart) others (λ other apart. refl)
             (λ other apart. same_twins w prefix p other (λ e. apart (subst (λ (v : ℕ). Among v owns) (sym e) first)) (λ e. apart (subst (λ (v : ℕ). Among v owns) (sym e) (later first))))
             (λ taken apart. absurd (apart (later first)))
             (λ other taken out k. elim (among_cases other m rest k) [ inl e ↦ out (subst (λ (v : ℕ). Among v owns) (sym e) first) | inr j ↦ out (later (later j)) ])
             (λ other k taken. elim (among_cases other m (i ∷ rest) k) [
               | inl e ↦ subst (λ (v : ℕ). Among v (m ∷ rest)) (sym e) first
               | inr j ↦ elim (among_cases other i rest j) [
-                | inl e ↦ absurd (not_both (unlock (cut_one x)).version.locked (w.chart i) refl (known_some w i _ p.stands.place) (interior_taken middle i (cut_one x) unlock there (record { twins = fewer; chart = w.chart }) (subst (λ (v : ℕ). IsTaken new (record { twins = fewer; chart = w.chart }) v) e taken)))
+                | inl e ↦ absurd (not_both (unlock (cut_one x)).version.locked (w.chart i) refl (known_some w i _ p.stands.place) (interior_taken middle i (cut_one x) unlock there (record { twins = fewer; closing = w.closing; chart = w.chart }) (subst (λ (v : ℕ). IsTaken new (record { twins = fewer; closing = w.closing; chart = w.chart }) v) e taken)))
                 | inr l ↦ later l
               ]
             ])

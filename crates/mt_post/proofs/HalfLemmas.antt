@@ -11,7 +11,7 @@ use Rattle.mt_interior.specs.Interior.{InteriorView, IsInterior, StartsAt, with_
 use Rattle.mt_interior.specs.declared.child.Child.{Child}
 use Rattle.mt_interior.specs.declared.interior.TheConstants.{MAX_CHILDREN, KEPT_CHILDREN}
 use Rattle.mt_post.specs.declared.waiting.TheConstants.{MAX_WAITING}
-use Rattle.mt_arena.specs.Node.{node_at, interior_at, interior_of, Updates}
+use Rattle.mt_arena.specs.Node.{node_at, interior_at, interior_of, Updates, border_at, border_of}
 use Rattle.mt_arena.specs.Arena.{ArenaView, with_interior_changed, without_node}
 use Rattle.mt_arena.specs.declared.node.Node.{Node}
 use Rattle.mt_arena.specs.declared.node.Node.TheVariants.{Interior}
@@ -35,8 +35,9 @@ use Rattle.mt_post.specs.Causes.{IsFullAt}
 use Rattle.mt_post.specs.Posting.{goal, goal_level, split_owns, AreWaiting, IsToPost, IsHeadOf, IsWalking, IsSpareInterior, IsSplitting, IsHalved, StartsUpper, empty_half, upper_half, IsLetGo, PostingIsTrue, MayPost}
 use Rattle.mt_post.specs.Follows.{FollowsInterior, PostStep}
 use Rattle.mt_calls.specs.World.{IsLockedBorder}
-use Rattle.mt_post.proofs.StepLemmas.{goes_at, goes_kept, twins_lone, heads_beside, interior_now, interior_others, interior_no_head, interior_taken, interior_is_taken, not_both}
-use Rattle.mt_post.proofs.WalkLemmas.{at_stage, true_at, known_some, still_locked, from_head, goes_on, in_layer, is_above}
+use Rattle.mt_calls.proofs.BorderLemmas.{unknown_kept, on_kept}
+use Rattle.mt_calls.proofs.NodeLemmas.{goes_at, goes_kept, twins_lone, heads_beside, interior_now, interior_others, interior_no_head, interior_no_border, interior_taken, interior_is_taken, not_both, known_some}
+use Rattle.mt_post.proofs.WalkLemmas.{at_stage, true_at, still_locked, from_head, goes_on, in_layer, is_above}
 use Rattle.mt_post.proofs.KeptLemmas.{all_stay, same_beside, splitting_stays, apart_known, owns_below, owns_beside, goal_has_level, few_wait}
 use Rattle.mt_post.proofs.RootLemmas.{not_retired, gives_number, vacant_free}
 
@@ -71,9 +72,9 @@ module _ (a : ArenaView) (posting : Posting) (node : NodeNo) (is : posting.stage
       let is_known = known_some w n _ stands.place in
       let clash_locked : IsLockedInterior a w.chart n → ⊥ = λ locked. (let clash : false ≡ true = sym f.unlocked ∙ some_at _ (interior_at a.nodes n) i locked.locked f.named in cc) in
       let free : IsTaken a w n → ⊥ = λ taken. not_both i.version.locked (w.chart n) f.unlocked is_known (interior_is_taken a n i w f.named taken) in
-      let stay = all_stay a locked_one w w prefix half posting.low posting.waiting (λ number k. same_beside a locked_one w n others number (owns_beside a w prefix half posting.low n posting.waiting t all free number k)) t all in
-      goes_at now a locked_one w w.chart n rest (n ∷ rest) _ world kept refl others (λ other apart. refl)
-      (heads_beside a locked_one w.chart w.chart n (λ number p h. h) (interior_no_head a n i lock f.named) others world.heads)
+      let stay = all_stay a locked_one w w prefix half posting.low posting.waiting (λ number k. same_beside a locked_one w refl n others number (owns_beside a w prefix half posting.low n posting.waiting t all free number k)) t all in
+      goes_at now a locked_one w w.chart n rest (n ∷ rest) _ world kept refl (on_kept a now w.chart n _ _ _ _ stands.place world.retired) others (λ other apart. refl)
+      (heads_beside a locked_one w.chart w.chart n (λ number p h. h) (interior_no_head a n i lock f.named) (interior_no_border a n i lock f.named) others world.heads)
       clash_locked (λ taken apart. free taken)
       (λ other taken out k. elim (among_cases other n rest k) [ inl e ↦ free (subst (λ (m : ℕ). IsTaken a w m) e taken) | inr j ↦ out j ])
       (λ other k taken. later k) (λ apart taken. first) (
@@ -133,7 +134,7 @@ module _ (a : ArenaView) (posting : Posting) (interior : NodeNo) (is : posting.s
         let s = subst (λ (x : InteriorView). IsSplitting a w prefix interior.0 x) same_one was in
         let out = unknown.unknown now w.twins w.chart world.index in
         let free = vacant_free a w spare.0 vacant in
-        let same = same_beside a after w spare.0 updates.others in
+        let same = same_beside a after w retired spare.0 updates.others in
         let stay = all_stay a after w w prefix half posting.low posting.waiting (λ number k. same number (owns_beside a w prefix half posting.low spare.0 posting.waiting border all free number k)) border all in (
           goes_occupied now a after w spare.0 (Interior (empty_half i middle.low)) (interior.0 ∷ split_owns half posting.waiting) _ vacant updates retired unknown keeps world (
             prefix,
@@ -237,11 +238,11 @@ module _ (a : ArenaView) (posting : Posting) (interior spare : NodeNo) (is : pos
           let owns : List ℕ = m ∷ interior.0 ∷ split_owns half posting.waiting in
           let kept = (subst (λ (x : ArenaView). KeepsTree a x) value keeps).keeps now w.twins w.chart world.index in
           let others = interior_others a m (empty_half i middle.low) fill spared.named in
-          let same = same_beside a filled w m others in
+          let same = same_beside a filled w refl m others in
           let stay = all_stay a filled w w prefix half posting.low posting.waiting (λ number k. same number (owns_below a w prefix half posting.low m (empty_half i middle.low) posting.waiting border all spared.named above number k)) border all in
           subst (λ (x : ArenaView). Goes now a x w owns owns (λ next. PostingIsTrue begun then x next) × SameContent (arena_seen a) (arena_seen x)) (sym value)
-          (goes_at now a filled w w.chart m owns owns (λ next. PostingIsTrue begun then filled next) world kept refl others (λ other apart. refl)
-          (heads_beside a filled w.chart w.chart m (λ number p h. h) (interior_no_head a m (empty_half i middle.low) fill spared.named) others world.heads)
+          (goes_at now a filled w w.chart m owns owns (λ next. PostingIsTrue begun then filled next) world kept refl (unknown_kept a now w.chart m spared.unknown world.retired) others (λ other apart. refl)
+          (heads_beside a filled w.chart w.chart m (λ number p h. h) (interior_no_head a m (empty_half i middle.low) fill spared.named) (interior_no_border a m (empty_half i middle.low) fill spared.named) others world.heads)
           (λ locked. (let known_half = locked.known in let clash : false ≡ true = subst (λ (x : Option Spot). IsSome x) spared.unknown known_half in cc))
           (λ taken apart. absurd (apart first)) (λ other t out k. out k) (λ other k taken. k) (λ apart taken. absurd (apart first)) (
             prefix,
@@ -289,11 +290,11 @@ module _ (a : ArenaView) (posting : Posting) (left : Split) (is : posting.stage 
         let new : ArenaView = without_node a m in
         let updates : Updates a.nodes new.nodes m None = updates-without a.nodes m (half_named w prefix h) in
         let kept = (subst (λ (x : ArenaView). KeepsUnknown a x m) value keeps).keeps now w.twins w.chart world.index h.spare.unknown in
-        let same = same_beside a new w m updates.others in
+        let same = same_beside a new w refl m updates.others in
         let s = splitting_stays a new w w prefix left.interior.0 h.interior (same left.interior.0 (apart_known a w prefix left.interior.0 m _ h.splits.stands.place h.spare.unknown)) h.splits in
         let stay = all_stay a new w w prefix half posting.low posting.waiting (λ number k. same number (owns_below a w prefix half posting.low m _ posting.waiting border all h.spare.named above number k)) border all in
         subst (λ (x : ArenaView). Goes now a x w (m ∷ left.interior.0 ∷ rest) (left.interior.0 ∷ rest) (λ next. PostingIsTrue begun (record posting { stage = LetGo left.interior }) x next) × SameContent (arena_seen a) (arena_seen x)) (sym value)
-        (gives_number now a w m (left.interior.0 ∷ rest) (λ next. PostingIsTrue begun (record posting { stage = LetGo left.interior }) new next) world (half_named w prefix h) h.spare.unknown kept (
+        (gives_number now a w m (left.interior.0 ∷ rest) (λ next. PostingIsTrue begun (record posting { stage = LetGo left.interior }) new next) world (half_named w prefix h) (ap (option_and_then border_of) (node-from_interior a.nodes m _ h.spare.named)) h.spare.unknown kept (
           prefix,
           record {
             border = stay.0;
@@ -326,7 +327,7 @@ module _ (a : ArenaView) (posting : Posting) (n : ℕ) where
   pub rest_beside : (w : World) (prefix : List ℕ) (waiting : List Split) → IsLetGo a w prefix n (goal_level waiting) → IsToPost a w prefix posting.half.0 posting.low → AreWaiting a w prefix waiting
       → IsToPost unlocked w prefix posting.half.0 posting.low × AreWaiting unlocked w prefix waiting
   rest_beside w prefix waiting l t all =
-      all_stay a unlocked w w prefix posting.half.0 posting.low waiting (λ number k. same_beside a unlocked w n (interior_others a n l.interior unlock l.named) number (owns_below a w prefix posting.half.0 posting.low n l.interior waiting t all l.named l.above number k)) t all
+      all_stay a unlocked w w prefix posting.half.0 posting.low waiting (λ number k. same_beside a unlocked w refl n (interior_others a n l.interior unlock l.named) number (owns_below a w prefix posting.half.0 posting.low n l.interior waiting t all l.named l.above number k)) t all
 
   pub unlocks_lone : (now : ℕ) (after : ArenaView) (w : World) (prefix : List ℕ) (below : ℕ) (rest : List ℕ) (Then : ArenaView → World → Type 0) → IsWorld a now w → IsLetGo a w prefix n below → after ≡ unlocked → Keeps after → Then unlocked w
       → Goes now a after w (n ∷ rest) rest (Then after) × SameContent (arena_seen a) (arena_seen after)
@@ -337,8 +338,8 @@ module _ (a : ArenaView) (posting : Posting) (n : ℕ) where
       let others = interior_others a n i unlock l.named in
       let free : IsTaken unlocked w n → ⊥ = λ taken. not_both (unlock i).version.locked (w.chart n) refl (known_some w n _ l.stands.place) (interior_taken a n i unlock l.named w taken) in
       subst (λ (x : ArenaView). Goes now a x w (n ∷ rest) rest (Then x) × SameContent (arena_seen a) (arena_seen x)) (sym value)
-      (goes_kept now a unlocked w w.chart n (n ∷ rest) rest (Then unlocked) world kept refl others (λ other apart. refl)
-      (heads_beside a unlocked w.chart w.chart n (λ number p h. h) (interior_no_head a n i unlock l.named) others world.heads)
+      (goes_kept now a unlocked w w.chart n (n ∷ rest) rest (Then unlocked) world kept refl (on_kept a now w.chart n _ _ _ _ l.stands.place world.retired) others (λ other apart. refl)
+      (heads_beside a unlocked w.chart w.chart n (λ number p h. h) (interior_no_head a n i unlock l.named) (interior_no_border a n i unlock l.named) others world.heads)
       (twins_lone a unlocked w.chart w.chart w.twins n (evolves_same 0 w.chart) l.lone others world.twins)
       (λ taken apart. absurd (apart first)) (λ other t out k. out (later k))
       (λ other k taken. elim (among_cases other n rest k) [ inl e ↦ absurd (free (subst (λ (m : ℕ). IsTaken unlocked w m) e taken)) | inr j ↦ j ])

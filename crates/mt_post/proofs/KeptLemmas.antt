@@ -14,13 +14,14 @@ use Rattle.mt_chart.specs.Chart.{Spot}
 use Rattle.mt_chart.specs.Steps.{NoTwin}
 use Rattle.mt_tree.specs.InteriorSteps.{IsInLayer}
 use Rattle.mt_calls.specs.World.{World, IsLocked, IsTaken, IsSame}
+use Rattle.mt_calls.proofs.FrameLemmas.{retired_same}
 use Rattle.mt_post.specs.declared.split.Split.{Split}
 use Rattle.mt_post.specs.Posting.{IsToPost, IsSpareInterior, IsSplitting, IsHalved, AreWaiting, IsLetGo, IsPostedHalf, goal, goal_level, split_owns, upper_half}
 
 module _ (a after : ArenaView) (w next : World) (prefix : List ℕ) where
   -- the border that is to be posted stays so where its number does
   pub to_post_stays : (number low : ℕ) → IsSame a after w next number → IsToPost a w prefix number low → IsToPost after next prefix number low
-  to_post_stays number low same t = record { b = t.b; named = ap (option_and_then border_of) same.node ∙ t.named; low_is = t.low_is; locked = t.locked; place = same.spot ∙ t.place }
+  to_post_stays number low same t = record { b = t.b; named = ap (option_and_then border_of) same.node ∙ t.named; low_is = t.low_is; locked = t.locked; place = same.spot ∙ t.place; free = λ i. t.free (same.closing i) }
 
   -- a spare stays one
   pub spare_stays : (number : ℕ) (i : InteriorView) → IsSame a after w next number → IsSpareInterior a w number i → IsSpareInterior after next number i
@@ -143,7 +144,7 @@ module _ (a : ArenaView) (w : World) (prefix : List ℕ) where
 
   -- ---- what it owns is taken
   pub spare_taken : (root : ℕ) (i : InteriorView) → IsSpareInterior a w root i → IsTaken a w root
-  spare_taken root i spare = inr (subst (λ (x : Option Node). IsSome x) (sym (node-from_interior a.nodes root i spare.named)) refl, spare.unknown)
+  spare_taken root i spare = inr (inl (subst (λ (x : Option Node). IsSome x) (sym (node-from_interior a.nodes root i spare.named)) refl, spare.unknown))
 
   pub locked_taken : (number : ℕ) (i : InteriorView) → interior_at a.nodes number ≡ Some i → i.version.locked ≡ true → IsTaken a w number
   locked_taken number i named locked = inl (subst (λ (x : Option Node). IsLocked x) (sym (node-from_interior a.nodes number i named)) locked)
@@ -181,5 +182,5 @@ goal_has_level half low [] = refl
 goal_has_level half low (split ∷ waiting) = refl
 
 -- what is another number than the one that changes is the same, where places and twins stay
-pub same_beside : (a after : ArenaView) (w : World) (n : ℕ) → ((other : ℕ) → other ≢ n → node_at after.nodes other ≡ node_at a.nodes other) → (number : ℕ) → number ≢ n → IsSame a after w w number
-same_beside a after w n others number apart = record { node = others number apart; spot = refl; twins = λ one other here. ((λ h. h), (λ h. h)) }
+pub same_beside : (a after : ArenaView) (w : World) → after.retired ≡ a.retired → (n : ℕ) → ((other : ℕ) → other ≢ n → node_at after.nodes other ≡ node_at a.nodes other) → (number : ℕ) → number ≢ n → IsSame a after w w number
+same_beside a after w same n others number apart = record { node = others number apart; spot = refl; twins = λ one other here. ((λ h. h), (λ h. h)); closing = λ i. i; retired = retired_same a.retired after.retired number same }

@@ -1,4 +1,3 @@
-pub mod StepLemmas
 pub mod WalkLemmas
 pub mod KeptLemmas
 pub mod RootLemmas

@@ -6,7 +6,7 @@ use Rattle.mt_types.specs.declared.numbers.NodeNo.{NodeNo}
 use Rattle.mt_interior.specs.Head.{HeadView, with_root}
 use Rattle.mt_interior.specs.Interior.{InteriorView, StartsAt}
 use Rattle.mt_interior.specs.declared.interior.TheConstants.{KEPT_CHILDREN}
-use Rattle.mt_arena.specs.Node.{head_at, head_of, interior_at, interior_of, Updates}
+use Rattle.mt_arena.specs.Node.{head_at, head_of, interior_at, interior_of, Updates, border_at, border_of}
 use Rattle.mt_arena.specs.Arena.{ArenaView, IsArena, with_head_changed}
 use Rattle.mt_arena.specs.declared.node.Node.{Node}
 use Rattle.mt_arena.specs.declared.node.Node.TheVariants.{Head}
@@ -21,8 +21,8 @@ use Rattle.mt_tree.specs.Seen.{arena_seen}
 use Rattle.mt_tree.specs.HeadSteps.{IsRootOverHalf, KeepsRootOverHalf}
 use Rattle.mt_tree.proofs.SeenLemmas.{changed-head}
 use Rattle.mt_tree.proofs.RootLemmas.{root_of_split}
-use Rattle.mt_calls.specs.World.{World, IsWorld, HeadsAreAlive, IsTaken, Goes}
-use Rattle.mt_calls.proofs.BorderLemmas.{keys_same, known_stays, no_interior, twins_beside, retired_kept}
+use Rattle.mt_calls.specs.World.{World, IsWorld, HeadsStand, IsTaken, Goes}
+use Rattle.mt_calls.proofs.BorderLemmas.{keys_same, known_stays, no_interior, twins_beside, retired_kept, on_kept, no_root, roots_kept}
 use Rattle.mt_calls.proofs.FoundLemmas.{some_at}
 use Rattle.mt_calls.proofs.SplitLemmas.{with_spot, spot_changes}
 use Rattle.mt_post.specs.declared.posting.Posting.{Posting}
@@ -33,8 +33,8 @@ use Rattle.mt_post.specs.declared.posting.PostStage.TheVariants.{RootFilled, Hal
 use Rattle.mt_post.specs.Causes.{IsRootStill}
 use Rattle.mt_post.specs.Posting.{split_owns, AreWaiting, PostStageIsTrue, IsToPost, IsHeadOf, IsSpareInterior, IsHalved, upper_half, root_over, PostingIsTrue, MayPost}
 use Rattle.mt_post.specs.Follows.{PostStep}
-use Rattle.mt_post.proofs.StepLemmas.{at_chart, goes_with, interior_is_taken, head_is_taken, not_both}
-use Rattle.mt_post.proofs.WalkLemmas.{at_stage, true_at, known_some, from_head, root_place, heads_were}
+use Rattle.mt_calls.proofs.NodeLemmas.{at_chart, goes_with, interior_is_taken, alive_free, not_both, known_some, root_place, heads_were}
+use Rattle.mt_post.proofs.WalkLemmas.{at_stage, true_at, from_head}
 use Rattle.mt_post.proofs.KeptLemmas.{all_stay, apart_known, interior_apart_head, owns_below, owns_beside, beside_half}
 use Rattle.mt_post.proofs.HalfLemmas.{from_place}
 use Rattle.mt_post.proofs.TwinLemmas.{with_pair, pair_cases, pair_same, half_is_posted, twins_now, has_upper, new_pair}
@@ -83,15 +83,16 @@ module _ (a : ArenaView) (posting : Posting) (old : Root) (root : NodeNo) (split
       root_of_split a now w.twins w.chart n i prefix h s.interior sound world.index stands still.named s.splits.named s.splits.stands
       (let same = still.level_is in let level = s.level in omega (arith, same, level, less))
 
-  heads_named : (chart next : Chart) → ((number : ℕ) (layer : List ℕ) → OnHead next number layer → OnHead chart number layer) → HeadsAreAlive a chart → HeadsAreAlive new next
-  heads_named chart next were heads = record {
+  heads_named : (chart next : Chart) → ((number : ℕ) (layer : List ℕ) → OnHead next number layer → OnHead chart number layer) → {closing : List ℕ} → HeadsStand a closing chart → HeadsStand new closing next
+  heads_named chart next were {closing = closing} heads = record {
     alive = λ number layer x place there. elim (same_number number n) [
       | inl e ↦ (let both : ◌≡◌ {A = Option HeadView} (Some (change h)) (Some x) = sym (ap (option_and_then head_of) updated.changed) ∙ (ap (λ (k : ℕ). head_at new.nodes k) (sym e) ∙ there) in
           let same : change h ≡ x = cc in
           let old_head = heads.alive n layer h (subst (λ (k : ℕ). OnHead chart k layer) e (were number layer place)) still.named in
-          (ap (λ (v : HeadView). v.version.deleted) (sym same) ∙ old_head.0, ap (λ (v : HeadView). v.version.locked) (sym same) ∙ old_head.1))
+          (inl (ap (λ (v : HeadView). v.version.deleted) (sym same) ∙ still.alive), ap (λ (v : HeadView). v.version.locked) (sym same) ∙ old_head.1))
       | inr apart ↦ heads.alive number layer x (were number layer place) (sym (ap (option_and_then head_of) (updated.others number apart)) ∙ there)
     ];
+    roots = roots_kept a new closing n (λ i. absurd (no_root a closing chart n (ap (option_and_then border_of) (node-from_head a.nodes n h still.named)) heads i)) updated.others heads.roots;
   }
 
   named_so : (now begun : ℕ) (w : World) (prefix : List ℕ) → IsWorld a now w → begun ≤ now → IsToPost a w prefix half posting.low → IsHeadOf w begun n prefix → AreWaiting a w prefix (split ∷ waiting) → old.level < split.half.level + 1
@@ -113,14 +114,14 @@ module _ (a : ArenaView) (posting : Posting) (old : Root) (root : NodeNo) (split
       let i_apart = interior_apart_head a w prefix n i s.interior h s.splits.named still.named in
       let m_apart = interior_apart_head a w prefix n m u h s.spare.named still.named in
       let x_apart = interior_apart_head a w prefix n root.0 top_root h spare.named still.named in
-      let head_free : IsTaken a w n → ⊥ = λ taken. not_both h.version.locked (w.chart n) free is_known (head_is_taken a n h w still.named taken) in
+      let head_free : IsTaken a w n → ⊥ = λ taken. alive_free a n h w still.named free still.alive is_known taken in
       let below_root : (number : ℕ) → Among number owns → number ≢ root.0 = owns_below a w prefix half posting.low root.0 top_root (split ∷ waiting) t all spare.named (omega arith) in
       let apart_n : (number : ℕ) → Among number owns → number ≢ n = owns_beside a w prefix half posting.low n (split ∷ waiting) t all head_free in
       let i_spot = root_charted.rest i (apart_known a w prefix i root.0 _ s.splits.stands.place spare.unknown) ∙ half_charted.rest i (apart_known a w prefix i m _ s.splits.stands.place s.spare.unknown) in
       let m_spot = root_charted.rest m (below_root m first) ∙ half_charted.now in
-      let stay = all_stay a new w (record { twins = with_pair m i w.twins; chart = chart }) prefix half posting.low waiting (λ number k.
+      let stay = all_stay a new w (record { twins = with_pair m i w.twins; closing = w.closing; chart = chart }) prefix half posting.low waiting (λ number k.
       let (not_half, not_split) = beside_half a w prefix split half posting.low waiting t s above more number k in
-      record { node = updated.others number (apart_n number (later (later k))); spot = root_charted.rest number (below_root number (later (later k))) ∙ half_charted.rest number not_half; twins = pair_same m i w.twins number not_half not_split }) t more in
+      record { node = updated.others number (apart_n number (later (later k))); spot = root_charted.rest number (below_root number (later (later k))) ∙ half_charted.rest number not_half; twins = pair_same m i w.twins number not_half not_split; closing = λ j. j; retired = ((λ e. e), (λ e. e)) }) t more in
       let kept = keeps.keeps now w.twins (with_pair m i w.twins) w.chart chart world.index (record {
         old = h;
         root = top_root;
@@ -153,13 +154,13 @@ module _ (a : ArenaView) (posting : Posting) (old : Root) (root : NodeNo) (split
           ]),
         );
       }) in (
-        goes_with now a new w (record { twins = with_pair m i w.twins; chart = chart }) n (root.0 ∷ owns) owns (λ next. PostingIsTrue begun then new next) (record {
+        goes_with now a new w (record { twins = with_pair m i w.twins; closing = w.closing; chart = chart }) n (root.0 ∷ owns) owns (λ next. PostingIsTrue begun then new next) (record {
           index = kept.index;
           keys = keys_same a new kept.content world.keys;
           heads = heads_named w.chart chart (λ number layer place. heads_were w.chart between m s.interior.level split.half.low prefix (on true) half_charted number layer (heads_were between chart root.0 top_root.level 0 prefix (on true) root_charted number layer place)) world.heads;
           twins = twins_now a new now w chart prefix split world s (updated.others i i_apart) (updated.others m m_apart) i_spot m_spot (twins_beside a new w.chart chart w.twins n (kept.evolves 0 (omega arith)) (no_interior a w.chart n none_there) updated.others world.twins);
-          retired = retired_kept a.retired w.chart chart (kept.evolves 0 (omega arith)) world.retired;
-        }) kept.evolves updated.others
+          retired = retired_kept a new now w.chart chart n (kept.evolves 0 (omega arith)) (on_kept a now w.chart n _ _ _ _ stands world.retired) updated.others refl world.retired;
+        }) refl refl kept.evolves updated.others
             (λ other apart. root_charted.rest other (λ e. apart (subst (λ (k : ℕ). Among k (root.0 ∷ owns)) (sym e) first)) ∙ half_charted.rest other (λ e. apart (subst (λ (k : ℕ). Among k (root.0 ∷ owns)) (sym e) (later first))))
             (λ other apart. pair_same m i w.twins other (λ e. apart (subst (λ (k : ℕ). Among k (root.0 ∷ owns)) (sym e) (later first))) (λ e. apart (subst (λ (k : ℕ). Among k (root.0 ∷ owns)) (sym e) (later (later first)))))
             (λ taken apart. head_free taken)
@@ -169,7 +170,7 @@ module _ (a : ArenaView) (posting : Posting) (old : Root) (root : NodeNo) (split
                   (interior_is_taken new root.0 top_root (at_chart w chart) (ap (option_and_then interior_of) (updated.others root.0 x_apart) ∙ spare.named) (subst (λ (k : ℕ). IsTaken new (at_chart w chart) k) e taken)))
               | inr j ↦ j
             ])
-            (λ apart taken. absurd (not_both h.version.locked (chart n) free (known_stays w.chart chart n (kept.evolves 0 (omega arith)) is_known) (head_is_taken new n (change h) (at_chart w chart) (ap (option_and_then head_of) updated.changed) taken))) (
+            (λ apart taken. absurd (alive_free new n (change h) (at_chart w chart) (ap (option_and_then head_of) updated.changed) free still.alive (known_stays w.chart chart n (kept.evolves 0 (omega arith)) is_known) taken)) (
               prefix,
               record {
                 border = stay.0;

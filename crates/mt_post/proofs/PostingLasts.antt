@@ -1,5 +1,5 @@
 -- What others' steps leave of a posting, and what a posting owns.
-use Rattle.std.proofs.Common.{ℕ, ◌≡◌, List, ◌∷◌, Some, true}
+use Rattle.std.proofs.Common.{ℕ, ◌≡◌, List, [], ◌∷◌, Some, true}
 use Rattle.mt_types.specs.declared.numbers.NodeNo.{NodeNo}
 use Rattle.mt_interior.specs.Interior.{InteriorView}
 use Rattle.mt_interior.specs.declared.child.Child.{Child}
@@ -8,7 +8,9 @@ use Rattle.mt_arena.specs.Arena.{ArenaView}
 use Rattle.mt_chart.specs.Tree.{Among, first, later}
 use Rattle.mt_chart.specs.Chart.{Evolves}
 use Rattle.mt_chart.proofs.Walk.{known_kept}
-use Rattle.mt_calls.specs.World.{World, IsTaken, IsSame}
+use Rattle.mt_tree.specs.InteriorSteps.{IsInLayer}
+use Rattle.mt_calls.specs.World.{World, IsWorld, IsTaken, IsSame, GoneSince}
+use Rattle.mt_calls.proofs.CollectLemmas.{only_since, on_no, unknown_no}
 use Rattle.mt_post.specs.declared.posting.Posting.{Posting}
 use Rattle.mt_post.specs.declared.split.Split.{Split}
 use Rattle.mt_post.specs.declared.posting.PostStage.{PostStage}
@@ -101,3 +103,36 @@ module _ (a : ArenaView) (w : World) (begun : ℕ) (prefix : List ℕ) (half : N
 
 pub posting_taken : (a : ArenaView) (w : World) (begun : ℕ) (posting : Posting) → PostingIsTrue begun posting a w → (number : ℕ) → Among number (owned posting) → IsTaken a w number
 posting_taken a w begun posting truth = let (prefix, t) = truth in stage_taken a w begun prefix posting.half posting.low posting.waiting t.border t.waiting posting.stage t.stage
+
+-- ---- an interior that a posting owns is on, or not known
+module _ (a : ArenaView) (now begun : ℕ) (w : World) (world : IsWorld a now w) (prefix : List ℕ) where
+  both_since : (one : ℕ) (rest : List ℕ) → GoneSince begun w (one ∷ []) → GoneSince begun w rest → GoneSince begun w (one ∷ rest)
+  both_since one rest here there number first = here one first
+  both_since one rest here there number (later i) = there number i
+
+  spare_since : (number : ℕ) (i : InteriorView) → IsSpareInterior a w number i → GoneSince begun w (number ∷ [])
+  spare_since number i spare = only_since begun w number (unknown_no begun w number spare.unknown)
+
+  layer_since : (number : ℕ) → IsInLayer w.chart number prefix → GoneSince begun w (number ∷ [])
+  layer_since number stands = only_since begun w number (on_no begun w number _ _ _ _ stands.place)
+
+  split_since : (half : NodeNo) (low : ℕ) (waiting : List Split) → IsToPost a w prefix half.0 low → AreWaiting a w prefix waiting → GoneSince begun w (split_owns half.0 waiting)
+  split_since half low [] t all = only_since begun w half.0 (on_no begun w half.0 _ _ _ _ t.place)
+  split_since half low (split ∷ waiting) t (above, h, more) = both_since split.half.node.0 _ (spare_since split.half.node.0 _ h.spare) (both_since split.interior.0 _ (layer_since split.interior.0 h.splits.stands) (split_since half low waiting t more))
+
+  stage_since : (half : NodeNo) (low : ℕ) (waiting : List Split) (stage : PostStage) → IsToPost a w prefix half.0 low → AreWaiting a w prefix waiting → PostStageIsTrue begun prefix half low waiting stage a w → GoneSince begun w (stage_owns half.0 waiting stage)
+  stage_since half low waiting (Walks node) t all truth = split_since half low waiting t all
+  stage_since half low waiting (RootWanted old) t all truth = split_since half low waiting t all
+  stage_since half low waiting (RootSpared old root) t all truth = both_since root.0 _ (spare_since root.0 _ truth.1) (split_since half low waiting t all)
+  stage_since half low waiting (RootFilled old root) t all truth = both_since root.0 _ (spare_since root.0 _ truth.1) (split_since half low waiting t all)
+  stage_since half low waiting (RootLate root) t all truth = let (i, above, spare) = truth in both_since root.0 _ (spare_since root.0 i spare) (split_since half low waiting t all)
+  stage_since half low waiting (HalfWanted interior) t all truth = let (i, above, s) = truth in both_since interior.0 _ (layer_since interior.0 s.stands) (split_since half low waiting t all)
+  stage_since half low waiting (HalfSpared interior spare) t all truth =
+      let (i, above, s, least, starts, sound, spared) = truth in both_since spare.0 _ (spare_since spare.0 _ spared) (both_since interior.0 _ (layer_since interior.0 s.stands) (split_since half low waiting t all))
+  stage_since half low waiting (HalfLeftOut left) t all truth = both_since left.half.node.0 _ (spare_since left.half.node.0 _ truth.1.spare) (both_since left.interior.0 _ (layer_since left.interior.0 truth.1.splits.stands) (split_since half low waiting t all))
+  stage_since half low waiting (LetGo interior) t all truth = both_since interior.0 _ (layer_since interior.0 truth.stands) (split_since half low waiting t all)
+  stage_since half low waiting (HalfPosted posted) t all truth = both_since posted.half.node.0 _ (layer_since posted.half.node.0 truth.1.half_stands) (both_since posted.interior.0 _ (layer_since posted.interior.0 truth.1.stands) (split_since half low waiting t all))
+  stage_since half low waiting (HalfCut posted) t all truth = both_since posted.0 _ (layer_since posted.0 truth.stands) (split_since half low waiting t all)
+
+pub posting_since : (a : ArenaView) (now begun : ℕ) (w : World) → IsWorld a now w → (posting : Posting) → PostingIsTrue begun posting a w → GoneSince begun w (owned posting)
+posting_since a now begun w world posting truth = let (prefix, t) = truth in stage_since a now begun w world prefix posting.half posting.low posting.waiting posting.stage t.border t.waiting t.stage

@@ -11,7 +11,7 @@ use Rattle.mt_types.specs.declared.numbers.NodeNo.{NodeNo}
 use Rattle.mt_interior.specs.Head.{HeadView, with_root}
 use Rattle.mt_interior.specs.Interior.{InteriorView, IsInterior, with_children, with_lock}
 use Rattle.mt_interior.specs.declared.child.Child.{Child}
-use Rattle.mt_arena.specs.Node.{node_at, head_at, head_of, interior_at, interior_of, border_of, Updates}
+use Rattle.mt_arena.specs.Node.{node_at, head_at, head_of, interior_at, interior_of, border_of, Updates, border_at}
 use Rattle.mt_arena.specs.Arena.{ArenaView, with_head_changed, with_interior_changed, without_node}
 use Rattle.mt_arena.specs.declared.retired.Retired.{Retired}
 use Rattle.mt_arena.specs.declared.node.Node.{Node}
@@ -28,8 +28,8 @@ use Rattle.mt_tree.specs.Keeping.{KeepsTree, KeepsUnknown, KeepsWhere, KeepsAlon
 use Rattle.mt_tree.specs.InteriorSteps.{IsNotGone}
 use Rattle.mt_tree.specs.HeadSteps.{IsRootOver, NamesRootAt}
 use Rattle.mt_tree.proofs.SeenLemmas.{changed-head, head-seen}
-use Rattle.mt_calls.specs.World.{World, IsWorld, HeadsAreAlive, IsGone, IsLocked, IsTaken, IsSame, Goes}
-use Rattle.mt_calls.proofs.BorderLemmas.{known_stays, no_interior}
+use Rattle.mt_calls.specs.World.{World, IsWorld, HeadsStand, IsLocked, IsTaken, IsSame, Goes}
+use Rattle.mt_calls.proofs.BorderLemmas.{known_stays, no_interior, unknown_kept, on_kept, no_root, roots_kept}
 use Rattle.mt_calls.proofs.FoundLemmas.{some_at}
 use Rattle.mt_calls.proofs.SplitLemmas.{goes_occupied, with_spot, spot_changes}
 use Rattle.mt_post.specs.declared.posting.Posting.{Posting}
@@ -39,8 +39,8 @@ use Rattle.mt_post.specs.declared.posting.PostStage.TheVariants.{Walks, RootWant
 use Rattle.mt_post.specs.Posting.{goal, goal_level, split_owns, AreWaiting, IsToPost, IsHeadOf, IsSpareInterior, root_children, new_root, root_over, PostingIsTrue, ThenPosts, MayPost}
 use Rattle.mt_post.specs.Causes.{IsRootStill}
 use Rattle.mt_post.specs.Follows.{PostStep}
-use Rattle.mt_post.proofs.StepLemmas.{at_chart, goes_at, heads_beside, interior_now, interior_others, interior_no_head, interior_is_taken, head_is_taken, not_both}
-use Rattle.mt_post.proofs.WalkLemmas.{at_stage, true_at, known_some, from_head, goes_on, root_place, heads_were}
+use Rattle.mt_calls.proofs.NodeLemmas.{at_chart, goes_at, heads_beside, interior_now, interior_others, interior_no_head, interior_no_border, interior_is_taken, alive_free, not_both, known_some, root_place, heads_were, head_there}
+use Rattle.mt_post.proofs.WalkLemmas.{at_stage, true_at, from_head, goes_on}
 
 -- a node's number says which it is
 pub same_node : (one other : NodeNo) → one.0 ≡ other.0 → one ≡ other
@@ -49,33 +49,22 @@ same_node one other e = ap (λ (m : ℕ). record { 0 = m }) e
 -- what names nothing is not taken
 pub vacant_free : (a : ArenaView) (w : World) (number : ℕ) → node_at a.nodes number ≡ None → IsTaken a w number → ⊥
 vacant_free a w number none (inl locked) = subst (λ (x : Option Node). IsLocked x) none locked
-vacant_free a w number none (inr spare) = (let clash : false ≡ true = subst (λ (x : Option Node). IsSome x) none spare.0 in cc)
-
--- the head of the layer is there
-head_there : (a : ArenaView) (w : World) (begun number : ℕ) (prefix : List ℕ) (now : ℕ) → IsWorld a now w → IsHeadOf w begun number prefix → IsSome (head_at a.nodes number)
-head_there a w begun number prefix now world known = go known.standing known.place
-  where
-    some : (node : HeadNode) → arena_seen a number ≡ Some (head node) → IsSome (head_at a.nodes number)
-    some node seen = let (h, named, same) = head-seen a number node seen in subst (λ (x : Option HeadView). IsSome x) (sym named) refl
-
-    go : (standing : Standing) → w.chart number ≡ Some (spot top prefix 0 standing) → IsSome (head_at a.nodes number)
-    go (on posted) place = let u = world.index.tree.heads number prefix 0 posted place in some u.node u.is_node
-    go (gone epoch) place = let (u, is_node, marked) = world.index.tree.gone_heads number prefix 0 epoch place in some u is_node
+vacant_free a w number none (inr (inl spare)) = (let clash : false ≡ true = subst (λ (x : Option Node). IsSome x) none spare.0 in cc)
+vacant_free a w number none (inr (inr m)) = subst (λ (o : Option HeadView). IsSomeAnd o (λ h. h.version.deleted ≡ true)) (ap (option_and_then head_of) none) m.marked
 
 -- what the chart doesn't know is not retired
 pub not_retired : (a : ArenaView) (w : World) (now number : ℕ) → IsWorld a now w → w.chart number ≡ None → All (λ retired. retired.node.0 ≢ number) a.retired
-not_retired a w now number world unknown = All-weaker (λ (r : Retired). IsGone w.chart r.node.0) (λ (r : Retired). r.node.0 ≢ number)
-    (λ r g e. (let clash : ◌≡◌ {A = Option Spot} None (Some (spot g.role g.prefix g.low (gone g.epoch))) = sym unknown ∙ (ap w.chart (sym e) ∙ g.place) in cc)) a.retired world.retired.each
+not_retired a w now number world unknown = unknown_kept a now w.chart number unknown world.retired
 
 -- what a step leaves that gives a spare back
-pub gives_number : (now : ℕ) (a : ArenaView) (w : World) (n : ℕ) (owns : List ℕ) (Then : World → Type 0) → IsWorld a now w → IsSome (node_at a.nodes n) → w.chart n ≡ None
+pub gives_number : (now : ℕ) (a : ArenaView) (w : World) (n : ℕ) (owns : List ℕ) (Then : World → Type 0) → IsWorld a now w → IsSome (node_at a.nodes n) → border_at a.nodes n ≡ None → w.chart n ≡ None
     → Keeps now w.twins (arena_seen a) (arena_seen (without_node a n)) w.chart w.chart → Then w
     → Goes now a (without_node a n) w (n ∷ owns) owns Then × SameContent (arena_seen a) (arena_seen (without_node a n))
-gives_number now a w n owns Then world named unknown kept truth =
+gives_number now a w n owns Then world named none unknown kept truth =
     let new : ArenaView = without_node a n in
     let updates : Updates a.nodes new.nodes n None = updates-without a.nodes n named in
-    goes_at now a new w w.chart n (n ∷ owns) owns Then world kept refl updates.others (λ other apart. refl)
-    (heads_beside a new w.chart w.chart n (λ number p h. h) (ap (option_and_then head_of) updates.changed) updates.others world.heads)
+    goes_at now a new w w.chart n (n ∷ owns) owns Then world kept refl (unknown_kept a now w.chart n unknown world.retired) updates.others (λ other apart. refl)
+    (heads_beside a new w.chart w.chart n (λ number p h. h) (ap (option_and_then head_of) updates.changed) none updates.others world.heads)
     (λ locked. (let known_root = locked.known in let clash : false ≡ true = subst (λ (x : Option Spot). IsSome x) unknown known_root in cc))
     (λ taken apart. absurd (apart first)) (λ other t out k. out (later k))
     (λ other k taken. elim (among_cases other n owns k) [
@@ -107,7 +96,7 @@ module _ (a : ArenaView) (posting : Posting) (old : Root) (is : posting.stage �
         let updates = subst (λ (c : Child). Updates a.nodes after.nodes root.0 (Some (Interior (new_root c)))) is_goal updates_wanted in
         let out = unknown.unknown now w.twins w.chart world.index in
         let same : (number : ℕ) → Among number (split_owns half waiting) → IsSame a after w w number = λ number i.
-        same_beside a after w root.0 updates.others number (owns_beside a w prefix half posting.low root.0 waiting border all (vacant_free a w root.0 vacant) number i) in
+        same_beside a after w retired root.0 updates.others number (owns_beside a w prefix half posting.low root.0 waiting border all (vacant_free a w root.0 vacant) number i) in
         let stay = all_stay a after w w prefix half posting.low waiting same border all in (
           goes_occupied now a after w root.0 (Interior (new_root (goal posting.half posting.low waiting))) (split_owns half waiting) _ vacant updates retired unknown keeps world (
             prefix,
@@ -186,13 +175,13 @@ module _ (a : ArenaView) (posting : Posting) (old : Root) (root : NodeNo) (is : 
         (inl (λ role p low epoch e. (let clash : ◌≡◌ {A = Option Spot} None (Some (spot role p low (gone epoch))) = sym spare.unknown ∙ e in cc))) in
         let others : (other : ℕ) → other ≢ n → node_at new.nodes other ≡ node_at a.nodes other = λ other apart. interior_others middle n (fill (new_root wanted)) unlock there other apart ∙ interior_others a n (new_root wanted) fill spare.named other apart in
         let above : goal_level waiting < wanted.level + 1 = subst (λ (c : Child). goal_level waiting < c.level + 1) (sym is_goal) (root_above posting.half posting.low waiting) in
-        let same : (number : ℕ) → Among number (split_owns half waiting) → IsSame a new w w number = λ number i. same_beside a new w n others number (owns_below a w prefix half posting.low n (new_root wanted) waiting border all spare.named above number i) in
+        let same : (number : ℕ) → Among number (split_owns half waiting) → IsSame a new w w number = λ number i. same_beside a new w refl n others number (owns_below a w prefix half posting.low n (new_root wanted) waiting border all spare.named above number i) in
         let stay = all_stay a new w w prefix half posting.low waiting same border all in
         subst (λ (x : ArenaView). Goes now a x w (n ∷ split_owns half waiting) (n ∷ split_owns half waiting) (λ next. PostingIsTrue begun (record posting { stage = RootFilled old root }) x next) × SameContent (arena_seen a) (arena_seen x)) (sym is_new)
         (goes_at now a new w w.chart n (n ∷ split_owns half waiting) (n ∷ split_owns half waiting) (λ next. PostingIsTrue begun (record posting { stage = RootFilled old root }) new next) world
         (record { index = kept_again.index; content = λ key row. ((λ h. (kept.content key row).0 ((kept_again.content key row).0 h)), (λ h. (kept_again.content key row).1 ((kept.content key row).1 h))); evolves = λ b le. evolves_same b w.chart })
-        refl others (λ other apart. refl)
-        (heads_beside a new w.chart w.chart n (λ number p h. h) (interior_no_head middle n (fill (new_root wanted)) unlock there) others world.heads)
+        refl (unknown_kept a now w.chart n spare.unknown world.retired) others (λ other apart. refl)
+        (heads_beside a new w.chart w.chart n (λ number p h. h) (interior_no_head middle n (fill (new_root wanted)) unlock there) (interior_no_border a n (new_root wanted) fill spare.named) others world.heads)
         (λ locked. (let known_root = locked.known in let clash : false ≡ true = subst (λ (x : Option Spot). IsSome x) spare.unknown known_root in cc))
         (λ taken apart. absurd (apart first)) (λ other t out k. out k) (λ other k taken. k) (λ apart taken. absurd (apart first)) (
           prefix,
@@ -304,23 +293,24 @@ module _ (a : ArenaView) (posting : Posting) (old : Root) (root : NodeNo) (is : 
           );
         }) in
         let free = (world.heads.alive n prefix h stands named).1 in
-        goes_at now a new w chart n (root.0 ∷ half ∷ []) (half ∷ []) _ world kept refl head_updated.others
+        goes_at now a new w chart n (root.0 ∷ half ∷ []) (half ∷ []) _ world kept refl (on_kept a now w.chart n _ _ _ _ stands world.retired) head_updated.others
         (λ other apart. root_charted.rest other (λ e. apart (subst (λ (m : ℕ). Among m (root.0 ∷ half ∷ [])) (sym e) first)) ∙ half_charted.rest other (λ e. apart (subst (λ (m : ℕ). Among m (root.0 ∷ half ∷ [])) (sym e) (later first))))
         (heads_named w.chart chart (λ number layer place. heads_were w.chart between half 0 posting.low prefix (on true) half_charted number layer (heads_were between chart root.0 1 0 prefix (on true) root_charted number layer place)) world.heads)
         (no_interior a w.chart n none_there)
-        (λ taken apart. not_both h.version.locked (w.chart n) free is_known (head_is_taken a n h w named taken))
+        (λ taken apart. alive_free a n h w named free alive is_known taken)
         (λ other t out k. out (later k))
         (λ other k taken. elim (among_cases other root.0 (half ∷ []) k) [
           | inl e ↦ absurd (not_both (top_root.version.locked) (chart root.0) refl (known_some (at_chart w chart) root.0 root_at root_charted.now)
               (interior_is_taken new root.0 top_root (at_chart w chart) (root_named w spare) (subst (λ (m : ℕ). IsTaken new (at_chart w chart) m) e taken)))
           | inr i ↦ i
         ])
-        (λ apart taken. absurd (not_both h.version.locked (chart n) free (known_stays w.chart chart n (kept.evolves 0 (omega arith)) is_known) (head_is_taken new n (change h) (at_chart w chart) head_now taken)))
+        (λ apart taken. absurd (alive_free new n (change h) (at_chart w chart) head_now free alive (known_stays w.chart chart n (kept.evolves 0 (omega arith)) is_known) taken))
         (record {
           b = border.b;
           named = ap (option_and_then border_of) (head_updated.others half beside) ∙ border.named;
           known = known_some (at_chart w chart) half half_place (root_charted.rest half differ ∙ half_charted.now);
           locked = border.locked;
+          free = border.free;
         })
       where
         root_named : (w : World) → IsSpareInterior a w root.0 top_root → interior_at new.nodes root.0 ≡ Some top_root
@@ -329,15 +319,16 @@ module _ (a : ArenaView) (posting : Posting) (old : Root) (root : NodeNo) (is : 
             apart : root.0 ≢ n
             apart e = (let clash : ◌≡◌ {A = Option InteriorView} None (Some top_root) = sym none_there ∙ (ap (λ (m : ℕ). interior_at a.nodes m) (sym e) ∙ spare.named) in cc)
 
-        heads_named : (chart next : Chart) → ((number : ℕ) (layer : List ℕ) → OnHead next number layer → OnHead chart number layer) → HeadsAreAlive a chart → HeadsAreAlive new next
-        heads_named chart next were heads = record {
+        heads_named : (chart next : Chart) → ((number : ℕ) (layer : List ℕ) → OnHead next number layer → OnHead chart number layer) → {closing : List ℕ} → HeadsStand a closing chart → HeadsStand new closing next
+        heads_named chart next were {closing = closing} heads = record {
           alive = λ number layer x place there. elim (same_number number n) [
             | inl e ↦ (let both : ◌≡◌ {A = Option HeadView} (Some (change h)) (Some x) = sym head_now ∙ (ap (λ (m : ℕ). head_at new.nodes m) (sym e) ∙ there) in
                 let same : change h ≡ x = cc in
                 let old_head = heads.alive n layer h (subst (λ (m : ℕ). OnHead chart m layer) e (were number layer place)) named in
-                (ap (λ (v : HeadView). v.version.deleted) (sym same) ∙ old_head.0, ap (λ (v : HeadView). v.version.locked) (sym same) ∙ old_head.1))
+                (inl (ap (λ (v : HeadView). v.version.deleted) (sym same) ∙ alive), ap (λ (v : HeadView). v.version.locked) (sym same) ∙ old_head.1))
             | inr apart ↦ heads.alive number layer x (were number layer place) (sym (ap (option_and_then head_of) (head_updated.others number apart)) ∙ there)
           ];
+          roots = roots_kept a new closing n (λ i. absurd (no_root a closing chart n (ap (option_and_then border_of) (node-from_head a.nodes n h named)) heads i)) head_updated.others heads.roots;
         }
 
     pub names : (after : ArenaView) (left : List Split) → IsSomeAnd (interior_at a.nodes root.0) (λ i. after ≡ with_head_changed a n (λ x. with_root x root i.level)) → KeepsAlong a after (NamesRootAt a n root.0) → MayPost a posting → PostStep a after posting Ended (record posting { waiting = left })
@@ -378,10 +369,10 @@ module _ (a : ArenaView) (posting : Posting) (root : NodeNo) (is : posting.stage
         let new : ArenaView = without_node a n in
         let updates : Updates a.nodes new.nodes n None = updates-without a.nodes n (is_named w i spare) in
         let kept = (subst (λ (x : ArenaView). KeepsUnknown a x n) value keeps).keeps now w.twins w.chart world.index spare.unknown in
-        let same : (number : ℕ) → Among number (split_owns half waiting) → IsSame a new w w number = λ number k. same_beside a new w n updates.others number (owns_below a w prefix half posting.low n i waiting border all spare.named above number k) in
+        let same : (number : ℕ) → Among number (split_owns half waiting) → IsSame a new w w number = λ number k. same_beside a new w refl n updates.others number (owns_below a w prefix half posting.low n i waiting border all spare.named above number k) in
         let stay = all_stay a new w w prefix half posting.low waiting same border all in
         subst (λ (x : ArenaView). Goes now a x w (n ∷ split_owns half waiting) (split_owns half waiting) (λ next. PostingIsTrue begun (record posting { stage = Walks posting.head }) x next) × SameContent (arena_seen a) (arena_seen x)) (sym value)
-        (gives_number now a w n (split_owns half waiting) (λ next. PostingIsTrue begun (record posting { stage = Walks posting.head }) new next) world (is_named w i spare) spare.unknown kept (
+        (gives_number now a w n (split_owns half waiting) (λ next. PostingIsTrue begun (record posting { stage = Walks posting.head }) new next) world (is_named w i spare) (ap (option_and_then border_of) (node-from_interior a.nodes root.0 i spare.named)) spare.unknown kept (
           prefix,
           record { border = stay.0; head = known; waiting = stay.1; stage = from_head begun prefix (goal posting.half posting.low waiting) posting.head.0 w known },
         ));

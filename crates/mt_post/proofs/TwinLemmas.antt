@@ -16,7 +16,7 @@ use Rattle.mt_chart.proofs.Walk.{known_kept}
 use Rattle.mt_tree.specs.Seen.{arena_seen}
 use Rattle.mt_tree.specs.InteriorSteps.{HasUpperChildren, HasRoomFrom, KeepsHalf}
 use Rattle.mt_calls.specs.World.{World, IsWorld, IsLockedInterior, TwinsAreLocked, HasSameTwins, IsTaken, Goes}
-use Rattle.mt_calls.proofs.BorderLemmas.{keys_same, known_stays, twins_beside, retired_kept}
+use Rattle.mt_calls.proofs.BorderLemmas.{keys_same, known_stays, twins_beside, retired_kept, on_kept}
 use Rattle.mt_calls.proofs.FoundLemmas.{some_at}
 use Rattle.mt_calls.proofs.SplitLemmas.{with_spot, spot_changes}
 use Rattle.mt_post.specs.declared.posting.Posting.{Posting}
@@ -26,8 +26,8 @@ use Rattle.mt_post.specs.declared.posting.PostStage.TheVariants.{Walks, HalfPost
 use Rattle.mt_post.specs.Causes.{HasRoomAt}
 use Rattle.mt_post.specs.Posting.{goal, split_owns, AreWaiting, IsToPost, IsHeadOf, IsWalking, IsHalved, IsPostedHalf, upper_half, PostingIsTrue, MayPost}
 use Rattle.mt_post.specs.Follows.{FollowsInterior, PostStep}
-use Rattle.mt_post.proofs.StepLemmas.{goes_with, heads_beside, interior_others, interior_no_head, interior_taken, interior_is_taken, not_both}
-use Rattle.mt_post.proofs.WalkLemmas.{at_stage, true_at, known_some, heads_were, in_layer, is_above, room_for}
+use Rattle.mt_calls.proofs.NodeLemmas.{goes_with, heads_beside, interior_others, interior_no_head, interior_no_border, interior_taken, interior_is_taken, not_both, known_some, heads_were}
+use Rattle.mt_post.proofs.WalkLemmas.{at_stage, true_at, in_layer, is_above, room_for}
 use Rattle.mt_post.proofs.KeptLemmas.{all_stay, apart_known, owns_beside, beside_half}
 
 -- ---- two more twins
@@ -91,7 +91,7 @@ module _ (a after : ArenaView) (now : ℕ) (w : World) (chart : Chart) (prefix :
   half_alone other (inr pair) = (let known = (world.twins.locked other m pair).1.known in let clash : false ≡ true = subst (λ (x : Option Spot). IsSome x) h.spare.unknown known in cc)
 
   pub half_is_posted : node_at after.nodes i ≡ node_at a.nodes i → node_at after.nodes m ≡ node_at a.nodes m → chart i ≡ w.chart i → chart m ≡ Some half_place
-      → IsPostedHalf after (record { twins = more; chart = chart }) prefix split
+      → IsPostedHalf after (record { twins = more; closing = w.closing; chart = chart }) prefix split
   half_is_posted same same_half same_spot charted = record {
     interior = h.interior;
     half = u;
@@ -173,7 +173,7 @@ module _ (a : ArenaView) (posting : Posting) (node : NodeNo) (split : Split) (wa
       let new : ArenaView = with_interior_changed a n change in
       let place : Spot = spot (at_level h.interior.level) prefix split.half.low (on true) in
       let chart : Chart = with_spot w.chart m place in
-      let next : World = record { twins = with_pair m i w.twins; chart = chart } in
+      let next : World = record { twins = with_pair m i w.twins; closing = w.closing; chart = chart } in
       let charted = spot_changes w.chart m place in
       let stands = in_layer a posting node is (goal posting.half posting.low posting.waiting) refl x r.named r.alive r.unlocked begun w.chart prefix split.half.low world.index.tree truth.held in
       let is_known = known_some w n _ stands.place in
@@ -200,18 +200,20 @@ module _ (a : ArenaView) (posting : Posting) (node : NodeNo) (split : Split) (wa
         node = others number (apart number (later (later k)));
         spot = charted.rest number (beside_half a w prefix split half posting.low waiting t h above more number k).0;
         twins = pair_same m i w.twins number (beside_half a w prefix split half posting.low waiting t h above more number k).0 (beside_half a w prefix split half posting.low waiting t h above more number k).1;
+        closing = λ j. j;
+        retired = ((λ e. e), (λ e. e));
       }) t more in (
         goes_with now a new w next n owns owns (λ v. PostingIsTrue begun then new v) (record {
           index = kept.index;
           keys = keys_same a new kept.content world.keys;
-          heads = heads_beside a new w.chart chart n (heads_were w.chart chart m h.interior.level split.half.low prefix (on true) charted) (interior_no_head a n x change r.named) others world.heads;
+          heads = heads_beside a new w.chart chart n (heads_were w.chart chart m h.interior.level split.half.low prefix (on true) charted) (interior_no_head a n x change r.named) (interior_no_border a n x change r.named) others world.heads;
           twins = twins_now a new now w chart prefix split world h (others i (apart i (later first))) (others m (apart m first)) i_spot charted.now (twins_beside a new w.chart chart w.twins n (kept.evolves 0 (omega arith)) clash_locked others world.twins);
-          retired = retired_kept a.retired w.chart chart (kept.evolves 0 (omega arith)) world.retired;
-        }) kept.evolves others
+          retired = retired_kept a new now w.chart chart n (kept.evolves 0 (omega arith)) (on_kept a now w.chart n _ _ _ _ stands.place world.retired) others refl world.retired;
+        }) refl refl kept.evolves others
             (λ other out. charted.rest other (λ e. out (subst (λ (k : ℕ). Among k owns) (sym e) first)))
             (λ other out. pair_same m i w.twins other (λ e. out (subst (λ (k : ℕ). Among k owns) (sym e) first)) (λ e. out (subst (λ (k : ℕ). Among k owns) (sym e) (later first))))
             (λ taken out. free taken) (λ other taken out k. out k) (λ other k taken. k)
-            (λ out taken. absurd (not_both x.version.locked (chart n) r.unlocked (known_stays w.chart chart n (kept.evolves 0 (omega arith)) is_known) (interior_taken a n x change r.named (record { twins = w.twins; chart = chart }) taken))) (
+            (λ out taken. absurd (not_both x.version.locked (chart n) r.unlocked (known_stays w.chart chart n (kept.evolves 0 (omega arith)) is_known) (interior_taken a n x change r.named (record { twins = w.twins; closing = w.closing; chart = chart }) taken))) (
               prefix,
               record {
                 border = stay.0;

@@ -26,7 +26,7 @@ use Rattle.mt_tree.proofs.InteriorPlaces.{stands_as}
 use Rattle.mt_tree.proofs.ChildLists.{among_read}
 use Rattle.mt_calls.specs.World.{World, IsWorld, Goes}
 use Rattle.mt_calls.proofs.FrameLemmas.{goes_same}
-use Rattle.mt_calls.proofs.BorderLemmas.{known_stays}
+use Rattle.mt_calls.proofs.BorderLemmas.{known_stays, on_kept}
 use Rattle.mt_calls.proofs.FoundLemmas.{some_at}
 use Rattle.mt_calls.proofs.SplitLemmas.{with_spot, spot_changes}
 use Rattle.mt_post.specs.declared.posting.Posting.{Posting}
@@ -40,7 +40,7 @@ use Rattle.mt_post.specs.Posting.{stage_owns, owned_after, IsToPost, IsHeadOf, I
 use Rattle.mt_post.specs.Causes.{IsHeldBack, CanLeaveOut, PostStageWaits, PostStageEnds}
 use Rattle.mt_post.specs.Follows.{FollowsHead, FollowsInterior, LeavesOut, StageFollows, Follows, PostStep}
 use Rattle.mt_calls.specs.World.{IsLockedBorder}
-use Rattle.mt_post.proofs.StepLemmas.{at_chart, goes_at, heads_beside, interior_others, interior_no_head, interior_border, interior_taken, interior_is_taken, not_both}
+use Rattle.mt_calls.proofs.NodeLemmas.{at_chart, goes_at, heads_beside, interior_others, interior_no_head, interior_no_border, interior_border, interior_taken, interior_is_taken, not_both, known_some, heads_were, root_place}
 
 -- ---- what a step does, of a posting that is at a stage
 pub record StageStep (a after : ArenaView) (posting : Posting) (waiting : List Split) (stage : PostStage) (p : Progressed) (then : Posting) : Type 0 where
@@ -71,12 +71,9 @@ at_stage a after posting waiting stage p then has is step = record {
 pub true_at : (begun : ℕ) (a : ArenaView) (w : World) (posting : Posting) (stage : PostStage) → posting.stage ≡ stage → (truth : PostingIsTrue begun posting a w) → PostStageIsTrue begun truth.0 posting.half posting.low posting.waiting stage a w
 true_at begun a w posting stage is truth = subst (λ (s : PostStage). PostStageIsTrue begun truth.0 posting.half posting.low posting.waiting s a w) is truth.1.stage
 
-pub known_some : (w : World) (number : ℕ) (place : Spot) → w.chart number ≡ Some place → IsSome (w.chart number)
-known_some w number place is = subst (λ (x : Option Spot). IsSome x) (sym is) refl
-
 -- the border that was to be posted is locked
 pub still_locked : (a : ArenaView) (w : World) (prefix : List ℕ) (number low : ℕ) → IsToPost a w prefix number low → IsLockedBorder a w number
-still_locked a w prefix number low t = record { b = t.b; named = t.named; known = known_some w number _ t.place; locked = t.locked }
+still_locked a w prefix number low t = record { b = t.b; named = t.named; known = known_some w number _ t.place; locked = t.locked; free = t.free }
 
 -- from the head it begins its way
 pub from_head : (begun : ℕ) (prefix : List ℕ) (wanted : Child) (number : ℕ) (w : World) → IsHeadOf w begun number prefix → IsWalking begun prefix wanted number w
@@ -100,17 +97,6 @@ new_is_true posting none is = record {
     ap (stage_owns posting.half.0 posting.waiting) is ∙ ap (split_owns posting.half.0) none,
   );
 }
-
--- what is a node of a layer's tree is no head
-no_top : {level low other_low : ℕ} {prefix other : List ℕ} {standing stands : Standing} → ◌≡◌ {A = Option Spot} (Some (spot (at_level level) prefix low standing)) (Some (spot top other other_low stands)) → ⊥
-no_top e = cc
-
--- where another number than a head's is charted, the heads were on
-pub heads_were : (chart next : Chart) (at level low : ℕ) (prefix : List ℕ) (standing : Standing) → Changes chart next at (Some (spot (at_level level) prefix low standing)) → (number : ℕ) (layer : List ℕ) → OnHead next number layer → OnHead chart number layer
-heads_were chart next at level low prefix standing changes number layer place = elim (same_number number at) [
-  | inl e ↦ absurd (no_top (sym changes.now ∙ (ap next (sym e) ∙ place)))
-  | inr differ ↦ sym (changes.rest number differ) ∙ place
-]
 
 -- ---- steps that change nothing
 module _ (a : ArenaView) (posting : Posting) where
@@ -163,29 +149,6 @@ module _ (a : ArenaView) (posting : Posting) where
     waits_on goes waits ends gets_on = goes_so Waits waiting next_waiting stage next owns has is (inr refl) goes waits ends gets_on
 
 -- ---- at a head
--- the root of a head that is not marked deleted
-pub root_place : (a : ArenaView) (chart : Chart) (begun node low : ℕ) (prefix : List ℕ) (h : HeadView) → IsTree (arena_seen a) chart → Holds chart begun node prefix low → head_at a.nodes node ≡ Some h → h.version.deleted ≡ false
-    → OnHead chart node prefix × (chart h.root.0 ≡ Some (spot (at_level h.level) prefix 0 (on true)))
-root_place a chart begun node low prefix h tree held named alive = go held.role held.standing held.place
-  where
-    there : arena_seen a node ≡ Some (head (head_seen h))
-    there = seen-head a node h named
-
-    go : (role : Role) (standing : Standing) → chart node ≡ Some (spot role prefix held.low standing) → OnHead chart node prefix × (chart h.root.0 ≡ Some (spot (at_level h.level) prefix 0 (on true)))
-    go top (on posted) place =
-        let u = tree.heads node prefix held.low posted place in
-        let is_node = u.is_node in
-        let at_node = there in
-        let same : u.node ≡ head_seen h = cc in
-        (place ∙ (ap (λ (l : ℕ). Some (spot top prefix l (on posted))) u.low ∙ ap (λ b. Some (spot top prefix 0 (on b))) u.posted), rw same at u.root)
-    go top (gone epoch) place =
-        let (u, is_node, marked) = tree.gone_heads node prefix held.low epoch place in
-        let at_node = there in
-        absurd (let same : u ≡ head_seen h = cc in let clash : u.deleted ≡ false = ap (λ x. x.deleted) same ∙ alive in cc)
-    go (at_level zero) (on posted) place = absurd (let at_node = there in let (u, is_node, l) = tree.borders node prefix held.low posted place in cc)
-    go (at_level zero) (gone epoch) place = absurd (let at_node = there in let (u, is_node, marked) = tree.gone_borders node prefix held.low epoch place in cc)
-    go (at_level (suc below)) standing place = absurd (let at_node = there in let is_node = (tree.interiors node below prefix held.low standing place).is_node in cc)
-
 module _ (a : ArenaView) (posting : Posting) (node : NodeNo) (is : posting.stage ≡ Walks node) (wanted : Child) (is_goal : wanted ≡ goal posting.half posting.low posting.waiting) where
   -- where it is, seen for what is wanted
   walks_for : (begun : ℕ) (prefix : List ℕ) (number : ℕ) (w : World) → IsWalking begun prefix wanted number w → IsWalking begun prefix (goal posting.half posting.low posting.waiting) number w
@@ -302,14 +265,14 @@ module _ (a : ArenaView) (posting : Posting) (node : NodeNo) (is : posting.stage
             let stands = in_layer begun w.chart prefix posting.low world.index.tree truth.held in
             let kept = keeps_new.keeps now w.twins w.chart chart world.index (record { prefix = prefix; stands = stands; low = posting.low; unnamed = border.place; charted = charted }) in
             let is_known = known_some w n _ stands.place in
-            goes_at now a new w chart n (posting.half.0 ∷ []) (posting.half.0 ∷ []) _ world kept refl (interior_others a n i change named)
+            goes_at now a new w chart n (posting.half.0 ∷ []) (posting.half.0 ∷ []) _ world kept refl (on_kept a now w.chart n _ _ _ _ stands.place world.retired) (interior_others a n i change named)
             (λ other apart. charted.rest other (λ e. apart (subst (λ (m : ℕ). Among m (posting.half.0 ∷ [])) (sym e) first)))
-            (heads_beside a new w.chart chart n (heads_were w.chart chart posting.half.0 0 posting.low prefix (on true) charted) (interior_no_head a n i change named) (interior_others a n i change named) world.heads)
+            (heads_beside a new w.chart chart n (heads_were w.chart chart posting.half.0 0 posting.low prefix (on true) charted) (interior_no_head a n i change named) (interior_no_border a n i change named) (interior_others a n i change named) world.heads)
             (λ locked. (let clash : false ≡ true = sym unlocked ∙ some_at _ (interior_at a.nodes n) i locked.locked named in cc))
             (λ taken apart. not_both i.version.locked (w.chart n) unlocked is_known (interior_is_taken a n i w named taken))
             (λ other t out k. out k) (λ other k taken. k)
             (λ apart taken. absurd (not_both i.version.locked (chart n) unlocked (known_stays w.chart chart n (kept.evolves 0 (omega arith)) is_known) (interior_taken a n i change named (at_chart w chart) taken)))
-            (record { b = border.b; named = interior_border a n i change named posting.half.0 border.b border.named; known = known_some (at_chart w chart) posting.half.0 place charted.now; locked = border.locked })
+            (record { b = border.b; named = interior_border a n i change named posting.half.0 border.b border.named; known = known_some (at_chart w chart) posting.half.0 place charted.now; locked = border.locked; free = border.free })
 
     -- it has room, and its low is at most that of what is to be named
     pub room_for : (may : MayPost a posting) → length i.children < MAX_CHILDREN → IsSomeAnd (interior_at a.nodes node.0) (HasRoomFrom wanted.low)

@@ -13,7 +13,7 @@ use Rattle.mt_chart.specs.Steps.{NoTwin, AreTwins, SameContent}
 use Rattle.mt_interior.specs.declared.interior.TheConstants.{MAX_CHILDREN, KEPT_CHILDREN}
 use Rattle.mt_tree.specs.Seen.{arena_seen}
 use Rattle.mt_tree.specs.InteriorSteps.{IsInLayer}
-use Rattle.mt_calls.specs.World.{World, IsLockedBorder, IsWorld, Goes}
+use Rattle.mt_calls.specs.World.{World, IsLockedBorder, IsWorld, NotAmong, Goes}
 use Rattle.mt_post.specs.declared.posting.Posting.{Posting}
 use Rattle.mt_post.specs.declared.posting.Progressed.{Progressed}
 use Rattle.mt_post.specs.declared.posting.Progressed.TheVariants.{Moved, Waits, Ended}
@@ -57,6 +57,7 @@ pub record IsToPost (a : ArenaView) (w : World) (prefix : List ℕ) (number low 
   pub low_is : b.low ≡ low
   pub locked : b.version.locked ≡ true
   pub place : w.chart number ≡ Some (spot (at_level 0) prefix low (on false))
+  pub free : NotAmong number w.closing
 
 -- the number is the head of the layer, and didn't go before the epoch
 abbrev pub IsHeadOf : World → ℕ → ℕ → List ℕ → Type 0

@@ -73,11 +73,11 @@ module _ (C : ℕ) (a : ArenaView) (log : LogView) (key : List ℕ) (edit : Edit
         let made : change (empty_half b c.middle) ≡ upper_half b cut c.middle = ap (λ (es : List Entry). with_entries (empty_half b c.middle) es b.right) copied in
         let keeps_new : KeepsUnknown a new half.0 = subst (λ (x : ArenaView). KeepsUnknown a x half.0) is keeps in
         subst (λ (x : ArenaView). Stepped C now moves past a x log log w (edit_request key edit) (stage_held n (Spared half cut entries)) Moved (stage_held n (HalfFilled half cut)) (λ m next. StageIsTrue C key edit way (HalfFilled half cut) begun x next)) (sym is) (record {
-          goes = goes_filled now a w half.0 (empty_half b c.middle) change (half.0 ∷ n ∷ []) _ s.named keeps_new first s.unknown world (
+          goes = goes_filled now a w half.0 (empty_half b c.middle) change (half.0 ∷ n ∷ []) _ s.named keeps_new first s.unknown (λ i. refl) world (
             b,
-            locked_at_stays a new w w key way b (record { node = others_named a half.0 (empty_half b c.middle) change s.named n (differ b (empty_half b c.middle) w at s); spot = refl; twins = λ one other here. ((λ h. h), (λ h. h)) }) at,
+            locked_at_stays a new w w key way b (record { node = others_named a half.0 (empty_half b c.middle) change s.named n (differ b (empty_half b c.middle) w at s); spot = refl; twins = λ one other here. ((λ h. h), (λ h. h)); closing = λ i. i; retired = ((λ h. h), (λ h. h)) }) at,
             c,
-            record { named = now_named a half.0 (empty_half b c.middle) change s.named ∙ ap Some made; unknown = s.unknown; locked = refl },
+            record { named = now_named a half.0 (empty_half b c.middle) change s.named ∙ ap Some made; unknown = s.unknown; locked = refl; free = s.free },
           );
           does = (record { content = (keeps_new.keeps now w.twins w.chart world.index s.unknown).content; trimmed = refl; deltas = refl }, refl);
           reserved = refl;
@@ -109,7 +109,7 @@ module _ (C : ℕ) (a : ArenaView) (log : LogView) (key : List ℕ) (edit : Edit
     place = spot (at_level 0) (prefix_of key way) low (on false)
 
     abbrev next : World
-    next = record { twins = w.twins; chart = with_spot w.chart half.0 place }
+    next = record { twins = w.twins; closing = w.closing; chart = with_spot w.chart half.0 place }
 
     apart : n ≢ half.0
     apart = differ b (upper_half b cut c.middle) w at s
@@ -121,10 +121,10 @@ module _ (C : ℕ) (a : ArenaView) (log : LogView) (key : List ℕ) (edit : Edit
     half_named = ap (option_and_then border_of) (others_named a n b (link low) at.named half.0 (λ e. apart (sym e))) ∙ s.named
 
     left_locked : IsLockedBorder new next n
-    left_locked = record { b = link low b; named = now_named a n b (link low) at.named; known = subst (λ (x : Option Spot). IsSome x) (sym left_spot) refl; locked = at.locked }
+    left_locked = record { b = link low b; named = now_named a n b (link low) at.named; known = subst (λ (x : Option Spot). IsSome x) (sym left_spot) refl; locked = at.locked; free = at.free }
 
     half_locked : IsLockedBorder new next half.0
-    half_locked = record { b = upper_half b cut c.middle; named = half_named; known = subst (λ (x : Option Spot). IsSome x) (sym (spot_changes w.chart half.0 place).now) refl; locked = refl }
+    half_locked = record { b = upper_half b cut c.middle; named = half_named; known = subst (λ (x : Option Spot). IsSome x) (sym (spot_changes w.chart half.0 place).now) refl; locked = refl; free = s.free }
 
     both_locked : (other : ℕ) → Among other (half.0 ∷ n ∷ []) → IsLockedBorder new next other
     both_locked other first = half_locked
@@ -158,6 +158,7 @@ module _ (C : ℕ) (a : ArenaView) (log : LogView) (key : List ℕ) (edit : Edit
         alive = at.alive;
         last = absent_last _ left_absent;
         locked = at.locked;
+        free = at.free;
       },
       record {
         room = let full = c.full in let last = c.place.last in let short = length-take-le cut b.live (omega (arith, full, last)) in omega (arith, short, last);
@@ -182,6 +183,7 @@ module _ (C : ℕ) (a : ArenaView) (log : LogView) (key : List ℕ) (edit : Edit
         alive = refl;
         last = absent_last _ half_absent;
         locked = refl;
+        free = s.free;
       },
       record {
         room = let full = c.full in let start = c.place.first in let rest = length-drop cut b.live in omega (arith, full, start, rest);
@@ -194,7 +196,7 @@ module _ (C : ℕ) (a : ArenaView) (log : LogView) (key : List ℕ) (edit : Edit
 
   module _ (goal : Way) (after : ArenaView) (value : IsSomeAnd (border_at a.nodes half.0) (λ upper. after ≡ with_border_changed a n (λ b. with_split b cut (record { low = upper.low; node = half })))) (links : LinksHalfAt a after n half.0) where
     link_law : ((begun : ℕ) (w : World) (b : BorderView) (at : IsLockedAt a key way b w) (c : IsCutAt key edit way b cut) (s : IsSpare a w half.0 (upper_half b cut c.middle))
-        → StageIsTrue C key edit goal (Halved halves) begun (with_border_changed a n (link c.middle.slice)) (record { twins = w.twins; chart = with_spot w.chart half.0 (spot (at_level 0) (prefix_of key way) c.middle.slice (on false)) }))
+        → StageIsTrue C key edit goal (Halved halves) begun (with_border_changed a n (link c.middle.slice)) (record { twins = w.twins; closing = w.closing; chart = with_spot w.chart half.0 (spot (at_level 0) (prefix_of key way) c.middle.slice (on false)) }))
         → LinkLaw after goal
     link_law then = record {
       steps = λ now begun moves past w world before truth.
@@ -203,7 +205,7 @@ module _ (C : ℕ) (a : ArenaView) (log : LogView) (key : List ℕ) (edit : Edit
           let (goes, content) = goes_linked now a w n half.0 b (upper_half b cut c.middle) (prefix_of key way) (link c.middle.slice) (half.0 ∷ n ∷ [])
           (λ next. StageIsTrue C key edit goal (Halved halves) begun (with_border_changed a n (link c.middle.slice)) next) at.named s.named
           (subst (λ (x : ArenaView). LinksHalfAt a x n half.0) is links) (record { low = b.low; posted = at.stands.stands.posted; place = at.stands.stands.place })
-          s.unknown (later first) first world (then begun w b at c s) in
+          s.unknown (later first) first at.locked at.free world (then begun w b at c s) in
           subst (λ (x : ArenaView). Stepped C now moves past a x log log w (edit_request key edit) (stage_held n (HalfFilled half cut)) Moved (stage_held goal.node.0 (Halved halves)) (λ m next. StageIsTrue C key edit goal (Halved halves) begun x next)) (sym is) (record {
             goes = goes;
             does = (record { content = content; trimmed = refl; deltas = refl }, refl);

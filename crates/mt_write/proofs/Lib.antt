@@ -6,3 +6,4 @@ pub mod HalfLemmas
 pub mod PostLemmas
 pub mod NewLayerLemmas
 pub mod WorkLemmas
+pub mod WriteLasts

@@ -33,7 +33,7 @@ use Rattle.mt_calls.specs.World.{World}
 use Rattle.mt_calls.specs.Way.{rest_of, prefix_of, IsHeadOf}
 use Rattle.mt_calls.specs.Step.{StepLaw, Stepped}
 use Rattle.mt_calls.proofs.WayLemmas.{layer_below}
-use Rattle.mt_calls.proofs.BorderLemmas.{now_named, others_named}
+use Rattle.mt_calls.proofs.BorderLemmas.{now_named, others_named, locked_may, unlocked_root, no_root as no_border}
 use Rattle.mt_calls.proofs.SplitLemmas.{goes_filled}
 use Rattle.mt_calls.proofs.LayerLemmas.{goes_spare_changed, goes_layered, head_apart, layered, head_placed, others_placed}
 use Rattle.mt_write.specs.declared.writing.Edit.{Edit}
@@ -95,9 +95,9 @@ module _ (C : ℕ) (a : ArenaView) (log : LogView) (key : List ℕ) (edit : Edit
         let two : layer.root.0 ≢ layer.head.0 = head_apart a layer.head.0 layer.root.0 _ old f.has.head f.has.is_root in
         let keeps_new : KeepsUnknown a new layer.root.0 = subst (λ (x : ArenaView). KeepsUnknown a x layer.root.0) is keeps in
         subst (λ (x : ArenaView). Stepped C now moves past a x log log w (edit_request key edit) (stage_held n (LayerSpared layer entries)) Moved (stage_held n (LayerFilled layer)) (λ m next. StageIsTrue C key edit way (LayerFilled layer) begun x next)) (sym is) (record {
-          goes = goes_filled now a w layer.root.0 old change (layer_owned n layer) _ f.has.is_root keeps_new (later first) f.has.root_unknown world (
+          goes = goes_filled now a w layer.root.0 old change (layer_owned n layer) _ f.has.is_root keeps_new (later first) f.has.root_unknown (λ i. absurd (unlocked_root a w.closing w.chart layer.root.0 old f.has.is_root refl world.heads i)) world (
             b,
-            locked_at_stays a new w w key way b (record { node = others_named a layer.root.0 old change f.has.is_root n (apart_spare b w layer.root.0 at f.has.root_unknown); spot = refl; twins = λ one other here. ((λ h. h), (λ h. h)) }) at,
+            locked_at_stays a new w w key way b (record { node = others_named a layer.root.0 old change f.has.is_root n (apart_spare b w layer.root.0 at f.has.root_unknown); spot = refl; twins = λ one other here. ((λ h. h), (λ h. h)); closing = λ i. i; retired = ((λ h. h), (λ h. h)) }) at,
             record {
               number = f.number;
               at = f.at;
@@ -133,9 +133,9 @@ module _ (C : ℕ) (a : ArenaView) (log : LogView) (key : List ℕ) (edit : Edit
         let two : layer.root.0 ≢ layer.head.0 = head_apart a layer.head.0 layer.root.0 _ root f.has.head f.has.is_root in
         let keeps_new : KeepsTree a new = subst (λ (x : ArenaView). KeepsTree a x) is keeps in
         subst (λ (x : ArenaView). Stepped C now moves past a x log log w (edit_request key edit) (stage_held n (LayerFilled layer)) Moved (stage_held n (LayerReady layer)) (λ m next. StageIsTrue C key edit way (LayerReady layer) begun x next)) (sym is) (record {
-          goes = goes_spare_changed now a new w layer.head.0 (Head (new_head layer.root 0 false)) (layer_owned n layer) _ updates refl keeps_new f.has.head_unknown first world (
+          goes = goes_spare_changed now a new w layer.head.0 (Head (new_head layer.root 0 false)) (layer_owned n layer) _ updates refl keeps_new f.has.head_unknown (no_border a w.closing w.chart layer.head.0 (ap (option_and_then border_of) (node-from_head a.nodes layer.head.0 _ f.has.head)) world.heads) first world (
             b,
-            locked_at_stays a new w w key way b (record { node = updates.others n (apart_spare b w layer.head.0 at f.has.head_unknown); spot = refl; twins = λ one other here. ((λ h. h), (λ h. h)) }) at,
+            locked_at_stays a new w w key way b (record { node = updates.others n (apart_spare b w layer.head.0 at f.has.head_unknown); spot = refl; twins = λ one other here. ((λ h. h), (λ h. h)); closing = λ i. i; retired = ((λ h. h), (λ h. h)) }) at,
             record {
               number = f.number;
               at = f.at;
@@ -168,12 +168,13 @@ module _ (C : ℕ) (a : ArenaView) (log : LogView) (key : List ℕ) (edit : Edit
         let next : World = layered w layer.head.0 layer.root.0 below in
         let no_head : n ≢ layer.head.0 = apart_spare b w layer.head.0 at f.has.head_unknown in
         let no_root : n ≢ layer.root.0 = apart_spare b w layer.root.0 at f.has.root_unknown in
-        let placed = head_placed now a w n layer.head.0 layer.root b root (prefix_of key way) layer.place entry link at.named f.at.other.stands f.has.head f.has.is_root refl no_head no_root f.has.head_unknown f.has.root_unknown world in
-        let kept = others_placed now a w n layer.head.0 layer.root b root (prefix_of key way) layer.place entry link at.named f.at.other.stands f.has.head f.has.is_root refl no_head no_root f.has.head_unknown f.has.root_unknown world n no_head no_root in
+        let may = locked_may a n b link at.named now w world at.locked at.free in
+        let placed = head_placed now a w n layer.head.0 layer.root b root (prefix_of key way) layer.place entry link at.named f.at.other.stands f.has.head f.has.is_root refl no_head no_root f.has.head_unknown f.has.root_unknown world may in
+        let kept = others_placed now a w n layer.head.0 layer.root b root (prefix_of key way) layer.place entry link at.named f.at.other.stands f.has.head f.has.is_root refl no_head no_root f.has.head_unknown f.has.root_unknown world may n no_head no_root in
         let held : (slice : ℕ) → Holds next.chart begun layer.head.0 below slice = λ slice. record { role = top; low = 0; standing = on true; place = placed; at_most = omega arith; since = λ epoch gone_is. absurd (let clash : on true ≡ gone epoch = gone_is in cc) } in
-        let (goes, content) = goes_layered now a w n layer.head.0 layer.root b root (prefix_of key way) layer.place entry link at.named f.at.other.stands f.has.head f.has.is_root refl no_head no_root f.has.head_unknown f.has.root_unknown world
+        let (goes, content) = goes_layered now a w n layer.head.0 layer.root b root (prefix_of key way) layer.place entry link at.named f.at.other.stands f.has.head f.has.is_root refl no_head no_root f.has.head_unknown f.has.root_unknown world may
         (subst (λ (x : ArenaView). MakesLayerAt a x n layer.place layer.head.0) is makes) (record { low = b.low; posted = at.stands.stands.posted; place = at.stands.stands.place }) (λ next. StageIsTrue C key edit way (Layered layer.head) begun new next) (
-          record { b = link b; named = now_named a n b link at.named; known = subst (λ (x : Option Spot). IsSome x) (sym (kept ∙ at.stands.stands.place)) refl; locked = at.locked },
+          record { b = link b; named = now_named a n b link at.named; known = subst (λ (x : Option Spot). IsSome x) (sym (kept ∙ at.stands.stands.place)) refl; locked = at.locked; free = at.free },
           record {
             layer = layer_below key way layer.head f.at.other.goes_on at.layer;
             held = subst (λ (m : ℕ). Holds next.chart begun layer.head.0 (slices_above m key) (slice_number (rest_at (way.layer + 1) key))) (sym (add-one way.layer)) (held (slice_number (rest_at (way.layer + 1) key)));

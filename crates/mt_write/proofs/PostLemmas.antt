@@ -16,10 +16,10 @@ use Rattle.mt_tree.specs.Keeping.{KeepsTree, IsIndexAt}
 use Rattle.mt_calls.specs.declared.way.Way.{Way}
 use Rattle.mt_calls.specs.declared.progress.Progress.{Progress}
 use Rattle.mt_calls.specs.declared.progress.Progress.TheVariants.{Moved, Waits, Committed, Answered, Refused}
-use Rattle.mt_calls.specs.World.{World, IsWorld, RowsAreOfKeys, Goes}
+use Rattle.mt_calls.specs.World.{World, IsWorld, RowsAreOfKeys, NotAmong, Goes}
 use Rattle.mt_calls.specs.Way.{prefix_of, IsHeadOf}
 use Rattle.mt_calls.specs.Step.{Held, Truth, StepLaw, ThenTrue, IsQuiet}
-use Rattle.mt_calls.proofs.BorderLemmas.{others_named, goes_border, keys_same, mine_free, among_one}
+use Rattle.mt_calls.proofs.BorderLemmas.{others_named, goes_border, locked_may, keys_same, mine_free, among_one}
 use Rattle.mt_post.specs.declared.posting.Posting.{Posting}
 use Rattle.mt_post.specs.declared.posting.Progressed.TheVariants.{Moved as WentOn, Waits as Again, Ended}
 use Rattle.mt_post.specs.Posting.{PostLaw, PostingIsTrue, NewPostingIsTrue, owned as posting_owned}
@@ -139,7 +139,7 @@ module _ (C : ℕ) (a : ArenaView) (log : LogView) (key : List ℕ) (edit : Edit
             (goes_border a split.left.0 left.b unlock left.named now w (split.half.0 ∷ split.left.0 ∷ []) (split.half.0 ∷ []) Then world (subst (λ (x : ArenaView). IsIndexAt x now w.twins w.chart) is kept.index)
             (subst (λ (x : ArenaView). RowsAreOfKeys x) is (keys_same a after kept.content world.keys))
             (mine_free a split.left.0 w (split.half.0 ∷ split.left.0 ∷ []) (later first)) (λ other i. inl (widen other i)) (λ other ne i. among_two other i ne)
-            (λ taken. absurd (elim taken [ inl locked ↦ (let clash : false ≡ true = locked in cc) | inr none ↦ (let some : IsSome (let nothing : Option Spot = None in nothing) = subst (λ (x : Option Spot). IsSome x) none left.known in cc) ])) truth),
+            (λ taken. absurd (elim taken [ inl locked ↦ (let clash : false ≡ true = locked in cc) | inr none ↦ (let some : IsSome (let nothing : Option Spot = None in nothing) = subst (λ (x : Option Spot). IsSome x) none left.known in cc) ])) (locked_may a split.left.0 left.b unlock left.named now w world left.locked left.free) truth),
         record { content = kept.content; trimmed = refl; deltas = refl },
       )
 
@@ -163,6 +163,7 @@ module _ (C : ℕ) (a : ArenaView) (log : LogView) (key : List ℕ) (edit : Edit
           low_is = has.halves.low_is k.b k.named ∙ sym low;
           locked = k.locked;
           place = ap (λ (h : NodeNo). w.chart h.0) half_is ∙ (has.halves.place ∙ ap (λ (l : ℕ). Some (spot (at_level 0) (prefix_of key way) l (on false))) (sym low));
+          free = subst (λ (h : NodeNo). NotAmong h.0 w.closing) (sym half_is) k.free;
         }) (subst (λ (h : NodeNo). IsHeadOf w begun h.0 (prefix_of key way)) (sym head_is) known)
 
     abbrev Posted : Ending → ℕ → World → Type 0

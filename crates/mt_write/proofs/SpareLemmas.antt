@@ -13,6 +13,7 @@ use Rattle.mt_chart.proofs.Basics.{same_number}
 use Rattle.mt_tree.specs.Seen.{arena_seen}
 use Rattle.mt_calls.specs.declared.way.Way.{Way}
 use Rattle.mt_calls.specs.World.{World, IsWorld, Goes}
+use Rattle.mt_calls.proofs.FrameLemmas.{retired_same}
 use Rattle.mt_calls.proofs.LayerLemmas.{goes_two, two_apart}
 use Rattle.mt_write.specs.declared.writing.Halves.{Halves}
 use Rattle.mt_write.specs.declared.writing.Layer.{Layer}
@@ -30,7 +31,7 @@ has_locked_back prefix a between after w n split number node vacant updates back
   locked = λ other i.
       let k = has.locked other i in
       let differ : other ≢ number = λ e. vacant_border a number k.b vacant (ap (λ (m : ℕ). border_at a.nodes m) (sym e) ∙ k.named) in
-      record { b = k.b; named = ap (option_and_then border_of) (back.others other differ ∙ updates.others other differ) ∙ k.named; known = k.known; locked = k.locked };
+      record { b = k.b; named = ap (option_and_then border_of) (back.others other differ ∙ updates.others other differ) ∙ k.named; known = k.known; locked = k.locked; free = k.free };
   own = has.own;
   halves = halves_back split has.halves;
 }
@@ -60,7 +61,7 @@ spares_go now begun a after w key way layer entries f world at =
     goes_two now a f.between after w layer.root.0 layer.head.0 (Border (new_border f.number 0 false)) (Head (new_head layer.root 0 true)) (way.node.0 ∷ []) (λ next. (b : BorderView) × IsLockedAt after key way b next × IsToFill after next key way b layer entries)
     one.vacant one.updates one.retired one.unknown one.keeps two.vacant two.updates two.retired two.unknown two.keeps world (
       f.b,
-      locked_at_stays a after w w key way f.b (record { node = two.updates.others way.node.0 not_head ∙ one.updates.others way.node.0 not_root; spot = refl; twins = λ one other here. ((λ h. h), (λ h. h)) }) at,
+      locked_at_stays a after w w key way f.b (record { node = two.updates.others way.node.0 not_head ∙ one.updates.others way.node.0 not_root; spot = refl; twins = λ one other here. ((λ h. h), (λ h. h)); closing = λ i. i; retired = retired_same a.retired after.retired way.node.0 (two.retired ∙ one.retired) }) at,
       record {
         number = f.number;
         at = f.at;

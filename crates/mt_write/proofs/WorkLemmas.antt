@@ -50,13 +50,14 @@ module _ (a after : ArenaView) (w next : World) where
     alive = at.alive;
     last = at.last;
     locked = at.locked;
+    free = λ i. at.free (same.closing i);
   }
 
   locked_stays : (number : ℕ) → IsSame a after w next number → IsLockedBorder a w number → IsLockedBorder after next number
-  locked_stays number same at = record { b = at.b; named = same_border number at.b same at.named; known = subst (λ (x : Option Spot). IsSome x) (sym same.spot) at.known; locked = at.locked }
+  locked_stays number same at = record { b = at.b; named = same_border number at.b same at.named; known = subst (λ (x : Option Spot). IsSome x) (sym same.spot) at.known; locked = at.locked; free = λ i. at.free (same.closing i) }
 
   spare_stays : (number : ℕ) (b : BorderView) → IsSame a after w next number → IsSpare a w number b → IsSpare after next number b
-  spare_stays number b same s = record { named = same_border number b same s.named; unknown = same.spot ∙ s.unknown; locked = s.locked }
+  spare_stays number b same s = record { named = same_border number b same s.named; unknown = same.spot ∙ s.unknown; locked = s.locked; free = λ i. s.free (same.closing i) }
 
   layer_stays : (layer : Layer) (locked : Bool) (root : BorderView) → IsSame a after w next layer.head.0 → IsSame a after w next layer.root.0 → HasLayer a w layer locked root → HasLayer after next layer locked root
   layer_stays layer locked root head_same root_same has = record {
@@ -117,12 +118,12 @@ module _ (C begun moves : ℕ) (past : List Arena) (a : ArenaView) (w : World) w
   all_taken prefix n split has number i = let k = has.locked number i in inl (subst (λ (x : Option Node). IsLocked x) (sym (node-from_border a.nodes number k.b k.named)) k.locked)
 
   spare_taken : (half n number : ℕ) (u : BorderView) → IsSpare a w half u → (b : BorderView) → border_at a.nodes n ≡ Some b → b.version.locked ≡ true → Among number (half ∷ n ∷ []) → IsTaken a w number
-  spare_taken half n number u s b named locked first = inr (subst (λ (x : Option Node). IsSome x) (sym (node-from_border a.nodes half u s.named)) refl, s.unknown)
+  spare_taken half n number u s b named locked first = inr (inl (subst (λ (x : Option Node). IsSome x) (sym (node-from_border a.nodes half u s.named)) refl, s.unknown))
   spare_taken half n number u s b named locked (later i) = border_taken a w n number b named locked i
 
   layer_taken : (n number : ℕ) (layer : Layer) (locked : Bool) (root : BorderView) → HasLayer a w layer locked root → (b : BorderView) → border_at a.nodes n ≡ Some b → b.version.locked ≡ true → Among number (layer_owned n layer) → IsTaken a w number
-  layer_taken n number layer locked root has b named is_locked first = inr (subst (λ (x : Option Node). IsSome x) (sym (node-from_head a.nodes layer.head.0 _ has.head)) refl, has.head_unknown)
-  layer_taken n number layer locked root has b named is_locked (later first) = inr (subst (λ (x : Option Node). IsSome x) (sym (node-from_border a.nodes layer.root.0 root has.is_root)) refl, has.root_unknown)
+  layer_taken n number layer locked root has b named is_locked first = inr (inl (subst (λ (x : Option Node). IsSome x) (sym (node-from_head a.nodes layer.head.0 _ has.head)) refl, has.head_unknown))
+  layer_taken n number layer locked root has b named is_locked (later first) = inr (inl (subst (λ (x : Option Node). IsSome x) (sym (node-from_border a.nodes layer.root.0 root has.is_root)) refl, has.root_unknown))
   layer_taken n number layer locked root has b named is_locked (later (later i)) = border_taken a w n number b named is_locked i
 
   stage_taken : (key : List ℕ) (edit : Edit) (way : Way) (stage : Stage) → StageIsTrue C key edit way stage begun a w → (number : ℕ) → Among number (stage_held way.node.0 stage).owns → IsTaken a w number

@@ -34,7 +34,7 @@ use Rattle.std.specs.Option.{option_and_then}
 use Rattle.mt_arena.specs.Node.{border_at, border_of}
 use Rattle.mt_arena.specs.declared.node.Node.TheVariants.{Border}
 use Rattle.mt_chart.proofs.Basics.{same_number}
-use Rattle.mt_calls.proofs.SplitLemmas.{goes_occupied}
+use Rattle.mt_calls.proofs.SplitLemmas.{goes_occupied, vacant_root}
 use Rattle.mt_calls.proofs.LayerLemmas.{goes_given_back}
 use Rattle.mt_write.proofs.SpareLemmas.{vacant_border, has_locked_back, spares_go}
 use Rattle.mt_write.proofs.WorkLemmas.{locked_at_stays}
@@ -59,18 +59,18 @@ use Rattle.mt_write.specs.declared.writing.Stage.TheVariants.{Seeks, Locked, Spa
 use Rattle.mt_write.specs.declared.writing.Halves.{Halves}
 use Rattle.mt_calls.specs.declared.progress.Progress.{Progress}
 use Rattle.mt_calls.specs.declared.progress.Progress.TheVariants.{Moved, Waits, Committed, Answered, Refused}
-use Rattle.mt_calls.specs.World.{World, IsWorld, RowsAreOfKeys, Goes}
+use Rattle.mt_calls.specs.World.{World, IsWorld, RowsAreOfKeys, NotAmong, Goes}
 use Rattle.mt_calls.specs.Way.{rest_of, prefix_of, IsLayerOf, IsOnWay, IsAtPlace, GoesTo, Visits}
 use Rattle.mt_calls.specs.Step.{Held, Truth, Stepped, StepLaw, MayStep, RowIs, IsQuiet, put_row, Commits, Changes, blocked_by, bounds, IsOfLog, MayRefuse, MayFail, IsRight}
 use Rattle.mt_write.specs.Writing.{edit_request, written_answer, stage_held, IsLockedAt, HasLocked, AreHalves, empty_half, owned, SomeSets, IsBack, IsFilled, IsMade, IsFound, StageIsTrue, HeadedStage, new_entry, Fills, Prepares, PreparesRemove, LacksRow, put_delta, remove_delta}
 use Rattle.mt_calls.specs.World.{IsLockedBorder}
-use Rattle.mt_calls.proofs.FrameLemmas.{goes_same, quiet_same}
+use Rattle.mt_calls.proofs.FrameLemmas.{goes_same, quiet_same, retired_same}
 use Rattle.std.specs.Prelude.{IsSomeAnd, IsTrue}
 use Rattle.mt_calls.proofs.FoundLemmas.{some_at}
 use Rattle.mt_tree.proofs.RowLemmas.{stands_at, tells_row}
 use Rattle.mt_calls.proofs.WayLemmas.{starts}
 use Rattle.mt_calls.proofs.GetLemmas.{found_is_row}
-use Rattle.mt_calls.proofs.BorderLemmas.{now_named, others_named, keys_same, keys_changed, goes_border, unlocked_free, own_free, mine_free, among_one}
+use Rattle.mt_calls.proofs.BorderLemmas.{now_named, others_named, keys_same, keys_changed, goes_border, locked_may, on_kept, unlocked_root, unlocked_free, own_free, mine_free, among_one}
 
 -- no write is a get
 pub no_get : (key : List ℕ) (edit : Edit) → IsTrue (is_get (edit_request key edit)) → ⊥
@@ -131,9 +131,9 @@ module _ (C : ℕ) (a : ArenaView) (key : List ℕ) (edit : Edit) (way : Way) (w
 -- ---- the border of the key, once it is changed but for what stands in it
 locked_at-changed : (a : ArenaView) (key : List ℕ) (way : Way) (b : BorderView) (w : World) (change : BorderView → BorderView) → border_at a.nodes way.node.0 ≡ Some b → IsLayerOf key way
     → IsWhere (arena_seen a) w.chart way.node.0 (prefix_of key way) (border_seen b) (place_of (rest_of key way)) → IsLast (found_for (rest_of key way) b.live)
-    → (change b).low ≡ b.low → (change b).right ≡ b.right → (change b).live ≡ b.live → (change b).version.deleted ≡ false → (change b).version.locked ≡ true
+    → (change b).low ≡ b.low → (change b).right ≡ b.right → (change b).live ≡ b.live → (change b).version.deleted ≡ false → (change b).version.locked ≡ true → NotAmong way.node.0 w.closing
     → IsLockedAt (with_border_changed a way.node.0 change) key way (change b) w
-locked_at-changed a key way b w change named layer stands ends low right live alive locked =
+locked_at-changed a key way b w change named layer stands ends low right live alive locked free =
     let now_is = now_named a way.node.0 b change named in
     record {
       layer = layer;
@@ -150,6 +150,7 @@ locked_at-changed a key way b w change named layer stands ends low right live al
       alive = alive;
       last = subst (λ (l : List Entry). IsLast (found_for (rest_of key way) l)) (sym live) ends;
       locked = locked;
+      free = free;
     }
 
 filled_locked : (held : Bool) (v : VersionView) → (filled_version held v).locked ≡ v.locked
@@ -177,10 +178,10 @@ module _ (C : ℕ) (a : ArenaView) (key : List ℕ) (edit : Edit) (way : Way) (w
             record {
               goes = goes_border a way.node.0 b lock named now w [] (way.node.0 ∷ []) _ world kept.index (keys_same a (with_border_changed a way.node.0 lock) kept.content world.keys)
                   (unlocked_free a way.node.0 b lock named w [] unlocked (known_on (arena_seen a) w.chart way.node.0 (prefix_of key way) (border_seen b) stands.stands))
-                  (λ other i. inr (among_one other way.node.0 i)) (λ other ne i. elim i [ ]) (λ locked. first) (
+                  (λ other i. inr (among_one other way.node.0 i)) (λ other ne i. elim i [ ]) (λ locked. first) (on_kept a now w.chart way.node.0 _ _ _ _ stands.stands.place world.retired, λ i. refl) (
                     lock b,
                     locked_at-changed a key way b w lock named at.layer stands (subst (λ (x : BorderView). IsLast (found_for (rest_of key way) x.live)) same at.last) refl refl refl
-                        (ap (λ (x : BorderView). x.version.deleted) (sym same) ∙ at.alive) refl,
+                        (ap (λ (x : BorderView). x.version.deleted) (sym same) ∙ at.alive) refl (unlocked_root a w.closing w.chart way.node.0 b named unlocked world.heads),
                   );
               does = (record { content = kept.content; trimmed = refl; deltas = refl }, refl);
               reserved = refl;
@@ -229,13 +230,13 @@ next_slot (s ∷ slots) entry some = record { slot = record s { entry = entry };
 -- ---- what is locked
 alone : (a : ArenaView) (key : List ℕ) (way : Way) (b : BorderView) (w : World) → IsLockedAt a key way b w → HasLocked (prefix_of key way) a w way.node.0 None
 alone a key way b w at = record {
-  locked = λ other i. subst (λ (m : ℕ). IsLockedBorder a w m) (sym (among_one other way.node.0 i)) (record { b = b; named = at.named; known = known_on (arena_seen a) w.chart way.node.0 (prefix_of key way) (border_seen b) at.stands.stands; locked = at.locked });
+  locked = λ other i. subst (λ (m : ℕ). IsLockedBorder a w m) (sym (among_one other way.node.0 i)) (record { b = b; named = at.named; known = known_on (arena_seen a) w.chart way.node.0 (prefix_of key way) (border_seen b) at.stands.stands; locked = at.locked; free = at.free });
   own = first;
   halves = tt;
 }
 
 pub other_locked : (a : ArenaView) (n : ℕ) (b : BorderView) (change : BorderView → BorderView) (named : border_at a.nodes n ≡ Some b) (w : World) (other : ℕ) → other ≢ n → IsLockedBorder a w other → IsLockedBorder (with_border_changed a n change) w other
-other_locked a n b change named w other differ k = record { b = k.b; named = ap (option_and_then border_of) (others_named a n b change named other differ) ∙ k.named; known = k.known; locked = k.locked }
+other_locked a n b change named w other differ k = record { b = k.b; named = ap (option_and_then border_of) (others_named a n b change named other differ) ∙ k.named; known = k.known; locked = k.locked; free = k.free }
 
 halves_changed : (prefix : List ℕ) (a : ArenaView) (n : ℕ) (b : BorderView) (change : BorderView → BorderView) (named : border_at a.nodes n ≡ Some b) (w : World) (split : Option Halves) → (change b).low ≡ b.low → AreHalves prefix a w split → AreHalves prefix (with_border_changed a n change) w split
 halves_changed prefix a n b change named w None low halves = tt
@@ -253,7 +254,7 @@ halves_changed prefix a n b change named w (Some split) low halves = record {
 has_changed : (prefix : List ℕ) (a : ArenaView) (n : ℕ) (b : BorderView) (change : BorderView → BorderView) (named : border_at a.nodes n ≡ Some b) (w : World) (split : Option Halves) → (change b).version.locked ≡ true → (change b).low ≡ b.low → HasLocked prefix a w n split → HasLocked prefix (with_border_changed a n change) w n split
 has_changed prefix a n b change named w split locked low has = record {
   locked = λ other i. elim (same_number other n) [
-    | inl e ↦ subst (λ (m : ℕ). IsLockedBorder (with_border_changed a n change) w m) (sym e) (record { b = change b; named = now_named a n b change named; known = (has.locked n has.own).known; locked = locked })
+    | inl e ↦ subst (λ (m : ℕ). IsLockedBorder (with_border_changed a n change) w m) (sym e) (record { b = change b; named = now_named a n b change named; known = (has.locked n has.own).known; locked = locked; free = (has.locked n has.own).free })
     | inr differ ↦ other_locked a n b change named w other differ (has.locked other i)
   ];
   own = has.own;
@@ -315,9 +316,9 @@ module _ (C : ℕ) (a : ArenaView) (log : LogView) (key : List ℕ) (sets : List
       (record {
         goes = goes_border a way.node.0 b fill at.named now w (owned way.node.0 split) (owned way.node.0 split) _ world (subst (λ (x : ArenaView). IsIndexAt x now w.twins w.chart) f.filled kept.index)
             (subst (λ (x : ArenaView). RowsAreOfKeys x) f.filled (keys_same a after kept.content world.keys))
-            (mine_free a way.node.0 w (owned way.node.0 split) has.own) (λ other i. inl i) (λ other ne i. i) (λ locked. has.own) (
+            (mine_free a way.node.0 w (owned way.node.0 split) has.own) (λ other i. inl i) (λ other ne i. i) (λ locked. has.own) (locked_may a way.node.0 b fill at.named now w world at.locked at.free) (
               fill b,
-              locked_at-changed a key way b w fill at.named at.layer at.stands at.last refl refl refl (filled_deleted (first_held b.unused) b.version ∙ at.alive) (filled_locked (first_held b.unused) b.version ∙ at.locked),
+              locked_at-changed a key way b w fill at.named at.layer at.stands at.last refl refl refl (filled_deleted (first_held b.unused) b.version ∙ at.alive) (filled_locked (first_held b.unused) b.version ∙ at.locked) at.free,
               filled_is b place stored logged after left f same at.alive low right,
               has_changed (prefix_of key way) a way.node.0 b fill at.named w split (filled_locked (first_held b.unused) b.version ∙ at.locked) refl has,
             );
@@ -369,9 +370,9 @@ module _ (C : ℕ) (a : ArenaView) (log : LogView) (key : List ℕ) (sets : List
         (record {
           goes = goes_occupied now a after w half.0 (Border (empty_half f.b f.cut_at.middle)) (way.node.0 ∷ []) _ f.occupied.vacant f.occupied.updates f.occupied.retired f.occupied.unknown f.occupied.keeps world (
             f.b,
-            locked_at_stays a after w w key way f.b (record { node = f.occupied.updates.others way.node.0 differ; spot = refl; twins = λ one other here. ((λ h. h), (λ h. h)) }) at,
+            locked_at_stays a after w w key way f.b (record { node = f.occupied.updates.others way.node.0 differ; spot = refl; twins = λ one other here. ((λ h. h), (λ h. h)); closing = λ i. i; retired = retired_same a.retired after.retired way.node.0 f.occupied.retired }) at,
             f.cut_at,
-            record { named = now_is; unknown = f.occupied.unknown.unknown now w.twins w.chart world.index; locked = refl },
+            record { named = now_is; unknown = f.occupied.unknown.unknown now w.twins w.chart world.index; locked = refl; free = vacant_root a w half.0 f.occupied.vacant world.heads },
             f.copied,
           );
           does = (record { content = (f.occupied.keeps.keeps now w.twins w.chart world.index).content; trimmed = refl; deltas = refl }, refl);
@@ -558,7 +559,7 @@ module _ (C : ℕ) (a : ArenaView) (log : LogView) (key : List ℕ) (edit : Edit
         record {
           goes = subst (λ (x : ArenaView). Goes now a x w (owned way.node.0 split) (owned way.node.0 split) (λ next. StageIsTrue C key edit way (Stored number split) begun after next)) (sym is)
               (goes_border a way.node.0 b show at.named now w (owned way.node.0 split) (owned way.node.0 split) _ world (subst (λ (x : ArenaView). IsIndexAt x now w.twins w.chart) is adds.0)
-              (subst (λ (x : ArenaView). RowsAreOfKeys x) is (keys_changed a after log left key None (Some (put_row C number f.sets None)) number done world.keys)) (mine_free a way.node.0 w (owned way.node.0 split) has.own) (λ other i. inl i) (λ other ne i. i) (λ locked. has.own)
+              (subst (λ (x : ArenaView). RowsAreOfKeys x) is (keys_changed a after log left key None (Some (put_row C number f.sets None)) number done world.keys)) (mine_free a way.node.0 w (owned way.node.0 split) has.own) (λ other i. inl i) (λ other ne i. i) (λ locked. has.own) (locked_may a way.node.0 b show at.named now w world at.locked at.free)
               (subst (λ (x : ArenaView). HasLocked (prefix_of key way) x w way.node.0 split) (sym is) (has_changed (prefix_of key way) a way.node.0 b show at.named w split at.locked refl has)));
           does = (
             subst (λ (e : Edit). Commits C a after log left (edit_request key e) number) (sym f.is_put) (
@@ -602,7 +603,7 @@ module _ (C : ℕ) (a : ArenaView) (log : LogView) (key : List ℕ) (edit : Edit
         record {
           goes = subst (λ (x : ArenaView). Goes now a x w (way.node.0 ∷ []) (way.node.0 ∷ []) (λ next. StageIsTrue C key edit way (Stored number None) begun after next)) (sym is)
               (goes_border a way.node.0 b write at.named now w (way.node.0 ∷ []) (way.node.0 ∷ []) _ world (subst (λ (x : ArenaView). IsIndexAt x now w.twins w.chart) is replaces.0)
-              (subst (λ (x : ArenaView). RowsAreOfKeys x) is (keys_changed a after log left key (row_at place b.live) (Some (put_row C number f.sets (row_at place b.live))) number done world.keys)) (own_free a way.node.0 w) (λ other i. inl i) (λ other ne i. i) (λ locked. first)
+              (subst (λ (x : ArenaView). RowsAreOfKeys x) is (keys_changed a after log left key (row_at place b.live) (Some (put_row C number f.sets (row_at place b.live))) number done world.keys)) (own_free a way.node.0 w) (λ other i. inl i) (λ other ne i. i) (λ locked. first) (locked_may a way.node.0 b write at.named now w world at.locked at.free)
               (subst (λ (x : ArenaView). HasLocked (prefix_of key way) x w way.node.0 None) (sym is) (has_changed (prefix_of key way) a way.node.0 b write at.named w None at.locked refl (alone a key way b w at))));
           does = (
             subst (λ (e : Edit). Commits C a after log left (edit_request key e) number) (sym f.is_put) (
@@ -637,7 +638,7 @@ module _ (C : ℕ) (a : ArenaView) (log : LogView) (key : List ℕ) (edit : Edit
         record {
           goes = subst (λ (x : ArenaView). Goes now a x w (way.node.0 ∷ []) (way.node.0 ∷ []) (λ next. StageIsTrue C key edit way (Stored number None) begun after next)) (sym is)
               (goes_border a way.node.0 b hide at.named now w (way.node.0 ∷ []) (way.node.0 ∷ []) _ world (subst (λ (x : ArenaView). IsIndexAt x now w.twins w.chart) is removes.0)
-              (subst (λ (x : ArenaView). RowsAreOfKeys x) is (keys_changed a after log left key (Some before) None number done world.keys)) (own_free a way.node.0 w) (λ other i. inl i) (λ other ne i. i) (λ locked. first)
+              (subst (λ (x : ArenaView). RowsAreOfKeys x) is (keys_changed a after log left key (Some before) None number done world.keys)) (own_free a way.node.0 w) (λ other i. inl i) (λ other ne i. i) (λ locked. first) (locked_may a way.node.0 b hide at.named now w world at.locked at.free)
               (subst (λ (x : ArenaView). HasLocked (prefix_of key way) x w way.node.0 None) (sym is) (has_changed (prefix_of key way) a way.node.0 b hide at.named w None at.locked refl (alone a key way b w at))));
           does = (
             subst (λ (x : Edit). Commits C a after log left (edit_request key x) number) (sym f.is_remove) (
@@ -721,7 +722,7 @@ module _ (C : ℕ) (a : ArenaView) (log : LogView) (key : List ℕ) (edit : Edit
         subst (λ (x : ArenaView). Goes now a x w (way.node.0 ∷ []) [] Then) (sym is)
             (goes_border a way.node.0 at.b unlock at.named now w (way.node.0 ∷ []) [] _ world (subst (λ (x : ArenaView). IsIndexAt x now w.twins w.chart) is kept.index)
             (subst (λ (x : ArenaView). RowsAreOfKeys x) is (keys_same a after kept.content world.keys))
-            (own_free a way.node.0 w) (λ other i. elim i [ ]) (λ other ne i. absurd (ne (among_one other way.node.0 i))) (λ taken. absurd (elim taken [ inl locked ↦ (let clash : false ≡ true = locked in cc) | inr none ↦ (let some : IsSome (let nothing : Option Spot = None in nothing) = subst (λ (x : Option Spot). IsSome x) none at.known in cc) ])) truth),
+            (own_free a way.node.0 w) (λ other i. elim i [ ]) (λ other ne i. absurd (ne (among_one other way.node.0 i))) (λ taken. absurd (elim taken [ inl locked ↦ (let clash : false ≡ true = locked in cc) | inr none ↦ (let some : IsSome (let nothing : Option Spot = None in nothing) = subst (λ (x : Option Spot). IsSome x) none at.known in cc) ])) (locked_may a way.node.0 at.b unlock at.named now w world at.locked at.free) truth),
         record { content = kept.content; trimmed = refl; deltas = refl },
       )
 
@@ -739,7 +740,7 @@ module _ (C : ℕ) (a : ArenaView) (log : LogView) (key : List ℕ) (edit : Edit
     steps = λ now begun moves past w world before truth.
         let (b, at) = truth in
         let same : lacking.b ≡ b = (let both : ◌≡◌ {A = Option BorderView} (Some lacking.b) (Some b) = sym lacking.named ∙ at.named in cc) in
-        let (goes, quiet) = ends (λ next. Unit {0}) now w after is keeps world (record { b = b; named = at.named; known = known_on (arena_seen a) w.chart way.node.0 (prefix_of key way) (border_seen b) at.stands.stands; locked = at.locked }) tt in
+        let (goes, quiet) = ends (λ next. Unit {0}) now w after is keeps world (record { b = b; named = at.named; known = known_on (arena_seen a) w.chart way.node.0 (prefix_of key way) (border_seen b) at.stands.stands; locked = at.locked; free = at.free }) tt in
         let stood = stood_is b w now lacking.bytes (subst IsBorder same lacking.sound) world at in
         let none : row_found b.live (found_for rest b.live) ≡ None = subst (λ (x : BorderView). row_found x.live (found_for rest x.live) ≡ None) same lacking.none in
         record {

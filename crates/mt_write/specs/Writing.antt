@@ -45,7 +45,7 @@ use Rattle.mt_write.specs.declared.writing.Ending.TheVariants.{Stored as EndStor
 use Rattle.mt_post.specs.Posting.{PostingIsTrue, owned as posting_owned}
 use Rattle.mt_chart.specs.Chart.{spot, at_level, on}
 use Rattle.mt_write.specs.declared.writing.Layer.{Layer}
-use Rattle.mt_calls.specs.World.{World, IsLockedBorder}
+use Rattle.mt_calls.specs.World.{World, IsLockedBorder, NotAmong}
 use Rattle.mt_calls.specs.Way.{prefix_of, rest_of, IsLayerOf, IsOnWay, IsHeadOf}
 use Rattle.mt_calls.specs.declared.progress.Progress.{Progress}
 use Rattle.mt_calls.specs.Step.{Held, nothing, blocked_by, MayRefuse, MayFail, StepLaw, MayStep, columns_after}
@@ -115,6 +115,7 @@ pub record IsLockedAt (a : ArenaView) (key : List ℕ) (way : Way) (b : BorderVi
   pub alive : b.version.deleted ≡ false
   pub last : IsLast (found_for (rest_of key way) b.live)
   pub locked : b.version.locked ≡ true
+  pub free : NotAmong way.node.0 w.closing
 
 -- the halves of a border that is split: the right one is on in the layer of the prefix from its low on, and nothing may name it yet
 pub record IsSplit (prefix : List ℕ) (a : ArenaView) (w : World) (split : Halves) : Type 0 where
@@ -138,6 +139,7 @@ pub record IsSpare (a : ArenaView) (w : World) (number : ℕ) (b : BorderView) :
   pub named : border_at a.nodes number ≡ Some b
   pub unknown : w.chart number ≡ None
   pub locked : b.version.locked ≡ true
+  pub free : NotAmong number w.closing
 
 -- no entry is found
 abbrev pub IsAbsent : Found → Type 0

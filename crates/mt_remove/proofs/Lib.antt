@@ -1,0 +1,7 @@
+pub mod StageLemmas
+pub mod SeekLemmas
+pub mod DropLemmas
+pub mod UnlinkLemmas
+pub mod LoneLemmas
+pub mod LawLemmas
+pub mod TidyLasts

@@ -1,0 +1,19 @@
+use Rattle.std.proofs.Common.{inl, inr, sym, subst, ◌∙◌}
+use Rattle.mt_calls.specs.declared.progress.Progress.{Progress}
+use Rattle.mt_remove.specs.Follows.{TidyStep}
+use Rattle.mt_remove.proofs.SeekLemmas.{ends, begins_lone, locks}
+use Rattle.mt_remove.proofs.tidy.Tidy.begin.Goals as goal
+
+pub returns-then-is_locked : goal.returns-then-is_locked
+returns-then-is_locked c = subst (λ (p : Progress). TidyStep c.args.epoch c.args.tree.now c.args.tree.now c.args.self.now p c.args.self.now) (sym c.nothing.ensures)
+    (ends c.args.epoch c.args.tree.now c.args.self.now c.args.noted c.requires.seeks c.border-border.result.now c.border-border.ensures.value c.requires.here (inl (sym c.is_locked.ensures.value ∙ c.if-is_locked.true)))
+
+pub returns-in-Nothing : goal.returns-in-Nothing
+returns-in-Nothing c = subst (λ (p : Progress). TidyStep c.args.epoch c.args.tree.now c.args.tree.now c.args.self.now p c.args.self.now) (sym c.nothing-in-Nothing.ensures)
+    (ends c.args.epoch c.args.tree.now c.args.self.now c.args.noted c.requires.seeks c.border-border.result.now c.border-border.ensures.value c.requires.here (inr ((sym c.is_locked.ensures.value ∙ c.if-is_locked.false), sym c.in-Nothing.ensures)))
+
+pub returns-in-EmptyBorder : goal.returns-in-EmptyBorder
+returns-in-EmptyBorder c = locks c.args.epoch c.args.tree.now c.args.self.now c.args.noted c.requires.seeks c.border-border.result.now c.border-border.ensures.value c.requires.here c.in-EmptyBorder.parent c.lock_border.new.self (sym c.is_locked.ensures.value ∙ c.if-is_locked.false) (sym c.in-EmptyBorder.ensures) c.lock_border.ensures.value c.lock_border.ensures.keeps
+
+pub returns-in-LoneChild : goal.returns-in-LoneChild
+returns-in-LoneChild c = begins_lone c.args.epoch c.args.tree.now c.args.self.now c.args.noted c.requires.seeks c.border-border.result.now c.border-border.ensures.value c.requires.here c.in-LoneChild.lone (sym c.is_locked.ensures.value ∙ c.if-is_locked.false) (sym c.in-LoneChild.ensures)

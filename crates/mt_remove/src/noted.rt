@@ -1,0 +1,135 @@
+//! What a tidy notes on its way through a layer.
+
+ghost use Rattle.std.specs.Prelude.{◌≡◌, IsSome, IsSomeAnd};
+ghost use Rattle.mt_arena.specs.Node.{node_at};
+ghost use Rattle.mt_remove.specs.Noted.{is_first, namer_of, noted_from, noted_below};
+
+use mt_arena::Node;
+use mt_calls::way::Way;
+use mt_interior::Interior;
+use mt_tree::{TOP, Tree};
+use mt_types::numbers::NodeNo;
+
+/// How a call came to the node where it stands.
+#[derive(Clone, Copy)]
+pub enum Came {
+    /// From the head of the layer.
+    Head,
+    /// As a child of an interior.
+    Child {
+        parent: NodeNo,
+        /// Whether it is the first one.
+        first: bool,
+    },
+    /// From the border to its left.
+    Left,
+}
+
+/// What names an interior: the head of the layer, or an interior above it.
+#[derive(Clone, Copy)]
+pub enum Namer {
+    Head(NodeNo),
+    Interior(NodeNo),
+}
+
+/// An interior with one child.
+#[derive(Clone, Copy)]
+pub struct Lone {
+    pub interior: NodeNo,
+    pub child: NodeNo,
+    pub namer: Namer,
+}
+
+/// What a tidy has noted in the layer where it stands.
+#[derive(Clone, Copy)]
+pub struct Noted {
+    /// The head of the layer.
+    pub head: NodeNo,
+    /// The border above, whose link leads to the layer.
+    pub above: Option<NodeNo>,
+    pub came: Came,
+    /// The lowest interior with one child, of those that it came through.
+    pub lone: Option<Lone>,
+}
+
+/// What is noted at the begin.
+pub const NOTHING: Noted = Noted {
+    head: TOP,
+    above: None,
+    came: Came::Head,
+    lone: None,
+};
+
+// Whether the node is the first child of an interior.
+fn is_first(interior: &Interior, node: NodeNo) -> bool
+    ensures { result ≡ is_first node interior.now.children }
+{
+    match interior.place_of(node) {
+        Some(place) => place == 0,
+        None => false,
+    }
+}
+
+impl Noted {
+    // What names the interior where the call stands.
+    fn namer(&self) -> Namer
+        ensures { result ≡ namer_of self.now }
+    {
+        match self.came {
+            Came::Child { parent, .. } => Namer::Interior(parent),
+            Came::Head | Came::Left => Namer::Head(self.head),
+        }
+    }
+
+    // In the layer of a head, below a border.
+    fn below(above: NodeNo, head: NodeNo) -> Noted
+        ensures { result ≡ noted_below above head }
+    {
+        Noted {
+            head,
+            above: Some(above),
+            came: Came::Head,
+            lone: None,
+        }
+    }
+
+    /// Once it goes on from the node where it stands. Looks at each child of an interior, which are sixteen at most.
+    pub fn goes_on(&self, tree: &Tree, way: Way, next: Way) -> Noted
+        requires { IsSome (node_at tree.now.nodes way.node.0) }
+        ensures { IsSomeAnd (node_at tree.now.nodes way.node.0) (λ node. result ≡ noted_from node way next self.now) }
+    {
+        if next.layer != way.layer {
+            return Noted::below(way.node, next.node);
+        }
+        match tree.node(way.node) {
+            Node::Head(_) => Noted {
+                came: Came::Head,
+                ..*self
+            },
+            Node::Interior(interior) => {
+                let first = is_first(interior, next.node);
+                let lone = if interior.len() == 1 {
+                    Some(Lone {
+                        interior: way.node,
+                        child: next.node,
+                        namer: self.namer(),
+                    })
+                } else {
+                    self.lone
+                };
+                Noted {
+                    came: Came::Child {
+                        parent: way.node,
+                        first,
+                    },
+                    lone,
+                    ..*self
+                }
+            }
+            Node::Border(_) => Noted {
+                came: Came::Left,
+                ..*self
+            },
+        }
+    }
+}

@@ -1,0 +1,65 @@
+//! What a tidy sees of an interior: whether it is still as it was noted.
+
+ghost use Rattle.std.specs.Prelude.{◌≡◌, ◌<◌, Some, None, IsSome, IsSomeAnd, IfSome, IfNone};
+ghost use Rattle.mt_arena.specs.Node.{node_at};
+ghost use Rattle.mt_tree.specs.InteriorSteps.{child_at};
+ghost use Rattle.mt_remove.specs.Seen.{free_interior, is_lone, place_in, later_place};
+
+use mt_arena::Node;
+use mt_interior::Interior;
+use mt_tree::Tree;
+use mt_types::numbers::NodeNo;
+
+// The interior that a node is, if it is neither marked deleted nor locked.
+fn free_interior(node: &Node) -> Option<&Interior>
+    ensures some { IfSome result (λ interior. free_interior node.now ≡ Some interior.now) }
+    ensures none { IfNone result (free_interior node.now ≡ None) }
+{
+    match node {
+        Node::Interior(interior) => {
+            if interior.is_deleted() || interior.is_locked() {
+                None
+            } else {
+                Some(interior)
+            }
+        }
+        Node::Head(_) | Node::Border(_) => None,
+    }
+}
+
+/// Whether a node is an interior with one child, this one, and is neither marked deleted nor locked. Constant cost.
+pub fn is_lone(tree: &Tree, number: NodeNo, child: NodeNo) -> bool
+    requires { IsSome (node_at tree.now.nodes number.0) }
+    ensures { IsSomeAnd (node_at tree.now.nodes number.0) (λ node. result ≡ is_lone node child) }
+{
+    match free_interior(tree.node(number)) {
+        Some(interior) => interior.len() == 1 && interior.child(0).node.0 == child.0,
+        None => false,
+    }
+}
+
+/// The place of a node among the children of an interior, if it is one that is neither marked deleted nor locked. Looks
+/// at each child once.
+pub fn place_in(tree: &Tree, number: NodeNo, child: NodeNo) -> Option<usize>
+    requires { IsSome (node_at tree.now.nodes number.0) }
+    ensures value { IsSomeAnd (node_at tree.now.nodes number.0) (λ node. result ≡ place_in node child) }
+    ensures named { IfSome result (λ place. IsSomeAnd (child_at tree.now.nodes number.0 place) (λ there. there.node ≡ child)) }
+{
+    match free_interior(tree.node(number)) {
+        Some(interior) => interior.place_of(child),
+        None => None,
+    }
+}
+
+/// The same, where the child is not the first.
+pub fn later_place(tree: &Tree, number: NodeNo, child: NodeNo) -> Option<usize>
+    requires { IsSome (node_at tree.now.nodes number.0) }
+    ensures value { IsSomeAnd (node_at tree.now.nodes number.0) (λ node. result ≡ later_place node child) }
+    ensures named { IfSome result (λ place. IsSomeAnd (child_at tree.now.nodes number.0 place) (λ there. there.node ≡ child)) }
+    ensures later { IfSome result (λ place. 0 < place) }
+{
+    match place_in(tree, number, child) {
+        Some(place) => { if place == 0 { None } else { Some(place) } }
+        None => None,
+    }
+}

@@ -1,0 +1,49 @@
+//! The signs that a tidy sees at its place.
+
+ghost use Rattle.std.specs.Prelude.{◌≡◌};
+ghost use Rattle.mt_remove.specs.Noted.{lone_sign, border_sign, sign_of};
+
+use crate::noted::{Came, Lone, Noted};
+use mt_border::Border;
+use mt_types::numbers::NodeNo;
+
+/// The first rule whose signs are seen.
+#[derive(Clone, Copy)]
+pub enum Sign {
+    /// No rule's.
+    Nothing,
+    /// The border is empty and not the first of its layer, and this interior names it, not as its first child.
+    EmptyBorder(NodeNo),
+    /// An interior on the way has one child.
+    LoneChild(Lone),
+}
+
+// Of an interior with one child, if one was noted.
+fn lone_sign(lone: Option<Lone>) -> Sign
+    ensures { result ≡ lone_sign lone }
+{
+    match lone {
+        Some(lone) => Sign::LoneChild(lone),
+        None => Sign::Nothing,
+    }
+}
+
+/// The first rule whose signs are seen at a border, by what was noted on the way to it. Constant cost.
+pub fn sign_of(border: &Border, noted: &Noted) -> Sign
+    ensures { result ≡ sign_of border.now noted.now }
+{
+    let otherwise = lone_sign(noted.lone);
+    match noted.came {
+        Came::Child {
+            parent,
+            first: false,
+        } => {
+            if border.len() == 0 && border.low() != 0 {
+                Sign::EmptyBorder(parent)
+            } else {
+                otherwise
+            }
+        }
+        Came::Child { .. } | Came::Head | Came::Left => otherwise,
+    }
+}
