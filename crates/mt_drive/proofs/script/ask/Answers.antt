@@ -4,7 +4,8 @@ use Rattle.mt_drive.proofs.script.ask.Goals as goal
 
 pub returns-then-is_served-clause-stands : goal.returns-then-is_served-clause-stands
 returns-then-is_served-clause-stands c = λ past stands.
-    (happening c.args.event.now c.event.result 0 ∷ past, (c.is_served.ensures.0 c.if-is_served.true, (0, refl)), c.event.ensures.stands past stands)
+    let (opens, then) = c.event.ensures.stands past stands in
+    (happening c.args.event.now c.event.result opens ∷ past, (c.is_served.ensures.0 c.if-is_served.true, (opens, refl)), then)
 
 pub returns-else-is_served-clause-stands : goal.returns-else-is_served-clause-stands
 returns-else-is_served-clause-stands c = λ past stands.

@@ -4,4 +4,4 @@ use Rattle.mt_promise.specs.History.{happening}
 use Rattle.mt_drive.proofs.script.step.Goals as goal
 
 pub returns-clause-stands : goal.returns-clause-stands
-returns-clause-stands c = λ past stands. (happening (Step c.args.call) c.event.result 0 ∷ past, (0, refl), c.event.ensures.stands past stands)
+returns-clause-stands c = λ past stands. let (opens, then) = c.event.ensures.stands past stands in (happening (Step c.args.call) c.event.result opens ∷ past, (opens, refl), then)
