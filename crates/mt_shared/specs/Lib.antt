@@ -1,0 +1,6 @@
+pub mod Traces
+pub mod Passes
+pub mod Books
+pub mod Kept
+pub mod Drives
+pub mod Feeds
