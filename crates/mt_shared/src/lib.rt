@@ -10,4 +10,6 @@ pub mod kept;
 pub mod lone;
 pub mod pass;
 pub mod settling;
+#[cfg(test)]
+mod tests;
 pub mod trace;
