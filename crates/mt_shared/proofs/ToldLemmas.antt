@@ -11,7 +11,7 @@ use Rattle.mt_types.specs.declared.refusal.Refusal.TheVariants.{WrongPass, Spent
 use Rattle.mt_promise.specs.History.{History, OpenCall, call_of, moment}
 use Rattle.mt_promise.specs.Legal.{begin_fault, view_places}
 use Rattle.mt_index.specs.Calls.{pass_at}
-use Rattle.mt_index.specs.Stands.{MachineView, Stands, CallStands}
+use Rattle.mt_index.specs.Stands.{MachineView, Stands}
 use Rattle.mt_index.proofs.PairedLemmas.{paired-pass}
 use Rattle.mt_shared.specs.Passes.{PassView, IsTold, Suits}
 use Rattle.mt_shared.specs.Kept.{KeptView, IsKept, Does, IsMade, IsUnmade, Makes, is_wrong, is_spent, is_foreign, is_other}
@@ -32,7 +32,7 @@ suits : (m n : MachineView) (h : History) (pass : PassNo) (e : Event) (o : Outco
 suits m n h pass (Begin named request) o st makes mine = let (opens, then) = makes.stands h st in begin_suits pass named request (moment h) (begin_fault n.columns (moment h).begun (length (moment h).calls) (view_places (moment h)) request) o then.legal.1
 suits m n h pass (Step call) o st makes mine =
     let (opens, then) = makes.stands h st in
-    let owner = paired-pass (CallStands m.columns m.epoch m.tree st.w h) 0 m.calls.begun call.0 m.calls.calls (moment h).calls (λ kept c related. related.pass) st.calls in
+    let owner = paired-pass _ 0 m.calls.begun call.0 m.calls.calls (moment h).calls (λ kept c related. related.pass) st.calls in
     step_suits n.columns h pass call (call_of call.0 (moment h).calls) refl
     (λ c at. own_call (pass_at call.0 m.calls.calls) pass c mine (owner ∙ ap (option_map (λ (x : OpenCall). x.pass)) at))
     o opens then.legal.1

@@ -1,5 +1,6 @@
 -- The events that a call is driven by.
-use Rattle.std.specs.Prelude.{ℕ, ◌≡◌, ◌≤◌, ◌<◌, ◌⊎◌, List, [], ◌∷◌, ◌++◌, All, Option, Some, None, Result, Ok, Err, IfOk, IfErr}
+use Rattle.std.specs.Prelude.{ℕ, ◌≡◌, ◌≤◌, ◌<◌, ◌⊎◌, List, [], ◌∷◌, ◌++◌, All}
+use Rattle.std.specs.Prelude.{Option, Some, None, Result, Ok, Err, IfOk, IfErr}
 use Rattle.mt_types.specs.declared.numbers.PassNo.{PassNo}
 use Rattle.mt_types.specs.declared.numbers.CallNo.{CallNo}
 use Rattle.mt_types.specs.declared.refusal.Refusal.{Refusal}
@@ -38,10 +39,13 @@ pub record IsStep (p : PassNo) (call : CallNo) (x : Entry) : Type 0 where
 
 -- the begin of a call, these steps of it, and its last step
 abbrev pub whole : PassNo → Request → CallNo → List Entry → Outcome → List Entry
-whole pass request call steps last = (entry pass (Begin pass request) (Call call) ∷ steps) ++ (entry pass (Step call) last ∷ [])
+whole pass request call steps last =
+    (entry pass (Begin pass request) (Call call) ∷ steps) ++ (entry pass (Step call) last ∷ [])
 
--- A call of the pass was driven to this reply: by its begin, by steps after which it goes on, and by the step that is done with the reply.
-pub record IsDriven {S : Type 0} (does : EventLaw S) (s : S) (p : PassView) (request : Request) (reply : Reply) (t : S) (q : PassView) : Type 0 where
+-- A call of the pass was driven to this reply: by its begin, by steps after which it goes on, and by the step that is
+-- done with the reply.
+pub record IsDriven {S : Type 0} (does : EventLaw S) (s : S) (p : PassView) (request : Request) (reply : Reply)
+    (t : S) (q : PassView) : Type 0 where
   pub steps : List Entry
   pub are_steps : All (IsStep p.number reply.call) steps
   pub runs : Runs does s p (whole p.number request reply.call steps (Done reply)) t q
@@ -59,14 +63,15 @@ EndsNone (Done reply) = ⊥
 EndsNone (Refused refusal) = ⊥
 EndsNone _ = Unit {0}
 
--- what the outcome of a step ends its call with, where the pass had seen so many commits: nothing, a reply, or a refusal
+-- what the outcome of a step ends its call with, where the pass had seen so many commits: nothing, a reply, a refusal
 abbrev pub Ends : ℕ → Outcome → Option (Result Reply Refusal) → Type 0
 Ends seen outcome None = EndsNone outcome
 Ends seen outcome (Some (Ok reply)) = (outcome ≡ Done reply) × (seen ≤ reply.from)
 Ends seen outcome (Some (Err refusal)) = EndsIn refusal seen outcome
 
 -- a call was driven until a step ended it so
-pub record IsCut {S : Type 0} (does : EventLaw S) (s : S) (p : PassView) (request : Request) (refusal : Refusal) (t : S) (q : PassView) : Type 0 where
+pub record IsCut {S : Type 0} (does : EventLaw S) (s : S) (p : PassView) (request : Request) (refusal : Refusal)
+    (t : S) (q : PassView) : Type 0 where
   pub call : CallNo
   pub steps : List Entry
   pub last : Outcome
@@ -79,14 +84,16 @@ abbrev pub IsRefused : {S : Type 0} → EventLaw S → S → PassView → Reques
 IsRefused does s p request refusal t q =
     does s p (Begin p.number request) (Refused refusal) t q ⊎ IsCut does s p request refusal t q
 
--- a reply to the pass: it carries the pass, it begins no earlier than what the pass had seen, and the pass has seen its end
+-- a reply to the pass: it carries the pass, it begins no earlier than what the pass had seen, and the pass has then
+-- seen its end
 pub record IsReplyTo (p : PassView) (reply : Reply) (q : PassView) : Type 0 where
   pub pass : reply.pass ≡ p.number
   pub from : p.seen ≤ reply.from
   pub to : reply.to ≤ q.seen
 
 -- what a call of the pass, driven to its end, came to
-pub record IsDrive {S : Type 0} (does : EventLaw S) (s : S) (p : PassView) (request : Request) (result : Result Reply Refusal) (t : S) (q : PassView) : Type 0 where
+pub record IsDrive {S : Type 0} (does : EventLaw S) (s : S) (p : PassView) (request : Request)
+    (result : Result Reply Refusal) (t : S) (q : PassView) : Type 0 where
   pub number : q.number ≡ p.number
   pub seen : p.seen ≤ q.seen
   pub reply : IfOk result (λ reply. IsReplyTo p reply q)

@@ -4,3 +4,4 @@ pub mod Books
 pub mod Kept
 pub mod Drives
 pub mod Feeds
+pub mod Inside

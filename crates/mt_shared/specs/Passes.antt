@@ -1,5 +1,5 @@
 -- A pass as contracts see it, and what an event adds to it.
-use Rattle.std.specs.Prelude.{ℕ, ◌+◌, ◌≡◌, ◌⊎◌, Bool, List, [], ◌∷◌, length, max}
+use Rattle.std.specs.Prelude.{ℕ, ◌+◌, ◌≡◌, ◌⊎◌, Bool, List, [], ◌∷◌, length, max, sum_by}
 use Rattle.mt_types.specs.declared.numbers.PassNo.{PassNo}
 use Rattle.mt_types.specs.declared.event.Event.{Event}
 use Rattle.mt_types.specs.declared.event.Event.TheVariants.{Begin, Step}
@@ -7,7 +7,8 @@ use Rattle.mt_types.specs.declared.event.Outcome.{Outcome}
 use Rattle.mt_types.specs.declared.event.Outcome.TheVariants.{Call, Moved, Again, Commit, Done, Refused}
 use Rattle.mt_types.specs.declared.refusal.Refusal.TheVariants.{Spent, WrongPass}
 use Rattle.mt_shared.specs.declared.trace.Trace.{Trace}
-use Rattle.mt_shared.specs.Traces.{entry, Gains, IsNewTrace}
+use Rattle.mt_shared.specs.declared.trace.Entry.{Entry}
+use Rattle.mt_shared.specs.Traces.{entry, part, Gains, IsNewTrace, Keeps}
 
 pub record PassView : Type 0 where
   pub number : PassNo
@@ -47,11 +48,23 @@ Suits pass (Step call) (Refused refusal) = Unit {0}
 Suits pass (Step call) _ = ⊥
 Suits pass _ outcome = Unit {0}
 
--- What a pass is told by an event: either it was refused as one that this pass can't make, and then the pass is as it was; or it was made, and counted.
+-- What a pass is told by an event: either it was refused as one that this pass can't make, and then the pass is as it
+-- was; or it was made, and counted.
 abbrev pub IsTold : PassView → Event → Outcome → PassView → Type 0
 IsTold p event outcome q =
     (((outcome ≡ Refused WrongPass) ⊎ (outcome ≡ Refused Spent)) × (q ≡ p))
     ⊎ (Counts p event outcome q × Suits p.number event outcome)
+
+-- how many events the passes have made, and how many commits
+abbrev pub events_by : List PassView → ℕ
+events_by passes = sum_by (λ (p : PassView). p.events) passes
+
+abbrev pub commits_by : List PassView → ℕ
+commits_by passes = sum_by (λ (p : PassView). p.commits) passes
+
+-- the pass has in its own trace just its part of these entries
+abbrev pub HasItsPart : List Entry → PassView → Type 0
+HasItsPart entries p = Keeps p.trace (part p.number entries)
 
 -- a pass of this number that has done nothing, with a trace or without
 pub record IsNewPass (traced : Bool) (n : ℕ) (p : PassView) : Type 0 where

@@ -1,9 +1,11 @@
 -- What a trace says: the events that were made, with their outcomes, the oldest first.
-use Rattle.std.specs.Prelude.{◌≡◌, ◌==◌, Bool, true, false, List, [], ◌++◌, map, filter}
+use Rattle.std.specs.Prelude.{ℕ, ◌≡◌, ◌==◌, Bool, true, false, List, [], ◌++◌, length, map, filter}
 use Rattle.mt_types.specs.declared.numbers.PassNo.{PassNo}
 use Rattle.mt_types.specs.declared.event.Event.{Event}
 use Rattle.mt_types.specs.declared.event.Outcome.{Outcome}
-use Rattle.mt_promise.specs.History.{History, GoesOn}
+use Rattle.mt_promise.specs.History.{History, GoesOn, moment}
+use Rattle.mt_promise.specs.Legal.{Legal}
+use Rattle.mt_promise.specs.Headline.{KeepsPromise}
 use Rattle.mt_shared.specs.declared.trace.Entry.{Entry}
 use Rattle.mt_shared.specs.declared.trace.Trace.{Trace}
 use Rattle.mt_shared.specs.declared.trace.Trace.TheVariants.{Off, On, Lost}
@@ -17,7 +19,17 @@ part pass entries = filter (λ (x : Entry). x.pass.0 == pass.0) entries
 
 -- these entries are what happened, one for each event, in their order
 abbrev pub Tells : List Entry → History → Type 0
-Tells entries h = GoesOn [] (map (λ (x : Entry). x.event) entries) (map (λ (x : Entry). x.outcome) entries) h
+Tells entries h =
+    GoesOn [] (map (λ (x : Entry). x.event) entries) (map (λ (x : Entry). x.outcome) entries) h
+
+-- these entries are what happened in a legal history of an index of C columns, which keeps the promise
+abbrev pub IsLegalTrace : ℕ → List Entry → Type 0
+IsLegalTrace C entries = (h : History) × Tells entries h × Legal C h × KeepsPromise C h
+
+-- there is a legal history of so many events and so many commits
+abbrev pub HaveHappened : ℕ → ℕ → ℕ → Type 0
+HaveHappened C events commits =
+    (h : History) × Legal C h × (length h ≡ events) × (length (moment h).commits ≡ commits)
 
 -- a trace that is kept tells this history
 abbrev pub IsTraceOf : Trace → History → Type 0

@@ -38,8 +38,8 @@ pub fn get<S: Shared>(
 ///
 /// # Errors
 ///
-/// Those of `drive`: `KeyTooLong`, `BadColumn`, `ColumnTooLong`, `ArenaFull`, `FeedFull`, `NoMemory` among them. A put that
-/// has committed is never refused.
+/// Those of `drive`: `KeyTooLong`, `BadColumn`, `ColumnTooLong`, `ArenaFull`, `FeedFull`, `NoMemory` among them. A put
+/// that has committed is never refused.
 pub fn put<S: Shared>(
     alloc: Global,
     shared: &mut S,
@@ -72,7 +72,8 @@ pub fn remove<S: Shared>(
 ///
 /// # Errors
 ///
-/// Those of `drive`: `KeyTooLong`, `BadColumn`, `BadLimit` unless `limit` is from 1 to 1000, `NoMemory` among them.
+/// Those of `drive`: `KeyTooLong`, `BadColumn`, `BadLimit` unless `limit` is from 1 to 1000, `NoMemory` among
+/// them.
 pub fn getrange<S: Shared>(
     alloc: Global,
     shared: &mut S,

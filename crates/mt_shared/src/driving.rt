@@ -39,18 +39,18 @@ impl Gate for NoGate {
     fn between(&mut self, _outcome: &Outcome) {}
 }
 
-/// One call of a pass, from its begin to its reply: its begin, and steps of it until one is done. After each event the gate
-/// is asked. Where a step answers `Again`, since the call waits for a node that another call has, the thread lets others
-/// run (`thread::yield_now`) before the next.
+/// One call of a pass, from its begin to its reply: its begin, and steps of it until one is done. After each event the
+/// gate is asked. Where a step answers `Again`, since the call waits for a node that another call has, the thread lets
+/// others run (`thread::yield_now`) before the next.
 ///
-/// Over a `Door` each event is one holding of the lock, so other threads' events come between them; none is held between
-/// two.
+/// Over a `Door` each event is one holding of the lock, so other threads' events come between them; between two the
+/// lock isn't held.
 ///
 /// # Errors
 ///
-/// The refusal by which the begin or the call ended. `WrongPass` also where the reply begins at fewer commits than the pass
-/// had seen: it is a pass of another index. `Spent` where the count of events is at its greatest value; the call is then
-/// left open. What the call has done by then stands.
+/// The refusal by which the begin or the call ended. `WrongPass` also where the reply begins at fewer commits than the
+/// pass had seen: it is a pass of another index. `Spent` where the count of events is at its greatest value; the call
+/// is then left open. What the call has done by then stands.
 pub fn drive<S: Shared, G: Gate>(
     alloc: Global,
     shared: &mut S,
@@ -88,7 +88,8 @@ pub fn drive<S: Shared, G: Gate>(
     }
 }
 
-// What the outcome of a step ends its call with, if it does. A reply from before what the pass had seen is of another index.
+// What the outcome of a step ends its call with, if it does. A reply from before what the pass had seen is of another
+// index.
 fn end_of(outcome: Outcome, seen: u64) -> Option<Result<Reply, Refusal>>
     ensures { Ends seen outcome result }
 {

@@ -1,13 +1,10 @@
 //! An index that many threads share: one lock round the machine and the books of its passes.
 
-ghost use Rattle.std.specs.Prelude.{◌≡◌, ℕ, Bool, true, false, MatchOption, IfOk, IfErr, Err, All, sum_by, length};
-ghost use Rattle.mt_promise.specs.History.{History, moment};
-ghost use Rattle.mt_promise.specs.Legal.{Legal};
-ghost use Rattle.mt_promise.specs.Headline.{KeepsPromise};
-ghost use Rattle.mt_shared.specs.Passes.{PassView, AreNewPasses};
-ghost use Rattle.mt_shared.specs.Traces.{Keeps, Tells, part};
-ghost use Rattle.mt_shared.specs.Kept.{KeptView, Does, IsKept, start_fault};
-ghost use Rattle.mt_shared.specs.Feeds.{Feeds};
+ghost use Rattle.std.specs.Prelude.{◌≡◌, true, false, IfOk, IfErr, All, length};
+ghost use Rattle.mt_shared.specs.Passes.{AreNewPasses, HasItsPart, events_by, commits_by};
+ghost use Rattle.mt_shared.specs.Traces.{IsLegalTrace, HaveHappened};
+ghost use Rattle.mt_shared.specs.Kept.{IsKept, IsRefusedBy, DoesSomewhere, start_fault};
+ghost use Rattle.mt_shared.specs.Feeds.{FeedsSomewhere};
 
 use crate::driving::Shared;
 use crate::kept::Kept;
@@ -58,13 +55,13 @@ impl Index {
     ) -> Result<(Index, Vec<Pass>), Refusal>
         ensures columns { IfOk result (λ r. r.0 ≡ options.columns) }
         ensures passes { IfOk result (λ r. AreNewPasses false passes r.1.items) }
-        ensures fault { MatchOption (start_fault options passes) (IfErr result (λ refusal. refusal ≡ Refusal.NoMemory)) (λ refusal. result ≡ Err refusal) }
+        ensures fault { IsRefusedBy (start_fault options passes) result }
     {
         Index::open(alloc, options, passes, false)
     }
 
-    /// `start`, with a trace: a copy of each event that is made, and of its outcome, is kept under the lock and in its pass,
-    /// for `close_record`. Where memory for a copy is refused the trace is lost, and the calls go on.
+    /// `start`, with a trace: a copy of each event that is made, and of its outcome, is kept under the lock and in its
+    /// pass, for `close_record`. Where memory for a copy is refused the trace is lost, and the calls go on.
     ///
     /// # Errors
     ///
@@ -76,7 +73,7 @@ impl Index {
     ) -> Result<(Index, Vec<Pass>), Refusal>
         ensures columns { IfOk result (λ r. r.0 ≡ options.columns) }
         ensures passes { IfOk result (λ r. AreNewPasses true passes r.1.items) }
-        ensures fault { MatchOption (start_fault options passes) (IfErr result (λ refusal. refusal ≡ Refusal.NoMemory)) (λ refusal. result ≡ Err refusal) }
+        ensures fault { IsRefusedBy (start_fault options passes) result }
     {
         Index::open(alloc, options, passes, true)
     }
@@ -89,7 +86,7 @@ impl Index {
     ) -> Result<(Index, Vec<Pass>), Refusal>
         ensures columns { IfOk result (λ r. r.0 ≡ options.columns) }
         ensures passes { IfOk result (λ r. AreNewPasses traced passes r.1.items) }
-        ensures fault { MatchOption (start_fault options passes) (IfErr result (λ refusal. refusal ≡ Refusal.NoMemory)) (λ refusal. result ≡ Err refusal) }
+        ensures fault { IsRefusedBy (start_fault options passes) result }
     {
         if let Some(refusal) = start_fault(options, passes) {
             return Err(refusal);
@@ -139,26 +136,27 @@ fn new_passes(alloc: Global, count: u16, traced: bool) -> Result<Vec<Pass>, Refu
 ///
 /// # Errors
 ///
-/// `WrongPass` where a pass is missing or comes twice, or its counts aren't its book's. The index and the passes are dropped.
+/// `WrongPass` where a pass is missing or comes twice, or its counts aren't its book's. The index and the passes are
+/// dropped.
 pub fn close(index: Index, passes: Vec<Pass>) -> Result<Totals, Refusal>
-    ensures events { IfOk result (λ totals. totals.events ≡ sum_by (λ (p : PassView). p.events) passes.items) }
-    ensures commits { IfOk result (λ totals. totals.commits ≡ sum_by (λ (p : PassView). p.commits) passes.items) }
-    ensures history { IfOk result (λ totals. (h : History) × Legal index h × (length h ≡ totals.events) × (length (moment h).commits ≡ totals.commits)) }
+    ensures events { IfOk result (λ totals. totals.events ≡ events_by passes.items) }
+    ensures commits { IfOk result (λ totals. totals.commits ≡ commits_by passes.items) }
+    ensures history { IfOk result (λ totals. HaveHappened index totals.events totals.commits) }
 {
     index.into_kept()?.settle(&passes)
 }
 
-/// The end of an index from `Index::record`: the trace of all events that were made on it, in the order in which the lock was
-/// held. O(n) in the events, times the passes; a comparison of each event.
+/// The end of an index from `Index::record`: the trace of all events that were made on it, in the order in which the
+/// lock was held. O(n) in the events, times the passes; a comparison of each event.
 ///
 /// # Errors
 ///
-/// `WrongPass` as in `close`, and where no trace was kept or a pass's own trace isn't its part of it; `NoMemory` where memory
-/// for a copy was refused. The index and the passes are dropped.
+/// `WrongPass` as in `close`, and where no trace was kept or a pass's own trace isn't its part of it; `NoMemory` where
+/// memory for a copy was refused. The index and the passes are dropped.
 pub fn close_record(index: Index, passes: Vec<Pass>) -> Result<Vec<Entry>, Refusal>
-    ensures legal { IfOk result (λ trace. (h : History) × Tells trace.items h × Legal index h × KeepsPromise index h) }
-    ensures parts { IfOk result (λ trace. All (λ (p : PassView). Keeps p.trace (part p.number trace.items)) passes.items) }
-    ensures count { IfOk result (λ trace. length trace.items ≡ sum_by (λ (p : PassView). p.events) passes.items) }
+    ensures legal { IfOk result (λ trace. IsLegalTrace index trace.items) }
+    ensures parts { IfOk result (λ trace. All (HasItsPart trace.items) passes.items) }
+    ensures count { IfOk result (λ trace. length trace.items ≡ events_by passes.items) }
 {
     index.into_kept()?.settle_trace(&passes)
 }
@@ -171,13 +169,14 @@ impl<'a, W> Door<'a, W> {
 }
 
 impl<'a, W: Wait> Door<'a, W> {
-    /// The deltas of the commits after the first `from`, `limit` at most: `Machine::feed`, in one holding of the lock. No event.
+    /// The deltas of the commits after the first `from`, `limit` at most: `Machine::feed`, in one holding of the lock.
+    /// No event.
     ///
     /// # Errors
     ///
     /// Those of `Machine::feed`.
     pub fn feed(&self, alloc: Global, from: u64, limit: u16) -> Result<Vec<Delta>, Refusal>
-        ensures { (s : KeptView) × IsKept s × Feeds s.machine from limit result }
+        ensures { FeedsSomewhere from limit result }
     {
         let index = self.index;
         index.kept.lock(self.wait).feed(alloc, from, limit)
@@ -186,7 +185,7 @@ impl<'a, W: Wait> Door<'a, W> {
 
 impl<'a, W: Wait> Shared for Door<'a, W> {
     // somewhere in the order in which the lock is held it was an event on what lay there
-    ghost does = { λ d p event outcome f q. (s : KeptView) × (t : KeptView) × IsKept s × Does s p event outcome t q × IsKept t };
+    ghost does = { λ _ p event outcome _ q. DoesSomewhere p event outcome q };
 
     /// One holding of the lock, and in it one `Kept::event`.
     fn event(&mut self, alloc: Global, pass: &mut Pass, event: &Event) -> Outcome {

@@ -1,11 +1,12 @@
 //! What lies under the lock: the machine with the books of its passes.
 
-ghost use Rattle.std.specs.Prelude.{◌≡◌, ◌≤◌, ◌<◌, List, MatchOption, IfOk, IfErr, Err, All, sum_by, length};
+ghost use Rattle.std.specs.Prelude.{◌≡◌, ◌≤◌, IfOk, All, length};
 ghost use Rattle.mt_types.specs.Limits.{open_fault};
-ghost use Rattle.mt_index.specs.Stands.{IsServed, HasBounds};
+ghost use Rattle.mt_index.specs.Stands.{IsServed};
 ghost use Rattle.mt_shared.specs.declared.book.Book.{Book};
 ghost use Rattle.mt_shared.specs.Traces.{IsNewTrace};
-ghost use Rattle.mt_shared.specs.Kept.{Does, IsKept, IsFresh, is_wrong, has_book};
+ghost use Rattle.mt_shared.specs.Books.{booked_events, booked_commits};
+ghost use Rattle.mt_shared.specs.Kept.{Does, IsKept, IsFresh, IsRefusedBy, is_wrong, has_book};
 ghost use Rattle.mt_shared.specs.Feeds.{Feeds};
 
 use crate::book::Book;
@@ -38,9 +39,11 @@ impl Model for Kept {
 
     ghost coded = { Prim.hlevel (codes, place_code) };
 
-    ghost view = { λ k. record { machine = k.machine; events = k.events; books = k.books.items; trace = k.trace } };
+    ghost use Rattle.mt_shared.specs.Inside.{kept_view};
 
-    ghost invariant = { λ k. IsKept (record { machine = k.machine; events = k.events; books = k.books.items; trace = k.trace }) };
+    ghost view = { kept_view };
+
+    ghost invariant = { λ k. IsKept (kept_view k) };
 }
 
 // The book of a pass that has done nothing.
@@ -59,7 +62,7 @@ impl Kept {
     pub fn open(alloc: Global, options: Options, passes: u16, traced: bool) -> Result<Kept, Refusal>
         ensures opened { IfOk result (λ kept. IsFresh options passes kept) }
         ensures trace { IfOk result (λ kept. IsNewTrace traced kept.trace) }
-        ensures fault { MatchOption (open_fault options.columns options.feed options.keep) (IfErr result (λ refusal. refusal ≡ Refusal.NoMemory)) (λ refusal. result ≡ Err refusal) }
+        ensures fault { IsRefusedBy (open_fault options.columns options.feed options.keep) result }
     {
         let machine = Machine::open(alloc, options)?;
         let books = blank_books(alloc, passes)?;
@@ -71,16 +74,17 @@ impl Kept {
         })
     }
 
-    /// One event of a pass, and what came of it: one event of the machine, counted in the pass and in its book, and traced
-    /// where a trace is kept.
+    /// One event of a pass, and what came of it: one event of the machine, counted in the pass and in its book, and
+    /// traced where a trace is kept.
     ///
     /// Costs the event of the machine, and the way down the tree of open calls.
     ///
     /// # Errors
     ///
-    /// No event is made, and nothing changes, where the outcome is `WrongPass`: the pass has no book here, the begin names
-    /// another pass, or the step is of another pass's open call. Nor where it is `Spent` since the count of events, of the
-    /// index or of the pass, is at its greatest value. Every other refusal is one of the machine, and counts as an event.
+    /// No event is made, and nothing changes, where the outcome is `WrongPass`: the pass has no book here, the begin
+    /// names another pass, or the step is of another pass's open call. Nor where it is `Spent` since the count of
+    /// events, of the index or of the pass, is at its greatest value. Every other refusal is one of the machine, and
+    /// counts as an event.
     pub fn event(&mut self, alloc: Global, pass: &mut Pass, event: &Event) -> Outcome
         requires { IsServed event.now }
         ensures does { Does self.old pass.old event.now result self.new pass.new }
@@ -150,8 +154,8 @@ impl Kept {
 // The books of passes that have done nothing.
 fn blank_books(alloc: Global, passes: u16) -> Result<Vec<Book>, AllocError>
     ensures count { IfOk result (λ books. length books.items ≡ passes) }
-    ensures events { IfOk result (λ books. sum_by (λ (book : Book). book.events) books.items ≡ 0) }
-    ensures commits { IfOk result (λ books. sum_by (λ (book : Book). book.commits) books.items ≡ 0) }
+    ensures events { IfOk result (λ books. booked_events books.items ≡ 0) }
+    ensures commits { IfOk result (λ books. booked_commits books.items ≡ 0) }
     ensures seen { IfOk result (λ books. All (λ (book : Book). book.seen ≤ 0) books.items) }
 {
     let mut books = Vec::new(alloc);

@@ -1,9 +1,9 @@
 //! A machine of one caller, without a lock.
 
-ghost use Rattle.std.specs.Prelude.{◌≡◌, false, MatchOption, IfOk, IfErr, Err};
+ghost use Rattle.std.specs.Prelude.{false, IfOk};
 ghost use Rattle.mt_types.specs.Limits.{open_fault};
 ghost use Rattle.mt_shared.specs.Passes.{IsNewPass};
-ghost use Rattle.mt_shared.specs.Kept.{Does, IsKept, IsFresh};
+ghost use Rattle.mt_shared.specs.Kept.{Does, IsKept, IsFresh, IsRefusedBy};
 ghost use Rattle.mt_shared.specs.Feeds.{Feeds};
 ghost use Rattle.mt_index.specs.Stands.{IsServed};
 ghost use Rattle.mt_shared.specs.Passes.{IsTold};
@@ -45,7 +45,7 @@ impl Lone {
     pub fn start(alloc: Global, options: Options) -> Result<(Lone, Pass), Refusal>
         ensures opened { IfOk result (λ r. IsFresh options 1 r.0) }
         ensures pass { IfOk result (λ r. IsNewPass false 1 r.1) }
-        ensures fault { MatchOption (open_fault options.columns options.feed options.keep) (IfErr result (λ refusal. refusal ≡ Refusal.NoMemory)) (λ refusal. result ≡ Err refusal) }
+        ensures fault { IsRefusedBy (open_fault options.columns options.feed options.keep) result }
     {
         let kept = Kept::open(alloc, options, 1, false)?;
         Ok((Lone { kept }, Pass::new(alloc, 1, false)))

@@ -26,7 +26,9 @@ impl Model for Pass {
 
     ghost Value = { PassView };
 
-    ghost view = { λ p. record { number = p.number; seen = p.seen; events = p.events; commits = p.commits; trace = p.trace } };
+    ghost use Rattle.mt_shared.specs.Inside.{pass_view};
+
+    ghost view = { pass_view };
 
     ghost invariant = { λ p. p.commits ≤ p.events };
 }

@@ -1,13 +1,10 @@
 //! The end of an index: what the passes did is held against their books.
 
-ghost use Rattle.std.specs.Prelude.{◌≡◌, List, IfOk, IsTrue, All, sum_by, length};
+ghost use Rattle.std.specs.Prelude.{◌≡◌, IfOk, IsTrue, All, length};
 ghost use Rattle.mt_commit.specs.Log.{newest};
-ghost use Rattle.mt_promise.specs.History.{History, moment};
-ghost use Rattle.mt_promise.specs.Legal.{Legal};
-ghost use Rattle.mt_promise.specs.Headline.{KeepsPromise};
-ghost use Rattle.mt_shared.specs.declared.book.Book.{Book};
-ghost use Rattle.mt_shared.specs.Passes.{PassView};
-ghost use Rattle.mt_shared.specs.Traces.{Keeps, Tells, part};
+ghost use Rattle.mt_shared.specs.Books.{booked_events, booked_commits};
+ghost use Rattle.mt_shared.specs.Passes.{HasItsPart, events_by, commits_by};
+ghost use Rattle.mt_shared.specs.Traces.{Keeps, IsLegalTrace, HaveHappened, part};
 
 use crate::book::Book;
 use crate::kept::{Kept, NOTHING};
@@ -30,10 +27,11 @@ impl Kept {
     ///
     /// `WrongPass` where they aren't.
     pub fn settle(self, passes: &[Pass]) -> Result<Totals, Refusal>
-        ensures totals { IfOk result (λ totals. (totals.events ≡ self.events) × (totals.commits ≡ newest self.machine.log)) }
-        ensures events { IfOk result (λ totals. totals.events ≡ sum_by (λ (p : PassView). p.events) passes.now) }
-        ensures commits { IfOk result (λ totals. totals.commits ≡ sum_by (λ (p : PassView). p.commits) passes.now) }
-        ensures history { IfOk result (λ totals. (h : History) × Legal self.machine.columns h × (length h ≡ totals.events) × (length (moment h).commits ≡ totals.commits)) }
+        ensures made { IfOk result (λ totals. totals.events ≡ self.events) }
+        ensures committed { IfOk result (λ totals. totals.commits ≡ newest self.machine.log) }
+        ensures events { IfOk result (λ totals. totals.events ≡ events_by passes.now) }
+        ensures commits { IfOk result (λ totals. totals.commits ≡ commits_by passes.now) }
+        ensures history { IfOk result (λ totals. HaveHappened self.machine.columns totals.events totals.commits) }
     {
         let Kept {
             machine,
@@ -48,16 +46,16 @@ impl Kept {
         Ok(Totals { events, commits })
     }
 
-    /// The trace of all events, if the passes are those of the books, each once, with their books' counts, and each has in
-    /// its own trace just its part of this one. O(n) in the events, times the passes; a comparison of each event.
+    /// The trace of all events, if the passes are those of the books, each once, with their books' counts, and each has
+    /// in its own trace just its part of this one. O(n) in the events, times the passes; a comparison of each event.
     ///
     /// # Errors
     ///
     /// `WrongPass` where the passes aren't those, or no trace was kept; `NoMemory` where a trace was lost.
     pub fn settle_trace(self, passes: &[Pass]) -> Result<Vec<Entry>, Refusal>
-        ensures legal { IfOk result (λ trace. (h : History) × Tells trace.items h × Legal self.machine.columns h × KeepsPromise self.machine.columns h) }
-        ensures parts { IfOk result (λ trace. All (λ (p : PassView). Keeps p.trace (part p.number trace.items)) passes.now) }
-        ensures count { IfOk result (λ trace. length trace.items ≡ sum_by (λ (p : PassView). p.events) passes.now) }
+        ensures legal { IfOk result (λ trace. IsLegalTrace self.machine.columns trace.items) }
+        ensures parts { IfOk result (λ trace. All (HasItsPart trace.items) passes.now) }
+        ensures count { IfOk result (λ trace. length trace.items ≡ events_by passes.now) }
     {
         let Kept {
             machine: _,
@@ -101,8 +99,8 @@ fn has_part(pass: &Pass, entries: &[Entry]) -> Result<(), Refusal>
 // Whether the passes are those of the books, each once, with their books' counts. The book of each pass that was met
 // becomes that of one that has done nothing; at the end each must be.
 fn add_up(mut books: Vec<Book>, passes: &[Pass]) -> bool
-    ensures events { IsTrue result → sum_by (λ (book : Book). book.events) books.items ≡ sum_by (λ (p : PassView). p.events) passes.now }
-    ensures commits { IsTrue result → sum_by (λ (book : Book). book.commits) books.items ≡ sum_by (λ (p : PassView). p.commits) passes.now }
+    ensures events { IsTrue result → booked_events books.items ≡ events_by passes.now }
+    ensures commits { IsTrue result → booked_commits books.items ≡ commits_by passes.now }
 {
     if passes.len() != books.len() || passes.len() > MAX_PASSES as usize {
         return false;
@@ -125,8 +123,8 @@ fn add_up(mut books: Vec<Book>, passes: &[Pass]) -> bool
 
 // Whether each is the book of a pass that has done nothing.
 fn are_blank(books: &[Book]) -> bool
-    ensures events { IsTrue result → sum_by (λ (book : Book). book.events) books.now ≡ 0 }
-    ensures commits { IsTrue result → sum_by (λ (book : Book). book.commits) books.now ≡ 0 }
+    ensures events { IsTrue result → booked_events books.now ≡ 0 }
+    ensures commits { IsTrue result → booked_commits books.now ≡ 0 }
 {
     for book in books {
         if book.events != 0 || book.commits != 0 {
