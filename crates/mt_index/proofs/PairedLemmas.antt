@@ -1,11 +1,13 @@
 -- The machine's calls and the history's, paired one by one, and what each change leaves.
-use Rattle.std.proofs.Common.{◌≡◌, ◌<◌, ◌≢◌, ◌≤◌, ◌+◌, ◌==◌, ℕ, suc, Bool, true, false, not, cond, List, [], ◌∷◌, ◌++◌, length, Some, None, sym, ◌∙◌, ap, subst, refl, arith, inl, inr}
+use Rattle.std.proofs.Common.{◌≡◌, ◌<◌, ◌≢◌, ◌≤◌, ◌+◌, ◌==◌, ℕ, suc, Bool, true, false, not, cond, List, [], ◌∷◌, ◌++◌, length, Option, Some, None, sym, ◌∙◌, ap, subst, refl, arith, inl, inr}
 use Rattle.std.proofs.lemmas.Bool.{eq-eqb, ne_eqb}
 use Rattle.std.proofs.lemmas.Bool.Decides.{eqb_tells}
 use Rattle.mt_chart.specs.Tree.{Among, first, later}
 use Rattle.mt_promise.specs.History.{OpenCall, call_of, without_call, replace_call}
 use Rattle.mt_index.specs.declared.calls.Call.{Call}
-use Rattle.mt_index.specs.Calls.{call_at, with_changed, without}
+use Rattle.std.specs.Option.{option_map}
+use Rattle.mt_types.specs.declared.numbers.PassNo.{PassNo}
+use Rattle.mt_index.specs.Calls.{call_at, pass_at, with_changed, without}
 use Rattle.mt_index.specs.Paired.{Paired}
 use Rattle.mt_index.proofs.NumberLemmas.{Entries, call_at-here, call_at-there, found-here, found-there, changed-here, changed-there, without-here, without-there}
 
@@ -91,6 +93,17 @@ paired-some R low high n (k ∷ ks) (c ∷ cs) kept s e =
     ]
 paired-some R low high n [] (c ∷ cs) kept s e = absurd s
 paired-some R low high n (k ∷ ks) [] kept s e = absurd s
+
+-- the pass of an open call
+pub paired-pass : (R : Relation) (low high n : ℕ) (ks : Entries) (cs : List OpenCall) → ((kept : Call) (call : OpenCall) → R (n, kept) call → call.pass ≡ kept.pass.0) → Paired R low high ks cs
+    → option_map (λ (p : PassNo). p.0) (pass_at n ks) ≡ option_map (λ (c : OpenCall). c.pass) (call_of n cs)
+paired-pass R low high n ks cs same s = go (call_at n ks) refl
+  where
+    go : (r : Option Call) → call_at n ks ≡ r → option_map (λ (p : PassNo). p.0) (option_map (λ (k : Call). k.pass) r) ≡ option_map (λ (c : OpenCall). c.pass) (call_of n cs)
+    go None at = ap (option_map (λ (c : OpenCall). c.pass)) (sym (paired-none R low high n ks cs s at))
+    go (Some kept) at =
+        let f = paired-some R low high n ks cs kept s at in
+        ap Some (sym (same kept f.call f.related)) ∙ ap (option_map (λ (c : OpenCall). c.pass)) (sym f.of)
 
 -- a number that is below all of them names none that could be replaced or end
 replace-above : (R : Relation) (low high : ℕ) (ks : Entries) (cs : List OpenCall) (new : OpenCall) → Paired R low high ks cs → new.number ≤ low → replace_call new cs ≡ cs

@@ -1,5 +1,6 @@
 -- The calls that are open, as contracts see them.
 use Rattle.std.specs.Prelude.{ℕ, ◌≡◌, ◌≢◌, ◌≤◌, ◌+◌, ◌==◌, if◌then◌else◌, Bool, List, [], ◌∷◌, Option, Some, None}
+use Rattle.std.specs.Option.{option_map}
 use Rattle.mt_types.specs.declared.numbers.PassNo.{PassNo}
 use Rattle.mt_promise.specs.Legal.{reads_log, is_build}
 use Rattle.mt_commit.specs.Log.{LogView}
@@ -21,6 +22,10 @@ pub record CallsView : Type 0 where
 abbrev pub call_at : ℕ → List (ℕ × Call) → Option Call
 call_at number [] = None
 call_at number (entry ∷ entries) = if entry.0 == number then Some entry.1 else call_at number entries
+
+-- the pass of the open call of this number
+abbrev pub pass_at : ℕ → List (ℕ × Call) → Option PassNo
+pass_at number calls = option_map (λ (call : Call). call.pass) (call_at number calls)
 
 -- the calls, of which this one is changed
 abbrev pub with_changed : (Call → Call) → ℕ → List (ℕ × Call) → List (ℕ × Call)

@@ -2,7 +2,7 @@
 
 ghost use Rattle.std.specs.Prelude.{◌≡◌, ◌+◌, ◌-◌, ◌^◌, ◌<◌, ◌++◌, [], ◌∷◌, length, IfOk, OnOk, OnErr, None, MatchOption};
 ghost use Rattle.std.specs.Prelude.{◌↔◌, IsTrue};
-ghost use Rattle.mt_index.specs.Calls.{call_at, without, MayStepOf, StepsCall, IsBuiltCall};
+ghost use Rattle.mt_index.specs.Calls.{call_at, pass_at, without, MayStepOf, StepsCall, IsBuiltCall};
 
 use mt_calls::progress::Progress;
 use mt_commit::log::Log;
@@ -85,6 +85,13 @@ impl Calls {
         ensures { result ≡ length self.now.calls }
     {
         self.calls.len()
+    }
+
+    /// The pass of the call of this number, if it is open.
+    pub(crate) fn pass_of(&self, number: u64) -> Option<PassNo>
+        ensures { result ≡ pass_at number self.now.calls }
+    {
+        Some(self.calls.get(&number)?.pass)
     }
 
     /// A call begins, and its number is given. On an error nothing changes.

@@ -1,8 +1,9 @@
 //! The machine over the whole tree: events in, outcomes out, one visit of one node an event.
 
 ghost use Rattle.std.specs.Prelude.{ℕ, ◌≡◌, ◌↔◌, ◌<◌, [], ◌∷◌, take, drop, IsTrue, Contains, OnOk, OnErr, length, IfOk, IfErr, MatchOption, All, Some, None, Err};
+ghost use Rattle.std.specs.Option.{option_map};
 ghost use Rattle.mt_types.specs.Limits.{open_fault};
-ghost use Rattle.mt_promise.specs.History.{History, happening, moment};
+ghost use Rattle.mt_promise.specs.History.{History, happening, moment, call_of};
 ghost use Rattle.mt_promise.specs.Legal.{begin_fault, is_build};
 ghost use Rattle.mt_views.specs.Views.{places};
 ghost use Rattle.mt_types.specs.declared.limits.TheConstants.{MAX_VIEWS};
@@ -13,7 +14,7 @@ ghost use Rattle.mt_commit.specs.Logged.{deltas_of};
 ghost use Rattle.mt_index.specs.Feed.{feed_fault};
 ghost use Rattle.mt_commit.specs.Log.{newest};
 ghost use Rattle.mt_commit.specs.declared.log.TheConstants.{MAX_HOLDERS};
-ghost use Rattle.mt_index.specs.Calls.{call_at, IsBuiltCall};
+ghost use Rattle.mt_index.specs.Calls.{call_at, pass_at, IsBuiltCall};
 ghost use Rattle.mt_index.specs.Stands.{Stands, IsServed, Begins, Steps, EndsBuild, Applies, ReadsView, Drops, IsRun, HasBounds, pinned, released, outcome_of, built_outcome, calls_after, log_after, views_after, placed, vacated};
 
 use crate::calls::{Call, Calls, Stepped};
@@ -244,6 +245,29 @@ impl Machine {
         ensures { (h : History) → Stands self.now h → result ≡ length (moment h).calls }
     {
         self.calls.len()
+    }
+
+    /// How many columns a row has.
+    pub fn columns(&self) -> u8
+        ensures { result ≡ self.now.columns }
+    {
+        self.columns
+    }
+
+    /// How many commits were made.
+    pub fn commits(&self) -> u64
+        ensures number { result ≡ newest self.now.log }
+        ensures told { (h : History) → Stands self.now h → result ≡ length (moment h).commits }
+    {
+        self.log.number()
+    }
+
+    /// The pass of the open call of this number, if it is open. Costs a way down the tree of open calls.
+    pub fn pass_of(&self, call: CallNo) -> Option<PassNo>
+        ensures pass { result ≡ pass_at call.0 self.now.calls.calls }
+        ensures told { (h : History) → Stands self.now h → option_map (λ pass. pass.0) result ≡ option_map (λ kept. kept.pass) (call_of call.0 (moment h).calls) }
+    {
+        self.calls.pass_of(call.0)
     }
 
     /// How many node numbers are occupied: by the nodes of the tree, and by the spares of open calls.

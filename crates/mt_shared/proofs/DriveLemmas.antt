@@ -1,0 +1,194 @@
+-- A drive goes on by an event, and ends by one.
+use Rattle.std.proofs.Common.{arith, sym, ap, subst, ◌≡◌, ◌≤◌, ◌⊎◌, ◌∙◌, ◌∷◌, ◌++◌, [], List, ℕ, refl, append_assoc, append-nil, inl, inr}
+use Rattle.std.specs.Prelude.{All, Result, Ok, Err, Some, IfOk, IfErr}
+use Rattle.std.proofs.lemmas.List.Elements.{All-push, All-nil}
+use Rattle.mt_types.specs.declared.numbers.PassNo.{PassNo}
+use Rattle.mt_types.specs.declared.numbers.CallNo.{CallNo}
+use Rattle.mt_types.specs.declared.refusal.Refusal.{Refusal}
+use Rattle.mt_types.specs.declared.refusal.Refusal.TheVariants.{WrongPass, Spent}
+use Rattle.mt_types.specs.declared.event.Event.{Event}
+use Rattle.mt_types.specs.declared.event.Event.TheVariants.{Begin, Step}
+use Rattle.mt_types.specs.declared.event.Request.{Request}
+use Rattle.mt_types.specs.declared.event.Reply.{Reply}
+use Rattle.mt_types.specs.declared.event.Outcome.{Outcome}
+use Rattle.mt_types.specs.declared.event.Outcome.TheVariants.{Call, Moved, Again, Commit, Done, Refused}
+use Rattle.mt_shared.specs.declared.trace.Entry.{Entry}
+use Rattle.mt_shared.specs.declared.trace.Trace.{Trace}
+use Rattle.mt_shared.specs.declared.trace.Trace.TheVariants.{Off, On, Lost}
+use Rattle.mt_shared.specs.Traces.{entry, Gains}
+use Rattle.mt_shared.specs.Passes.{PassView, IsTold, Suits, Counts, seen_in}
+use Rattle.mt_shared.specs.Drives.{EventLaw, Runs, Continues, IsStep, whole, IsDriven, IsCut, IsRefused, IsReplyTo, Ends, EndsIn, EndsNone}
+
+-- ---- a trace gains
+pub gains_none : (t : Trace) → Gains t [] t
+gains_none Off = tt
+gains_none (On v) = sym (append-nil v.items)
+gains_none Lost = tt
+
+pub gains_more : (a b c : Trace) (xs ys : List Entry) → Gains a xs b → Gains b ys c → Gains a (xs ++ ys) c
+gains_more Off Off Off xs ys g f = tt
+gains_more (On u) (On v) (On w) xs ys g f = f ∙ ap (λ (l : List Entry). l ++ ys) g ∙ append_assoc u.items xs ys
+gains_more (On u) (On v) Lost xs ys g f = tt
+gains_more (On u) Lost Lost xs ys g f = tt
+gains_more Lost Lost Lost xs ys g f = tt
+gains_more Off Off (On w) xs ys g f = absurd f
+gains_more Off Off Lost xs ys g f = absurd f
+gains_more Off (On v) c xs ys g f = absurd g
+gains_more Off Lost c xs ys g f = absurd g
+gains_more (On u) Off c xs ys g f = absurd g
+gains_more (On u) (On v) Off xs ys g f = absurd f
+gains_more (On u) Lost Off xs ys g f = absurd f
+gains_more (On u) Lost (On w) xs ys g f = absurd f
+gains_more Lost Off c xs ys g f = absurd g
+gains_more Lost (On v) c xs ys g f = absurd g
+gains_more Lost Lost Off xs ys g f = absurd f
+gains_more Lost Lost (On w) xs ys g f = absurd f
+
+-- ---- one more event
+module _ {S : Type 0} (does : EventLaw S) where
+  pub runs_more : (s : S) (p : PassView) (xs : List Entry) (m : S) (r : PassView) (x : Entry) (t : S) (q : PassView) → Runs does s p xs m r → does m r x.event x.outcome t q → Runs does s p (xs ++ x ∷ []) t q
+  runs_more s p [] m r x t q run d =
+      (t, q, subst (λ (v : S). does v p x.event x.outcome t q) run.0 (subst (λ (v : PassView). does m v x.event x.outcome t q) run.1 d), (refl, refl))
+  runs_more s p (y ∷ xs) m r x t q run d = (run.0, run.1, run.2, runs_more run.0 run.1 xs m r x t q run.3 d)
+
+  -- the events of a drive whose call has begun
+  pub record Begun (s : S) (p : PassView) (request : Request) (call : CallNo) (t : S) (q : PassView) : Type 0 where
+    pub steps : List Entry
+    pub are_steps : All (IsStep p.number call) steps
+    pub runs : Runs does s p (entry p.number (Begin p.number request) (Call call) ∷ steps) t q
+    pub traced : Gains p.trace (entry p.number (Begin p.number request) (Call call) ∷ steps) q.trace
+    pub number : q.number ≡ p.number
+
+  pub begins : (s : S) (p : PassView) (request : Request) (call : CallNo) (o : Outcome) (t : S) (q : PassView)
+      → does s p (Begin p.number request) o t q → o ≡ Call call → Counts p (Begin p.number request) o q → Begun s p request call t q
+  begins s p request call o t q d is counts = record {
+    steps = [];
+    are_steps = All-nil (IsStep p.number call);
+    runs = (t, q, subst (λ (x : Outcome). does s p (Begin p.number request) x t q) is d, (refl, refl));
+    traced = subst (λ (x : Outcome). Gains p.trace (entry p.number (Begin p.number request) x ∷ []) q.trace) is counts.trace;
+    number = counts.number;
+  }
+
+  pub goes_on : (s : S) (p : PassView) (request : Request) (call : CallNo) (m : S) (r : PassView) (o : Outcome) (t : S) (q : PassView)
+      → Begun s p request call m r → does m r (Step call) o t q → Continues o → Counts r (Step call) o q → Begun s p request call t q
+  goes_on s p request call m r o t q b d more counts =
+      let x = entry p.number (Step call) o in
+      record {
+        steps = b.steps ++ x ∷ [];
+        are_steps = All-push (IsStep p.number call) b.steps x b.are_steps (record { pass = refl; event = refl; outcome = more });
+        runs = runs_more s p (entry p.number (Begin p.number request) (Call call) ∷ b.steps) m r x t q b.runs d;
+        traced = gains_more p.trace r.trace q.trace (entry p.number (Begin p.number request) (Call call) ∷ b.steps) (x ∷ []) b.traced (subst (λ (n : PassNo). Gains r.trace (entry n (Step call) o ∷ []) q.trace) b.number counts.trace);
+        number = counts.number ∙ b.number;
+      }
+
+  pub driven : (s : S) (p : PassView) (request : Request) (call : CallNo) (m : S) (r : PassView) (o : Outcome) (t : S) (q : PassView) (reply : Reply)
+      → Begun s p request call m r → does m r (Step call) o t q → o ≡ Done reply → Counts r (Step call) o q → reply.call ≡ call → IsDriven does s p request reply t q
+  driven s p request call m r o t q reply b d is counts same =
+      let P : CallNo → Type 0 = λ c. All (IsStep p.number c) b.steps × Runs does s p (whole p.number request c b.steps (Done reply)) t q × Gains p.trace (whole p.number request c b.steps (Done reply)) q.trace in
+      let x = entry p.number (Step call) (Done reply) in
+      let run = runs_more s p (entry p.number (Begin p.number request) (Call call) ∷ b.steps) m r x t q b.runs (subst (λ (w : Outcome). does m r (Step call) w t q) is d) in
+      let gain = gains_more p.trace r.trace q.trace (entry p.number (Begin p.number request) (Call call) ∷ b.steps) (x ∷ []) b.traced (subst (λ (n : PassNo). Gains r.trace (entry n (Step call) (Done reply) ∷ []) q.trace) b.number (subst (λ (w : Outcome). Gains r.trace (entry r.number (Step call) w ∷ []) q.trace) is counts.trace)) in
+      let all = subst P (sym same) (b.are_steps, run, gain) in
+      record { steps = b.steps; are_steps = all.0; runs = all.1; traced = all.2 }
+
+  pub cut : (s : S) (p : PassView) (request : Request) (call : CallNo) (m : S) (r : PassView) (o : Outcome) (t : S) (q : PassView) (refusal : Refusal)
+      → Begun s p request call m r → does m r (Step call) o t q → EndsIn refusal p.seen o → IsCut does s p request refusal t q
+  cut s p request call m r o t q refusal b d ends = record {
+    call = call;
+    steps = b.steps;
+    last = o;
+    are_steps = b.are_steps;
+    runs = runs_more s p (entry p.number (Begin p.number request) (Call call) ∷ b.steps) m r (entry p.number (Step call) o) t q b.runs d;
+    ends = ends;
+  }
+
+-- ---- what a pass is told
+no_end_refused : (o : Outcome) (refusal : Refusal) → EndsNone o → o ≡ Refused refusal → ⊥
+no_end_refused o refusal none is = subst (λ (w : Outcome). EndsNone w) is none
+
+-- an event that was refused as none of the pass is a refusal
+unmade : (o : Outcome) → ((o ≡ Refused WrongPass) ⊎ (o ≡ Refused Spent)) → EndsNone o → ⊥
+unmade o is none = elim is [ inl e ↦ no_end_refused o WrongPass none e | inr e ↦ no_end_refused o Spent none e ]
+
+call_ends_none : (o : Outcome) (call : CallNo) → o ≡ Call call → EndsNone o
+call_ends_none o call is = subst (λ (w : Outcome). EndsNone w) (sym is) tt
+
+continues : (pass : PassNo) (call : CallNo) (o : Outcome) → EndsNone o → Suits pass (Step call) o → Continues o
+continues pass call Moved none suits = tt
+continues pass call Again none suits = tt
+continues pass call (Commit number) none suits = tt
+continues pass call (Done reply) none suits = absurd none
+continues pass call (Refused refusal) none suits = absurd none
+continues pass call _ none suits = absurd suits
+
+-- so it was made
+pub counted : (p : PassView) (e : Event) (o : Outcome) (q : PassView) → EndsNone o → IsTold p e o q → Counts p e o q × Suits p.number e o
+counted p e o q none told = elim told [ inl u ↦ absurd (unmade o u.0 none) | inr m ↦ m ]
+
+pub told_number : (p : PassView) (e : Event) (o : Outcome) (q : PassView) → IsTold p e o q → q.number ≡ p.number
+told_number p e o q told = elim told [ inl u ↦ ap (λ (x : PassView). x.number) u.1 | inr m ↦ m.0.number ]
+
+pub told_seen : (p : PassView) (e : Event) (o : Outcome) (q : PassView) → IsTold p e o q → p.seen ≤ q.seen
+told_seen p e o q told = elim told [ inl u ↦ (let same = ap (λ (x : PassView). x.seen) u.1 in omega (arith, same)) | inr m ↦ (let sees = m.0.seen in omega (arith, sees)) ]
+
+-- a begin gives a call or is refused
+pub begin_answers : (p : PassView) (named : PassNo) (request : Request) (o : Outcome) (q : PassView) → IsTold p (Begin named request) o q → ((call : CallNo) → o ≡ Call call → ⊥) → ((refusal : Refusal) → o ≡ Refused refusal → ⊥) → ⊥
+begin_answers p named request o q told call refused =
+    elim told [
+      | inl u ↦ elim u.0 [ inl e ↦ refused WrongPass e | inr e ↦ refused Spent e ]
+      | inr m ↦ suited o m.1 call refused
+    ]
+  where
+    suited : (w : Outcome) → Suits p.number (Begin named request) w → ((call : CallNo) → w ≡ Call call → ⊥) → ((refusal : Refusal) → w ≡ Refused refusal → ⊥) → ⊥
+    suited (Call number) s c r = c number refl
+    suited (Refused refusal) s c r = r refusal refl
+    suited _ s c r = s
+
+module _ {S : Type 0} (does : EventLaw S) (s : S) (p : PassView) (request : Request) where
+  pub begins_told : (call : CallNo) (o : Outcome) (t : S) (q : PassView) (named : PassNo) → named ≡ p.number → does s p (Begin named request) o t q → o ≡ Call call → IsTold p (Begin named request) o q → Begun does s p request call t q
+  begins_told call o t q named same d is told =
+      subst (λ (n : PassNo). does s p (Begin n request) o t q → IsTold p (Begin n request) o q → Begun does s p request call t q) (sym same)
+      (λ d' told'. begins does s p request call o t q d' is (counted p (Begin p.number request) o q (call_ends_none o call is) told').0) d told
+
+  pub goes_on_told : (call : CallNo) (m : S) (r : PassView) (o : Outcome) (t : S) (q : PassView) → Begun does s p request call m r → does m r (Step call) o t q → EndsNone o → IsTold r (Step call) o q → Begun does s p request call t q
+  goes_on_told call m r o t q b d none told =
+      let (counts, suits) = counted r (Step call) o q none told in
+      goes_on does s p request call m r o t q b d (continues r.number call o none suits) counts
+
+  pub begin_refused : (refusal : Refusal) (o : Outcome) (t : S) (q : PassView) (named : PassNo) → named ≡ p.number → does s p (Begin named request) o t q → o ≡ Refused refusal → IsRefused does s p request refusal t q
+  begin_refused refusal o t q named same d is =
+      inl (subst (λ (n : PassNo). does s p (Begin n request) (Refused refusal) t q) same (subst (λ (w : Outcome). does s p (Begin named request) w t q) is d))
+
+  -- what a drive gives that a step has ended
+  pub record IsEnded (end : Result Reply Refusal) (t : S) (q : PassView) : Type 0 where
+    pub reply : IfOk end (λ reply. IsReplyTo p reply q)
+    pub driven : IfOk end (λ reply. IsDriven does s p request reply t q)
+    pub refused : IfErr end (λ refusal. IsRefused does s p request refusal t q)
+
+  reply_told : (call : CallNo) (m : S) (r : PassView) (o : Outcome) (t : S) (q : PassView) (reply : Reply) → Begun does s p request call m r → does m r (Step call) o t q → o ≡ Done reply → p.seen ≤ reply.from
+      → Counts r (Step call) o q → Suits r.number (Step call) o → IsEnded (Ok reply) t q
+  reply_told call m r o t q reply b d is late counts suits =
+      let own : (reply.call ≡ call) × (reply.pass ≡ r.number) = subst (λ (w : Outcome). Suits r.number (Step call) w) is suits in
+      let sees = counts.seen in
+      let shown = ap seen_in is in
+      record {
+        reply = record { pass = own.1 ∙ b.number; from = late; to = omega (arith, sees, shown) };
+        driven = driven does s p request call m r o t q reply b d is counts own.0;
+        refused = tt;
+      }
+
+  pub ends_told : (call : CallNo) (m : S) (r : PassView) (o : Outcome) (t : S) (q : PassView) (seen : ℕ) (end : Result Reply Refusal) → Begun does s p request call m r → does m r (Step call) o t q → seen ≡ p.seen → Ends seen o (Some end) → IsTold r (Step call) o q → IsEnded end t q
+  ends_told call m r o t q seen (Ok reply) b d same ends told =
+      let late : p.seen ≤ reply.from = let l = ends.1 in omega (arith, same, l) in
+      elim told [
+        | inl u ↦ absurd (elim u.0 [ inl e ↦ clash WrongPass reply (sym e ∙ ends.0) | inr e ↦ clash Spent reply (sym e ∙ ends.0) ])
+        | inr c ↦ reply_told call m r o t q reply b d ends.0 late c.0 c.1
+      ]
+    where
+      clash : (refusal : Refusal) (reply : Reply) → Refused refusal ≡ Done reply → ⊥
+      clash refusal reply e = cc
+  ends_told call m r o t q seen (Err refusal) b d same ends told = record {
+    reply = tt;
+    driven = tt;
+    refused = inr (cut does s p request call m r o t q refusal b d (subst (λ (n : ℕ). EndsIn refusal n o) same ends));
+  }

@@ -1,0 +1,162 @@
+-- An event that was made keeps what the lock keeps.
+use Rattle.std.proofs.Common.{arith, sym, ap, subst, ◌≡◌, ◌+◌, ◌-◌, ◌≤◌, ◌<◌, ◌∙◌, ◌∷◌, ◌++◌, [], List, ℕ, refl, length, get_or, set, map, Bool, true, false, ◌||◌, ◌&&◌, not, eqb, leb}
+use Rattle.std.specs.Prelude.{All, MatchBool}
+use Rattle.std.proofs.lemmas.List.{map-append, length-map}
+use Rattle.std.proofs.lemmas.List.Sums.{sum_by-set, get_or-le-sum_by}
+use Rattle.std.proofs.lemmas.List.Elements.{All-set}
+use Rattle.std.proofs.lemmas.Bool.{ne_eqb}
+use Rattle.std.proofs.lemmas.Bool.Decides.{nat_tests}
+use Rattle.mt_types.specs.declared.numbers.PassNo.{PassNo}
+use Rattle.mt_types.specs.declared.event.Event.{Event}
+use Rattle.mt_types.specs.declared.event.Outcome.{Outcome}
+use Rattle.mt_promise.specs.History.{History, GoesOn, happening}
+use Rattle.mt_promise.proofs.HistoryLemmas.{GoesOn-append}
+use Rattle.mt_commit.specs.Log.{newest}
+use Rattle.mt_index.specs.Stands.{MachineView, Stands}
+use Rattle.mt_shared.specs.declared.book.Book.{Book}
+use Rattle.mt_shared.specs.declared.trace.Entry.{Entry}
+use Rattle.mt_shared.specs.declared.trace.Trace.{Trace}
+use Rattle.mt_shared.specs.declared.trace.Trace.TheVariants.{Off, On, Lost}
+use Rattle.mt_promise.specs.Legal.{Legal}
+use Rattle.mt_promise.specs.Headline.{KeepsPromise}
+use Rattle.mt_promise.proofs.KeepLemmas.{keeps_promise}
+use Rattle.mt_shared.specs.Traces.{entry, Tells, Gains, IsTraceOf, IsNewTrace, Keeps}
+use Rattle.mt_shared.specs.Passes.{PassView, Counts, commit_count, seen_in}
+use Rattle.mt_shared.specs.Books.{book_with}
+use Rattle.mt_types.specs.Numbers.{greatest_number}
+use Rattle.mt_types.specs.declared.refusal.Refusal.TheVariants.{WrongPass, Spent}
+use Rattle.mt_shared.specs.Kept.{KeptView, IsKept, IsMade, IsUnmade, Does, Makes, has_book, is_foreign, is_wrong, is_spent}
+use Rattle.mt_shared.proofs.HappeningLemmas.{event_grows, event_shows}
+
+or_false : (a b : Bool) → false ≡ (a || b) → (a ≡ false) × (b ≡ false)
+or_false true b h = cc
+or_false false b h = (refl, sym h)
+
+both : (a b : Bool) → not (a && b) ≡ false → (a ≡ true) × (b ≡ true)
+both true true h = (refl, refl)
+both true false h = cc
+both false b h = cc
+
+-- the pass of an event that isn't wrong has a book, and the event is its own
+pub in_books : (s : KeptView) (pass : PassNo) (e : Event) → false ≡ is_wrong s pass e → (pass.0 - 1 < length s.books) × (is_foreign s.machine pass e ≡ false)
+in_books s pass e h =
+    let a = or_false (not (has_book pass s.books)) (is_foreign s.machine pass e) h in
+    let b = both (not (eqb pass.0 0)) (leb pass.0 (length s.books)) a.0 in
+    let x : not (eqb pass.0 0) ≡ true = b.0 in
+    let y : leb pass.0 (length s.books) ≡ true = b.1 in
+    (grind (arith, nat_tests), a.1)
+
+-- a trace goes on
+pub follows : (r t : Trace) (pass : PassNo) (e : Event) (o : Outcome) (opens : ℕ) (h : History) → Gains r (entry pass e o ∷ []) t → IsTraceOf r h → IsTraceOf t (happening e o opens ∷ h)
+follows Off Off pass e o opens h g i = tt
+follows (On v) (On w) pass e o opens h g i =
+    subst (λ (xs : List Entry). Tells xs (happening e o opens ∷ h)) (sym g)
+    (subst (λ es. GoesOn [] es (map (λ (x : Entry). x.outcome) (v.items ++ entry pass e o ∷ [])) (happening e o opens ∷ h)) (sym (map-append (λ (x : Entry). x.event) v.items (entry pass e o ∷ [])))
+    (subst (λ os. GoesOn [] (map (λ (x : Entry). x.event) v.items ++ e ∷ []) os (happening e o opens ∷ h)) (sym (map-append (λ (x : Entry). x.outcome) v.items (entry pass e o ∷ [])))
+    (GoesOn-append [] h _ _ e o opens i)))
+follows (On v) Lost pass e o opens h g i = tt
+follows Lost Lost pass e o opens h g i = tt
+follows Off (On w) pass e o opens h g i = absurd g
+follows Off Lost pass e o opens h g i = absurd g
+follows (On v) Off pass e o opens h g i = absurd g
+follows Lost (On w) pass e o opens h g i = absurd g
+follows Lost Off pass e o opens h g i = absurd g
+
+pub new_trace : (traced : Bool) (t : Trace) → IsNewTrace traced t → IsTraceOf t []
+new_trace true (On w) new = subst (λ (xs : List Entry). Tells xs []) (sym new) refl
+new_trace false Off new = tt
+new_trace true Off new = tt
+new_trace true Lost new = tt
+new_trace false (On w) new = absurd new
+new_trace false Lost new = tt
+
+-- the machine's commits, once it has made an event
+pub commits_then : (m n : MachineView) (e : Event) (o : Outcome) (h : History) → Stands m h → Makes m e o n → (newest n.log ≡ newest m.log + commit_count o) × (seen_in o ≤ newest m.log)
+commits_then m n e o h st makes =
+    let (opens, then) = makes.stands h st in
+    let may = then.legal.1 in
+    let grows = event_grows n.columns h e o opens may in
+    let shows = event_shows n.columns h e o opens may in
+    (omega (arith, st.commits, then.commits, grows), omega (arith, st.commits, shows))
+
+pub keeps : (s : KeptView) (m : MachineView) (e : Event) (o : Outcome) (i : ℕ) (a b : Book) → IsKept s → Makes s.machine e o m → i < length s.books → a ≡ get_or s.books i a → b ≡ book_with o a
+    → (pass : PassNo) (t : Trace) → Gains s.trace (entry pass e o ∷ []) t → IsKept (record { machine = m; events = s.events + 1; books = set s.books i b; trace = t })
+keeps s m e o i a b k makes within at after pass t gains =
+    let (h, st, long, told) = k.stands in
+    let (opens, then) = makes.stands h st in
+    let (more, shown) = commits_then s.machine m e o h st makes in
+    let old : a.seen ≤ newest s.machine.log = rw at (k.seen i a within) in
+    let raised : All (λ (x : Book). x.seen ≤ newest m.log) s.books = λ j d lt. let f = k.seen j d lt in omega arith in
+    let es = sum_by-set (λ (x : Book). x.events) s.books i b a within in
+    let cs = sum_by-set (λ (x : Book). x.commits) s.books i b a within in
+    let be = ap (λ (x : Book). x.events) after in
+    let bc = ap (λ (x : Book). x.commits) after in
+    let bs = ap (λ (x : Book). x.seen) after in
+    let ae = ap (λ (x : Book). x.events) at in
+    let ac = ap (λ (x : Book). x.commits) at in
+    record {
+      stands = (happening e o opens ∷ h, then, omega (arith, long), follows s.trace t pass e o opens h gains told);
+      events = omega (arith, k.events);
+      commits = omega (arith, k.commits);
+      seen = All-set (λ (x : Book). x.seen ≤ newest m.log) s.books i b (omega arith) raised;
+    }
+
+-- a book's counts are bounded by all of them
+pub book_bounds : (s : KeptView) (i : ℕ) (a : Book) → IsKept s → i < length s.books → a ≡ get_or s.books i a → (a.events ≤ s.events) × (a.commits ≤ newest s.machine.log)
+book_bounds s i a k within at =
+    let es = get_or-le-sum_by (λ (x : Book). x.events) s.books i a within in
+    let cs = get_or-le-sum_by (λ (x : Book). x.commits) s.books i a within in
+    let ae = ap (λ (x : Book). x.events) at in
+    let ac = ap (λ (x : Book). x.commits) at in
+    (omega (arith, k.events), omega (arith, k.commits))
+
+not_spent : (s : KeptView) (p : PassView) → (s.events ≡ greatest_number → ⊥) → (p.events ≡ greatest_number → ⊥) → is_spent s p ≡ false
+not_spent s p here there = ap (λ (b : Bool). b || eqb p.events greatest_number) (ne_eqb s.events greatest_number here) ∙ ne_eqb p.events greatest_number there
+
+does_make : (s : KeptView) (p : PassView) (e : Event) (o : Outcome) (t : KeptView) (q : PassView) → false ≡ is_wrong s p.number e → is_spent s p ≡ false → IsMade s p e o t q → Does s p e o t q
+does_make s p e o t q right more made =
+    subst (λ (b : Bool). MatchBool b (IsUnmade WrongPass s p o t q) (MatchBool (is_spent s p) (IsUnmade Spent s p o t q) (IsMade s p e o t q))) right
+    (subst (λ (b : Bool). MatchBool b (IsUnmade Spent s p o t q) (IsMade s p e o t q)) (sym more) made)
+
+-- an event that was made, as the code makes it
+pub makes_own : (s : KeptView) (m : MachineView) (p : PassView) (e : Event) (o : Outcome) (a b : Book) (t : Trace) (q : PassView) → (s.events ≡ greatest_number → ⊥) → (p.events ≡ greatest_number → ⊥) → Makes s.machine e o m → b ≡ book_with o a → Counts p e o q
+    → (pass : PassNo) → pass ≡ p.number → false ≡ is_wrong s pass e → a ≡ get_or s.books (pass.0 - 1) a → Gains s.trace (entry pass e o ∷ []) t
+    → Does s p e o (record { machine = m; events = s.events + 1; books = set s.books (pass.0 - 1) b; trace = t }) q
+makes_own s m p e o a b t q here there makes after counts pass same =
+    subst (λ (n : PassNo). false ≡ is_wrong s n e → a ≡ get_or s.books (n.0 - 1) a → Gains s.trace (entry n e o ∷ []) t → Does s p e o (record { machine = m; events = s.events + 1; books = set s.books (n.0 - 1) b; trace = t }) q)
+    (sym same)
+    (λ right at gains. does_make s p e o _ q right (not_spent s p here there) (record {
+      makes = makes;
+      events = refl;
+      book = a;
+      is_book = sym at;
+      books = ap (λ (x : Book). set s.books (p.number.0 - 1) x) after;
+      trace = gains;
+      counts = counts;
+    }))
+
+-- the entries of a trace that is kept tell a legal history
+pub told_by : (t : Trace) (entries : List Entry) (h : History) → Keeps t entries → IsTraceOf t h → Tells entries h
+told_by (On v) entries h is told = subst (λ (xs : List Entry). Tells xs h) is told
+told_by Off entries h is told = absurd is
+told_by Lost entries h is told = absurd is
+
+pub settles : (s : KeptView) (entries : List Entry) → IsKept s → Keeps s.trace entries → (h : History) × Tells entries h × Legal s.machine.columns h × KeepsPromise s.machine.columns h
+settles s entries k is =
+    let (h, st, long, told) = k.stands in
+    (h, told_by s.trace entries h is told, st.legal, keeps_promise s.machine.columns h st.legal)
+
+-- as many as were made
+told_long : (past h : History) (es : List Event) (os : List Outcome) → GoesOn past es os h → length h ≡ length past + length es
+told_long past h [] [] g = ap length g ∙ (let e : length past ≡ length past + 0 = omega arith in e)
+told_long past h (e ∷ es) (o ∷ os) g = let more = told_long (happening e o g.0 ∷ past) h es os g.1 in omega (arith, more)
+told_long past h [] (o ∷ os) g = absurd g
+told_long past h (e ∷ es) [] g = absurd g
+
+pub settles_all : (s : KeptView) (entries : List Entry) → IsKept s → Keeps s.trace entries → length entries ≡ s.events
+settles_all s entries k is =
+    let (h, st, long, told) = k.stands in
+    let g = told_by s.trace entries h is told in
+    let many = told_long [] h (map (λ (x : Entry). x.event) entries) (map (λ (x : Entry). x.outcome) entries) g in
+    let same = length-map entries (λ (x : Entry). x.event) in
+    omega (arith, many, same, long)

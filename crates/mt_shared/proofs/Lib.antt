@@ -1,0 +1,5 @@
+pub mod HappeningLemmas
+pub mod KeptLemmas
+pub mod ToldLemmas
+pub mod DriveLemmas
+pub mod PassLemmas

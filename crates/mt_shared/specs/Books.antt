@@ -1,0 +1,20 @@
+-- The book of a pass: what the index knows that the pass did.
+use Rattle.std.specs.Prelude.{ℕ, ◌+◌, List, max, sum_by}
+use Rattle.mt_types.specs.declared.event.Outcome.{Outcome}
+use Rattle.mt_shared.specs.declared.book.Book.{Book}
+use Rattle.mt_shared.specs.Passes.{commit_count, seen_in}
+
+-- how many events and commits the books count
+abbrev pub booked_events : List Book → ℕ
+booked_events books = sum_by (λ (book : Book). book.events) books
+
+abbrev pub booked_commits : List Book → ℕ
+booked_commits books = sum_by (λ (book : Book). book.commits) books
+
+-- the book, with one more event
+abbrev pub book_with : Outcome → Book → Book
+book_with outcome book = record {
+  events = book.events + 1;
+  commits = book.commits + commit_count outcome;
+  seen = max book.seen (seen_in outcome);
+}

@@ -1,0 +1,117 @@
+-- What lies under the lock, and what an event of a pass does to it.
+use Rattle.std.specs.Prelude.{ℕ, ◌+◌, ◌-◌, ◌≡◌, ◌≤◌, ◌==◌, ◌&&◌, ◌||◌, nat_le, not, Bool, false, MatchBool}
+use Rattle.std.specs.Prelude.{List, [], ◌∷◌, length, Option, Some, None, All, slice_index_or, slice_set}
+use Rattle.std.specs.Prelude.{Result, Err, IfErr, MatchOption}
+use Rattle.std.specs.Option.{option_or}
+use Rattle.mt_types.specs.Numbers.{greatest_number}
+use Rattle.mt_types.specs.Limits.{open_fault, passes_fault}
+use Rattle.mt_types.specs.declared.numbers.PassNo.{PassNo}
+use Rattle.mt_types.specs.declared.refusal.Refusal.{Refusal}
+use Rattle.mt_types.specs.declared.refusal.Refusal.TheVariants.{NoMemory, Spent, WrongPass}
+use Rattle.mt_types.specs.declared.event.Event.{Event}
+use Rattle.mt_types.specs.declared.event.Event.TheVariants.{Begin, Step}
+use Rattle.mt_types.specs.declared.event.Outcome.{Outcome}
+use Rattle.mt_types.specs.declared.event.Outcome.TheVariants.{Refused}
+use Rattle.mt_promise.specs.History.{History, happening}
+use Rattle.mt_commit.specs.Log.{newest}
+use Rattle.mt_index.specs.declared.options.Options.{Options}
+use Rattle.mt_index.specs.Calls.{pass_at}
+use Rattle.mt_index.specs.Causes.{IsCaused}
+use Rattle.mt_index.specs.Stands.{MachineView, Stands, HasBounds}
+use Rattle.mt_shared.specs.declared.book.Book.{Book}
+use Rattle.mt_shared.specs.declared.trace.Trace.{Trace}
+use Rattle.mt_shared.specs.Traces.{entry, Gains, IsTraceOf}
+use Rattle.mt_shared.specs.Passes.{PassView, Counts}
+use Rattle.mt_shared.specs.Books.{booked_events, booked_commits, book_with}
+
+-- the machine, how many events were made, the book of each pass (that of pass n at n - 1), and the trace of all events
+pub record KeptView : Type 0 where
+  pub machine : MachineView
+  pub events : ℕ
+  pub books : List Book
+  pub trace : Trace
+
+-- WHAT THE LOCK KEEPS
+pub record IsKept (s : KeptView) : Type 0 where
+  -- there is a history at which the machine stands, of as many events as were made; a trace that is kept tells it
+  pub stands : (h : History) × Stands s.machine h × (length h ≡ s.events) × IsTraceOf s.trace h
+  -- the books' events add up to those made, and their commits to the machine's
+  pub events : booked_events s.books ≡ s.events
+  pub commits : booked_commits s.books ≡ newest s.machine.log
+  -- no book has seen more than was committed
+  pub seen : All (λ (book : Book). book.seen ≤ newest s.machine.log) s.books
+
+abbrev pub has_book : PassNo → List Book → Bool
+has_book pass books = not (pass.0 == 0) && nat_le pass.0 (length books)
+
+abbrev pub is_other : Option PassNo → PassNo → Bool
+is_other None pass = false
+is_other (Some owner) pass = not (owner.0 == pass.0)
+
+-- the event is another pass's: a begin that names it, or a step of its open call
+abbrev pub is_foreign : MachineView → PassNo → Event → Bool
+is_foreign m pass (Begin named request) = not (named.0 == pass.0)
+is_foreign m pass (Step call) = is_other (pass_at call.0 m.calls.calls) pass
+is_foreign m pass _ = false
+
+-- the event isn't one that this pass may make
+abbrev pub is_wrong : KeptView → PassNo → Event → Bool
+is_wrong s pass event = not (has_book pass s.books) || is_foreign s.machine pass event
+
+-- no more events can be counted
+abbrev pub is_spent : KeptView → PassView → Bool
+is_spent s p = (s.events == greatest_number) || (p.events == greatest_number)
+
+-- the machine makes an event: wherever it stands, it then stands where this has happened too
+pub record Makes (m : MachineView) (event : Event) (outcome : Outcome) (n : MachineView) : Type 0 where
+  pub stands : (h : History) → Stands m h → (opens : ℕ) × Stands n (happening event outcome opens ∷ h)
+  pub caused : IsCaused m event outcome n
+  pub columns : n.columns ≡ m.columns
+  pub bounds : HasBounds m.log.feed m.log.keep n.log
+
+-- one event was made, by the machine, and is counted in the pass and in its book, and traced
+pub record IsMade (s : KeptView) (p : PassView) (event : Event) (outcome : Outcome) (t : KeptView)
+    (q : PassView) : Type 0 where
+  pub makes : Makes s.machine event outcome t.machine
+  pub events : t.events ≡ s.events + 1
+  pub book : Book
+  pub is_book : slice_index_or s.books (p.number.0 - 1) book ≡ book
+  pub books : t.books ≡ slice_set s.books (p.number.0 - 1) (book_with outcome book)
+  pub trace : Gains s.trace (entry p.number event outcome ∷ []) t.trace
+  pub counts : Counts p event outcome q
+
+-- none was made: refused so, and nothing has changed
+abbrev pub IsUnmade : Refusal → KeptView → PassView → Outcome → KeptView → PassView → Type 0
+IsUnmade refusal s p outcome t q = (outcome ≡ Refused refusal) × (t ≡ s) × (q ≡ p)
+
+-- WHAT AN EVENT OF A PASS DOES: one event of the machine, unless it isn't this pass's to make, or no more can be
+-- counted
+abbrev pub Does : KeptView → PassView → Event → Outcome → KeptView → PassView → Type 0
+Does s p event outcome t q =
+    MatchBool (is_wrong s p.number event) (IsUnmade WrongPass s p outcome t q)
+    (MatchBool (is_spent s p) (IsUnmade Spent s p outcome t q) (IsMade s p event outcome t q))
+
+-- an event of a pass, on something that the lock keeps
+pub record DoesSomewhere (p : PassView) (event : Event) (outcome : Outcome) (q : PassView) : Type 0 where
+  pub before : KeptView
+  pub then : KeptView
+  pub kept : IsKept before
+  pub does : Does before p event outcome then q
+  pub keeps : IsKept then
+
+-- the first limit that an index breaks which is to be opened so, with so many passes
+abbrev pub start_fault : Options → ℕ → Option Refusal
+start_fault options passes = option_or (open_fault options.columns options.feed options.keep) (passes_fault passes)
+
+-- a call is refused for just this fault, and where there is none, for want of memory alone
+abbrev pub IsRefusedBy : {T : Type 0} → Option Refusal → Result T Refusal → Type 0
+IsRefusedBy fault result =
+    MatchOption fault (IfErr result (λ refusal. refusal ≡ NoMemory)) (λ refusal. result ≡ Err refusal)
+
+-- a machine on which nothing has happened, opened so, with a book for each of so many passes
+pub record IsFresh (options : Options) (passes : ℕ) (s : KeptView) : Type 0 where
+  pub columns : s.machine.columns ≡ options.columns
+  pub bounds : HasBounds options.feed options.keep s.machine.log
+  pub stands : Stands s.machine []
+  pub events : s.events ≡ 0
+  pub books : length s.books ≡ passes

@@ -1,0 +1,7 @@
+pub mod Traces
+pub mod Passes
+pub mod Books
+pub mod Kept
+pub mod Drives
+pub mod Feeds
+pub mod Inside

@@ -1,0 +1,98 @@
+//! The calls of a pass by their names: each is `drive` with its request, and nothing between its events.
+
+ghost use Rattle.mt_types.specs.declared.event.Request.TheVariants.{Get, Put, Remove, Range};
+ghost use Rattle.mt_shared.specs.Drives.{IsDrive};
+
+use crate::driving::{NoGate, Shared, drive};
+use crate::pass::Pass;
+use bytes::Bytes;
+use mt_types::event::{Reply, Request};
+use mt_types::refusal::Refusal;
+use mt_types::row::{ColumnNumbers, Sets};
+use std::alloc::Global;
+
+/// The row of a key, with the columns asked for; none means all. The reply's answer is `Found` or `Absent`.
+///
+/// # Errors
+///
+/// Those of `drive`: `KeyTooLong`, `BadColumn`, `TooManyCalls`, `NoMemory` among them.
+pub fn get<S: Shared>(
+    alloc: Global,
+    shared: &mut S,
+    pass: &mut Pass,
+    key: Bytes,
+    columns: ColumnNumbers,
+) -> Result<Reply, Refusal>
+    ensures { IsDrive S.does shared.old pass.old (Get key columns) result shared.new pass.new }
+{
+    drive(
+        alloc,
+        shared,
+        pass,
+        &mut NoGate,
+        Request::Get { key, columns },
+    )
+}
+
+/// New bytes for columns of a key's row. The reply's answer is `Stored`, with the number of its commit.
+///
+/// # Errors
+///
+/// Those of `drive`: `KeyTooLong`, `BadColumn`, `ColumnTooLong`, `ArenaFull`, `FeedFull`, `NoMemory` among them. A put
+/// that has committed is never refused.
+pub fn put<S: Shared>(
+    alloc: Global,
+    shared: &mut S,
+    pass: &mut Pass,
+    key: Bytes,
+    sets: Sets,
+) -> Result<Reply, Refusal>
+    ensures { IsDrive S.does shared.old pass.old (Put key sets) result shared.new pass.new }
+{
+    drive(alloc, shared, pass, &mut NoGate, Request::Put { key, sets })
+}
+
+/// The end of a key's row. The reply's answer is `Removed`, with the number of its commit, or `Absent`.
+///
+/// # Errors
+///
+/// Those of `drive`: `KeyTooLong`, `FeedFull`, `NoMemory` among them. A remove that has committed is never refused.
+pub fn remove<S: Shared>(
+    alloc: Global,
+    shared: &mut S,
+    pass: &mut Pass,
+    key: Bytes,
+) -> Result<Reply, Refusal>
+    ensures { IsDrive S.does shared.old pass.old (Remove key) result shared.new pass.new }
+{
+    drive(alloc, shared, pass, &mut NoGate, Request::Remove { key })
+}
+
+/// Up to `limit` rows from the first key at or after `start` on, with the columns asked for. The reply's answer is `Rows`.
+///
+/// # Errors
+///
+/// Those of `drive`: `KeyTooLong`, `BadColumn`, `BadLimit` unless `limit` is from 1 to 1000, `NoMemory` among
+/// them.
+pub fn getrange<S: Shared>(
+    alloc: Global,
+    shared: &mut S,
+    pass: &mut Pass,
+    start: Bytes,
+    limit: u16,
+    columns: ColumnNumbers,
+) -> Result<Reply, Refusal>
+    ensures { IsDrive S.does shared.old pass.old (Range start limit columns) result shared.new pass.new }
+{
+    drive(
+        alloc,
+        shared,
+        pass,
+        &mut NoGate,
+        Request::Range {
+            start,
+            limit,
+            columns,
+        },
+    )
+}

@@ -1,0 +1,102 @@
+//! A call from its begin to its end, event by event, over whatever shares a machine.
+
+ghost use Rattle.std.specs.Prelude.{◌≡◌, ◌≤◌, IfOk, IfErr};
+ghost use Rattle.mt_index.specs.Stands.{IsServed};
+ghost use Rattle.mt_types.specs.declared.event.Event.{Event};
+ghost use Rattle.mt_types.specs.declared.event.Outcome.{Outcome};
+ghost use Rattle.mt_shared.specs.Passes.{PassView, IsTold};
+ghost use Rattle.mt_shared.specs.Drives.{IsReplyTo, IsDriven, IsRefused, Ends};
+
+use crate::pass::Pass;
+use mt_types::event::{Event, Outcome, Reply, Request};
+use mt_types::refusal::Refusal;
+use std::alloc::Global;
+use std::thread;
+
+/// A machine on which passes make events: under a lock, or of one caller.
+pub trait Shared {
+    /// What an event of a pass does, to what is shared and to the pass.
+    ghost does: { Self → PassView → Event → Outcome → Self → PassView → Type 0 };
+
+    /// One event of a pass, and what came of it.
+    fn event(&mut self, alloc: Global, pass: &mut Pass, event: &Event) -> Outcome
+        requires { IsServed event.now }
+        ensures does { does self.old pass.old event.now result self.new pass.new }
+        ensures told { IsTold pass.old event.now result pass.new };
+}
+
+/// What is done between the events of a call.
+pub trait Gate {
+    /// Called after each event of a call, with its outcome.
+    fn between(&mut self, outcome: &Outcome);
+}
+
+/// A gate at which nothing is done.
+#[derive(Debug, Clone, Copy, Default, PartialEq, Eq)]
+pub struct NoGate;
+
+impl Gate for NoGate {
+    fn between(&mut self, _outcome: &Outcome) {}
+}
+
+/// One call of a pass, from its begin to its reply: its begin, and steps of it until one is done. After each event the
+/// gate is asked. Where a step answers `Again`, since the call waits for a node that another call has, the thread lets
+/// others run (`thread::yield_now`) before the next.
+///
+/// Over a `Door` each event is one holding of the lock, so other threads' events come between them; between two the
+/// lock isn't held.
+///
+/// # Errors
+///
+/// The refusal by which the begin or the call ended. `WrongPass` also where the reply begins at fewer commits than the
+/// pass had seen: it is a pass of another index. `Spent` where the count of events is at its greatest value; the call
+/// is then left open. What the call has done by then stands.
+pub fn drive<S: Shared, G: Gate>(
+    alloc: Global,
+    shared: &mut S,
+    pass: &mut Pass,
+    gate: &mut G,
+    request: Request,
+) -> Result<Reply, Refusal>
+    requires { IsServed (Event.Begin pass.old.number request) }
+    ensures reply { IfOk result (λ reply. IsReplyTo pass.old reply pass.new) }
+    ensures number { pass.new.number ≡ pass.old.number }
+    ensures seen { pass.old.seen ≤ pass.new.seen }
+    ensures driven { IfOk result (λ reply. IsDriven S.does shared.old pass.old request reply shared.new pass.new) }
+    ensures refused { IfErr result (λ refusal. IsRefused S.does shared.old pass.old request refusal shared.new pass.new) }
+{
+    let seen = pass.seen();
+    let begin = Event::Begin(pass.number(), request);
+    let outcome = shared.event(alloc, pass, &begin);
+    gate.between(&outcome);
+    let call = match outcome {
+        Outcome::Call(call) => call,
+        Outcome::Refused(refusal) => return Err(refusal),
+        _ => unreachable!(),
+    };
+    loop {
+        let step = Event::Step(call);
+        let outcome = shared.event(alloc, pass, &step);
+        let _events = pass.events();
+        gate.between(&outcome);
+        if matches!(outcome, Outcome::Again) {
+            thread::yield_now();
+        }
+        if let Some(end) = end_of(outcome, seen) {
+            return end;
+        }
+    }
+}
+
+// What the outcome of a step ends its call with, if it does. A reply from before what the pass had seen is of another
+// index.
+fn end_of(outcome: Outcome, seen: u64) -> Option<Result<Reply, Refusal>>
+    ensures { Ends seen outcome result }
+{
+    match outcome {
+        Outcome::Done(reply) if reply.from < seen => Some(Err(Refusal::WrongPass)),
+        Outcome::Done(reply) => Some(Ok(reply)),
+        Outcome::Refused(refusal) => Some(Err(refusal)),
+        _ => None,
+    }
+}

@@ -1,0 +1,167 @@
+//! What lies under the lock: the machine with the books of its passes.
+
+ghost use Rattle.std.specs.Prelude.{◌≡◌, ◌≤◌, IfOk, All, length};
+ghost use Rattle.mt_types.specs.Limits.{open_fault};
+ghost use Rattle.mt_index.specs.Stands.{IsServed};
+ghost use Rattle.mt_shared.specs.declared.book.Book.{Book};
+ghost use Rattle.mt_shared.specs.Traces.{IsNewTrace};
+ghost use Rattle.mt_shared.specs.Books.{booked_events, booked_commits};
+ghost use Rattle.mt_shared.specs.Kept.{Does, IsKept, IsFresh, IsRefusedBy, is_wrong, has_book};
+ghost use Rattle.mt_shared.specs.Feeds.{Feeds};
+
+use crate::book::Book;
+use crate::pass::Pass;
+use crate::trace::Trace;
+use mt_index::machine::Machine;
+use mt_index::options::Options;
+use mt_types::event::{Event, Outcome};
+use mt_types::numbers::PassNo;
+use mt_types::refusal::Refusal;
+use mt_types::row::Delta;
+use std::alloc::{AllocError, Global};
+use std::marker::Model;
+
+/// The machine, how many events were made, and a book for each pass.
+#[derive(Drop)]
+pub struct Kept {
+    pub(crate) machine: Machine,
+    pub(crate) events: u64,
+    pub(crate) books: Vec<Book>,
+    pub(crate) trace: Trace,
+}
+
+impl Model for Kept {
+    ghost use Rattle.std.specs.Coded.{codes};
+    ghost use Rattle.mt_scan.specs.CursorCode.{place_code};
+    ghost use Rattle.mt_view.specs.StateCode.{state_code};
+    ghost use Rattle.mt_shared.specs.Kept.{KeptView, IsKept};
+
+    ghost Value = { KeptView };
+
+    ghost coded = { Prim.hlevel (codes, place_code, state_code) };
+
+    ghost use Rattle.mt_shared.specs.Inside.{kept_view};
+
+    ghost view = { kept_view };
+
+    ghost invariant = { λ k. IsKept (kept_view k) };
+}
+
+// The book of a pass that has done nothing.
+pub(crate) const NOTHING: Book = Book {
+    events: 0,
+    commits: 0,
+    seen: 0,
+};
+
+impl Kept {
+    /// A machine on which nothing has happened, with a book for each pass.
+    ///
+    /// # Errors
+    ///
+    /// Those of `Machine::open`, and `NoMemory`.
+    pub fn open(alloc: Global, options: Options, passes: u16, traced: bool) -> Result<Kept, Refusal>
+        ensures opened { IfOk result (λ kept. IsFresh options passes kept) }
+        ensures trace { IfOk result (λ kept. IsNewTrace traced kept.trace) }
+        ensures fault { IsRefusedBy (open_fault options.columns options.feed options.keep) result }
+    {
+        let machine = Machine::open(alloc, options)?;
+        let books = blank_books(alloc, passes)?;
+        Ok(Kept {
+            machine,
+            events: 0,
+            books,
+            trace: Trace::new(alloc, traced),
+        })
+    }
+
+    /// One event of a pass, and what came of it: one event of the machine, counted in the pass and in its book, and
+    /// traced where a trace is kept.
+    ///
+    /// Costs the event of the machine, and the way down the tree of open calls.
+    ///
+    /// # Errors
+    ///
+    /// No event is made, and nothing changes, where the outcome is `WrongPass`: the pass has no book here, the begin
+    /// names another pass, or the step is of another pass's open call. Nor where it is `Spent` since the count of
+    /// events, of the index or of the pass, is at its greatest value. Every other refusal is one of the machine, and
+    /// counts as an event.
+    pub fn event(&mut self, alloc: Global, pass: &mut Pass, event: &Event) -> Outcome
+        requires { IsServed event.now }
+        ensures does { Does self.old pass.old event.now result self.new pass.new }
+        ensures kept { IsKept self.old × IsKept self.new }
+    {
+        let number = pass.number();
+        if self.is_wrong(number, event) {
+            return Outcome::Refused(Refusal::WrongPass);
+        }
+        if self.events == u64::MAX || pass.events() == u64::MAX {
+            return Outcome::Refused(Refusal::Spent);
+        }
+        let outcome = self.machine.event(alloc, event);
+        let _commits = self.machine.commits();
+        let at = number.0 as usize - 1;
+        self.books[at] = self.books[at].with(&outcome);
+        self.events += 1;
+        self.trace.note(alloc, number, event, &outcome);
+        pass.count(alloc, event, &outcome);
+        outcome
+    }
+
+    /// The deltas of the commits after the first `from`, `limit` at most: `Machine::feed`. No event.
+    ///
+    /// # Errors
+    ///
+    /// Those of `Machine::feed`.
+    pub fn feed(&self, alloc: Global, from: u64, limit: u16) -> Result<Vec<Delta>, Refusal>
+        ensures feeds { Feeds self.now.machine from limit result }
+        ensures kept { IsKept self.now }
+    {
+        self.machine.feed(alloc, from, limit)
+    }
+
+    /// How many columns a row has.
+    pub fn columns(&self) -> u8
+        ensures columns { result ≡ self.now.machine.columns }
+        ensures kept { IsKept self.now }
+    {
+        self.machine.columns()
+    }
+
+    // Whether the event isn't one that this pass may make.
+    fn is_wrong(&self, pass: PassNo, event: &Event) -> bool
+        ensures { result ≡ is_wrong self.now pass event.now }
+    {
+        if !self.has_book(pass) {
+            return true;
+        }
+        match event {
+            Event::Begin(named, _) => named.0 != pass.0,
+            Event::Step(call) => match self.machine.pass_of(*call) {
+                Some(owner) => owner.0 != pass.0,
+                None => false,
+            },
+            _ => false,
+        }
+    }
+
+    fn has_book(&self, pass: PassNo) -> bool
+        ensures { result ≡ has_book pass self.now.books }
+    {
+        pass.0 != 0 && pass.0 as usize <= self.books.len()
+    }
+}
+
+// The books of passes that have done nothing.
+fn blank_books(alloc: Global, passes: u16) -> Result<Vec<Book>, AllocError>
+    ensures count { IfOk result (λ books. length books.items ≡ passes) }
+    ensures events { IfOk result (λ books. booked_events books.items ≡ 0) }
+    ensures commits { IfOk result (λ books. booked_commits books.items ≡ 0) }
+    ensures seen { IfOk result (λ books. All (λ (book : Book). book.seen ≤ 0) books.items) }
+{
+    let mut books = Vec::new(alloc);
+    for _ in 0..passes {
+        books.push(NOTHING)?;
+    }
+    Ok(books)
+}

@@ -1,0 +1,15 @@
+//! Many threads over one index: a lock round the machine with its books, passes by which callers make events, and calls
+//! that are driven to their end step by step.
+#![tactic(auto)]
+
+pub mod book;
+pub mod calls;
+pub mod driving;
+pub mod index;
+pub mod kept;
+pub mod lone;
+pub mod pass;
+pub mod settling;
+#[cfg(test)]
+mod tests;
+pub mod trace;

@@ -1,0 +1,79 @@
+//! A machine of one caller, without a lock.
+
+ghost use Rattle.std.specs.Prelude.{false, IfOk};
+ghost use Rattle.mt_types.specs.Limits.{open_fault};
+ghost use Rattle.mt_shared.specs.Passes.{IsNewPass};
+ghost use Rattle.mt_shared.specs.Kept.{Does, IsKept, IsFresh, IsRefusedBy};
+ghost use Rattle.mt_shared.specs.Feeds.{Feeds};
+ghost use Rattle.mt_index.specs.Stands.{IsServed};
+ghost use Rattle.mt_shared.specs.Passes.{IsTold};
+
+use crate::driving::Shared;
+use crate::kept::Kept;
+use crate::pass::Pass;
+use mt_index::options::Options;
+use mt_types::event::{Event, Outcome};
+use mt_types::refusal::Refusal;
+use mt_types::row::Delta;
+use std::alloc::Global;
+use std::marker::Model;
+
+/// The machine of one caller. Its calls never wait for another thread.
+#[derive(Drop)]
+pub struct Lone {
+    kept: Kept,
+}
+
+impl Model for Lone {
+    ghost use Rattle.std.specs.Coded.{codes};
+    ghost use Rattle.mt_scan.specs.CursorCode.{place_code};
+    ghost use Rattle.mt_view.specs.StateCode.{state_code};
+    ghost use Rattle.mt_shared.specs.Kept.{KeptView};
+
+    ghost Value = { KeptView };
+
+    ghost coded = { Prim.hlevel (codes, place_code, state_code) };
+
+    ghost view = { λ l. l.kept };
+}
+
+impl Lone {
+    /// An empty machine, and pass 1, its only one.
+    ///
+    /// # Errors
+    ///
+    /// Those of `Machine::open`.
+    pub fn start(alloc: Global, options: Options) -> Result<(Lone, Pass), Refusal>
+        ensures opened { IfOk result (λ r. IsFresh options 1 r.0) }
+        ensures pass { IfOk result (λ r. IsNewPass false 1 r.1) }
+        ensures fault { IsRefusedBy (open_fault options.columns options.feed options.keep) result }
+    {
+        let kept = Kept::open(alloc, options, 1, false)?;
+        Ok((Lone { kept }, Pass::new(alloc, 1, false)))
+    }
+
+    /// The deltas of the commits after the first `from`, `limit` at most: `Machine::feed`. No event.
+    ///
+    /// # Errors
+    ///
+    /// Those of `Machine::feed`.
+    pub fn feed(&self, alloc: Global, from: u64, limit: u16) -> Result<Vec<Delta>, Refusal>
+        ensures { Feeds self.now.machine from limit result }
+    {
+        self.kept.feed(alloc, from, limit)
+    }
+}
+
+impl Shared for Lone {
+    ghost does = { Does };
+
+    /// `Kept::event`.
+    fn event(&mut self, alloc: Global, pass: &mut Pass, event: &Event) -> Outcome
+        requires { IsServed event.now }
+        ensures does { Does self.old pass.old event.now result self.new pass.new }
+        ensures told { IsTold pass.old event.now result pass.new }
+        ensures kept { IsKept self.old × IsKept self.new }
+    {
+        self.kept.event(alloc, pass, event)
+    }
+}

@@ -1,0 +1,95 @@
+//! A pass: the right of one caller to make events on an index, with what it has done and seen.
+
+ghost use Rattle.std.specs.Prelude.{◌≡◌, ◌+◌, ◌<◌, ◌^◌};
+ghost use Rattle.mt_shared.specs.Passes.{Counts, IsNewPass};
+
+use crate::book::{commits_in, seen_in};
+use crate::trace::Trace;
+use mt_types::event::{Event, Outcome};
+use mt_types::numbers::PassNo;
+use std::alloc::Global;
+use std::marker::Model;
+
+/// The right of one caller. The passes of an index are numbered from 1.
+#[derive(Debug, Drop)]
+pub struct Pass {
+    number: PassNo,
+    seen: u64,
+    events: u64,
+    commits: u64,
+    trace: Trace,
+}
+
+impl Model for Pass {
+    ghost use Rattle.std.specs.Prelude.{◌≤◌};
+    ghost use Rattle.mt_shared.specs.Passes.{PassView};
+
+    ghost Value = { PassView };
+
+    ghost use Rattle.mt_shared.specs.Inside.{pass_view};
+
+    ghost view = { pass_view };
+
+    ghost invariant = { λ p. p.commits ≤ p.events };
+}
+
+impl Pass {
+    // A pass that has done nothing. Only an index and a machine of one caller make passes.
+    pub(crate) fn new(alloc: Global, number: u16, traced: bool) -> Pass
+        ensures { IsNewPass traced number result }
+    {
+        Pass {
+            number: PassNo(number),
+            seen: 0,
+            events: 0,
+            commits: 0,
+            trace: Trace::new(alloc, traced),
+        }
+    }
+
+    /// Its number.
+    pub fn number(&self) -> PassNo
+        ensures { result ≡ self.now.number }
+    {
+        self.number
+    }
+
+    /// The most commits that a reply to it has shown: a call that it begins later begins at no fewer.
+    pub fn seen(&self) -> u64
+        ensures { result ≡ self.now.seen }
+    {
+        self.seen
+    }
+
+    /// How many events it has made.
+    pub fn events(&self) -> u64
+        ensures { result ≡ self.now.events }
+    {
+        self.events
+    }
+
+    /// How many of its events were commits.
+    pub fn commits(&self) -> u64
+        ensures { result ≡ self.now.commits }
+    {
+        self.commits
+    }
+
+    // The events that it has made, if they are kept.
+    pub(crate) fn trace(&self) -> &Trace
+        ensures { result.now ≡ self.now.trace }
+    {
+        &self.trace
+    }
+
+    // It has made an event.
+    pub(crate) fn count(&mut self, alloc: Global, event: &Event, outcome: &Outcome)
+        requires { self.old.events + 1 < 2 ^ 64 }
+        ensures { Counts self.old event.now outcome.now self.new }
+    {
+        self.events += 1;
+        self.commits += commits_in(outcome);
+        self.seen = self.seen.max(seen_in(outcome));
+        self.trace.note(alloc, self.number, event, outcome);
+    }
+}

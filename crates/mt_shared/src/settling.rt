@@ -1,0 +1,135 @@
+//! The end of an index: what the passes did is held against their books.
+
+ghost use Rattle.std.specs.Prelude.{◌≡◌, IfOk, IsTrue, All, length};
+ghost use Rattle.mt_commit.specs.Log.{newest};
+ghost use Rattle.mt_shared.specs.Books.{booked_events, booked_commits};
+ghost use Rattle.mt_shared.specs.Passes.{HasItsPart, events_by, commits_by};
+ghost use Rattle.mt_shared.specs.Traces.{Keeps, IsLegalTrace, HaveHappened, part};
+
+use crate::book::Book;
+use crate::kept::{Kept, NOTHING};
+use crate::pass::Pass;
+use crate::trace::{Entry, Trace, is_part};
+use mt_types::limits::MAX_PASSES;
+use mt_types::refusal::Refusal;
+
+/// How many events an index made, and how many of them were commits.
+#[derive(Debug, Clone, Copy, PartialEq, Eq)]
+pub struct Totals {
+    pub events: u64,
+    pub commits: u64,
+}
+
+impl Kept {
+    /// The totals, if the passes are those of the books, each once, with their books' counts. O(n) in the passes.
+    ///
+    /// # Errors
+    ///
+    /// `WrongPass` where they aren't.
+    pub fn settle(self, passes: &[Pass]) -> Result<Totals, Refusal>
+        ensures made { IfOk result (λ totals. totals.events ≡ self.events) }
+        ensures committed { IfOk result (λ totals. totals.commits ≡ newest self.machine.log) }
+        ensures events { IfOk result (λ totals. totals.events ≡ events_by passes.now) }
+        ensures commits { IfOk result (λ totals. totals.commits ≡ commits_by passes.now) }
+        ensures history { IfOk result (λ totals. HaveHappened self.machine.columns totals.events totals.commits) }
+    {
+        let Kept {
+            machine,
+            events,
+            books,
+            trace: _,
+        } = self;
+        let commits = machine.commits();
+        if !add_up(books, passes) {
+            return Err(Refusal::WrongPass);
+        }
+        Ok(Totals { events, commits })
+    }
+
+    /// The trace of all events, if the passes are those of the books, each once, with their books' counts, and each has
+    /// in its own trace just its part of this one. O(n) in the events, times the passes; a comparison of each event.
+    ///
+    /// # Errors
+    ///
+    /// `WrongPass` where the passes aren't those, or no trace was kept; `NoMemory` where a trace was lost.
+    pub fn settle_trace(self, passes: &[Pass]) -> Result<Vec<Entry>, Refusal>
+        ensures legal { IfOk result (λ trace. IsLegalTrace self.machine.columns trace.items) }
+        ensures parts { IfOk result (λ trace. All (HasItsPart trace.items) passes.now) }
+        ensures count { IfOk result (λ trace. length trace.items ≡ events_by passes.now) }
+    {
+        let Kept {
+            machine: _,
+            events: _,
+            books,
+            trace,
+        } = self;
+        if !add_up(books, passes) {
+            return Err(Refusal::WrongPass);
+        }
+        let entries = kept_entries(trace)?;
+        for pass in passes {
+            has_part(pass, &entries)?;
+        }
+        Ok(entries)
+    }
+}
+
+// The entries of a trace that is kept.
+fn kept_entries(trace: Trace) -> Result<Vec<Entry>, Refusal>
+    ensures { IfOk result (λ entries. Keeps trace entries.items) }
+{
+    match trace {
+        Trace::On(entries) => Ok(entries),
+        Trace::Lost => Err(Refusal::NoMemory),
+        Trace::Off => Err(Refusal::WrongPass),
+    }
+}
+
+// The pass has in its trace just its part of the entries.
+fn has_part(pass: &Pass, entries: &[Entry]) -> Result<(), Refusal>
+    ensures { IfOk result (λ _. Keeps pass.now.trace (part pass.now.number entries.now)) }
+{
+    match pass.trace() {
+        Trace::On(list) if is_part(list, pass.number(), entries) => Ok(()),
+        Trace::Lost => Err(Refusal::NoMemory),
+        _ => Err(Refusal::WrongPass),
+    }
+}
+
+// Whether the passes are those of the books, each once, with their books' counts. The book of each pass that was met
+// becomes that of one that has done nothing; at the end each must be.
+fn add_up(mut books: Vec<Book>, passes: &[Pass]) -> bool
+    ensures events { IsTrue result → booked_events books.items ≡ events_by passes.now }
+    ensures commits { IsTrue result → booked_commits books.items ≡ commits_by passes.now }
+{
+    if passes.len() != books.len() || passes.len() > MAX_PASSES as usize {
+        return false;
+    }
+    let mut met = [false; MAX_PASSES as usize];
+    for pass in passes {
+        let number = pass.number().0 as usize;
+        if number == 0 || number > books.len() || met[number - 1] {
+            return false;
+        }
+        met[number - 1] = true;
+        let book = books[number - 1];
+        if book.events != pass.events() || book.commits != pass.commits() {
+            return false;
+        }
+        books[number - 1] = NOTHING;
+    }
+    are_blank(&books)
+}
+
+// Whether each is the book of a pass that has done nothing.
+fn are_blank(books: &[Book]) -> bool
+    ensures events { IsTrue result → booked_events books.now ≡ 0 }
+    ensures commits { IsTrue result → booked_commits books.now ≡ 0 }
+{
+    for book in books {
+        if book.events != 0 || book.commits != 0 {
+            return false;
+        }
+    }
+    true
+}
