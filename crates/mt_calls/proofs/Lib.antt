@@ -7,5 +7,6 @@ pub mod LayerLemmas
 pub mod NodeLemmas
 pub mod RetireLemmas
 pub mod CollectLemmas
+pub mod CollectingLemmas
 pub mod GetLemmas
 pub mod RangeLemmas

@@ -5,3 +5,4 @@ pub mod Way
 pub mod Getting
 pub mod Ranging
 pub mod Causes
+pub mod Collecting

@@ -55,12 +55,16 @@ BeginsBy tidy noted (LoneChild lone) p then = GoesTo tidy p then (Lonely lone)
 
 -- but where the border is locked, it ends
 abbrev pub Begins : Tidy → Noted → BorderView → Progress → Tidy → Type 0
-Begins tidy noted b p then = ((b.version.locked ≡ true) × Did NoRule p) ⊎ ((b.version.locked ≡ false) × BeginsBy tidy noted (sign_of b noted) p then)
+Begins tidy noted b p then = ((b.version.locked ≡ true) × Did NoRule p) ⊎ ((b.version.locked ≡ false)
+    × BeginsBy tidy noted (sign_of b noted) p then)
 
 abbrev pub FollowsVisit : ArenaView → Tidy → Noted → Node → Went → Progress → Tidy → Type 0
-FollowsVisit a tidy noted node Again p then = (p ≡ Waits) × (then ≡ record tidy { way = start; stage = Seeks not_noted })
-FollowsVisit a tidy noted node (To next) p then = (p ≡ Moved) × (then ≡ record tidy { way = next; stage = Seeks (noted_from node tidy.way next noted) })
-FollowsVisit a tidy noted node Here p then = IsSomeAnd (border_at a.nodes tidy.way.node.0) (λ b. Begins tidy noted b p then)
+FollowsVisit a tidy noted node Again p then =
+    (p ≡ Waits) × (then ≡ record tidy { way = start; stage = Seeks not_noted })
+FollowsVisit a tidy noted node (To next) p then =
+    (p ≡ Moved) × (then ≡ record tidy { way = next; stage = Seeks (noted_from node tidy.way next noted) })
+FollowsVisit a tidy noted node Here p then =
+    IsSomeAnd (border_at a.nodes tidy.way.node.0) (λ b. Begins tidy noted b p then)
 
 -- ---- an empty border
 -- the interior drops the border where it still names it, not as its first child; or the tidy gives up
@@ -68,7 +72,8 @@ abbrev pub DropsBy : Tidy → NodeNo → NodeNo → Option ℕ → Progress → 
 DropsBy tidy border head None p then = GoesTo tidy p then (KeepsBorder border)
 DropsBy tidy border head (Some place) p then = GoesTo tidy p then (Dropped border head)
 
--- it waits where the node is marked deleted, and begins its way again at the head; or where the border before is locked; else it goes on,
+-- it waits where the node is marked deleted, and begins its way again at the head; or where the border before is
+-- locked; else it goes on,
 -- or the border is unlinked
 abbrev pub FollowsMarked : ArenaView → Tidy → NodeNo → NodeNo → NodeNo → ℕ → Progress → Tidy → Type 0
 FollowsMarked a tidy border head node slice p then =
@@ -92,18 +97,22 @@ BypassesBy tidy interior None p then = GoesTo tidy p then (KeepsInterior interio
 BypassesBy tidy interior (Some place) p then = GoesTo tidy p then (Bypassed interior ChildRule)
 
 abbrev pub FollowsNamer : ArenaView → Tidy → NodeNo → Namer → Progress → Tidy → Type 0
-FollowsNamer a tidy interior (NamedByInterior parent) p then = IsSomeAnd (node_at a.nodes parent.0) (λ node. BypassesBy tidy interior (place_in node interior) p then)
+FollowsNamer a tidy interior (NamedByInterior parent) p then =
+    IsSomeAnd (node_at a.nodes parent.0) (λ node. BypassesBy tidy interior (place_in node interior) p then)
 FollowsNamer a tidy interior (NamedByHead head) p then = IsSomeAnd (head_at a.nodes head.0) (λ h.
-    (IsRootOf interior h × GoesTo tidy p then (Bypassed interior RootRule)) ⊎ ((IsRootOf interior h → ⊥) × GoesTo tidy p then (KeepsInterior interior)))
+    (IsRootOf interior h × GoesTo tidy p then (Bypassed interior RootRule)) ⊎ ((IsRootOf interior h → ⊥)
+    × GoesTo tidy p then (KeepsInterior interior)))
 
 -- ---- at each stage
 abbrev pub Follows : ArenaView → Tidy → Stage → Progress → Tidy → Type 0
 Follows a tidy (Seeks noted) p then = IsSomeAnd (node_at a.nodes tidy.way.node.0) (λ node. FollowsVisit a tidy noted node (went_by tidy.way (node_visit (rest_of tidy.key tidy.way) node)) p then)
-Follows a tidy (Locked border head parent) p then = IsSomeAnd (node_at a.nodes parent.0) (λ node. DropsBy tidy border head (later_place node border) p then)
+Follows a tidy (Locked border head parent) p then =
+    IsSomeAnd (node_at a.nodes parent.0) (λ node. DropsBy tidy border head (later_place node border) p then)
 Follows a tidy (Dropped border head) p then = (slice : ℕ) × GoesTo tidy p then (Marked border head head slice)
 Follows a tidy (Marked border head node slice) p then = FollowsMarked a tidy border head node slice p then
 Follows a tidy (Unlinked border) p then = Did BorderRule p
-Follows a tidy (Lonely lone) p then = IsSomeAnd (node_at a.nodes lone.interior.0) (λ node. LocksBy tidy lone (is_lone node lone.child) p then)
+Follows a tidy (Lonely lone) p then =
+    IsSomeAnd (node_at a.nodes lone.interior.0) (λ node. LocksBy tidy lone (is_lone node lone.child) p then)
 Follows a tidy (LoneLocked lone) p then = FollowsNamer a tidy lone.interior lone.namer p then
 Follows a tidy (Bypassed interior rule) p then = Did rule p
 Follows a tidy (KeepsBorder border) p then = Did NoRule p
@@ -117,7 +126,8 @@ abbrev pub waits_at : Tidy → Stage → ℕ
 waits_at tidy (Marked border head node slice) = node.0
 waits_at tidy _ = tidy.way.node.0
 
--- WHY IT WAITS: the node that it visits is marked deleted; or is the border before the one that it unlinks, and is locked
+-- WHY IT WAITS: the node that it visits is marked deleted; or is the border before the one that it unlinks, and is
+-- locked
 abbrev pub StageWaits : ArenaView → Tidy → Stage → Progress → Type 0
 StageWaits a tidy stage Waits = IsMarkedAt a (waits_at tidy stage) ⊎ IsLockedAlready a (waits_at tidy stage)
 StageWaits a tidy stage _ = Unit {0}

@@ -51,7 +51,8 @@ noted_at (Border border) node next noted = record noted { came = FromLeft }
 
 -- what is noted once a call goes on from a node that it visits
 abbrev pub noted_from : Node → Way → Way → Noted → Noted
-noted_from node way next noted = if not (next.layer == way.layer) then noted_below way.node next.node else noted_at node way.node next.node noted
+noted_from node way next noted =
+    if not (next.layer == way.layer) then noted_below way.node next.node else noted_at node way.node next.node noted
 
 -- ---- at the place
 -- the border is empty, and not the first of its layer
@@ -63,13 +64,16 @@ abbrev pub lone_sign : Option Lone → Sign
 lone_sign None = Nothing
 lone_sign (Some lone) = LoneChild lone
 
--- an empty border is dropped from the interior that it was reached from, but for the first child of one, and for the first border of a layer
+-- an empty border is dropped from the interior that it was reached from, but for the first child of one, and for the
+-- first border of a layer
 abbrev pub border_sign : BorderView → Came → Sign → Sign
 border_sign b FromHead otherwise = otherwise
 border_sign b FromLeft otherwise = otherwise
 border_sign b (AsChild parent true) otherwise = otherwise
-border_sign b (AsChild parent false) otherwise = if is_empty b then (if b.low == 0 then otherwise else EmptyBorder parent) else otherwise
+border_sign b (AsChild parent false) otherwise =
+    if is_empty b then (if b.low == 0 then otherwise else EmptyBorder parent) else otherwise
 
--- THE FIRST RULE WHOSE SIGNS ARE SEEN at a border, by what was noted on the way to it: an empty border; an interior with one child
+-- THE FIRST RULE WHOSE SIGNS ARE SEEN at a border, by what was noted on the way to it: an empty border; an interior
+-- with one child
 abbrev pub sign_of : BorderView → Noted → Sign
 sign_of b noted = border_sign b noted.came (lone_sign noted.lone)

@@ -29,7 +29,8 @@ is_lone node child = lone_of child (free_interior node)
 
 -- the place of the node among its children
 abbrev pub place_in : Node → NodeNo → Option ℕ
-place_in node child = option_and_then (λ i. position (λ (c : Child). c.node.0 == child.0) i.children) (free_interior node)
+place_in node child =
+    option_and_then (λ i. position (λ (c : Child). c.node.0 == child.0) i.children) (free_interior node)
 
 -- the place, where it is not the first
 abbrev pub not_first : Option ℕ → Option ℕ

@@ -78,7 +78,8 @@ CameIsKnown begun prefix w (AsChild parent first) = IsKnownIn w begun parent.0 p
 -- what is noted as the border above is a node of the layer above
 abbrev pub IfAbove : ℕ → List ℕ → ℕ → World → Option NodeNo → Type 0
 IfAbove begun key layer w None = Unit {0}
-IfAbove begun key layer w (Some above) = (upper : ℕ) × (layer ≡ upper + 1) × IsKnownIn w begun above.0 (slices_above upper key)
+IfAbove begun key layer w (Some above) =
+    (upper : ℕ) × (layer ≡ upper + 1) × IsKnownIn w begun above.0 (slices_above upper key)
 
 -- what it has noted are nodes of the layer where it is
 pub record NotedIsTrue (begun : ℕ) (key : List ℕ) (way : Way) (noted : Noted) (w : World) : Type 0 where
@@ -132,7 +133,8 @@ pub record IsGoneInterior (begun : ℕ) (a : ArenaView) (w : World) (number : �
   pub apart : NoTwin w.twins number
   pub kept : NotRetired a.retired number
 
--- a border is to be unlinked from the one where the slice before its low stands, on the way to which the call holds a node
+-- a border is to be unlinked from the one where the slice before its low stands, on the way to which the call holds
+-- a node
 pub record IsUnlinking (begun : ℕ) (a : ArenaView) (w : World) (number : ℕ) (prefix : List ℕ) (head node slice : ℕ) : Type 0 where
   pub border : IsEmptyBorder a w number prefix false
   pub marked : border.b.version.deleted ≡ true
@@ -142,13 +144,17 @@ pub record IsUnlinking (begun : ℕ) (a : ArenaView) (w : World) (number : ℕ) 
 
 abbrev pub StageIsTrue : ℕ → List ℕ → Way → Stage → ArenaView → World → Type 0
 StageIsTrue begun key way (Seeks noted) a w = IsOnWay begun key way w × NotedIsTrue begun key way noted w
-StageIsTrue begun key way (Locked border head parent) a w = ((posted : Bool) × IsEmptyBorder a w border.0 (prefix_of key way) posted)
+StageIsTrue begun key way (Locked border head parent) a w =
+    ((posted : Bool) × IsEmptyBorder a w border.0 (prefix_of key way) posted)
     × IsHeadOf w begun head.0 (prefix_of key way) × IsKnownIn w begun parent.0 (prefix_of key way)
-StageIsTrue begun key way (Dropped border head) a w = IsEmptyBorder a w border.0 (prefix_of key way) false × IsHeadOf w begun head.0 (prefix_of key way)
-StageIsTrue begun key way (Marked border head node slice) a w = IsUnlinking begun a w border.0 (prefix_of key way) head.0 node.0 slice
+StageIsTrue begun key way (Dropped border head) a w =
+    IsEmptyBorder a w border.0 (prefix_of key way) false × IsHeadOf w begun head.0 (prefix_of key way)
+StageIsTrue begun key way (Marked border head node slice) a w =
+    IsUnlinking begun a w border.0 (prefix_of key way) head.0 node.0 slice
 StageIsTrue begun key way (Unlinked border) a w = IsGoneBorder a w border.0
 StageIsTrue begun key way (Lonely lone) a w = LoneIsKnown begun (prefix_of key way) w lone
-StageIsTrue begun key way (LoneLocked lone) a w = IsLoneInterior a w lone.interior.0 (prefix_of key way) × NamerIsKnown begun (prefix_of key way) w lone.namer
+StageIsTrue begun key way (LoneLocked lone) a w =
+    IsLoneInterior a w lone.interior.0 (prefix_of key way) × NamerIsKnown begun (prefix_of key way) w lone.namer
 StageIsTrue begun key way (Bypassed interior rule) a w = IsGoneInterior begun a w interior.0
 StageIsTrue begun key way (KeepsBorder border) a w = IsLockedBorder a w border.0
 StageIsTrue begun key way (KeepsInterior interior) a w = IsLoneInterior a w interior.0 (prefix_of key way)
@@ -179,7 +185,8 @@ ThenTidy p begun then after next = ThenTrue p 0 (λ moves x. TidyIsTrue then beg
 -- what a step leaves, from a stage: the rows are the same
 pub record StageLaw (epoch : ℕ) (a after : ArenaView) (tidy : Tidy) (stage : Stage) (p : Progress) (then : Tidy) : Type 0 where
   pub steps : (begun : ℕ) (w : World) → IsWorld a epoch w → begun ≤ epoch → StageIsTrue begun tidy.key tidy.way stage a w →
-      Goes epoch a after w (stage_owns stage) (left_with p (tidy_held then)).owns (ThenTidy p begun then after) × SameContent (arena_seen a) (arena_seen after)
+      Goes epoch a after w (stage_owns stage) (left_with p (tidy_held then)).owns (ThenTidy p begun then after)
+      × SameContent (arena_seen a) (arena_seen after)
 
 abbrev pub TidyLaw : ℕ → ArenaView → ArenaView → Tidy → Progress → Tidy → Type 0
 TidyLaw epoch a after tidy p then = StageLaw epoch a after tidy tidy.stage p then

@@ -21,7 +21,8 @@ pub enum Stage {
         border: NodeNo,
         head: NodeNo,
     },
-    /// The border is marked deleted, and is to be unlinked. The call stands at a node on its way to the border before it.
+    /// The border is marked deleted, and is to be unlinked. The call stands at a node on its way to the border
+    /// before it.
     Marked {
         border: NodeNo,
         head: NodeNo,
