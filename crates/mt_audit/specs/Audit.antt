@@ -49,7 +49,8 @@ verdict_status (Bad number) = 2
 
 -- the verdict on the lines of the input, where it is known
 abbrev pub IsVerdictOn : ℕ → Option (List ℕ) → Verdict → Type 0
-IsVerdictOn C input verdict = (lines : List (List ℕ)) × IfSome input (λ bytes. lines_of bytes ≡ lines) × IsVerdict C lines verdict
+IsVerdictOn C input verdict =
+    (lines : List (List ℕ)) × IfSome input (λ bytes. lines_of bytes ≡ lines) × IsVerdict C lines verdict
 
 -- the line of the verdict on the input was written, and this is its status
 pub record Audited (C : ℕ) (input old : Option (List ℕ)) (status : ℕ) (new : Option (List ℕ)) : Type 0 where
@@ -62,4 +63,6 @@ pub record Audited (C : ℕ) (input old : Option (List ℕ)) (status : ℕ) (new
 pub record Unfinished (C : ℕ) (input old new : Option (List ℕ)) : Type 0 where
   pub sent : List ℕ
   pub written : Appends old new sent
-  pub front : (sent ≡ []) ⊎ ((verdict : Verdict) × (unsent : List ℕ) × IsVerdictOn C input verdict × (line_text (verdict_text verdict) ≡ sent ++ unsent))
+  pub front : (sent ≡ [])
+      ⊎ ((verdict : Verdict) × (unsent : List ℕ) × IsVerdictOn C input verdict
+      × (line_text (verdict_text verdict) ≡ sent ++ unsent))

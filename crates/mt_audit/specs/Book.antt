@@ -33,4 +33,5 @@ Adds C line old new false = (lines : List (List ℕ)) → IsBookOf C lines old �
 
 -- all lines of the input, where it is known, were read into it
 abbrev pub IsWholeBook : ℕ → Option (List ℕ) → Book → Type 0
-IsWholeBook C input book = (lines : List (List ℕ)) × IfSome input (λ bytes. lines_of bytes ≡ lines) × IsBookOf C lines book
+IsWholeBook C input book =
+    (lines : List (List ℕ)) × IfSome input (λ bytes. lines_of bytes ≡ lines) × IsBookOf C lines book

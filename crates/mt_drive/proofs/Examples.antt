@@ -2,16 +2,16 @@
 use Rattle.std.proofs.Common.{◌≡◌, ◌++◌, [], ◌∷◌, Some, None, refl}
 use Rattle.std.specs.Prelude.{codes}
 use Rattle.hex.specs.Hex.{decode_pairs}
-use Rattle.mt_types.specs.declared.event.Request.TheVariants.{Get, Put, Range, Tidy, Build}
+use Rattle.mt_types.specs.declared.event.Request.TheVariants.{Get, Put, Remove, Range, Tidy, Build}
 use Rattle.mt_types.specs.declared.view.ViewSpec.TheVariants.{Range as RangeOf, Prefix as PrefixOf}
 use Rattle.mt_types.specs.declared.view.RowTest.TheVariants.{Any, Equals, AtLeast}
 use Rattle.mt_types.specs.declared.event.Event.TheVariants.{Begin, Step, ViewRead, Advance}
-use Rattle.mt_drive.specs.declared.command.Command.TheVariants.{Once, Finish, Feed}
+use Rattle.mt_drive.specs.declared.command.Command.TheVariants.{Once, Finish, Alone, Feed}
 use Rattle.mt_types.specs.declared.event.Outcome.TheVariants.{Moved}
 use Rattle.mt_drive.specs.declared.command.Reply.TheVariants.{Bad, Came}
 use Rattle.mt_drive.specs.Lines.{lines_of}
 use Rattle.mt_drive.specs.Script.{output_of, bad_lines}
-use Rattle.mt_drive.specs.Commands.{command_of, long_command_of, view_command_of, begin_of, step_of, finish_of, view_read_of, feed_of}
+use Rattle.mt_drive.specs.Commands.{command_of, long_command_of, view_command_of, begin_of, step_of, finish_of, view_read_of, alone_of, feed_of}
 use Rattle.mt_drive.specs.Reading.{request_of, upkeep_of, get_of, put_of, remove_of, range_of, tidy_of, build_of, spec_of, keys_of, prefix_of, end_of, test_of, column_test_of, equals_of, at_least_of, columns_of, set_of, sets_of}
 
 steps : command_of (codes "step 007") ≡ Some (Once (Step (record { 0 = 7 })))
@@ -57,6 +57,10 @@ endless = refl
 reads_a_view : command_of (codes "view 1 0 - 10") ≡ Some (Once (ViewRead (record { 0 = 1 }) 0 [] 10))
 unfolding command_of long_command_of view_command_of view_read_of
 reads_a_view = refl
+
+alone : command_of (codes "alone remove 61") ≡ Some (Alone (Remove (97 ∷ [])))
+unfolding command_of long_command_of alone_of request_of remove_of decode_pairs
+alone = refl
 
 feeds : command_of (codes "feed 0 10") ≡ Some (Feed 0 10)
 unfolding command_of long_command_of view_command_of feed_of

@@ -3,7 +3,7 @@ use Rattle.std.specs.Prelude.{ℕ, ◌-◌, ◌^◌, if◌then◌else◌, List, 
 use Rattle.std.specs.Str.{bytes_eq}
 use Rattle.mt_types.specs.declared.event.Event.TheVariants.{Begin, Step, Apply, ViewRead, ViewDrop, Advance, Collect}
 use Rattle.mt_drive.specs.declared.command.Command.{Command}
-use Rattle.mt_drive.specs.declared.command.Command.TheVariants.{Once, Finish, Feed}
+use Rattle.mt_drive.specs.declared.command.Command.TheVariants.{Once, Finish, Alone, Feed}
 use Rattle.mt_drive.specs.Words.{◌>>=◌, word_at, number_of, bytes_of}
 use Rattle.mt_drive.specs.Reading.{request_of}
 
@@ -26,6 +26,12 @@ unfoldable pub finish_of : List ℕ → Option Command
 finish_of text = do
   call ← number_of (2 ^ 64 - 1) text
   Some (Finish (record { 0 = call }))
+
+-- REQUEST
+unfoldable pub alone_of : List ℕ → Option Command
+alone_of text = do
+  request ← request_of text
+  Some (Alone request)
 
 -- VIEW
 unfoldable pub apply_of : List ℕ → Option Command
@@ -69,13 +75,15 @@ view_command_of word text =
     else if bytes_eq word (codes "feed") then feed_of text
     else None
 
--- of more than one word: of calls (begin PASS REQUEST, step CALL or finish CALL), of views or of the feed
+-- of more than one word: of calls (begin PASS REQUEST, step CALL, finish CALL or alone REQUEST), of
+-- views or of the feed
 unfoldable pub long_command_of : List ℕ → Option Command
 long_command_of line = do
   word ← word_at 32 line
   if bytes_eq word.0 (codes "begin") then begin_of word.1
       else if bytes_eq word.0 (codes "step") then step_of word.1
       else if bytes_eq word.0 (codes "finish") then finish_of word.1
+      else if bytes_eq word.0 (codes "alone") then alone_of word.1
       else view_command_of word.0 word.1
 
 -- what a line says, its words parted by one space: advance, collect, or a command of more than one word

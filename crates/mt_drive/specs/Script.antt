@@ -7,9 +7,9 @@ use Rattle.mt_types.specs.declared.numbers.CallNo.{CallNo}
 use Rattle.mt_types.specs.declared.refusal.Refusal.{Refusal}
 use Rattle.mt_types.specs.declared.refusal.Refusal.TheVariants.{NoMemory as WantOfMemory, Behind}
 use Rattle.mt_types.specs.declared.event.Event.{Event}
-use Rattle.mt_types.specs.declared.event.Event.TheVariants.{Step}
+use Rattle.mt_types.specs.declared.event.Event.TheVariants.{Begin, Step}
 use Rattle.mt_types.specs.declared.event.Outcome.{Outcome}
-use Rattle.mt_types.specs.declared.event.Outcome.TheVariants.{Moved, Commit}
+use Rattle.mt_types.specs.declared.event.Outcome.TheVariants.{Call, Moved, Commit}
 use Rattle.mt_types.specs.Limits.{limit_fault, refused_if}
 use Rattle.mt_promise.specs.History.{History, GoesOn, moment}
 use Rattle.mt_promise.specs.Legal.{Legal, held_from}
@@ -19,9 +19,9 @@ use Rattle.mt_index.specs.Stands.{IsServed}
 use Rattle.mt_drive.specs.declared.fault.ScriptFault.{ScriptFault}
 use Rattle.mt_drive.specs.declared.fault.ScriptFault.TheVariants.{Read, Start, NoMemory}
 use Rattle.mt_drive.specs.declared.command.Command.{Command}
-use Rattle.mt_drive.specs.declared.command.Command.TheVariants.{Once, Finish, Feed}
+use Rattle.mt_drive.specs.declared.command.Command.TheVariants.{Once, Finish, Alone, Feed}
 use Rattle.mt_drive.specs.declared.command.Reply.{Reply}
-use Rattle.mt_drive.specs.declared.command.Reply.TheVariants.{Bad, Came, Fed, NotFed}
+use Rattle.mt_drive.specs.declared.command.Reply.TheVariants.{Bad, Busy, Came, Fed, NotFed}
 use Rattle.mt_drive.specs.Lines.{lines_of, line_text}
 use Rattle.mt_drive.specs.Commands.{command_of}
 use Rattle.mt_drive.specs.Showing.{outcome_text, refusal_text, delta_text}
@@ -29,6 +29,7 @@ use Rattle.mt_drive.specs.Showing.{outcome_text, refusal_text, delta_text}
 -- the lines of a reply, each with a line feed
 abbrev pub reply_lines : Reply → List ℕ
 reply_lines Bad = line_text (codes "bad line")
+reply_lines Busy = line_text (codes "busy")
 reply_lines (Came outcome) = line_text (outcome_text outcome)
 reply_lines (Fed deltas) = flat_map (λ delta. line_text (delta_text delta)) deltas
 reply_lines (NotFed refusal) = line_text (refusal_text refusal)
@@ -85,6 +86,26 @@ abbrev pub Ends : CallNo → History → Reply → History → Type 0
 Ends call past (Came outcome) h = Finishes past call outcome h
 Ends call past _ h = ⊥
 
+-- what came of a call that was begun so, up to its end: of its begin where that is refused, else of its last step
+abbrev pub EndsFrom : Outcome → History → Outcome → History → Type 0
+EndsFrom (Call call) between outcome h = Finishes between call outcome h
+EndsFrom begun between outcome h = (outcome ≡ begun) × (h ≡ between)
+
+-- a begin, and then the steps of its call up to its end
+abbrev pub Runs : Event → History → Outcome → History → Type 0
+Runs event past outcome h =
+    (begun : Outcome) × (between : History) × Happens past event begun between × EndsFrom begun between outcome h
+
+abbrev pub open_calls : History → ℕ
+open_calls past = length (moment past).calls
+
+-- a call that is begun and runs alone: where others are open, nothing happens
+abbrev pub RunsAlone : Event → History → Reply → History → Type 0
+RunsAlone event past (Came outcome) h = IsServed event × (open_calls past ≡ 0) × Runs event past outcome h
+RunsAlone event past Busy h = IsServed event × (0 < open_calls past) × (h ≡ past)
+RunsAlone event past Bad h = ¬ IsServed event × (h ≡ past)
+RunsAlone event past _ h = ⊥
+
 -- after so many commits the log of an index begins that keeps this many for nobody: it has all that is held, and the last ones
 abbrev pub feed_begin : ℕ → History → ℕ
 feed_begin keep past = min (held_from (moment past)) (length (moment past).commits - keep)
@@ -108,6 +129,7 @@ abbrev pub Answers : ℕ → ℕ → Option Command → History → Reply → Hi
 Answers C keep None past reply h = (reply ≡ Bad) × (h ≡ past)
 Answers C keep (Some (Once event)) past reply h = Asks event past reply h
 Answers C keep (Some (Finish call)) past reply h = Ends call past reply h
+Answers C keep (Some (Alone request)) past reply h = RunsAlone (Begin (record { 0 = 0 }) request) past reply h
 Answers C keep (Some (Feed from limit)) past reply h = Feeds C keep from limit past reply × (h ≡ past)
 
 -- these lines, one after the other, were answered so, each by one reply

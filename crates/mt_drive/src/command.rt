@@ -1,6 +1,6 @@
 //! What a line of a script asks for, and what it is answered.
 
-use mt_types::event::{Event, Outcome};
+use mt_types::event::{Event, Outcome, Request};
 use mt_types::items::Items;
 use mt_types::numbers::CallNo;
 use mt_types::refusal::Refusal;
@@ -13,6 +13,8 @@ pub enum Command {
     Once(Event),
     /// Steps of a call, until one is neither moved nor a commit.
     Finish(CallNo),
+    /// A call from its begin to its end, where no other is open. It is of pass 0.
+    Alone(Request),
     /// The deltas of the commits after a number, so many at most. No event happens.
     Feed { from: u64, limit: u16 },
 }
@@ -22,6 +24,8 @@ pub enum Command {
 pub enum Reply {
     /// The line says nothing, or what the index doesn't serve yet.
     Bad,
+    /// A call was to run alone while others are open. No event happened.
+    Busy,
     /// What came of its last event.
     Came(Outcome),
     /// The deltas that a feed gave.

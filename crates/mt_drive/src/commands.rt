@@ -2,7 +2,7 @@
 
 ghost use Rattle.std.specs.Prelude.{◌≡◌};
 ghost use Rattle.mt_drive.specs.Words.{Gives};
-ghost use Rattle.mt_drive.specs.Commands.{begin_of, step_of, finish_of, apply_of, view_read_of, view_drop_of, feed_of, view_command_of, long_command_of, command_of};
+ghost use Rattle.mt_drive.specs.Commands.{begin_of, step_of, finish_of, alone_of, apply_of, view_read_of, view_drop_of, feed_of, view_command_of, long_command_of, command_of};
 
 use crate::command::Command;
 use crate::fault::LineError;
@@ -36,6 +36,14 @@ fn finish(text: &[u8]) -> Result<Command, LineError>
 {
     let call = CallNo(number(text, u64::MAX)?);
     Ok(Command::Finish(call))
+}
+
+#[tactic(auto, unfolding(crate::specs::Commands::alone_of))]
+fn alone(alloc: Global, text: &[u8]) -> Result<Command, LineError>
+    ensures { Gives (λ c. c) result (alone_of text.now) }
+{
+    let request = read_request(alloc, text)?;
+    Ok(Command::Alone(request))
 }
 
 #[tactic(auto, unfolding(crate::specs::Commands::apply_of))]
@@ -113,14 +121,16 @@ fn long_command(alloc: Global, line: &[u8]) -> Result<Command, LineError>
         step(rest)
     } else if word == b"finish".as_slice() {
         finish(rest)
+    } else if word == b"alone".as_slice() {
+        alone(alloc, rest)
     } else {
         view_command(alloc, word, rest)
     }
 }
 
-/// What a line says, its words parted by one space: `begin PASS REQUEST`, `step CALL` or `finish CALL`; `apply VIEW`,
-/// `view VIEW FLOOR START LIMIT` or `drop VIEW`; `advance` or `collect`; `feed FROM LIMIT`. Costs what its request costs
-/// to read.
+/// What a line says, its words parted by one space: `begin PASS REQUEST`, `step CALL`, `finish CALL` or
+/// `alone REQUEST`; `apply VIEW`, `view VIEW FLOOR START LIMIT` or `drop VIEW`; `advance` or `collect`;
+/// `feed FROM LIMIT`. Costs what its request costs to read.
 #[tactic(auto, unfolding(crate::specs::Commands::command_of))]
 pub fn read_command(alloc: Global, line: &[u8]) -> Result<Command, LineError>
     ensures { Gives (λ c. c) result (command_of line.now) }

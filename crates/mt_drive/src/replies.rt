@@ -29,6 +29,7 @@ pub(crate) fn reply_text(alloc: Global, reply: &Reply) -> Result<String, AllocEr
     let mut text = String::new(alloc);
     match reply {
         Reply::Bad => text.push_str("bad line\n")?,
+        Reply::Busy => text.push_str("busy\n")?,
         Reply::Came(outcome) => {
             push_outcome(alloc, &mut text, outcome)?;
             text.push_str("\n")?;

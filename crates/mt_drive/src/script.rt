@@ -4,12 +4,12 @@ ghost use Rattle.std.specs.Prelude.{◌≡◌, ◌≢◌, ◌⊎◌, ◌+◌, �
 ghost use Rattle.std.specs.Io.KnownBytes.{Appends};
 ghost use Rattle.mt_types.specs.Limits.{open_fault};
 ghost use Rattle.mt_types.specs.declared.refusal.Refusal.{Refusal};
-ghost use Rattle.mt_types.specs.declared.event.Event.TheVariants.{Step};
+ghost use Rattle.mt_types.specs.declared.event.Event.TheVariants.{Begin, Step};
 ghost use Rattle.mt_promise.specs.History.{History};
-ghost use Rattle.mt_index.specs.Stands.{Stands};
+ghost use Rattle.mt_index.specs.Stands.{Stands, IsServed};
 ghost use Rattle.mt_drive.specs.Commands.{command_of};
 ghost use Rattle.mt_drive.specs.Machine.{Leads, IsAsBefore};
-ghost use Rattle.mt_drive.specs.Script.{goes_on, reply_lines, bad_lines, start_fault, Happens, Finishes, Asks, Feeds, Answers, Played, Broke};
+ghost use Rattle.mt_drive.specs.Script.{goes_on, reply_lines, bad_lines, start_fault, Happens, Finishes, Runs, RunsAlone, Asks, Feeds, Answers, Played, Broke};
 ghost use Rattle.mt_drive.specs.Sink.{sink_writer, write_failed};
 ghost use Rattle.mt_drive.specs.Source.{source_rest, GivesNoMore};
 ghost use Rattle.mt_drive.specs.declared.fault.ScriptFault.TheVariants.{Read as ReadFault, Write as WriteFault, Start, NoMemory};
@@ -22,9 +22,9 @@ use crate::sink::Sink;
 use crate::source::Source;
 use mt_index::machine::{Machine, is_served};
 use mt_index::options::Options;
-use mt_types::event::{Event, Outcome};
+use mt_types::event::{Event, Outcome, Request};
 use mt_types::items::Items;
-use mt_types::numbers::CallNo;
+use mt_types::numbers::{CallNo, PassNo};
 use mt_types::refusal::Refusal;
 use std::alloc::Global;
 use std::io::{Read, Write};
@@ -72,6 +72,34 @@ fn ask(machine: &mut Machine, alloc: Global, event: &Event) -> Reply
     }
 }
 
+// A begin, and then the steps of its call up to its end.
+fn run_through(machine: &mut Machine, alloc: Global, event: &Event) -> Outcome
+    requires { IsServed event.now }
+    ensures stands { Leads machine.old (λ past h. Runs event.now past result h) machine.new }
+    ensures options { IsAsBefore machine.old machine.new }
+{
+    match machine.event(alloc, event) {
+        Outcome::Call(call) => finish(machine, alloc, call),
+        begun => begun,
+    }
+}
+
+// A call by pass 0, where no other is open and the index serves it.
+fn alone(machine: &mut Machine, alloc: Global, request: Request) -> Reply
+    ensures stands { Leads machine.old
+        (λ past h. RunsAlone (Begin (record { 0 = 0 }) request) past result h) machine.new }
+    ensures options { IsAsBefore machine.old machine.new }
+{
+    let event = Event::Begin(PassNo(0), request);
+    if !is_served(&event) {
+        return Reply::Bad;
+    }
+    if machine.open_calls() > 0 {
+        return Reply::Busy;
+    }
+    Reply::Came(run_through(machine, alloc, &event))
+}
+
 // The deltas of the commits after a number. No event happens.
 fn feed(machine: &Machine, alloc: Global, from: u64, limit: u16) -> Reply
     ensures { (h : History) → Stands machine.now h
@@ -93,6 +121,7 @@ fn answer(machine: &mut Machine, alloc: Global, line: &[u8]) -> Result<Reply, Sc
     match read_command(alloc, line) {
         Ok(Command::Once(event)) => Ok(ask(machine, alloc, &event)),
         Ok(Command::Finish(call)) => Ok(Reply::Came(finish(machine, alloc, call))),
+        Ok(Command::Alone(request)) => Ok(alone(machine, alloc, request)),
         Ok(Command::Feed { from, limit }) => Ok(feed(machine, alloc, from, limit)),
         Err(LineError::Bad) => Ok(Reply::Bad),
         Err(LineError::Memory) => Err(ScriptFault::NoMemory),
@@ -162,10 +191,11 @@ fn start_fault(refusal: Refusal) -> ScriptFault
 
 /// Answers the lines of a script on an empty index, one after the other, and gives the number of bad lines.
 ///
-/// A line is `begin PASS REQUEST`, `step CALL` or `finish CALL`, `apply VIEW`, `view VIEW FLOOR START LIMIT` or
+/// A line is `begin PASS REQUEST`, `step CALL`, `finish CALL` or `alone REQUEST`, `apply VIEW`, `view VIEW FLOOR START LIMIT` or
 /// `drop VIEW`, `advance`, `collect`, or `feed FROM LIMIT`, which is answered by a line for each delta. A line of other
 /// bytes, or of what the index doesn't serve yet, is answered `bad line`. What a line says and how an outcome is written
-/// is told in `commands`, `reading` and `showing`. `finish` makes at most 1,000,000 steps.
+/// is told in `commands`, `reading` and `showing`. `finish` and `alone` make at
+/// most 1,000,000 steps.
 ///
 /// The writer is given each reply in one piece, and is not flushed. A line costs its event, its steps or its deltas, and
 /// some allocations for its words and its reply.

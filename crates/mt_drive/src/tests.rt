@@ -1,15 +1,16 @@
 //! Scripts over bytes in memory: the worked rows, lines that say nothing, and readers and writers that fail.
 
+use crate::asking::request_text;
 use crate::fault::ScriptFault;
+use crate::reading::read_request;
 use crate::script::script;
 use crate::sink::Sink;
 use crate::source::Source;
 use mt_index::options::Options;
 use mt_types::refusal::Refusal;
-use std::alloc::AllocError;
 use std::io;
 use std::io::{ErrorKind, Read, Write};
-use thiserror::Error;
+use std::test::Fail;
 
 fn options(columns: u64) -> Options {
     Options {
@@ -28,9 +29,9 @@ struct Run {
 }
 
 // An empty index; a row that is visible by its commit alone; columns; a full border, which is split; two long keys of
-// one slice, which get a layer; the feed, of which all but the last commit was trimmed; what says nothing, the last of it
-// without a line feed.
-const RUNS: [Run; 7] = [
+// one slice, which get a layer; the feed, of which all but the last commit was trimmed; calls alone; what
+// says nothing, the last of it without a line feed.
+const RUNS: [Run; 8] = [
     Run {
         columns: 1,
         script: b"begin 1 get - all\nstep 1\nstep 1\n",
@@ -94,6 +95,13 @@ const RUNS: [Run; 7] = [
     },
     Run {
         columns: 1,
+        script: b"alone put 61 0=76\nbegin 1 get 61 all\nalone get 61 all\nfinish 2\nalone get 61 all\n\
+        alone get 61 1\nalone range - 0 all\n",
+        written: b"done 0 1 put 1\ncall 2\nbusy\ndone 1 1 row 1 76\ndone 1 1 row 1 76\nrefused 3\nrefused 5\n",
+        bad: 0,
+    },
+    Run {
+        columns: 1,
         script: b"st\xffp 1\n\nstep  1\nbegin 1 tidy 61\nstep 1\nbegin 1 get 61 1\nadvance 1",
         written: b"bad line\nbad line\nbad line\nbad line\nrefused 9\nrefused 3\nbad line\n",
         bad: 5,
@@ -103,12 +111,6 @@ const RUNS: [Run; 7] = [
 const TWO_CALLS: &[u8] =
     b"begin 1 put 61 0=76\nbegin 2 get 61 all\nstep 1\nstep 1\nstep 1\nstep 2\nstep 2\nstep 1\n\
     begin 2 get 61 all\nstep 3\nstep 3\nstep 1\n";
-
-#[derive(Debug, Error, Drop)]
-enum Fail {
-    #[error("out of memory")]
-    NoMemory(#[from] AllocError),
-}
 
 #[test]
 fn runs(rt: HostRuntime) -> Result<(), Fail> {
@@ -184,5 +186,29 @@ fn faults(rt: HostRuntime) -> Result<(), Fail> {
     let bad = script(rt.alloc(), options(1), &mut reader, &mut writer);
     assert!(rt; bad == Err(ScriptFault::Write));
     assert_eq!(rt; writer.writer().taken, 19);
+    Ok(())
+}
+
+// Requests of each kind, as they are written.
+const REQUESTS: [&[u8]; 10] = [
+    b"get - all",
+    b"get 61 2,0",
+    b"put 6a -",
+    b"put 61 0=-,255=00ff",
+    b"remove 61",
+    b"range - 65535 1",
+    b"tidy 61",
+    b"build range - none any",
+    b"build range 61 62 equals 1 6a",
+    b"build prefix 61 atleast 0 18446744073709551615",
+];
+
+#[test]
+fn requests(rt: HostRuntime) -> Result<(), Fail> {
+    for text in &REQUESTS {
+        let request = read_request(rt.alloc(), text)?;
+        let written = request_text(rt.alloc(), &request)?;
+        assert_eq!(rt; written.as_bytes(), *text);
+    }
     Ok(())
 }

@@ -28,6 +28,7 @@ Each line of standard input is one of
   begin PASS REQUEST   begins a call: prints `call N` or a refusal
   step CALL            one step of it: `moved`, `again`, `commit N`, `done FROM TO ANSWER` or a refusal
   finish CALL          steps until one is neither moved nor a commit, at most 1,000,000; prints the last
+  alone REQUEST        a call from its begin to its end: `done ..` or a refusal; `busy` where others are open
   apply VIEW           takes a view on by one commit: `applied N`, `current` or a refusal
   view VIEW FLOOR START LIMIT   reads a view that stands at FLOOR or later: `view AT COUNT SUMS K ROWS` or a refusal
   drop VIEW            ends a view: `dropped` or a refusal
