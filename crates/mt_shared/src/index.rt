@@ -1,6 +1,6 @@
 //! An index that many threads share: one lock round the machine and the books of its passes.
 
-ghost use Rattle.std.specs.Prelude.{◌≡◌, true, false, IfOk, IfErr, All, length};
+ghost use Rattle.std.specs.Prelude.{◌≡◌, ◌⊎◌, true, false, IfOk, IfErr, All, length};
 ghost use Rattle.mt_shared.specs.Passes.{AreNewPasses, HasItsPart, events_by, commits_by};
 ghost use Rattle.mt_shared.specs.Traces.{IsLegalTrace, HaveHappened};
 ghost use Rattle.mt_shared.specs.Kept.{IsKept, IsRefusedBy, DoesSomewhere, start_fault};
@@ -102,7 +102,8 @@ impl Index {
 
     // What lies under the lock, if it is of this index's columns, as it is.
     fn into_kept(self) -> Result<Kept, Refusal>
-        ensures { IfOk result (λ kept. IsKept kept × (kept.machine.columns ≡ self)) }
+        ensures kept { IfOk result (λ kept. IsKept kept × (kept.machine.columns ≡ self)) }
+        ensures refused { IfErr result (λ refusal. refusal ≡ Refusal.WrongPass) }
     {
         let Index { columns, kept } = self;
         let kept = kept.into_inner();
@@ -142,6 +143,7 @@ pub fn close(index: Index, passes: Vec<Pass>) -> Result<Totals, Refusal>
     ensures events { IfOk result (λ totals. totals.events ≡ events_by passes.items) }
     ensures commits { IfOk result (λ totals. totals.commits ≡ commits_by passes.items) }
     ensures history { IfOk result (λ totals. HaveHappened index totals.events totals.commits) }
+    ensures refused { IfErr result (λ refusal. refusal ≡ Refusal.WrongPass) }
 {
     index.into_kept()?.settle(&passes)
 }
@@ -157,6 +159,7 @@ pub fn close_record(index: Index, passes: Vec<Pass>) -> Result<Vec<Entry>, Refus
     ensures legal { IfOk result (λ trace. IsLegalTrace index trace.items) }
     ensures parts { IfOk result (λ trace. All (HasItsPart trace.items) passes.items) }
     ensures count { IfOk result (λ trace. length trace.items ≡ events_by passes.items) }
+    ensures refused { IfErr result (λ refusal. (refusal ≡ Refusal.WrongPass) ⊎ (refusal ≡ Refusal.NoMemory)) }
 {
     index.into_kept()?.settle_trace(&passes)
 }

@@ -1,6 +1,6 @@
 //! The end of an index: what the passes did is held against their books.
 
-ghost use Rattle.std.specs.Prelude.{◌≡◌, IfOk, IsTrue, All, length};
+ghost use Rattle.std.specs.Prelude.{◌≡◌, ◌⊎◌, IfOk, IfErr, IsTrue, All, length};
 ghost use Rattle.mt_commit.specs.Log.{newest};
 ghost use Rattle.mt_shared.specs.Books.{booked_events, booked_commits};
 ghost use Rattle.mt_shared.specs.Passes.{HasItsPart, events_by, commits_by};
@@ -32,6 +32,7 @@ impl Kept {
         ensures events { IfOk result (λ totals. totals.events ≡ events_by passes.now) }
         ensures commits { IfOk result (λ totals. totals.commits ≡ commits_by passes.now) }
         ensures history { IfOk result (λ totals. HaveHappened self.machine.columns totals.events totals.commits) }
+        ensures refused { IfErr result (λ refusal. refusal ≡ Refusal.WrongPass) }
     {
         let Kept {
             machine,
@@ -56,6 +57,7 @@ impl Kept {
         ensures legal { IfOk result (λ trace. IsLegalTrace self.machine.columns trace.items) }
         ensures parts { IfOk result (λ trace. All (HasItsPart trace.items) passes.now) }
         ensures count { IfOk result (λ trace. length trace.items ≡ events_by passes.now) }
+        ensures refused { IfErr result (λ refusal. (refusal ≡ Refusal.WrongPass) ⊎ (refusal ≡ Refusal.NoMemory)) }
     {
         let Kept {
             machine: _,
@@ -76,7 +78,8 @@ impl Kept {
 
 // The entries of a trace that is kept.
 fn kept_entries(trace: Trace) -> Result<Vec<Entry>, Refusal>
-    ensures { IfOk result (λ entries. Keeps trace entries.items) }
+    ensures kept { IfOk result (λ entries. Keeps trace entries.items) }
+    ensures refused { IfErr result (λ refusal. (refusal ≡ Refusal.WrongPass) ⊎ (refusal ≡ Refusal.NoMemory)) }
 {
     match trace {
         Trace::On(entries) => Ok(entries),
@@ -87,7 +90,8 @@ fn kept_entries(trace: Trace) -> Result<Vec<Entry>, Refusal>
 
 // The pass has in its trace just its part of the entries.
 fn has_part(pass: &Pass, entries: &[Entry]) -> Result<(), Refusal>
-    ensures { IfOk result (λ _. Keeps pass.now.trace (part pass.now.number entries.now)) }
+    ensures part { IfOk result (λ _. Keeps pass.now.trace (part pass.now.number entries.now)) }
+    ensures refused { IfErr result (λ refusal. (refusal ≡ Refusal.WrongPass) ⊎ (refusal ≡ Refusal.NoMemory)) }
 {
     match pass.trace() {
         Trace::On(list) if is_part(list, pass.number(), entries) => Ok(()),

@@ -1,9 +1,7 @@
 //! Passes and their refusals, two threads that step in between each other, and many calls of four threads.
 
-ghost use Rattle.std.specs.Prelude.{IfOk};
-
-use crate::calls::{get, put};
-use crate::driving::{Gate, NoGate, Shared, drive};
+use crate::calls::{get, getrange, put, remove};
+use crate::driving::{Gate, Shared, drive};
 use crate::index::{Door, Index, close, close_record};
 use crate::lone::Lone;
 use crate::pass::Pass;
@@ -19,7 +17,7 @@ use std::sync::Wait;
 use std::sync::atomic::{AtomicBool, Ordering};
 use std::test::Fail;
 use std::thread;
-use std::thread::join;
+use std::thread::{Threads, join};
 
 const OPTIONS: Options = Options {
     columns: 1,
@@ -28,6 +26,9 @@ const OPTIONS: Options = Options {
 };
 
 const KEY: &[u8] = b"a";
+
+// How many calls of each kind a thread makes.
+const CALLS: u64 = 200;
 
 // Column 0 is to become this.
 fn sets(alloc: Global, value: &'static [u8]) -> Result<Sets, Refusal> {
@@ -193,5 +194,82 @@ fn two_threads(rt: HostRuntime) -> Result<(), Fail> {
     passes.push(pass)?;
     let trace = close_record(index, passes)?;
     assert_eq!(rt; trace.len() as u64, events);
+    Ok(())
+}
+
+// A key of a few, long enough for two slices.
+fn nth_key(alloc: Global, n: u64) -> Result<Bytes, Refusal> {
+    let mut key = [0x61; 12];
+    key[11] = (n % 40) as u8;
+    Ok(Bytes::copy_from_slice(alloc, &key)?)
+}
+
+// Puts, gets, removes and ranges in turn.
+fn make_calls<S: Shared>(alloc: Global, shared: &mut S, pass: &mut Pass) -> Result<(), Refusal> {
+    for n in 0..CALLS {
+        let sets = sets(alloc, b"v")?;
+        let _ = put(alloc, shared, pass, nth_key(alloc, n)?, sets)?;
+        let _ = get(
+            alloc,
+            shared,
+            pass,
+            nth_key(alloc, n + 7)?,
+            Items::new(alloc),
+        )?;
+        let _ = remove(alloc, shared, pass, nth_key(alloc, n + 3)?)?;
+        let _ = getrange(
+            alloc,
+            shared,
+            pass,
+            nth_key(alloc, n)?,
+            5,
+            Items::new(alloc),
+        )?;
+    }
+    Ok(())
+}
+
+fn work<R: Wait>(
+    rt: &R,
+    alloc: Global,
+    index: &Index,
+    mut pass: Pass,
+) -> (Pass, Result<(), Refusal>) {
+    let done = make_calls(alloc, &mut Door::new(index, rt), &mut pass);
+    (pass, done)
+}
+
+fn work_as_two<R: Wait + Threads + Sync>(
+    rt: &R,
+    alloc: Global,
+    index: &Index,
+    one: Pass,
+    two: Pass,
+) -> (Pass, Pass, bool) {
+    let (first, second) = join(
+        rt,
+        || work(rt, alloc, index, one),
+        || work(rt, alloc, index, two),
+    );
+    (first.0, second.0, first.1.is_ok() && second.1.is_ok())
+}
+
+#[test]
+fn four_threads(rt: HostRuntime) -> Result<(), Fail> {
+    let alloc = rt.alloc();
+    let (index, mut passes) = Index::record(alloc, OPTIONS, 4)?;
+    let (four, three) = (passes.pop().ok_or("four")?, passes.pop().ok_or("three")?);
+    let (two, one) = (passes.pop().ok_or("two")?, passes.pop().ok_or("one")?);
+    let (low, high) = join(
+        &rt,
+        || work_as_two(&rt, alloc, &index, one, two),
+        || work_as_two(&rt, alloc, &index, three, four),
+    );
+    assert!(rt; low.2 && high.2);
+    passes.push(high.1)?;
+    passes.push(low.0)?;
+    passes.push(high.0)?;
+    passes.push(low.1)?;
+    assert!(rt; close_record(index, passes).is_ok());
     Ok(())
 }
