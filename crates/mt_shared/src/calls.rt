@@ -1,6 +1,6 @@
 //! The calls of a pass by their names: each is `drive` with its request, and nothing between its events.
 
-ghost use Rattle.mt_types.specs.declared.event.Request.TheVariants.{Get, Put, Remove, Range};
+ghost use Rattle.mt_types.specs.declared.event.Request.TheVariants.{Get, Put, Remove, Range, Build};
 ghost use Rattle.mt_shared.specs.Drives.{IsDrive};
 
 use crate::driving::{NoGate, Shared, drive};
@@ -9,6 +9,7 @@ use bytes::Bytes;
 use mt_types::event::{Reply, Request};
 use mt_types::refusal::Refusal;
 use mt_types::row::{ColumnNumbers, Sets};
+use mt_types::view::ViewSpec;
 use std::alloc::Global;
 
 /// The row of a key, with the columns asked for; none means all. The reply's answer is `Found` or `Absent`.
@@ -95,4 +96,22 @@ pub fn getrange<S: Shared>(
             columns,
         },
     )
+}
+
+/// A standing view, built among all other calls. The reply's answer is `Built`, with the number of the view; it stands
+/// at a number of commits from that of the call's begin to that of its end. Its applies, pages and drops are events of a
+/// pass.
+///
+/// # Errors
+///
+/// Those of `drive`: `KeyTooLong`, `BadRange`, `BadColumn`, `TooManyViews`, `NoMemory` among them.
+pub fn view_add<S: Shared>(
+    alloc: Global,
+    shared: &mut S,
+    pass: &mut Pass,
+    spec: ViewSpec,
+) -> Result<Reply, Refusal>
+    ensures { IsDrive S.does shared.old pass.old (Build spec) result shared.new pass.new }
+{
+    drive(alloc, shared, pass, &mut NoGate, Request::Build { spec })
 }

@@ -1,6 +1,6 @@
 //! Passes and their refusals, two threads that step in between each other, and many calls of four threads.
 
-use crate::calls::{get, getrange, put, remove};
+use crate::calls::{get, getrange, put, remove, view_add};
 use crate::driving::{Gate, Shared, drive};
 use crate::index::{Door, Index, close, close_record};
 use crate::lone::Lone;
@@ -12,6 +12,7 @@ use mt_types::items::Items;
 use mt_types::numbers::{CallNo, PassNo};
 use mt_types::refusal::Refusal;
 use mt_types::row::Sets;
+use mt_types::view::{RowTest, ViewSpec};
 use std::alloc::Global;
 use std::sync::Wait;
 use std::sync::atomic::{AtomicBool, Ordering};
@@ -118,6 +119,12 @@ fn one_caller(rt: HostRuntime) -> Result<(), Fail> {
     let _ = put_key(alloc, &mut lone, &mut pass)?;
     let got = get_key(alloc, &mut lone, &mut pass)?;
     assert!(rt; matches!(&got.answer, Answer::Found(row) if row.version == 1));
+    let spec = ViewSpec::Prefix {
+        prefix: Bytes::from_static(KEY),
+        test: RowTest::Any,
+    };
+    let built = view_add(alloc, &mut lone, &mut pass, spec)?;
+    assert!(rt; matches!(&built.answer, Answer::Built(view) if view.0 == 1));
     assert_eq!(rt; pass.commits(), 1);
     Ok(())
 }
