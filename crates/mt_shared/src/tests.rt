@@ -120,7 +120,7 @@ fn one_caller(rt: HostRuntime) -> Result<(), Fail> {
     let got = get_key(alloc, &mut lone, &mut pass)?;
     assert!(rt; matches!(&got.answer, Answer::Found(row) if row.version == 1));
     let spec = ViewSpec::Prefix {
-        prefix: Bytes::from_static(KEY),
+        key: Bytes::from_static(KEY),
         test: RowTest::Any,
     };
     let built = view_add(alloc, &mut lone, &mut pass, spec)?;
