@@ -21,12 +21,14 @@ use crate::calls::{Call, Calls, Stepped};
 use crate::feed::deltas_after;
 use crate::options::Options;
 use crate::viewing::{close_build, page, take_on};
+use bytes::Bytes;
 use mt_calls::progress::Progress;
 use mt_commit::log::Log;
 use mt_tree::Tree;
-use bytes::Bytes;
 use mt_types::event::{Answer, Event, Outcome, Reply, Request};
-use mt_types::limits::{MAX_NODES, MAX_OPEN_CALLS, MAX_VIEWS, open_fault, page_fault, request_fault};
+use mt_types::limits::{
+    MAX_NODES, MAX_OPEN_CALLS, MAX_VIEWS, open_fault, page_fault, request_fault,
+};
 use mt_types::numbers::{CallNo, PassNo, ViewNo};
 use mt_types::refusal::{NoMemory, Refusal};
 use mt_types::row::Delta;
@@ -360,7 +362,10 @@ impl Machine {
             unreachable!()
         };
         let Call {
-            pass, from, work, ..
+            pass,
+            from,
+            work,
+            ..
         } = call;
         let Work::Build(building) = work else {
             unreachable!()
@@ -395,14 +400,7 @@ impl Machine {
         Outcome::Applied(at + 1)
     }
 
-    fn view_read(
-        &self,
-        alloc: Global,
-        view: u64,
-        floor: u64,
-        start: &Bytes,
-        limit: u16,
-    ) -> Outcome
+    fn view_read(&self, alloc: Global, view: u64, floor: u64, start: &Bytes, limit: u16) -> Outcome
         ensures { ReadsView self.now view floor start.now limit result }
     {
         if let Some(refusal) = page_fault(start.as_slice(), limit) {

@@ -86,7 +86,12 @@ pub(crate) fn close_build(
 }
 
 /// Takes a view on by the delta of the next commit; it then holds the log from there. On an error nothing changes.
-pub(crate) fn take_on(log: &mut Log, views: &mut Views, number: u64, at: u64) -> Result<(), NoMemory>
+pub(crate) fn take_on(
+    log: &mut Log,
+    views: &mut Views,
+    number: u64,
+    at: u64,
+) -> Result<(), NoMemory>
     requires there { IsSome (state_at number views.old.views) }
     requires here { log.old.held_after ≤ at }
     requires behind { at < newest log.old }
@@ -113,7 +118,13 @@ pub(crate) fn take_on(log: &mut Log, views: &mut Views, number: u64, at: u64) ->
 }
 
 /// A page of a view that stands.
-pub(crate) fn page(alloc: Global, views: &Views, number: u64, start: &Bytes, limit: u16) -> Result<Page, NoMemory>
+pub(crate) fn page(
+    alloc: Global,
+    views: &Views,
+    number: u64,
+    start: &Bytes,
+    limit: u16,
+) -> Result<Page, NoMemory>
     requires { IsSome (state_at number views.now.views) }
     ensures { IfOk result (λ page. (state : StateView) → state_at number views.now.views ≡ Some state
         → page ≡ page_of_state state start.now limit) }

@@ -1,6 +1,6 @@
 -- The views as a history has them: what is found there, moved, dropped and furthest behind.
-use Rattle.std.proofs.Common.{◌≡◌, ◌≤◌, ◌+◌, ◌==◌, ℕ, false, Bool, true, not, cond, List, [], ◌∷◌, ◌++◌, map, Some, None, Option, sym, ◌∙◌, ap, subst, refl, arith, inl, inr}
-use Rattle.std.proofs.lemmas.Bool.{eq-eqb, ne_eqb}
+use Rattle.std.proofs.Common.{◌≡◌, ◌≤◌, ◌+◌, ◌==◌, ℕ, false, Bool, true, not, cond, List, [], ◌∷◌, ◌++◌, map, Some, None, Option, sym, ◌∙◌, ap, refl, arith, inl, inr}
+use Rattle.std.proofs.lemmas.Bool.{ne_eqb}
 use Rattle.std.proofs.lemmas.Bool.Decides.{eqb_tells}
 use Rattle.std.specs.Prelude.{nat_lt}
 use Rattle.std.specs.Option.{option_map}

@@ -1,5 +1,5 @@
 -- Views by their numbers: what the map finds, takes in, writes over and leaves.
-use Rattle.std.proofs.Common.{◌≡◌, ◌<◌, ◌≤◌, ◌+◌, ◌==◌, ℕ, IsSome, false, Bool, true, not, cond, List, [], ◌∷◌, ◌++◌, length, Some, sym, ◌∙◌, ap, subst, refl, arith, inl, inr, Option, None}
+use Rattle.std.proofs.Common.{◌≡◌, ◌<◌, ◌≤◌, ◌+◌, ◌==◌, ℕ, IsSome, false, Bool, true, not, cond, List, [], ◌∷◌, ◌++◌, length, Some, sym, ◌∙◌, ap, refl, arith, inl, inr, Option, None}
 use Rattle.std.specs.Prelude.{eqb}
 use Rattle.std.specs.declared.cmp.Ordering.TheVariants.{Less, Equal, Greater}
 use Rattle.std.specs.Cmp.{nat_cmp_is, ranks}

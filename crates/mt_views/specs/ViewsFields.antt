@@ -1,5 +1,5 @@
 -- The views, read off their fields, and what they keep.
-use Rattle.std.specs.Prelude.{ℕ, ◌≤◌}
+use Rattle.std.specs.Prelude.{◌≤◌}
 use Rattle.mt_types.specs.declared.limits.TheConstants.{MAX_VIEWS}
 use Rattle.mt_views.specs.Views.{ViewsView, Rises, places}
 use Rattle.mt_views.specs.declared.views.Views.TheInside.{Inside}

@@ -46,13 +46,7 @@ fn slower(best: Option<(u64, u64)>, view: (u64, u64)) -> (u64, u64)
     ensures { result ≡ slower best view }
 {
     match best {
-        Some(best) => {
-            if view.1 < best.1 {
-                view
-            } else {
-                best
-            }
-        }
+        Some(best) => { if view.1 < best.1 { view } else { best } }
         None => view,
     }
 }

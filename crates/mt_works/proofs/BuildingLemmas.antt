@@ -2,35 +2,32 @@
 use Rattle.std.proofs.Common.{ℕ, ◌≡◌, ◌≤◌, ◌<◌, ◌+◌, inl, List, [], ◌∷◌, Option, Some, None, IsSome, true, false, refl, sym, ap, subst, ◌∙◌}
 use Rattle.mt_types.specs.declared.numbers.NodeNo.{NodeNo}
 use Rattle.mt_types.specs.declared.refusal.Refusal.TheVariants.{NoMemory}
-use Rattle.mt_types.specs.declared.row.Delta.{Delta}
 use Rattle.mt_slice.specs.Place.{first_slice, under}
-use Rattle.mt_commit.specs.Log.{LogView, newest, delta_of}
+use Rattle.mt_commit.specs.Log.{LogView, newest}
 use Rattle.mt_border.specs.Border.{BorderView}
 use Rattle.mt_arena.specs.Node.{border_at}
 use Rattle.mt_arena.specs.Arena.{ArenaView}
 use Rattle.mt_chart.specs.Tree.{Arena, Below}
-use Rattle.mt_chart.specs.Chart.{Chart, Holds}
+use Rattle.mt_chart.specs.Chart.{Holds}
 use Rattle.mt_chart.proofs.HeldNodes.{evolves_same}
 use Rattle.mt_tree.specs.Seen.{arena_seen, border_seen}
 use Rattle.mt_tree.proofs.SeenLemmas.{seen-border}
 use Rattle.mt_scan.specs.Scan.{HoldsKeys}
 use Rattle.mt_scan.specs.declared.scan.ScanMove.{ScanMove}
 use Rattle.mt_scan.specs.declared.scan.ScanMove.TheVariants.{Done, To as VisitedTo, Top}
-use Rattle.mt_view.specs.State.{StateView, applied}
-use Rattle.mt_build.specs.Build.{BuildView, IsScanning, HasScanned, ComesTo, VisitsOn}
+use Rattle.mt_build.specs.Build.{BuildView, IsScanning, ComesTo, VisitsOn}
 use Rattle.mt_build.proofs.ReadLemmas.{others_keep, restarts_keep, ways_keep}
 use Rattle.mt_calls.specs.declared.progress.Progress.{Progress}
 use Rattle.mt_calls.specs.declared.progress.Progress.TheVariants.{Moved, Waits, Refused}
 use Rattle.mt_calls.specs.declared.ranging.Sought.{Sought}
-use Rattle.mt_calls.specs.declared.ranging.Sought.TheVariants.{Again, To, Here}
+use Rattle.mt_calls.specs.declared.ranging.Sought.TheVariants.{To, Here}
 use Rattle.mt_calls.specs.World.{World, IsWorld}
-use Rattle.mt_calls.specs.Step.{StepLaw, nothing}
 use Rattle.mt_calls.specs.Ranging.{IsHeldFor, IsAtSlice, KnowsOfSlice, Seeks}
 use Rattle.mt_calls.proofs.FrameLemmas.{goes_same, quiet_same}
 use Rattle.mt_calls.proofs.RangeLemmas.{holds_keys}
 use Rattle.mt_works.specs.declared.building.Building.{Building}
 use Rattle.mt_calls.specs.Causes.{ReadFails}
-use Rattle.mt_works.specs.Building.{building_request, BuildingIsTrue, BuildingLaw, ScansOn, ScansAll, KeepsView, TakesNext, GoesOn, FailsAt, OnlyForMemory, IsInLog}
+use Rattle.mt_works.specs.Building.{BuildingIsTrue, BuildingLaw, ScansOn, ScansAll, KeepsView, TakesNext, GoesOn, FailsAt, OnlyForMemory, IsInLog}
 
 -- one moment more, in which nothing changes
 later : (w : World) (begun number : ℕ) (arena : Arena) (past : List Arena) (build : BuildView) → IsScanning w.chart begun (arena ∷ past) number build

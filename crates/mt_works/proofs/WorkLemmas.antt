@@ -1,5 +1,5 @@
 -- What others' steps leave of each kind of call, and what each kind owns.
-use Rattle.std.proofs.Common.{ℕ, ◌≡◌, inr, List, ◌∷◌, Option, Some, None, refl, sym, subst}
+use Rattle.std.proofs.Common.{ℕ, ◌≡◌, inr, List, ◌∷◌, Option, Some, None, sym, subst}
 use Rattle.mt_types.specs.Rows.{shown}
 use Rattle.mt_types.specs.declared.refusal.Refusal.{Refusal}
 use Rattle.mt_slice.specs.Place.{place_of}
@@ -29,7 +29,7 @@ use Rattle.mt_write.proofs.WorkLemmas.{way_stays, write_stays, write_taken}
 use Rattle.mt_works.specs.declared.building.Building.{Building}
 use Rattle.mt_works.specs.declared.work.Work.{Work}
 use Rattle.mt_works.specs.declared.work.Work.TheVariants.{Get as GetWork, Write as WriteWork, Range as RangeWork, Build as BuildWork}
-use Rattle.mt_works.specs.Building.{BuildingIsTrue, BuildingLaw, ScansOn, building_request}
+use Rattle.mt_works.specs.Building.{BuildingIsTrue, BuildingLaw, ScansOn}
 use Rattle.mt_works.specs.Causes.{WorkFails, WorkRefuses}
 use Rattle.mt_works.specs.Works.{request_of, held, IsTrue}
 

@@ -1,7 +1,6 @@
 -- A build as a call: what it asks for, what is true of it while it scans the tree, and what its steps do.
 use Rattle.std.specs.Prelude.{ℕ, ◌≡◌, ◌≤◌, ◌<◌, ◌+◌, List, ◌∷◌, Option, Some, None}
 use Rattle.mt_types.specs.declared.row.Delta.{Delta}
-use Rattle.mt_types.specs.declared.refusal.Refusal.{Refusal}
 use Rattle.mt_types.specs.declared.refusal.Refusal.TheVariants.{NoMemory}
 use Rattle.mt_types.specs.declared.event.Request.{Request}
 use Rattle.mt_types.specs.declared.event.Request.TheVariants.{Build as BuildRequest}

@@ -1,5 +1,5 @@
 -- The kinds of calls: what each asks for, what it has, and what is true of it.
-use Rattle.std.specs.Prelude.{ℕ, ◌≡◌, List, [], Option, None}
+use Rattle.std.specs.Prelude.{ℕ, ◌≡◌, List, [], None}
 use Rattle.mt_types.specs.declared.event.Request.{Request}
 use Rattle.mt_types.specs.declared.event.Request.TheVariants.{Tidy as TidyRequest}
 use Rattle.mt_commit.specs.Log.{LogView}
@@ -12,7 +12,6 @@ use Rattle.mt_calls.specs.Getting.{get_request, GetIsTrue}
 use Rattle.mt_calls.specs.Ranging.{range_request, RangeIsTrue}
 use Rattle.mt_write.specs.Writing.{write_request, write_held, WriteIsTrue}
 use Rattle.mt_works.specs.Building.{building_request, BuildingIsTrue, IsInLog, IsBuilt, BuildsOn}
-use Rattle.mt_works.specs.declared.building.Building.{Building}
 use Rattle.mt_works.specs.declared.work.Work.{Work}
 use Rattle.mt_works.specs.declared.work.Work.TheVariants.{Get, Write, Range, Build}
 

@@ -106,7 +106,12 @@ fn new_write(key: Key, edit: Edit) -> Write
 }
 
 // A range at its first key.
-fn new_range(alloc: Global, start: Key, limit: u16, columns: &ColumnNumbers) -> Result<Range, NoMemory>
+fn new_range(
+    alloc: Global,
+    start: Key,
+    limit: u16,
+    columns: &ColumnNumbers,
+) -> Result<Range, NoMemory>
     ensures request { IfOk result (λ range. range_request range ≡ RangeRequest start limit columns.now) }
     ensures new { IfOk result (λ range. (C number : ℕ) → IsNew C number (Work.Range range)) }
 {
@@ -122,7 +127,12 @@ fn new_range(alloc: Global, start: Key, limit: u16, columns: &ColumnNumbers) -> 
 }
 
 // A build at the first key of its view, which opens at this number of commits.
-fn new_building(alloc: Global, columns: u8, number: u64, spec: &ViewSpec) -> Result<Building, NoMemory>
+fn new_building(
+    alloc: Global,
+    columns: u8,
+    number: u64,
+    spec: &ViewSpec,
+) -> Result<Building, NoMemory>
     ensures request { IfOk result (λ building. building_request building ≡ BuildRequest spec.now) }
     ensures new { IfOk result (λ building. IsNew columns number (Work.Build building)) }
 {
@@ -162,12 +172,7 @@ pub fn work_of(alloc: Global, columns: u8, number: u64, request: &Request) -> Re
             start,
             limit,
             columns,
-        } => Ok(Work::Range(new_range(
-            alloc,
-            key_of(alloc, start)?,
-            *limit,
-            columns,
-        )?)),
+        } => Ok(Work::Range(new_range(alloc, key_of(alloc, start)?, *limit, columns)?)),
         Request::Build { spec } => Ok(Work::Build(new_building(alloc, columns, number, spec)?)),
         Request::Tidy { .. } => unreachable!(),
     }

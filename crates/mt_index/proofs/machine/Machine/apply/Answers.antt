@@ -43,10 +43,12 @@ returns-in_default-take_on-clause-applies c =
 
 pub invariant_of-self-2 : goal.invariant_of-self-2
 invariant_of-self-2 c =
-    let (h, st) = c.self.invariant in
-    (_, applies-stand (seen c.self.inside.columns c.self.inside.epoch c.self.inside.tree c.self.inside.log c.self.inside.calls c.self.inside.views) h st _ (record { 0 = c.args.view }) (Applied (c.in-Some-at.at + 1))
-    (takes_on (seen c.self.inside.columns c.self.inside.epoch c.self.inside.tree c.self.inside.log c.self.inside.calls c.self.inside.views) c.args.view c.in-Some.number c.in-Some-at.at c.take_on.new.log c.trim.new.self c.take_on.new.views (sym c.meant.ensures ∙ c.in-Some.is) (sym c.at.ensures ∙ c.in-Some-at.is) (subst (λ n. c.in-Some-at.at < n) c.number.ensures.value c.if-number-at.false)
-    c.in-Ok.ensures.log c.in-Ok.ensures.sound c.trim.ensures.after c.in-Ok.ensures.views))
+    let (h, st) = c.self.invariant in (
+      _,
+      applies-stand (seen c.self.inside.columns c.self.inside.epoch c.self.inside.tree c.self.inside.log c.self.inside.calls c.self.inside.views) h st _ (record { 0 = c.args.view }) (Applied (c.in-Some-at.at + 1))
+          (takes_on (seen c.self.inside.columns c.self.inside.epoch c.self.inside.tree c.self.inside.log c.self.inside.calls c.self.inside.views) c.args.view c.in-Some.number c.in-Some-at.at c.take_on.new.log c.trim.new.self c.take_on.new.views (sym c.meant.ensures ∙ c.in-Some.is) (sym c.at.ensures ∙ c.in-Some-at.is) (subst (λ n. c.in-Some-at.at < n) c.number.ensures.value c.if-number-at.false)
+          c.in-Ok.ensures.log c.in-Ok.ensures.sound c.trim.ensures.after c.in-Ok.ensures.views),
+    )
 
 pub returns-clause-applies : goal.returns-clause-applies
 returns-clause-applies c =

@@ -11,7 +11,7 @@ pub invariant_of-result : goal.invariant_of-result
 invariant_of-result c = (
   [],
   subst (λ (v : ViewsView). Stands (seen c.args.options.columns 0 c.in_ok-open.field-0 c.open-2.result c.new.result v) []) (sym c.new-2.ensures)
-  (subst (λ (k : CallsView). Stands (seen c.args.options.columns 0 c.in_ok-open.field-0 c.open-2.result k (record { built = 0; building = 0; views = [] })) []) (sym c.new.ensures)
+      (subst (λ (k : CallsView). Stands (seen c.args.options.columns 0 c.in_ok-open.field-0 c.open-2.result k (record { built = 0; building = 0; views = [] })) []) (sym c.new.ensures)
       (opens-stands c.args.options.columns c.args.options.feed c.args.options.keep c.in_ok-open.field-0 c.open-2.result _ (record { index = c.in_ok-open.ensures.index c.in_ok-open.ensures.new; keys = new_keys c.in_ok-open.field-0 c.in_ok-open.ensures.empty; heads = new_heads c.in_ok-open.field-0 c.in_ok-open.ensures.new _; twins = new_twins c.in_ok-open.field-0 _; retired = new_retired c.in_ok-open.field-0 c.in_ok-open.ensures.new 0 _ }) (new_untaken c.in_ok-open.field-0 c.in_ok-open.ensures.new _ _ (record { index = c.in_ok-open.ensures.index c.in_ok-open.ensures.new; keys = new_keys c.in_ok-open.field-0 c.in_ok-open.ensures.empty; heads = new_heads c.in_ok-open.field-0 c.in_ok-open.ensures.new _; twins = new_twins c.in_ok-open.field-0 _; retired = new_retired c.in_ok-open.field-0 c.in_ok-open.ensures.new 0 _ })) (λ key row. c.in_ok-open.ensures.empty (place_of key) row) c.open-2.ensures.empty)),
 )
 
@@ -22,7 +22,7 @@ returns c = record {
     refl,
     (ap (λ (l : LogView). l.feed) c.open-2.ensures.empty, ap (λ (l : LogView). l.keep) c.open-2.ensures.empty),
     subst (λ (v : ViewsView). Stands (seen c.args.options.columns 0 c.in_ok-open.field-0 c.open-2.result c.new.result v) []) (sym c.new-2.ensures)
-    (subst (λ (k : CallsView). Stands (seen c.args.options.columns 0 c.in_ok-open.field-0 c.open-2.result k (record { built = 0; building = 0; views = [] })) []) (sym c.new.ensures)
+        (subst (λ (k : CallsView). Stands (seen c.args.options.columns 0 c.in_ok-open.field-0 c.open-2.result k (record { built = 0; building = 0; views = [] })) []) (sym c.new.ensures)
         (opens-stands c.args.options.columns c.args.options.feed c.args.options.keep c.in_ok-open.field-0 c.open-2.result _ (record { index = c.in_ok-open.ensures.index c.in_ok-open.ensures.new; keys = new_keys c.in_ok-open.field-0 c.in_ok-open.ensures.empty; heads = new_heads c.in_ok-open.field-0 c.in_ok-open.ensures.new _; twins = new_twins c.in_ok-open.field-0 _; retired = new_retired c.in_ok-open.field-0 c.in_ok-open.ensures.new 0 _ }) (new_untaken c.in_ok-open.field-0 c.in_ok-open.ensures.new _ _ (record { index = c.in_ok-open.ensures.index c.in_ok-open.ensures.new; keys = new_keys c.in_ok-open.field-0 c.in_ok-open.ensures.empty; heads = new_heads c.in_ok-open.field-0 c.in_ok-open.ensures.new _; twins = new_twins c.in_ok-open.field-0 _; retired = new_retired c.in_ok-open.field-0 c.in_ok-open.ensures.new 0 _ })) (λ key row. c.in_ok-open.ensures.empty (place_of key) row) c.open-2.ensures.empty)),
   );
 }

@@ -17,9 +17,11 @@ unpin-requires c =
 
 pub invariant_of-self : goal.invariant_of-self
 invariant_of-self c =
-    let (h, st) = c.self.invariant in
-    (_, drops-stand (seen c.self.inside.columns c.self.inside.epoch c.self.inside.tree c.self.inside.log c.self.inside.calls c.self.inside.views) h st _ (record { 0 = c.args.view }) Dropped
-    (drops_view (seen c.self.inside.columns c.self.inside.epoch c.self.inside.tree c.self.inside.log c.self.inside.calls c.self.inside.views) c.args.view c.in-Some.at c.unpin.new.self c.trim.new.self c.end.new.self (sym c.at.ensures ∙ c.in-Some.is) c.unpin.ensures.after c.unpin.ensures.sound c.trim.ensures.after c.end.ensures))
+    let (h, st) = c.self.invariant in (
+      _,
+      drops-stand (seen c.self.inside.columns c.self.inside.epoch c.self.inside.tree c.self.inside.log c.self.inside.calls c.self.inside.views) h st _ (record { 0 = c.args.view }) Dropped
+          (drops_view (seen c.self.inside.columns c.self.inside.epoch c.self.inside.tree c.self.inside.log c.self.inside.calls c.self.inside.views) c.args.view c.in-Some.at c.unpin.new.self c.trim.new.self c.end.new.self (sym c.at.ensures ∙ c.in-Some.is) c.unpin.ensures.after c.unpin.ensures.sound c.trim.ensures.after c.end.ensures),
+    )
 
 pub returns-clause-drops : goal.returns-clause-drops
 returns-clause-drops c = subst (λ (s : MachineView). Drops s c.args.view Dropped (seen c.self.inside.columns c.self.inside.epoch c.self.inside.tree c.trim.new.self c.self.inside.calls c.end.new.self)) c.self.view_is

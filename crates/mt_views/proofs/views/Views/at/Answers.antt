@@ -1,4 +1,4 @@
-use Rattle.std.proofs.Common.{ℕ, ◌∙◌, Option, Some, ap}
+use Rattle.std.proofs.Common.{◌∙◌, Option, Some, ap}
 use Rattle.std.specs.Option.{option_map}
 use Rattle.mt_view.specs.State.{StateView}
 use Rattle.mt_views.specs.Views.{ViewsView, state_at}

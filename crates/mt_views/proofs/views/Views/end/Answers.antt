@@ -1,5 +1,4 @@
-use Rattle.std.proofs.Common.{ℕ, ◌+◌, ◌≤◌, length, not, ◌==◌, arith, ◌∙◌, ap, sym, subst}
-use Rattle.mt_view.specs.State.{StateView}
+use Rattle.std.proofs.Common.{length, arith, ◌∙◌, ap, sym, subst}
 use Rattle.mt_views.specs.Views.{ViewsView, Rises, without}
 use Rattle.mt_views.proofs.ViewLemmas.{Entries, remove-view, rises-without, fewer-without}
 use Rattle.mt_views.proofs.views.Views.end.Goals as goal

@@ -1,4 +1,4 @@
-use Rattle.std.proofs.Common.{◌≡◌, ℕ, Option, None, Some, sym, ap, subst, ◌∙◌}
+use Rattle.std.proofs.Common.{ℕ, Option, None, Some, sym, ap, subst, ◌∙◌}
 use Rattle.std.specs.Option.{option_map}
 use Rattle.mt_promise.specs.History.{furthest}
 use Rattle.mt_views.specs.Views.{ViewsView, all_standing, slower}

@@ -1,5 +1,5 @@
-use Rattle.std.proofs.Common.{◌≡◌, None}
-use Rattle.mt_promise.specs.History.{StandingView, furthest}
+use Rattle.std.proofs.Common.{None}
+use Rattle.mt_promise.specs.History.{furthest}
 use Rattle.mt_views.specs.Views.{all_standing}
 use Rattle.mt_views.proofs.StandingLemmas.{IsBest}
 use Rattle.mt_views.proofs.views.Views.furthest.Given as goal

@@ -1,4 +1,4 @@
-use Rattle.std.proofs.Common.{◌≡◌, ℕ, ◌∙◌, ◌==◌, if◌then◌else◌, Bool, false, Option, Some, None, sym, ap}
+use Rattle.std.proofs.Common.{◌∙◌, if◌then◌else◌, Bool, None, sym, ap}
 use Rattle.std.proofs.lemmas.Bool.{ne_eqb}
 use Rattle.std.specs.Option.{option_map}
 use Rattle.mt_promise.specs.History.{StandingView, furthest, view_of}

@@ -1,4 +1,4 @@
-use Rattle.std.proofs.Common.{◌≡◌, ℕ, ◌+◌, ◌≤◌, length, arith, ◌∙◌, Option, None, Some, IsSome, ap, sym, subst}
+use Rattle.std.proofs.Common.{length, arith, ◌∙◌, ap, sym, subst}
 use Rattle.std.proofs.lemmas.Result.{on_ok_weaker, on_err_weaker}
 use Rattle.mt_view.specs.State.{StateView, applied}
 use Rattle.mt_views.specs.Views.{ViewsView, Rises, state_at, with_state}

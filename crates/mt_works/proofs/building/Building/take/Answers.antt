@@ -1,4 +1,4 @@
-use Rattle.mt_works.proofs.BuildingLemmas.{in_log, is_scanned, take_moves, takes, build_fails}
+use Rattle.mt_works.proofs.BuildingLemmas.{is_scanned, take_moves, build_fails}
 use Rattle.mt_works.proofs.building.Building.take.Goals as goal
 
 pub returns-in-Ok-clause-steps : goal.returns-in-Ok-clause-steps
