@@ -1,16 +1,16 @@
 //! A collection: retired nodes are freed at which no open call can stand.
 
-ghost use Rattle.std.specs.Prelude.{◌≡◌};
+ghost use Rattle.std.specs.Prelude.{◌≡◌, ◌+◌};
 ghost use Rattle.mt_calls.specs.Collecting.{IsCollected, CollectLaw};
 
 use mt_tree::Tree;
 use mt_types::limits::MAX_NODES;
 
-/// Frees the nodes that were retired before an epoch, and tells how many (Masstree, EuroSys 2012, section 4.6.1). Where
-/// each open call began in that epoch or later, no call can stand at one of them. O(n) in those that are freed.
-pub fn collect(tree: &mut Tree, before: u64) -> u32
-    ensures exactly { IsCollected tree.old tree.new before result }
-    ensures keeps { CollectLaw tree.old tree.new before }
+/// Frees the nodes that were retired in this epoch or before, and tells how many (Masstree, EuroSys 2012, section 4.6.1).
+/// Where each open call began in a later one, no call can stand at one of them. O(n) in those that are freed.
+pub fn collect(tree: &mut Tree, upto: u64) -> u32
+    ensures exactly { IsCollected tree.old tree.new (upto + 1) result }
+    ensures keeps { CollectLaw tree.old tree.new (upto + 1) }
 {
     let _sound = tree.free_numbers();
     for freed in 0..MAX_NODES {
@@ -18,7 +18,7 @@ pub fn collect(tree: &mut Tree, before: u64) -> u32
         let Some(first) = tree.first_retired() else {
             return freed;
         };
-        if first.epoch >= before {
+        if first.epoch > upto {
             return freed;
         }
         tree.free_first_retired();

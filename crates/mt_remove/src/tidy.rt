@@ -5,7 +5,7 @@ ghost use Rattle.mt_commit.specs.Log.{LogView};
 ghost use Rattle.mt_arena.specs.Node.{border_at};
 ghost use Rattle.mt_types.specs.declared.event.Request.TheVariants.{Tidy as TidyRequest};
 ghost use Rattle.mt_calls.specs.Step.{StepLawIn, MayStepIn, nothing as nothing_held};
-ghost use Rattle.mt_remove.specs.Tidy.{tidy_request, tidy_held, TidyTruth, NewTidyIsTrue, MayTidy, IsHereBy};
+ghost use Rattle.mt_remove.specs.Tidy.{tidy_request, tidy_held, TidyTruth, NewTidyIsTrue, MayTidy, IsHereBy, IsTidied};
 ghost use Rattle.mt_remove.specs.Follows.{TidyStep, TidyFollows, TidyWaits};
 
 use crate::noted::{NOTHING, Noted};
@@ -135,6 +135,7 @@ impl Tidy {
         requires { MayStepIn epoch tree.old (TidyTruth self.old) }
         ensures request { tidy_request self.new ≡ tidy_request self.old }
         ensures steps { (C : ℕ) (log : LogView) → StepLawIn epoch C tree.old tree.new log log (tidy_request self.old) (tidy_held self.old) result (tidy_held self.new) (TidyTruth self.old) (TidyTruth self.new) }
+        ensures tidied { IsTidied result }
         ensures waits { TidyWaits tree.old self.old result }
         ensures gets_on { TidyFollows tree.old self.old result self.new }
     {

@@ -1,4 +1,4 @@
-use Rattle.std.proofs.Common.{◌≡◌, ◌<◌, take, drop}
+use Rattle.std.proofs.Common.{◌≡◌, ◌<◌, ◌+◌, take, drop}
 use Rattle.std.specs.Prelude.{All}
 use Rattle.mt_calls.specs.Collecting.{CollectLaw}
 use Rattle.mt_calls.proofs.collecting.collect.Given as goal
@@ -7,6 +7,6 @@ use Rattle.mt_calls.proofs.collecting.collect.Given as goal
 abbrev pub invariant-loop-freed : goal.invariant-loop-freed
 invariant-loop-freed l = record {
   rest : l.tree.retired ≡ drop l.freed l.fn.tree.retired;
-  gone : All (λ node. node.epoch < l.before) (take l.freed l.fn.tree.retired);
-  law : CollectLaw l.fn.tree l.tree l.before;
+  gone : All (λ node. node.epoch < l.upto + 1) (take l.freed l.fn.tree.retired);
+  law : CollectLaw l.fn.tree l.tree (l.upto + 1);
 }
