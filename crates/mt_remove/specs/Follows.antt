@@ -1,9 +1,10 @@
 -- Where a tidy stands after a step: said of the nodes before it, and of the tidy before and after it.
-use Rattle.std.specs.Prelude.{ℕ, ◌≡◌, ◌⊎◌, Bool, true, false, Option, Some, None, IsSomeAnd}
+use Rattle.std.specs.Prelude.{ℕ, ◌≡◌, ◌-◌, ◌⊎◌, Bool, true, false, List, Option, Some, None, IsSomeAnd}
 use Rattle.mt_types.specs.declared.numbers.NodeNo.{NodeNo}
 use Rattle.mt_types.specs.declared.event.Answer.TheVariants.{Tidied}
 use Rattle.mt_types.specs.declared.event.TidyRule.{TidyRule}
-use Rattle.mt_types.specs.declared.event.TidyRule.TheVariants.{Nothing as NoRule, EmptyBorder as BorderRule, LoneChild as ChildRule, LoneRootChild as RootRule}
+use Rattle.mt_types.specs.declared.event.TidyRule.TheVariants.{Nothing as NoRule, EmptyBorder as BorderRule, LoneChild as ChildRule, LoneRootChild as RootRule, EmptyLayer as LayerRule}
+use Rattle.mt_slice.specs.Place.{rest_at}
 use Rattle.mt_border.specs.Border.{BorderView}
 use Rattle.mt_interior.specs.Head.{HeadView}
 use Rattle.mt_arena.specs.Node.{node_at, head_at, border_at}
@@ -23,12 +24,13 @@ use Rattle.mt_remove.specs.declared.noted.Namer.TheVariants.{Head as NamedByHead
 use Rattle.mt_remove.specs.declared.noted.Lone.{Lone}
 use Rattle.mt_remove.specs.declared.noted.Noted.{Noted}
 use Rattle.mt_remove.specs.declared.sign.Sign.{Sign}
-use Rattle.mt_remove.specs.declared.sign.Sign.TheVariants.{Nothing, EmptyBorder, LoneChild}
+use Rattle.mt_remove.specs.declared.sign.Sign.TheVariants.{Nothing, EmptyBorder, LoneChild, EmptyLayer}
 use Rattle.mt_remove.specs.declared.tidy.Tidy.{Tidy}
+use Rattle.mt_remove.specs.declared.stage.Layer.{Layer}
 use Rattle.mt_remove.specs.declared.stage.Stage.{Stage}
-use Rattle.mt_remove.specs.declared.stage.Stage.TheVariants.{Seeks, Locked, Dropped, Marked, Unlinked, Lonely, LoneLocked, Bypassed, KeepsBorder, KeepsInterior}
+use Rattle.mt_remove.specs.declared.stage.Stage.TheVariants.{Seeks, Locked, Dropped, Marked, Unlinked, Lonely, LoneLocked, Bypassed, RootLocked, AboveLocked, HeadMarked, RootMarked, LinkHidden, LayerGone, RootRetired, KeepsLayer, KeepsBorder, KeepsInterior}
 use Rattle.mt_remove.specs.Noted.{noted_from, sign_of}
-use Rattle.mt_remove.specs.Seen.{is_lone, place_in, later_place}
+use Rattle.mt_remove.specs.Seen.{is_lone, place_in, later_place, link_place}
 use Rattle.mt_remove.specs.Tidy.{IsTidied, TidyLaw}
 
 -- it ends, and has done this
@@ -52,6 +54,7 @@ abbrev pub BeginsBy : Tidy → Noted → Sign → Progress → Tidy → Type 0
 BeginsBy tidy noted Nothing p then = Did NoRule p
 BeginsBy tidy noted (EmptyBorder parent) p then = GoesTo tidy p then (Locked tidy.way.node noted.head parent)
 BeginsBy tidy noted (LoneChild lone) p then = GoesTo tidy p then (Lonely lone)
+BeginsBy tidy noted (EmptyLayer above) p then = GoesTo tidy p then (RootLocked tidy.way.node noted.head above)
 
 -- but where the border is locked, it ends
 abbrev pub Begins : Tidy → Noted → BorderView → Progress → Tidy → Type 0
@@ -87,9 +90,9 @@ abbrev pub LocksBy : Tidy → Lone → Bool → Progress → Tidy → Type 0
 LocksBy tidy lone true p then = GoesTo tidy p then (LoneLocked lone)
 LocksBy tidy lone false p then = Did NoRule p
 
--- the head's root is the interior, and the head is not marked deleted
+-- the head's root is the node, and the head is not marked deleted
 abbrev pub IsRootOf : NodeNo → HeadView → Type 0
-IsRootOf interior h = (h.version.deleted ≡ false) × (h.root ≡ interior)
+IsRootOf node h = (h.version.deleted ≡ false) × (h.root ≡ node)
 
 -- what named the interior names its child, where it still names it; or the tidy gives up
 abbrev pub BypassesBy : Tidy → NodeNo → Option ℕ → Progress → Tidy → Type 0
@@ -103,6 +106,27 @@ FollowsNamer a tidy interior (NamedByHead head) p then = IsSomeAnd (head_at a.no
     (IsRootOf interior h × GoesTo tidy p then (Bypassed interior RootRule)) ⊎ ((IsRootOf interior h → ⊥)
     × GoesTo tidy p then (KeepsInterior interior)))
 
+-- ---- an empty layer
+-- what the layers above the layer above have left of the key
+abbrev pub rest_above : Tidy → List ℕ
+rest_above tidy = rest_at (tidy.way.layer - 1) tidy.key
+
+-- the border above is locked where it still has the link to the layer's head; or the tidy gives up
+abbrev pub LocksAbove : Tidy → NodeNo → NodeNo → NodeNo → Option ℕ → Progress → Tidy → Type 0
+LocksAbove tidy root head above None p then = GoesTo tidy p then (KeepsBorder root)
+LocksAbove tidy root head above (Some place) p then =
+    GoesTo tidy p then (AboveLocked (record { above = above; place = place; head = head; root = root }))
+
+abbrev pub FollowsRoot : ArenaView → Tidy → NodeNo → NodeNo → NodeNo → Progress → Tidy → Type 0
+FollowsRoot a tidy root head above p then = IsSomeAnd (node_at a.nodes above.0) (λ node.
+    LocksAbove tidy root head above (link_place (rest_above tidy) node head) p then)
+
+-- the head is marked deleted where the border is still its root; or the tidy gives up
+abbrev pub FollowsAbove : ArenaView → Tidy → Layer → Progress → Tidy → Type 0
+FollowsAbove a tidy layer p then = IsSomeAnd (head_at a.nodes layer.head.0) (λ h.
+    (IsRootOf layer.root h × GoesTo tidy p then (HeadMarked layer)) ⊎ ((IsRootOf layer.root h → ⊥)
+    × GoesTo tidy p then (KeepsLayer layer)))
+
 -- ---- at each stage
 abbrev pub Follows : ArenaView → Tidy → Stage → Progress → Tidy → Type 0
 Follows a tidy (Seeks noted) p then = IsSomeAnd (node_at a.nodes tidy.way.node.0) (λ node. FollowsVisit a tidy noted node (went_by tidy.way (node_visit (rest_of tidy.key tidy.way) node)) p then)
@@ -115,6 +139,14 @@ Follows a tidy (Lonely lone) p then =
     IsSomeAnd (node_at a.nodes lone.interior.0) (λ node. LocksBy tidy lone (is_lone node lone.child) p then)
 Follows a tidy (LoneLocked lone) p then = FollowsNamer a tidy lone.interior lone.namer p then
 Follows a tidy (Bypassed interior rule) p then = Did rule p
+Follows a tidy (RootLocked root head above) p then = FollowsRoot a tidy root head above p then
+Follows a tidy (AboveLocked layer) p then = FollowsAbove a tidy layer p then
+Follows a tidy (HeadMarked layer) p then = GoesTo tidy p then (RootMarked layer)
+Follows a tidy (RootMarked layer) p then = GoesTo tidy p then (LinkHidden layer)
+Follows a tidy (LinkHidden layer) p then = GoesTo tidy p then (LayerGone layer.root layer.head)
+Follows a tidy (LayerGone root head) p then = GoesTo tidy p then (RootRetired head)
+Follows a tidy (RootRetired head) p then = Did LayerRule p
+Follows a tidy (KeepsLayer layer) p then = GoesTo tidy p then (KeepsBorder layer.root)
 Follows a tidy (KeepsBorder border) p then = Did NoRule p
 Follows a tidy (KeepsInterior interior) p then = Did NoRule p
 
