@@ -68,7 +68,7 @@ module _ (epoch : ℕ) (a : ArenaView) (tidy : Tidy) (root head above : NodeNo) 
 
   -- it has not the link any more
   pub lost_link : IsSomeAnd (node_at a.nodes n) (λ node. None ≡ link_place (rest_above tidy) node head) → TidyStep epoch a a tidy Moved (record tidy { stage = KeepsBorder root })
-  lost_link none = at_stage epoch a a tidy (RootLocked root head above) Moved (record tidy { stage = KeepsBorder root }) is refl
+  lost_link none = at_stage epoch a a tidy (RootLocked root head above) Moved (record tidy { stage = KeepsBorder root }) is refl refl
       (law_same epoch a tidy (RootLocked root head above) Moved (record tidy { stage = KeepsBorder root }) refl (λ begun w world t. root_locked a w root.0 t.border t.free)) tt tt
       (some_by (node_at a.nodes n) _ _ (λ node e. subst (λ (o : Option ℕ). LocksAbove tidy root head above o Moved (record tidy { stage = KeepsBorder root })) e (refl, refl)) none)
 
@@ -92,7 +92,7 @@ module _ (epoch : ℕ) (a : ArenaView) (tidy : Tidy) (root head above : NodeNo) 
     layer = record { above = above; place = place; head = head; root = root }
 
     pub locks_above : (slice : ℕ) (after : ArenaView) → IsSomeAnd (border_at a.nodes n) (λ x. slice_get x.live place ≡ Some (record { slice = slice; content = Link head })) → after ≡ new → KeepsTree a after → TidyStep epoch a after tidy Moved (record tidy { stage = AboveLocked layer })
-    locks_above slice after linked value keeps = at_stage epoch a after tidy (RootLocked root head above) Moved (record tidy { stage = AboveLocked layer }) is refl (record {
+    locks_above slice after linked value keeps = at_stage epoch a after tidy (RootLocked root head above) Moved (record tidy { stage = AboveLocked layer }) is refl (ap (λ (x : ArenaView). x.retired) value) (record {
       steps = λ begun w world before t.
           let (upper, deeper, known) = t.known in
           let (on_border, low) = border_is_on (arena_seen a) w.chart world.index.tree begun n known.low (slices_above upper tidy.key) (border_seen b) (holds_known begun w n (slices_above upper tidy.key) known) (seen-border a n b b_named) seen.alive in
@@ -134,7 +134,7 @@ module _ (epoch : ℕ) (a : ArenaView) (tidy : Tidy) (layer : Layer) (is : tidy.
 
   -- the border is not its root any more
   pub lost_root : (h : HeadView) → head_at a.nodes t ≡ Some h → (IsRootOf layer.root h → ⊥) → TidyStep epoch a a tidy Moved (record tidy { stage = KeepsLayer layer })
-  lost_root h named lost = at_stage epoch a a tidy (AboveLocked layer) Moved (record tidy { stage = KeepsLayer layer }) is refl
+  lost_root h named lost = at_stage epoch a a tidy (AboveLocked layer) Moved (record tidy { stage = KeepsLayer layer }) is refl refl
       (law_same epoch a tidy (AboveLocked layer) Moved (record tidy { stage = KeepsLayer layer }) refl (λ begun w world k. (above_locked a w layer.above.0 k.above.border, root_locked a w layer.root.0 k.root k.free, layer_apart a w layer k.root k.above))) tt tt
       (subst (λ (o : Option HeadView). IsSomeAnd o (λ v. (IsRootOf layer.root v × ((Moved ≡ Moved) × (record tidy { stage = KeepsLayer layer } ≡ record tidy { stage = HeadMarked layer }))) ⊎ ((IsRootOf layer.root v → ⊥) × ((Moved ≡ Moved) × (record tidy { stage = KeepsLayer layer } ≡ record tidy { stage = KeepsLayer layer }))))) (sym named) (inr (lost, (refl, refl))))
 
@@ -143,7 +143,7 @@ module _ (epoch : ℕ) (a : ArenaView) (tidy : Tidy) (layer : Layer) (is : tidy.
     root_named b is_b = ap (λ (m : NodeNo). border_at a.nodes m.0) root.1 ∙ is_b
 
     pub marks_head : (after : ArenaView) → after ≡ with_head_changed a t head_deleted → KeepsTree a after → TidyStep epoch a after tidy Moved (record tidy { stage = HeadMarked layer })
-    marks_head after value keeps = at_stage epoch a after tidy (AboveLocked layer) Moved (record tidy { stage = HeadMarked layer }) is refl (record {
+    marks_head after value keeps = at_stage epoch a after tidy (AboveLocked layer) Moved (record tidy { stage = HeadMarked layer }) is refl (ap (λ (x : ArenaView). x.retired) value) (record {
       steps = λ begun w world before k.
           let prefix = prefix_of tidy.key tidy.way in
           let new : ArenaView = with_head_changed a t head_deleted in
@@ -200,7 +200,7 @@ module _ (epoch : ℕ) (a : ArenaView) (tidy : Tidy) (layer : Layer) (is : tidy.
 module _ (epoch : ℕ) (a : ArenaView) (tidy : Tidy) (layer : Layer) (is : tidy.stage ≡ HeadMarked layer) where
   pub marks_root : (after : ArenaView) → after ≡ with_border_changed a layer.root.0 with_deleted → KeepsTree a after → TidyStep epoch a after tidy Moved (record tidy { stage = RootMarked layer })
   unfolding head_beside
-  marks_root after value keeps = at_stage epoch a after tidy (HeadMarked layer) Moved (record tidy { stage = RootMarked layer }) is refl (record {
+  marks_root after value keeps = at_stage epoch a after tidy (HeadMarked layer) Moved (record tidy { stage = RootMarked layer }) is refl (ap (λ (x : ArenaView). x.retired) value) (record {
     steps = λ begun w world before k.
         let n : ℕ = layer.root.0 in
         let b : BorderView = k.root.b in
@@ -229,7 +229,7 @@ module _ (epoch : ℕ) (a : ArenaView) (tidy : Tidy) (layer : Layer) (is : tidy.
 -- ---- the border above is unlocked, once the link is hidden
 module _ (epoch : ℕ) (a : ArenaView) (tidy : Tidy) (layer : Layer) (is : tidy.stage ≡ LinkHidden layer) where
   pub unlocks_above : (after : ArenaView) → after ≡ with_border_changed a layer.above.0 unlocked_one → KeepsTree a after → TidyStep epoch a after tidy Moved (record tidy { stage = LayerGone layer.root layer.head })
-  unlocks_above after value keeps = at_stage epoch a after tidy (LinkHidden layer) Moved (record tidy { stage = LayerGone layer.root layer.head }) is refl (record {
+  unlocks_above after value keeps = at_stage epoch a after tidy (LinkHidden layer) Moved (record tidy { stage = LayerGone layer.root layer.head }) is refl (ap (λ (x : ArenaView). x.retired) value) (record {
     steps = λ begun w world before truth.
         let (u, g, k) = truth in
         let n : ℕ = layer.above.0 in
@@ -250,7 +250,7 @@ module _ (epoch : ℕ) (a : ArenaView) (tidy : Tidy) (root head : NodeNo) (is : 
   unlock b = with_lock b false
 
   pub retires_root : (mid after : ArenaView) → mid ≡ with_border_changed a root.0 unlock → KeepsTree a mid → after ≡ with_retired mid root epoch → KeepsTree mid after → TidyStep epoch a after tidy Moved (record tidy { stage = RootRetired head })
-  retires_root mid after unlocked keeps retired keeps_too = at_stage epoch a after tidy (LayerGone root head) Moved (record tidy { stage = RootRetired head }) is refl (record {
+  retires_root mid after unlocked keeps retired keeps_too = at_stage epoch a after tidy (LayerGone root head) Moved (record tidy { stage = RootRetired head }) is refl (ap (λ (x : ArenaView). x.retired) (retired ∙ ap (λ (x : ArenaView). with_retired x root epoch) unlocked)) (record {
     steps = λ begun w world before truth.
         let (g, k) = truth in
         let n : ℕ = root.0 in
@@ -287,7 +287,7 @@ module _ (epoch : ℕ) (a : ArenaView) (tidy : Tidy) (root head : NodeNo) (is : 
 
 module _ (epoch : ℕ) (a : ArenaView) (tidy : Tidy) (head : NodeNo) (is : tidy.stage ≡ RootRetired head) where
   pub retires_head : (after : ArenaView) → after ≡ with_retired a head epoch → KeepsTree a after → TidyStep epoch a after tidy (Answered (Tidied LayerRule)) tidy
-  retires_head after value keeps = at_stage epoch a after tidy (RootRetired head) (Answered (Tidied LayerRule)) tidy is refl (record {
+  retires_head after value keeps = at_stage epoch a after tidy (RootRetired head) (Answered (Tidied LayerRule)) tidy is refl (ap (λ (x : ArenaView). x.retired) value) (record {
     steps = λ begun w world before k.
         subst (λ (x : ArenaView). Goes epoch a x w (head.0 ∷ []) [] (λ next. Unit {0}) × SameContent (arena_seen a) (arena_seen x)) (sym value)
         (goes_retired epoch a a w head [] (λ next. Unit {0}) top k.prefix k.low k.epoch world (record { index = world.index; content = same_content a; evolves = λ b le. evolves_same b w.chart }) refl (λ other differ. refl) k.place k.head.kept
@@ -298,7 +298,7 @@ module _ (epoch : ℕ) (a : ArenaView) (tidy : Tidy) (head : NodeNo) (is : tidy.
 -- ---- the border above is unlocked as it was
 module _ (epoch : ℕ) (a : ArenaView) (tidy : Tidy) (layer : Layer) (is : tidy.stage ≡ KeepsLayer layer) where
   pub keeps_above : (after : ArenaView) → after ≡ with_border_changed a layer.above.0 unlocked_one → KeepsTree a after → TidyStep epoch a after tidy Moved (record tidy { stage = KeepsBorder layer.root })
-  keeps_above after value keeps = at_stage epoch a after tidy (KeepsLayer layer) Moved (record tidy { stage = KeepsBorder layer.root }) is refl (record {
+  keeps_above after value keeps = at_stage epoch a after tidy (KeepsLayer layer) Moved (record tidy { stage = KeepsBorder layer.root }) is refl (ap (λ (x : ArenaView). x.retired) value) (record {
     steps = λ begun w world before truth.
         let (u, r, apart) = truth in
         let n : ℕ = layer.above.0 in

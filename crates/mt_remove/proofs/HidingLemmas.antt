@@ -200,7 +200,7 @@ module _ (now : ℕ) (a : ArenaView) (w : World) (layer : Layer) (k : IsClosing 
 -- ---- the step
 module _ (epoch : ℕ) (a : ArenaView) (tidy : Tidy) (layer : Layer) (is : tidy.stage ≡ RootMarked layer) where
   pub hides : (after : ArenaView) → after ≡ with_border_changed a layer.above.0 (λ b. with_hidden b layer.place) → DropsLayerAt a after layer.above.0 layer.place → TidyStep epoch a after tidy Moved (record tidy { stage = LinkHidden layer })
-  hides after value drops = at_stage epoch a after tidy (RootMarked layer) Moved (record tidy { stage = LinkHidden layer }) is refl (record {
+  hides after value drops = at_stage epoch a after tidy (RootMarked layer) Moved (record tidy { stage = LinkHidden layer }) is refl (ap (λ (x : ArenaView). x.retired) value) (record {
     steps = λ begun w world before truth.
         let (k, marked) = truth in
         subst (λ (x : ArenaView). Goes epoch a x w (layer_owns layer) (layer_owns layer) (λ next. StageIsTrue begun tidy.key tidy.way (LinkHidden layer) x next) × SameContent (arena_seen a) (arena_seen x)) (sym value)

@@ -92,13 +92,13 @@ module _ (epoch : ℕ) (a : ArenaView) (tidy : Tidy) (noted : Noted) (is : tidy.
   may_visit may = may_go a tidy.key tidy.way epoch may.begun may.w may.world (true_at epoch a tidy (Seeks noted) is may).0
 
   pub restarts : IsMarkedAt a tidy.way.node.0 → IsSomeAnd (node_at a.nodes tidy.way.node.0) (λ node. Again ≡ went_by tidy.way (node_visit (rest_of tidy.key tidy.way) node)) → TidyStep epoch a a tidy Waits (record tidy { way = start; stage = Seeks not_noted })
-  restarts marked visit = at_stage epoch a a tidy (Seeks noted) Waits (record tidy { way = start; stage = Seeks not_noted }) is refl
+  restarts marked visit = at_stage epoch a a tidy (Seeks noted) Waits (record tidy { way = start; stage = Seeks not_noted }) is refl refl
       (law_same epoch a tidy (Seeks noted) Waits (record tidy { way = start; stage = Seeks not_noted }) refl (λ begun w world truth. (starts a epoch w begun tidy.key world, record { head = starts_at_head a epoch w begun world; above = tt; came = tt; lone = tt }))) tt (inl marked)
       (some_by (node_at a.nodes tidy.way.node.0) _ _ (λ node e. subst (λ (t : Went). FollowsVisit a tidy noted node t Waits (record tidy { way = start; stage = Seeks not_noted })) e (refl, refl)) visit)
 
   pub moves : (next : Way) (went : Went) (then_noted : Noted) → went ≡ To next → Visits a tidy.key tidy.way went → IsSomeAnd (node_at a.nodes tidy.way.node.0) (λ node. To next ≡ went_by tidy.way (node_visit (rest_of tidy.key tidy.way) node)) → IsSomeAnd (node_at a.nodes tidy.way.node.0) (λ node. then_noted ≡ noted_from node tidy.way next noted)
       → TidyStep epoch a a tidy Moved (record tidy { way = next; stage = Seeks then_noted })
-  moves next went then_noted went_is visits visit notes = at_stage epoch a a tidy (Seeks noted) Moved (record tidy { way = next; stage = Seeks then_noted }) is refl
+  moves next went then_noted went_is visits visit notes = at_stage epoch a a tidy (Seeks noted) Moved (record tidy { way = next; stage = Seeks then_noted }) is refl refl
       (law_same epoch a tidy (Seeks noted) Moved (record tidy { way = next; stage = Seeks then_noted }) refl (λ begun w world truth.
       let (on, move, deeper) = subst (λ (t : Went). GoesTo a begun tidy.key tidy.way w t) went_is (visits.goes epoch w begun world truth.0) in (
         on,
@@ -123,7 +123,7 @@ module _ (epoch : ℕ) (a : ArenaView) (tidy : Tidy) (noted : Noted) (is : tidy.
 
     -- it ends there with nothing
     pub ends : ((b.version.locked ≡ true) ⊎ ((b.version.locked ≡ false) × (sign_of b noted ≡ Nothing))) → TidyStep epoch a a tidy (Answered (Tidied NoRule)) tidy
-    ends why = at_stage epoch a a tidy (Seeks noted) (Answered (Tidied NoRule)) tidy is refl (law_same epoch a tidy (Seeks noted) (Answered (Tidied NoRule)) tidy refl (λ begun w world truth. tt)) tt tt
+    ends why = at_stage epoch a a tidy (Seeks noted) (Answered (Tidied NoRule)) tidy is refl refl (law_same epoch a tidy (Seeks noted) (Answered (Tidied NoRule)) tidy refl (λ begun w world truth. tt)) tt tt
         (follows_here (Answered (Tidied NoRule)) tidy (elim why [
           | inl locked ↦ inl (locked, refl)
           | inr nothing ↦ inr (nothing.0, subst (λ (s : Sign). BeginsBy tidy noted s (Answered (Tidied NoRule)) tidy) (sym nothing.1) refl)
@@ -167,7 +167,7 @@ module _ (epoch : ℕ) (a : ArenaView) (tidy : Tidy) (noted : Noted) (is : tidy.
 
     -- an interior with one child was noted
     pub begins_lone : (lone : Lone) → b.version.locked ≡ false → sign_of b noted ≡ LoneChild lone → TidyStep epoch a a tidy Moved (record tidy { stage = Lonely lone })
-    begins_lone lone unlocked sign = at_stage epoch a a tidy (Seeks noted) Moved (record tidy { stage = Lonely lone }) is refl
+    begins_lone lone unlocked sign = at_stage epoch a a tidy (Seeks noted) Moved (record tidy { stage = Lonely lone }) is refl refl
         (law_same epoch a tidy (Seeks noted) Moved (record tidy { stage = Lonely lone }) refl (λ begun w world truth. subst (λ (o : Option Lone). IfLone begun (prefix_of tidy.key tidy.way) w o) (lone_of noted.came noted.lone (layer_sign b noted.came noted.above) (no_lone noted.came noted.above) sign) truth.1.lone)) tt tt
         (follows_here Moved (record tidy { stage = Lonely lone }) (inr (unlocked, subst (λ (s : Sign). BeginsBy tidy noted s Moved (record tidy { stage = Lonely lone })) (sym sign) (refl, refl))))
       where
@@ -274,7 +274,7 @@ module _ (epoch : ℕ) (a : ArenaView) (tidy : Tidy) (noted : Noted) (is : tidy.
 
     pub locks : (parent : NodeNo) (after : ArenaView) → b.version.locked ≡ false → sign_of b noted ≡ EmptyBorder parent → after ≡ with_border_changed a n lock → KeepsTree a after
         → TidyStep epoch a after tidy Moved (record tidy { stage = Locked tidy.way.node noted.head parent })
-    locks parent after unlocked sign value keeps = at_stage epoch a after tidy (Seeks noted) Moved (record tidy { stage = Locked tidy.way.node noted.head parent }) is refl (record {
+    locks parent after unlocked sign value keeps = at_stage epoch a after tidy (Seeks noted) Moved (record tidy { stage = Locked tidy.way.node noted.head parent }) is refl (ap (λ (x : ArenaView). x.retired) value) (record {
       steps = λ begun w world before truth.
           let d = due parent sign in
           let new : ArenaView = with_border_changed a n lock in
@@ -298,7 +298,7 @@ module _ (epoch : ℕ) (a : ArenaView) (tidy : Tidy) (noted : Noted) (is : tidy.
     -- the only border of a layer is locked
     pub locks_root : (upper : NodeNo) (after : ArenaView) → b.version.locked ≡ false → sign_of b noted ≡ EmptyLayer upper → after ≡ with_border_changed a n lock → KeepsTree a after
         → TidyStep epoch a after tidy Moved (record tidy { stage = RootLocked tidy.way.node noted.head upper })
-    locks_root upper after unlocked sign value keeps = at_stage epoch a after tidy (Seeks noted) Moved (record tidy { stage = RootLocked tidy.way.node noted.head upper }) is refl (record {
+    locks_root upper after unlocked sign value keeps = at_stage epoch a after tidy (Seeks noted) Moved (record tidy { stage = RootLocked tidy.way.node noted.head upper }) is refl (ap (λ (x : ArenaView). x.retired) value) (record {
       steps = λ begun w world before truth.
           let d = layer_due upper sign in
           let new : ArenaView = with_border_changed a n lock in

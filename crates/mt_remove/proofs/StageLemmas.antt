@@ -22,17 +22,23 @@ use Rattle.mt_remove.specs.declared.tidy.Tidy.{Tidy}
 use Rattle.mt_remove.specs.declared.stage.Stage.{Stage}
 use Rattle.mt_remove.specs.Seen.{free_interior, is_only, lone_of, is_lone, place_in, not_first, later_place, free_border, link_place}
 use Rattle.mt_remove.specs.Tidy.{stage_owns, tidy_held, StageIsTrue, IsKnownIn, IsTidied, ThenTidy, StageLaw, MayTidy}
-use Rattle.mt_remove.specs.Follows.{Follows, StageWaits, TidyStep}
+use Rattle.mt_remove.specs.Follows.{Follows, StageWaits, then_retired, TidyStep}
 
 -- ---- a step at a stage
-pub at_stage : (epoch : ℕ) (a after : ArenaView) (tidy : Tidy) (stage : Stage) (p : Progress) (next : Tidy) → tidy.stage ≡ stage → next.key ≡ tidy.key → StageLaw epoch a after tidy stage p next → IsTidied p → StageWaits a tidy stage p → Follows a tidy stage p next → TidyStep epoch a after tidy p next
-at_stage epoch a after tidy stage p next is key law tidied waits follows = record {
+pub at_stage : (epoch : ℕ) (a after : ArenaView) (tidy : Tidy) (stage : Stage) (p : Progress) (next : Tidy) → tidy.stage ≡ stage → next.key ≡ tidy.key → after.retired ≡ then_retired epoch stage a.retired → StageLaw epoch a after tidy stage p next → IsTidied p → StageWaits a tidy stage p → Follows a tidy stage p next → TidyStep epoch a after tidy p next
+at_stage epoch a after tidy stage p next is key retires law tidied waits follows = record {
   key = key;
   law = subst (λ (s : Stage). StageLaw epoch a after tidy s p next) (sym is) law;
   tidied = tidied;
   waits = subst (λ (s : Stage). StageWaits a tidy s p) (sym is) waits;
   follows = subst (λ (s : Stage). Follows a tidy s p next) (sym is) follows;
+  retires = subst (λ (s : Stage). after.retired ≡ then_retired epoch s a.retired) (sym is) retires;
 }
+
+-- a change of a node, by what was read, retires nothing
+pub none_retired : {T : Type 0} (o : Option T) (a after : ArenaView) (change : T → ArenaView) → ((x : T) → (change x).retired ≡ a.retired) → IsSomeAnd o (λ x. after ≡ change x) → after.retired ≡ a.retired
+none_retired None a after change same h = absurd h
+none_retired (Some x) a after change same h = ap (λ (v : ArenaView). v.retired) h ∙ same x
 
 -- what is true of the stage where it is
 pub true_at : (epoch : ℕ) (a : ArenaView) (tidy : Tidy) (stage : Stage) → tidy.stage ≡ stage → (may : MayTidy epoch a tidy) → StageIsTrue may.begun tidy.key tidy.way stage a may.w

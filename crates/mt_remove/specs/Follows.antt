@@ -1,5 +1,5 @@
 -- Where a tidy stands after a step: said of the nodes before it, and of the tidy before and after it.
-use Rattle.std.specs.Prelude.{ℕ, ◌≡◌, ◌-◌, ◌⊎◌, Bool, true, false, List, Option, Some, None, IsSomeAnd}
+use Rattle.std.specs.Prelude.{ℕ, ◌≡◌, ◌-◌, ◌⊎◌, Bool, true, false, List, [], ◌∷◌, ◌++◌, Option, Some, None, IsSomeAnd}
 use Rattle.mt_types.specs.declared.numbers.NodeNo.{NodeNo}
 use Rattle.mt_types.specs.declared.event.Answer.TheVariants.{Tidied}
 use Rattle.mt_types.specs.declared.event.TidyRule.{TidyRule}
@@ -10,6 +10,7 @@ use Rattle.mt_interior.specs.Head.{HeadView}
 use Rattle.mt_arena.specs.Node.{node_at, head_at, border_at}
 use Rattle.mt_arena.specs.Arena.{ArenaView}
 use Rattle.mt_arena.specs.declared.node.Node.{Node}
+use Rattle.mt_arena.specs.declared.retired.Retired.{Retired}
 use Rattle.mt_tree.specs.Descent.{node_visit}
 use Rattle.mt_calls.specs.declared.way.Way.{Way}
 use Rattle.mt_calls.specs.declared.way.Went.{Went}
@@ -167,6 +168,17 @@ StageWaits a tidy stage _ = Unit {0}
 abbrev pub TidyWaits : ArenaView → Tidy → Progress → Type 0
 TidyWaits a tidy p = StageWaits a tidy tidy.stage p
 
+-- WHAT IT RETIRES, in the epoch: a node that went by this tidy, and nothing else
+abbrev pub then_retired : ℕ → Stage → List Retired → List Retired
+then_retired epoch (Unlinked border) retired = retired ++ record { node = border; epoch = epoch } ∷ []
+then_retired epoch (Bypassed interior rule) retired = retired ++ record { node = interior; epoch = epoch } ∷ []
+then_retired epoch (LayerGone root head) retired = retired ++ record { node = root; epoch = epoch } ∷ []
+then_retired epoch (RootRetired head) retired = retired ++ record { node = head; epoch = epoch } ∷ []
+then_retired epoch _ retired = retired
+
+abbrev pub TidyRetires : ℕ → ArenaView → ArenaView → Tidy → Type 0
+TidyRetires epoch a after tidy = after.retired ≡ then_retired epoch tidy.stage a.retired
+
 -- WHAT A STEP DOES, all of it
 pub record TidyStep (epoch : ℕ) (a after : ArenaView) (tidy : Tidy) (p : Progress) (then : Tidy) : Type 0 where
   pub key : then.key ≡ tidy.key
@@ -174,3 +186,4 @@ pub record TidyStep (epoch : ℕ) (a after : ArenaView) (tidy : Tidy) (p : Progr
   pub tidied : IsTidied p
   pub waits : TidyWaits a tidy p
   pub follows : Follows a tidy tidy.stage p then
+  pub retires : TidyRetires epoch a after tidy

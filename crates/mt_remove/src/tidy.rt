@@ -6,7 +6,7 @@ ghost use Rattle.mt_arena.specs.Node.{border_at};
 ghost use Rattle.mt_types.specs.declared.event.Request.TheVariants.{Tidy as TidyRequest};
 ghost use Rattle.mt_calls.specs.Step.{StepLawIn, MayStepIn, nothing as nothing_held};
 ghost use Rattle.mt_remove.specs.Tidy.{tidy_request, tidy_held, TidyTruth, NewTidyIsTrue, MayTidy, IsHereBy, IsTidied};
-ghost use Rattle.mt_remove.specs.Follows.{TidyStep, TidyFollows, TidyWaits};
+ghost use Rattle.mt_remove.specs.Follows.{TidyStep, TidyFollows, TidyWaits, TidyRetires};
 
 use crate::noted::{NOTHING, Noted};
 use crate::sign::{Sign, sign_of};
@@ -157,6 +157,7 @@ impl Tidy {
         ensures tidied { IsTidied result }
         ensures waits { TidyWaits tree.old self.old result }
         ensures gets_on { TidyFollows tree.old self.old result self.new }
+        ensures retires { TidyRetires epoch tree.old tree.new self.old }
     {
         self.go(tree, epoch)
     }
