@@ -46,7 +46,7 @@ module _ (epoch : ℕ) (a : ArenaView) (tidy : Tidy) (border head parent : NodeN
 
   -- the interior doesn't name it any more, or not as a later child
   pub gives_up : IsSomeAnd (node_at a.nodes n) (λ node. None ≡ later_place node border) → TidyStep epoch a a tidy Moved (record tidy { stage = KeepsBorder border })
-  gives_up none = at_stage epoch a a tidy (Locked border head parent) Moved (record tidy { stage = KeepsBorder border }) is refl
+  gives_up none = at_stage epoch a a tidy (Locked border head parent) Moved (record tidy { stage = KeepsBorder border }) is refl refl
       (law_same epoch a tidy (Locked border head parent) Moved (record tidy { stage = KeepsBorder border }) refl (λ begun w world truth. let ((posted, e), known, held) = truth in empty_locked a w border.0 (prefix_of tidy.key tidy.way) posted e)) tt tt
       (some_by (node_at a.nodes n) _ _ (λ node e. subst (λ (o : Option ℕ). DropsBy tidy border head o Moved (record tidy { stage = KeepsBorder border })) e (refl, refl)) none)
 
@@ -124,14 +124,14 @@ module _ (epoch : ℕ) (a : ArenaView) (tidy : Tidy) (border head parent : NodeN
       where
         go : (o : Option Child) → child_at a.nodes n place ≡ o → IsSomeAnd o (λ there. there.node ≡ border) → IsSomeAnd o (λ child. KeepsAlong a after (DropsAt n child)) → TidyStep epoch a after tidy Moved (record tidy { stage = Dropped border head })
         go None read same keep = absurd same
-        go (Some child) read same keep = at_stage epoch a after tidy (Locked border head parent) Moved (record tidy { stage = Dropped border head }) is refl
+        go (Some child) read same keep = at_stage epoch a after tidy (Locked border head parent) Moved (record tidy { stage = Dropped border head }) is refl (ap (λ (x : ArenaView). x.retired) value)
             (subst (λ (x : ArenaView). StageLaw epoch a x tidy (Locked border head parent) Moved (record tidy { stage = Dropped border head })) (sym value) (drops_law child read same (subst (λ (x : ArenaView). KeepsAlong a x (DropsAt n child)) value keep))) tt tt
             (some_by (node_at a.nodes n) _ _ (λ node e. subst (λ (o : Option ℕ). DropsBy tidy border head o Moved (record tidy { stage = Dropped border head })) e (refl, refl)) found)
 
 -- ---- it is marked deleted
 module _ (epoch : ℕ) (a : ArenaView) (tidy : Tidy) (border head : NodeNo) (is : tidy.stage ≡ Dropped border head) where
   pub marks : (b : BorderView) (slice : ℕ) (after : ArenaView) → border_at a.nodes border.0 ≡ Some b → slice ≡ b.low - 1 → after ≡ with_border_changed a border.0 with_deleted → KeepsTree a after → TidyStep epoch a after tidy Moved (record tidy { stage = Marked border head head slice })
-  marks b slice after read low_is value keeps = at_stage epoch a after tidy (Dropped border head) Moved (record tidy { stage = Marked border head head slice }) is refl (record {
+  marks b slice after read low_is value keeps = at_stage epoch a after tidy (Dropped border head) Moved (record tidy { stage = Marked border head head slice }) is refl (ap (λ (x : ArenaView). x.retired) value) (record {
     steps = λ begun w world before truth.
         let (e, known) = truth in
         let prefix = prefix_of tidy.key tidy.way in
@@ -159,7 +159,7 @@ module _ (epoch : ℕ) (a : ArenaView) (tidy : Tidy) (border : NodeNo) (is : tid
   unlock b = with_lock b false
 
   pub keeps_border : (after : ArenaView) → after ≡ with_border_changed a border.0 unlock → KeepsTree a after → TidyStep epoch a after tidy (Answered (Tidied NoRule)) tidy
-  keeps_border after value keeps = at_stage epoch a after tidy (KeepsBorder border) (Answered (Tidied NoRule)) tidy is refl (record {
+  keeps_border after value keeps = at_stage epoch a after tidy (KeepsBorder border) (Answered (Tidied NoRule)) tidy is refl (ap (λ (x : ArenaView). x.retired) value) (record {
     steps = λ begun w world before at.
         let new : ArenaView = with_border_changed a border.0 unlock in
         let kept = (subst (λ (x : ArenaView). KeepsTree a x) value keeps).keeps epoch w.twins w.chart world.index in

@@ -3,5 +3,9 @@ pub mod SeekLemmas
 pub mod DropLemmas
 pub mod UnlinkLemmas
 pub mod LoneLemmas
+pub mod LayerFacts
+pub mod ClosingGoes
+pub mod HidingLemmas
+pub mod ClosingLemmas
 pub mod LawLemmas
 pub mod TidyLasts

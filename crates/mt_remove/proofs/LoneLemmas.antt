@@ -44,7 +44,7 @@ use Rattle.mt_remove.specs.declared.stage.Stage.TheVariants.{Lonely, LoneLocked,
 use Rattle.mt_remove.specs.Seen.{is_lone, place_in}
 use Rattle.mt_remove.specs.Tidy.{NamerIsKnown, IsKnownIn, IsLoneInterior, IsGoneInterior, StageLaw, MayTidy}
 use Rattle.mt_remove.specs.Follows.{IsRootOf, LocksBy, BypassesBy, FollowsNamer, TidyStep}
-use Rattle.mt_remove.proofs.StageLemmas.{at_stage, true_at, law_same, holds_known, known_there, IsSeen, IsSeenLone, named_so, place_seen, lone_seen, some_by}
+use Rattle.mt_remove.proofs.StageLemmas.{at_stage, none_retired, true_at, law_same, holds_known, known_there, IsSeen, IsSeenLone, named_so, place_seen, lone_seen, some_by}
 
 -- ---- it is locked
 module _ (epoch : ℕ) (a : ArenaView) (tidy : Tidy) (lone : Lone) (is : tidy.stage ≡ Lonely lone) where
@@ -59,7 +59,7 @@ module _ (epoch : ℕ) (a : ArenaView) (tidy : Tidy) (lone : Lone) (is : tidy.st
 
   -- it has not the one child that was noted
   pub ends : IsSomeAnd (node_at a.nodes p) (λ node. false ≡ is_lone node lone.child) → TidyStep epoch a a tidy (Answered (Tidied NoRule)) tidy
-  ends other = at_stage epoch a a tidy (Lonely lone) (Answered (Tidied NoRule)) tidy is refl (law_same epoch a tidy (Lonely lone) (Answered (Tidied NoRule)) tidy refl (λ begun w world truth. tt)) tt tt
+  ends other = at_stage epoch a a tidy (Lonely lone) (Answered (Tidied NoRule)) tidy is refl refl (law_same epoch a tidy (Lonely lone) (Answered (Tidied NoRule)) tidy refl (λ begun w world truth. tt)) tt tt
       (some_by (node_at a.nodes p) _ _ (λ node e. subst (λ (b : Bool). LocksBy tidy lone b (Answered (Tidied NoRule)) tidy) e refl) other)
 
   module _ (found : IsSomeAnd (node_at a.nodes p) (λ node. true ≡ is_lone node lone.child)) where
@@ -99,7 +99,7 @@ module _ (epoch : ℕ) (a : ArenaView) (tidy : Tidy) (lone : Lone) (is : tidy.st
     }
 
     pub locks : (after : ArenaView) → after ≡ new → KeepsTree a after → TidyStep epoch a after tidy Moved (record tidy { stage = LoneLocked lone })
-    locks after value keeps = at_stage epoch a after tidy (Lonely lone) Moved (record tidy { stage = LoneLocked lone }) is refl
+    locks after value keeps = at_stage epoch a after tidy (Lonely lone) Moved (record tidy { stage = LoneLocked lone }) is refl (ap (λ (x : ArenaView). x.retired) value)
         (subst (λ (x : ArenaView). StageLaw epoch a x tidy (Lonely lone) Moved (record tidy { stage = LoneLocked lone })) (sym value) (locks_law (subst (λ (x : ArenaView). KeepsTree a x) value keeps))) tt tt
         (some_by (node_at a.nodes p) _ _ (λ node e. subst (λ (b : Bool). LocksBy tidy lone b Moved (record tidy { stage = LoneLocked lone })) e (refl, refl)) found)
 
@@ -145,7 +145,7 @@ module _ (epoch : ℕ) (a : ArenaView) (tidy : Tidy) (lone : Lone) (is : tidy.st
     parent_there may = let (l, namer) = true_at epoch a tidy (LoneLocked lone) is may in known_there a epoch may.begun may.w m (prefix_of tidy.key tidy.way) may.world (known_parent may.begun may.w namer)
 
     pub gives_up : IsSomeAnd (node_at a.nodes m) (λ node. None ≡ place_in node lone.interior) → TidyStep epoch a a tidy Moved (record tidy { stage = KeepsInterior lone.interior })
-    gives_up none = at_stage epoch a a tidy (LoneLocked lone) Moved (record tidy { stage = KeepsInterior lone.interior }) is refl gives_law tt tt
+    gives_up none = at_stage epoch a a tidy (LoneLocked lone) Moved (record tidy { stage = KeepsInterior lone.interior }) is refl refl gives_law tt tt
         (subst (λ (n : Namer). FollowsNamer a tidy lone.interior n Moved (record tidy { stage = KeepsInterior lone.interior })) (sym by)
         (some_by (node_at a.nodes m) _ _ (λ node e. subst (λ (o : Option ℕ). BypassesBy tidy lone.interior o Moved (record tidy { stage = KeepsInterior lone.interior })) e (refl, refl)) none))
 
@@ -224,7 +224,7 @@ module _ (epoch : ℕ) (a : ArenaView) (tidy : Tidy) (lone : Lone) (is : tidy.st
               cc
 
       pub bypasses : (after : ArenaView) → IsSomeAnd (child_at a.nodes q 0) (λ child. after ≡ with_interior_changed a m (λ x. with_bypass x place child.node child.level)) → KeepsAlong a after (BypassesAt m q) → TidyStep epoch a after tidy Moved (record tidy { stage = Bypassed lone.interior ChildRule })
-      bypasses after value keeps = at_stage epoch a after tidy (LoneLocked lone) Moved (record tidy { stage = Bypassed lone.interior ChildRule }) is refl (go (child_at a.nodes q 0) value) tt tt
+      bypasses after value keeps = at_stage epoch a after tidy (LoneLocked lone) Moved (record tidy { stage = Bypassed lone.interior ChildRule }) is refl (none_retired (child_at a.nodes q 0) a after _ (λ child. refl) value) (go (child_at a.nodes q 0) value) tt tt
           (subst (λ (n : Namer). FollowsNamer a tidy lone.interior n Moved (record tidy { stage = Bypassed lone.interior ChildRule })) (sym by)
           (some_by (node_at a.nodes m) _ _ (λ node e. subst (λ (o : Option ℕ). BypassesBy tidy lone.interior o Moved (record tidy { stage = Bypassed lone.interior ChildRule })) e (refl, refl)) found))
         where
@@ -245,7 +245,7 @@ module _ (epoch : ℕ) (a : ArenaView) (tidy : Tidy) (lone : Lone) (is : tidy.st
     top_there may = let (l, namer) = true_at epoch a tidy (LoneLocked lone) is may in head_there a may.w may.begun n (prefix_of tidy.key tidy.way) epoch may.world (known_head may.begun may.w namer)
 
     pub root_lost : (h : HeadView) → head_at a.nodes n ≡ Some h → (IsRootOf lone.interior h → ⊥) → TidyStep epoch a a tidy Moved (record tidy { stage = KeepsInterior lone.interior })
-    root_lost h named lost = at_stage epoch a a tidy (LoneLocked lone) Moved (record tidy { stage = KeepsInterior lone.interior }) is refl gives_law tt tt
+    root_lost h named lost = at_stage epoch a a tidy (LoneLocked lone) Moved (record tidy { stage = KeepsInterior lone.interior }) is refl refl gives_law tt tt
         (subst (λ (x : Namer). FollowsNamer a tidy lone.interior x Moved (record tidy { stage = KeepsInterior lone.interior })) (sym by)
         (subst (λ (o : Option HeadView). IsSomeAnd o (λ v. (IsRootOf lone.interior v × ((Moved ≡ Moved) × (record tidy { stage = KeepsInterior lone.interior } ≡ record tidy { stage = Bypassed lone.interior RootRule }))) ⊎ ((IsRootOf lone.interior v → ⊥) × ((Moved ≡ Moved) × (record tidy { stage = KeepsInterior lone.interior } ≡ record tidy { stage = KeepsInterior lone.interior }))))) (sym named) (inr (lost, (refl, refl)))))
 
@@ -308,7 +308,7 @@ module _ (epoch : ℕ) (a : ArenaView) (tidy : Tidy) (lone : Lone) (is : tidy.st
           }
 
       pub bypasses_root : (after : ArenaView) → IsSomeAnd (child_at a.nodes q 0) (λ child. after ≡ with_head_changed a n (λ x. with_root x child.node child.level)) → KeepsAlong a after (BypassesRootAt n q) → TidyStep epoch a after tidy Moved (record tidy { stage = Bypassed lone.interior RootRule })
-      bypasses_root after value keeps = at_stage epoch a after tidy (LoneLocked lone) Moved (record tidy { stage = Bypassed lone.interior RootRule }) is refl (go (child_at a.nodes q 0) value) tt tt
+      bypasses_root after value keeps = at_stage epoch a after tidy (LoneLocked lone) Moved (record tidy { stage = Bypassed lone.interior RootRule }) is refl (none_retired (child_at a.nodes q 0) a after _ (λ child. refl) value) (go (child_at a.nodes q 0) value) tt tt
           (subst (λ (x : Namer). FollowsNamer a tidy lone.interior x Moved (record tidy { stage = Bypassed lone.interior RootRule })) (sym by)
           (subst (λ (o : Option HeadView). IsSomeAnd o (λ v. (IsRootOf lone.interior v × ((Moved ≡ Moved) × (record tidy { stage = Bypassed lone.interior RootRule } ≡ record tidy { stage = Bypassed lone.interior RootRule }))) ⊎ ((IsRootOf lone.interior v → ⊥) × ((Moved ≡ Moved) × (record tidy { stage = Bypassed lone.interior RootRule } ≡ record tidy { stage = KeepsInterior lone.interior }))))) (sym named) (inl (root, (refl, refl)))))
         where
@@ -330,7 +330,7 @@ module _ (epoch : ℕ) (a : ArenaView) (tidy : Tidy) (interior : NodeNo) (rule :
 
   pub retires : (one two after : ArenaView) → one ≡ with_interior_changed a g mark → KeepsTree a one → two ≡ with_interior_changed one g unlock → IsSomeAnd (interior_at one.nodes g) (λ x. KeepsWhere one two (λ chart. IsNotGone chart g ⊎ (x.version.deleted ≡ true))) → after ≡ with_retired two interior epoch → KeepsTree two after
       → TidyStep epoch a after tidy (Answered (Tidied rule)) tidy
-  retires one two after marked keeps unlocked keeps_two retired keeps_last = at_stage epoch a after tidy (Bypassed interior rule) (Answered (Tidied rule)) tidy is refl (record {
+  retires one two after marked keeps unlocked keeps_two retired keeps_last = at_stage epoch a after tidy (Bypassed interior rule) (Answered (Tidied rule)) tidy is refl (ap (λ (x : ArenaView). x.retired) (retired ∙ ap (λ (x : ArenaView). with_retired x interior epoch) (unlocked ∙ ap (λ (x : ArenaView). with_interior_changed x g unlock) marked))) (record {
     steps = λ begun w world before t.
         let first_new : ArenaView = with_interior_changed a g mark in
         let new : ArenaView = with_interior_changed first_new g unlock in
@@ -359,7 +359,7 @@ module _ (epoch : ℕ) (a : ArenaView) (tidy : Tidy) (interior : NodeNo) (is : t
   open_it x = with_lock x false
 
   pub keeps_interior : (after : ArenaView) → after ≡ with_interior_changed a interior.0 open_it → IsSomeAnd (interior_at a.nodes interior.0) (λ x. KeepsWhere a after (λ chart. IsNotGone chart interior.0 ⊎ (x.version.deleted ≡ true))) → TidyStep epoch a after tidy (Answered (Tidied NoRule)) tidy
-  keeps_interior after value keeps = at_stage epoch a after tidy (KeepsInterior interior) (Answered (Tidied NoRule)) tidy is refl (record {
+  keeps_interior after value keeps = at_stage epoch a after tidy (KeepsInterior interior) (Answered (Tidied NoRule)) tidy is refl (ap (λ (x : ArenaView). x.retired) value) (record {
     steps = λ begun w world before l.
         let n : ℕ = interior.0 in
         let new : ArenaView = with_interior_changed a n open_it in

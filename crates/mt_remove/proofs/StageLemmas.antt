@@ -3,9 +3,10 @@ use Rattle.std.proofs.Common.{ℕ, ◌≡◌, List, [], ◌∷◌, length, Optio
 use Rattle.std.specs.Prelude.{IsSomeAnd, if◌then◌else◌}
 use Rattle.std.specs.Option.{option_and_then}
 use Rattle.mt_types.specs.declared.numbers.NodeNo.{NodeNo}
+use Rattle.mt_border.specs.Border.{BorderView}
 use Rattle.mt_interior.specs.Interior.{InteriorView}
 use Rattle.mt_interior.specs.declared.child.Child.{Child}
-use Rattle.mt_arena.specs.Node.{node_at, interior_at, interior_of}
+use Rattle.mt_arena.specs.Node.{node_at, interior_at, interior_of, border_at, border_of}
 use Rattle.mt_arena.specs.Arena.{ArenaView}
 use Rattle.mt_arena.specs.declared.node.Node.{Node}
 use Rattle.mt_arena.specs.declared.node.Node.TheVariants.{Head, Interior, Border}
@@ -19,19 +20,25 @@ use Rattle.mt_calls.specs.Step.{left_with}
 use Rattle.mt_calls.proofs.FrameLemmas.{goes_same}
 use Rattle.mt_remove.specs.declared.tidy.Tidy.{Tidy}
 use Rattle.mt_remove.specs.declared.stage.Stage.{Stage}
-use Rattle.mt_remove.specs.Seen.{free_interior, is_only, lone_of, is_lone, place_in, not_first, later_place}
+use Rattle.mt_remove.specs.Seen.{free_interior, is_only, lone_of, is_lone, place_in, not_first, later_place, free_border, link_place}
 use Rattle.mt_remove.specs.Tidy.{stage_owns, tidy_held, StageIsTrue, IsKnownIn, IsTidied, ThenTidy, StageLaw, MayTidy}
-use Rattle.mt_remove.specs.Follows.{Follows, StageWaits, TidyStep}
+use Rattle.mt_remove.specs.Follows.{Follows, StageWaits, then_retired, TidyStep}
 
 -- ---- a step at a stage
-pub at_stage : (epoch : ℕ) (a after : ArenaView) (tidy : Tidy) (stage : Stage) (p : Progress) (next : Tidy) → tidy.stage ≡ stage → next.key ≡ tidy.key → StageLaw epoch a after tidy stage p next → IsTidied p → StageWaits a tidy stage p → Follows a tidy stage p next → TidyStep epoch a after tidy p next
-at_stage epoch a after tidy stage p next is key law tidied waits follows = record {
+pub at_stage : (epoch : ℕ) (a after : ArenaView) (tidy : Tidy) (stage : Stage) (p : Progress) (next : Tidy) → tidy.stage ≡ stage → next.key ≡ tidy.key → after.retired ≡ then_retired epoch stage a.retired → StageLaw epoch a after tidy stage p next → IsTidied p → StageWaits a tidy stage p → Follows a tidy stage p next → TidyStep epoch a after tidy p next
+at_stage epoch a after tidy stage p next is key retires law tidied waits follows = record {
   key = key;
   law = subst (λ (s : Stage). StageLaw epoch a after tidy s p next) (sym is) law;
   tidied = tidied;
   waits = subst (λ (s : Stage). StageWaits a tidy s p) (sym is) waits;
   follows = subst (λ (s : Stage). Follows a tidy s p next) (sym is) follows;
+  retires = subst (λ (s : Stage). after.retired ≡ then_retired epoch s a.retired) (sym is) retires;
 }
+
+-- a change of a node, by what was read, retires nothing
+pub none_retired : {T : Type 0} (o : Option T) (a after : ArenaView) (change : T → ArenaView) → ((x : T) → (change x).retired ≡ a.retired) → IsSomeAnd o (λ x. after ≡ change x) → after.retired ≡ a.retired
+none_retired None a after change same h = absurd h
+none_retired (Some x) a after change same h = ap (λ (v : ArenaView). v.retired) h ∙ same x
 
 -- what is true of the stage where it is
 pub true_at : (epoch : ℕ) (a : ArenaView) (tidy : Tidy) (stage : Stage) → tidy.stage ≡ stage → (may : MayTidy epoch a tidy) → StageIsTrue may.begun tidy.key tidy.way stage a may.w
@@ -118,6 +125,41 @@ lone_seen (Some node) child h = go (free_interior node) refl h
     go (Some i) e lone =
         let (is, alive, unlocked) = free_is node i e in
         record { seen = record { i = i; is = ap Some is; alive = alive; unlocked = unlocked }; one = only_one child i.children lone }
+
+-- ---- what is seen of a border
+pub record IsSeenBorder (o : Option Node) : Type 0 where
+  pub b : BorderView
+  pub is : o ≡ Some (Border b)
+  pub alive : b.version.deleted ≡ false
+  pub unlocked : b.version.locked ≡ false
+
+pub border_named : (a : ArenaView) (number : ℕ) (s : IsSeenBorder (node_at a.nodes number)) → border_at a.nodes number ≡ Some s.b
+border_named a number s = ap (option_and_then border_of) s.is
+
+pub free_border_is : (node : Node) (b : BorderView) → free_border node ≡ Some b → (node ≡ Border b) × (b.version.deleted ≡ false) × (b.version.locked ≡ false)
+free_border_is (Head h) b e = absurd (let clash : ◌≡◌ {A = Option BorderView} None (Some b) = e in cc)
+free_border_is (Interior i) b e = absurd (let clash : ◌≡◌ {A = Option BorderView} None (Some b) = e in cc)
+free_border_is (Border c) b e = go c.version.deleted c.version.locked refl refl e
+  where
+    same : (x y : BorderView) → ◌≡◌ {A = Option BorderView} (Some x) (Some y) → x ≡ y
+    same x y e = cc
+
+    go : (deleted locked : Bool) → c.version.deleted ≡ deleted → c.version.locked ≡ locked → (if deleted then None else (if locked then None else Some c)) ≡ Some b → (Border c ≡ Border b) × (b.version.deleted ≡ false) × (b.version.locked ≡ false)
+    go true locked d l e = absurd (let clash : ◌≡◌ {A = Option BorderView} None (Some b) = e in cc)
+    go false true d l e = absurd (let clash : ◌≡◌ {A = Option BorderView} None (Some b) = e in cc)
+    go false false d l e = let is = same c b e in (ap Border is, ap (λ (x : BorderView). x.version.deleted) (sym is) ∙ d, ap (λ (x : BorderView). x.version.locked) (sym is) ∙ l)
+
+border_placed : (f : BorderView → Option ℕ) (o : Option BorderView) (place : ℕ) → option_and_then f o ≡ Some place → (b : BorderView) × (o ≡ Some b)
+border_placed f None place e = absurd (let clash : ◌≡◌ {A = Option ℕ} None (Some place) = e in cc)
+border_placed f (Some b) place e = (b, refl)
+
+-- a link was found in it
+pub link_seen : (o : Option Node) (rest : List ℕ) (head : NodeNo) (place : ℕ) → IsSomeAnd o (λ node. Some place ≡ link_place rest node head) → IsSeenBorder o
+link_seen None rest head place h = absurd h
+link_seen (Some node) rest head place h =
+    let (b, free) = border_placed _ (free_border node) place (sym h) in
+    let (is, alive, unlocked) = free_border_is node b free in
+    record { b = b; is = ap Some is; alive = alive; unlocked = unlocked }
 
 -- a fact about a node that is so by another
 pub some_by : {T : Type 0} (o : Option T) (P Q : T → Type 0) → ((x : T) → P x → Q x) → IsSomeAnd o P → IsSomeAnd o Q

@@ -1,22 +1,25 @@
 -- What others' steps leave of a tidy, what a tidy owns, and since when an interior that it has bypassed is gone.
 use Rattle.std.proofs.Common.{ℕ, suc, ◌≡◌, ◌≤◌, inl, inr, List, [], ◌∷◌, Option, Some, None, IsSome, Bool, true, false, refl, sym, ap, subst, ◌∙◌}
+use Rattle.std.specs.Prelude.{IsSomeAnd}
 use Rattle.std.specs.Option.{option_and_then}
 use Rattle.mt_types.specs.declared.numbers.NodeNo.{NodeNo}
 use Rattle.mt_slice.specs.Place.{slices_above}
 use Rattle.mt_border.specs.Border.{BorderView}
+use Rattle.mt_interior.specs.Head.{HeadView}
 use Rattle.mt_interior.specs.Interior.{InteriorView}
-use Rattle.mt_arena.specs.Node.{interior_at, interior_of, border_at, border_of}
+use Rattle.mt_arena.specs.Node.{head_of, interior_at, interior_of, border_at, border_of}
 use Rattle.mt_arena.specs.Arena.{ArenaView}
 use Rattle.mt_arena.specs.declared.node.Node.{Node}
 use Rattle.mt_arena.proofs.NodeLemmas.{node-from_interior, node-from_border}
-use Rattle.mt_chart.specs.Tree.{Among, first, later}
-use Rattle.mt_chart.specs.Chart.{top, at_level, on, gone, Spot, spot, Evolves}
+use Rattle.mt_chart.specs.Tree.{Among, first, later, head as plain_head, interior as plain_interior, Node as PlainNode}
+use Rattle.mt_chart.specs.Chart.{top, at_level, gone, Spot, spot, Evolves}
 use Rattle.mt_chart.specs.Steps.{NoTwin}
 use Rattle.mt_chart.proofs.HeldNodes.{holds_kept}
 use Rattle.mt_chart.proofs.Walk.{known_kept}
-use Rattle.mt_tree.specs.InteriorSteps.{IsInLayer}
+use Rattle.mt_tree.specs.Seen.{head_seen}
+use Rattle.mt_tree.proofs.SeenLemmas.{seen-head}
 use Rattle.mt_calls.specs.World.{World, IsWorld, IsLocked, IsTaken, IsSame, IsLockedBorder, GoneSince}
-use Rattle.mt_calls.specs.Way.{prefix_of, IsOnWay, IsHeadOf}
+use Rattle.mt_calls.specs.Way.{prefix_of, IsHeadOf}
 use Rattle.mt_calls.specs.declared.way.Way.{Way}
 use Rattle.mt_calls.proofs.CollectLemmas.{border_no, on_no, only_since}
 use Rattle.mt_remove.specs.declared.noted.Came.{Came}
@@ -26,9 +29,10 @@ use Rattle.mt_remove.specs.declared.noted.Namer.TheVariants.{Head as NamedByHead
 use Rattle.mt_remove.specs.declared.noted.Lone.{Lone}
 use Rattle.mt_remove.specs.declared.noted.Noted.{Noted}
 use Rattle.mt_remove.specs.declared.tidy.Tidy.{Tidy}
+use Rattle.mt_remove.specs.declared.stage.Layer.{Layer}
 use Rattle.mt_remove.specs.declared.stage.Stage.{Stage}
-use Rattle.mt_remove.specs.declared.stage.Stage.TheVariants.{Seeks, Locked, Dropped, Marked, Unlinked, Lonely, LoneLocked, Bypassed, KeepsBorder, KeepsInterior}
-use Rattle.mt_remove.specs.Tidy.{stage_owns, tidy_held, IsKnownIn, NamerIsKnown, IfLone, CameIsKnown, IfAbove, NotedIsTrue, IsEmptyBorder, IsGoneBorder, IsLoneInterior, IsGoneInterior, StageIsTrue, TidyIsTrue}
+use Rattle.mt_remove.specs.declared.stage.Stage.TheVariants.{Seeks, Locked, Dropped, Marked, Unlinked, Lonely, LoneLocked, Bypassed, RootLocked, AboveLocked, HeadMarked, RootMarked, LinkHidden, LayerGone, RootRetired, KeepsLayer, KeepsBorder, KeepsInterior}
+use Rattle.mt_remove.specs.Tidy.{stage_owns, tidy_held, IsKnownIn, NamerIsKnown, IfLone, CameIsKnown, IfAbove, NotedIsTrue, IsEmptyBorder, IsGoneBorder, IsLoneInterior, IsEmptyRoot, IsAbove, HasLayer, IsOwnHead, IsGoneHead, IsClosing, layer_owns, StageIsTrue, TidyIsTrue}
 
 -- ---- what others' steps leave
 module _ (a after : ArenaView) (w next : World) (begun : ℕ) (evolves : Evolves begun w.chart next.chart) where
@@ -85,8 +89,58 @@ module _ (a after : ArenaView) (w next : World) (begun : ℕ) (evolves : Evolves
     one = l.one;
   }
 
+  gone_stays : (number : ℕ) → IsSame a after w next number → IsGoneBorder a w number → IsGoneBorder after next number
+  gone_stays number s g = record {
+    b = g.b;
+    named = border_stays number g.b s g.named;
+    locked = g.locked;
+    prefix = g.prefix;
+    low = g.low;
+    epoch = g.epoch;
+    place = s.spot ∙ g.place;
+    free = λ i. g.free (s.closing i);
+    kept = s.retired.1 g.kept;
+  }
+
+  locked_stays : (number : ℕ) → IsSame a after w next number → IsLockedBorder a w number → IsLockedBorder after next number
+  locked_stays number s k = record { b = k.b; named = border_stays number k.b s k.named; known = subst (λ (x : Option Spot). IsSome x) (sym s.spot) k.known; locked = k.locked; free = λ i. k.free (s.closing i) }
+
+  root_stays : (number : ℕ) → IsSame a after w next number → IsEmptyRoot a w number → IsEmptyRoot after next number
+  root_stays number s e = record { b = e.b; named = border_stays number e.b s e.named; known = subst (λ (x : Option Spot). IsSome x) (sym s.spot) e.known; locked = e.locked; empty = e.empty; right = e.right }
+
+  over_stays : (number : ℕ) → IsSame a after w next number → IsAbove a w number → IsAbove after next number
+  over_stays number s u = record {
+    b = u.b;
+    named = border_stays number u.b s u.named;
+    locked = u.locked;
+    prefix = u.prefix;
+    stands = record { low = u.stands.low; posted = u.stands.posted; place = s.spot ∙ u.stands.place };
+    free = λ i. u.free (s.closing i);
+  }
+
+  link_stays : (layer : Layer) → IsSame a after w next layer.above.0 → HasLayer a w layer → HasLayer after next layer
+  unfolding over_stays
+  link_stays layer s l = record { border = over_stays layer.above.0 s l.border; slice = l.slice; linked = l.linked }
+
+  own_head_stays : (number : ℕ) → IsSame a after w next number → IsOwnHead a number → IsOwnHead after number
+  own_head_stays number s k = record { h = k.h; named = ap (option_and_then head_of) s.node ∙ k.named; marked = k.marked; unlocked = k.unlocked; kept = s.retired.1 k.kept }
+
+  gone_head_stays : (number : ℕ) → IsSame a after w next number → IsGoneHead a w number → IsGoneHead after next number
+  gone_head_stays number s k = record { head = own_head_stays number s k.head; prefix = k.prefix; low = k.low; epoch = k.epoch; place = s.spot ∙ k.place }
+
+  closing_stays : (layer : Layer) → ((number : ℕ) → Among number (layer_owns layer) → IsSame a after w next number) → IsClosing layer a w → IsClosing layer after next
+  unfolding own_head_stays
+  closing_stays layer same k = record {
+    root = root_stays layer.root.0 (same layer.root.0 (later first)) k.root;
+    above = link_stays layer (same layer.above.0 first) k.above;
+    head = own_head_stays layer.head.0 (same layer.head.0 (later (later first))) k.head;
+    names = k.names;
+    prefix = k.prefix;
+    stands = (same layer.head.0 (later (later first))).spot ∙ k.stands;
+  }
+
   stage_stays : (key : List ℕ) (way : Way) (stage : Stage) → ((number : ℕ) → Among number (stage_owns stage) → IsSame a after w next number) → StageIsTrue begun key way stage a w → StageIsTrue begun key way stage after next
-  unfolding empty_stays
+  unfolding empty_stays closing_stays root_stays
   stage_stays key way (Seeks noted) same t = (record { layer = t.0.layer; held = holds_kept begun way.node.0 _ _ w.chart next.chart evolves t.0.held }, noted_stays key way noted t.1)
   stage_stays key way (Locked border head parent) same t = let ((posted, e), known, held) = t in ((posted, empty_stays border.0 (prefix_of key way) posted (same border.0 first) e), head_stays head.0 (prefix_of key way) known, known_stays parent.0 (prefix_of key way) held)
   stage_stays key way (Dropped border head) same t = (empty_stays border.0 (prefix_of key way) false (same border.0 first) t.0, head_stays head.0 (prefix_of key way) t.1)
@@ -97,17 +151,7 @@ module _ (a after : ArenaView) (w next : World) (begun : ℕ) (evolves : Evolves
     headed = head_stays head.0 (prefix_of key way) t.headed;
     held = holds_kept begun node.0 _ _ w.chart next.chart evolves t.held;
   }
-  stage_stays key way (Unlinked border) same g = let s = same border.0 first in record {
-    b = g.b;
-    named = border_stays border.0 g.b s g.named;
-    locked = g.locked;
-    prefix = g.prefix;
-    low = g.low;
-    epoch = g.epoch;
-    place = s.spot ∙ g.place;
-    free = λ i. g.free (s.closing i);
-    kept = s.retired.1 g.kept;
-  }
+  stage_stays key way (Unlinked border) same g = gone_stays border.0 (same border.0 first) g
   stage_stays key way (Lonely lone) same t = (known_stays lone.interior.0 (prefix_of key way) t.0, namer_stays (prefix_of key way) lone.namer t.1)
   stage_stays key way (LoneLocked lone) same t = (single_stays lone.interior.0 (prefix_of key way) (same lone.interior.0 first) t.0, namer_stays (prefix_of key way) lone.namer t.1)
   stage_stays key way (Bypassed interior rule) same g = let s = same interior.0 first in record {
@@ -123,7 +167,26 @@ module _ (a after : ArenaView) (w next : World) (begun : ℕ) (evolves : Evolves
     apart = twin_stays interior.0 s g.apart;
     kept = s.retired.1 g.kept;
   }
-  stage_stays key way (KeepsBorder border) same k = let s = same border.0 first in record { b = k.b; named = border_stays border.0 k.b s k.named; known = subst (λ (x : Option Spot). IsSome x) (sym s.spot) k.known; locked = k.locked; free = λ i. k.free (s.closing i) }
+  stage_stays key way (RootLocked root head above) same t = record {
+    border = root_stays root.0 (same root.0 first) t.border;
+    free = λ i. t.free ((same root.0 first).closing i);
+    headed = head_stays head.0 (prefix_of key way) t.headed;
+    within = t.within;
+    known = above_stays key way.layer (Some above) t.known;
+  }
+  stage_stays key way (AboveLocked layer) same t = record {
+    root = root_stays layer.root.0 (same layer.root.0 (later first)) t.root;
+    free = λ i. t.free ((same layer.root.0 (later first)).closing i);
+    headed = head_stays layer.head.0 (prefix_of key way) t.headed;
+    above = link_stays layer (same layer.above.0 first) t.above;
+  }
+  stage_stays key way (HeadMarked layer) same k = closing_stays layer same k
+  stage_stays key way (RootMarked layer) same k = (closing_stays layer same k.0, k.1)
+  stage_stays key way (LinkHidden layer) same t = let (u, g, k) = t in (over_stays layer.above.0 (same layer.above.0 first) u, gone_stays layer.root.0 (same layer.root.0 (later first)) g, gone_head_stays layer.head.0 (same layer.head.0 (later (later first))) k)
+  stage_stays key way (LayerGone root head) same t = (gone_stays root.0 (same root.0 first) t.0, gone_head_stays head.0 (same head.0 (later first)) t.1)
+  stage_stays key way (RootRetired head) same k = gone_head_stays head.0 (same head.0 first) k
+  stage_stays key way (KeepsLayer layer) same t = let (u, r, apart) = t in (locked_stays layer.above.0 (same layer.above.0 first) u, locked_stays layer.root.0 (same layer.root.0 (later first)) r, apart)
+  stage_stays key way (KeepsBorder border) same k = locked_stays border.0 (same border.0 first) k
   stage_stays key way (KeepsInterior interior) same l = single_stays interior.0 (prefix_of key way) (same interior.0 first) l
 
   -- the law of others' steps: where they leave what a tidy owns, what is true of it stays true
@@ -140,6 +203,19 @@ module _ (a : ArenaView) (w : World) (begun : ℕ) where
   interior_taken n number i named locked first = inl (subst (λ (x : Option Node). IsLocked x) (sym (node-from_interior a.nodes n i named)) locked)
   interior_taken n number i named locked (later k) = elim k [ ]
 
+  among_more : (n number : ℕ) (rest : List ℕ) → (Among number (n ∷ []) → IsTaken a w number) → (Among number rest → IsTaken a w number) → Among number (n ∷ rest) → IsTaken a w number
+  among_more n number rest one more first = one first
+  among_more n number rest one more (later i) = more i
+
+  head_taken : (n number : ℕ) → IsOwnHead a n → Among number (n ∷ []) → IsTaken a w number
+  head_taken n number k first = inr (inr (record { marked = subst (λ (o : Option HeadView). IsSomeAnd o (λ h. h.version.deleted ≡ true)) (sym k.named) k.marked; kept = k.kept }))
+  head_taken n number k (later i) = elim i [ ]
+
+  closing_taken : (layer : Layer) (number : ℕ) → IsClosing layer a w → Among number (layer_owns layer) → IsTaken a w number
+  closing_taken layer number k i =
+      among_more layer.above.0 number _ (border_taken layer.above.0 number k.above.border.b k.above.border.named k.above.border.locked)
+      (among_more layer.root.0 number _ (border_taken layer.root.0 number k.root.b k.root.named k.root.locked) (head_taken layer.head.0 number k.head)) i
+
   stage_taken : (key : List ℕ) (way : Way) (stage : Stage) → StageIsTrue begun key way stage a w → (number : ℕ) → Among number (stage_owns stage) → IsTaken a w number
   stage_taken key way (Seeks noted) t number i = elim i [ ]
   stage_taken key way (Locked border head parent) t number i = let ((posted, e), known, held) = t in border_taken border.0 number e.b e.named e.locked i
@@ -149,6 +225,16 @@ module _ (a : ArenaView) (w : World) (begun : ℕ) where
   stage_taken key way (Lonely lone) t number i = elim i [ ]
   stage_taken key way (LoneLocked lone) t number i = interior_taken lone.interior.0 number t.0.i t.0.named t.0.locked i
   stage_taken key way (Bypassed interior rule) t number i = interior_taken interior.0 number t.i t.named t.locked i
+  stage_taken key way (RootLocked root head above) t number i = border_taken root.0 number t.border.b t.border.named t.border.locked i
+  stage_taken key way (AboveLocked layer) t number i = among_more layer.above.0 number _ (border_taken layer.above.0 number t.above.border.b t.above.border.named t.above.border.locked) (border_taken layer.root.0 number t.root.b t.root.named t.root.locked) i
+  stage_taken key way (HeadMarked layer) k number i = closing_taken layer number k i
+  stage_taken key way (RootMarked layer) k number i = closing_taken layer number k.0 i
+  stage_taken key way (LinkHidden layer) t number i =
+      let (u, g, k) = t in
+      among_more layer.above.0 number _ (border_taken layer.above.0 number u.b u.named u.locked) (among_more layer.root.0 number _ (border_taken layer.root.0 number g.b g.named g.locked) (head_taken layer.head.0 number k.head)) i
+  stage_taken key way (LayerGone root head) t number i = let (g, k) = t in among_more root.0 number _ (border_taken root.0 number g.b g.named g.locked) (head_taken head.0 number k.head) i
+  stage_taken key way (RootRetired head) k number i = head_taken head.0 number k.head i
+  stage_taken key way (KeepsLayer layer) t number i = let (u, r, apart) = t in among_more layer.above.0 number _ (border_taken layer.above.0 number u.b u.named u.locked) (border_taken layer.root.0 number r.b r.named r.locked) i
   stage_taken key way (KeepsBorder border) t number i = border_taken border.0 number t.b t.named t.locked i
   stage_taken key way (KeepsInterior interior) t number i = interior_taken interior.0 number t.i t.named t.locked i
 
@@ -156,6 +242,22 @@ module _ (a : ArenaView) (w : World) (begun : ℕ) where
   tidy_taken tidy truth number i = stage_taken tidy.key tidy.way tidy.stage truth number i
 
   -- ---- an interior that it owns, and that is gone, went since its begin
+  both_since : (one : ℕ) (rest : List ℕ) → GoneSince begun w (one ∷ []) → GoneSince begun w rest → GoneSince begun w (one ∷ rest)
+  both_since one rest here more number first = here number first
+  both_since one rest here more number (later i) = more number i
+
+  border_since : (now number : ℕ) (b : BorderView) → IsWorld a now w → border_at a.nodes number ≡ Some b → GoneSince begun w (number ∷ [])
+  border_since now number b world named = only_since begun w number (border_no a now w number b world named)
+
+  -- a head is no interior
+  head_since : (now number : ℕ) → IsWorld a now w → IsOwnHead a number → GoneSince begun w (number ∷ [])
+  head_since now number world k = only_since begun w number (λ below prefix low epoch place.
+      let t = world.index.tree.interiors number below prefix low (gone epoch) place in
+      absurd (let clash : ◌≡◌ {A = Option PlainNode} (Some (plain_interior t.node)) (Some (plain_head (head_seen k.h))) = sym t.is_node ∙ seen-head a number k.h k.named in cc))
+
+  closing_since : (now : ℕ) (layer : Layer) → IsWorld a now w → IsClosing layer a w → GoneSince begun w (layer_owns layer)
+  closing_since now layer world k = both_since layer.above.0 _ (border_since now layer.above.0 k.above.border.b world k.above.border.named) (both_since layer.root.0 _ (border_since now layer.root.0 k.root.b world k.root.named) (head_since now layer.head.0 world k.head))
+
   stage_since : (now : ℕ) → IsWorld a now w → (key : List ℕ) (way : Way) (stage : Stage) → StageIsTrue begun key way stage a w → GoneSince begun w (stage_owns stage)
   stage_since now world key way (Seeks noted) t = λ number i. elim i [ ]
   stage_since now world key way (Locked border head parent) t = let ((posted, e), known, held) = t in only_since begun w border.0 (border_no a now w border.0 e.b world e.named)
@@ -168,6 +270,14 @@ module _ (a : ArenaView) (w : World) (begun : ℕ) where
     where
       same_epoch : (level below low other one two : ℕ) (prefix layer : List ℕ) → ◌≡◌ {A = Option Spot} (Some (spot (at_level level) prefix low (gone one))) (Some (spot (at_level (suc below)) layer other (gone two))) → one ≡ two
       same_epoch level below low other one two prefix layer e = cc
+  stage_since now world key way (RootLocked root head above) t = border_since now root.0 t.border.b world t.border.named
+  stage_since now world key way (AboveLocked layer) t = both_since layer.above.0 _ (border_since now layer.above.0 t.above.border.b world t.above.border.named) (border_since now layer.root.0 t.root.b world t.root.named)
+  stage_since now world key way (HeadMarked layer) k = closing_since now layer world k
+  stage_since now world key way (RootMarked layer) k = closing_since now layer world k.0
+  stage_since now world key way (LinkHidden layer) t = let (u, g, k) = t in both_since layer.above.0 _ (border_since now layer.above.0 u.b world u.named) (both_since layer.root.0 _ (border_since now layer.root.0 g.b world g.named) (head_since now layer.head.0 world k.head))
+  stage_since now world key way (LayerGone root head) t = let (g, k) = t in both_since root.0 _ (border_since now root.0 g.b world g.named) (head_since now head.0 world k.head)
+  stage_since now world key way (RootRetired head) k = head_since now head.0 world k.head
+  stage_since now world key way (KeepsLayer layer) t = let (u, r, apart) = t in both_since layer.above.0 _ (border_since now layer.above.0 u.b world u.named) (border_since now layer.root.0 r.b world r.named)
   stage_since now world key way (KeepsBorder border) t = only_since begun w border.0 (border_no a now w border.0 t.b world t.named)
   stage_since now world key way (KeepsInterior interior) t = only_since begun w interior.0 (on_no begun w interior.0 _ _ _ _ t.stands.place)
 

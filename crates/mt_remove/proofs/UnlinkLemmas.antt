@@ -36,7 +36,7 @@ use Rattle.mt_remove.specs.declared.stage.Stage.{Stage}
 use Rattle.mt_remove.specs.declared.stage.Stage.TheVariants.{Marked, Unlinked}
 use Rattle.mt_remove.specs.Tidy.{stage_owns, StageIsTrue, IsUnlinking, StageLaw, MayTidy}
 use Rattle.mt_remove.specs.Follows.{TidyStep}
-use Rattle.mt_remove.proofs.StageLemmas.{at_stage, true_at, law_same}
+use Rattle.mt_remove.proofs.StageLemmas.{at_stage, none_retired, true_at, law_same}
 
 right_is : (right : Option RightLink) (low number : ℕ) → option_map right_seen right ≡ Some (record { low = low; number = number }) → right ≡ Some (record { low = low; node = record { 0 = number } })
 right_is None low number e = absurd (let clash : ◌≡◌ {A = Option Right} None (Some (record { low = low; number = number })) = e in cc)
@@ -56,7 +56,7 @@ module _ (epoch : ℕ) (a : ArenaView) (tidy : Tidy) (border head node : NodeNo)
 
   -- the node is marked deleted: it begins its way again at the head
   pub again : IsMarkedAt a n → TidyStep epoch a a tidy Waits (record tidy { stage = Marked border head head slice })
-  again marked = at_stage epoch a a tidy (Marked border head node slice) Waits (record tidy { stage = Marked border head head slice }) is refl
+  again marked = at_stage epoch a a tidy (Marked border head node slice) Waits (record tidy { stage = Marked border head head slice }) is refl refl
       (law_same epoch a tidy (Marked border head node slice) Waits (record tidy { stage = Marked border head head slice }) refl (λ begun w world u. record {
         border = u.border;
         marked = u.marked;
@@ -67,7 +67,7 @@ module _ (epoch : ℕ) (a : ArenaView) (tidy : Tidy) (border head node : NodeNo)
 
   -- it goes on
   pub goes_on : (next : NodeNo) (sought : Sought) → sought ≡ To next → Seeks a n slice sought → TidyStep epoch a a tidy Moved (record tidy { stage = Marked border head next slice })
-  goes_on next sought sought_is seeks = at_stage epoch a a tidy (Marked border head node slice) Moved (record tidy { stage = Marked border head next slice }) is refl
+  goes_on next sought sought_is seeks = at_stage epoch a a tidy (Marked border head node slice) Moved (record tidy { stage = Marked border head next slice }) is refl refl
       (law_same epoch a tidy (Marked border head node slice) Moved (record tidy { stage = Marked border head next slice }) refl (λ begun w world u. record {
         border = u.border;
         marked = u.marked;
@@ -92,7 +92,7 @@ module _ (epoch : ℕ) (a : ArenaView) (tidy : Tidy) (border head node : NodeNo)
 
     -- the border before it is locked: it waits
     pub waits : c.version.locked ≡ true → TidyStep epoch a a tidy Waits tidy
-    waits locked = let held : IsLockedAlready a n = subst (λ (o : Option BorderView). IsSomeAnd o (λ b. b.version.locked ≡ true)) (sym at.named) locked in at_stage epoch a a tidy (Marked border head node slice) Waits tidy is refl
+    waits locked = let held : IsLockedAlready a n = subst (λ (o : Option BorderView). IsSomeAnd o (λ b. b.version.locked ≡ true)) (sym at.named) locked in at_stage epoch a a tidy (Marked border head node slice) Waits tidy is refl refl
         (law_same epoch a tidy (Marked border head node slice) Waits tidy (sym (ap stage_owns is)) (λ begun w world u. subst (λ (s : Stage). StageIsTrue begun tidy.key tidy.way s a w) (sym is) u)) tt (inr held)
         (inr (inl (held, refl, refl)))
 
@@ -156,7 +156,7 @@ module _ (epoch : ℕ) (a : ArenaView) (tidy : Tidy) (border head node : NodeNo)
               cc
 
       pub unlinks_it : (after : ArenaView) → IsSomeAnd (border_at a.nodes border.0) (λ right. after ≡ with_border_changed a n (λ b. with_right b right.right)) → UnlinksAt a after n border.0 → TidyStep epoch a after tidy Moved (record tidy { stage = Unlinked border })
-      unlinks_it after value unlinks = at_stage epoch a after tidy (Marked border head node slice) Moved (record tidy { stage = Unlinked border }) is refl (go (border_at a.nodes border.0) refl value) tt tt (inr (inr (inr (refl, refl))))
+      unlinks_it after value unlinks = at_stage epoch a after tidy (Marked border head node slice) Moved (record tidy { stage = Unlinked border }) is refl (none_retired (border_at a.nodes border.0) a after _ (λ right. refl) value) (go (border_at a.nodes border.0) refl value) tt tt (inr (inr (inr (refl, refl))))
         where
           go : (o : Option BorderView) → border_at a.nodes border.0 ≡ o → IsSomeAnd o (λ right. after ≡ with_border_changed a n (λ b. with_right b right.right)) → StageLaw epoch a after tidy (Marked border head node slice) Moved (record tidy { stage = Unlinked border })
           go None read h = absurd h
@@ -168,7 +168,7 @@ module _ (epoch : ℕ) (a : ArenaView) (tidy : Tidy) (border : NodeNo) (is : tid
   unlock b = with_lock b false
 
   pub retires : (mid after : ArenaView) → mid ≡ with_border_changed a border.0 unlock → KeepsTree a mid → after ≡ with_retired mid border epoch → KeepsTree mid after → TidyStep epoch a after tidy (Answered (Tidied BorderRule)) tidy
-  retires mid after unlocked keeps retired keeps_too = at_stage epoch a after tidy (Unlinked border) (Answered (Tidied BorderRule)) tidy is refl (record {
+  retires mid after unlocked keeps retired keeps_too = at_stage epoch a after tidy (Unlinked border) (Answered (Tidied BorderRule)) tidy is refl (ap (λ (x : ArenaView). x.retired) (retired ∙ ap (λ (x : ArenaView). with_retired x border epoch) unlocked)) (record {
     steps = λ begun w world before g.
         let new : ArenaView = with_border_changed a border.0 unlock in
         let last : ArenaView = with_retired new border epoch in

@@ -2,6 +2,7 @@
 use Rattle.std.specs.Prelude.{ℕ, ◌==◌, not, if◌then◌else◌, Bool, true, false, List, length, Option, Some, None, position}
 use Rattle.mt_types.specs.declared.numbers.NodeNo.{NodeNo}
 use Rattle.mt_border.specs.Border.{BorderView}
+use Rattle.mt_border.specs.declared.entry.RightLink.{RightLink}
 use Rattle.mt_interior.specs.declared.child.Child.{Child}
 use Rattle.mt_arena.specs.declared.node.Node.{Node}
 use Rattle.mt_arena.specs.declared.node.Node.TheVariants.{Head, Interior, Border}
@@ -13,7 +14,7 @@ use Rattle.mt_remove.specs.declared.noted.Namer.TheVariants.{Head as NamedByHead
 use Rattle.mt_remove.specs.declared.noted.Lone.{Lone}
 use Rattle.mt_remove.specs.declared.noted.Noted.{Noted}
 use Rattle.mt_remove.specs.declared.sign.Sign.{Sign}
-use Rattle.mt_remove.specs.declared.sign.Sign.TheVariants.{Nothing, EmptyBorder, LoneChild}
+use Rattle.mt_remove.specs.declared.sign.Sign.TheVariants.{Nothing, EmptyBorder, LoneChild, EmptyLayer}
 
 -- ---- on the way
 -- the first of these children is the node
@@ -55,14 +56,27 @@ noted_from node way next noted =
     if not (next.layer == way.layer) then noted_below way.node next.node else noted_at node way.node next.node noted
 
 -- ---- at the place
--- the border is empty, and not the first of its layer
+-- the border is empty
 abbrev pub is_empty : BorderView → Bool
 is_empty b = length b.live == 0
 
--- the sign of an interior with one child, if one was noted
-abbrev pub lone_sign : Option Lone → Sign
-lone_sign None = Nothing
-lone_sign (Some lone) = LoneChild lone
+-- nothing is to the right of the border
+abbrev pub last_sign : Option RightLink → NodeNo → Sign
+last_sign None above = EmptyLayer above
+last_sign (Some right) above = Nothing
+
+-- an empty border that is the first and the last of its layer, reached straight from the layer's head, below a border
+abbrev pub layer_sign : BorderView → Came → Option NodeNo → Sign
+layer_sign b came None = Nothing
+layer_sign b FromHead (Some above) =
+    if is_empty b then (if b.low == 0 then last_sign b.right above else Nothing) else Nothing
+layer_sign b FromLeft (Some above) = Nothing
+layer_sign b (AsChild parent first) (Some above) = Nothing
+
+-- an interior with one child, if one was noted
+abbrev pub lone_sign : Option Lone → Sign → Sign
+lone_sign None otherwise = otherwise
+lone_sign (Some lone) otherwise = LoneChild lone
 
 -- an empty border is dropped from the interior that it was reached from, but for the first child of one, and for the
 -- first border of a layer
@@ -74,6 +88,6 @@ border_sign b (AsChild parent false) otherwise =
     if is_empty b then (if b.low == 0 then otherwise else EmptyBorder parent) else otherwise
 
 -- THE FIRST RULE WHOSE SIGNS ARE SEEN at a border, by what was noted on the way to it: an empty border; an interior
--- with one child
+-- with one child; an empty layer
 abbrev pub sign_of : BorderView → Noted → Sign
-sign_of b noted = border_sign b noted.came (lone_sign noted.lone)
+sign_of b noted = border_sign b noted.came (lone_sign noted.lone (layer_sign b noted.came noted.above))

@@ -1,11 +1,15 @@
--- What a tidy sees of an interior: whether it is still as it was noted.
+-- What a tidy sees of an interior, or of the border above a layer: whether it is still as it was noted.
 use Rattle.std.specs.Prelude.{ℕ, ◌==◌, if◌then◌else◌, Bool, false, List, [], ◌∷◌, Option, Some, None, position}
 use Rattle.std.specs.Option.{option_and_then}
 use Rattle.mt_types.specs.declared.numbers.NodeNo.{NodeNo}
+use Rattle.mt_border.specs.Border.{BorderView}
+use Rattle.mt_border.specs.declared.found.Found.{Found}
+use Rattle.mt_border.specs.declared.found.Found.TheVariants.{Absent, Row, OtherSuffix, Link}
 use Rattle.mt_interior.specs.Interior.{InteriorView}
 use Rattle.mt_interior.specs.declared.child.Child.{Child}
 use Rattle.mt_arena.specs.declared.node.Node.{Node}
 use Rattle.mt_arena.specs.declared.node.Node.TheVariants.{Head, Interior, Border}
+use Rattle.mt_tree.specs.Descent.{found_for}
 
 -- the interior that a node is, if it is neither marked deleted nor locked
 abbrev pub free_interior : Node → Option InteriorView
@@ -39,3 +43,20 @@ not_first (Some place) = if place == 0 then None else Some place
 
 abbrev pub later_place : Node → NodeNo → Option ℕ
 later_place node child = not_first (place_in node child)
+
+-- the border that a node is, if it is neither marked deleted nor locked
+abbrev pub free_border : Node → Option BorderView
+free_border (Head head) = None
+free_border (Interior i) = None
+free_border (Border b) = if b.version.deleted then None else (if b.version.locked then None else Some b)
+
+-- the place of the link to a head, if that is what was found
+abbrev pub link_to : NodeNo → Found → Option ℕ
+link_to head (Absent place) = None
+link_to head (Row place) = None
+link_to head (OtherSuffix place) = None
+link_to head (Link place found) = if found.0 == head.0 then Some place else None
+
+-- the place of such a border's link to the head, for the rest of a key
+abbrev pub link_place : List ℕ → Node → NodeNo → Option ℕ
+link_place rest node head = option_and_then (λ b. link_to head (found_for rest b.live)) (free_border node)

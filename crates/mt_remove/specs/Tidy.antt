@@ -1,19 +1,22 @@
 -- What is true of a tidy, at each of its stages, and the law of its step.
-use Rattle.std.specs.Prelude.{ℕ, ◌≡◌, ◌<◌, ◌≤◌, ◌+◌, List, [], ◌∷◌, length, Option, Some, None, Bool, true, false, IsSomeAnd}
+use Rattle.std.specs.Prelude.{ℕ, ◌≡◌, ◌≢◌, ◌<◌, ◌≤◌, ◌+◌, ◌*◌, List, [], ◌∷◌, length, slice_get, Option, Some, None, IsSome, Bool, true, false, IsSomeAnd}
 use Rattle.mt_types.specs.declared.numbers.NodeNo.{NodeNo}
 use Rattle.mt_types.specs.declared.event.Answer.TheVariants.{Tidied}
 use Rattle.mt_types.specs.declared.event.Request.{Request}
 use Rattle.mt_types.specs.declared.event.Request.TheVariants.{Tidy as TidyRequest}
 use Rattle.mt_slice.specs.Place.{slices_above}
 use Rattle.mt_border.specs.Border.{BorderView}
+use Rattle.mt_border.specs.declared.entry.Content.TheVariants.{Link}
+use Rattle.mt_interior.specs.Head.{HeadView}
 use Rattle.mt_interior.specs.Interior.{InteriorView}
-use Rattle.mt_arena.specs.Node.{node_at, interior_at, border_at}
+use Rattle.mt_arena.specs.Node.{node_at, head_at, interior_at, border_at}
 use Rattle.mt_arena.specs.Arena.{ArenaView}
 use Rattle.mt_chart.specs.Tree.{Arena}
-use Rattle.mt_chart.specs.Chart.{Role, at_level, spot, on, gone, Holds}
+use Rattle.mt_chart.specs.Chart.{Role, top, at_level, spot, on, gone, OnHead, Holds}
 use Rattle.mt_chart.specs.Walk.{Known}
 use Rattle.mt_chart.specs.Steps.{NoTwin, SameContent}
 use Rattle.mt_tree.specs.Seen.{arena_seen}
+use Rattle.mt_tree.specs.Keeping.{IsOnIn}
 use Rattle.mt_tree.specs.InteriorSteps.{IsInLayer}
 use Rattle.mt_calls.specs.declared.way.Way.{Way}
 use Rattle.mt_calls.specs.declared.progress.Progress.{Progress}
@@ -30,13 +33,17 @@ use Rattle.mt_remove.specs.declared.noted.Namer.TheVariants.{Head as NamedByHead
 use Rattle.mt_remove.specs.declared.noted.Lone.{Lone}
 use Rattle.mt_remove.specs.declared.noted.Noted.{Noted}
 use Rattle.mt_remove.specs.declared.tidy.Tidy.{Tidy}
+use Rattle.mt_remove.specs.declared.stage.Layer.{Layer}
 use Rattle.mt_remove.specs.declared.stage.Stage.{Stage}
-use Rattle.mt_remove.specs.declared.stage.Stage.TheVariants.{Seeks, Locked, Dropped, Marked, Unlinked, Lonely, LoneLocked, Bypassed, KeepsBorder, KeepsInterior}
+use Rattle.mt_remove.specs.declared.stage.Stage.TheVariants.{Seeks, Locked, Dropped, Marked, Unlinked, Lonely, LoneLocked, Bypassed, RootLocked, AboveLocked, HeadMarked, RootMarked, LinkHidden, LayerGone, RootRetired, KeepsLayer, KeepsBorder, KeepsInterior}
 
 abbrev pub tidy_request : Tidy → Request
 tidy_request tidy = TidyRequest tidy.key
 
--- ---- what a tidy owns: what it has locked
+-- ---- what a tidy owns: what it has locked, and the head that it has marked deleted, until it is retired
+abbrev pub layer_owns : Layer → List ℕ
+layer_owns layer = layer.above.0 ∷ layer.root.0 ∷ layer.head.0 ∷ []
+
 abbrev pub stage_owns : Stage → List ℕ
 stage_owns (Seeks noted) = []
 stage_owns (Locked border head parent) = border.0 ∷ []
@@ -46,6 +53,14 @@ stage_owns (Unlinked border) = border.0 ∷ []
 stage_owns (Lonely lone) = []
 stage_owns (LoneLocked lone) = lone.interior.0 ∷ []
 stage_owns (Bypassed interior rule) = interior.0 ∷ []
+stage_owns (RootLocked root head above) = root.0 ∷ []
+stage_owns (AboveLocked layer) = layer.above.0 ∷ layer.root.0 ∷ []
+stage_owns (HeadMarked layer) = layer_owns layer
+stage_owns (RootMarked layer) = layer_owns layer
+stage_owns (LinkHidden layer) = layer_owns layer
+stage_owns (LayerGone root head) = root.0 ∷ head.0 ∷ []
+stage_owns (RootRetired head) = head.0 ∷ []
+stage_owns (KeepsLayer layer) = layer.above.0 ∷ layer.root.0 ∷ []
 stage_owns (KeepsBorder border) = border.0 ∷ []
 stage_owns (KeepsInterior interior) = interior.0 ∷ []
 
@@ -142,6 +157,72 @@ pub record IsUnlinking (begun : ℕ) (a : ArenaView) (w : World) (number : ℕ) 
   pub headed : IsHeadOf w begun head prefix
   pub held : Holds w.chart begun node prefix slice
 
+-- ---- of an empty layer
+-- the call has locked a border, which is empty and has nothing to its right
+pub record IsEmptyRoot (a : ArenaView) (w : World) (number : ℕ) : Type 0 where
+  pub b : BorderView
+  pub named : border_at a.nodes number ≡ Some b
+  pub known : IsSome (w.chart number)
+  pub locked : b.version.locked ≡ true
+  pub empty : b.live ≡ []
+  pub right : b.right ≡ None
+
+-- the call has locked a border that is on, and that is not the root of a layer that is being taken out
+pub record IsAbove (a : ArenaView) (w : World) (number : ℕ) : Type 0 where
+  pub b : BorderView
+  pub named : border_at a.nodes number ≡ Some b
+  pub locked : b.version.locked ≡ true
+  pub prefix : List ℕ
+  pub stands : IsOnIn w.chart number prefix
+  pub free : NotAmong number w.closing
+
+-- such a border has the link to the layer
+pub record HasLayer (a : ArenaView) (w : World) (layer : Layer) : Type 0 where
+  pub border : IsAbove a w layer.above.0
+  pub slice : ℕ
+  pub linked : slice_get border.b.live layer.place ≡ Some (record { slice = slice; content = Link layer.head })
+
+-- the call has marked a head deleted, which is not retired
+pub record IsOwnHead (a : ArenaView) (number : ℕ) : Type 0 where
+  pub h : HeadView
+  pub named : head_at a.nodes number ≡ Some h
+  pub marked : h.version.deleted ≡ true
+  pub unlocked : h.version.locked ≡ false
+  pub kept : NotRetired a.retired number
+
+-- the same, and it is gone
+pub record IsGoneHead (a : ArenaView) (w : World) (number : ℕ) : Type 0 where
+  pub head : IsOwnHead a number
+  pub prefix : List ℕ
+  pub low : ℕ
+  pub epoch : ℕ
+  pub place : w.chart number ≡ Some (spot top prefix low (gone epoch))
+
+-- the call has locked the root of a layer, and knows its head and the border above
+pub record IsRootLocked (begun : ℕ) (key : List ℕ) (way : Way) (root head above : NodeNo)
+    (a : ArenaView) (w : World) : Type 0 where
+  pub border : IsEmptyRoot a w root.0
+  pub free : NotAmong root.0 w.closing
+  pub headed : IsHeadOf w begun head.0 (prefix_of key way)
+  pub within : 8 * way.layer ≤ length key
+  pub known : IfAbove begun key way.layer w (Some above)
+
+-- the same, and it has locked the border above
+pub record IsAboveLocked (begun : ℕ) (prefix : List ℕ) (layer : Layer) (a : ArenaView) (w : World) : Type 0 where
+  pub root : IsEmptyRoot a w layer.root.0
+  pub free : NotAmong layer.root.0 w.closing
+  pub headed : IsHeadOf w begun layer.head.0 prefix
+  pub above : HasLayer a w layer
+
+-- it has locked both, and has marked the head deleted, which is on and names the root
+pub record IsClosing (layer : Layer) (a : ArenaView) (w : World) : Type 0 where
+  pub root : IsEmptyRoot a w layer.root.0
+  pub above : HasLayer a w layer
+  pub head : IsOwnHead a layer.head.0
+  pub names : head.h.root ≡ layer.root
+  pub prefix : List ℕ
+  pub stands : OnHead w.chart layer.head.0 prefix
+
 abbrev pub StageIsTrue : ℕ → List ℕ → Way → Stage → ArenaView → World → Type 0
 StageIsTrue begun key way (Seeks noted) a w = IsOnWay begun key way w × NotedIsTrue begun key way noted w
 StageIsTrue begun key way (Locked border head parent) a w =
@@ -156,6 +237,17 @@ StageIsTrue begun key way (Lonely lone) a w = LoneIsKnown begun (prefix_of key w
 StageIsTrue begun key way (LoneLocked lone) a w =
     IsLoneInterior a w lone.interior.0 (prefix_of key way) × NamerIsKnown begun (prefix_of key way) w lone.namer
 StageIsTrue begun key way (Bypassed interior rule) a w = IsGoneInterior begun a w interior.0
+StageIsTrue begun key way (RootLocked root head above) a w = IsRootLocked begun key way root head above a w
+StageIsTrue begun key way (AboveLocked layer) a w = IsAboveLocked begun (prefix_of key way) layer a w
+StageIsTrue begun key way (HeadMarked layer) a w = IsClosing layer a w
+StageIsTrue begun key way (RootMarked layer) a w =
+    (closing : IsClosing layer a w) × (closing.root.b.version.deleted ≡ true)
+StageIsTrue begun key way (LinkHidden layer) a w =
+    IsAbove a w layer.above.0 × IsGoneBorder a w layer.root.0 × IsGoneHead a w layer.head.0
+StageIsTrue begun key way (LayerGone root head) a w = IsGoneBorder a w root.0 × IsGoneHead a w head.0
+StageIsTrue begun key way (RootRetired head) a w = IsGoneHead a w head.0
+StageIsTrue begun key way (KeepsLayer layer) a w =
+    IsLockedBorder a w layer.above.0 × IsLockedBorder a w layer.root.0 × (layer.above.0 ≢ layer.root.0)
 StageIsTrue begun key way (KeepsBorder border) a w = IsLockedBorder a w border.0
 StageIsTrue begun key way (KeepsInterior interior) a w = IsLoneInterior a w interior.0 (prefix_of key way)
 

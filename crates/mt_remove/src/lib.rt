@@ -2,6 +2,7 @@
 #![tactic(auto)]
 
 mod bypassing;
+mod closing;
 mod dropping;
 pub mod noted;
 pub mod seen;

@@ -1,11 +1,14 @@
-//! What a tidy sees of an interior: whether it is still as it was noted.
+//! What a tidy sees of an interior, or of the border above a layer: whether it is still as it was noted.
 
-ghost use Rattle.std.specs.Prelude.{◌≡◌, ◌<◌, Some, None, IsSome, IsSomeAnd, IfSome, IfNone};
-ghost use Rattle.mt_arena.specs.Node.{node_at};
+ghost use Rattle.std.specs.Prelude.{◌≡◌, ◌<◌, slice_get, Some, None, IsSome, IsSomeAnd, IfSome, IfNone};
+ghost use Rattle.mt_slice.specs.Place.{slice_number};
+ghost use Rattle.mt_border.specs.declared.entry.Content.TheVariants.{Link};
+ghost use Rattle.mt_arena.specs.Node.{node_at, border_at};
 ghost use Rattle.mt_tree.specs.InteriorSteps.{child_at};
-ghost use Rattle.mt_remove.specs.Seen.{free_interior, is_lone, place_in, later_place};
+ghost use Rattle.mt_remove.specs.Seen.{free_interior, is_lone, place_in, later_place, free_border, link_place};
 
 use mt_arena::Node;
+use mt_border::{Border, Found};
 use mt_interior::Interior;
 use mt_tree::Tree;
 use mt_types::numbers::NodeNo;
@@ -61,5 +64,39 @@ pub fn later_place(tree: &Tree, number: NodeNo, child: NodeNo) -> Option<usize>
     match place_in(tree, number, child) {
         Some(place) => { if place == 0 { None } else { Some(place) } }
         None => None,
+    }
+}
+
+// The border that a node is, if it is neither marked deleted nor locked.
+fn free_border(node: &Node) -> Option<&Border>
+    ensures some { IfSome result (λ border. free_border node.now ≡ Some border.now) }
+    ensures none { IfNone result (free_border node.now ≡ None) }
+{
+    match node {
+        Node::Border(border) => {
+            if border.is_deleted() || border.is_locked() {
+                None
+            } else {
+                Some(border)
+            }
+        }
+        Node::Head(_) | Node::Interior(_) => None,
+    }
+}
+
+/// The place of the link to a head, for what the layers above have left of a key, if the node is a border that is
+/// neither marked deleted nor locked and has that link. Searches the border.
+pub fn link_place(tree: &Tree, number: NodeNo, rest: &[u8], head: NodeNo) -> Option<usize>
+    requires { IsSome (node_at tree.now.nodes number.0) }
+    ensures value { IsSomeAnd (node_at tree.now.nodes number.0) (λ node. result ≡ link_place rest.now node head) }
+    ensures stands { IfSome result (λ place. IsSomeAnd (border_at tree.now.nodes number.0) (λ b.
+        slice_get b.live place ≡ Some (record { slice = slice_number rest.now; content = Link head }))) }
+{
+    if free_border(tree.node(number)).is_none() {
+        return None;
+    }
+    match tree.find(number, rest) {
+        Found::Link(place, top) => { if top.0 == head.0 { Some(place) } else { None } }
+        Found::Absent(_) | Found::Row(_) | Found::OtherSuffix(_) => None,
     }
 }

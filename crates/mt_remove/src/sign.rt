@@ -1,7 +1,7 @@
 //! The signs that a tidy sees at its place.
 
 ghost use Rattle.std.specs.Prelude.{◌≡◌};
-ghost use Rattle.mt_remove.specs.Noted.{lone_sign, border_sign, sign_of};
+ghost use Rattle.mt_remove.specs.Noted.{layer_sign, lone_sign, border_sign, sign_of};
 
 use crate::noted::{Came, Lone, Noted};
 use mt_border::Border;
@@ -16,15 +16,38 @@ pub enum Sign {
     EmptyBorder(NodeNo),
     /// An interior on the way has one child.
     LoneChild(Lone),
+    /// The border is empty and the only one of its layer, to which a link of this border leads.
+    EmptyLayer(NodeNo),
+}
+
+// Of an empty layer: the border is empty, the first and the last of it, and was reached straight from its head.
+fn layer_sign(border: &Border, noted: &Noted) -> Sign
+    ensures { result ≡ layer_sign border.now noted.now.came noted.now.above }
+{
+    let Some(above) = noted.above else {
+        return Sign::Nothing;
+    };
+    match noted.came {
+        Came::Head => {
+            if border.len() != 0 || border.low() != 0 {
+                return Sign::Nothing;
+            }
+            match border.right() {
+                Some(_) => Sign::Nothing,
+                None => Sign::EmptyLayer(above),
+            }
+        }
+        Came::Child { .. } | Came::Left => Sign::Nothing,
+    }
 }
 
 // Of an interior with one child, if one was noted.
-fn lone_sign(lone: Option<Lone>) -> Sign
-    ensures { result ≡ lone_sign lone }
+fn lone_sign(lone: Option<Lone>, otherwise: Sign) -> Sign
+    ensures { result ≡ lone_sign lone otherwise }
 {
     match lone {
         Some(lone) => Sign::LoneChild(lone),
-        None => Sign::Nothing,
+        None => otherwise,
     }
 }
 
@@ -32,7 +55,7 @@ fn lone_sign(lone: Option<Lone>) -> Sign
 pub fn sign_of(border: &Border, noted: &Noted) -> Sign
     ensures { result ≡ sign_of border.now noted.now }
 {
-    let otherwise = lone_sign(noted.lone);
+    let otherwise = lone_sign(noted.lone, layer_sign(border, noted));
     match noted.came {
         Came::Child {
             parent,

@@ -4,6 +4,19 @@ use crate::noted::{Lone, Noted};
 use mt_types::event::TidyRule;
 use mt_types::numbers::NodeNo;
 
+/// A layer that is being taken out.
+#[derive(Clone, Copy)]
+pub struct Layer {
+    /// The border above.
+    pub above: NodeNo,
+    /// The place of its link to the layer.
+    pub place: usize,
+    /// The head of the layer.
+    pub head: NodeNo,
+    /// Its only border.
+    pub root: NodeNo,
+}
+
 /// How far a tidy is.
 #[derive(Clone, Copy)]
 pub enum Stage {
@@ -41,6 +54,29 @@ pub enum Stage {
         interior: NodeNo,
         rule: TidyRule,
     },
+    /// It has locked the only border of a layer, an empty one. The border above is to be locked.
+    RootLocked {
+        root: NodeNo,
+        head: NodeNo,
+        above: NodeNo,
+    },
+    /// The border above is locked too, and the head is to be marked deleted.
+    AboveLocked(Layer),
+    /// The head is marked deleted, and the border is to be.
+    HeadMarked(Layer),
+    /// Both are, and the link to the layer is to be hidden.
+    RootMarked(Layer),
+    /// It is hidden, and the border above is to be unlocked.
+    LinkHidden(Layer),
+    /// The layer's border is to be retired, and then its head.
+    LayerGone {
+        root: NodeNo,
+        head: NodeNo,
+    },
+    /// The border is retired, and the head is to be.
+    RootRetired(NodeNo),
+    /// It gives up, and is to unlock the border above as it was, and then the layer's.
+    KeepsLayer(Layer),
     /// It gives up, and is to unlock the border as it was.
     KeepsBorder(NodeNo),
     /// The same of an interior.

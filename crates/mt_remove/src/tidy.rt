@@ -6,7 +6,7 @@ ghost use Rattle.mt_arena.specs.Node.{border_at};
 ghost use Rattle.mt_types.specs.declared.event.Request.TheVariants.{Tidy as TidyRequest};
 ghost use Rattle.mt_calls.specs.Step.{StepLawIn, MayStepIn, nothing as nothing_held};
 ghost use Rattle.mt_remove.specs.Tidy.{tidy_request, tidy_held, TidyTruth, NewTidyIsTrue, MayTidy, IsHereBy, IsTidied};
-ghost use Rattle.mt_remove.specs.Follows.{TidyStep, TidyFollows, TidyWaits};
+ghost use Rattle.mt_remove.specs.Follows.{TidyStep, TidyFollows, TidyWaits, TidyRetires};
 
 use crate::noted::{NOTHING, Noted};
 use crate::sign::{Sign, sign_of};
@@ -74,6 +74,15 @@ impl Tidy {
                 self.stage = Stage::Lonely(lone);
                 Progress::Moved
             }
+            Sign::EmptyLayer(above) => {
+                tree.lock_border(node);
+                self.stage = Stage::RootLocked {
+                    root: node,
+                    head: noted.head,
+                    above,
+                };
+                Progress::Moved
+            }
         }
     }
 
@@ -121,6 +130,16 @@ impl Tidy {
             Stage::Lonely(lone) => self.lock_lone(tree, epoch, lone),
             Stage::LoneLocked(lone) => self.bypass_lone(tree, epoch, lone),
             Stage::Bypassed { interior, rule } => self.retire_lone(tree, epoch, interior, rule),
+            Stage::RootLocked { root, head, above } => {
+                self.lock_above(tree, epoch, root, head, above)
+            }
+            Stage::AboveLocked(layer) => self.mark_head(tree, epoch, layer),
+            Stage::HeadMarked(layer) => self.mark_root(tree, epoch, layer),
+            Stage::RootMarked(layer) => self.hide_layer(tree, epoch, layer),
+            Stage::LinkHidden(layer) => self.unlock_above(tree, epoch, layer),
+            Stage::LayerGone { root, head } => self.retire_root(tree, epoch, root, head),
+            Stage::RootRetired(head) => self.retire_head(tree, epoch, head),
+            Stage::KeepsLayer(layer) => self.keep_layer(tree, epoch, layer),
             Stage::KeepsBorder(border) => self.keep_border(tree, epoch, border),
             Stage::KeepsInterior(interior) => self.keep_interior(tree, epoch, interior),
         }
@@ -138,6 +157,7 @@ impl Tidy {
         ensures tidied { IsTidied result }
         ensures waits { TidyWaits tree.old self.old result }
         ensures gets_on { TidyFollows tree.old self.old result self.new }
+        ensures retires { TidyRetires epoch tree.old tree.new self.old }
     {
         self.go(tree, epoch)
     }

@@ -1,7 +1,7 @@
 use Rattle.std.proofs.Common.{inl, inr, sym, subst, ◌∙◌}
 use Rattle.mt_calls.specs.declared.progress.Progress.{Progress}
 use Rattle.mt_remove.specs.Follows.{TidyStep}
-use Rattle.mt_remove.proofs.SeekLemmas.{ends, begins_lone, locks}
+use Rattle.mt_remove.proofs.SeekLemmas.{ends, begins_lone, locks, locks_root}
 use Rattle.mt_remove.proofs.tidy.Tidy.begin.Goals as goal
 
 pub returns-then-is_locked : goal.returns-then-is_locked
@@ -17,3 +17,6 @@ returns-in-EmptyBorder c = locks c.args.epoch c.args.tree.now c.args.self.now c.
 
 pub returns-in-LoneChild : goal.returns-in-LoneChild
 returns-in-LoneChild c = begins_lone c.args.epoch c.args.tree.now c.args.self.now c.args.noted c.requires.seeks c.border-border.result.now c.border-border.ensures.value c.requires.here c.in-LoneChild.lone (sym c.is_locked.ensures.value ∙ c.if-is_locked.false) (sym c.in-LoneChild.ensures)
+
+pub returns-in-EmptyLayer : goal.returns-in-EmptyLayer
+returns-in-EmptyLayer c = locks_root c.args.epoch c.args.tree.now c.args.self.now c.args.noted c.requires.seeks c.border-border.result.now c.border-border.ensures.value c.requires.here c.in-EmptyLayer.above c.lock_border-in-EmptyLayer.new.self (sym c.is_locked.ensures.value ∙ c.if-is_locked.false) (sym c.in-EmptyLayer.ensures) c.lock_border-in-EmptyLayer.ensures.value c.lock_border-in-EmptyLayer.ensures.keeps
