@@ -37,8 +37,7 @@ Each line of standard input is one of
 A REQUEST is `get KEY COLS`, `put KEY SETS`, `remove KEY`, `range START LIMIT COLS`, `tidy KEY` or `build SPEC`.
 Keys and columns are hex, `-` is empty; COLS is `all` or numbers joined by commas, SETS is `-` or COL=BYTES
 joined by commas. A SPEC is `range LO HI TEST`, where HI is a key or `none`, or `prefix KEY TEST`; a TEST is `any`,
-`equals COL BYTES` or `atleast COL NUMBER`. Other lines print `bad line`, and so do, as yet, tidy, advance
-and collect, which the index doesn't serve.
+`equals COL BYTES` or `atleast COL NUMBER`. Other lines print `bad line`.
 
 The status is 0; 1 where a line was bad; 2 for a bad command line; 3 where reading or writing failed.";
 
