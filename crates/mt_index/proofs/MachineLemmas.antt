@@ -7,12 +7,13 @@ use Rattle.mt_types.specs.declared.event.Outcome.{Outcome}
 use Rattle.mt_types.specs.declared.event.Outcome.TheVariants.{Applied, Current, Dropped, Done, Refused}
 use Rattle.mt_types.specs.declared.refusal.Refusal.{Refusal}
 use Rattle.mt_types.specs.declared.refusal.Refusal.TheVariants.{NoMemory, Spent}
-use Rattle.mt_promise.specs.History.{History, moment}
+use Rattle.mt_promise.specs.History.{History, moment, view_of}
 use Rattle.mt_commit.specs.Log.{LogView, IsLog, newest, delta_of, trimmed}
 use Rattle.mt_commit.specs.Laws.{times_held}
 use Rattle.mt_commit.specs.Holders.{with_holder, without_holder}
 use Rattle.mt_view.specs.State.{StateView}
-use Rattle.mt_views.specs.Views.{ViewsView, places, state_at, without}
+use Rattle.mt_views.specs.Views.{ViewsView, places, standing, state_at, without}
+use Rattle.mt_views.proofs.StandingLemmas.{view-of-state}
 use Rattle.mt_types.specs.declared.event.Request.{Request}
 use Rattle.std.specs.Prelude.{IsTrue, Result, Ok, Err, IfOk, IfErr, OnOk, OnErr}
 use Rattle.mt_promise.specs.Legal.{is_build as is_build_request, reads_log, begin_fault}
@@ -23,13 +24,13 @@ use Rattle.mt_works.specs.Building.{IsUpTo}
 use Rattle.mt_works.specs.Works.{request_of, IsBuiltWork}
 use Rattle.mt_index.specs.declared.calls.Call.{Call}
 use Rattle.mt_index.specs.Calls.{CallsView, IsBuiltCall, call_at, without as without_call}
-use Rattle.mt_index.specs.Viewing.{TakesView}
+use Rattle.mt_index.specs.Viewing.{TakesView, CopiesView}
 use Rattle.mt_index.specs.Stands.{MachineView, CallStands, Stands, AppliesTo, Applies, DropsView, Drops, EndsBuild, HasBounds, built_outcome, fault_of, meant_number, with_view, vacated}
 use Rattle.mt_index.proofs.ListLemmas.{total_without}
 use Rattle.mt_index.proofs.PairedLemmas.{paired-some, paired-length}
 use Rattle.mt_index.proofs.OpenLemmas.{few_open}
 use Rattle.mt_index.proofs.LogStands.{reader_counts}
-use Rattle.mt_index.proofs.ViewStands.{builds_of}
+use Rattle.mt_index.proofs.ViewStands.{builds_of, exact_at}
 use Rattle.mt_index.proofs.StepStands.{held_before, builds_before}
 use Rattle.mt_index.proofs.EventStands.{few_hold, held_reaches}
 use Rattle.mt_index.proofs.LaterStands.{seen}
@@ -59,6 +60,14 @@ room_to_pin s h st =
     let open_calls = few_open s.columns h st.legal in
     let all = paired-length (CallStands s.columns s.epoch s.tree st.w h) 0 s.calls.begun s.calls.calls (moment h).calls st.calls in
     omega (arith, few, views, open_calls, all)
+
+-- ---- a copy
+pub copies_view : (s : MachineView) (h : History) (st : Stands s h) (number : ℕ) (state : StateView) → state_at number s.views.views ≡ Some state → CopiesView s.columns (moment h) number state
+copies_view s h st number state there = record {
+  view = standing (number, state);
+  there = ap (view_of number) st.views.standing ∙ view-of-state number s.views.views state there;
+  is_its = (exact_at s.columns (moment h) number state s.views.views st.views.exact there).state;
+}
 
 -- ---- a drop
 pub drops_view : (s : MachineView) (view at : ℕ) (unpinned left : LogView) (kept : ViewsView) → option_map (λ (st : StateView). st.at) (state_at view s.views.views) ≡ Some at → unpinned ≡ record s.log { holders = without_holder at s.log.holders } → IsLog unpinned → left ≡ trimmed unpinned

@@ -4,7 +4,7 @@ use Rattle.mt_types.specs.Rows.{after}
 use Rattle.mt_types.specs.declared.row.Change.{Change}
 use Rattle.mt_types.specs.declared.row.Delta.{Delta}
 use Rattle.mt_types.specs.declared.limits.TheConstants.{MAX_VIEWS}
-use Rattle.mt_promise.specs.History.{Moment, OpenCall}
+use Rattle.mt_promise.specs.History.{Moment, OpenCall, StandingView, view_of}
 use Rattle.mt_promise.specs.Legal.{is_build}
 use Rattle.mt_commit.specs.Logged.{deltas_of}
 use Rattle.mt_commit.specs.Log.{LogView, delta_of}
@@ -24,6 +24,12 @@ pub record IsExact (C : ℕ) (m : Moment) (view : ℕ × StateView) : Type 0 whe
 abbrev pub AreExact : ℕ → Moment → List (ℕ × StateView) → Type 0
 AreExact C m [] = Unit {0}
 AreExact C m (view ∷ views) = IsExact C m view × AreExact C m views
+
+-- the state is that of the view of this number, which stands: exactly what its specification gives afresh there
+pub record CopiesView (C : ℕ) (m : Moment) (number : ℕ) (state : StateView) : Type 0 where
+  pub view : StandingView
+  pub there : view_of number m.views ≡ Some view
+  pub is_its : IsStateOf C m view state
 
 -- the views that stand are those of the history, each is exact, and a place is kept for each build that is open
 pub record ViewsStand (C : ℕ) (m : Moment) (views : ViewsView) : Type 0 where

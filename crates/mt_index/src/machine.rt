@@ -5,7 +5,8 @@ ghost use Rattle.std.specs.Option.{option_map};
 ghost use Rattle.mt_types.specs.Limits.{open_fault};
 ghost use Rattle.mt_promise.specs.History.{History, happening, moment, call_of};
 ghost use Rattle.mt_promise.specs.Legal.{begin_fault, is_build};
-ghost use Rattle.mt_views.specs.Views.{places};
+ghost use Rattle.mt_views.specs.Views.{places, state_at};
+ghost use Rattle.mt_index.specs.Viewing.{CopiesView};
 ghost use Rattle.mt_types.specs.declared.limits.TheConstants.{MAX_VIEWS};
 ghost use Rattle.mt_arena.specs.Node.{occupied};
 ghost use Rattle.mt_types.specs.declared.event.Event.TheVariants.{Collect};
@@ -33,6 +34,7 @@ use mt_types::limits::{
 use mt_types::numbers::{CallNo, PassNo, ViewNo};
 use mt_types::refusal::{NoMemory, Refusal};
 use mt_types::row::Delta;
+use mt_view::state::ViewState;
 use mt_views::views::Views;
 use mt_works::building::Building;
 use mt_works::work::{Work, work_of};
@@ -289,6 +291,24 @@ impl Machine {
         ensures fault { MatchOption (feed_fault self.now.log from limit) (IfErr result (λ refusal. refusal ≡ Refusal.NoMemory)) (λ refusal. result ≡ Err refusal) }
     {
         deltas_after(alloc, &self.log, from, limit)
+    }
+
+    /// The number of commits at which a view stands, and a copy of its state: from there on it can be taken on by deltas
+    /// elsewhere. No event happens. O(n log n) in its rows, with an allocation for each. Shares the bytes.
+    ///
+    /// # Errors
+    ///
+    /// `NoSuchView` where no such view stands. Else `NoMemory` for want of it.
+    pub fn view_copy(&self, alloc: Global, view: ViewNo) -> Result<(u64, ViewState), Refusal>
+        ensures copies { IfOk result (λ copy. (state_at view.0 self.now.views.views ≡ Some copy.1) × (copy.0 ≡ copy.1.at)) }
+        ensures exact { IfOk result (λ copy. (h : History) → Stands self.now h → CopiesView self.now.columns (moment h) view.0 copy.1) }
+        ensures fault { MatchOption (state_at view.0 self.now.views.views) (result ≡ Err Refusal.NoSuchView) (λ state. IfErr result (λ refusal. refusal ≡ Refusal.NoMemory)) }
+    {
+        let Some(at) = self.views.at(view.0) else {
+            return Err(Refusal::NoSuchView);
+        };
+        let state = self.views.copy_of(alloc, view.0)?;
+        Ok((at, state))
     }
 
     fn begin(&mut self, alloc: Global, pass: PassNo, request: &Request) -> Outcome

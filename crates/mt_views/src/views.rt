@@ -1,6 +1,6 @@
 //! The views that stand, by their numbers, and the places that open builds keep among them.
 
-ghost use Rattle.std.specs.Prelude.{◌≡◌, ◌+◌, ◌-◌, ◌<◌, ◌≤◌, ◌⊎◌, ◌↔◌, ◌++◌, [], ◌∷◌, IfOk, IfErr, IsErrOf, IsSome, IsTrue, OnOk, OnErr};
+ghost use Rattle.std.specs.Prelude.{Some, ◌≡◌, ◌+◌, ◌-◌, ◌<◌, ◌≤◌, ◌⊎◌, ◌↔◌, ◌++◌, [], ◌∷◌, IfOk, IfErr, IsErrOf, IsSome, IsTrue, OnOk, OnErr};
 ghost use Rattle.std.specs.Option.{option_map};
 ghost use Rattle.mt_types.specs.Numbers.{greatest_number};
 ghost use Rattle.mt_types.specs.declared.limits.TheConstants.{MAX_VIEWS};
@@ -8,6 +8,7 @@ ghost use Rattle.mt_promise.specs.History.{StandingView, furthest, meant_view};
 ghost use Rattle.mt_view.specs.State.{StateView, applied, page_of_state};
 ghost use Rattle.mt_views.specs.Views.{all_standing, places, slower, state_at, with_state, without};
 
+use mt_types::copying::TryCopy;
 use mt_types::key::Key;
 use mt_types::refusal::{NoMemory, Refusal};
 use mt_types::row::Delta;
@@ -191,6 +192,21 @@ impl Views {
     {
         match self.views.get(&number) {
             Some(state) => state.read(start, limit),
+            None => unreachable!(),
+        }
+    }
+
+    /// A copy of a view's state. O(n log n) in its rows, with an allocation for each. Shares the bytes.
+    ///
+    /// # Errors
+    ///
+    /// `NoMemory` where an allocation is refused.
+    pub fn copy_of(&self, alloc: Global, number: u64) -> Result<ViewState, NoMemory>
+        requires { IsSome (state_at number self.now.views) }
+        ensures { IfOk result (λ state. state_at number self.now.views ≡ Some state) }
+    {
+        match self.views.get(&number) {
+            Some(state) => state.copy(alloc),
             None => unreachable!(),
         }
     }
