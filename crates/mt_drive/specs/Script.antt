@@ -15,7 +15,6 @@ use Rattle.mt_promise.specs.History.{History, GoesOn, moment}
 use Rattle.mt_promise.specs.Legal.{Legal, held_from}
 use Rattle.mt_promise.specs.Headline.{KeepsPromise}
 use Rattle.mt_commit.specs.Logged.{deltas_of}
-use Rattle.mt_index.specs.Stands.{IsServed}
 use Rattle.mt_drive.specs.declared.fault.ScriptFault.{ScriptFault}
 use Rattle.mt_drive.specs.declared.fault.ScriptFault.TheVariants.{Read, Start, NoMemory}
 use Rattle.mt_drive.specs.declared.command.Command.{Command}
@@ -75,10 +74,9 @@ pub record Finishes (past : History) (call : CallNo) (outcome : Outcome) (h : Hi
   pub stepped : Steps past call (before ++ outcome ∷ []) h
   pub ended : goes_on outcome ≡ true → length before ≡ 999999
 
--- an event that a line says: where the index serves it, it happens; else the line is bad, and nothing happens
+-- an event that a line says
 abbrev pub Asks : Event → History → Reply → History → Type 0
-Asks event past (Came outcome) h = IsServed event × Happens past event outcome h
-Asks event past Bad h = ¬ IsServed event × (h ≡ past)
+Asks event past (Came outcome) h = Happens past event outcome h
 Asks event past _ h = ⊥
 
 -- steps of a call
@@ -101,9 +99,8 @@ open_calls past = length (moment past).calls
 
 -- a call that is begun and runs alone: where others are open, nothing happens
 abbrev pub RunsAlone : Event → History → Reply → History → Type 0
-RunsAlone event past (Came outcome) h = IsServed event × (open_calls past ≡ 0) × Runs event past outcome h
-RunsAlone event past Busy h = IsServed event × (0 < open_calls past) × (h ≡ past)
-RunsAlone event past Bad h = ¬ IsServed event × (h ≡ past)
+RunsAlone event past (Came outcome) h = (open_calls past ≡ 0) × Runs event past outcome h
+RunsAlone event past Busy h = (0 < open_calls past) × (h ≡ past)
 RunsAlone event past _ h = ⊥
 
 -- after so many commits the log of an index begins that keeps this many for nobody: it has all that is held, and the last ones

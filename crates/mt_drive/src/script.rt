@@ -6,7 +6,7 @@ ghost use Rattle.mt_types.specs.Limits.{open_fault};
 ghost use Rattle.mt_types.specs.declared.refusal.Refusal.{Refusal};
 ghost use Rattle.mt_types.specs.declared.event.Event.TheVariants.{Begin, Step};
 ghost use Rattle.mt_promise.specs.History.{History};
-ghost use Rattle.mt_index.specs.Stands.{Stands, IsServed};
+ghost use Rattle.mt_index.specs.Stands.{Stands};
 ghost use Rattle.mt_drive.specs.Commands.{command_of};
 ghost use Rattle.mt_drive.specs.Machine.{Leads, IsAsBefore};
 ghost use Rattle.mt_drive.specs.Script.{goes_on, reply_lines, bad_lines, start_fault, Happens, Finishes, Runs, RunsAlone, Asks, Feeds, Answers, Played, Broke};
@@ -20,7 +20,7 @@ use crate::fault::{LineError, ScriptFault};
 use crate::replies::reply_text;
 use crate::sink::Sink;
 use crate::source::Source;
-use mt_index::machine::{Machine, is_served};
+use mt_index::machine::Machine;
 use mt_index::options::Options;
 use mt_types::event::{Event, Outcome, Request};
 use mt_types::items::Items;
@@ -60,21 +60,16 @@ fn finish(machine: &mut Machine, alloc: Global, call: CallNo) -> Outcome
     step(machine, alloc, call)
 }
 
-// One event, where the index serves it.
+// One event.
 fn ask(machine: &mut Machine, alloc: Global, event: &Event) -> Reply
     ensures stands { Leads machine.old (λ past h. Asks event.now past result h) machine.new }
     ensures options { IsAsBefore machine.old machine.new }
 {
-    if is_served(event) {
-        Reply::Came(machine.event(alloc, event))
-    } else {
-        Reply::Bad
-    }
+    Reply::Came(machine.event(alloc, event))
 }
 
 // A begin, and then the steps of its call up to its end.
 fn run_through(machine: &mut Machine, alloc: Global, event: &Event) -> Outcome
-    requires { IsServed event.now }
     ensures stands { Leads machine.old (λ past h. Runs event.now past result h) machine.new }
     ensures options { IsAsBefore machine.old machine.new }
 {
@@ -84,16 +79,13 @@ fn run_through(machine: &mut Machine, alloc: Global, event: &Event) -> Outcome
     }
 }
 
-// A call by pass 0, where no other is open and the index serves it.
+// A call by pass 0, where no other is open.
 fn alone(machine: &mut Machine, alloc: Global, request: Request) -> Reply
     ensures stands { Leads machine.old
         (λ past h. RunsAlone (Begin (record { 0 = 0 }) request) past result h) machine.new }
     ensures options { IsAsBefore machine.old machine.new }
 {
     let event = Event::Begin(PassNo(0), request);
-    if !is_served(&event) {
-        return Reply::Bad;
-    }
     if machine.open_calls() > 0 {
         return Reply::Busy;
     }
@@ -193,7 +185,7 @@ fn start_fault(refusal: Refusal) -> ScriptFault
 ///
 /// A line is `begin PASS REQUEST`, `step CALL`, `finish CALL` or `alone REQUEST`, `apply VIEW`, `view VIEW FLOOR START LIMIT` or
 /// `drop VIEW`, `advance`, `collect`, or `feed FROM LIMIT`, which is answered by a line for each delta. A line of other
-/// bytes, or of what the index doesn't serve yet, is answered `bad line`. What a line says and how an outcome is written
+/// bytes is answered `bad line`. What a line says and how an outcome is written
 /// is told in `commands`, `reading` and `showing`. `finish` and `alone` make at
 /// most 1,000,000 steps.
 ///

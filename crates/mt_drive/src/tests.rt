@@ -103,8 +103,8 @@ const RUNS: [Run; 8] = [
     Run {
         columns: 1,
         script: b"st\xffp 1\n\nstep  1\nbegin 1 tidy 61\nstep 1\nbegin 1 get 61 1\nadvance 1",
-        written: b"bad line\nbad line\nbad line\nbad line\nrefused 9\nrefused 3\nbad line\n",
-        bad: 5,
+        written: b"bad line\nbad line\nbad line\ncall 1\nmoved\nrefused 3\nbad line\n",
+        bad: 4,
     },
 ];
 

@@ -36,7 +36,7 @@ use Rattle.mt_index.proofs.LogStands.{holds_from}
 use Rattle.mt_index.proofs.ViewStands.{all_exact_still, exact_at, exact_with, exact_without, exact_next, places_of, view_holds, moved_holds, dropped_holds, least_held}
 use Rattle.mt_index.proofs.LogStands.{slowest_is}
 use Rattle.mt_index.proofs.StepStands.{held_before}
-use Rattle.mt_index.proofs.EventStands.{all_later, same_stands}
+use Rattle.mt_index.proofs.LaterStands.{all_later, same_stands}
 use Rattle.mt_index.proofs.ViewEvents.{changed_stands}
 
 abbrev Views : Type 0
@@ -127,10 +127,10 @@ none_is : (o : Option StandingView) → option_map (λ (v : StandingView). v.num
 none_is None is = refl
 none_is (Some v) is = absurd (let clash : ◌≡◌ {A = Option ℕ} (Some v.number) None = is in cc)
 
-if_behind : (a b : ℕ) (P Q : Type 0) → a < b → P → MatchBool (nat_lt a b) P Q
+pub if_behind : (a b : ℕ) (P Q : Type 0) → a < b → P → MatchBool (nat_lt a b) P Q
 if_behind a b P Q less p = elim (leb_tells (suc a) b) [ inl t ↦ subst (λ (t : Bool). MatchBool t P Q) (sym t.0) p | inr t ↦ absurd (let no = t.1 in omega (arith, less, no)) ]
 
-if_current : (a b : ℕ) (P Q : Type 0) → b ≤ a → Q → MatchBool (nat_lt a b) P Q
+pub if_current : (a b : ℕ) (P Q : Type 0) → b ≤ a → Q → MatchBool (nat_lt a b) P Q
 if_current a b P Q up q = elim (leb_tells (suc a) b) [ inl t ↦ absurd (let no = t.1 in omega (arith, up, no)) | inr t ↦ subst (λ (t : Bool). MatchBool t P Q) (sym t.0) q ]
 
 module _ (s : MachineView) (h : History) (st : Stands s h) where
@@ -164,10 +164,10 @@ module _ (s : MachineView) (h : History) (st : Stands s h) where
 
   -- an apply that changes nothing
   apply_current : (asked : ViewNo) → MayApply (moment h) asked.0 (meant_view asked.0 (moment h).views) Current → Stands s (happening (Apply asked) Current 0 ∷ h)
-  apply_current asked may = same_stands s h (happening (Apply asked) Current 0) st may refl refl refl refl refl
+  apply_current asked may = same_stands s h (happening (Apply asked) Current 0) st may refl refl refl refl refl refl
 
   apply_refused : (asked : ViewNo) (refusal : Refusal) → MayApply (moment h) asked.0 (meant_view asked.0 (moment h).views) (Refused refusal) → Stands s (happening (Apply asked) (Refused refusal) 0 ∷ h)
-  apply_refused asked refusal may = same_stands s h (happening (Apply asked) (Refused refusal) 0) st may refl refl refl refl refl
+  apply_refused asked refusal may = same_stands s h (happening (Apply asked) (Refused refusal) 0) st may refl refl refl refl refl refl
 
   no_view : (asked : ViewNo) → meant_number s asked.0 ≡ None → Stands s (happening (Apply asked) (none_meant asked.0) 0 ∷ h)
   no_view asked none = by_test (asked.0 == 0) refl
@@ -190,7 +190,7 @@ module _ (s : MachineView) (h : History) (st : Stands s h) where
     taken_on t outcome o =
         subst (λ (u : MachineView). Stands u (happening (Apply asked) outcome 0 ∷ h)) (sym o.is_next)
         (subst (λ (z : Outcome). Stands next (happening (Apply asked) z 0 ∷ h)) (sym o.is_outcome)
-        (changed_stands s h st x may refl refl s.calls.calls o.holders then_views (all_later s h x st refl) st.apart st.owned st.reserved views o.sound
+        (changed_stands s h st x may refl refl refl s.calls.calls o.holders then_views (all_later s h x st refl) st.apart st.owned st.reserved views o.sound
         (λ number'.
         let more = pinning_counts (state.at + 1) number' s.log.holders in
         let less = unpinning_counts state.at number' (with_holder (state.at + 1) s.log.holders) in
@@ -200,7 +200,7 @@ module _ (s : MachineView) (h : History) (st : Stands s h) where
         let old = ap (λ (vs : List StandingView). times_held number' (map (λ (v : StandingView). v.at) vs)) st.views.standing in
         let moved = moved_holds number state (applied o.delta state) s.views.views 0 s.views.built st.views.rises there number' in
         let at_is : ◌≡◌ {A = ℕ} (cond ((applied o.delta state).at == number') 1 0) (cond (state.at + 1 == number') 1 0) = ap (λ (m : ℕ). cond (m == number') 1 0) further in
-        omega (arith, more, less, before, are, now, old, moved, at_is))))
+        omega (arith, more, less, before, are, now, old, moved, at_is)) st.in_order))
       where
         then_views : ViewsView
         then_views = record s.views { views = with_state number (applied o.delta state) s.views.views }
@@ -281,7 +281,7 @@ module _ (s : MachineView) (h : History) (st : Stands s h) where
 
   pub reads-stand : (view : ViewNo) (floor : ℕ) (start : List ℕ) (limit : ℕ) (outcome : Outcome) → ReadsView s view.0 floor start limit outcome → Stands s (happening (ViewRead view floor start limit) outcome 0 ∷ h)
   reads-stand view floor start limit outcome reads =
-      same_stands s h (happening (ViewRead view floor start limit) outcome 0) st (by_fault (page_fault start limit) reads) refl refl refl refl refl
+      same_stands s h (happening (ViewRead view floor start limit) outcome 0) st (by_fault (page_fault start limit) reads) refl refl refl refl refl refl
     where
       by_fault : (fault : Option Refusal) → ReadsPage fault (state_at view.0 s.views.views) floor start limit outcome → MayReadView s.columns (moment h) fault view.0 floor start limit outcome
       by_fault (Some refusal) is = is
@@ -292,7 +292,7 @@ module _ (s : MachineView) (h : History) (st : Stands s h) where
   dropped t view outcome o =
       subst (λ (u : MachineView). Stands u (happening (ViewDrop view) outcome 0 ∷ h)) (sym o.is_next)
       (subst (λ (z : Outcome). Stands next (happening (ViewDrop view) z 0 ∷ h)) (sym o.is_outcome)
-      (changed_stands s h st x may refl refl s.calls.calls o.holders then_views (all_later s h x st refl) st.apart st.owned st.reserved views o.sound
+      (changed_stands s h st x may refl refl refl s.calls.calls o.holders then_views (all_later s h x st refl) st.apart st.owned st.reserved views o.sound
       (λ number.
       let less = unpinning_counts o.state.at number s.log.holders in
       let before = held_before s h st number in
@@ -300,7 +300,7 @@ module _ (s : MachineView) (h : History) (st : Stands s h) where
       let now = ap (λ (vs : List StandingView). times_held number (map (λ (v : StandingView). v.at) vs)) views_are in
       let old = ap (λ (vs : List StandingView). times_held number (map (λ (v : StandingView). v.at) vs)) st.views.standing in
       let left = dropped_holds view.0 o.state s.views.views 0 s.views.built st.views.rises o.there number in
-      omega (arith, less, before, are, now, old, left))))
+      omega (arith, less, before, are, now, old, left)) st.in_order))
     where
       then_views : ViewsView
       then_views = record s.views { views = without view.0 s.views.views }
@@ -333,7 +333,7 @@ module _ (s : MachineView) (h : History) (st : Stands s h) where
   pub drops-stand : (t : MachineView) (view : ViewNo) (outcome : Outcome) → Drops s view.0 outcome t → Stands t (happening (ViewDrop view) outcome 0 ∷ h)
   drops-stand t view outcome (inl (none, is, same)) =
       subst (λ (u : MachineView). Stands u (happening (ViewDrop view) outcome 0 ∷ h)) (sym same) (subst (λ (z : Outcome). Stands s (happening (ViewDrop view) z 0 ∷ h)) (sym is)
-      (same_stands s h (happening (ViewDrop view) (Refused NoSuchView) 0) st (subst (λ (z : Option StandingView). MayDrop z (Refused NoSuchView)) (sym (ap (view_of view.0) st.views.standing ∙ view-of-none view.0 s.views.views none)) refl) refl refl refl refl refl))
+      (same_stands s h (happening (ViewDrop view) (Refused NoSuchView) 0) st (subst (λ (z : Option StandingView). MayDrop z (Refused NoSuchView)) (sym (ap (view_of view.0) st.views.standing ∙ view-of-none view.0 s.views.views none)) refl) refl refl refl refl refl refl))
   drops-stand t view outcome (inr o) = dropped t view outcome o
 
   pub applies-columns : (t : MachineView) (asked : ℕ) (outcome : Outcome) → Applies s asked outcome t → t.columns ≡ s.columns

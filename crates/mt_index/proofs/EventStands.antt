@@ -46,7 +46,7 @@ use Rattle.mt_tree.specs.Seen.{head_seen}
 use Rattle.mt_tree.proofs.SeenLemmas.{seen-head}
 use Rattle.mt_index.specs.declared.calls.Call.{Call}
 use Rattle.mt_works.specs.declared.work.Work.{Work}
-use Rattle.mt_works.specs.declared.work.Work.TheVariants.{Get as GetWork, Write as WriteWork, Range as RangeWork, Build as BuildWork}
+use Rattle.mt_works.specs.declared.work.Work.TheVariants.{Get as GetWork, Write as WriteWork, Range as RangeWork, Tidy as TidyWork, Build as BuildWork}
 use Rattle.mt_slice.specs.Place.{Place}
 use Rattle.mt_calls.specs.declared.progress.Progress.{Progress}
 use Rattle.mt_calls.specs.declared.progress.Progress.TheVariants.{Moved, Waits, Committed, Answered, Refused}
@@ -76,12 +76,13 @@ use Rattle.mt_index.specs.Paired.{Paired}
 use Rattle.mt_index.specs.Calls.{CallsView, call_at, with_changed, with_work, without, total, all_reserved, StepsCall, MayStepOf, IsBuiltCall}
 use Rattle.mt_index.specs.Stands.{MachineView, CallStands, WasBlocked, HasRowsOf, IsPast, Stands, HasBounds, StepsOpen, Steps, holding, pinned, placed, log_after, views_after, outcome_of, calls_after, Begins, fault_of, with_call}
 use Rattle.mt_index.proofs.NumberLemmas.{Entries}
-use Rattle.mt_index.proofs.PairedLemmas.{Found, paired-some, paired-none, paired-above, paired-append, paired-length}
-use Rattle.mt_index.proofs.ListLemmas.{reserves, among_before, among_append, total_append, total_changed, total_without, without_changed}
+use Rattle.mt_index.proofs.PairedLemmas.{Found, paired-some, paired-none, paired-above, paired-append, paired-length, paired-each}
+use Rattle.mt_index.proofs.ListLemmas.{reserves, among_before, among_append, total_append, total_changed, total_without, without_changed, order_append, order_changed, order_without}
 use Rattle.mt_index.proofs.NumberLemmas.{or_none}
 use Rattle.mt_index.proofs.LogStands.{holds_from, froms, holders_after, log_after_is, pinned_is, least_pinned, held_less, held_more, reader_counts, reader_holds, length_by_counts, slowest_is, all-held, was_later}
 use Rattle.mt_index.proofs.StepStands.{HoldersAre, held_before, builds_before, with_building, step_event, may_end, right_answer, apart_changed, apart_without, owned_on, owned_end, next_seen, calls_on, calls_end, content_still, keys_still, grows_still, still, commit_stands}
-use Rattle.mt_index.proofs.PastLemmas.{past_later, past_new}
+use Rattle.mt_index.proofs.PastLemmas.{past_new}
+use Rattle.mt_index.proofs.LaterStands.{all_later, same_stands, seen}
 
 -- ---- the places of builds after a step
 abbrev building_after : Bool → Progress → ℕ → ℕ
@@ -184,6 +185,7 @@ module _ (s : MachineView) (h : History) (n : ℕ) (st : Stands s h) (kept : Cal
   no_view : (past : List Arena) (committed : Option ℕ) (work : Work) (answer : Answer) → IsRight past s.tree (request_of work) committed answer → view_built (request_of work) answer 0 ≡ []
   no_view past committed (GetWork g) answer right = refl
   no_view past committed (RangeWork g) answer right = refl
+  no_view past committed (TidyWork g) answer right = refl
   no_view past committed (BuildWork g) answer right = absurd right
   no_view past committed (WriteWork g) answer right = by_edit g.edit
     where
@@ -221,6 +223,8 @@ module _ (s : MachineView) (h : History) (n : ℕ) (st : Stands s h) (kept : Cal
       absurd (subst (λ (x : Work). Commits s.columns s.tree then_tree s.log left (request_of x) number) is l.does.0)
   commit_leads number (BuildWork g) is l goes_on sound =
       absurd (subst (λ (x : Work). Commits s.columns s.tree then_tree s.log left (request_of x) number) is l.does.0)
+  commit_leads number (TidyWork g) is l goes_on sound =
+      absurd (subst (λ (x : Work). Commits s.columns s.tree then_tree s.log left (request_of x) number) is l.does.0)
   commit_leads number (RangeWork g) is l goes_on sound =
       absurd (subst (λ (x : Work). Commits s.columns s.tree then_tree s.log left (request_of x) number) is l.does.0)
   commit_leads number (WriteWork g) is l goes_on sound = commit_write number g g.edit refl is l goes_on sound
@@ -232,13 +236,13 @@ module _ (s : MachineView) (h : History) (n : ℕ) (st : Stands s h) (kept : Cal
       (calls_on s h n kept st at f then_tree left work _ _ l.goes request l.bounds MovedOutcome (record f.call { moves = f.call.moves + 1 }) _ refl refl refl refl refl refl (f.related.committed ∙ sym l.does.1) l.blocked (alike l.goes l.bounds l.does.0 MovedOutcome refl)
       (keys_still s h n kept st at f then_tree left work _ _ l.goes request l.bounds l.does.0 MovedOutcome refl) (grows_still s h n kept st at f then_tree left work _ _ l.goes request l.bounds l.does.0 MovedOutcome refl) l.goes.true
       (reads_then Moved goes_on (λ refusal e. let clash : Moved ≡ Refused refusal = e in cc)))
-      (apart_changed s h n kept st at f then_tree work _ _ l.goes refl) (owned_on s h n kept st at f then_tree work _ _ l.goes refl) (room_on l.reserved) sound (held_on l.bounds) building_on (omega arith)
+      (apart_changed s h n kept st at f then_tree work _ _ l.goes refl) (owned_on s h n kept st at f then_tree work _ _ l.goes refl) (room_on l.reserved) sound (held_on l.bounds) building_on (omega arith) refl (order_changed work n 0 s.calls.calls st.in_order)
   leads Waits l goes_on sound =
       still s h n kept st at f then_tree left work _ _ l.goes request l.bounds l.does.0 Again _ left.holders s.views.building tt refl refl refl refl
       (calls_on s h n kept st at f then_tree left work _ _ l.goes request l.bounds Again (record f.call { moves = 0 }) _ refl refl refl refl refl refl (f.related.committed ∙ sym l.does.1) l.blocked (alike l.goes l.bounds l.does.0 Again refl)
       (keys_still s h n kept st at f then_tree left work _ _ l.goes request l.bounds l.does.0 Again refl) (grows_still s h n kept st at f then_tree left work _ _ l.goes request l.bounds l.does.0 Again refl) l.goes.true
       (reads_then Waits goes_on (λ refusal e. let clash : Waits ≡ Refused refusal = e in cc)))
-      (apart_changed s h n kept st at f then_tree work _ _ l.goes refl) (owned_on s h n kept st at f then_tree work _ _ l.goes refl) (room_on l.reserved) sound (held_on l.bounds) building_on (omega arith)
+      (apart_changed s h n kept st at f then_tree work _ _ l.goes refl) (owned_on s h n kept st at f then_tree work _ _ l.goes refl) (room_on l.reserved) sound (held_on l.bounds) building_on (omega arith) refl (order_changed work n 0 s.calls.calls st.in_order)
   leads (Committed number) l goes_on sound = commit_leads number kept.work refl l goes_on sound
   leads (Answered answer) l goes_on sound =
       let reply : Reply = record { pass = pass; call = record { 0 = n }; from = from; to = newest left; answer = answer } in
@@ -253,20 +257,20 @@ module _ (s : MachineView) (h : History) (n : ℕ) (st : Stands s h) (kept : Cal
       refl refl (views_stay _ _ reply l.does.1) (built_stays _ _ reply l.does.1)
       (calls_end s h n kept st at f then_tree left work _ _ l.goes request l.bounds (Done reply) refl (alike l.goes l.bounds l.does.0 (Done reply) refl)
       (keys_still s h n kept st at f then_tree left work _ _ l.goes request l.bounds l.does.0 (Done reply) refl) (grows_still s h n kept st at f then_tree left work _ _ l.goes request l.bounds l.does.0 (Done reply) refl))
-      (apart_without n s.calls.calls st.apart) (owned_end s h n kept st at f then_tree work _ _ l.goes refl) (room_end l.reserved) sound (held_end l.bounds) building_end fewer)
+      (apart_without n s.calls.calls st.apart) (owned_end s h n kept st at f then_tree work _ _ l.goes refl) (room_end l.reserved) sound (held_end l.bounds) building_end fewer refl (order_without n 0 s.calls.calls st.in_order))
   leads (Refused refusal) l goes_on sound =
       ended _ _ _ (still s h n kept st at f then_tree left work _ _ l.goes request l.bounds l.does.0 (RefusedOutcome refusal) _ (cond reads (without_holder from left.holders) left.holders) (cond builds (s.views.building - 1) s.views.building)
       (f.related.committed ∙ l.does.1, subst (λ (q : Request). MayEnd h f.call.began q refusal) (sym f.related.request) (may_end h f.call.began kept.work refusal (subst (WasBlocked f.call.began h) l.blocked f.related.blocked) l.does.2))
       refl refl refl refl
       (calls_end s h n kept st at f then_tree left work _ _ l.goes request l.bounds (RefusedOutcome refusal) refl (alike l.goes l.bounds l.does.0 (RefusedOutcome refusal) refl)
       (keys_still s h n kept st at f then_tree left work _ _ l.goes request l.bounds l.does.0 (RefusedOutcome refusal) refl) (grows_still s h n kept st at f then_tree left work _ _ l.goes request l.bounds l.does.0 (RefusedOutcome refusal) refl))
-      (apart_without n s.calls.calls st.apart) (owned_end s h n kept st at f then_tree work _ _ l.goes refl) (room_end l.reserved) sound (held_end l.bounds) building_end fewer)
+      (apart_without n s.calls.calls st.apart) (owned_end s h n kept st at f then_tree work _ _ l.goes refl) (room_end l.reserved) sound (held_end l.bounds) building_end fewer refl (order_without n 0 s.calls.calls st.in_order))
 
 pub step_open : (s t : MachineView) (n : ℕ) (outcome : Outcome) (h : History) → StepsOpen s n outcome t → Stands s h → Stands t (happening (step_event n) outcome 0 ∷ h)
 step_open s t n outcome h o st =
     let so = o.steps in
     let f = paired-some (CallStands s.columns s.epoch s.tree st.w h) 0 s.calls.begun n s.calls.calls (moment h).calls so.call st.calls so.is_open in
-    let l = so.law.steps s.epoch so.call.epoch f.call.moves f.related.past st.w st.world f.related.epoch f.related.true in
+    let l = so.law.steps so.call.epoch f.call.moves f.related.past st.w st.world f.related.epoch f.related.true in
     let log_is = log_after_is o.reads o.from o.p o.log in
     let next : LogView → CallsView → ViewsView → MachineView = λ g c v. record { columns = s.columns; epoch = s.epoch; tree = o.tree; log = trimmed g; calls = c; views = v } in
     let log : LogView = record o.log { holders = holders_after o.reads o.from o.p o.log.holders } in
@@ -280,64 +284,7 @@ step_open s t n outcome h o st =
     (leads s h n st so.call so.is_open f o.tree o.log so.work so.same_request o.pass so.pass_is o.reads o.builds so.reads_is so.builds_is o.from so.from_is
     (λ built. o.unbuilt (subst IsBuiltCall (sym so.is_open) built)) o.p l so.goes_on (subst IsLog log_is o.sound)))
 
--- ---- an event that changes nothing
--- what is true of a call stays true
-pub call_later : (s : MachineView) (h : History) (x : Happening) (w : World) → (moment (x ∷ h)).commits ≡ (moment h).commits → (k : ℕ × Call) (c : OpenCall) → CallStands s.columns s.epoch s.tree w h k c → CallStands s.columns s.epoch s.tree w (x ∷ h) k c
-call_later s h x w commits k c r = record {
-  pass = r.pass;
-  request = r.request;
-  from = r.from;
-  began = let b = r.began in omega (arith, b);
-  epoch = r.epoch;
-  committed = r.committed;
-  blocked = was_later c.began x h (held k.1.work).blocked r.blocked;
-  past = r.past;
-  passed = past_later s.columns c.began c.from x h (arena_seen s.tree ∷ r.past) commits r.passed;
-  true = r.true;
-  reads = reads_still s.columns (moment h) (moment (x ∷ h)) (inl commits) c.from k.1.work r.reads;
-}
-
-pub all_later : (s : MachineView) (h : History) (x : Happening) (st : Stands s h) → (moment (x ∷ h)).commits ≡ (moment h).commits → Paired (CallStands s.columns s.epoch s.tree st.w (x ∷ h)) 0 s.calls.begun s.calls.calls (moment h).calls
-all_later s h x st commits =
-    paired-above 0 (CallStands s.columns s.epoch s.tree st.w h) (CallStands s.columns s.epoch s.tree st.w (x ∷ h)) 0 s.calls.begun s.calls.calls (moment h).calls
-    (λ k c i ne r. call_later s h x st.w commits k c r) (omega arith) st.calls
-
-pub same_stands : (s : MachineView) (h : History) (x : Happening) → Stands s h → MayHappen s.columns h x.event x.outcome x.opens → (moment (x ∷ h)).commits ≡ (moment h).commits → (moment (x ∷ h)).begun ≡ (moment h).begun → (moment (x ∷ h)).calls ≡ (moment h).calls → (moment (x ∷ h)).views ≡ (moment h).views → (moment (x ∷ h)).built ≡ (moment h).built → Stands s (x ∷ h)
-same_stands s h x st may commits begun calls views built =
-    let same_rows : rows s.columns (moment (x ∷ h)) ≡ rows s.columns (moment h) = ap (λ cs. after s.columns cs) commits in
-    record {
-      legal = (st.legal, may);
-      commits = st.commits ∙ ap length (sym commits);
-      begun = st.begun ∙ sym begun;
-      w = st.w;
-      world = st.world;
-      content = λ key bytes row. subst (λ (rs : Rows). HasRow s.tree key row ↔ (get rs key ≡ Some row)) (sym same_rows) (st.content key bytes row);
-      keys = λ key row is. st.keys key row (sym (ap (λ (rs : Rows). get rs key) same_rows) ∙ is);
-      logged = st.logged ∙ ap (λ (cs : List Change). drop s.log.held_after (deltas_of s.columns cs)) (sym commits);
-      trimmed = st.trimmed ∙ same_bound commits (same_holding calls views);
-      held = λ number. st.held number ∙ ap (times_held number) (same_holding calls views);
-      views = record {
-        built = st.views.built ∙ sym built;
-        standing = views ∙ st.views.standing;
-        exact = all_exact_still s.columns (moment h) (moment (x ∷ h)) (inl commits) s.views.views st.views.exact;
-        rises = st.views.rises;
-        building = st.views.building ∙ ap (count_by (λ (call : OpenCall). is_build call.request)) (sym calls);
-        few = st.views.few;
-      };
-      calls = subst (λ cs. Paired (CallStands s.columns s.epoch s.tree st.w (x ∷ h)) 0 s.calls.begun s.calls.calls cs) (sym calls) (all_later s h x st commits);
-      apart = st.apart;
-      owned = st.owned;
-      reserved = st.reserved;
-    }
-  where
-    same_holding : (moment (x ∷ h)).calls ≡ (moment h).calls → (moment (x ∷ h)).views ≡ (moment h).views → holding (moment h) ≡ holding (moment (x ∷ h))
-    same_holding same also = ap (λ (vs : List StandingView). map (λ (v : StandingView). v.at) vs ++ froms (moment h).calls) (sym also) ∙ ap (λ (cs : List OpenCall). map (λ (v : StandingView). v.at) (moment (x ∷ h)).views ++ froms cs) (sym same)
-
-    same_bound : (moment (x ∷ h)).commits ≡ (moment h).commits → holding (moment h) ≡ holding (moment (x ∷ h)) → min (held_from (moment h)) (length (moment h).commits - s.log.keep) ≡ min (held_from (moment (x ∷ h))) (length (moment (x ∷ h)).commits - s.log.keep)
-    same_bound few same =
-        ap (λ (l : List ℕ). min (least (length (moment h).commits) l) (length (moment h).commits - s.log.keep)) same
-        ∙ ap (λ (cs : List Change). min (least (length cs) (holding (moment (x ∷ h)))) (length cs - s.log.keep)) (sym few)
-
+-- ---- a step of a call that is not open
 pub unknown : (s : MachineView) (n : ℕ) (h : History) → call_at n s.calls.calls ≡ None → Stands s h → Stands s (happening (step_event n) (RefusedOutcome NoSuchCall) 0 ∷ h)
 unknown s n h at st =
     let of = paired-none (CallStands s.columns s.epoch s.tree st.w h) 0 s.calls.begun n s.calls.calls (moment h).calls st.calls at in
@@ -347,6 +294,7 @@ unknown s n h at st =
     (ap (λ r. (after_call_step (moment h) r (RefusedOutcome NoSuchCall) 0).calls) of)
     (ap (λ r. (after_call_step (moment h) r (RefusedOutcome NoSuchCall) 0).views) of)
     (ap (λ r. (after_call_step (moment h) r (RefusedOutcome NoSuchCall) 0).built) of)
+    (ap (λ r. (after_call_step (moment h) r (RefusedOutcome NoSuchCall) 0).epoch) of)
 
 -- ---- begins
 machine_fault : (s : MachineView) (h : History) (request : Request) → Stands s h → fault_of s request ≡ begin_fault s.columns (moment h).begun (length (moment h).calls) (view_places (moment h)) request
@@ -381,6 +329,8 @@ called s pass request work h st none is new =
       );
       commits = st.commits;
       begun = ap (λ (n : ℕ). n + 1) st.begun;
+      epoch = st.epoch;
+      in_order = order_append 0 s.calls.calls (s.calls.begun + 1, call) st.in_order (omega arith) (λ k i. (paired-each (CallStands s.columns s.epoch s.tree st.w h) 0 s.calls.begun s.calls.calls (moment h).calls st.calls k i).1.epoch);
       w = st.w;
       world = st.world;
       content = st.content;
@@ -419,6 +369,7 @@ called s pass request work h st none is new =
     new_reads (GetWork g) opens = tt
     new_reads (WriteWork g) opens = tt
     new_reads (RangeWork g) opens = tt
+    new_reads (TidyWork g) opens = tt
 
     paired : Paired (CallStands s.columns s.epoch s.tree st.w (x ∷ h)) 0 (s.calls.begun + 1) (s.calls.calls ++ (s.calls.begun + 1, call) ∷ []) (moment (x ∷ h)).calls
     paired = paired-append (CallStands s.columns s.epoch s.tree st.w (x ∷ h)) 0 s.calls.begun s.calls.calls (moment h).calls (s.calls.begun + 1, call) (new_call (moment h) pass.0 request (s.calls.begun + 1)) (all_later s h x st refl) (ap (λ (n : ℕ). n + 1) refl) refl
@@ -490,7 +441,7 @@ begins-stands s t pass request (RefusedOutcome refusal) h b st =
       | inl e ↦ subst (λ r. MayBegin (moment h) r (RefusedOutcome refusal)) (sym e ∙ machine_fault s h request st) refl
       | inr e ↦ subst (λ r. MayBegin (moment h) r (RefusedOutcome refusal)) (sym e.0 ∙ machine_fault s h request st) (inr (ap (λ r. RefusedOutcome r) e.1))
     ])
-    refl refl refl refl refl)
+    refl refl refl refl refl refl)
 begins-stands s t pass request MovedOutcome h b st = absurd b
 begins-stands s t pass request Again h b st = absurd b
 begins-stands s t pass request (Commit n) h b st = absurd b
@@ -503,15 +454,14 @@ begins-stands s t pass request (Epoch n) h b st = absurd b
 begins-stands s t pass request (Freed n) h b st = absurd b
 
 -- ---- each call may step
-pub may_step : (s : MachineView) (h : History) (n : ℕ) → Stands s h → (IsBuiltCall (call_at n s.calls.calls) → ⊥) → MayStepOf s.columns s.tree s.log (call_at n s.calls.calls)
+pub may_step : (s : MachineView) (h : History) (n : ℕ) → Stands s h → (IsBuiltCall (call_at n s.calls.calls) → ⊥) → MayStepOf s.epoch s.columns s.tree s.log (call_at n s.calls.calls)
 may_step s h n st = go (call_at n s.calls.calls) refl
   where
-    go : (r : Option Call) → call_at n s.calls.calls ≡ r → (IsBuiltCall r → ⊥) → MayStepOf s.columns s.tree s.log r
+    go : (r : Option Call) → call_at n s.calls.calls ≡ r → (IsBuiltCall r → ⊥) → MayStepOf s.epoch s.columns s.tree s.log r
     go None at unbuilt = tt
     go (Some kept) at unbuilt =
         let f = paired-some (CallStands s.columns s.epoch s.tree st.w h) 0 s.calls.begun n s.calls.calls (moment h).calls kept st.calls at in (
           record {
-            now = s.epoch;
             begun = kept.epoch;
             moves = f.call.moves;
             past = f.related.past;
@@ -538,13 +488,13 @@ few_hold s h st =
     omega (arith, as_many, both, of_views, views, read, fewer, counted, all)
 
 -- a step of a call leaves who holds the log, and how much it may hold
-pub step_bounds : (s : MachineView) (h : History) (n : ℕ) (calls : CallsView) (then_tree : ArenaView) (left : LogView) (pass : PassNo) (reads builds : Bool) (from : ℕ) (p : Progress) → StepsCall s.columns n s.calls calls s.tree then_tree s.log left pass reads builds from p → Stands s h → bounds left ≡ bounds s.log
+pub step_bounds : (s : MachineView) (h : History) (n : ℕ) (calls : CallsView) (then_tree : ArenaView) (left : LogView) (pass : PassNo) (reads builds : Bool) (from : ℕ) (p : Progress) → StepsCall s.epoch s.columns n s.calls calls s.tree then_tree s.log left pass reads builds from p → Stands s h → bounds left ≡ bounds s.log
 step_bounds s h n calls then_tree left pass reads builds from p steps st =
     let f = paired-some (CallStands s.columns s.epoch s.tree st.w h) 0 s.calls.begun n s.calls.calls (moment h).calls steps.call st.calls steps.is_open in
-    (steps.law.steps s.epoch steps.call.epoch f.call.moves f.related.past st.w st.world f.related.epoch f.related.true).bounds
+    (steps.law.steps steps.call.epoch f.call.moves f.related.past st.w st.world f.related.epoch f.related.true).bounds
 
 -- a call that reads the log is one of its holders
-pub may_settle : (s : MachineView) (h : History) (n : ℕ) (calls : CallsView) (then_tree : ArenaView) (left : LogView) (pass : PassNo) (reads builds : Bool) (from : ℕ) (p : Progress) → StepsCall s.columns n s.calls calls s.tree then_tree s.log left pass reads builds from p → Stands s h → IsTrueBool reads → Contains left.holders from
+pub may_settle : (s : MachineView) (h : History) (n : ℕ) (calls : CallsView) (then_tree : ArenaView) (left : LogView) (pass : PassNo) (reads builds : Bool) (from : ℕ) (p : Progress) → StepsCall s.epoch s.columns n s.calls calls s.tree then_tree s.log left pass reads builds from p → Stands s h → IsTrueBool reads → Contains left.holders from
 may_settle s h n calls then_tree left pass reads builds from p steps st is =
     let same = step_bounds s h n calls then_tree left pass reads builds from p steps st in
     subst (λ (b : List ℕ × ℕ × ℕ). Contains b.0 from) (sym same)
@@ -552,7 +502,7 @@ may_settle s h n calls then_tree left pass reads builds from p steps st is =
     (reader_holds n _ steps.call s.calls.calls s.log.holders steps.is_open (held_before s h st steps.call.from) (sym steps.reads_is ∙ is)))
 
 -- and a build keeps a place
-pub may_vacate : (s : MachineView) (h : History) (n : ℕ) (calls : CallsView) (then_tree : ArenaView) (left : LogView) (pass : PassNo) (reads builds : Bool) (from : ℕ) (p : Progress) → StepsCall s.columns n s.calls calls s.tree then_tree s.log left pass reads builds from p → Stands s h → IsTrueBool builds → 0 < s.views.building
+pub may_vacate : (s : MachineView) (h : History) (n : ℕ) (calls : CallsView) (then_tree : ArenaView) (left : LogView) (pass : PassNo) (reads builds : Bool) (from : ℕ) (p : Progress) → StepsCall s.epoch s.columns n s.calls calls s.tree then_tree s.log left pass reads builds from p → Stands s h → IsTrueBool builds → 0 < s.views.building
 may_vacate s h n calls then_tree left pass reads builds from p steps st is =
     let all = builds_before s h st in
     let rest = total_without n steps.call builds_of s.calls.calls steps.is_open in
@@ -569,6 +519,8 @@ opens-stands C feed keep a log w world nobody empty is = subst (λ (l : LogView)
   legal = tt;
   commits = refl;
   begun = refl;
+  epoch = refl;
+  in_order = tt;
   w = w;
   world = world;
   content = λ key bytes row. ((λ has. absurd (empty key row has)), (λ e. absurd (let clash : ◌≡◌ {A = Option Row} None (Some row) = sym (get-empty key_cmp key) ∙ e in cc)));
@@ -584,11 +536,8 @@ opens-stands C feed keep a log w world nobody empty is = subst (λ (l : LogView)
 })
 
 -- ---- as the code takes it
-abbrev pub seen : ℕ → ℕ → ArenaView → LogView → CallsView → ViewsView → MachineView
-seen C epoch a log calls views = record { columns = C; epoch = epoch; tree = a; log = log; calls = calls; views = views }
-
 module _ (C epoch : ℕ) (a after_tree : ArenaView) (log left : LogView) (calls new final : CallsView) (views kept_views : ViewsView) (n : ℕ) (pass : PassNo) (reads builds : Bool) (from : ℕ) (p : Progress)
-    (unbuilt : IsBuiltCall (call_at n calls.calls) → ⊥) (steps : StepsCall C n calls new a after_tree log left pass reads builds from p) (last : final ≡ calls_after n p new) (settled_log : LogView) (log_is : settled_log ≡ log_after reads from p left) (views_are : kept_views ≡ views_after builds p views) (sound : IsLog settled_log) where
+    (unbuilt : IsBuiltCall (call_at n calls.calls) → ⊥) (steps : StepsCall epoch C n calls new a after_tree log left pass reads builds from p) (last : final ≡ calls_after n p new) (settled_log : LogView) (log_is : settled_log ≡ log_after reads from p left) (views_are : kept_views ≡ views_after builds p views) (sound : IsLog settled_log) where
   taken : StepsOpen (seen C epoch a log calls views) n (outcome_of n pass from (newest left) p) (seen C epoch after_tree (trimmed settled_log) final kept_views)
   taken = record {
     pass = pass;

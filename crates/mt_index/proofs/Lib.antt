@@ -7,9 +7,11 @@ pub mod LogStands
 pub mod Reading
 pub mod ViewStands
 pub mod StepStands
+pub mod LaterStands
 pub mod EventStands
 pub mod ViewEvents
 pub mod ApplyStands
+pub mod EpochStands
 pub mod MachineLemmas
 pub mod CauseLemmas
 pub mod LawLemmas

@@ -1,11 +1,12 @@
 -- The list of open calls: what stands in it after a change, and the sum of a number of each call.
-use Rattle.std.proofs.Common.{ℕ, ◌≡◌, ◌≢◌, ◌+◌, ◌⊎◌, inl, inr, [], ◌∷◌, ◌++◌, Some, refl, sym, ap, subst, ◌∙◌, arith}
+use Rattle.std.proofs.Common.{ℕ, ◌≡◌, ◌≢◌, ◌≤◌, ◌+◌, ◌⊎◌, inl, inr, [], ◌∷◌, ◌++◌, Some, refl, sym, ap, subst, ◌∙◌, arith}
 use Rattle.std.proofs.lemmas.Bool.Decides.{eqb_tells}
 use Rattle.mt_chart.specs.Tree.{Among, first, later}
 use Rattle.mt_chart.proofs.Entries.{among_cases}
 use Rattle.mt_index.specs.declared.calls.Call.{Call}
 use Rattle.mt_works.specs.Works.{held}
-use Rattle.mt_index.specs.Calls.{call_at, with_changed, without, total}
+use Rattle.mt_works.specs.declared.work.Work.{Work}
+use Rattle.mt_index.specs.Calls.{call_at, with_changed, with_work, without, total, BeganInOrder}
 use Rattle.mt_index.proofs.NumberLemmas.{Entries, found-here, found-there, changed-here, changed-there, without-here, without-there}
 
 abbrev pub reserves : Call → ℕ
@@ -124,3 +125,31 @@ pub among_before : (ks : Entries) (new k : ℕ × Call) → Among k ks → Among
 among_before [] new k i = elim i [ ]
 among_before (j ∷ ks) new k first = first
 among_before (j ∷ ks) new k (later i) = later (among_before ks new k i)
+
+-- ---- the epochs in which the calls began rise with their numbers
+order_weaker : (least lower : ℕ) (ks : Entries) → lower ≤ least → BeganInOrder least ks → BeganInOrder lower ks
+order_weaker least lower [] less order = tt
+order_weaker least lower (k ∷ ks) less order = (let from = order.0 in omega (arith, less, from), order.1)
+
+pub order_append : (least : ℕ) (ks : Entries) (new : ℕ × Call) → BeganInOrder least ks → least ≤ new.1.epoch → ((k : ℕ × Call) → Among k ks → k.1.epoch ≤ new.1.epoch) → BeganInOrder least (ks ++ new ∷ [])
+order_append least [] new order from all = (from, tt)
+order_append least (k ∷ ks) new order from all = (order.0, order_append k.1.epoch ks new order.1 (all k first) (λ j i. all j (later i)))
+
+pub order_changed : (work : Work) (n least : ℕ) (ks : Entries) → BeganInOrder least ks → BeganInOrder least (with_changed (with_work work) n ks)
+order_changed work n least [] order = tt
+order_changed work n least (k ∷ ks) order = elim (eqb_tells k.0 n) [
+  | inl p ↦ subst (λ (l : Entries). BeganInOrder least l) (sym (changed-here n k ks p.0 (with_work work))) order
+  | inr p ↦ subst (λ (l : Entries). BeganInOrder least l) (sym (changed-there n k ks p.0 (with_work work))) (order.0, order_changed work n k.1.epoch ks order.1)
+]
+
+pub order_without : (n least : ℕ) (ks : Entries) → BeganInOrder least ks → BeganInOrder least (without n ks)
+order_without n least [] order = tt
+order_without n least (k ∷ ks) order = elim (eqb_tells k.0 n) [
+  | inl p ↦ subst (λ (l : Entries). BeganInOrder least l) (sym (without-here n k ks p.0)) (order_weaker k.1.epoch least ks order.0 order.1)
+  | inr p ↦ subst (λ (l : Entries). BeganInOrder least l) (sym (without-there n k ks p.0)) (order.0, order_without n k.1.epoch ks order.1)
+]
+
+pub order_from : (least : ℕ) (ks : Entries) → BeganInOrder least ks → (k : ℕ × Call) → Among k ks → least ≤ k.1.epoch
+order_from least [] order k i = elim i [ ]
+order_from least (e ∷ ks) order k first = order.0
+order_from least (e ∷ ks) order k (later i) = let from = order.0 in let rest = order_from e.1.epoch ks order.1 k i in omega (arith, from, rest)

@@ -31,7 +31,8 @@ use Rattle.mt_index.proofs.OpenLemmas.{few_open}
 use Rattle.mt_index.proofs.LogStands.{reader_counts}
 use Rattle.mt_index.proofs.ViewStands.{builds_of}
 use Rattle.mt_index.proofs.StepStands.{held_before, builds_before}
-use Rattle.mt_index.proofs.EventStands.{few_hold, held_reaches, seen}
+use Rattle.mt_index.proofs.EventStands.{few_hold, held_reaches}
+use Rattle.mt_index.proofs.LaterStands.{seen}
 use Rattle.mt_index.proofs.ViewEvents.{exact_now}
 use Rattle.mt_index.proofs.ApplyStands.{meant_state}
 

@@ -8,7 +8,7 @@ use Rattle.mt_types.specs.declared.row.Change.{Change}
 use Rattle.mt_types.specs.declared.row.Delta.{Delta}
 use Rattle.mt_types.specs.declared.view.ViewSpec.{ViewSpec}
 use Rattle.mt_types.specs.declared.event.Request.{Request}
-use Rattle.mt_types.specs.declared.event.Request.TheVariants.{Get as GetRequest, Put as PutRequest, Remove as RemoveRequest, Range as RangeRequest, Build as BuildRequest}
+use Rattle.mt_types.specs.declared.event.Request.TheVariants.{Get as GetRequest, Put as PutRequest, Remove as RemoveRequest, Range as RangeRequest, Tidy as TidyRequest, Build as BuildRequest}
 use Rattle.mt_promise.specs.History.{History, Moment, moment, rows}
 use Rattle.mt_promise.specs.Legal.{reads_log}
 use Rattle.mt_commit.specs.Log.{LogView, newest, delta_of}
@@ -27,7 +27,7 @@ use Rattle.mt_write.specs.declared.writing.Edit.{Edit}
 use Rattle.mt_write.specs.declared.writing.Edit.TheVariants.{Put as PutEdit, Remove as RemoveEdit}
 use Rattle.mt_write.specs.Writing.{edit_request}
 use Rattle.mt_works.specs.declared.work.Work.{Work}
-use Rattle.mt_works.specs.declared.work.Work.TheVariants.{Get as GetWork, Write as WriteWork, Range as RangeWork, Build as BuildWork}
+use Rattle.mt_works.specs.declared.work.Work.TheVariants.{Get as GetWork, Write as WriteWork, Range as RangeWork, Tidy as TidyWork, Build as BuildWork}
 use Rattle.mt_works.specs.Building.{ScansOn, GoesOn, IsUpTo, IsInLog}
 use Rattle.mt_works.specs.Works.{request_of, IsTrue, IsBuiltWork, HasNext, WorkBuilds}
 use Rattle.mt_index.specs.Viewing.{ReadsFrom, ReadsOf, deltas_between}
@@ -79,6 +79,7 @@ module _ (C : ℕ) (m later : Moment) (grows : Grows C m later) where
   reads_still from (GetWork g) reads = tt
   reads_still from (WriteWork g) reads = tt
   reads_still from (RangeWork g) reads = tt
+  reads_still from (TidyWork g) reads = tt
 
 -- ---- a step of a build
 drop_next : (ds : List Delta) (at : ℕ) (d : Delta) → slice_get ds at ≡ Some d → drop at ds ≡ d ∷ drop (suc at) ds
@@ -164,6 +165,7 @@ module _ (s : MachineView) (h : History) (st : Stands s h) where
     has_next (GetWork g) reaches reads unbuilt = tt
     has_next (WriteWork g) reaches reads unbuilt = tt
     has_next (RangeWork g) reaches reads unbuilt = tt
+    has_next (TidyWork g) reaches reads unbuilt = tt
     has_next (BuildWork g) reaches (columns, reads) unbuilt = by_upto g.upto g.build.state reads unbuilt
       where
         by_upto : (upto : Option ℕ) (state : StateView) → ReadsFrom s.columns (moment h).commits from upto state → (IsUpTo upto state.at → ⊥) → IsInLog s.log state.at upto
@@ -176,6 +178,7 @@ module _ (s : MachineView) (h : History) (st : Stands s h) where
     no_build (GetWork g) never = tt
     no_build (WriteWork g) never = tt
     no_build (RangeWork g) never = tt
+    no_build (TidyWork g) never = tt
 
     no_edit : (key : List ℕ) (edit : Edit) (spec : ViewSpec) → edit_request key edit ≡ BuildRequest spec → ⊥
     no_edit key (PutEdit sets) spec is = let clash : PutRequest key sets ≡ BuildRequest spec = is in cc
@@ -187,9 +190,11 @@ module _ (s : MachineView) (h : History) (st : Stands s h) where
     reads_on (GetWork g) work p reaches builds same moves truth unbuilt goes reads = no_build work (λ spec is. let clash : GetRequest g.key g.columns ≡ BuildRequest spec = sym same ∙ is in cc)
     reads_on (RangeWork g) work p reaches builds same moves truth unbuilt goes reads = no_build work (λ spec is. let clash : RangeRequest g.start g.limit g.columns ≡ BuildRequest spec = sym same ∙ is in cc)
     reads_on (WriteWork g) work p reaches builds same moves truth unbuilt goes reads = no_build work (λ spec is. no_edit g.key g.edit spec (sym same ∙ is))
+    reads_on (TidyWork g) work p reaches builds same moves truth unbuilt goes reads = no_build work (λ spec is. let clash : TidyRequest g.key ≡ BuildRequest spec = sym same ∙ is in cc)
     reads_on (BuildWork old) (GetWork g) p reaches builds same moves truth unbuilt goes reads = absurd builds
     reads_on (BuildWork old) (RangeWork g) p reaches builds same moves truth unbuilt goes reads = absurd builds
     reads_on (BuildWork old) (WriteWork g) p reaches builds same moves truth unbuilt goes reads = absurd builds
+    reads_on (BuildWork old) (TidyWork g) p reaches builds same moves truth unbuilt goes reads = absurd builds
     reads_on (BuildWork old) (BuildWork new) (Refused refusal) reaches builds same moves truth unbuilt goes reads = absurd (goes refusal refl)
     reads_on (BuildWork old) (BuildWork new) Moved reaches builds same moves truth unbuilt goes (columns, reads) = build_reads old.upto new.upto old.build new.build old.node.0 (reaches refl) builds truth unbuilt columns reads
     reads_on (BuildWork old) (BuildWork new) Waits reaches builds same moves truth unbuilt goes (columns, reads) = build_reads old.upto new.upto old.build new.build old.node.0 (reaches refl) builds truth unbuilt columns reads

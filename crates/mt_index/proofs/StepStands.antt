@@ -38,7 +38,7 @@ use Rattle.mt_chart.proofs.Basics.{same_number}
 use Rattle.mt_tree.specs.Seen.{arena_seen, HasRow}
 use Rattle.mt_index.specs.declared.calls.Call.{Call}
 use Rattle.mt_works.specs.declared.work.Work.{Work}
-use Rattle.mt_works.specs.declared.work.Work.TheVariants.{Get as GetWork, Write as WriteWork, Range as RangeWork, Build as BuildWork}
+use Rattle.mt_works.specs.declared.work.Work.TheVariants.{Get as GetWork, Write as WriteWork, Range as RangeWork, Tidy as TidyWork, Build as BuildWork}
 use Rattle.mt_calls.specs.World.{IsTaken, World, IsSame, Goes, NotAmong}
 use Rattle.mt_calls.specs.Step.{RowIs, IsQuiet, Changes, IsRight, MayRefuse, blocked_by, bounds}
 use Rattle.mt_write.specs.declared.writing.Edit.{Edit}
@@ -47,7 +47,7 @@ use Rattle.mt_write.specs.Writing.{edit_request}
 use Rattle.mt_works.specs.Works.{request_of, held, IsTrue}
 use Rattle.mt_commit.specs.Logged.{key_of, delta_made, deltas_of}
 use Rattle.mt_index.specs.Paired.{Paired}
-use Rattle.mt_index.specs.Calls.{call_at, with_changed, with_work, without, AreApart, total, all_reserved}
+use Rattle.mt_index.specs.Calls.{call_at, with_changed, with_work, without, AreApart, total, all_reserved, BeganInOrder}
 use Rattle.mt_index.specs.Stands.{AllOwned, MachineView, CallStands, WasBlocked, HasRowsOf, IsPast, Stands, holding}
 use Rattle.mt_commit.proofs.DeltaLemmas.{delta_is, deltas_of-append, deltas_of-length}
 use Rattle.mt_index.proofs.LogStands.{holds_from, all-held, slowest_is, trims, was_later, blocked_now}
@@ -58,7 +58,7 @@ use Rattle.mt_index.proofs.Reading.{reads_still}
 use Rattle.mt_index.proofs.ViewStands.{all_exact_still, builds_of, paired-builds}
 use Rattle.mt_index.proofs.NumberLemmas.{Entries}
 use Rattle.mt_index.proofs.PairedLemmas.{Others, Found, paired-change, paired-without, paired-each, paired-one}
-use Rattle.mt_index.proofs.ListLemmas.{among_kept, among_new, among_left, among_at, among_changed, among_without}
+use Rattle.mt_index.proofs.ListLemmas.{among_kept, among_new, among_left, among_at, among_changed, among_without, order_changed}
 use Rattle.mt_works.proofs.WorkLemmas.{stays, owned_taken}
 
 abbrev pub step_event : ℕ → Event
@@ -113,6 +113,8 @@ may_end past began (GetWork g) NoMemory was m = tt
 may_end past began (GetWork g) _ was m = absurd m
 may_end past began (RangeWork g) NoMemory was m = tt
 may_end past began (RangeWork g) _ was m = absurd m
+may_end past began (TidyWork g) NoMemory was m = tt
+may_end past began (TidyWork g) _ was m = absurd m
 may_end past began (BuildWork g) NoMemory was m = tt
 may_end past began (BuildWork g) _ was m = absurd m
 
@@ -151,6 +153,8 @@ right_answer s h st call (RangeWork g) (Removed number) began committed past pas
 right_answer s h st call (RangeWork g) (RowsAnswer pairs) began committed past passed m = right_range s.columns call.began call.from h (arena_seen s.tree ∷ past) g.start g.columns g.limit pairs began passed st.keys m
 right_answer s h st call (RangeWork g) (Tidied rule) began committed past passed m = absurd m
 right_answer s h st call (RangeWork g) (Built view) began committed past passed m = absurd m
+right_answer s h st call (TidyWork g) (Tidied rule) began committed past passed m = tt
+right_answer s h st call (TidyWork g) _ began committed past passed m = absurd m
 right_answer s h st call (BuildWork g) Absent began committed past passed m = absurd m
 right_answer s h st call (BuildWork g) (FoundAnswer row) began committed past passed m = absurd m
 right_answer s h st call (BuildWork g) (StoredAnswer number) began committed past passed m = absurd m
@@ -353,9 +357,9 @@ module _ (s : MachineView) (h : History) (n : ℕ) (kept : Call) (st : Stands s 
     pub still : (o : Outcome) (entries : Entries) (holders : List ℕ) (building : ℕ) → MayStep s.columns h f.call o 0 → (after_step (moment h) f.call o 0).commits ≡ (moment h).commits → (after_step (moment h) f.call o 0).begun ≡ (moment h).begun
         → (after_step (moment h) f.call o 0).views ≡ (moment h).views → (after_step (moment h) f.call o 0).built ≡ (moment h).built
         → Paired (R (happening (step_event n) o 0 ∷ h)) 0 s.calls.begun entries (moment (happening (step_event n) o 0 ∷ h)).calls → AreApart entries → AllOwned after_tree goes.next entries → left.reserved ≡ all_reserved entries
-        → IsLog (record left { holders = holders }) → HoldersAre s h holders entries → building ≡ total builds_of entries → building ≤ s.views.building
+        → IsLog (record left { holders = holders }) → HoldersAre s h holders entries → building ≡ total builds_of entries → building ≤ s.views.building → (after_step (moment h) f.call o 0).epoch ≡ (moment h).epoch → BeganInOrder 0 entries
         → Stands (next_seen s after_tree (trimmed (record left { holders = holders })) (with_building building s.views) entries) (happening (step_event n) o 0 ∷ h)
-    still o entries holders building may commits begun views built calls apart owned reserved sound held counted fewer =
+    still o entries holders building may commits begun views built calls apart owned reserved sound held counted fewer epoch in_order =
         let x : Happening = happening (step_event n) o 0 in
         let then = then_is o _ refl in
         let same : (moment (x ∷ h)).commits ≡ (moment h).commits = ap (λ m. m.commits) then ∙ commits in
@@ -369,6 +373,8 @@ module _ (s : MachineView) (h : History) (n : ℕ) (kept : Call) (st : Stands s 
           legal = (st.legal, subst (λ z. MayStepAt s.columns h z o 0) (sym f.of) may);
           commits = log.commits;
           begun = st.begun ∙ sym (ap (λ m. m.begun) then ∙ begun);
+          epoch = st.epoch ∙ sym (ap (λ m. m.epoch) then ∙ epoch);
+          in_order = in_order;
           w = goes.next;
           world = goes.world;
           content = content_still o commits;
@@ -481,6 +487,8 @@ module _ (s : MachineView) (h : History) (n : ℕ) (kept : Call) (st : Stands s 
           );
           commits = log.commits;
           begun = st.begun ∙ sym (ap (λ m. m.begun) then);
+          epoch = st.epoch ∙ sym (ap (λ m. m.epoch) then);
+          in_order = order_changed work n 0 s.calls.calls st.in_order;
           w = goes.next;
           world = goes.world;
           content = content_then;

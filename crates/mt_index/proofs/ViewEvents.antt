@@ -51,27 +51,28 @@ use Rattle.mt_works.specs.Works.{request_of, held}
 use Rattle.mt_calls.specs.World.{IsTaken, World}
 use Rattle.mt_index.specs.declared.calls.Call.{Call}
 use Rattle.mt_index.specs.Paired.{Paired}
-use Rattle.mt_index.specs.Calls.{call_at, without, AreApart, total, all_reserved}
+use Rattle.mt_index.specs.Calls.{call_at, without, AreApart, total, all_reserved, BeganInOrder}
 use Rattle.mt_index.specs.Viewing.{IsExact, AreExact, ViewsStand, ReadsFrom, ReadsOf}
 use Rattle.mt_index.specs.Stands.{MachineView, CallStands, AllOwned, Stands, Steps, EndsBuild, Opens, OpensNot, Applies, AppliesTo, TakesOn, ReadsPage, ReadsState, ReadsView, Drops, DropsView, with_view, vacated, meant_number, none_meant, holding}
 use Rattle.mt_index.proofs.NumberLemmas.{Entries}
 use Rattle.mt_index.proofs.PairedLemmas.{Found, paired-some, paired-one, paired-without}
-use Rattle.mt_index.proofs.ListLemmas.{reserves, among_left, among_at, total_without}
+use Rattle.mt_index.proofs.ListLemmas.{reserves, among_left, among_at, total_without, order_without}
 use Rattle.mt_index.proofs.LogStands.{holds_from, all-held, trims}
 use Rattle.mt_index.proofs.ViewStands.{builds_of, paired-builds, places_of, all_exact_still, exact_at, exact_with, exact_without, exact_append, exact_next, view_holds, moved_holds, dropped_holds, opened_holds, least_held}
 use Rattle.mt_index.proofs.StepStands.{held_before, builds_before, step_event, apart_without}
-use Rattle.mt_index.proofs.EventStands.{call_later, all_later, same_stands, step_open, unknown, held_reaches}
+use Rattle.mt_index.proofs.LaterStands.{call_later, all_later, same_stands}
+use Rattle.mt_index.proofs.EventStands.{step_open, unknown, held_reaches}
 
 -- ---- a change of who holds the log, of the views and of the open calls, that leaves the tree and the commits
-module _ (s : MachineView) (h : History) (st : Stands s h) (x : Happening) (may : MayHappen s.columns h x.event x.outcome x.opens) (commits : (moment (x ∷ h)).commits ≡ (moment h).commits) (begun : (moment (x ∷ h)).begun ≡ (moment h).begun) where
+module _ (s : MachineView) (h : History) (st : Stands s h) (x : Happening) (may : MayHappen s.columns h x.event x.outcome x.opens) (commits : (moment (x ∷ h)).commits ≡ (moment h).commits) (begun : (moment (x ∷ h)).begun ≡ (moment h).begun) (epoch : (moment (x ∷ h)).epoch ≡ (moment h).epoch) where
   same_rows : rows s.columns (moment (x ∷ h)) ≡ rows s.columns (moment h)
   same_rows = ap (λ (cs : List Change). after s.columns cs) commits
 
   pub changed_stands : (entries : Entries) (holders : List ℕ) (views : ViewsView) → Paired (CallStands s.columns s.epoch s.tree st.w (x ∷ h)) 0 s.calls.begun entries (moment (x ∷ h)).calls → AreApart entries → AllOwned s.tree st.w entries → s.log.reserved ≡ all_reserved entries
       → ViewsStand s.columns (moment (x ∷ h)) views → IsLog (record s.log { holders = holders })
-      → ((number : ℕ) → times_held number holders ≡ times_held number (map (λ (v : StandingView). v.at) (moment (x ∷ h)).views) + total (holds_from number) entries)
+      → ((number : ℕ) → times_held number holders ≡ times_held number (map (λ (v : StandingView). v.at) (moment (x ∷ h)).views) + total (holds_from number) entries) → BeganInOrder 0 entries
       → Stands (record { columns = s.columns; epoch = s.epoch; tree = s.tree; log = trimmed (record s.log { holders = holders }); calls = record s.calls { calls = entries }; views = views }) (x ∷ h)
-  changed_stands entries holders views calls apart owned reserved stand sound held =
+  changed_stands entries holders views calls apart owned reserved stand sound held in_order =
       let log = trims s.columns (record s.log { holders = holders }) (moment (x ∷ h)) sound (record {
         commits = st.commits ∙ ap length (sym commits);
         logged = st.logged ∙ ap (λ (cs : List Change). drop s.log.held_after (deltas_of s.columns cs)) (sym commits);
@@ -81,6 +82,8 @@ module _ (s : MachineView) (h : History) (st : Stands s h) (x : Happening) (may 
         legal = (st.legal, may);
         commits = log.commits;
         begun = st.begun ∙ sym begun;
+        epoch = st.epoch ∙ sym epoch;
+        in_order = in_order;
         w = st.w;
         world = st.world;
         content = λ key bytes row. subst (λ (rs : Rows). HasRow s.tree key row ↔ (get rs key ≡ Some row)) (sym same_rows) (st.content key bytes row);
@@ -175,7 +178,7 @@ module _ (s : MachineView) (h : History) (st : Stands s h) (n : ℕ) (kept : Cal
   opens_stands t outcome o =
       subst (λ (u : MachineView). Stands u (happening (step_event n) outcome state.at ∷ h)) (sym o.is_next)
       (subst (λ (z : Outcome). Stands next (happening (step_event n) z state.at ∷ h)) (sym o.is_outcome)
-      (changed_stands s h st x may (ap (λ m. m.commits) then) (ap (λ m. m.begun) then) (without n s.calls.calls) o.holders (with_view state s.views) calls (apart_without n s.calls.calls st.apart) owned_left reserved_left views o.sound
+      (changed_stands s h st x may (ap (λ m. m.commits) then) (ap (λ m. m.begun) then) (ap (λ m. m.epoch) then) (without n s.calls.calls) o.holders (with_view state s.views) calls (apart_without n s.calls.calls st.apart) owned_left reserved_left views o.sound
       (λ number.
       let more = pinning_counts state.at number s.log.holders in
       let less = unpinning_counts kept.from number (with_holder state.at s.log.holders) in
@@ -183,7 +186,7 @@ module _ (s : MachineView) (h : History) (st : Stands s h) (n : ℕ) (kept : Cal
       let are = ap (times_held number) o.are in
       let now = ap (λ (vs : List StandingView). times_held number (map (λ (v : StandingView). v.at) vs)) (views_are ∙ sym (opened-there s.views.views (s.views.built + 1, state))) ∙ opened_holds s.views.views (s.views.built + 1, state) number in
       let old = ap (λ (vs : List StandingView). times_held number (map (λ (v : StandingView). v.at) vs)) st.views.standing in
-      omega (arith, more, less, before, rest, are, now, old))))
+      omega (arith, more, less, before, rest, are, now, old)) (order_without n 0 s.calls.calls st.in_order)))
     where
       reply : Reply
       reply = record { pass = kept.pass; call = record { 0 = n }; from = kept.from; to = newest s.log; answer = Built (record { 0 = s.views.built + 1 }) }
@@ -239,13 +242,13 @@ module _ (s : MachineView) (h : History) (st : Stands s h) (n : ℕ) (kept : Cal
   opens_not_stands t outcome o =
       subst (λ (u : MachineView). Stands u (happening (step_event n) outcome 0 ∷ h)) (sym o.is_next)
       (subst (λ (z : Outcome). Stands next (happening (step_event n) z 0 ∷ h)) (sym o.is_outcome)
-      (changed_stands s h st x may (ap (λ m. m.commits) then) (ap (λ m. m.begun) then) (without n s.calls.calls) o.holders (vacated true s.views) calls (apart_without n s.calls.calls st.apart) owned_left reserved_left views o.sound
+      (changed_stands s h st x may (ap (λ m. m.commits) then) (ap (λ m. m.begun) then) (ap (λ m. m.epoch) then) (without n s.calls.calls) o.holders (vacated true s.views) calls (apart_without n s.calls.calls st.apart) owned_left reserved_left views o.sound
       (λ number.
       let less = unpinning_counts kept.from number s.log.holders in
       let (before, rest) = held_left number in
       let are = ap (times_held number) o.are in
       let now = ap (λ m. times_held number (map (λ (v : StandingView). v.at) m.views)) then in
-      omega (arith, less, before, rest, are, now))))
+      omega (arith, less, before, rest, are, now)) (order_without n 0 s.calls.calls st.in_order)))
     where
       next : MachineView
       next = record { columns = s.columns; epoch = s.epoch; tree = s.tree; log = trimmed (record s.log { holders = o.holders }); calls = record s.calls { calls = without n s.calls.calls }; views = vacated true s.views }

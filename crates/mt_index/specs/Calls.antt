@@ -10,9 +10,9 @@ use Rattle.mt_index.specs.declared.calls.Call.{Call}
 use Rattle.mt_works.specs.declared.work.Work.{Work}
 use Rattle.mt_calls.specs.declared.progress.Progress.{Progress}
 use Rattle.mt_calls.specs.World.{NotAmong}
-use Rattle.mt_calls.specs.Step.{StepLaw, MayStep}
+use Rattle.mt_calls.specs.Step.{StepLawIn}
 use Rattle.mt_works.specs.Causes.{WorkWaits, WorkFails}
-use Rattle.mt_works.specs.Works.{request_of, held, IsTrue, HasNext, IsBuiltWork, WorkBuilds}
+use Rattle.mt_works.specs.Works.{request_of, held, IsTrue, MayWork, HasNext, IsBuiltWork, WorkBuilds}
 
 pub record CallsView : Type 0 where
   pub begun : ℕ  -- how many calls have begun
@@ -60,18 +60,28 @@ total number_of (entry ∷ entries) = number_of entry.1 + total number_of entrie
 abbrev pub all_reserved : List (ℕ × Call) → ℕ
 all_reserved calls = total (λ call. (held call.work).reserves) calls
 
--- the call of this number may step
-abbrev pub MayStepOf : ℕ → ArenaView → LogView → Option Call → Type 0
-MayStepOf C a log None = Unit {0}
-MayStepOf C a log (Some call) = MayStep a log (held call.work) (IsTrue C call.work) × HasNext log call.work
+-- the epochs in which the calls began rise with their numbers, from this one on
+abbrev pub BeganInOrder : ℕ → List (ℕ × Call) → Type 0
+BeganInOrder least [] = Unit {0}
+BeganInOrder least (entry ∷ entries) = (least ≤ entry.1.epoch) × BeganInOrder entry.1.epoch entries
 
--- a step of the call of this number: it comes so far
-pub record StepsCall (C number : ℕ) (old new : CallsView) (a after : ArenaView) (log left : LogView) (pass : PassNo) (reads builds : Bool) (from : ℕ) (p : Progress) : Type 0 where
+-- the epoch in which the call began that has been open longest
+abbrev pub oldest_epoch : List (ℕ × Call) → Option ℕ
+oldest_epoch [] = None
+oldest_epoch (entry ∷ entries) = Some entry.1.epoch
+
+-- the call of this number may step
+abbrev pub MayStepOf : ℕ → ℕ → ArenaView → LogView → Option Call → Type 0
+MayStepOf now C a log None = Unit {0}
+MayStepOf now C a log (Some call) = MayWork now C a log call.work × HasNext log call.work
+
+-- a step of the call of this number, in this epoch: it comes so far
+pub record StepsCall (now C number : ℕ) (old new : CallsView) (a after : ArenaView) (log left : LogView) (pass : PassNo) (reads builds : Bool) (from : ℕ) (p : Progress) : Type 0 where
   pub call : Call
   pub is_open : call_at number old.calls ≡ Some call
   pub work : Work
   pub same_request : request_of work ≡ request_of call.work
-  pub law : StepLaw C a after log left (request_of call.work) (held call.work) p (held work) (IsTrue C call.work) (IsTrue C work)
+  pub law : StepLawIn now C a after log left (request_of call.work) (held call.work) p (held work) (IsTrue C call.work) (IsTrue C work)
   pub goes_on : WorkBuilds a log call.work p work
   pub waits : WorkWaits a call.work p
   pub fails : WorkFails a log call.work p work

@@ -1,15 +1,17 @@
--- Why a call waits, fails or is refused: what a history doesn't show.
-use Rattle.std.specs.Prelude.{ℕ, ◌≡◌, ◌≤◌, ◌⊎◌, Option, Some, None}
+-- Why a call waits, fails or is refused, and which nodes are freed: what a history doesn't show.
+use Rattle.std.specs.Prelude.{ℕ, ◌≡◌, ◌≤◌, ◌<◌, ◌⊎◌, List, take, drop, All, Option, Some, None}
 use Rattle.mt_types.specs.declared.refusal.Refusal.{Refusal}
 use Rattle.mt_types.specs.declared.refusal.Refusal.TheVariants.{NoSuchCall, Spent}
 use Rattle.mt_types.specs.declared.event.Event.{Event}
-use Rattle.mt_types.specs.declared.event.Event.TheVariants.{Step}
+use Rattle.mt_types.specs.declared.event.Event.TheVariants.{Step, Collect}
 use Rattle.mt_types.specs.declared.event.Outcome.{Outcome}
-use Rattle.mt_types.specs.declared.event.Outcome.TheVariants.{Again, Moved, Refused}
+use Rattle.mt_types.specs.declared.event.Outcome.TheVariants.{Again, Moved, Freed, Refused}
 use Rattle.mt_calls.specs.declared.progress.Progress.TheVariants.{Moved as WentOn, Waits}
 use Rattle.mt_works.specs.Causes.{WorkWaits, WorkFails, WorkRefuses}
 use Rattle.mt_types.specs.Numbers.{greatest_number}
 use Rattle.mt_works.specs.Works.{IsBuiltWork}
+use Rattle.mt_chart.specs.Tree.{Among}
+use Rattle.mt_arena.specs.declared.retired.Retired.{Retired}
 use Rattle.mt_index.specs.declared.calls.Call.{Call}
 use Rattle.mt_index.specs.Calls.{call_at}
 use Rattle.mt_index.specs.Stands.{MachineView}
@@ -33,10 +35,24 @@ abbrev pub RefusedFor : MachineView → Option Call → Refusal → Type 0
 RefusedFor s None refusal = refusal ≡ NoSuchCall
 RefusedFor s (Some call) refusal = WorkRefuses s.tree call.work refusal ⊎ SpentFor s call refusal
 
+-- each open call began in a later epoch; and one began in that epoch or before
+abbrev pub AllBeganAfter : List (ℕ × Call) → Retired → Type 0
+AllBeganAfter calls node = (k : ℕ × Call) → Among k calls → node.epoch < k.1.epoch
+
+abbrev pub OneBeganBy : List (ℕ × Call) → Retired → Type 0
+OneBeganBy calls node = (k : ℕ × Call) × Among k calls × (k.1.epoch ≤ node.epoch)
+
+-- WHAT A COLLECTION FREES: exactly the retired nodes since whose retiring each open call began, which are the first so many
+pub record FreesSo (s : MachineView) (count : ℕ) (t : MachineView) : Type 0 where
+  pub rest : t.tree.retired ≡ drop count s.tree.retired
+  pub freed : All (AllBeganAfter s.calls.calls) (take count s.tree.retired)
+  pub kept : All (OneBeganBy s.calls.calls) (drop count s.tree.retired)
+
 -- WHY A CALL WAITS, FAILS OR IS REFUSED, by the machine before the step and after it. It waits only where the node that its step visits is marked
 -- deleted; or, for a put or remove, is a border that is locked or, while it posts, an interior that is. So a get or range never waits at a lock.
 abbrev pub IsCaused : MachineView → Event → Outcome → MachineView → Type 0
 IsCaused s (Step call) Again t = WaitsFor s (call_at call.0 s.calls.calls)
 IsCaused s (Step call) Moved t = FailsFor s call.0 t
 IsCaused s (Step call) (Refused refusal) t = RefusedFor s (call_at call.0 s.calls.calls) refusal
+IsCaused s Collect (Freed count) t = FreesSo s count t
 IsCaused s _ outcome t = Unit {0}

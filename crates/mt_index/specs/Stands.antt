@@ -4,10 +4,9 @@ use Rattle.std.specs.Prelude.{Result, Ok, Err, ℕ, ◌+◌, ◌-◌, ◌≡◌,
 use Rattle.std.specs.FinMap.{get}
 use Rattle.mt_types.specs.declared.numbers.PassNo.{PassNo}
 use Rattle.mt_types.specs.declared.event.Event.{Event}
-use Rattle.mt_types.specs.declared.event.Event.TheVariants.{Begin, Advance, Collect}
 use Rattle.mt_types.specs.declared.event.Request.{Request}
 use Rattle.mt_types.specs.declared.event.Outcome.{Outcome}
-use Rattle.mt_types.specs.declared.event.Outcome.TheVariants.{Call as Called, Moved, Again, Commit, Done, Applied, Current, View, Dropped, Refused}
+use Rattle.mt_types.specs.declared.event.Outcome.TheVariants.{Call as Called, Moved, Again, Commit, Done, Applied, Current, View, Dropped, Epoch, Freed, Refused}
 use Rattle.mt_types.specs.declared.refusal.Refusal.{Refusal}
 use Rattle.mt_types.specs.declared.refusal.Refusal.TheVariants.{NoMemory, NoSuchCall, NoSuchView, Behind, Spent}
 use Rattle.mt_types.specs.declared.row.Row.{Row}
@@ -36,7 +35,8 @@ use Rattle.mt_works.specs.Building.{IsBuilt}
 use Rattle.mt_calls.specs.declared.progress.Progress.{Progress}
 use Rattle.mt_calls.specs.declared.progress.Progress.TheVariants.{Moved as WentOn, Waits, Committed, Answered, Refused as EndsRefused}
 use Rattle.mt_calls.specs.World.{World, IsWorld, IsTaken}
-use Rattle.mt_works.specs.Works.{request_of, held, IsTrue, IsNew, IsServedRequest}
+use Rattle.mt_calls.specs.Collecting.{IsCollected, CollectLaw}
+use Rattle.mt_works.specs.Works.{request_of, held, IsTrue, IsNew}
 use Rattle.mt_build.specs.History.{GoesBy}
 use Rattle.mt_build.specs.Build.{HadRows}
 use Rattle.mt_view.specs.State.{StateView, applied, page_of_state}
@@ -44,7 +44,7 @@ use Rattle.mt_views.specs.Views.{ViewsView, all_standing, places, state_at, with
 use Rattle.mt_index.specs.Viewing.{ViewsStand, ReadsOf}
 use Rattle.mt_index.specs.Paired.{Paired}
 use Rattle.mt_commit.specs.Logged.{deltas_of}
-use Rattle.mt_index.specs.Calls.{CallsView, call_at, without, AreApart, all_reserved, StepsCall, IsBuiltCall}
+use Rattle.mt_index.specs.Calls.{CallsView, call_at, without, AreApart, all_reserved, BeganInOrder, oldest_epoch, StepsCall, IsBuiltCall}
 
 -- the machine as contracts see it
 pub record MachineView : Type 0 where
@@ -105,6 +105,7 @@ pub record Stands (s : MachineView) (h : History) : Type 0 where
   pub legal : Legal s.columns h
   pub commits : newest s.log ≡ length (moment h).commits
   pub begun : s.calls.begun ≡ (moment h).begun
+  pub epoch : s.epoch ≡ (moment h).epoch
   -- the tree is an index, in some world, and has exactly the rows of the history
   pub w : World
   pub world : IsWorld s.tree s.epoch w
@@ -119,6 +120,7 @@ pub record Stands (s : MachineView) (h : History) : Type 0 where
   pub views : ViewsStand s.columns (moment h) s.views
   -- the open calls are those of the history, what is said of each is true, and no number is owned by two
   pub calls : Paired (CallStands s.columns s.epoch s.tree w h) 0 s.calls.begun s.calls.calls (moment h).calls
+  pub in_order : BeganInOrder 0 s.calls.calls
   pub apart : AreApart s.calls.calls
   pub owned : AllOwned s.tree w s.calls.calls
   pub reserved : s.log.reserved ≡ all_reserved s.calls.calls
@@ -126,13 +128,6 @@ pub record Stands (s : MachineView) (h : History) : Type 0 where
 -- how much the log may hold for the slowest, and how much it keeps for nobody
 abbrev pub HasBounds : ℕ → ℕ → LogView → Type 0
 HasBounds feed keep log = (log.feed ≡ feed) × (log.keep ≡ keep)
-
--- the events that it serves: all but tidies, and epochs
-abbrev pub IsServed : Event → Type 0
-IsServed (Begin pass request) = IsServedRequest request
-IsServed Advance = ⊥
-IsServed Collect = ⊥
-IsServed _ = Unit {0}
 
 -- what a step answers
 abbrev pub outcome_of : ℕ → PassNo → ℕ → ℕ → Progress → Outcome
@@ -186,7 +181,7 @@ pub record StepsOpen (s : MachineView) (number : ℕ) (outcome : Outcome) (t : M
   pub reads : Bool
   pub builds : Bool
   pub unbuilt : IsBuiltCall (call_at number s.calls.calls) → ⊥
-  pub steps : StepsCall s.columns number s.calls calls s.tree tree s.log log pass reads builds from p
+  pub steps : StepsCall s.epoch s.columns number s.calls calls s.tree tree s.log log pass reads builds from p
   pub sound : IsLog (log_after reads from p log)
   pub is_outcome : outcome ≡ outcome_of number pass from (newest log) p
   pub is_next : t ≡ record {
@@ -315,6 +310,29 @@ pub record DropsView (s : MachineView) (number : ℕ) (outcome : Outcome) (t : M
 abbrev pub Drops : MachineView → ℕ → Outcome → MachineView → Type 0
 Drops s number outcome t =
     ((state_at number s.views.views ≡ None) × (outcome ≡ Refused NoSuchView) × (t ≡ s)) ⊎ DropsView s number outcome t
+
+-- ---- epochs
+-- the next epoch begins, or their numbers are spent
+abbrev pub Advances : MachineView → Outcome → MachineView → Type 0
+Advances s outcome t =
+    ((greatest_number ≤ s.epoch) × (outcome ≡ Refused Spent) × (t ≡ s))
+    ⊎ ((s.epoch < greatest_number) × (outcome ≡ Epoch (s.epoch + 1)) × (t ≡ record s { epoch = s.epoch + 1 }))
+
+-- the epoch is that in which the oldest open call began, or where none is open, the one that is to come
+abbrev pub IsOldest : ℕ → ℕ → Option ℕ → Type 0
+IsOldest now before None = before ≡ now + 1
+IsOldest now before (Some began) = before ≡ began
+
+-- retired nodes are freed: those that were retired before the oldest open call began
+pub record Collects (s : MachineView) (outcome : Outcome) (t : MachineView) : Type 0 where
+  pub before : ℕ
+  pub count : ℕ
+  pub after : ArenaView
+  pub oldest : IsOldest s.epoch before (oldest_epoch s.calls.calls)
+  pub exactly : IsCollected s.tree after before count
+  pub keeps : CollectLaw s.tree after before
+  pub is_outcome : outcome ≡ Freed count
+  pub is_next : t ≡ record s { tree = after }
 
 -- ---- begins
 -- why a call can't begin

@@ -2,7 +2,7 @@
 
 ghost use Rattle.std.specs.Prelude.{◌≡◌, ◌+◌, ◌-◌, ◌^◌, ◌<◌, ◌++◌, [], ◌∷◌, length, IfOk, OnOk, OnErr, None, MatchOption};
 ghost use Rattle.std.specs.Prelude.{◌↔◌, IsTrue};
-ghost use Rattle.mt_index.specs.Calls.{call_at, pass_at, without, MayStepOf, StepsCall, IsBuiltCall};
+ghost use Rattle.mt_index.specs.Calls.{call_at, pass_at, without, MayStepOf, StepsCall, IsBuiltCall, oldest_epoch};
 
 use mt_calls::progress::Progress;
 use mt_commit::log::Log;
@@ -87,6 +87,14 @@ impl Calls {
         self.calls.len()
     }
 
+    /// The epoch in which the call began that has been open longest, if one is open.
+    pub(crate) fn oldest(&self) -> Option<u64>
+        ensures { result ≡ oldest_epoch self.now.calls }
+    {
+        let (_, call) = self.calls.first_key_value()?;
+        Some(call.epoch)
+    }
+
     /// The pass of the call of this number, if it is open.
     pub(crate) fn pass_of(&self, number: u64) -> Option<PassNo>
         ensures { result ≡ pass_at number self.now.calls }
@@ -107,23 +115,24 @@ impl Calls {
         Ok(number)
     }
 
-    /// Takes the call of this number one step on, if it is open.
+    /// Takes the call of this number one step on, if it is open, in this epoch, the present one.
     pub(crate) fn step(
         &mut self,
         alloc: Global,
         columns: u8,
+        epoch: u64,
         number: u64,
         tree: &mut Tree,
         log: &mut Log,
     ) -> Option<Stepped>
-        requires { MayStepOf columns tree.old log.old (call_at number self.old.calls) }
+        requires { MayStepOf epoch columns tree.old log.old (call_at number self.old.calls) }
         ensures none { result ≡ None → (call_at number self.old.calls ≡ None) × (self.new ≡ self.old) × (tree.new ≡ tree.old) × (log.new ≡ log.old) }
-        ensures steps { MatchOption result (Unit {0}) (λ stepped. StepsCall columns number self.old self.new tree.old tree.new log.old log.new stepped.pass stepped.reads stepped.builds stepped.from stepped.progress) }
+        ensures steps { MatchOption result (Unit {0}) (λ stepped. StepsCall epoch columns number self.old self.new tree.old tree.new log.old log.new stepped.pass stepped.reads stepped.builds stepped.from stepped.progress) }
     {
         let Some(call) = self.calls.get_mut(&number) else {
             return None;
         };
-        let progress = call.work.step(alloc, columns, tree, log);
+        let progress = call.work.step(alloc, columns, epoch, tree, log);
         Some(Stepped {
             pass: call.pass,
             from: call.from,

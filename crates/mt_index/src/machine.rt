@@ -1,6 +1,6 @@
 //! The machine over the whole tree: events in, outcomes out, one visit of one node an event.
 
-ghost use Rattle.std.specs.Prelude.{ℕ, ◌≡◌, ◌↔◌, ◌<◌, [], ◌∷◌, take, drop, IsTrue, Contains, OnOk, OnErr, length, IfOk, IfErr, MatchOption, All, Some, None, Err};
+ghost use Rattle.std.specs.Prelude.{ℕ, ◌≡◌, ◌↔◌, ◌<◌, ◌+◌, [], ◌∷◌, take, drop, IsTrue, Contains, OnOk, OnErr, length, IfOk, IfErr, MatchOption, Some, None, Err};
 ghost use Rattle.std.specs.Option.{option_map};
 ghost use Rattle.mt_types.specs.Limits.{open_fault};
 ghost use Rattle.mt_promise.specs.History.{History, happening, moment, call_of};
@@ -8,20 +8,21 @@ ghost use Rattle.mt_promise.specs.Legal.{begin_fault, is_build};
 ghost use Rattle.mt_views.specs.Views.{places};
 ghost use Rattle.mt_types.specs.declared.limits.TheConstants.{MAX_VIEWS};
 ghost use Rattle.mt_arena.specs.Node.{occupied};
-ghost use Rattle.mt_works.specs.Works.{IsServedRequest};
+ghost use Rattle.mt_types.specs.declared.event.Event.TheVariants.{Collect};
 ghost use Rattle.mt_index.specs.Causes.{IsCaused};
 ghost use Rattle.mt_commit.specs.Logged.{deltas_of};
 ghost use Rattle.mt_index.specs.Feed.{feed_fault};
 ghost use Rattle.mt_commit.specs.Log.{newest};
 ghost use Rattle.mt_commit.specs.declared.log.TheConstants.{MAX_HOLDERS};
 ghost use Rattle.mt_index.specs.Calls.{call_at, pass_at, IsBuiltCall};
-ghost use Rattle.mt_index.specs.Stands.{Stands, IsServed, Begins, Steps, EndsBuild, Applies, ReadsView, Drops, IsRun, HasBounds, pinned, released, outcome_of, built_outcome, calls_after, log_after, views_after, placed, vacated};
+ghost use Rattle.mt_index.specs.Stands.{Stands, Begins, Steps, EndsBuild, Applies, ReadsView, Drops, Advances, Collects, IsOldest, IsRun, HasBounds, pinned, released, outcome_of, built_outcome, calls_after, log_after, views_after, placed, vacated};
 
 use crate::calls::{Call, Calls, Stepped};
 use crate::feed::deltas_after;
 use crate::options::Options;
 use crate::viewing::{close_build, page, take_on};
 use bytes::Bytes;
+use mt_calls::collecting::collect;
 use mt_calls::progress::Progress;
 use mt_commit::log::Log;
 use mt_tree::Tree;
@@ -66,23 +67,6 @@ impl Model for Machine {
     ghost invariant = { λ m. (h : History) × Stands (record { columns = m.columns; epoch = m.epoch; tree = m.tree; log = m.log; calls = m.calls; views = m.views }) h };
 }
 
-/// Whether the index serves this event: all but begins of tidies, and epochs.
-pub fn is_served(event: &Event) -> bool
-    ensures { IsTrue result ↔ IsServed event.now }
-{
-    match event {
-        Event::Begin(_, request) => is_served_request(request),
-        Event::Advance | Event::Collect => false,
-        _ => true,
-    }
-}
-
-fn is_served_request(request: &Request) -> bool
-    ensures { IsTrue result ↔ IsServedRequest request.now }
-{
-    !matches!(request, Request::Tidy { .. })
-}
-
 fn is_build(request: &Request) -> bool
     ensures { result ≡ is_build request.now }
 {
@@ -109,6 +93,17 @@ fn begin_fault(
         return Some(Refusal::TooManyCalls);
     }
     (is_build(request) && places >= MAX_VIEWS).then_some(Refusal::TooManyViews)
+}
+
+// The last epoch before that in which the oldest open call began, or where none is open, the present one. There is none
+// before epoch 0.
+fn last_before(oldest: Option<u64>, now: u64) -> Option<u64>
+    ensures { MatchOption result (oldest ≡ Some 0) (λ upto. IsOldest now (upto + 1) oldest) }
+{
+    match oldest {
+        Some(began) => began.checked_sub(1),
+        None => Some(now),
+    }
 }
 
 // A call begins, which keeps a place among the views if it is a build.
@@ -272,7 +267,7 @@ impl Machine {
         self.calls.pass_of(call.0)
     }
 
-    /// How many node numbers are occupied: by the nodes of the tree, and by the spares of open calls.
+    /// How many node numbers are occupied: by the nodes of the tree, by retired ones, and by the spares of open calls.
     pub fn nodes(&self) -> usize
         ensures { result ≡ occupied self.now.tree.nodes }
     {
@@ -297,7 +292,6 @@ impl Machine {
     }
 
     fn begin(&mut self, alloc: Global, pass: PassNo, request: &Request) -> Outcome
-        requires { IsServedRequest request.now }
         ensures begins { Begins self.old pass request.now result self.new }
         ensures bounds { HasBounds self.old.log.feed self.old.log.keep self.new.log }
     {
@@ -334,9 +328,14 @@ impl Machine {
         if self.calls.is_built(number) {
             return self.end_build(number);
         }
-        let Some(stepped) = self
-            .calls
-            .step(alloc, self.columns, number, &mut self.tree, &mut self.log)
+        let Some(stepped) = self.calls.step(
+            alloc,
+            self.columns,
+            self.epoch,
+            number,
+            &mut self.tree,
+            &mut self.log,
+        )
         else {
             return Outcome::Refused(Refusal::NoSuchCall);
         };
@@ -431,14 +430,35 @@ impl Machine {
         Outcome::Dropped
     }
 
+    fn advance(&mut self) -> Outcome
+        ensures advances { Advances self.old result self.new }
+        ensures bounds { HasBounds self.old.log.feed self.old.log.keep self.new.log }
+    {
+        let Some(next) = self.epoch.checked_add(1) else {
+            return Outcome::Refused(Refusal::Spent);
+        };
+        self.epoch = next;
+        Outcome::Epoch(next)
+    }
+
+    fn collect(&mut self) -> Outcome
+        ensures collects { Collects self.old result self.new }
+        ensures caused { IsCaused self.old Collect result self.new }
+        ensures bounds { HasBounds self.old.log.feed self.old.log.keep self.new.log }
+    {
+        match last_before(self.calls.oldest(), self.epoch) {
+            Some(upto) => Outcome::Freed(collect(&mut self.tree, upto)),
+            None => Outcome::Freed(0),
+        }
+    }
+
     /// One event, and what came of it. Wherever the machine stands, it then stands where this has happened too, and that
-    /// is legal: `stands` says so of each history. Why a call waits, fails or is refused, which a history
-    /// doesn't show, is the clause `caused`.
+    /// is legal: `stands` says so of each history. Why a call waits, fails or is refused, and which
+    /// nodes a collection frees, which a history doesn't show, is the clause `caused`.
     ///
     /// A begin costs some allocations, and a step the visit of one node and at most some allocations; each of them finds
     /// its call at the cost of a way down the tree of open calls.
     pub fn event(&mut self, alloc: Global, event: &Event) -> Outcome
-        requires { IsServed event.now }
         ensures stands { (h : History) → Stands self.old h → (opens : ℕ) × Stands self.new (happening event.now result opens ∷ h) }
         ensures caused { IsCaused self.old event.now result self.new }
         ensures columns { self.new.columns ≡ self.old.columns }
@@ -455,7 +475,8 @@ impl Machine {
                 limit,
             } => self.view_read(alloc, view.0, *floor, start, *limit),
             Event::ViewDrop(view) => self.view_drop(view.0),
-            Event::Advance | Event::Collect => unreachable!(),
+            Event::Advance => self.advance(),
+            Event::Collect => self.collect(),
         }
     }
 
@@ -471,7 +492,6 @@ impl Machine {
         options: Options,
         events: &[Event],
     ) -> Result<(Machine, Vec<Outcome>), Refusal>
-        requires { All IsServed events.now }
         ensures legal { IfOk result (λ run. (h : History) × IsRun options.columns events.now run.1.items run.0 h) }
         ensures length { IfOk result (λ run. length run.1.items ≡ length events.now) }
         ensures bounds { IfOk result (λ run. HasBounds options.feed options.keep run.0.log) }

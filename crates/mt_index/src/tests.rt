@@ -1,9 +1,6 @@
 //! Each public call of the machine once: a put of a long key that commits, with its delta, and a run of a get. Whole scripts are run one crate
 //! up.
 
-ghost use Rattle.std.specs.Prelude.{IfOk};
-ghost use Rattle.mt_index.specs.Stands.{IsServed};
-
 use crate::machine::Machine;
 use crate::options::Options;
 use bytes::Bytes;
@@ -20,9 +17,7 @@ const OPTIONS: Options = Options {
 };
 
 // A get of all columns, by pass 2.
-fn get(alloc: Global, key: &'static [u8]) -> Event
-    ensures { IsServed result }
-{
+fn get(alloc: Global, key: &'static [u8]) -> Event {
     Event::Begin(
         PassNo(2),
         Request::Get {
@@ -33,9 +28,7 @@ fn get(alloc: Global, key: &'static [u8]) -> Event
 }
 
 // A put of column 0, by pass 1.
-fn put(alloc: Global, key: &'static [u8], value: &'static [u8]) -> Result<Event, Fail>
-    ensures { IfOk result IsServed }
-{
+fn put(alloc: Global, key: &'static [u8], value: &'static [u8]) -> Result<Event, Fail> {
     let mut sets = Vec::new(alloc);
     sets.push((0, Bytes::from_static(value)))?;
     Ok(Event::Begin(

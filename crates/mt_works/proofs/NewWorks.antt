@@ -1,7 +1,7 @@
 -- What is true of a call that begins.
 use Rattle.std.proofs.Common.{ℕ, ◌≡◌, None, List, [], ◌∷◌, refl, sym, subst}
 use Rattle.mt_tree.specs.Seen.{arena_seen}
-use Rattle.mt_works.specs.declared.work.Work.TheVariants.{Get as GetWork, Range as RangeWork, Build as BuildWork}
+use Rattle.mt_works.specs.declared.work.Work.TheVariants.{Get as GetWork, Range as RangeWork, Tidy as TidyWork, Build as BuildWork}
 use Rattle.mt_chart.specs.Tree.{Arena}
 use Rattle.mt_chart.specs.Chart.{Chart, IsTree}
 use Rattle.mt_build.specs.Build.{BuildView, IsScanning}
@@ -10,6 +10,9 @@ use Rattle.mt_slice.specs.Place.{AreBytes, place_of}
 use Rattle.mt_chart.specs.ScanRun.{Stood, AllHave}
 use Rattle.mt_chart.proofs.Ranges.{range_begins}
 use Rattle.mt_scan.specs.Scan.{ScanView}
+use Rattle.mt_calls.specs.Step.{nothing}
+use Rattle.mt_remove.specs.declared.tidy.Tidy.{Tidy}
+use Rattle.mt_remove.specs.Tidy.{tidy_held, NewTidyIsTrue}
 use Rattle.mt_works.specs.Works.{IsNew}
 use Rattle.mt_calls.proofs.WayLemmas.{starts}
 use Rattle.mt_calls.proofs.FrameLemmas.{trail_begins}
@@ -41,3 +44,6 @@ new_build C number build scans at columns = record {
   true = λ a now begun w world. scans w.chart begun (arena_seen a) world.index.tree;
   opens = (refl, at, columns);
 }
+
+pub new_tidy : (C number : ℕ) (tidy : Tidy) → tidy_held tidy ≡ nothing → NewTidyIsTrue tidy → IsNew C number (TidyWork tidy)
+new_tidy C number tidy has begins = record { has = has; true = λ a now begun w world. begins a now begun w world; opens = tt }

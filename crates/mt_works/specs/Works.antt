@@ -1,7 +1,6 @@
 -- The kinds of calls: what each asks for, what it has, and what is true of it.
-use Rattle.std.specs.Prelude.{ℕ, ◌≡◌, List, [], None}
+use Rattle.std.specs.Prelude.{ℕ, ◌≡◌, ◌≤◌, List, [], None}
 use Rattle.mt_types.specs.declared.event.Request.{Request}
-use Rattle.mt_types.specs.declared.event.Request.TheVariants.{Tidy as TidyRequest}
 use Rattle.mt_commit.specs.Log.{LogView}
 use Rattle.mt_arena.specs.Arena.{ArenaView}
 use Rattle.mt_chart.specs.Tree.{Arena}
@@ -11,14 +10,16 @@ use Rattle.mt_calls.specs.Step.{Held, nothing}
 use Rattle.mt_calls.specs.Getting.{get_request, GetIsTrue}
 use Rattle.mt_calls.specs.Ranging.{range_request, RangeIsTrue}
 use Rattle.mt_write.specs.Writing.{write_request, write_held, WriteIsTrue}
+use Rattle.mt_remove.specs.Tidy.{tidy_request, tidy_held, TidyTruth}
 use Rattle.mt_works.specs.Building.{building_request, BuildingIsTrue, IsInLog, IsBuilt, BuildsOn}
 use Rattle.mt_works.specs.declared.work.Work.{Work}
-use Rattle.mt_works.specs.declared.work.Work.TheVariants.{Get, Write, Range, Build}
+use Rattle.mt_works.specs.declared.work.Work.TheVariants.{Get, Write, Range, Tidy, Build}
 
 abbrev pub request_of : Work → Request
 request_of (Get get) = get_request get
 request_of (Write write) = write_request write
 request_of (Range range) = range_request range
+request_of (Tidy tidy) = tidy_request tidy
 request_of (Build building) = building_request building
 
 -- what it owns, has reserved and has committed
@@ -26,6 +27,7 @@ abbrev pub held : Work → Held
 held (Get get) = nothing
 held (Write write) = write_held write
 held (Range range) = nothing
+held (Tidy tidy) = tidy_held tidy
 held (Build building) = nothing
 
 -- what is true of it
@@ -33,7 +35,19 @@ abbrev pub IsTrue : ℕ → Work → ℕ → ℕ → List Arena → ArenaView �
 IsTrue C (Get get) begun moves past a w = GetIsTrue get begun moves past a w
 IsTrue C (Write write) begun moves past a w = WriteIsTrue C write begun moves past a w
 IsTrue C (Range range) begun moves past a w = RangeIsTrue range begun moves past a w
+IsTrue C (Tidy tidy) begun moves past a w = TidyTruth tidy begun moves past a w
 IsTrue C (Build building) begun moves past a w = BuildingIsTrue building begun moves past a w
+
+-- what its step asks in an epoch, the present one: there is a world in which its record is true, and the log has the room that
+-- it has reserved
+pub record MayWork (now C : ℕ) (a : ArenaView) (log : LogView) (work : Work) : Type 0 where
+  pub begun : ℕ
+  pub moves : ℕ
+  pub past : List Arena
+  pub w : World
+  pub world : IsWorld a now w
+  pub true : IsTrue C work begun moves past a w
+  pub room : (held work).reserves ≤ log.reserved
 
 -- the delta that a build is to take next is one of the log's
 abbrev pub HasNext : LogView → Work → Type 0
@@ -62,8 +76,3 @@ pub record IsNew (C number : ℕ) (work : Work) : Type 0 where
   pub has : held work ≡ nothing
   pub true : (a : ArenaView) (now begun : ℕ) (w : World) → IsWorld a now w → IsTrue C work begun 0 [] a w
   pub opens : OpensAt C number work
-
--- the requests for which there is a work
-abbrev pub IsServedRequest : Request → Type 0
-IsServedRequest (TidyRequest key) = ⊥
-IsServedRequest _ = Unit {0}

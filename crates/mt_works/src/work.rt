@@ -3,12 +3,12 @@
 ghost use Rattle.std.specs.Prelude.{◌≡◌, ◌↔◌, ℕ, IfOk, IsTrue as IsTrueBool};
 ghost use Rattle.mt_types.specs.declared.event.Request.TheVariants.{Range as RangeRequest, Build as BuildRequest};
 ghost use Rattle.mt_promise.specs.Legal.{reads_log, is_build};
-ghost use Rattle.mt_calls.specs.Step.{StepLaw, MayStep};
+ghost use Rattle.mt_calls.specs.Step.{StepLawIn};
 ghost use Rattle.mt_calls.specs.Ranging.{range_request};
 ghost use Rattle.mt_works.specs.Building.{building_request};
 ghost use Rattle.mt_works.specs.Causes.{WorkWaits, WorkFails};
 ghost use Rattle.mt_works.specs.Follows.{WorkFollows};
-ghost use Rattle.mt_works.specs.Works.{request_of, held, IsTrue, IsNew, IsServedRequest, IsBuiltWork, HasNext, WorkBuilds};
+ghost use Rattle.mt_works.specs.Works.{request_of, held, IsTrue, IsNew, MayWork, IsBuiltWork, HasNext, WorkBuilds};
 
 use crate::building::Building;
 use bytes::Bytes;
@@ -18,6 +18,7 @@ use mt_calls::progress::Progress;
 use mt_calls::ranging::Range;
 use mt_calls::way::{START, rest_of};
 use mt_commit::log::Log;
+use mt_remove::tidy::Tidy;
 use mt_scan::Scan;
 use mt_tree::{TOP, Tree};
 use mt_types::copying::TryCopy;
@@ -35,6 +36,7 @@ pub enum Work {
     Get(Get),
     Write(Write),
     Range(Range),
+    Tidy(Tidy),
     Build(Building),
 }
 
@@ -63,12 +65,19 @@ impl Work {
         }
     }
 
-    /// Visits one node; a build that has scanned its keys takes one delta.
-    pub fn step(&mut self, alloc: Global, columns: u8, tree: &mut Tree, log: &mut Log) -> Progress
-        requires may { MayStep tree.old log.old (held self.old) (IsTrue columns self.old) }
+    /// Visits one node, in this epoch, the present one; a build that has scanned its keys takes one delta.
+    pub fn step(
+        &mut self,
+        alloc: Global,
+        columns: u8,
+        epoch: u64,
+        tree: &mut Tree,
+        log: &mut Log,
+    ) -> Progress
+        requires may { MayWork epoch columns tree.old log.old self.old }
         requires next { HasNext log.old self.old }
         ensures request { request_of self.new ≡ request_of self.old }
-        ensures steps { StepLaw columns tree.old tree.new log.old log.new (request_of self.old) (held self.old) result (held self.new) (IsTrue columns self.old) (IsTrue columns self.new) }
+        ensures steps { StepLawIn epoch columns tree.old tree.new log.old log.new (request_of self.old) (held self.old) result (held self.new) (IsTrue columns self.old) (IsTrue columns self.new) }
         ensures builds { WorkBuilds tree.old log.old self.old result self.new }
         ensures waits { WorkWaits tree.old self.old result }
         ensures fails { WorkFails tree.old log.old self.old result self.new }
@@ -78,6 +87,7 @@ impl Work {
             Work::Get(get) => get.step(alloc, tree),
             Work::Write(write) => write.step(alloc, columns, tree, log),
             Work::Range(range) => range.step(alloc, tree),
+            Work::Tidy(tidy) => tidy.step(tree, epoch),
             Work::Build(building) => building.step(alloc, tree, log),
         }
     }
@@ -146,14 +156,13 @@ fn new_building(
     })
 }
 
-/// The work of a call that asks for this, which is served, and whose keys are not too long; it begins when there are so
-/// many commits. Shares the bytes.
+/// The work of a call that asks for this, and whose keys are not too long; it begins when there are so many commits.
+/// Shares the bytes.
 ///
 /// # Errors
 ///
 /// `NoMemory` for want of it, or where a key is too long: the begin of a call tests that.
 pub fn work_of(alloc: Global, columns: u8, number: u64, request: &Request) -> Result<Work, NoMemory>
-    requires served { IsServedRequest request.now }
     ensures request { IfOk result (λ work. request_of work ≡ request.now) }
     ensures new { IfOk result (IsNew columns number) }
 {
@@ -173,7 +182,7 @@ pub fn work_of(alloc: Global, columns: u8, number: u64, request: &Request) -> Re
             limit,
             columns,
         } => Ok(Work::Range(new_range(alloc, key_of(alloc, start)?, *limit, columns)?)),
+        Request::Tidy { key } => Ok(Work::Tidy(Tidy::new(key_of(alloc, key)?))),
         Request::Build { spec } => Ok(Work::Build(new_building(alloc, columns, number, spec)?)),
-        Request::Tidy { .. } => unreachable!(),
     }
 }

@@ -17,7 +17,7 @@ returns-in_default-clause-none c = λ none. (
 pub step-progress-requires : goal.step-progress-requires
 step-progress-requires c =
     let found = sym (c.in-Some.ensures.value ∙ lookup-call_at c.args.number c.self.inside.calls.entries ∙ ap (λ (s : CallsView). call_at c.args.number s.calls) c.self.view_is) in
-    let (may, next) = subst (λ (r : Option Call). MayStepOf c.args.columns c.args.tree.now c.args.log.now r) found c.requires in
+    let (may, next) = subst (λ (r : Option Call). MayStepOf c.args.epoch c.args.columns c.args.tree.now c.args.log.now r) found c.requires in
     record { may = may; next = next }
 
 pub invariant_of-self-2 : goal.invariant_of-self-2

@@ -5,7 +5,7 @@ use Rattle.mt_views.specs.Views.{ViewsView, state_at}
 use Rattle.mt_commit.specs.Laws.{times_held}
 use Rattle.mt_commit.specs.Log.{LogView}
 use Rattle.mt_index.specs.Stands.{MachineView, Applies}
-use Rattle.mt_index.proofs.EventStands.{seen}
+use Rattle.mt_index.proofs.LaterStands.{seen}
 use Rattle.mt_index.proofs.ApplyStands.{view_reaches, applies-stand}
 use Rattle.mt_index.proofs.MachineLemmas.{state_there, no_state, meant_found, room_to_pin, takes_on, is_current, lacks_memory}
 use Rattle.mt_index.proofs.machine.Machine.apply.Goals as goal

@@ -10,7 +10,8 @@ use Rattle.mt_works.specs.Works.{IsNew}
 use Rattle.mt_index.specs.Calls.{CallsView}
 use Rattle.mt_index.specs.Stands.{MachineView, Stands, Begins, fault_of, pinned, placed, released, with_call}
 use Rattle.mt_index.proofs.LogStands.{pinned_holds, pinned_back}
-use Rattle.mt_index.proofs.EventStands.{begun-stands, called, seen}
+use Rattle.mt_index.proofs.EventStands.{begun-stands, called}
+use Rattle.mt_index.proofs.LaterStands.{seen}
 use Rattle.mt_index.proofs.MachineLemmas.{room_to_pin, no_fault_of}
 use Rattle.mt_index.proofs.machine.Machine.begin.Goals as goal
 

@@ -4,7 +4,7 @@ use Rattle.mt_commit.specs.Log.{newest}
 use Rattle.mt_types.specs.declared.event.Outcome.{Outcome}
 use Rattle.mt_index.specs.Calls.{call_at, IsBuiltCall}
 use Rattle.mt_index.specs.Stands.{MachineView, EndsBuild, HasBounds, built_outcome}
-use Rattle.mt_index.proofs.EventStands.{seen}
+use Rattle.mt_index.proofs.LaterStands.{seen}
 use Rattle.mt_index.proofs.ViewEvents.{ends-stand}
 use Rattle.mt_index.proofs.MachineLemmas.{build_place, build_held, build_within, is_built_of, room_to_pin, ends_build, bounds_kept}
 use Rattle.mt_index.proofs.machine.Machine.end_build.Goals as goal

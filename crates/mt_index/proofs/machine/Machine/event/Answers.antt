@@ -1,12 +1,13 @@
 use Rattle.std.proofs.Common.{subst, sym, ◌≡◌, ◌∙◌, ◌∷◌, refl}
 use Rattle.mt_types.specs.declared.event.Event.{Event}
 use Rattle.mt_promise.specs.History.{happening}
-use Rattle.mt_index.specs.Stands.{IsServed, Stands}
+use Rattle.mt_index.specs.Stands.{Stands}
 use Rattle.mt_index.specs.Causes.{IsCaused}
 use Rattle.mt_index.proofs.CauseLemmas.{steps-caused}
 use Rattle.mt_index.proofs.EventStands.{begins-stands, begins-columns}
 use Rattle.mt_index.proofs.ViewEvents.{steps-stand, steps-columns}
 use Rattle.mt_index.proofs.ApplyStands.{applies-stand, applies-columns, reads-stand, drops-stand, drops-columns}
+use Rattle.mt_index.proofs.EpochStands.{advances-stand, collects-stand}
 use Rattle.mt_index.proofs.machine.Machine.event.Goals as goal
 
 pub returns-in-Begin : goal.returns-in-Begin
@@ -52,3 +53,20 @@ returns-in-ViewDrop-clause-stands c = λ h st. (
   subst (λ (e : Event). Stands c.view_drop.new.self (happening e c.view_drop.result 0 ∷ h)) (sym c.in-ViewDrop.is)
       (drops-stand c.args.self.now h st c.view_drop.new.self c.in-ViewDrop.view c.view_drop.result c.view_drop.ensures.drops),
 )
+
+pub returns-in-Advance-clause-stands : goal.returns-in-Advance-clause-stands
+returns-in-Advance-clause-stands c = λ h st. (
+  0,
+  subst (λ (e : Event). Stands c.advance.new.self (happening e c.advance.result 0 ∷ h)) (sym c.in-Advance.is)
+      (advances-stand c.args.self.now c.advance.new.self h st c.advance.result c.advance.ensures.advances),
+)
+
+pub returns-in-Collect-clause-stands : goal.returns-in-Collect-clause-stands
+returns-in-Collect-clause-stands c = λ h st. (
+  0,
+  subst (λ (e : Event). Stands c.collect.new.self (happening e c.collect.result 0 ∷ h)) (sym c.in-Collect.is)
+      (collects-stand c.args.self.now c.collect.new.self h st c.collect.result c.collect.ensures.collects),
+)
+
+pub returns-in-Collect-clause-caused : goal.returns-in-Collect-clause-caused
+returns-in-Collect-clause-caused c = subst (λ (e : Event). IsCaused c.args.self.now e c.collect.result c.collect.new.self) (sym c.in-Collect.is) c.collect.ensures.caused

@@ -4,7 +4,8 @@ use Rattle.mt_slice.specs.Place.{place_of}
 use Rattle.mt_views.specs.Views.{ViewsView}
 use Rattle.mt_index.specs.Calls.{CallsView}
 use Rattle.mt_index.specs.Stands.{Stands}
-use Rattle.mt_index.proofs.EventStands.{opens-stands, new_keys, new_heads, new_twins, new_retired, new_untaken, seen}
+use Rattle.mt_index.proofs.EventStands.{opens-stands, new_keys, new_heads, new_twins, new_retired, new_untaken}
+use Rattle.mt_index.proofs.LaterStands.{seen}
 use Rattle.mt_index.proofs.machine.Machine.open.Goals as goal
 
 pub invariant_of-result : goal.invariant_of-result

@@ -3,7 +3,8 @@ use Rattle.std.specs.Prelude.{IsTrue}
 use Rattle.mt_commit.specs.Log.{trimmed}
 use Rattle.mt_index.specs.Calls.{IsBuiltCall, call_at}
 use Rattle.mt_index.specs.Stands.{MachineView, HasBounds}
-use Rattle.mt_index.proofs.EventStands.{may_step, may_settle, may_vacate, step_bounds, settled_bounds, taken-steps, taken-stands, seen}
+use Rattle.mt_index.proofs.EventStands.{may_step, may_settle, may_vacate, step_bounds, settled_bounds, taken-steps, taken-stands}
+use Rattle.mt_index.proofs.LaterStands.{seen}
 use Rattle.mt_index.proofs.MachineLemmas.{not_built}
 use Rattle.mt_index.proofs.machine.Machine.step.Goals as goal
 

@@ -4,7 +4,7 @@ use Rattle.mt_types.specs.declared.event.Outcome.TheVariants.{Dropped}
 use Rattle.mt_promise.specs.History.{happening}
 use Rattle.mt_views.specs.Views.{state_at}
 use Rattle.mt_index.specs.Stands.{MachineView, Drops}
-use Rattle.mt_index.proofs.EventStands.{seen}
+use Rattle.mt_index.proofs.LaterStands.{seen}
 use Rattle.mt_index.proofs.ApplyStands.{view_held, drops-stand}
 use Rattle.mt_index.proofs.MachineLemmas.{drops_view, state_there}
 use Rattle.mt_index.proofs.machine.Machine.view_drop.Goals as goal

@@ -1,2 +1,0 @@
--- What contracts see of the epochs.
-pub mod EpochsView
