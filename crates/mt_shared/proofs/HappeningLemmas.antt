@@ -2,13 +2,15 @@
 use Rattle.std.proofs.Common.{ℕ, ◌+◌, ◌≡◌, ◌≤◌, Bool, true, false, List, ◌∷◌, ◌++◌, length, Option, Some, None, zero, suc, ap, sym, ◌∙◌, subst, refl, arith, inl, inr}
 use Rattle.std.specs.Prelude.{MatchBool, nat_lt}
 use Rattle.mt_types.specs.Numbers.{greatest_number}
-use Rattle.mt_types.specs.Limits.{page_fault}
+use Rattle.mt_types.specs.Limits.{page_fault, refused_if}
 use Rattle.std.proofs.lemmas.List.{length-append}
+use Rattle.std.proofs.lemmas.Bool.Decides.{nat_tests}
 use Rattle.mt_types.specs.declared.numbers.PassNo.{PassNo}
 use Rattle.mt_types.specs.declared.numbers.CallNo.{CallNo}
+use Rattle.mt_types.specs.declared.numbers.ViewNo.{ViewNo}
 use Rattle.mt_types.specs.declared.row.Change.{Change}
 use Rattle.mt_types.specs.declared.refusal.Refusal.{Refusal}
-use Rattle.mt_types.specs.declared.refusal.Refusal.TheVariants.{NoMemory, NoSuchCall, NoSuchView, Spent}
+use Rattle.mt_types.specs.declared.refusal.Refusal.TheVariants.{NoMemory, NoSuchCall, NoSuchView, Behind, Spent}
 use Rattle.mt_types.specs.declared.event.Event.{Event}
 use Rattle.mt_types.specs.declared.event.Event.TheVariants.{Begin, Step, Apply, ViewRead, ViewDrop, Advance, Collect}
 use Rattle.mt_types.specs.declared.event.Request.{Request}
@@ -16,7 +18,7 @@ use Rattle.mt_types.specs.declared.event.Request.TheVariants.{Put, Remove}
 use Rattle.mt_types.specs.declared.event.Outcome.{Outcome}
 use Rattle.mt_types.specs.declared.event.Outcome.TheVariants.{Call, Moved, Again, Commit, Done, Applied, Current, View, Dropped, Epoch, Freed, Refused}
 use Rattle.mt_promise.specs.History.{History, Moment, OpenCall, StandingView, happening, moment, call_of, view_of, meant_view, change_of, after_event, after_begin, after_step, after_call_step, after_apply, after_drop, after_advance}
-use Rattle.mt_promise.specs.Legal.{MayHappen, MayBegin, MayStepAt, MayStep, MayCommit, MayApply, MayReadView, MayRead, MayShow, MayDrop, IsOrLacksMemory, begin_fault, view_places}
+use Rattle.mt_promise.specs.Legal.{MayHappen, MayBegin, MayStepAt, MayStep, MayCommit, MayApply, MayReadView, MayRead, MayShow, MayDrop, IsOrLacksMemory, page_of, begin_fault, view_places}
 use Rattle.mt_promise.proofs.NumberedLemmas.{found}
 use Rattle.mt_shared.specs.Passes.{commit_count, seen_in, Suits}
 
@@ -168,3 +170,43 @@ pub step_suits : (C : ℕ) (past : History) (pass : PassNo) (call : CallNo) (r :
     → (o : Outcome) (opens : ℕ) → MayStepAt C past r o opens → Suits pass (Step call) o
 step_suits C past pass call None at own o opens may = subst (λ (p : Outcome). Suits pass (Step call) p) (sym may) tt
 step_suits C past pass call (Some c) at own o opens may = open_suits C past pass call c (found (λ (x : OpenCall). x.number) call.0 (moment past).calls c at) (own c refl) o opens may
+
+-- the one outcome that there may be
+suits_as : (pass : PassNo) (e : Event) (p o : Outcome) → Suits pass e p → o ≡ p → Suits pass e o
+suits_as pass e p o fits is = subst (λ (w : Outcome). Suits pass e w) (sym is) fits
+
+suits_either : (pass : PassNo) (e : Event) (p o : Outcome) → Suits pass e p → Suits pass e (Refused NoMemory) → IsOrLacksMemory p o → Suits pass e o
+suits_either pass e p o fits lacking may = elim may [ inl is ↦ suits_as pass e p o fits is | inr is ↦ suits_as pass e (Refused NoMemory) o lacking is ]
+
+takes_suits : (pass : PassNo) (view : ViewNo) (b : Bool) (n : ℕ) (o : Outcome) → MatchBool b (IsOrLacksMemory (Applied n) o) (o ≡ Current) → Suits pass (Apply view) o
+takes_suits pass view true n o may = suits_either pass (Apply view) (Applied n) o tt tt may
+takes_suits pass view false n o may = suits_as pass (Apply view) Current o tt may
+
+pub apply_suits : (pass : PassNo) (view : ViewNo) (m : Moment) (asked : ℕ) (v : Option StandingView) (o : Outcome) → MayApply m asked v o → Suits pass (Apply view) o
+apply_suits pass view m zero None o may = suits_as pass (Apply view) Current o tt may
+apply_suits pass view m (suc n) None o may = suits_as pass (Apply view) (Refused NoSuchView) o tt may
+apply_suits pass view m zero (Some v) o may = takes_suits pass view (nat_lt v.at (length m.commits)) (v.at + 1) o may
+apply_suits pass view m (suc n) (Some v) o may = takes_suits pass view (nat_lt v.at (length m.commits)) (v.at + 1) o may
+
+-- where no refusal is due, the view doesn't stand before the floor
+not_before : (b : Bool) (refusal : Refusal) → refused_if b refusal ≡ None → b ≡ false
+not_before true refusal is = cc
+not_before false refusal is = refl
+
+reaches : (at floor : ℕ) → nat_lt at floor ≡ false → floor ≤ at
+reaches at floor is = grind (arith, nat_tests)
+
+show_suits : (pass : PassNo) (view : ViewNo) (C : ℕ) (m : Moment) (v : StandingView) (floor : ℕ) (start : List ℕ) (limit : ℕ) (fault : Option Refusal) → refused_if (nat_lt v.at floor) (Behind v.at) ≡ fault
+    → (o : Outcome) → MayShow C m v start limit fault o → Suits pass (ViewRead view floor start limit) o
+show_suits pass view C m v floor start limit (Some refusal) due o may = suits_as pass (ViewRead view floor start limit) (Refused refusal) o tt may
+show_suits pass view C m v floor start limit None due o may =
+    suits_either pass (ViewRead view floor start limit) (View (page_of C m v start limit)) o (reaches v.at floor (not_before (nat_lt v.at floor) (Behind v.at) due)) tt may
+
+view_suits : (pass : PassNo) (view : ViewNo) (C : ℕ) (m : Moment) (v : Option StandingView) (floor : ℕ) (start : List ℕ) (limit : ℕ) (o : Outcome) → MayRead C m v floor start limit o → Suits pass (ViewRead view floor start limit) o
+view_suits pass view C m None floor start limit o may = suits_as pass (ViewRead view floor start limit) (Refused NoSuchView) o tt may
+view_suits pass view C m (Some v) floor start limit o may = show_suits pass view C m v floor start limit (refused_if (nat_lt v.at floor) (Behind v.at)) refl o may
+
+pub page_suits : (pass : PassNo) (view : ViewNo) (C : ℕ) (m : Moment) (fault : Option Refusal) (asked floor : ℕ) (start : List ℕ) (limit : ℕ) (o : Outcome) → MayReadView C m fault asked floor start limit o
+    → Suits pass (ViewRead view floor start limit) o
+page_suits pass view C m (Some refusal) asked floor start limit o may = suits_as pass (ViewRead view floor start limit) (Refused refusal) o tt may
+page_suits pass view C m None asked floor start limit o may = view_suits pass view C m (view_of asked m.views) floor start limit o may

@@ -1,10 +1,10 @@
 -- A pass as contracts see it, and what an event adds to it.
-use Rattle.std.specs.Prelude.{ℕ, ◌+◌, ◌≡◌, ◌⊎◌, Bool, List, [], ◌∷◌, length, max, sum_by}
+use Rattle.std.specs.Prelude.{ℕ, ◌+◌, ◌≡◌, ◌≤◌, ◌⊎◌, Bool, List, [], ◌∷◌, length, max, sum_by}
 use Rattle.mt_types.specs.declared.numbers.PassNo.{PassNo}
 use Rattle.mt_types.specs.declared.event.Event.{Event}
-use Rattle.mt_types.specs.declared.event.Event.TheVariants.{Begin, Step}
+use Rattle.mt_types.specs.declared.event.Event.TheVariants.{Begin, Step, Apply, ViewRead}
 use Rattle.mt_types.specs.declared.event.Outcome.{Outcome}
-use Rattle.mt_types.specs.declared.event.Outcome.TheVariants.{Call, Moved, Again, Commit, Done, Refused}
+use Rattle.mt_types.specs.declared.event.Outcome.TheVariants.{Call, Moved, Again, Commit, Done, Applied, Current, View, Refused}
 use Rattle.mt_types.specs.declared.refusal.Refusal.TheVariants.{Spent, WrongPass}
 use Rattle.mt_shared.specs.declared.trace.Trace.{Trace}
 use Rattle.mt_shared.specs.declared.trace.Entry.{Entry}
@@ -35,7 +35,8 @@ pub record Counts (p : PassView) (event : Event) (outcome : Outcome) (q : PassVi
   pub seen : q.seen ≡ max p.seen (seen_in outcome)
   pub trace : Gains p.trace (entry p.number event outcome ∷ []) q.trace
 
--- a begin gives a call or a refusal; a step gives no call, and a reply that it gives carries its call and its pass
+-- a begin gives a call or a refusal; a step gives no call, and a reply that it gives carries its call and its pass; an
+-- apply takes a view on, or finds none to take on, or is refused; a page doesn't stand before its floor
 abbrev pub Suits : PassNo → Event → Outcome → Type 0
 Suits pass (Begin named request) (Call call) = Unit {0}
 Suits pass (Begin named request) (Refused refusal) = Unit {0}
@@ -46,6 +47,13 @@ Suits pass (Step call) (Commit number) = Unit {0}
 Suits pass (Step call) (Done reply) = (reply.call ≡ call) × (reply.pass ≡ pass)
 Suits pass (Step call) (Refused refusal) = Unit {0}
 Suits pass (Step call) _ = ⊥
+Suits pass (Apply view) (Applied number) = Unit {0}
+Suits pass (Apply view) Current = Unit {0}
+Suits pass (Apply view) (Refused refusal) = Unit {0}
+Suits pass (Apply view) _ = ⊥
+Suits pass (ViewRead view floor start limit) (View page) = floor ≤ page.at
+Suits pass (ViewRead view floor start limit) (Refused refusal) = Unit {0}
+Suits pass (ViewRead view floor start limit) _ = ⊥
 Suits pass _ outcome = Unit {0}
 
 -- What a pass is told by an event: either it was refused as one that this pass can't make, and then the pass is as it

@@ -1,6 +1,6 @@
 //! The calls of a pass by their names: each is `drive` with its request, and nothing between its events.
 
-ghost use Rattle.mt_types.specs.declared.event.Request.TheVariants.{Get, Put, Remove, Range, Build};
+ghost use Rattle.mt_types.specs.declared.event.Request.TheVariants.{Get, Put, Remove, Range, Tidy, Build};
 ghost use Rattle.mt_shared.specs.Drives.{IsDrive};
 
 use crate::driving::{NoGate, Shared, drive};
@@ -98,9 +98,25 @@ pub fn getrange<S: Shared>(
     )
 }
 
+/// One change that tidies the tree where the key would stand. The reply's answer is `Tidied`, with what was done; no row
+/// changes.
+///
+/// # Errors
+///
+/// Those of `drive`: `KeyTooLong`, `TooManyCalls`, `NoMemory` among them.
+pub fn tidy<S: Shared>(
+    alloc: Global,
+    shared: &mut S,
+    pass: &mut Pass,
+    key: Bytes,
+) -> Result<Reply, Refusal>
+    ensures { IsDrive S.does shared.old pass.old (Tidy key) result shared.new pass.new }
+{
+    drive(alloc, shared, pass, &mut NoGate, Request::Tidy { key })
+}
+
 /// A standing view, built among all other calls. The reply's answer is `Built`, with the number of the view; it stands
-/// at a number of commits from that of the call's begin to that of its end. Its applies, pages and drops are events of a
-/// pass.
+/// at a number of commits from that of the call's begin to that of its end. `keep_views` takes it on.
 ///
 /// # Errors
 ///

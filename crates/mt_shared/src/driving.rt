@@ -1,7 +1,6 @@
 //! A call from its begin to its end, event by event, over whatever shares a machine.
 
 ghost use Rattle.std.specs.Prelude.{◌≡◌, ◌≤◌, IfOk, IfErr};
-ghost use Rattle.mt_index.specs.Stands.{IsServed};
 ghost use Rattle.mt_types.specs.declared.event.Event.{Event};
 ghost use Rattle.mt_types.specs.declared.event.Outcome.{Outcome};
 ghost use Rattle.mt_shared.specs.Passes.{PassView, IsTold};
@@ -20,7 +19,6 @@ pub trait Shared {
 
     /// One event of a pass, and what came of it.
     fn event(&mut self, alloc: Global, pass: &mut Pass, event: &Event) -> Outcome
-        requires { IsServed event.now }
         ensures does { does self.old pass.old event.now result self.new pass.new }
         ensures told { IsTold pass.old event.now result pass.new };
 }
@@ -58,7 +56,6 @@ pub fn drive<S: Shared, G: Gate>(
     gate: &mut G,
     request: Request,
 ) -> Result<Reply, Refusal>
-    requires { IsServed (Event.Begin pass.old.number request) }
     ensures reply { IfOk result (λ reply. IsReplyTo pass.old reply pass.new) }
     ensures number { pass.new.number ≡ pass.old.number }
     ensures seen { pass.old.seen ≤ pass.new.seen }

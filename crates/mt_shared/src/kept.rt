@@ -2,7 +2,6 @@
 
 ghost use Rattle.std.specs.Prelude.{◌≡◌, ◌≤◌, IfOk, All, length};
 ghost use Rattle.mt_types.specs.Limits.{open_fault};
-ghost use Rattle.mt_index.specs.Stands.{IsServed};
 ghost use Rattle.mt_shared.specs.declared.book.Book.{Book};
 ghost use Rattle.mt_shared.specs.Traces.{IsNewTrace};
 ghost use Rattle.mt_shared.specs.Books.{booked_events, booked_commits};
@@ -87,7 +86,6 @@ impl Kept {
     /// events, of the index or of the pass, is at its greatest value. Every other refusal is one of the machine, and
     /// counts as an event.
     pub fn event(&mut self, alloc: Global, pass: &mut Pass, event: &Event) -> Outcome
-        requires { IsServed event.now }
         ensures does { Does self.old pass.old event.now result self.new pass.new }
         ensures kept { IsKept self.old × IsKept self.new }
     {

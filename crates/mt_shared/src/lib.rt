@@ -13,3 +13,4 @@ pub mod settling;
 #[cfg(test)]
 mod tests;
 pub mod trace;
+pub mod views;

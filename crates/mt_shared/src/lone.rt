@@ -5,7 +5,6 @@ ghost use Rattle.mt_types.specs.Limits.{open_fault};
 ghost use Rattle.mt_shared.specs.Passes.{IsNewPass};
 ghost use Rattle.mt_shared.specs.Kept.{Does, IsKept, IsFresh, IsRefusedBy};
 ghost use Rattle.mt_shared.specs.Feeds.{Feeds};
-ghost use Rattle.mt_index.specs.Stands.{IsServed};
 ghost use Rattle.mt_shared.specs.Passes.{IsTold};
 
 use crate::driving::Shared;
@@ -69,7 +68,6 @@ impl Shared for Lone {
 
     /// `Kept::event`.
     fn event(&mut self, alloc: Global, pass: &mut Pass, event: &Event) -> Outcome
-        requires { IsServed event.now }
         ensures does { Does self.old pass.old event.now result self.new pass.new }
         ensures told { IsTold pass.old event.now result pass.new }
         ensures kept { IsKept self.old × IsKept self.new }

@@ -1,0 +1,59 @@
+-- The events by which a pass reads views and keeps them up.
+use Rattle.std.specs.Prelude.{ℕ, ◌≡◌, ◌<◌, ◌⊎◌, List, [], ◌∷◌, ◌++◌, length, All, Result, Ok, Err}
+use Rattle.mt_types.specs.declared.numbers.PassNo.{PassNo}
+use Rattle.mt_types.specs.declared.refusal.Refusal.{Refusal}
+use Rattle.mt_types.specs.declared.view.Page.{Page}
+use Rattle.mt_types.specs.declared.event.Event.{Event}
+use Rattle.mt_types.specs.declared.event.Event.TheVariants.{Apply}
+use Rattle.mt_types.specs.declared.event.Outcome.{Outcome}
+use Rattle.mt_types.specs.declared.event.Outcome.TheVariants.{Applied, Current, View, Refused}
+use Rattle.mt_shared.specs.declared.trace.Entry.{Entry}
+use Rattle.mt_shared.specs.Traces.{entry, Gains}
+use Rattle.mt_shared.specs.Passes.{PassView}
+use Rattle.mt_shared.specs.Drives.{EventLaw, Runs}
+
+-- the outcome of the event that gave this page, or this refusal
+abbrev pub page_outcome : Result Page Refusal → Outcome
+page_outcome (Ok page) = View page
+page_outcome (Err refusal) = Refused refusal
+
+-- the apply of the view that is furthest behind
+abbrev pub furthest : Event
+furthest = Apply (record { 0 = 0 })
+
+-- a turn of the pass: such an apply
+abbrev pub turn : PassNo → Outcome → Entry
+turn pass outcome = entry pass furthest outcome
+
+-- a turn that took the view on
+abbrev pub IsTurn : PassNo → Entry → Type 0
+IsTurn pass x = (number : ℕ) × (x ≡ turn pass (Applied number))
+
+-- so many turns were made that each took a view on, one after another, and then these events
+pub record HasTurned {S : Type 0} (does : EventLaw S) (s : S) (p : PassView) (applied : ℕ) (last : List Entry)
+    (t : S) (q : PassView) : Type 0 where
+  pub turns : List Entry
+  pub count : length turns ≡ applied
+  pub are_turns : All (IsTurn p.number) turns
+  pub runs : Runs does s p (turns ++ last) t q
+
+-- after so many turns that took a view on there was none, since no more were to be made; or one that found every view
+-- at the newest commit
+abbrev pub IsLast : PassNo → ℕ → ℕ → List Entry → Type 0
+IsLast pass most applied last =
+    ((applied ≡ most) × (last ≡ [])) ⊎ ((applied < most) × (last ≡ turn pass Current ∷ []))
+
+-- of so many turns at most, so many took a view on, and the pass's own trace gained just those that were made
+pub record KeepsUp {S : Type 0} (does : EventLaw S) (s : S) (p : PassView) (most applied : ℕ)
+    (t : S) (q : PassView) : Type 0 where
+  pub last : List Entry
+  pub is_last : IsLast p.number most applied last
+  pub turned : HasTurned does s p applied last t q
+  pub traced : Gains p.trace (turned.turns ++ last) q.trace
+
+-- after fewer turns that took a view on, one was refused so
+pub record IsStopped {S : Type 0} (does : EventLaw S) (s : S) (p : PassView) (most : ℕ) (refusal : Refusal)
+    (t : S) (q : PassView) : Type 0 where
+  pub applied : ℕ
+  pub fewer : applied < most
+  pub turned : HasTurned does s p applied (turn p.number (Refused refusal) ∷ []) t q
