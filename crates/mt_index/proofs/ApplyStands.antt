@@ -1,6 +1,6 @@
 -- Applies, pages and drops of views lead from a machine that stands at a history to one that stands at the next.
-use Rattle.std.proofs.Common.{ℕ, zero, suc, ◌≡◌, ◌≢◌, ◌≤◌, ◌<◌, ◌+◌, ◌-◌, ◌==◌, ◌⊎◌, inl, inr, Bool, true, false, cond, List, [], ◌∷◌, length, take, map, Option, Some, None, refl, sym, ap, subst, ◌∙◌, arith}
-use Rattle.std.specs.Prelude.{nat_lt, min, MatchBool, Contains}
+use Rattle.std.proofs.Common.{ℕ, zero, suc, ◌≡◌, ◌≤◌, ◌<◌, ◌+◌, ◌-◌, ◌==◌, ◌⊎◌, inl, inr, Bool, true, false, cond, List, [], ◌∷◌, length, take, map, Option, Some, None, refl, sym, ap, subst, ◌∙◌, arith}
+use Rattle.std.specs.Prelude.{nat_lt, MatchBool, Contains}
 use Rattle.std.proofs.Math.Nat.{min-le_left}
 use Rattle.std.specs.Option.{option_map}
 use Rattle.std.proofs.lemmas.Bool.{eq-eqb, ne_eqb}
@@ -11,29 +11,25 @@ use Rattle.mt_types.specs.Views.{afresh, column_sums, page_from}
 use Rattle.mt_types.specs.declared.row.Row.{Row}
 use Rattle.mt_types.specs.declared.view.Page.{Page}
 use Rattle.mt_types.specs.declared.numbers.ViewNo.{ViewNo}
-use Rattle.mt_types.specs.declared.event.Event.{Event}
 use Rattle.mt_types.specs.declared.event.Event.TheVariants.{Apply, ViewRead, ViewDrop}
 use Rattle.mt_types.specs.declared.event.Outcome.{Outcome}
 use Rattle.mt_types.specs.declared.event.Outcome.TheVariants.{Applied, Current, View, Dropped, Refused}
 use Rattle.mt_types.specs.declared.refusal.Refusal.{Refusal}
 use Rattle.mt_types.specs.declared.refusal.Refusal.TheVariants.{NoMemory, NoSuchView, Behind}
-use Rattle.mt_promise.specs.History.{History, Happening, Moment, OpenCall, StandingView, happening, moment, view_of, meant_view, furthest, move_view, without_view}
+use Rattle.mt_promise.specs.History.{History, Happening, Moment, StandingView, happening, moment, view_of, meant_view, furthest, move_view, without_view}
 use Rattle.mt_promise.specs.Legal.{IsOrLacksMemory, MayApply, MayRead, MayReadView, MayShow, MayDrop, page_of, held_from}
-use Rattle.mt_commit.specs.Log.{LogView, newest, trimmed}
+use Rattle.mt_commit.specs.Log.{newest, trimmed}
 use Rattle.mt_commit.specs.Laws.{times_held}
-use Rattle.mt_commit.specs.Holders.{with_holder, without_holder}
+use Rattle.mt_commit.specs.Holders.{with_holder}
 use Rattle.mt_commit.proofs.CountLemmas.{pinning_counts, unpinning_counts, counted_is_held}
 use Rattle.mt_chart.specs.Tree.{Among, first, later}
 use Rattle.mt_view.specs.State.{StateView, applied, page_of_state}
-use Rattle.mt_view.specs.Laws.{IsStateOf}
 use Rattle.mt_views.specs.Views.{ViewsView, Rises, all_standing, standing, state_at, with_state, without}
 use Rattle.mt_views.proofs.ViewLemmas.{rises-state, rises-without, as-many-with-state, fewer-without}
 use Rattle.mt_views.proofs.StandingLemmas.{view-of-state, view-of-none, moved-on, dropped-there}
-use Rattle.mt_index.specs.Calls.{total}
 use Rattle.mt_index.specs.Viewing.{IsExact, ViewsStand}
-use Rattle.mt_index.specs.Stands.{MachineView, Stands, Applies, AppliesTo, TakesOn, ReadsPage, ReadsState, ReadsView, Drops, DropsView, meant_number, none_meant}
-use Rattle.mt_index.proofs.LogStands.{holds_from}
-use Rattle.mt_index.proofs.ViewStands.{all_exact_still, exact_at, exact_with, exact_without, exact_next, places_of, view_holds, moved_holds, dropped_holds, least_held}
+use Rattle.mt_index.specs.Stands.{MachineView, Stands, Applies, TakesOn, ReadsPage, ReadsState, ReadsView, Drops, DropsView, meant_number, none_meant}
+use Rattle.mt_index.proofs.ViewStands.{all_exact_still, exact_at, exact_with, exact_without, exact_next, view_holds, moved_holds, dropped_holds, least_held}
 use Rattle.mt_index.proofs.LogStands.{slowest_is}
 use Rattle.mt_index.proofs.StepStands.{held_before}
 use Rattle.mt_index.proofs.LaterStands.{all_later, same_stands}

@@ -1,5 +1,5 @@
 -- The next epoch, and a collection: each leads from a machine that stands at a history to one that stands at the next.
-use Rattle.std.proofs.Common.{ℕ, ◌≡◌, ◌≤◌, ◌<◌, ◌+◌, inl, inr, List, [], ◌∷◌, take, drop, Option, Some, None, refl, sym, ap, subst, ◌∙◌, arith}
+use Rattle.std.proofs.Common.{ℕ, ◌≡◌, ◌≤◌, ◌<◌, ◌+◌, inl, inr, List, [], ◌∷◌, take, drop, Some, refl, sym, ap, subst, ◌∙◌, arith}
 use Rattle.std.specs.Prelude.{All}
 use Rattle.std.proofs.lemmas.List.Elements.{All-drop, All-nil, All-weaker}
 use Rattle.mt_types.specs.Numbers.{greatest_number}
@@ -12,9 +12,8 @@ use Rattle.mt_promise.specs.Legal.{MayAdvance}
 use Rattle.mt_arena.specs.Arena.{ArenaView}
 use Rattle.mt_arena.specs.declared.retired.Retired.{Retired}
 use Rattle.mt_chart.specs.Tree.{Among, first}
-use Rattle.mt_chart.specs.Chart.{at_level, gone, spot}
 use Rattle.mt_tree.specs.Seen.{arena_seen}
-use Rattle.mt_calls.specs.World.{World, IsTaken, IsGone}
+use Rattle.mt_calls.specs.World.{World, IsGone}
 use Rattle.mt_calls.specs.Collecting.{IsCollected, TakenSince, CollectLaw, Leaves}
 use Rattle.mt_calls.proofs.CollectLemmas.{advances}
 use Rattle.mt_calls.proofs.CollectingLemmas.{law_none}
@@ -23,8 +22,8 @@ use Rattle.mt_works.proofs.WorkLemmas.{stays, owned_taken, owned_since}
 use Rattle.mt_index.specs.declared.calls.Call.{Call}
 use Rattle.mt_index.specs.Calls.{BeganInOrder, oldest_epoch}
 use Rattle.mt_index.specs.Paired.{Paired}
-use Rattle.mt_index.specs.Stands.{MachineView, AllOwned, CallStands, Stands, Advances, Collects, IsOldest, HasBounds}
-use Rattle.mt_index.specs.Causes.{AllBeganAfter, OneBeganBy, FreesSo, IsCaused}
+use Rattle.mt_index.specs.Stands.{MachineView, AllOwned, CallStands, Stands, Advances, Collects, IsOldest}
+use Rattle.mt_index.specs.Causes.{AllBeganAfter, OneBeganBy, IsCaused}
 use Rattle.mt_index.proofs.NumberLemmas.{Entries}
 use Rattle.mt_index.proofs.ListLemmas.{order_from}
 use Rattle.mt_index.proofs.LogStands.{was_later}

@@ -1,11 +1,9 @@
 -- Each event leads from a machine that stands at a history to one that stands at the next.
-use Rattle.std.proofs.Common.{true, false, ℕ, ◌≡◌, ◌+◌, ◌↔◌, inl, inr, List, [], ◌∷◌, ◌++◌, length, Option, Some, None, IsSome, refl, sym, ap, subst, ◌∙◌, arith, ◌-◌, ◌==◌, Bool, cond, drop, map, ◌≤◌, ◌<◌}
-use Rattle.std.specs.FinMap.{get, insert, get-empty}
+use Rattle.std.proofs.Common.{true, false, ℕ, ◌≡◌, ◌+◌, inl, inr, List, [], ◌∷◌, ◌++◌, length, Option, Some, None, IsSome, refl, sym, ap, subst, ◌∙◌, arith, ◌-◌, ◌==◌, Bool, cond, map, ◌≤◌, ◌<◌}
+use Rattle.std.specs.FinMap.{insert, get-empty}
 use Rattle.std.specs.Prelude.{IsTrue as IsTrueBool}
 use Rattle.mt_types.specs.Keys.{key_cmp}
-use Rattle.mt_types.specs.Rows.{Rows, after}
 use Rattle.mt_tree.specs.Seen.{arena_seen, HasRow}
-use Rattle.mt_commit.specs.Logged.{deltas_of}
 use Rattle.std.specs.Prelude.{min, nat_le, count_by, Contains, filter, MatchOption, Result, Ok, Err}
 use Rattle.mt_types.specs.declared.refusal.Refusal.{Refusal}
 use Rattle.mt_types.specs.declared.row.Row.{Row}
@@ -13,24 +11,21 @@ use Rattle.mt_types.specs.declared.numbers.PassNo.{PassNo}
 use Rattle.mt_types.specs.declared.numbers.CallNo.{CallNo}
 use Rattle.mt_types.specs.declared.event.Event.TheVariants.{Begin}
 use Rattle.mt_types.specs.declared.event.Request.{Request}
-use Rattle.mt_types.specs.declared.event.Request.TheVariants.{Get as GetRequest, Put as PutRequest, Remove, Range, Tidy, Build}
+use Rattle.mt_types.specs.declared.event.Request.TheVariants.{Put as PutRequest, Remove}
 use Rattle.mt_types.specs.declared.event.Outcome.{Outcome}
 use Rattle.mt_types.specs.declared.event.Outcome.TheVariants.{Call as Called, Moved as MovedOutcome, Again, Commit, Done, Applied, Current, View, Dropped, Epoch, Freed, Refused as RefusedOutcome}
 use Rattle.mt_types.specs.declared.refusal.Refusal.TheVariants.{NoSuchCall, TooManyCalls, TooManyViews, Spent}
 use Rattle.mt_promise.specs.History.{History, Happening, OpenCall, StandingView, happening, moment, rows, after_step, after_call_step, change_of, new_call, view_built}
-use Rattle.mt_promise.specs.Legal.{MayHappen, MayBegin, MayStepAt, MayEnd, MayCommit, begin_fault, view_places, is_get, is_build}
+use Rattle.mt_promise.specs.Legal.{MayBegin, MayStepAt, MayEnd, MayCommit, begin_fault, view_places, is_get, is_build}
 use Rattle.mt_promise.specs.RightAnswers.{RightAnswer}
 use Rattle.mt_promise.proofs.HistoryLemmas.{happened_is}
 use Rattle.std.proofs.lemmas.Bool.{leb-false}
 use Rattle.std.proofs.lemmas.List.{append-nil, length-map, length-append}
 use Rattle.std.proofs.Math.Nat.{min-le_left}
 use Rattle.std.proofs.lemmas.List.Sums.{length-filter, count_by-le-length}
-use Rattle.std.specs.Option.{option_or}
 use Rattle.mt_types.specs.Limits.{refused_if, request_fault}
 use Rattle.mt_types.specs.Numbers.{greatest_number}
 use Rattle.mt_types.specs.declared.limits.TheConstants.{MAX_OPEN_CALLS, MAX_VIEWS}
-use Rattle.mt_types.specs.Numbers.{least}
-use Rattle.mt_types.specs.declared.row.Change.{Change}
 use Rattle.mt_types.specs.declared.event.Answer.{Answer}
 use Rattle.mt_types.specs.declared.event.Reply.{Reply}
 use Rattle.mt_promise.specs.Legal.{held_from, reads_log}
@@ -70,16 +65,16 @@ use Rattle.mt_write.specs.Writing.{edit_request}
 use Rattle.mt_works.specs.Works.{request_of, held, IsTrue, IsNew, OpensAt, IsBuiltWork, WorkBuilds}
 use Rattle.mt_views.specs.Views.{ViewsView, places, standing}
 use Rattle.mt_index.specs.Viewing.{ViewsStand, ReadsFrom, ReadsOf}
-use Rattle.mt_index.proofs.Reading.{reads_still, reads_on, has_next}
+use Rattle.mt_index.proofs.Reading.{reads_on, has_next}
 use Rattle.mt_index.proofs.ViewStands.{all_exact_still, builds_of, paired-builds, least_held}
 use Rattle.mt_index.specs.Paired.{Paired}
 use Rattle.mt_index.specs.Calls.{CallsView, call_at, with_changed, with_work, without, total, all_reserved, StepsCall, MayStepOf, IsBuiltCall}
 use Rattle.mt_index.specs.Stands.{MachineView, CallStands, WasBlocked, HasRowsOf, IsPast, Stands, HasBounds, StepsOpen, Steps, holding, pinned, placed, log_after, views_after, outcome_of, calls_after, Begins, fault_of, with_call}
 use Rattle.mt_index.proofs.NumberLemmas.{Entries}
-use Rattle.mt_index.proofs.PairedLemmas.{Found, paired-some, paired-none, paired-above, paired-append, paired-length, paired-each}
+use Rattle.mt_index.proofs.PairedLemmas.{Found, paired-some, paired-none, paired-append, paired-length, paired-each}
 use Rattle.mt_index.proofs.ListLemmas.{reserves, among_before, among_append, total_append, total_changed, total_without, without_changed, order_append, order_changed, order_without}
 use Rattle.mt_index.proofs.NumberLemmas.{or_none}
-use Rattle.mt_index.proofs.LogStands.{holds_from, froms, holders_after, log_after_is, pinned_is, least_pinned, held_less, held_more, reader_counts, reader_holds, length_by_counts, slowest_is, all-held, was_later}
+use Rattle.mt_index.proofs.LogStands.{holds_from, froms, holders_after, log_after_is, pinned_is, least_pinned, held_less, held_more, reader_counts, reader_holds, length_by_counts, slowest_is, all-held}
 use Rattle.mt_index.proofs.StepStands.{HoldersAre, held_before, builds_before, with_building, step_event, may_end, right_answer, apart_changed, apart_without, owned_on, owned_end, next_seen, calls_on, calls_end, content_still, keys_still, grows_still, still, commit_stands}
 use Rattle.mt_index.proofs.PastLemmas.{past_new}
 use Rattle.mt_index.proofs.LaterStands.{all_later, same_stands, seen}

@@ -1,5 +1,5 @@
 -- An event that commits nothing, begins and ends no call and changes no view leaves what is true of the machine.
-use Rattle.std.proofs.Common.{ℕ, ◌≡◌, ◌≤◌, ◌-◌, inl, List, ◌∷◌, ◌++◌, length, Some, refl, sym, ap, subst, ◌∙◌, arith, drop, map}
+use Rattle.std.proofs.Common.{ℕ, ◌≡◌, ◌≤◌, ◌-◌, inl, List, ◌∷◌, ◌++◌, length, Some, sym, ap, subst, ◌∙◌, arith, drop, map}
 use Rattle.std.specs.FinMap.{get}
 use Rattle.std.specs.Prelude.{min, count_by}
 use Rattle.mt_types.specs.Rows.{Rows, after}
@@ -14,7 +14,7 @@ use Rattle.mt_commit.specs.Laws.{times_held}
 use Rattle.mt_commit.specs.Logged.{deltas_of}
 use Rattle.mt_arena.specs.Arena.{ArenaView}
 use Rattle.mt_chart.specs.Steps.{SameContent}
-use Rattle.mt_tree.specs.Seen.{arena_seen, HasRow}
+use Rattle.mt_tree.specs.Seen.{arena_seen}
 use Rattle.mt_calls.specs.World.{World, IsWorld}
 use Rattle.mt_works.specs.Works.{held}
 use Rattle.mt_views.specs.Views.{ViewsView}

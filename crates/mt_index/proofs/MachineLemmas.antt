@@ -1,10 +1,9 @@
 -- What the calls of the machine do to its fields, as its events are told.
-use Rattle.std.proofs.Common.{ℕ, ◌≡◌, ◌≤◌, ◌<◌, ◌+◌, ◌⊎◌, ◌↔◌, Bool, false, inl, inr, List, [], ◌∷◌, length, true, cond, Option, Some, None, refl, sym, ap, subst, ◌∙◌, arith}
-use Rattle.std.specs.Prelude.{Contains}
+use Rattle.std.proofs.Common.{ℕ, ◌≡◌, ◌≤◌, ◌<◌, ◌+◌, ◌⊎◌, ◌↔◌, Bool, false, inl, inr, length, true, cond, Option, Some, None, refl, sym, ap, subst, ◌∙◌, arith}
 use Rattle.std.specs.Option.{option_map}
 use Rattle.mt_types.specs.Numbers.{greatest_number}
 use Rattle.mt_types.specs.declared.event.Outcome.{Outcome}
-use Rattle.mt_types.specs.declared.event.Outcome.TheVariants.{Applied, Current, Dropped, Done, Refused}
+use Rattle.mt_types.specs.declared.event.Outcome.TheVariants.{Applied, Current, Dropped, Refused}
 use Rattle.mt_types.specs.declared.refusal.Refusal.{Refusal}
 use Rattle.mt_types.specs.declared.refusal.Refusal.TheVariants.{NoMemory, Spent}
 use Rattle.mt_promise.specs.History.{History, moment, view_of}
@@ -25,7 +24,7 @@ use Rattle.mt_works.specs.Works.{request_of, IsBuiltWork}
 use Rattle.mt_index.specs.declared.calls.Call.{Call}
 use Rattle.mt_index.specs.Calls.{CallsView, IsBuiltCall, call_at, without as without_call}
 use Rattle.mt_index.specs.Viewing.{TakesView, CopiesView}
-use Rattle.mt_index.specs.Stands.{MachineView, CallStands, Stands, AppliesTo, Applies, DropsView, Drops, EndsBuild, HasBounds, built_outcome, fault_of, meant_number, with_view, vacated}
+use Rattle.mt_index.specs.Stands.{MachineView, CallStands, Stands, Applies, Drops, EndsBuild, HasBounds, built_outcome, fault_of, meant_number, with_view, vacated}
 use Rattle.mt_index.proofs.ListLemmas.{total_without}
 use Rattle.mt_index.proofs.PairedLemmas.{paired-some, paired-length}
 use Rattle.mt_index.proofs.OpenLemmas.{few_open}

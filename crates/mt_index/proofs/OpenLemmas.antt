@@ -1,5 +1,5 @@
 -- How many calls are open in a legal history: no more than there may be.
-use Rattle.std.proofs.Common.{ℕ, ◌≡◌, ◌≤◌, ◌<◌, ◌+◌, List, [], ◌∷◌, ◌++◌, length, Option, Some, None, refl, sym, ◌∙◌, arith}
+use Rattle.std.proofs.Common.{ℕ, ◌≡◌, ◌≤◌, ◌+◌, List, [], ◌∷◌, ◌++◌, length, Option, Some, None, refl, arith}
 use Rattle.std.proofs.lemmas.List.{length-map, length-append}
 use Rattle.std.proofs.lemmas.List.Sums.{length-filter, count_by-le-length}
 use Rattle.std.specs.Prelude.{not, ◌==◌, if◌then◌else◌}
@@ -8,8 +8,8 @@ use Rattle.mt_types.specs.declared.refusal.Refusal.{Refusal}
 use Rattle.mt_types.specs.declared.event.Event.{Event}
 use Rattle.mt_types.specs.declared.event.Event.TheVariants.{Begin, Step, Apply, ViewRead, ViewDrop, Advance, Collect}
 use Rattle.mt_types.specs.declared.event.Outcome.{Outcome}
-use Rattle.mt_types.specs.declared.event.Outcome.TheVariants.{Call, Moved, Again, Commit, Done, Applied, Current, View, Dropped, Epoch, Freed, Refused}
-use Rattle.mt_promise.specs.History.{History, Moment, OpenCall, moment, call_of, replace_call, without_call, after_event, after_call_step, new_call}
+use Rattle.mt_types.specs.declared.event.Outcome.TheVariants.{Call, Moved, Again, Commit, Done, Applied, Dropped, Epoch, Refused}
+use Rattle.mt_promise.specs.History.{History, Moment, OpenCall, moment, call_of, without_call, after_event, after_call_step, new_call}
 use Rattle.mt_promise.specs.Legal.{Legal, MayHappen, MayBegin, begin_fault, view_places}
 use Rattle.mt_index.proofs.NumberLemmas.{begun_few}
 

@@ -1,20 +1,18 @@
 -- What is true of builds by the commits of a history, after steps of others and after steps of their own.
-use Rattle.std.proofs.Common.{ℕ, zero, suc, ◌≡◌, ◌≢◌, ◌≤◌, ◌<◌, ◌+◌, ◌-◌, ◌⊎◌, inl, inr, List, [], ◌∷◌, ◌++◌, length, take, drop, Option, Some, None, true, refl, sym, ap, subst, ◌∙◌, arith}
+use Rattle.std.proofs.Common.{ℕ, zero, suc, ◌≡◌, ◌≤◌, ◌<◌, ◌+◌, ◌-◌, inl, inr, List, [], ◌∷◌, ◌++◌, length, take, drop, Option, Some, None, true, refl, sym, ap, subst, ◌∙◌, arith}
 use Rattle.std.specs.Prelude.{slice_get}
 use Rattle.std.proofs.lemmas.List.{length-drop, take_all, take-append-le, drop-append-le}
-use Rattle.std.proofs.lemmas.Option.{slice_get_within, slice_get-get_or}
-use Rattle.mt_types.specs.Rows.{Rows, after}
+use Rattle.mt_types.specs.Rows.{after}
 use Rattle.mt_types.specs.declared.row.Change.{Change}
 use Rattle.mt_types.specs.declared.row.Delta.{Delta}
 use Rattle.mt_types.specs.declared.view.ViewSpec.{ViewSpec}
-use Rattle.mt_types.specs.declared.event.Request.{Request}
 use Rattle.mt_types.specs.declared.event.Request.TheVariants.{Get as GetRequest, Put as PutRequest, Remove as RemoveRequest, Range as RangeRequest, Tidy as TidyRequest, Build as BuildRequest}
 use Rattle.mt_promise.specs.History.{History, Moment, moment, rows}
 use Rattle.mt_promise.specs.Legal.{reads_log}
-use Rattle.mt_commit.specs.Log.{LogView, newest, delta_of}
+use Rattle.mt_commit.specs.Log.{newest, delta_of}
 use Rattle.mt_commit.specs.Logged.{deltas_of}
 use Rattle.mt_commit.proofs.DeltaLemmas.{deltas_of-length}
-use Rattle.mt_view.specs.State.{StateView, applied}
+use Rattle.mt_view.specs.State.{StateView}
 use Rattle.mt_chart.specs.Tree.{Arena}
 use Rattle.mt_tree.specs.Seen.{arena_seen}
 use Rattle.mt_build.specs.Build.{BuildView}

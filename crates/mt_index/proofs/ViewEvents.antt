@@ -1,67 +1,54 @@
 -- Events of views lead from a machine that stands at a history to one that stands at the next: a build's end, applies, pages and drops.
-use Rattle.std.proofs.Common.{ℕ, zero, suc, ◌≡◌, ◌≢◌, ◌≤◌, ◌<◌, ◌+◌, ◌-◌, ◌==◌, ◌⊎◌, ◌↔◌, inl, inr, Bool, true, false, cond, List, [], ◌∷◌, ◌++◌, length, take, drop, map, Option, Some, None, refl, sym, ap, subst, ◌∙◌, arith}
-use Rattle.std.specs.Prelude.{min, nat_lt, count_by, MatchBool}
-use Rattle.std.specs.Option.{option_map}
-use Rattle.std.proofs.lemmas.Bool.{eq-eqb, ne_eqb}
+use Rattle.std.proofs.Common.{ℕ, ◌≡◌, ◌≤◌, ◌<◌, ◌+◌, ◌-◌, ◌==◌, ◌⊎◌, ◌↔◌, inl, inr, true, cond, List, [], ◌∷◌, ◌++◌, length, take, drop, map, Option, Some, None, refl, sym, ap, subst, ◌∙◌, arith}
+use Rattle.std.specs.Prelude.{count_by}
 use Rattle.std.proofs.lemmas.Bool.Decides.{eqb_tells}
 use Rattle.std.proofs.lemmas.List.{length-append}
 use Rattle.std.specs.FinMap.{get}
 use Rattle.mt_tree.specs.Seen.{HasRow}
 use Rattle.mt_types.specs.Rows.{Rows, after}
-use Rattle.mt_types.specs.Limits.{page_fault, refused_if}
 use Rattle.mt_types.specs.Numbers.{greatest_number}
-use Rattle.mt_types.specs.Views.{column_sums, page_from}
-use Rattle.mt_types.specs.declared.row.Row.{Row}
-use Rattle.mt_types.specs.declared.row.Delta.{Delta}
 use Rattle.mt_types.specs.declared.row.Change.{Change}
-use Rattle.mt_types.specs.declared.view.Page.{Page}
-use Rattle.mt_types.specs.declared.view.ViewSpec.{ViewSpec}
-use Rattle.mt_types.specs.declared.numbers.CallNo.{CallNo}
-use Rattle.mt_types.specs.declared.numbers.ViewNo.{ViewNo}
-use Rattle.mt_types.specs.declared.event.Event.{Event}
-use Rattle.mt_types.specs.declared.event.Event.TheVariants.{Step, Apply, ViewRead, ViewDrop}
 use Rattle.mt_types.specs.declared.event.Request.{Request}
 use Rattle.mt_types.specs.declared.event.Request.TheVariants.{Build as BuildRequest}
 use Rattle.mt_types.specs.declared.event.Answer.TheVariants.{Built}
 use Rattle.mt_types.specs.declared.event.Reply.{Reply}
 use Rattle.mt_types.specs.declared.event.Outcome.{Outcome}
-use Rattle.mt_types.specs.declared.event.Outcome.TheVariants.{Done, Applied, Current, View, Dropped, Refused}
+use Rattle.mt_types.specs.declared.event.Outcome.TheVariants.{Done, Refused}
 use Rattle.mt_types.specs.declared.refusal.Refusal.{Refusal}
-use Rattle.mt_types.specs.declared.refusal.Refusal.TheVariants.{NoMemory, NoSuchCall, NoSuchView, Behind, Spent}
-use Rattle.mt_promise.specs.History.{History, Happening, Moment, OpenCall, StandingView, happening, moment, rows, call_of, without_call, view_of, meant_view, furthest, move_view, view_built, after_call_step}
+use Rattle.mt_types.specs.declared.refusal.Refusal.TheVariants.{NoMemory, NoSuchCall, Spent}
+use Rattle.mt_promise.specs.History.{History, Happening, OpenCall, StandingView, happening, moment, rows, call_of, without_call, view_built, after_call_step}
 use Rattle.mt_promise.specs.RightAnswers.{RightAnswer}
-use Rattle.mt_promise.specs.Legal.{MayHappen, MayStepAt, MayStep, MayApply, MayRead, MayReadView, MayShow, MayDrop, MayEnd, page_of, is_build as is_build_request, reads_log, held_from}
-use Rattle.mt_commit.specs.Log.{LogView, IsLog, newest, trimmed}
+use Rattle.mt_promise.specs.Legal.{MayHappen, MayStepAt, MayEnd, is_build as is_build_request, reads_log}
+use Rattle.mt_commit.specs.Log.{IsLog, newest, trimmed}
 use Rattle.mt_commit.specs.Laws.{times_held}
-use Rattle.mt_commit.specs.Holders.{with_holder, without_holder}
+use Rattle.mt_commit.specs.Holders.{with_holder}
 use Rattle.mt_commit.specs.Logged.{deltas_of}
 use Rattle.mt_commit.proofs.CountLemmas.{pinning_counts, unpinning_counts}
-use Rattle.mt_chart.specs.Tree.{Among, first, later}
-use Rattle.mt_view.specs.State.{StateView, IsAfresh, applied, page_of_state}
+use Rattle.mt_chart.specs.Tree.{Among}
+use Rattle.mt_view.specs.State.{StateView, IsAfresh}
 use Rattle.mt_build.specs.History.{LeadsTo}
 use Rattle.mt_build.proofs.HistoryLemmas.{led_is_afresh}
-use Rattle.mt_views.specs.Views.{ViewsView, Rises, all_standing, standing, state_at, with_state, without as without_view}
-use Rattle.mt_views.proofs.ViewLemmas.{rises-append, rises-state, rises-without, as-many-with-state, fewer-without}
-use Rattle.mt_views.proofs.StandingLemmas.{view-of-state, view-of-none, moved-on, dropped-there, opened-there}
+use Rattle.mt_views.specs.Views.{ViewsView, all_standing, standing}
+use Rattle.mt_views.proofs.ViewLemmas.{rises-append}
+use Rattle.mt_views.proofs.StandingLemmas.{opened-there}
 use Rattle.mt_works.specs.declared.work.Work.{Work}
 use Rattle.mt_works.specs.declared.work.Work.TheVariants.{Build as BuildWork}
 use Rattle.mt_works.specs.declared.building.Building.{Building}
 use Rattle.mt_works.specs.Building.{IsUpTo}
 use Rattle.mt_works.specs.Works.{request_of, held}
-use Rattle.mt_calls.specs.World.{IsTaken, World}
 use Rattle.mt_index.specs.declared.calls.Call.{Call}
 use Rattle.mt_index.specs.Paired.{Paired}
 use Rattle.mt_index.specs.Calls.{call_at, without, AreApart, total, all_reserved, BeganInOrder}
-use Rattle.mt_index.specs.Viewing.{IsExact, AreExact, ViewsStand, ReadsFrom, ReadsOf}
-use Rattle.mt_index.specs.Stands.{MachineView, CallStands, AllOwned, Stands, Steps, EndsBuild, Opens, OpensNot, Applies, AppliesTo, TakesOn, ReadsPage, ReadsState, ReadsView, Drops, DropsView, with_view, vacated, meant_number, none_meant, holding}
+use Rattle.mt_index.specs.Viewing.{IsExact, ViewsStand, ReadsFrom, ReadsOf}
+use Rattle.mt_index.specs.Stands.{MachineView, CallStands, AllOwned, Stands, Steps, EndsBuild, Opens, OpensNot, with_view, vacated}
 use Rattle.mt_index.proofs.NumberLemmas.{Entries}
 use Rattle.mt_index.proofs.PairedLemmas.{Found, paired-some, paired-one, paired-without}
-use Rattle.mt_index.proofs.ListLemmas.{reserves, among_left, among_at, total_without, order_without}
+use Rattle.mt_index.proofs.ListLemmas.{reserves, among_left, total_without, order_without}
 use Rattle.mt_index.proofs.LogStands.{holds_from, all-held, trims}
-use Rattle.mt_index.proofs.ViewStands.{builds_of, paired-builds, places_of, all_exact_still, exact_at, exact_with, exact_without, exact_append, exact_next, view_holds, moved_holds, dropped_holds, opened_holds, least_held}
+use Rattle.mt_index.proofs.ViewStands.{builds_of, paired-builds, all_exact_still, exact_append, opened_holds}
 use Rattle.mt_index.proofs.StepStands.{held_before, builds_before, step_event, apart_without}
-use Rattle.mt_index.proofs.LaterStands.{call_later, all_later, same_stands}
-use Rattle.mt_index.proofs.EventStands.{step_open, unknown, held_reaches}
+use Rattle.mt_index.proofs.LaterStands.{call_later}
+use Rattle.mt_index.proofs.EventStands.{step_open, unknown}
 
 -- ---- a change of who holds the log, of the views and of the open calls, that leaves the tree and the commits
 module _ (s : MachineView) (h : History) (st : Stands s h) (x : Happening) (may : MayHappen s.columns h x.event x.outcome x.opens) (commits : (moment (x ∷ h)).commits ≡ (moment h).commits) (begun : (moment (x ∷ h)).begun ≡ (moment h).begun) (epoch : (moment (x ∷ h)).epoch ≡ (moment h).epoch) where

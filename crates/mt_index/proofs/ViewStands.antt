@@ -1,30 +1,29 @@
 -- The views of a machine at a history, after each change: one opened, taken on or dropped, and commits of others.
-use Rattle.std.proofs.Common.{ℕ, ◌≡◌, ◌≤◌, ◌<◌, ◌+◌, ◌-◌, ◌==◌, Bool, true, false, not, cond, List, [], ◌∷◌, ◌++◌, length, take, map, Option, Some, None, refl, sym, ap, subst, ◌∙◌, inl, inr, arith}
+use Rattle.std.proofs.Common.{ℕ, ◌≡◌, ◌≤◌, ◌<◌, ◌+◌, ◌==◌, Bool, true, false, not, cond, List, [], ◌∷◌, ◌++◌, take, map, Some, refl, sym, ap, subst, ◌∙◌, inl, inr, arith}
 use Rattle.std.specs.Prelude.{count_by, min}
 use Rattle.std.proofs.Math.Nat.{min-le_right}
-use Rattle.std.proofs.lemmas.Bool.{eq-eqb, ne_eqb}
+use Rattle.std.proofs.lemmas.Bool.{eq-eqb}
 use Rattle.std.proofs.lemmas.Bool.Decides.{eqb_tells}
 use Rattle.std.proofs.lemmas.List.Sums.{sum_by-cons}
 use Rattle.mt_types.specs.Numbers.{least}
 use Rattle.mt_types.specs.Rows.{Rows, after}
 use Rattle.mt_types.specs.declared.row.Delta.{Delta}
 use Rattle.mt_types.specs.declared.row.Change.{Change}
-use Rattle.mt_promise.specs.History.{History, Moment, OpenCall, StandingView, moment, rows}
+use Rattle.mt_promise.specs.History.{History, Moment, OpenCall, StandingView, moment}
 use Rattle.mt_promise.specs.Legal.{is_build}
-use Rattle.mt_commit.specs.Log.{LogView, newest, slowest, delta_of}
+use Rattle.mt_commit.specs.Log.{newest, delta_of}
 use Rattle.mt_commit.specs.Laws.{times_held}
 use Rattle.mt_commit.specs.Deltas.{redo}
 use Rattle.mt_commit.proofs.LogLemmas.{least_within}
 use Rattle.mt_view.specs.State.{StateView, IsAfresh, applied}
-use Rattle.mt_view.specs.Laws.{IsStateOf}
 use Rattle.mt_view.proofs.AfreshLemmas.{applied_is_afresh}
 use Rattle.mt_views.proofs.ViewLemmas.{state-above, without-above}
-use Rattle.mt_views.specs.Views.{Rises, all_standing, standing, state_at, with_state, without}
+use Rattle.mt_views.specs.Views.{Rises, all_standing, state_at, with_state, without}
 use Rattle.mt_works.specs.Works.{request_of}
 use Rattle.mt_index.specs.declared.calls.Call.{Call}
 use Rattle.mt_index.specs.Paired.{Paired}
-use Rattle.mt_index.specs.Calls.{call_at, total}
-use Rattle.mt_index.specs.Viewing.{IsExact, AreExact, ViewsStand}
+use Rattle.mt_index.specs.Calls.{total}
+use Rattle.mt_index.specs.Viewing.{IsExact, AreExact}
 use Rattle.mt_index.specs.Stands.{MachineView, Stands}
 use Rattle.mt_index.proofs.NumberLemmas.{Entries}
 use Rattle.mt_index.proofs.PairedLemmas.{Relation}

@@ -1,11 +1,15 @@
--- What the feed of a shared index gives.
-use Rattle.std.specs.Prelude.{ℕ, ◌≡◌, List, Result, IfOk, take, drop}
+-- What the feed of a shared index gives, and the copy of one of its views.
+use Rattle.std.specs.Prelude.{ℕ, ◌≡◌, List, Result, Err, Some, IfOk, IfErr, MatchOption, take, drop}
 use Rattle.std.specs.Global.{Vec}
 use Rattle.mt_types.specs.declared.row.Delta.{Delta}
 use Rattle.mt_types.specs.declared.refusal.Refusal.{Refusal}
+use Rattle.mt_types.specs.declared.refusal.Refusal.TheVariants.{NoMemory, NoSuchView}
 use Rattle.mt_promise.specs.History.{History, moment}
 use Rattle.mt_commit.specs.Logged.{deltas_of}
+use Rattle.mt_view.specs.State.{StateView}
+use Rattle.mt_views.specs.Views.{state_at}
 use Rattle.mt_index.specs.Feed.{feed_fault}
+use Rattle.mt_index.specs.Viewing.{CopiesView}
 use Rattle.mt_index.specs.Stands.{MachineView, Stands}
 use Rattle.mt_shared.specs.Kept.{KeptView, IsKept, IsRefusedBy}
 
@@ -24,3 +28,17 @@ pub record FeedsSomewhere (from limit : ℕ) (result : Result (Vec Delta) Refusa
   pub kept : KeptView
   pub keeps : IsKept kept
   pub feeds : Feeds kept.machine from limit result
+
+-- The copy of a view of a machine: the state in which it stands, with the number of commits at which it stands; at each
+-- history at which the machine stands, exactly what the view's specification gives afresh there. Or no such view stands,
+-- or memory is wanting.
+pub record Copies (m : MachineView) (view : ℕ) (result : Result (ℕ × StateView) Refusal) : Type 0 where
+  pub state : IfOk result (λ copy. (state_at view m.views.views ≡ Some copy.1) × (copy.0 ≡ copy.1.at))
+  pub exact : IfOk result (λ copy. (h : History) → Stands m h → CopiesView m.columns (moment h) view copy.1)
+  pub fault : MatchOption (state_at view m.views.views) (result ≡ Err NoSuchView) (λ s. IfErr result (λ r. r ≡ NoMemory))
+
+-- the copy of a view of something that the lock keeps
+pub record CopiesSomewhere (view : ℕ) (result : Result (ℕ × StateView) Refusal) : Type 0 where
+  pub kept : KeptView
+  pub keeps : IsKept kept
+  pub copies : Copies kept.machine view result

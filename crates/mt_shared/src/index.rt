@@ -4,7 +4,7 @@ ghost use Rattle.std.specs.Prelude.{◌≡◌, ◌⊎◌, true, false, IfOk, IfE
 ghost use Rattle.mt_shared.specs.Passes.{AreNewPasses, HasItsPart, events_by, commits_by};
 ghost use Rattle.mt_shared.specs.Traces.{IsLegalTrace, HaveHappened};
 ghost use Rattle.mt_shared.specs.Kept.{IsKept, IsRefusedBy, DoesSomewhere, start_fault};
-ghost use Rattle.mt_shared.specs.Feeds.{FeedsSomewhere};
+ghost use Rattle.mt_shared.specs.Feeds.{FeedsSomewhere, CopiesSomewhere};
 
 use crate::driving::Shared;
 use crate::kept::Kept;
@@ -14,8 +14,10 @@ use crate::trace::Entry;
 use mt_index::options::Options;
 use mt_types::event::{Event, Outcome};
 use mt_types::limits::{open_fault, passes_fault};
+use mt_types::numbers::ViewNo;
 use mt_types::refusal::Refusal;
 use mt_types::row::Delta;
+use mt_view::state::ViewState;
 use std::alloc::Global;
 use std::marker::Model;
 use std::sync::{Mutex, Wait};
@@ -183,6 +185,19 @@ impl<'a, W: Wait> Door<'a, W> {
     {
         let index = self.index;
         index.kept.lock(self.wait).feed(alloc, from, limit)
+    }
+
+    /// A copy of a view that stands, with the number of commits at which it stands: `Machine::view_copy`, in one holding
+    /// of the lock. No event.
+    ///
+    /// # Errors
+    ///
+    /// Those of `Machine::view_copy`.
+    pub fn view_copy(&self, alloc: Global, view: ViewNo) -> Result<(u64, ViewState), Refusal>
+        ensures { CopiesSomewhere view.0 result }
+    {
+        let index = self.index;
+        index.kept.lock(self.wait).view_copy(alloc, view)
     }
 }
 

@@ -6,7 +6,7 @@ ghost use Rattle.mt_shared.specs.declared.book.Book.{Book};
 ghost use Rattle.mt_shared.specs.Traces.{IsNewTrace};
 ghost use Rattle.mt_shared.specs.Books.{booked_events, booked_commits};
 ghost use Rattle.mt_shared.specs.Kept.{Does, IsKept, IsFresh, IsRefusedBy, is_wrong, has_book};
-ghost use Rattle.mt_shared.specs.Feeds.{Feeds};
+ghost use Rattle.mt_shared.specs.Feeds.{Feeds, Copies};
 
 use crate::book::Book;
 use crate::pass::Pass;
@@ -14,9 +14,10 @@ use crate::trace::Trace;
 use mt_index::machine::Machine;
 use mt_index::options::Options;
 use mt_types::event::{Event, Outcome};
-use mt_types::numbers::PassNo;
+use mt_types::numbers::{PassNo, ViewNo};
 use mt_types::refusal::Refusal;
 use mt_types::row::Delta;
+use mt_view::state::ViewState;
 use std::alloc::{AllocError, Global};
 use std::marker::Model;
 
@@ -116,6 +117,18 @@ impl Kept {
         ensures kept { IsKept self.now }
     {
         self.machine.feed(alloc, from, limit)
+    }
+
+    /// A copy of a view that stands, with the number of commits at which it stands: `Machine::view_copy`. No event.
+    ///
+    /// # Errors
+    ///
+    /// Those of `Machine::view_copy`.
+    pub fn view_copy(&self, alloc: Global, view: ViewNo) -> Result<(u64, ViewState), Refusal>
+        ensures copies { Copies self.now.machine view.0 result }
+        ensures kept { IsKept self.now }
+    {
+        self.machine.view_copy(alloc, view)
     }
 
     /// How many columns a row has.

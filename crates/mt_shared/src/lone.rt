@@ -4,7 +4,7 @@ ghost use Rattle.std.specs.Prelude.{false, IfOk};
 ghost use Rattle.mt_types.specs.Limits.{open_fault};
 ghost use Rattle.mt_shared.specs.Passes.{IsNewPass};
 ghost use Rattle.mt_shared.specs.Kept.{Does, IsKept, IsFresh, IsRefusedBy};
-ghost use Rattle.mt_shared.specs.Feeds.{Feeds};
+ghost use Rattle.mt_shared.specs.Feeds.{Feeds, Copies};
 ghost use Rattle.mt_shared.specs.Passes.{IsTold};
 
 use crate::driving::Shared;
@@ -12,8 +12,10 @@ use crate::kept::Kept;
 use crate::pass::Pass;
 use mt_index::options::Options;
 use mt_types::event::{Event, Outcome};
+use mt_types::numbers::ViewNo;
 use mt_types::refusal::Refusal;
 use mt_types::row::Delta;
+use mt_view::state::ViewState;
 use std::alloc::Global;
 use std::marker::Model;
 
@@ -60,6 +62,17 @@ impl Lone {
         ensures { Feeds self.now.machine from limit result }
     {
         self.kept.feed(alloc, from, limit)
+    }
+
+    /// A copy of a view that stands, with the number of commits at which it stands: `Machine::view_copy`. No event.
+    ///
+    /// # Errors
+    ///
+    /// Those of `Machine::view_copy`.
+    pub fn view_copy(&self, alloc: Global, view: ViewNo) -> Result<(u64, ViewState), Refusal>
+        ensures { Copies self.now.machine view.0 result }
+    {
+        self.kept.view_copy(alloc, view)
     }
 }
 

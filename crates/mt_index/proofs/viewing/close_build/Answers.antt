@@ -1,7 +1,7 @@
-use Rattle.std.proofs.Common.{◌≡◌, ◌∙◌, ◌<◌, List, ℕ, true, ap, sym, subst}
+use Rattle.std.proofs.Common.{◌∙◌, ◌<◌, true, ap, sym, subst}
 use Rattle.std.specs.Prelude.{Contains}
 use Rattle.mt_commit.specs.Log.{LogView}
-use Rattle.mt_commit.specs.Holders.{with_holder, without_holder}
+use Rattle.mt_commit.specs.Holders.{without_holder}
 use Rattle.mt_commit.proofs.CountLemmas.{counted_is_held}
 use Rattle.mt_views.specs.Views.{ViewsView}
 use Rattle.mt_index.specs.Stands.{vacated}

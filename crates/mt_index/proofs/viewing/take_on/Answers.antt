@@ -1,7 +1,7 @@
 use Rattle.std.proofs.Common.{◌≡◌, ◌∙◌, ◌+◌, List, ℕ, Some, ap, sym, subst}
 use Rattle.std.specs.Prelude.{Contains}
 use Rattle.mt_commit.specs.Log.{LogView, delta_of}
-use Rattle.mt_commit.specs.Holders.{with_holder, without_holder}
+use Rattle.mt_commit.specs.Holders.{without_holder}
 use Rattle.mt_index.proofs.LogStands.{with_holds, still_holds, without_with}
 use Rattle.mt_index.proofs.viewing.take_on.Goals as goal
 

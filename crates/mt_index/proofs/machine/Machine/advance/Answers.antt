@@ -1,4 +1,4 @@
-use Rattle.std.proofs.Common.{ℕ, ◌<◌, ◌+◌, inr, refl, ap, arith}
+use Rattle.std.proofs.Common.{ℕ, ◌+◌, inr, refl, ap, arith}
 use Rattle.mt_types.specs.declared.event.Outcome.TheVariants.{Epoch}
 use Rattle.mt_index.specs.Stands.{MachineView}
 use Rattle.mt_index.proofs.LaterStands.{seen}

@@ -1,14 +1,12 @@
-use Rattle.std.proofs.Common.{ℕ, ◌∙◌, ◌≡◌, ◌≤◌, ◌<◌, ◌+◌, ◌∷◌, length, arith, Some, None, ap, sym, subst, inr, refl}
+use Rattle.std.proofs.Common.{◌∙◌, ◌≡◌, ◌+◌, ◌∷◌, None, ap, sym, subst, inr, refl}
 use Rattle.std.specs.Prelude.{Contains}
-use Rattle.mt_promise.specs.Legal.{begin_fault}
 use Rattle.mt_types.specs.declared.event.Outcome.TheVariants.{Call as Called}
 use Rattle.mt_types.specs.declared.event.Event.TheVariants.{Begin}
 use Rattle.mt_promise.specs.History.{happening}
 use Rattle.mt_commit.specs.Log.{LogView, newest}
-use Rattle.mt_views.specs.Views.{ViewsView, places}
 use Rattle.mt_works.specs.Works.{IsNew}
 use Rattle.mt_index.specs.Calls.{CallsView}
-use Rattle.mt_index.specs.Stands.{MachineView, Stands, Begins, fault_of, pinned, placed, released, with_call}
+use Rattle.mt_index.specs.Stands.{MachineView, Stands, fault_of, pinned, placed, released}
 use Rattle.mt_index.proofs.LogStands.{pinned_holds, pinned_back}
 use Rattle.mt_index.proofs.EventStands.{begun-stands, called}
 use Rattle.mt_index.proofs.LaterStands.{seen}

@@ -1,4 +1,4 @@
-use Rattle.std.proofs.Common.{◌≡◌, ◌≤◌, ◌<◌, ◌∙◌, refl, ap, sym, subst}
+use Rattle.std.proofs.Common.{◌≤◌, ◌∙◌, refl, ap, sym, subst}
 use Rattle.mt_view.specs.State.{StateView}
 use Rattle.mt_commit.specs.Log.{newest}
 use Rattle.mt_types.specs.declared.event.Outcome.{Outcome}

@@ -1,4 +1,4 @@
-use Rattle.std.proofs.Common.{subst, sym, ◌≡◌, ◌∙◌, ◌∷◌, refl}
+use Rattle.std.proofs.Common.{subst, sym, ◌∷◌}
 use Rattle.mt_types.specs.declared.event.Event.{Event}
 use Rattle.mt_promise.specs.History.{happening}
 use Rattle.mt_index.specs.Stands.{Stands}
@@ -6,7 +6,7 @@ use Rattle.mt_index.specs.Causes.{IsCaused}
 use Rattle.mt_index.proofs.CauseLemmas.{steps-caused}
 use Rattle.mt_index.proofs.EventStands.{begins-stands, begins-columns}
 use Rattle.mt_index.proofs.ViewEvents.{steps-stand, steps-columns}
-use Rattle.mt_index.proofs.ApplyStands.{applies-stand, applies-columns, reads-stand, drops-stand, drops-columns}
+use Rattle.mt_index.proofs.ApplyStands.{applies-stand, reads-stand, drops-stand}
 use Rattle.mt_index.proofs.EpochStands.{advances-stand, collects-stand}
 use Rattle.mt_index.proofs.machine.Machine.event.Goals as goal
 

@@ -1,7 +1,6 @@
-use Rattle.std.proofs.Common.{◌∙◌, ◌≡◌, ◌<◌, ℕ, List, true, false, ap, sym, subst}
-use Rattle.std.specs.Prelude.{IsTrue}
+use Rattle.std.proofs.Common.{◌∙◌, ℕ, List, ap, sym, subst}
 use Rattle.mt_commit.specs.Log.{trimmed}
-use Rattle.mt_index.specs.Calls.{IsBuiltCall, call_at}
+use Rattle.mt_index.specs.Calls.{call_at}
 use Rattle.mt_index.specs.Stands.{MachineView, HasBounds}
 use Rattle.mt_index.proofs.EventStands.{may_step, may_settle, may_vacate, step_bounds, settled_bounds, taken-steps, taken-stands}
 use Rattle.mt_index.proofs.LaterStands.{seen}

@@ -1,4 +1,4 @@
-use Rattle.std.proofs.Common.{Some, ◌∙◌, ◌≡◌, subst}
+use Rattle.std.proofs.Common.{Some, ◌≡◌, subst}
 use Rattle.mt_views.specs.Views.{state_at}
 use Rattle.mt_index.specs.Stands.{MachineView}
 use Rattle.mt_index.proofs.MachineLemmas.{copies_view}
