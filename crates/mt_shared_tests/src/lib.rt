@@ -1,0 +1,10 @@
+//! Tests of threads over one index, by the checker of receipts. There is nothing else here: a crate of its own, so that
+//! `mt_shared` needs no checker.
+#![tactic(auto)]
+
+#[cfg(test)]
+mod audit;
+#[cfg(test)]
+mod four_threads;
+#[cfg(test)]
+mod two_threads;

@@ -1,0 +1,220 @@
+//! A get and a put of one key by two threads, which step in between each other.
+
+use crate::audit::{OPTIONS, call_receipt, first_fault, log_of, receipts_of};
+use bytes::Bytes;
+use mt_check::receipt::Receipt;
+use mt_shared::driving::{Gate, NoGate, drive};
+use mt_shared::index::{Door, Index, close, close_record};
+use mt_shared::pass::Pass;
+use mt_types::copying::TryCopy;
+use mt_types::event::{Answer, Outcome, Request};
+use mt_types::items::Items;
+use mt_types::refusal::Refusal;
+use mt_types::row::Row;
+use std::alloc::Global;
+use std::sync::Wait;
+use std::sync::atomic::{AtomicBool, Ordering};
+use std::test::Fail;
+use std::thread;
+use std::thread::{Threads, join};
+
+const KEY: &[u8] = b"a";
+
+fn get_request(alloc: Global) -> Request {
+    Request::Get {
+        key: Bytes::from_static(KEY),
+        columns: Items::new(alloc),
+    }
+}
+
+fn put_request(alloc: Global) -> Result<Request, Refusal> {
+    let sets = Vec::from_array(alloc, [(0, Bytes::from_static(b"v"))])?;
+    Ok(Request::Put {
+        key: Bytes::from_static(KEY),
+        sets: Items::from_vec(sets),
+    })
+}
+
+// After its call's first step looks at a flag, until it is set or it has looked often enough.
+#[derive(Drop)]
+struct Looks<'a> {
+    flag: &'a AtomicBool,
+    seen: bool,
+}
+
+impl<'a> Gate for Looks<'a> {
+    fn between(&mut self, outcome: &Outcome) {
+        if self.seen || !matches!(outcome, Outcome::Moved) {
+            return;
+        }
+        for _ in 0..1_000_000 {
+            if self.flag.load(Ordering::SeqCst) {
+                self.seen = true;
+                return;
+            }
+            thread::yield_now();
+        }
+    }
+}
+
+// A pass that has made a call, the receipt of the call, and whether a flag was seen.
+#[derive(Drop)]
+struct Called {
+    pass: Pass,
+    receipt: Result<Option<Receipt>, Refusal>,
+    seen: bool,
+}
+
+fn call<R: Wait, G: Gate>(
+    rt: &R,
+    alloc: Global,
+    index: &Index,
+    pass: &mut Pass,
+    gate: &mut G,
+    request: Request,
+) -> Result<Option<Receipt>, Refusal> {
+    let asked = request.copy(alloc)?;
+    let reply = drive(alloc, &mut Door::new(index, rt), pass, gate, request)?;
+    call_receipt(alloc, &asked, &reply)
+}
+
+fn get_slowly<R: Wait>(
+    rt: &R,
+    alloc: Global,
+    index: &Index,
+    flag: &AtomicBool,
+    mut pass: Pass,
+) -> Called {
+    let mut gate = Looks { flag, seen: false };
+    let request = get_request(alloc);
+    let receipt = call(rt, alloc, index, &mut pass, &mut gate, request);
+    Called {
+        pass,
+        receipt,
+        seen: gate.seen,
+    }
+}
+
+fn put_and_tell<R: Wait>(
+    rt: &R,
+    alloc: Global,
+    index: &Index,
+    flag: &AtomicBool,
+    mut pass: Pass,
+) -> Called {
+    let receipt = match put_request(alloc) {
+        Ok(request) => call(rt, alloc, index, &mut pass, &mut NoGate, request),
+        Err(refusal) => Err(refusal),
+    };
+    flag.store(true, Ordering::SeqCst);
+    Called {
+        pass,
+        receipt,
+        seen: false,
+    }
+}
+
+// What two threads did: their passes, the receipts in the order in which the calls ended.
+#[derive(Drop)]
+struct Done {
+    passes: Vec<Pass>,
+    receipts: Vec<Receipt>,
+}
+
+// Pass 1 gets, and waits in mid-course till pass 2 has put; then pass 2 gets.
+fn run<R: Wait + Threads + Sync>(
+    rt: &R,
+    alloc: Global,
+    index: &Index,
+    mut passes: Vec<Pass>,
+) -> Result<Done, Fail> {
+    let two = passes.pop().ok_or("two")?;
+    let one = passes.pop().ok_or("one")?;
+    let flag = AtomicBool::new(false);
+    let (getter, putter) = join(
+        rt,
+        || get_slowly(rt, alloc, index, &flag, one),
+        || put_and_tell(rt, alloc, index, &flag, two),
+    );
+    let Called {
+        pass: one,
+        receipt: got,
+        seen,
+    } = getter;
+    let Called {
+        pass: mut two,
+        receipt: put,
+        seen: _,
+    } = putter;
+    if !seen {
+        return Err(Fail::new("the flag was not seen"));
+    }
+    let request = get_request(alloc);
+    let last = call(rt, alloc, index, &mut two, &mut NoGate, request)?;
+    let mut receipts = Vec::new(alloc);
+    receipts.push(put?.ok_or("put")?)?;
+    receipts.push(got?.ok_or("get")?)?;
+    receipts.push(last.ok_or("last")?)?;
+    passes.push(one)?;
+    passes.push(two)?;
+    Ok(Done { passes, receipts })
+}
+
+// How many events and how many commits the passes have made.
+fn sums(passes: &[Pass]) -> (u64, u64) {
+    let mut sums = (0_u64, 0_u64);
+    for pass in passes {
+        sums.0 = sums.0.saturating_add(pass.events());
+        sums.1 = sums.1.saturating_add(pass.commits());
+    }
+    sums
+}
+
+// The get that came last, with a row of another version.
+fn changed(alloc: Global) -> Result<Receipt, Refusal> {
+    let columns = Vec::from_array(alloc, [Bytes::from_static(b"v")])?;
+    Ok(Receipt::Call {
+        request: get_request(alloc),
+        answer: Answer::Found(Row {
+            version: 2,
+            columns: Items::from_vec(columns),
+        }),
+        from: 1,
+        to: 1,
+    })
+}
+
+#[test]
+fn two_threads(rt: HostRuntime) -> Result<(), Fail> {
+    let alloc = rt.alloc();
+    let (index, passes) = Index::start(alloc, OPTIONS, 2)?;
+    let Done {
+        passes,
+        mut receipts,
+    } = run(&rt, alloc, &index, passes)?;
+    let log = log_of(alloc, &Door::new(&index, &rt))?;
+    assert_eq!(rt; first_fault(alloc, &log, &receipts), (0, 0));
+    let _ = receipts.pop();
+    receipts.push(changed(alloc)?)?;
+    assert_eq!(rt; first_fault(alloc, &log, &receipts), (3, 4));
+    let sums = sums(&passes);
+    let totals = close(index, passes)?;
+    assert_eq!(rt; (totals.events, totals.commits), sums);
+    assert_eq!(rt; totals.commits, 1);
+    Ok(())
+}
+
+#[test]
+fn two_threads_recorded(rt: HostRuntime) -> Result<(), Fail> {
+    let alloc = rt.alloc();
+    let (index, passes) = Index::record(alloc, OPTIONS, 2)?;
+    let Done { passes, receipts } = run(&rt, alloc, &index, passes)?;
+    let log = log_of(alloc, &Door::new(&index, &rt))?;
+    let events = sums(&passes).0;
+    let trace = close_record(index, passes)?;
+    assert_eq!(rt; trace.len() as u64, events);
+    let told = receipts_of(alloc, &trace)?;
+    assert!(rt; told == receipts);
+    assert_eq!(rt; first_fault(alloc, &log, &told), (0, 0));
+    Ok(())
+}
