@@ -1,0 +1,107 @@
+//! An example: two threads share one index. Each puts ten keys of its own and gets them back; then one of their passes
+//! ranges over all keys. The steps of the threads' calls come in between each other, differently in each run; what is
+//! printed is the same.
+#![tactic(auto)]
+
+use anyhow::{Context, Result, bail};
+use bytes::Bytes;
+use mt_index::options::Options;
+use mt_shared::calls::{get, getrange, put};
+use mt_shared::index::{Door, Index, close};
+use mt_shared::pass::Pass;
+use mt_types::event::Answer;
+use mt_types::items::Items;
+use mt_types::refusal::Refusal;
+use std::alloc::Global;
+use std::sync::Wait;
+use std::thread;
+use std::thread::Threads;
+
+// Rows of one column, and a log of commits with room for 4096.
+const OPTIONS: Options = Options {
+    columns: 1,
+    feed: 4096,
+    keep: 0,
+};
+
+// How many keys each thread puts.
+const KEYS: u64 = 10;
+
+// The nth key of a pass, as `2/7`.
+fn nth_key(alloc: Global, pass: &Pass, n: u64) -> Result<Bytes, Refusal> {
+    let text = format!(in alloc; "{}/{n}", pass.number().0)?;
+    Ok(Bytes::from_string(text)?)
+}
+
+// Puts the keys of a pass, each with its own bytes in column 0 of its row.
+fn put_all<R: Wait>(alloc: Global, door: &mut Door<'_, R>, pass: &mut Pass) -> Result<(), Refusal> {
+    for n in 0..KEYS {
+        let sets = Vec::from_array(alloc, [(0, nth_key(alloc, pass, n)?)])?;
+        let key = nth_key(alloc, pass, n)?;
+        let _ = put(alloc, door, pass, key, Items::from_vec(sets))?;
+    }
+    Ok(())
+}
+
+// Gets the keys of a pass: the versions of the rows that are there.
+fn get_all<R: Wait>(
+    alloc: Global,
+    door: &mut Door<'_, R>,
+    pass: &mut Pass,
+) -> Result<Vec<u64>, Refusal> {
+    let mut versions = Vec::new(alloc);
+    for n in 0..KEYS {
+        let key = nth_key(alloc, pass, n)?;
+        // where no column is named, all are asked for
+        let reply = get(alloc, door, pass, key, Items::new(alloc))?;
+        if let Answer::Found(row) = &reply.answer {
+            versions.push(row.version)?;
+        }
+    }
+    Ok(versions)
+}
+
+// What a thread does with its pass. It gives the pass back, since `close` asks for all of them.
+fn work<R: Wait>(
+    rt: &R,
+    alloc: Global,
+    index: &Index,
+    mut pass: Pass,
+) -> Result<(Pass, Vec<u64>), Refusal> {
+    let mut door = Door::new(index, rt);
+    put_all(alloc, &mut door, &mut pass)?;
+    let versions = get_all(alloc, &mut door, &mut pass)?;
+    Ok((pass, versions))
+}
+
+fn run<R: Threads + Wait + Sync + Print + AllocGlobal>(rt: &R) -> Result<()> {
+    let alloc = rt.alloc();
+    let (index, passes) = Index::start(alloc, OPTIONS, 2)?;
+    // a thread for each pass; they have ended when this returns
+    let worked = thread::map_vec(rt, passes, &|pass| work(rt, alloc, &index, pass))?;
+    let mut passes = Vec::new(alloc);
+    for done in worked {
+        let (pass, versions) = done?;
+        println!(rt;
+            "pass {}: {} keys put and got back",
+            pass.number().0,
+            versions.len()
+        )?;
+        passes.push(pass)?;
+    }
+    let mut door = Door::new(&index, rt);
+    let one = passes.first_mut().context("there is no pass")?;
+    // 100 rows at most, from the first key on
+    let reply = getrange(alloc, &mut door, one, Bytes::new(), 100, Items::new(alloc))?;
+    let Answer::Rows(rows) = &reply.answer else {
+        bail!("a range answers with rows")
+    };
+    println!(rt; "range: {} rows", rows.as_slice().len())?;
+    let totals = close(index, passes)?;
+    println!(rt; "close: {} commits", totals.commits)?;
+    Ok(())
+}
+
+fn main(rt: HostRuntime) -> Result<()> {
+    run(&rt)
+}
