@@ -16,7 +16,7 @@ use Rattle.mt_chart.specs.Chart.{at_level, gone, spot}
 use Rattle.mt_chart.proofs.HeldNodes.{evolves_same, evolves_again}
 use Rattle.mt_tree.specs.Keeping.{FreesNode}
 use Rattle.mt_calls.specs.World.{World, IsWorld, IsLocked, IsTaken, IsSame}
-use Rattle.mt_calls.specs.Collecting.{IsCollected, TakenSince, Leaves, CollectLaw}
+use Rattle.mt_calls.specs.Collecting.{IsCollected, TakenSince, Leaves, CollectLaw, given_back}
 use Rattle.mt_calls.proofs.LayerLemmas.{content_twice}
 use Rattle.mt_calls.proofs.CollectLemmas.{without_spot, collects}
 
@@ -69,6 +69,9 @@ law_more a mid before node others law sound is frees early now w world since =
     }
 
 -- ---- which are freed
+pub given_one_more : (count : ℕ) (a : ArenaView) → without_first_retired (given_back count a) ≡ given_back (count + 1) a
+given_one_more count a = ap (λ (n : ℕ). given_back n a) (sym (add-one count))
+
 -- one more of a list
 more : (before : ℕ) (l : List Retired) (count : ℕ) (node : Retired) (others : List Retired) → drop count l ≡ node ∷ others → All (λ (r : Retired). r.epoch < before) (take count l) → node.epoch < before
     → All (λ (r : Retired). r.epoch < before) (take (suc count) l) × (drop (suc count) l ≡ others)

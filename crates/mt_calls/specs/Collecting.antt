@@ -1,13 +1,19 @@
 -- What a collection frees, and what it leaves to open calls.
-use Rattle.std.specs.Prelude.{ℕ, suc, ◌≡◌, ◌<◌, ◌≤◌, List, take, drop, All, Some}
-use Rattle.mt_arena.specs.Arena.{ArenaView}
+use Rattle.std.specs.Prelude.{ℕ, zero, suc, ◌≡◌, ◌<◌, ◌≤◌, List, take, drop, All, Some}
+use Rattle.mt_arena.specs.Arena.{ArenaView, without_first_retired}
 use Rattle.mt_chart.specs.Chart.{at_level, spot, gone, Evolves}
 use Rattle.mt_chart.specs.Steps.{SameContent}
 use Rattle.mt_tree.specs.Seen.{arena_seen}
 use Rattle.mt_calls.specs.World.{World, IsWorld, IsTaken, IsSame}
 
--- EXACTLY THOSE THAT WERE RETIRED BEFORE the epoch are freed, which are the first so many
+-- the arena, once so many of its retired nodes have been given back, from the first on: their numbers name nothing
+abbrev pub given_back : ℕ → ArenaView → ArenaView
+given_back zero a = a
+given_back (suc count) a = without_first_retired (given_back count a)
+
+-- EXACTLY THOSE THAT WERE RETIRED BEFORE the epoch are freed, which are the first so many, and nothing else is changed
 pub record IsCollected (a after : ArenaView) (before count : ℕ) : Type 0 where
+  pub left : after ≡ given_back count a
   pub rest : after.retired ≡ drop count a.retired
   pub freed : All (λ node. node.epoch < before) (take count a.retired)
   pub kept : All (λ node. before ≤ node.epoch) after.retired

@@ -7,6 +7,7 @@ use Rattle.mt_types.specs.declared.event.Event.TheVariants.{Step, Collect}
 use Rattle.mt_types.specs.declared.event.Outcome.{Outcome}
 use Rattle.mt_types.specs.declared.event.Outcome.TheVariants.{Again, Moved, Freed, Refused}
 use Rattle.mt_calls.specs.declared.progress.Progress.TheVariants.{Moved as WentOn, Waits}
+use Rattle.mt_calls.specs.Collecting.{given_back}
 use Rattle.mt_works.specs.Causes.{WorkWaits, WorkFails, WorkRefuses}
 use Rattle.mt_types.specs.Numbers.{greatest_number}
 use Rattle.mt_works.specs.Works.{IsBuiltWork}
@@ -44,7 +45,7 @@ OneBeganBy calls node = (k : ℕ × Call) × Among k calls × (k.1.epoch ≤ nod
 
 -- WHAT A COLLECTION FREES: exactly the retired nodes since whose retiring each open call began, which are the first so many
 pub record FreesSo (s : MachineView) (count : ℕ) (t : MachineView) : Type 0 where
-  pub rest : t.tree.retired ≡ drop count s.tree.retired
+  pub left : t.tree ≡ given_back count s.tree
   pub freed : All (AllBeganAfter s.calls.calls) (take count s.tree.retired)
   pub kept : All (OneBeganBy s.calls.calls) (drop count s.tree.retired)
 
