@@ -477,7 +477,7 @@ impl Machine {
     /// nodes a collection frees, which a history doesn't show, is the clause `caused`.
     ///
     /// A begin costs some allocations, and a step the visit of one node and at most some allocations; each of them finds
-    /// its call at the cost of a way down the tree of open calls.
+    /// its call at the cost of a way down the tree of open calls. A collection is O(n) in the nodes that it frees.
     pub fn event(&mut self, alloc: Global, event: &Event) -> Outcome
         ensures stands { (h : History) → Stands self.old h → (opens : ℕ) × Stands self.new (happening event.now result opens ∷ h) }
         ensures caused { IsCaused self.old event.now result self.new }
