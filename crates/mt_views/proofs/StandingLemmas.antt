@@ -1,12 +1,11 @@
 -- The views as a history has them: what is found there, moved, dropped and furthest behind.
-use Rattle.std.proofs.Common.{◌≡◌, ◌≤◌, ◌+◌, ◌==◌, ℕ, false, Bool, true, not, cond, List, [], ◌∷◌, ◌++◌, map, Some, None, Option, sym, ◌∙◌, ap, refl, arith, inl, inr}
-use Rattle.std.proofs.lemmas.Bool.{ne_eqb}
+use Rattle.std.proofs.Common.{◌≡◌, ◌<◌, ◌≤◌, ◌⊎◌, ◌+◌, IfSome, subst, ◌==◌, ℕ, false, Bool, true, not, cond, List, [], ◌∷◌, ◌++◌, map, Some, None, Option, sym, ◌∙◌, ap, refl, arith, inl, inr}
+use Rattle.std.proofs.lemmas.Bool.{eq-eqb, le-ltb, lt-ltb, ne_eqb}
 use Rattle.std.proofs.lemmas.Bool.Decides.{eqb_tells}
 use Rattle.std.specs.Prelude.{nat_lt}
-use Rattle.std.specs.Option.{option_map}
 use Rattle.mt_promise.specs.History.{StandingView, furthest, view_of, without_view}
 use Rattle.mt_view.specs.State.{StateView}
-use Rattle.mt_views.specs.Views.{Rises, all_standing, slower, standing, state_at, with_state, without}
+use Rattle.mt_views.specs.Views.{Rises, all_standing, standing, state_at, with_state, without}
 use Rattle.mt_views.proofs.ViewLemmas.{Entries, state-above}
 
 -- a number is found there with the state that it has, or not at all
@@ -78,30 +77,89 @@ opened-there [] new = refl
 opened-there (v ∷ vs) new = ap (λ (l : List StandingView). standing v ∷ l) (opened-there vs new)
 
 -- ---- the view that is furthest behind
--- of those before these, this is the one, with its number and where it stands
-pub record IsBest (best : Option (ℕ × ℕ)) (rest : Entries) (all : Option StandingView) : Type 0 where
-  pub view : Option StandingView
-  pub is : best ≡ option_map (λ (v : StandingView). (v.number, v.at)) view
-  pub leads : furthest view (all_standing rest) ≡ all
+-- what is found is the first, or found among the later
+found-here : (number : ℕ) (state : StateView) (v : ℕ × StateView) (vs : Entries) → (v.0 == number) ≡ true → state_at number (v ∷ vs) ≡ Some state → v.1 ≡ state
+found-here number state v vs here at = let same : Some v.1 ≡ Some state = sym (ap (λ t. cond t (Some v.1) (state_at number vs)) here) ∙ at in cc
 
-pub best_begins : (rest vs : Entries) → rest ≡ vs → IsBest None rest (furthest None (all_standing vs))
-best_begins rest vs same = record { view = None; is = refl; leads = ap (λ (l : Entries). furthest None (all_standing l)) same }
+found-later : (number : ℕ) (state : StateView) (v : ℕ × StateView) (vs : Entries) → (v.0 == number) ≡ false → state_at number (v ∷ vs) ≡ Some state → state_at number vs ≡ Some state
+found-later number state v vs apart at = sym (ap (λ t. cond t (Some v.1) (state_at number vs)) apart) ∙ at
 
-pub best_is_next : (best : Option (ℕ × ℕ)) (rest left : Entries) (v : ℕ × StateView) (all : Option StandingView) → rest ≡ v ∷ left → IsBest best rest all → IsBest (Some (slower best (v.0, v.1.at))) left all
-best_is_next best rest left v all next now = by_view now.view now.is (ap (λ (l : Entries). furthest now.view (all_standing l)) (sym next) ∙ now.leads)
+-- a number that is found is above the low end
+state-is-above : (number low high : ℕ) (state : StateView) (vs : Entries) → Rises low high vs → state_at number vs ≡ Some state → low < number
+state-is-above number low high state [] rises at = absurd (cc)
+state-is-above number low high state (v ∷ vs) rises at =
+    let first = rises.0 in
+    elim (eqb_tells v.0 number) [
+      | inl p ↦ (let same = p.1 in omega (arith, first, same))
+      | inr p ↦ (let rest = state-is-above number v.0 high state vs rises.1 (found-later number state v vs p.0 at) in omega (arith, first, rest))
+    ]
+
+-- what is found among the later views is found among all
+state-later : (number low high : ℕ) (state : StateView) (v : ℕ × StateView) (vs : Entries) → Rises low high (v ∷ vs) → state_at number vs ≡ Some state → state_at number (v ∷ vs) ≡ Some state
+state-later number low high state v vs rises at =
+    let above = state-is-above number v.0 high state vs rises.1 at in
+    ap (λ t. cond t (Some v.1) (state_at number vs)) (ne_eqb v.0 number (λ e. omega (arith, above, e))) ∙ at
+
+-- the first is found at its own number
+pub state-first : (v : ℕ × StateView) (vs : Entries) → state_at v.0 (v ∷ vs) ≡ Some v.1
+state-first v vs = ap (λ t. cond t (Some v.1) (state_at v.0 vs)) (eq-eqb v.0 v.0 refl)
+
+-- none of these stands before a number of commits
+abbrev NoneBefore : ℕ → Entries → Type 0
+NoneBefore at vs = (number : ℕ) (state : StateView) → state_at number vs ≡ Some state → at ≤ state.at
+
+furthest-stays : (low high : ℕ) (best : StandingView) (vs : Entries) → Rises low high vs → NoneBefore best.at vs → furthest (Some best) (all_standing vs) ≡ Some best
+furthest-stays low high best [] rises none = refl
+furthest-stays low high best (v ∷ vs) rises none =
+    let first = none v.0 v.1 (state-first v vs) in
+    ap (λ t. furthest (Some (cond t (standing v) best)) (all_standing vs)) (le-ltb v.1.at best.at first)
+    ∙ furthest-stays v.0 high best vs rises.1 (λ number state at. none number state (state-later number low high state v vs rises at))
+
+-- each of these stands further on than a number of commits, or as far with no lesser number
+abbrev pub AllAfter : ℕ → ℕ → Entries → Type 0
+AllAfter at number vs = (other : ℕ) (state : StateView) → state_at other vs ≡ Some state → (at < state.at) ⊎ ((at ≡ state.at) × (number ≤ other))
+
+-- so does each of the later views
+all-later : (low high at number : ℕ) (v : ℕ × StateView) (vs : Entries) → Rises low high (v ∷ vs) → AllAfter at number (v ∷ vs) → AllAfter at number vs
+all-later low high at number v vs rises all = λ other state found. all other state (state-later other low high state v vs rises found)
+
+-- it is the first of these
+furthest-here : (number low high : ℕ) (state : StateView) (v : ℕ × StateView) (vs : Entries) → Rises low high (v ∷ vs) → (v.0 == number) ≡ true → v.0 ≡ number → state_at number (v ∷ vs) ≡ Some state
+    → AllAfter state.at number (v ∷ vs) → furthest (Some (standing v)) (all_standing vs) ≡ Some (standing (number, state))
+furthest-here number low high state v vs rises here is at all =
+    let same = found-here number state v vs here at in
+    let none : NoneBefore v.1.at vs = λ other found_state found. subst (λ (s : StateView). s.at ≤ found_state.at) (sym same) (no-earlier (all other found_state (state-later other low high found_state v vs rises found))) in
+    furthest-stays v.0 high (standing v) vs rises.1 none
+    ∙ ap (λ (n : ℕ). Some (standing (n, v.1))) is ∙ ap (λ (s : StateView). Some (standing (number, s))) same
   where
-    by_view : (view : Option StandingView) → best ≡ option_map (λ (w : StandingView). (w.number, w.at)) view → furthest view (all_standing (v ∷ left)) ≡ all → IsBest (Some (slower best (v.0, v.1.at))) left all
-    by_view None is leads = record { view = Some (standing v); is = ap (λ b. Some (slower b (v.0, v.1.at))) is; leads = leads }
-    by_view (Some w) is leads = record {
-      view = Some (cond (nat_lt v.1.at w.at) (standing v) w);
-      is = ap (λ b. Some (slower b (v.0, v.1.at))) is
-          ∙ elim (nat_lt v.1.at w.at) as (λ (t : Bool). ◌≡◌ {A = Option (ℕ × ℕ)} (Some (cond t (v.0, v.1.at) (w.number, w.at))) (option_map (λ (u : StandingView). (u.number, u.at)) (Some (cond t (standing v) w)))) [ true ↦ refl | false ↦ refl ];
-      leads = leads;
-    }
+    no-earlier : {at other_at number other : ℕ} → (at < other_at) ⊎ ((at ≡ other_at) × (number ≤ other)) → at ≤ other_at
+    no-earlier (inl after) = omega (arith, after)
+    no-earlier (inr same) = let as_far = same.0 in omega (arith, as_far)
 
-pub best_at_end : (best : Option (ℕ × ℕ)) (rest : Entries) (all : Option StandingView) → rest ≡ [] → IsBest best rest all → option_map (λ (p : ℕ × ℕ). p.0) best ≡ option_map (λ (v : StandingView). v.number) all
-best_at_end best rest all none now = by_view now.view now.is (ap (λ (l : Entries). furthest now.view (all_standing l)) (sym none) ∙ now.leads)
-  where
-    by_view : (view : Option StandingView) → best ≡ option_map (λ (w : StandingView). (w.number, w.at)) view → view ≡ all → option_map (λ (p : ℕ × ℕ). p.0) best ≡ option_map (λ (v : StandingView). v.number) all
-    by_view None is same = ap (λ (b : Option (ℕ × ℕ)). option_map (λ (p : ℕ × ℕ). p.0) b) is ∙ ap (λ (o : Option StandingView). option_map (λ (v : StandingView). v.number) o) same
-    by_view (Some w) is same = ap (λ (b : Option (ℕ × ℕ)). option_map (λ (p : ℕ × ℕ). p.0) b) is ∙ ap (λ (o : Option StandingView). option_map (λ (v : StandingView). v.number) o) same
+-- the first is another: it stands further on, since its number is less
+first-is-after : (number low high : ℕ) (state : StateView) (v : ℕ × StateView) (vs : Entries) → Rises low high (v ∷ vs) → (v.0 == number) ≡ false → state_at number (v ∷ vs) ≡ Some state
+    → AllAfter state.at number (v ∷ vs) → state.at < v.1.at
+first-is-after number low high state v vs rises apart at all =
+    let above = state-is-above number v.0 high state vs rises.1 (found-later number state v vs apart at) in
+    elim (all v.0 v.1 (state-first v vs)) [
+      | inl after ↦ after
+      | inr same ↦ (let no_less = same.1 in absurd (omega (arith, above, no_less)))
+    ]
+
+-- the view after which all these come is the one that is furthest behind
+pub furthest-is : (number low high : ℕ) (state : StateView) (best : Option StandingView) (vs : Entries) → Rises low high vs → state_at number vs ≡ Some state
+    → AllAfter state.at number vs → IfSome best (λ (b : StandingView). state.at < b.at) → furthest best (all_standing vs) ≡ Some (standing (number, state))
+furthest-is number low high state best [] rises at all behind = absurd (cc)
+furthest-is number low high state None (v ∷ vs) rises at all behind = elim (eqb_tells v.0 number) [
+  | inl p ↦ furthest-here number low high state v vs rises p.0 p.1 at all
+  | inr p ↦ furthest-is number v.0 high state (Some (standing v)) vs rises.1 (found-later number state v vs p.0 at) (all-later low high state.at number v vs rises all)
+      (first-is-after number low high state v vs rises p.0 at all)
+]
+furthest-is number low high state (Some best) (v ∷ vs) rises at all behind = elim (eqb_tells v.0 number) [
+  | inl p ↦ (let same = found-here number state v vs p.0 at in
+      let less : v.1.at < best.at = subst (λ (s : StateView). s.at < best.at) (sym same) behind in
+      ap (λ t. furthest (Some (cond t (standing v) best)) (all_standing vs)) (lt-ltb v.1.at best.at less)
+      ∙ furthest-here number low high state v vs rises p.0 p.1 at all)
+  | inr p ↦ furthest-is number v.0 high state (Some (cond (nat_lt v.1.at best.at) (standing v) best)) vs rises.1 (found-later number state v vs p.0 at) (all-later low high state.at number v vs rises all)
+      (elim (nat_lt v.1.at best.at) as (λ (t : Bool). state.at < (cond t (standing v) best).at) [ true ↦ first-is-after number low high state v vs rises p.0 at all | false ↦ behind ])
+]

@@ -68,6 +68,11 @@ remove-view number low high (v ∷ vs) rises =
       | inr p ↦ ap remove_here p.0 ∙ ap (λ (l : Entries). v ∷ l) (remove-view number v.0 high vs rises.1) ∙ sym (ap without_here p.0)
     ]
 
+-- the numbers stay below the high end
+pub rises-to : (low high : ℕ) (vs : Entries) → Rises low high vs → low ≤ high
+rises-to low high [] rises = rises
+rises-to low high (v ∷ vs) rises = let first = rises.0 in let rest = rises-to v.0 high vs rises.1 in omega (arith, first, rest)
+
 -- the next number stands at the end
 pub insert-view : (low high number : ℕ) (state : StateView) (vs : Entries) → high < number → Rises low high vs → insert_entry nat_cmp vs number state ≡ vs ++ (number, state) ∷ []
 insert-view low high number state [] above rises = refl
@@ -76,10 +81,6 @@ insert-view low high number state (v ∷ vs) above rises =
     let after : nat_cmp number v.0 ≡ Greater = sym (nat_cmp_is number v.0 Greater (omega (arith, within, above))) in
     ap (λ order. match_ordering order ((number, state) ∷ v ∷ vs) ((v.0, state) ∷ vs) (v ∷ insert_entry nat_cmp vs number state)) after
     ∙ ap (λ (l : Entries). v ∷ l) (insert-view v.0 high number state vs above rises.1)
-  where
-    rises-to : (low high : ℕ) (vs : Entries) → Rises low high vs → low ≤ high
-    rises-to low high [] rises = rises
-    rises-to low high (v ∷ vs) rises = let first = rises.0 in let rest = rises-to v.0 high vs rises.1 in omega (arith, first, rest)
 
 -- ---- the numbers rise on
 pub rises-append : (low high : ℕ) (state : StateView) (vs : Entries) → Rises low high vs → Rises low (high + 1) (vs ++ (high + 1, state) ∷ [])

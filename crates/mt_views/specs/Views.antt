@@ -1,5 +1,5 @@
 -- The views that stand, as contracts see them, and as a history has them.
-use Rattle.std.specs.Prelude.{ℕ, ◌+◌, ◌==◌, ◌≤◌, ◌<◌, nat_lt, not, if◌then◌else◌, List, [], ◌∷◌, length, map, filter, Option, Some, None}
+use Rattle.std.specs.Prelude.{ℕ, ◌+◌, ◌==◌, ◌≤◌, ◌<◌, not, if◌then◌else◌, List, [], ◌∷◌, length, map, filter, Option, Some, None}
 use Rattle.mt_promise.specs.History.{StandingView}
 use Rattle.mt_view.specs.State.{StateView}
 
@@ -36,9 +36,3 @@ without number views = filter (λ (view : ℕ × StateView). not (view.0 == numb
 abbrev pub Rises : ℕ → ℕ → List (ℕ × StateView) → Type 0
 Rises low high [] = low ≤ high
 Rises low high (view ∷ views) = (low < view.0) × Rises view.0 high views
-
--- of two views, each with its number and the number of commits at which it stands, the one that is further behind; the first where
--- both are as far
-abbrev pub slower : Option (ℕ × ℕ) → ℕ × ℕ → ℕ × ℕ
-slower None view = view
-slower (Some best) view = if nat_lt view.1 best.1 then view else best

@@ -6,7 +6,7 @@ ghost use Rattle.mt_types.specs.Numbers.{greatest_number};
 ghost use Rattle.mt_types.specs.declared.limits.TheConstants.{MAX_VIEWS};
 ghost use Rattle.mt_promise.specs.History.{StandingView, furthest, meant_view};
 ghost use Rattle.mt_view.specs.State.{StateView, applied, page_of_state};
-ghost use Rattle.mt_views.specs.Views.{all_standing, places, slower, state_at, with_state, without};
+ghost use Rattle.mt_views.specs.Views.{all_standing, places, state_at, with_state, without};
 
 use mt_types::copying::TryCopy;
 use mt_types::key::Key;
@@ -15,15 +15,18 @@ use mt_types::row::Delta;
 use mt_types::view::Page;
 use mt_view::state::ViewState;
 use std::alloc::Global;
-use std::collections::BTreeMap;
+use std::collections::{BTreeMap, BTreeSet};
 use std::marker::Model;
 
 /// The views that stand, in a B-tree by their numbers, and how many places are kept for builds: together at most 64.
+/// Beside them the queue, a B-tree of a turn for each view: the number of commits at which it stands, and its own
+/// number. So the first turn is that of the view that is furthest behind.
 #[derive(Drop)]
 pub struct Views {
     built: u64,
     building: usize,
     views: BTreeMap<u64, ViewState>,
+    queue: BTreeSet<(u64, u64)>,
 }
 
 impl Model for Views {
@@ -41,17 +44,6 @@ impl Model for Views {
     ghost invariant = { AreViews };
 }
 
-// Of two views, each with its number and the number of commits at which it stands, the one that is further behind; the
-// first where both are as far.
-fn slower(best: Option<(u64, u64)>, view: (u64, u64)) -> (u64, u64)
-    ensures { result ≡ slower best view }
-{
-    match best {
-        Some(best) => { if view.1 < best.1 { view } else { best } }
-        None => view,
-    }
-}
-
 impl Views {
     /// No view stands, none was opened. Takes no memory.
     pub fn new(alloc: Global) -> Views
@@ -61,6 +53,7 @@ impl Views {
             built: 0,
             building: 0,
             views: BTreeMap::new(alloc),
+            queue: BTreeSet::new(alloc),
         }
     }
 
@@ -117,14 +110,19 @@ impl Views {
             return Err(Refusal::Spent);
         }
         let number = self.built + 1;
-        self.views.insert(number, state)?;
+        let turn = (state.at(), number);
+        self.queue.insert(turn)?;
+        if let Err(refused) = self.views.insert(number, state) {
+            self.queue.remove(&turn);
+            return Err(Refusal::from(refused));
+        }
         self.built = number;
         self.building -= 1;
         Ok(number)
     }
 
     /// The number of the view that an apply means: 0 stands for the one that is furthest behind, and of several for the
-    /// first of them. O(log n) in the views, and O(n) for 0: at most 64.
+    /// first of them. O(log n) in the views.
     pub fn meant(&self, asked: u64) -> Option<u64>
         ensures { result ≡ option_map (λ (v : StandingView). v.number) (meant_view asked (all_standing self.now.views)) }
     {
@@ -137,16 +135,12 @@ impl Views {
         }
     }
 
-    // The number of the view that is furthest behind.
+    // The number of the view that is furthest behind: the one whose turn is the first of the queue. O(log n).
     fn furthest(&self) -> Option<u64>
         ensures { result ≡ option_map (λ (v : StandingView). v.number) (furthest None (all_standing self.now.views)) }
     {
-        let mut best = None;
-        for (number, state) in self.views.iter() {
-            best = Some(slower(best, (*number, state.at())));
-        }
-        match best {
-            Some((number, _)) => Some(number),
+        match self.queue.first() {
+            Some((_, number)) => Some(*number),
             None => None,
         }
     }
@@ -173,10 +167,23 @@ impl Views {
             → self.new ≡ record self.old { views = with_state number (applied delta.now state) self.old.views }) }
         ensures err { OnErr result (self.new ≡ self.old) }
     {
-        match self.views.get_mut(&number) {
-            Some(state) => state.apply(delta),
-            None => unreachable!(),
+        let Some(state) = self.views.get_mut(&number) else {
+            unreachable!()
+        };
+        let at = state.at();
+        if at == delta.number {
+            // It stands there already, so its turn stays.
+            return state.apply(delta);
         }
+        // What needs memory comes first: to take a turn out of the queue needs none.
+        let turn = (delta.number, number);
+        self.queue.insert(turn)?;
+        if let Err(refused) = state.apply(delta) {
+            self.queue.remove(&turn);
+            return Err(refused);
+        }
+        self.queue.remove(&(at, number));
+        Ok(())
     }
 
     /// A page of a view: what it shows from a key on, up to the limit. O(log n + m) in its rows and the columns that it
@@ -215,6 +222,8 @@ impl Views {
     pub fn end(&mut self, number: u64)
         ensures { self.new ≡ record self.old { views = without number self.old.views } }
     {
-        let _ = self.views.remove(&number);
+        if let Some(state) = self.views.remove(&number) {
+            self.queue.remove(&(state.at(), number));
+        }
     }
 }
