@@ -1,3 +1,4 @@
+pub mod AloneLemmas
 pub mod CallLemmas
 pub mod ExampleLemmas
 pub mod FinishedLemmas

@@ -19,7 +19,8 @@ same_items {test = test} same (x ∷ xs) (y ∷ ys) e =
     let tail = same_items same xs ys (second_so (test x y) (pointwise test xs ys) e) in
     λ i. head i ∷ tail i
 
-pub same_pairs : {A B : Type 0} {a : A → A → Bool} {b : B → B → Bool} → TellsSame a → TellsSame b → (x y : A × B) → a x.0 y.0 && b x.1 y.1 ≡ true → x ≡ y
+pub same_pairs : {A B : Type 0} {a : A → A → Bool} {b : B → B → Bool} → TellsSame a → TellsSame b → (x y : A × B)
+    → a x.0 y.0 && b x.1 y.1 ≡ true → x ≡ y
 same_pairs {a = a} {b = b} one other x y e =
     let head = one x.0 y.0 (first_so (a x.0 y.0) (b x.1 y.1) e) in
     let tail = other x.1 y.1 (second_so (a x.0 y.0) (b x.1 y.1) e) in

@@ -57,7 +57,8 @@ same_rows x y e =
 same_sets : TellsSame (pointwise (λ (x y : ℕ × List ℕ). eqb x.0 y.0 && pointwise (λ (a b : ℕ). eqb a b) x.1 y.1))
 same_sets = same_items (same_pairs same_number same_bytes)
 
-same_keyed_rows : TellsSame (pointwise (λ (x y : List ℕ × Row). pointwise (λ (a b : ℕ). eqb a b) x.0 y.0 && (RowEq.ghosts).eq x.1 y.1))
+same_keyed_rows : TellsSame (pointwise
+    (λ (x y : List ℕ × Row). pointwise (λ (a b : ℕ). eqb a b) x.0 y.0 && (RowEq.ghosts).eq x.1 y.1))
 same_keyed_rows = same_items (same_pairs same_bytes same_rows)
 
 pub same_changes : TellsSame (λ (x y : Change). (ChangeEq.ghosts).eq x y)

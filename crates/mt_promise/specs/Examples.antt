@@ -1,5 +1,5 @@
--- Small histories of an index of one column, told in the order in which they happened: one that is legal, and those that
---     the definitions must refute.
+-- Small histories of an index of one column, told in the order in which they happened: one that is legal, and those
+-- that the definitions must refute.
 use Rattle.std.specs.Prelude.{ℕ, ◌-◌, List, [], ◌∷◌, ◌++◌, None}
 use Rattle.mt_promise.specs.History.{Happening, happening, History}
 use Rattle.mt_promise.specs.Legal.{Legal}
@@ -45,7 +45,13 @@ steps call outcome = happening (Step (record { 0 = call })) outcome 0
 
 abbrev pub done : ℕ → ℕ → ℕ → ℕ → Answer → Happening
 done pass call from to answer =
-    steps call (Done (record { pass = record { 0 = pass }; call = record { 0 = call }; from = from; to = to; answer = answer }))
+    steps call (Done (record {
+      pass = record { 0 = pass };
+      call = record { 0 = call };
+      from = from;
+      to = to;
+      answer = answer;
+    }))
 
 -- a put and a get begin, and the put comes to the border
 abbrev pub two_begun : History
@@ -98,7 +104,8 @@ amount_left =
     told [] (begins 1 (Build at_least_five) 1 ∷ done 1 1 0 0 (Built (record { 0 = 1 })) ∷
     (put_amount 2 1 5 ++ put_amount 3 2 4 ++
     (happening (Apply (record { 0 = 1 })) (Applied 1) 0 ∷ happening (Apply (record { 0 = 1 })) (Applied 2) 0 ∷
-    happening (ViewRead (record { 0 = 1 }) 0 [] 10) (View (record { at = 2; count = 0; sums = 5 ∷ []; rows = [] })) 0 ∷ [])))
+    happening (ViewRead (record { 0 = 1 }) 0 [] 10) (View (record { at = 2; count = 0; sums = 5 ∷ []; rows = [] })) 0
+    ∷ [])))
 
 -- a view of this specification is built on an index without rows
 abbrev pub build_first : List Happening
@@ -116,7 +123,8 @@ page_after_drop = told [] (build_first ++ (happening (ViewDrop (record { 0 = 1 }
 -- a view is taken on by a commit, and its page still stands before it
 abbrev pub page_left_behind : History
 page_left_behind =
-    told [] (build_first ++ (put_amount 2 1 4 ++ (happening (Apply (record { 0 = 1 })) (Applied 1) 0 ∷ shows_none 0 ∷ [])))
+    told [] (build_first ++ (put_amount 2 1 4
+    ++ (happening (Apply (record { 0 = 1 })) (Applied 1) 0 ∷ shows_none 0 ∷ [])))
 
 -- what the definitions say of them
 abbrev pub VisibleIsLegal : Type 0

@@ -110,8 +110,8 @@ applies view past [] = 0
 applies view past (x ∷ later) = applies view past later + one_if (takes_on view (later ++ past) x)
 
 -- A view of this number stands at so many commits: a build that has finished gave it, to this specification; it opened
---     at a number of commits that there were at some moment of the build; it wasn't dropped since; and it stands as many
---     commits further as it was taken on since.
+-- at a number of commits that there were at some moment of the build; it wasn't dropped since; and it stands as many
+-- commits further as it was taken on since.
 pub record StandsAt (past : History) (view : ViewNo) (spec : ViewSpec) (at : ℕ) : Type 0 where
   pub reply : Reply
   pub before : History

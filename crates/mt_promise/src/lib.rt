@@ -2,6 +2,7 @@
 //! range and view, as laws.
 #![tactic(auto)]
 
+pub mod alone;
 pub mod exact;
 pub mod examples;
 pub mod headline;
