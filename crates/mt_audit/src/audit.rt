@@ -30,7 +30,8 @@ fn read_book<R: Read>(
     book: &mut Book,
 ) -> Result<Option<u64>, ScriptFault>
     requires { IsBookOf columns [] book.old }
-    ensures read { IfOk result (λ bad. MatchOption bad (IsWholeBook columns (source_rest R.remaining reader.old) book.new)
+    ensures read { IfOk result (λ bad. MatchOption bad
+        (IsWholeBook columns (source_rest R.remaining reader.old) book.new)
         (λ number. IsVerdictOn columns (source_rest R.remaining reader.old) (Bad number))) }
     ensures failed { IfErr result (λ fault. fault ≡ ReadFault → GivesNoMore reader.new) }
     ensures fault { IfErr result (λ fault. (fault ≡ ReadFault) ⊎ (fault ≡ NoMemory)) }
@@ -108,8 +109,8 @@ fn tell<W: Write>(alloc: Global, verdict: &Verdict, writer: &mut Sink<W>) -> Res
 ///
 /// # Errors
 ///
-/// `Read` where a read of the source failed, `Write` where a write of the sink failed or took nothing, `NoMemory` for want
-/// of it. By then nothing was written, or the first bytes of the line.
+/// `Read` where a read of the source failed, `Write` where a write of the sink failed or took nothing, `NoMemory` for
+/// want of it. By then nothing was written, or the first bytes of the line.
 pub fn audit<R: Read, W: Write>(
     alloc: Global,
     columns: u8,

@@ -210,8 +210,8 @@ impl Border {
         self.version.is_split_spent()
     }
 
-    /// Whether a fill of the first unused slot is refused: that slot held a key, and the counter of insertions is at its
-    /// greatest value, 2^56 - 1. Constant cost.
+    /// Whether a fill of the first unused slot is refused: that slot held a key, and the counter of insertions is at
+    /// its greatest value, 2^56 - 1. Constant cost.
     pub fn is_fill_spent(&self) -> bool
         requires { length self.now.live < SLOTS }
         ensures { IsTrue result ↔ IsTrue (fill_is_spent self.now) }

@@ -15,7 +15,7 @@ use Rattle.mt_border.specs.Border.{BorderView}
 use Rattle.mt_border.specs.Order.{IsBorder}
 use Rattle.mt_rows.proofs.MapLemmas.{Entries, key_order}
 use Rattle.mt_chart.specs.Tree.{Arena, Among, first, later, border, Below, Has, Right}
-use Rattle.mt_chart.specs.Tree.{Entry as PlainEntry}
+use Rattle.mt_chart.specs.Tree.{PlainEntry}
 use Rattle.mt_chart.specs.Chart.{Chart, Holds, IsTree}
 use Rattle.mt_chart.specs.Scan.{Pair, AtMost, Listed, OpenRange, VisitOutcome, answers, goes, AtEnd, BorderVisit, Comes}
 use Rattle.mt_chart.specs.ScanRun.{Stood, AllHave, EntriesInOrder}

@@ -11,6 +11,7 @@ use Rattle.mt_chart.specs.Tree.{Arena, border, Below, Has}
 use Rattle.mt_chart.specs.Chart.{Chart, Holds, IsTree}
 use Rattle.mt_chart.specs.ScanRun.{Stood, AllHave}
 use Rattle.mt_tree.specs.Seen.{border_seen}
+use Rattle.mt_scan.specs.Cursor.{CursorView}
 use Rattle.mt_scan.specs.declared.scan.ScanMove.{ScanMove}
 use Rattle.mt_scan.specs.declared.scan.ScanMove.TheVariants.{Done, To, Top}
 use Rattle.mt_view.specs.State.{StateView, IsAfresh}
@@ -20,6 +21,10 @@ pub record BuildView : Type 0 where
   pub prefix : List ℕ  -- the slices above the layer in which its scan stands, the nearest first
   pub at : Place  -- the cursor of its scan, as a place of that layer
   pub state : StateView  -- the state of the view so far
+
+-- the cursor of its scan
+abbrev pub build_cursor : BuildView → CursorView
+build_cursor build = record { prefix = build.prefix; at = build.at }
 
 -- the first key that a view may have
 abbrev pub first_key : ViewSpec → List ℕ

@@ -37,7 +37,8 @@ BuildsAreExact =
 abbrev pub OthersKeepScans : Type 0
 OthersKeepScans =
     (chart new : Chart) (begun number : ℕ) (arena : Arena) (arenas : List Arena) (build : BuildView)
-    → Evolves begun chart new → IsScanning chart begun arenas number build → IsScanning new begun (arena ∷ arenas) number build
+    → Evolves begun chart new → IsScanning chart begun arenas number build
+    → IsScanning new begun (arena ∷ arenas) number build
 
 -- and of the build that has begun its way again
 abbrev pub RestartsKeepScans : Type 0

@@ -11,7 +11,8 @@ ghost use Rattle.mt_chart.specs.Chart.{Chart, IsTree};
 ghost use Rattle.mt_scan.specs.Scan.{HoldsKeys};
 ghost use Rattle.mt_view.specs.State.{IsAfresh, applied};
 ghost use Rattle.mt_build.specs.History.{LeadsTo};
-ghost use Rattle.mt_build.specs.Build.{BuildView, first_key, IsScanning, IsBehindAll, VisitsOn};
+ghost use Rattle.mt_scan.specs.Onward.{cursor_of, all_cursors, GoesOnward, GoesFrom};
+ghost use Rattle.mt_build.specs.Build.{BuildView, build_cursor, first_key, IsScanning, IsBehindAll, VisitsOn};
 
 use crate::end::{end_of, first_key};
 use bytes::Bytes;
@@ -110,7 +111,8 @@ impl Build {
 
     /// Visits the border in whose interval the slice is, and takes in what it reads there: the rows of the keys from
     /// its cursor on, up to the first link that it goes into. The scan is then at its end, behind all keys of the view,
-    /// or it goes on at the head of the link's layer, at the border to the right, or at the head of layer 0.
+    /// or it goes on at the head of the link's layer, at the border to the right, or at the head of layer 0, with its
+    /// cursor further on.
     ///
     /// O(log n) in the rows of the view for each row that it reads, with a few allocations.
     ///
@@ -121,6 +123,11 @@ impl Build {
     pub fn visit(&mut self, alloc: Global, border: &Border) -> Result<ScanMove, NoMemory>
         requires { HoldsKeys self.old.prefix border.now.live }
         ensures visited { IfOk result (λ visited. VisitsOn self.old border.now visited self.new) }
+        ensures onward { IfOk result (λ visited. GoesOnward (build_cursor self.old) border.now visited
+            (build_cursor self.new)) }
+        ensures within { IfOk result (λ visited. (places : ℕ)
+            → cursor_of places (build_cursor self.old) < all_cursors places) }
+        ensures leads { IfOk result (λ visited. GoesFrom border.now visited) }
         ensures state { self.new.state ≡ record self.old.state { rows = self.new.state.rows } }
     {
         let _sound = border.len();

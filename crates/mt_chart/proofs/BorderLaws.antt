@@ -2,7 +2,7 @@
 use Rattle.std.proofs.Common.{ℕ, ◌≡◌, ◌≢◌, ◌≤◌, ◌⊎◌, ◌↔◌, inl, inr, List, [], ◌∷◌, Option, Some, None, Bool, true, false, refl, sym, ap, ◌∙◌, subst, arith}
 use Rattle.mt_slice.specs.Place.{Place}
 use Rattle.mt_types.specs.declared.row.Row.{Row}
-use Rattle.mt_chart.specs.Tree.{link, Entry, Right, HeadNode, BorderNode, head, border, Arena, Among, Below, Has}
+use Rattle.mt_chart.specs.Tree.{link, PlainEntry, Right, HeadNode, BorderNode, head, border, Arena, Among, Below, Has}
 use Rattle.mt_chart.specs.Chart.{Standing, on, gone, Role, top, at_level, Spot, spot, Chart, OnHead, IsLastBorder, IsBorderNode, Apart, class, Owns, by_head, Dated}
 use Rattle.mt_chart.specs.Steps.{Twin, AreTwins, IsIndex, MarksBorder, ShowsRow, HidesRow, SetsRow}
 use Rattle.mt_chart.specs.StepLaws.{ShowingAddsTheRow, HidingRemovesTheRow, SettingReplacesTheRow, MarkingABorderKeeps, MarkingAGoneBorderKeeps, LinkingAHalfKeeps, MakingALayerKeeps, UnlinkingKeeps, DroppingALayerKeeps}
@@ -25,8 +25,8 @@ module _ (now : ℕ) (twins : List Twin) (arena after : Arena) (chart : Chart) (
   shows_ok : IsBorderNode chart step.prefix step.old
   shows_ok = index.tree.each_border step.number step.prefix step.old step.writes.stands
 
-  shows_inside : (e : Entry) → (e ≡ step.entry) ⊎ Among e step.old.entries → (step.old.low ≤ e.slice) × Below e.slice step.old.right
-  shows_inside e (inl q) = (subst (λ (v : Entry). step.old.low ≤ v.slice) (sym q) step.from_low, subst (λ (v : Entry). Below v.slice step.old.right) (sym q) step.to_right)
+  shows_inside : (e : PlainEntry) → (e ≡ step.entry) ⊎ Among e step.old.entries → (step.old.low ≤ e.slice) × Below e.slice step.old.right
+  shows_inside e (inl q) = (subst (λ (v : PlainEntry). step.old.low ≤ v.slice) (sym q) step.from_low, subst (λ (v : PlainEntry). Below v.slice step.old.right) (sym q) step.to_right)
   shows_inside e (inr i) = (shows_ok.from_low e i, shows_ok.to_right e i)
 
   shows_apart : Apart step.new.entries
@@ -34,8 +34,8 @@ module _ (now : ℕ) (twins : List Twin) (arena after : Arena) (chart : Chart) (
     where
       go : (e ≡ step.entry) ⊎ Among e step.old.entries → (f ≡ step.entry) ⊎ Among f step.old.entries → e ≡ f
       go (inl p) (inl q) = p ∙ sym q
-      go (inl p) (inr m) = absurd (step.lacked f m (sym sl ∙ ap (λ (v : Entry). v.slice) p) (sym cl ∙ ap (λ (v : Entry). class v.content) p))
-      go (inr m) (inl q) = absurd (step.lacked e m (sl ∙ ap (λ (v : Entry). v.slice) q) (cl ∙ ap (λ (v : Entry). class v.content) q))
+      go (inl p) (inr m) = absurd (step.lacked f m (sym sl ∙ ap (λ (v : PlainEntry). v.slice) p) (sym cl ∙ ap (λ (v : PlainEntry). class v.content) p))
+      go (inr m) (inl q) = absurd (step.lacked e m (sl ∙ ap (λ (v : PlainEntry). v.slice) q) (cl ∙ ap (λ (v : PlainEntry). class v.content) q))
       go (inr m) (inr n) = shows_ok.apart e f m n sl cl
 
   shows_links : (slice number : ℕ) → Among (record { slice = slice; content = link number }) step.new.entries ↔ Among (record { slice = slice; content = link number }) step.old.entries
@@ -108,9 +108,9 @@ module _ (now : ℕ) (twins : List Twin) (arena after : Arena) (chart : Chart) (
   same_class : class step.set.content ≡ class step.entry.content
   same_class = sym (holds_slice step.set.slice step.set.content step.place row step.set_holds).1 ∙ (holds_slice step.entry.slice step.entry.content step.place before step.holds).1
 
-  sets_inside : (e : Entry) → (e ≡ step.set) ⊎ (Among e step.old.entries × (e ≢ step.entry)) → (step.old.low ≤ e.slice) × Below e.slice step.old.right
+  sets_inside : (e : PlainEntry) → (e ≡ step.set) ⊎ (Among e step.old.entries × (e ≢ step.entry)) → (step.old.low ≤ e.slice) × Below e.slice step.old.right
   sets_inside e (inl q) =
-      let same : step.entry.slice ≡ e.slice = sym same_slice ∙ ap (λ (v : Entry). v.slice) (sym q) in
+      let same : step.entry.slice ≡ e.slice = sym same_slice ∙ ap (λ (v : PlainEntry). v.slice) (sym q) in
       (subst (λ (v : ℕ). step.old.low ≤ v) same (sets_ok.from_low step.entry step.stood), subst (λ (v : ℕ). Below v step.old.right) same (sets_ok.to_right step.entry step.stood))
   sets_inside e (inr i) = (sets_ok.from_low e i.0, sets_ok.to_right e i.0)
 
@@ -119,8 +119,8 @@ module _ (now : ℕ) (twins : List Twin) (arena after : Arena) (chart : Chart) (
     where
       go : (e ≡ step.set) ⊎ (Among e step.old.entries × (e ≢ step.entry)) → (f ≡ step.set) ⊎ (Among f step.old.entries × (f ≢ step.entry)) → e ≡ f
       go (inl p) (inl q) = p ∙ sym q
-      go (inl p) (inr m) = absurd (m.1 (sets_ok.apart f step.entry m.0 step.stood (sym sl ∙ (ap (λ (v : Entry). v.slice) p ∙ same_slice)) (sym cl ∙ (ap (λ (v : Entry). class v.content) p ∙ same_class))))
-      go (inr m) (inl q) = absurd (m.1 (sets_ok.apart e step.entry m.0 step.stood (sl ∙ (ap (λ (v : Entry). v.slice) q ∙ same_slice)) (cl ∙ (ap (λ (v : Entry). class v.content) q ∙ same_class))))
+      go (inl p) (inr m) = absurd (m.1 (sets_ok.apart f step.entry m.0 step.stood (sym sl ∙ (ap (λ (v : PlainEntry). v.slice) p ∙ same_slice)) (sym cl ∙ (ap (λ (v : PlainEntry). class v.content) p ∙ same_class))))
+      go (inr m) (inl q) = absurd (m.1 (sets_ok.apart e step.entry m.0 step.stood (sl ∙ (ap (λ (v : PlainEntry). v.slice) q ∙ same_slice)) (cl ∙ (ap (λ (v : PlainEntry). class v.content) q ∙ same_class))))
       go (inr m) (inr n) = sets_ok.apart e f m.0 n.0 sl cl
 
   sets_links : (slice number : ℕ) → Among (record { slice = slice; content = link number }) step.new.entries ↔ Among (record { slice = slice; content = link number }) step.old.entries
@@ -158,8 +158,8 @@ module _ (now : ℕ) (twins : List Twin) (arena after : Arena) (chart : Chart) (
   marks_ok : IsBorderNode chart step.prefix step.old
   marks_ok = index.tree.each_border step.number step.prefix step.old step.writes.stands
 
-  marks_entries : (e : Entry) → Among e step.new.entries ↔ Among e step.old.entries
-  marks_entries e = (λ i. subst (λ (v : List Entry). Among e v) step.entries i, λ i. subst (λ (v : List Entry). Among e v) (sym step.entries) i)
+  marks_entries : (e : PlainEntry) → Among e step.new.entries ↔ Among e step.old.entries
+  marks_entries e = (λ i. subst (λ (v : List PlainEntry). Among e v) step.entries i, λ i. subst (λ (v : List PlainEntry). Among e v) (sym step.entries) i)
 
   marks_apart : Apart step.new.entries
   marks_apart e f i j sl cl = marks_ok.apart e f ((marks_entries e).0 i) ((marks_entries f).0 j) sl cl

@@ -4,13 +4,14 @@ use Rattle.std.proofs.Math.Nat.{mul-le-mul_right}
 use Rattle.mt_slice.specs.Place.{Place, deeper, under}
 use Rattle.mt_chart.specs.CursorNumber.{base_power, digits_number, AreDigits, digit_base, place_digits, digits_above}
 
-module _ (base : ℕ) where
-  less_than_more : (d e x y z : ℕ) → d < e → x < y → d * y + x < e * y + z
-  less_than_more d e x y z h w =
-      let k : suc d * y ≤ e * y = mul-le-mul_right y h in
-      let s : suc d * y ≡ d * y + y = grind arith in
-      omega arith
+-- the first part decides, where the second is less than the base
+pub less_than_more : (d e x y z : ℕ) → d < e → x < y → d * y + x < e * y + z
+less_than_more d e x y z h w =
+    let k : suc d * y ≤ e * y = mul-le-mul_right y h in
+    let s : suc d * y ≡ d * y + y = grind arith in
+    omega arith
 
+module _ (base : ℕ) where
   pub number_below : (i : ℕ) (ds : List ℕ) → 0 < base → AreDigits base ds → digits_number base i ds < base_power base i
   number_below zero ds h w = omega arith
   number_below (suc i) [] h w = let k : digits_number base i [] < base_power base i = number_below i [] h tt in positive (base_power base i) k
@@ -50,19 +51,20 @@ length_above : (p ds : List ℕ) → length (digits_above p ds) ≡ length p + l
 length_above [] ds = omega arith
 length_above (s ∷ p) ds = let h : length (digits_above p ((2 * s) ∷ ds)) ≡ length p + length ((2 * s) ∷ ds) = length_above p ((2 * s) ∷ ds) in omega (arith, h)
 
-grows_above : (p ds es : List ℕ) (d e : ℕ) → length p ≤ 31 → AreDigits digit_base ds → d < e → digits_number digit_base 32 (digits_above p (d ∷ ds)) < digits_number digit_base 32 (digits_above p (e ∷ es))
-grows_above p ds es d e l h q =
-    let m : length (digits_above p []) ≡ length p = (let k = length_above p [] in omega (arith, k)) in
-    let x : digits_number digit_base 32 (digits_above p [] ++ (d ∷ ds)) < digits_number digit_base 32 (digits_above p [] ++ (e ∷ es)) = grows digit_base 32 (digits_above p []) ds es d e (omega (arith, m)) (omega arith) h q in
-    let u : digits_above p (d ∷ ds) ≡ digits_above p [] ++ (d ∷ ds) = above_parts p (d ∷ ds) in
-    let v : digits_above p (e ∷ es) ≡ digits_above p [] ++ (e ∷ es) = above_parts p (e ∷ es) in
-    rw u (rw v x)
+module _ (places : ℕ) where
+  grows_above : (p ds es : List ℕ) (d e : ℕ) → length p < places → AreDigits digit_base ds → d < e → digits_number digit_base places (digits_above p (d ∷ ds)) < digits_number digit_base places (digits_above p (e ∷ es))
+  grows_above p ds es d e l h q =
+      let m : length (digits_above p []) ≡ length p = (let k = length_above p [] in omega (arith, k)) in
+      let x : digits_number digit_base places (digits_above p [] ++ (d ∷ ds)) < digits_number digit_base places (digits_above p [] ++ (e ∷ es)) = grows digit_base places (digits_above p []) ds es d e (omega (arith, m)) (omega arith) h q in
+      let u : digits_above p (d ∷ ds) ≡ digits_above p [] ++ (d ∷ ds) = above_parts p (d ∷ ds) in
+      let v : digits_above p (e ∷ es) ≡ digits_above p [] ++ (e ∷ es) = above_parts p (e ∷ es) in
+      rw u (rw v x)
 
--- a scan in the layer of the prefix `p`, its cursor at the slice `s` or behind it, leaves a border by a right link of the greater low `w`
-pub leaves_border : (p ds : List ℕ) (d s w : ℕ) → length p ≤ 31 → AreDigits digit_base ds → d ≤ 2 * s + 1 → s < w →
-    digits_number digit_base 32 (digits_above p (d ∷ ds)) < digits_number digit_base 32 (digits_above p ((2 * w) ∷ []))
-leaves_border p ds d s w l h m q = grows_above p ds [] d (2 * w) l h (omega arith)
+  -- a scan in the layer of the prefix `p`, its cursor at the slice `s` or behind it, leaves a border by a right link of the greater low `w`
+  pub leaves_border : (p ds : List ℕ) (d s w : ℕ) → length p < places → AreDigits digit_base ds → d ≤ 2 * s + 1 → s < w →
+      digits_number digit_base places (digits_above p (d ∷ ds)) < digits_number digit_base places (digits_above p ((2 * w) ∷ []))
+  leaves_border p ds d s w l h m q = grows_above p ds [] d (2 * w) l h (omega arith)
 
--- a scan whose cursor is in the layer at the slice `t` below the prefix `p` leaves that layer
-pub leaves_layer : (p ds : List ℕ) (t : ℕ) → length p ≤ 31 → AreDigits digit_base ds → digits_number digit_base 32 (digits_above (t ∷ p) ds) < digits_number digit_base 32 (digits_above p ((2 * t + 1) ∷ []))
-leaves_layer p ds t l h = grows_above p ds [] (2 * t) (2 * t + 1) l h (omega arith)
+  -- a scan whose cursor is in the layer at the slice `t` below the prefix `p` leaves that layer
+  pub leaves_layer : (p ds : List ℕ) (t : ℕ) → length p < places → AreDigits digit_base ds → digits_number digit_base places (digits_above (t ∷ p) ds) < digits_number digit_base places (digits_above p ((2 * t + 1) ∷ []))
+  leaves_layer p ds t l h = grows_above p ds [] (2 * t) (2 * t + 1) l h (omega arith)

@@ -3,7 +3,7 @@
 use Rattle.std.proofs.Common.{ℕ, suc, ◌≡◌, ◌≢◌, ◌<◌, ◌≤◌, ◌⊎◌, ◌↔◌, inl, inr, List, [], ◌∷◌, Option, Some, None, Bool, true, refl, sym, ap, ◌∙◌, subst, arith}
 use Rattle.mt_slice.specs.Place.{Place, under}
 use Rattle.mt_types.specs.declared.row.Row.{Row}
-use Rattle.mt_chart.specs.Tree.{link, Entry, Right, HeadNode, BorderNode, Child, InteriorNode, head, border, interior, Arena, Among, first, Below, no_right, Has}
+use Rattle.mt_chart.specs.Tree.{link, PlainEntry, Right, HeadNode, BorderNode, PlainChild, InteriorNode, head, border, interior, Arena, Among, first, Below, no_right, Has}
 use Rattle.mt_chart.specs.Chart.{Standing, on, gone, Role, top, at_level, Spot, spot, Chart, OnHead, OnBorder, IsBorderNode, MayName, IsChild, AreChildren, Hung, InteriorAt, IsTree, Stored, Later, went, Changes, Evolves, Dated, Owns, by_interior, Owned}
 use Rattle.mt_chart.proofs.Basics.{same_number}
 use Rattle.mt_chart.proofs.HeldNodes.{later_same}
@@ -19,8 +19,8 @@ module _ (arena new : Arena) (chart more : Chart) (tree : IsTree arena chart) (n
     (t_goes : more t ≡ Some (spot top (s ∷ p) 0 (gone now))) (r_goes : more r ≡ Some (spot (at_level 0) (s ∷ p) 0 (gone now))) (rest : (m : ℕ) → m ≢ t → m ≢ r → more m ≡ chart m)
     (low : b'.low ≡ b.low) (right : b'.right ≡ b.right) (alive : b'.deleted ≡ b.deleted)
     (there : Among (record { slice = s; content = link t }) b.entries)
-    (entries : (e : Entry) → Among e b'.entries ↔ (Among e b.entries × (e ≢ record { slice = s; content = link t }))) where
-  abbrev gone_link : Entry
+    (entries : (e : PlainEntry) → Among e b'.entries ↔ (Among e b.entries × (e ≢ record { slice = s; content = link t }))) where
+  abbrev gone_link : PlainEntry
   gone_link = record { slice = s; content = link t }
 
   ok_n : IsBorderNode chart p b
@@ -43,11 +43,11 @@ module _ (arena new : Arena) (chart more : Chart) (tree : IsTree arena chart) (n
   only_t : (i : ℕ) → OnHead chart i (s ∷ p) → i ≡ t
   only_t i g =
       let (m, d, z, at) = tree.hung i (s ∷ p) g in
-      let e : Entry = record { slice = s; content = link i } in
+      let e : PlainEntry = record { slice = s; content = link i } in
       let mn : m ≡ n = same_slice arena chart tree m n p d b e gone_link z o at there refl in
       let db : d ≡ b = same_border arena m d b z.node (rw mn o.node) in
       let same : e ≡ gone_link = ok_n.apart e gone_link (subst (λ (w : BorderNode). Among e w.entries) db at) there refl refl in
-      (let w : link i ≡ link t = ap (λ (w : Entry). w.content) same in cc)
+      (let w : link i ≡ link t = ap (λ (w : PlainEntry). w.content) same in cc)
 
   more_at : (m : ℕ) (z : Spot) → more m ≡ Some z → ((m ≡ t) × (z ≡ spot top (s ∷ p) 0 (gone now))) ⊎ (((m ≡ r) × (z ≡ spot (at_level 0) (s ∷ p) 0 (gone now))) ⊎ ((m ≢ t) × (m ≢ r) × (chart m ≡ Some z)))
   more_at m z g = go (same_number m t) (same_number m r)
@@ -116,7 +116,7 @@ module _ (arena new : Arena) (chart more : Chart) (tree : IsTree arena chart) (n
 
   -- a right link does not lead to `r`, a link entry but the hidden one not to `t`
   old_ok : (m : ℕ) (q : List ℕ) (d : BorderNode) → OnBorder arena chart m q d → m ≢ r → (c : BorderNode) → c.low ≡ d.low → c.right ≡ d.right → c.deleted ≡ d.deleted →
-      ((e : Entry) → Among e c.entries → Among e d.entries) → ((v : ℕ) → Among (record { slice = v; content = link t }) c.entries → ⊥) → (c.deleted ≡ true → c.entries ≡ []) → IsBorderNode more q c
+      ((e : PlainEntry) → Among e c.entries → Among e d.entries) → ((v : ℕ) → Among (record { slice = v; content = link t }) c.entries → ⊥) → (c.deleted ≡ true → c.entries ≡ []) → IsBorderNode more q c
   old_ok m q d z ne c lows rights dels sub not_t empty = let ok = tree.each_border m q d z in
       record {
         apart = (λ e f i j. ok.apart e f (sub e i) (sub f j));
@@ -137,11 +137,11 @@ module _ (arena new : Arena) (chart more : Chart) (tree : IsTree arena chart) (n
       let w = tree.interiors m k q v st g in
       record { node = w.node; is_node = same_node m (at_level (suc k)) q v st (interior_not k) g ∙ w.is_node; low = w.low; level = w.level; ok = go w.node w.is_node w.ok; locked_till_deleted = w.locked_till_deleted }
     where
-      may : (st : Standing) → chart m ≡ Some (spot (at_level (suc k)) q v st) → (node : InteriorNode) → arena m ≡ Some (interior node) → (d : Child) → Among d node.children → d.number ≡ r → MayName st (gone now)
+      may : (st : Standing) → chart m ≡ Some (spot (at_level (suc k)) q v st) → (node : InteriorNode) → arena m ≡ Some (interior node) → (d : PlainChild) → Among d node.children → d.number ≡ r → MayName st (gone now)
       may (on y) g node e d i f = absurd (let j : m ≡ t = only_head m (by_interior k q v y node d g e i f) in let w : chart m ≡ chart t = ap chart j in let d' = on_t in let c : at_level (suc k) ≡ top = cc in cc)
       may (gone e) g node _ d i f = dated m (at_level (suc k)) q v e g
 
-      child : (node : InteriorNode) → arena m ≡ Some (interior node) → (d : Child) → Among d node.children → IsChild chart st q (suc k) d → IsChild more st q (suc k) d
+      child : (node : InteriorNode) → arena m ≡ Some (interior node) → (d : PlainChild) → Among d node.children → IsChild chart st q (suc k) d → IsChild more st q (suc k) d
       child node e d i c = pick (same_number d.number r)
         where
           pick : (d.number ≡ r) ⊎ (d.number ≢ r) → IsChild more st q (suc k) d
@@ -164,7 +164,7 @@ module _ (arena new : Arena) (chart more : Chart) (tree : IsTree arena chart) (n
   drop_hung i [] ne e = e
   drop_hung i (v ∷ q) ne (m, d, z, at) = go (same_number m r) (same_number m n)
     where
-      e : Entry
+      e : PlainEntry
       e = record { slice = v; content = link i }
 
       none : Among e [] → ⊥
@@ -176,7 +176,7 @@ module _ (arena new : Arena) (chart more : Chart) (tree : IsTree arena chart) (n
         n,
         b',
         subst (λ (l : List ℕ). OnBorder new more n l b') (sym w.0) now_n,
-        (entries e).1 (subst (λ (c : BorderNode). Among e c.entries) w.1 at, λ k. ne (let c : link i ≡ link t = ap (λ (w : Entry). w.content) k in cc)),
+        (entries e).1 (subst (λ (c : BorderNode). Among e c.entries) w.1 at, λ k. ne (let c : link i ≡ link t = ap (λ (w : PlainEntry). w.content) k in cc)),
       )
       go (inr f) (inr g) = (m, d, kept m q d z f g, at)
 
@@ -211,10 +211,10 @@ module _ (arena new : Arena) (chart more : Chart) (tree : IsTree arena chart) (n
       n_empty : b'.deleted ≡ true → b'.entries ≡ []
       n_empty e = none b'.entries (λ f i. let w : b.entries ≡ [] = ok_n.empty (sym alive ∙ e) in nothing f (rw w at ((entries f).0 i).0))
         where
-          nothing : (f : Entry) → Among f [] → ⊥
+          nothing : (f : PlainEntry) → Among f [] → ⊥
           nothing f i = elim i [ ]
 
-          none : (es : List Entry) → ((f : Entry) → Among f es → ⊥) → es ≡ []
+          none : (es : List PlainEntry) → ((f : PlainEntry) → Among f es → ⊥) → es ≡ []
           none [] k = refl
           none (f ∷ es) k = absurd (k f first)
 
@@ -276,7 +276,7 @@ module _ (arena new : Arena) (chart more : Chart) (tree : IsTree arena chart) (n
   pub layer_dropped_content : (k : Place) (w : Row) → Has new k w ↔ Has arena k w
   layer_dropped_content k w = (λ i. has arena chart tree k w (back (stored new more layer_dropped_tree k w i)), λ i. has new more layer_dropped_tree k w (forth (stored arena chart tree k w i)))
     where
-      none : (e : Entry) → Among e [] → ⊥
+      none : (e : PlainEntry) → Among e [] → ⊥
       none e f = elim f [ ]
 
       back : Stored new more k w → Stored arena chart k w

@@ -1,21 +1,21 @@
 -- Lists of entries in order: what a border's own type gives to the tree.
 use Rattle.std.proofs.Common.{◌≡◌, ◌≢◌, ◌<◌, ◌⊎◌, ◌↔◌, inl, inr, ⊎_elim, List, [], ◌∷◌, ◌++◌, refl, sym, ap, subst, arith}
-use Rattle.mt_chart.specs.Tree.{Entry, Among, first, later}
+use Rattle.mt_chart.specs.Tree.{PlainEntry, Among, first, later}
 use Rattle.mt_chart.specs.Chart.{class, Apart}
 
-abbrev pub Before : Entry → Entry → Type 0
+abbrev pub Before : PlainEntry → PlainEntry → Type 0
 Before e f = (e.slice < f.slice) ⊎ ((e.slice ≡ f.slice) × (class e.content < class f.content))
 
 -- strictly in order, by slice and then by class
-abbrev pub InOrder : List Entry → Type 0
+abbrev pub InOrder : List PlainEntry → Type 0
 InOrder [] = Unit {0}
-InOrder (e ∷ es) = ((f : Entry) → Among f es → Before e f) × InOrder es
+InOrder (e ∷ es) = ((f : PlainEntry) → Among f es → Before e f) × InOrder es
 
-not_same : (e f : Entry) → Before e f → e.slice ≡ f.slice → class e.content ≡ class f.content → ⊥
+not_same : (e f : PlainEntry) → Before e f → e.slice ≡ f.slice → class e.content ≡ class f.content → ⊥
 not_same e f (inl h) s c = omega arith
 not_same e f (inr h) s c = let k : class e.content < class f.content = h.1 in omega arith
 
-pub in_order_apart : (es : List Entry) → InOrder es → Apart es
+pub in_order_apart : (es : List PlainEntry) → InOrder es → Apart es
 in_order_apart [] o e f i j s c = elim i [ ]
 in_order_apart (x ∷ es) o e f first first s c = refl
 in_order_apart (x ∷ es) o e f first (later j) s c = absurd (not_same e f (o.0 f j) s c)
@@ -64,12 +64,12 @@ among_insert e x xs ys = (λ i. there ((among_append e xs (x ∷ ys)).0 i), back
     back (inr i) = parts ((among_append e xs ys).0 i)
 
 -- an entry in order stands once: what `content_hidden` asks
-pub stands_once : (e x : Entry) (xs ys : List Entry) → InOrder (xs ++ (x ∷ ys)) → Among e (xs ++ ys) → e ≢ x
-stands_once e x [] ys o i q = not_same x e (o.0 e i) (ap (λ z. z.slice) (sym q)) (ap (λ (z : Entry). class z.content) (sym q))
-stands_once e x (y ∷ xs) ys o first q = not_same e x (o.0 x ((among_insert x x xs ys).1 (inl refl))) (ap (λ z. z.slice) q) (ap (λ (z : Entry). class z.content) q)
+pub stands_once : (e x : PlainEntry) (xs ys : List PlainEntry) → InOrder (xs ++ (x ∷ ys)) → Among e (xs ++ ys) → e ≢ x
+stands_once e x [] ys o i q = not_same x e (o.0 e i) (ap (λ z. z.slice) (sym q)) (ap (λ (z : PlainEntry). class z.content) (sym q))
+stands_once e x (y ∷ xs) ys o first q = not_same e x (o.0 x ((among_insert x x xs ys).1 (inl refl))) (ap (λ z. z.slice) q) (ap (λ (z : PlainEntry). class z.content) q)
 stands_once e x (y ∷ xs) ys o (later i) q = stands_once e x xs ys o.1 i q
 
-pub among_hidden : (x : Entry) (xs ys : List Entry) → InOrder (xs ++ (x ∷ ys)) → (e : Entry) → Among e (xs ++ ys) ↔ (Among e (xs ++ (x ∷ ys)) × (e ≢ x))
+pub among_hidden : (x : PlainEntry) (xs ys : List PlainEntry) → InOrder (xs ++ (x ∷ ys)) → (e : PlainEntry) → Among e (xs ++ ys) ↔ (Among e (xs ++ (x ∷ ys)) × (e ≢ x))
 among_hidden x xs ys o e = (λ i. ((among_insert e x xs ys).1 (inr i), stands_once e x xs ys o i), λ h. go h.1 ((among_insert e x xs ys).0 h.0))
   where
     go : e ≢ x → (e ≡ x) ⊎ Among e (xs ++ ys) → Among e (xs ++ ys)
@@ -77,7 +77,7 @@ among_hidden x xs ys o e = (λ i. ((among_insert e x xs ys).1 (inr i), stands_on
     go ne (inr i) = i
 
 -- an entry in place of another: what `content_set` and the new layer ask
-pub among_set : (x x' : Entry) (xs ys : List Entry) → InOrder (xs ++ (x ∷ ys)) → (e : Entry) → Among e (xs ++ (x' ∷ ys)) ↔ ((e ≡ x') ⊎ (Among e (xs ++ (x ∷ ys)) × (e ≢ x)))
+pub among_set : (x x' : PlainEntry) (xs ys : List PlainEntry) → InOrder (xs ++ (x ∷ ys)) → (e : PlainEntry) → Among e (xs ++ (x' ∷ ys)) ↔ ((e ≡ x') ⊎ (Among e (xs ++ (x ∷ ys)) × (e ≢ x)))
 among_set x x' xs ys o e = (λ i. there ((among_insert e x' xs ys).0 i), back)
   where
     there : (e ≡ x') ⊎ Among e (xs ++ ys) → (e ≡ x') ⊎ (Among e (xs ++ (x ∷ ys)) × (e ≢ x))

@@ -1,7 +1,7 @@
 -- What a call knows of a node stays true while others go on, and one step of a descent leads to a node of which it
 -- knows the same.
 use Rattle.std.proofs.Common.{ℕ, zero, suc, ◌≡◌, ◌<◌, ◌≤◌, ◌⊎◌, inl, inr, List, [], ◌∷◌, Some, Bool, true, false, refl, ap, arith}
-use Rattle.mt_chart.specs.Tree.{link, Right, HeadNode, BorderNode, Child, InteriorNode, head, border, interior, Arena, Among}
+use Rattle.mt_chart.specs.Tree.{link, Right, HeadNode, BorderNode, PlainChild, InteriorNode, head, border, interior, Arena, Among}
 use Rattle.mt_chart.specs.Chart.{Standing, on, gone, Role, top, at_level, spot, Chart, OnBorder, MayName, AreChildren, IsTree, Holds, Later, still_on, still_gone, went, Evolves, FirstLow}
 
 pub later_same : (b : ℕ) (s : Standing) → Later b s s
@@ -110,7 +110,7 @@ module _ (arena : Arena) (chart : Chart) (tree : IsTree arena chart) (begun : �
   since_child (gone f) (gone g) m h e q = let c : g ≡ e = cc in let m' : f ≤ g = m in let k : begun ≤ f = h f refl in omega arith
 
   -- at an interior that is not marked deleted: any child whose low is at most the slice
-  pub holds_child : (n s : ℕ) (p : List ℕ) (t : InteriorNode) (c : Child) → Holds chart begun n p s → arena n ≡ Some (interior t) → t.deleted ≡ false →
+  pub holds_child : (n s : ℕ) (p : List ℕ) (t : InteriorNode) (c : PlainChild) → Holds chart begun n p s → arena n ≡ Some (interior t) → t.deleted ≡ false →
       Among c t.children → c.low ≤ s → Holds chart begun c.number p s
   holds_child n s p t c k e d m le = go k.role k.standing k.place k.since
     where
@@ -129,10 +129,10 @@ module _ (arena : Arena) (chart : Chart) (tree : IsTree arena chart) (begun : �
 
   -- there is such a child: the first
   pub first_child : (n s : ℕ) (p : List ℕ) (t : InteriorNode) → Holds chart begun n p s → arena n ≡ Some (interior t) → t.deleted ≡ false →
-      (c : Child) × (cs : List Child) × (t.children ≡ c ∷ cs) × (c.low ≤ s)
+      (c : PlainChild) × (cs : List PlainChild) × (t.children ≡ c ∷ cs) × (c.low ≤ s)
   first_child n s p t k e d = go k.role k.standing k.place
     where
-      go : (role : Role) (st : Standing) → chart n ≡ Some (spot role p k.low st) → (c : Child) × (cs : List Child) × (t.children ≡ c ∷ cs) × (c.low ≤ s)
+      go : (role : Role) (st : Standing) → chart n ≡ Some (spot role p k.low st) → (c : PlainChild) × (cs : List PlainChild) × (t.children ≡ c ∷ cs) × (c.low ≤ s)
       go top st g = let (u, i) = some_head n p k.low st g in absurd cc
       go (at_level zero) st g = let (u, i) = not_border n p k.low st g in absurd cc
       go (at_level (suc z)) st g =
@@ -140,10 +140,10 @@ module _ (arena : Arena) (chart : Chart) (tree : IsTree arena chart) (begun : �
           let same : u.node ≡ t = (let i : arena n ≡ Some (interior u.node) = u.is_node in cc) in
           children_on (rw same at u.ok)
         where
-          take_first : (cs : List Child) → FirstLow k.low cs → (c : Child) × (ds : List Child) × (cs ≡ c ∷ ds) × (c.low ≤ s)
+          take_first : (cs : List PlainChild) → FirstLow k.low cs → (c : PlainChild) × (ds : List PlainChild) × (cs ≡ c ∷ ds) × (c.low ≤ s)
           take_first [] f = elim f [ ]
           take_first (c ∷ cs) f = let m : k.low ≤ s = k.at_most in (c, cs, refl, omega arith)
 
-          children_on : (((e : ℕ) × (st ≡ gone e)) × (t.deleted ≡ true)) ⊎ AreChildren chart st p k.low (suc z) t.children → (c : Child) × (cs : List Child) × (t.children ≡ c ∷ cs) × (c.low ≤ s)
+          children_on : (((e : ℕ) × (st ≡ gone e)) × (t.deleted ≡ true)) ⊎ AreChildren chart st p k.low (suc z) t.children → (c : PlainChild) × (cs : List PlainChild) × (t.children ≡ c ∷ cs) × (c.low ≤ s)
           children_on (inl w) = absurd (let v : t.deleted ≡ true = w.1 in cc)
           children_on (inr w) = take_first t.children w.leftmost

@@ -1,6 +1,6 @@
 -- Each step on a head or an interior, and each change of numbers, leads from an index to an index.
 use Rattle.std.proofs.Common.{ℕ, suc, ◌≡◌, ◌≢◌, ◌<◌, ◌≤◌, ◌⊎◌, inl, inr, List, [], ◌∷◌, Option, Some, None, Bool, true, false, refl, sym, ap, ◌∙◌, subst, arith}
-use Rattle.mt_chart.specs.Tree.{HeadNode, Child, InteriorNode, Node, border, interior, Arena, Among, first}
+use Rattle.mt_chart.specs.Tree.{HeadNode, PlainChild, InteriorNode, PlainNode, border, interior, Arena, Among, first}
 use Rattle.mt_chart.specs.Chart.{Standing, on, gone, top, at_level, Spot, spot, Chart, IsTree, Owns, by_interior, NoChildTwice, Owned, HasOwner, Named, IsLastBorder, MarkedHeads, Dated, Evolves, Changes, still_on, went}
 use Rattle.mt_chart.specs.Steps.{Twin, AreTwins, NoTwin, Keeps, WritesHead}
 use Rattle.mt_chart.specs.StepLaws.{DroppingAChildKeeps, PostingABorderKeeps, BypassingKeeps, BypassingARootKeeps, MakingARootKeeps, MakingARootOverAHalfKeeps, MarkingAHeadKeeps, PostingAHalfKeeps, KeepingChildrenKeeps, PartsNeedBeNoTwins, MarkingWhatIsGoneKeeps, MarkingAGoneHeadKeeps, ChangingSparesKeeps, FreeingKeeps, LaterEpochsKeep}
@@ -33,7 +33,7 @@ no_head : (k : ℕ) (p q : List ℕ) (l : ℕ) (s : Standing) → spot (at_level
 no_head k p q l s e = let w : at_level k ≡ top = cc in cc
 
 no_interior : (arena : Arena) (n : ℕ) (x : InteriorNode) → arena n ≡ Some (interior x) → IsLastBorder arena n → ⊥
-no_interior arena n x e (b, e', r) = let c : ◌≡◌ {A = Option Node} (Some (border b)) (Some (interior x)) = sym e' ∙ e in cc
+no_interior arena n x e (b, e', r) = let c : ◌≡◌ {A = Option PlainNode} (Some (border b)) (Some (interior x)) = sym e' ∙ e in cc
 
 pub dropping_child : DroppingAChildKeeps
 dropping_child now twins arena after chart next index step = record {
@@ -61,7 +61,7 @@ dropping_child now twins arena after chart next index step = record {
     not_child e = interior_no_border chart step.child.number step.number step.below step.prefix step.prefix step.low step.least (on true) (on step.writes.posted) step.place step.writes.place (sym e)
 
     -- what is charted as before is not the child
-    stays : (d : Child) → chart d.number ≡ next d.number → d.number ≢ step.child.number
+    stays : (d : PlainChild) → chart d.number ≡ next d.number → d.number ≢ step.child.number
     stays d e same =
         let here : chart step.child.number ≡ next step.child.number = subst (λ (n : ℕ). chart n ≡ next n) same e in
         let was = step.place in let is = step.charted.now in
@@ -126,16 +126,16 @@ bypassing now twins arena after chart next index step = record {
         omega arith
 
     -- what is charted as before is not what goes
-    stays : (d : Child) → chart d.number ≡ next d.number → d.number ≢ step.gone_number
+    stays : (d : PlainChild) → chart d.number ≡ next d.number → d.number ≢ step.gone_number
     stays d e same =
         let here : chart step.gone_number ≡ next step.gone_number = subst (λ (n : ℕ). chart n ≡ next n) same e in
         let was = step.place in let is = step.charted.now in
         on_not_gone step.posted now (cc)
 
-    only_one : (d : ℕ) → (v : Child) × Among v step.gone_node.children × (v.number ≡ d) → (v : Child) × Among v step.new.children × (v.number ≡ d)
-    only_one d (v, i, e) = go v e (subst (λ (u : List Child). Among v u) step.one_child i)
+    only_one : (d : ℕ) → (v : PlainChild) × Among v step.gone_node.children × (v.number ≡ d) → (v : PlainChild) × Among v step.new.children × (v.number ≡ d)
+    only_one d (v, i, e) = go v e (subst (λ (u : List PlainChild). Among v u) step.one_child i)
       where
-        go : (v : Child) → v.number ≡ d → Among v (step.child ∷ []) → (v : Child) × Among v step.new.children × (v.number ≡ d)
+        go : (v : PlainChild) → v.number ≡ d → Among v (step.child ∷ []) → (v : PlainChild) × Among v step.new.children × (v.number ≡ d)
         go v e first = (v, (step.children v).1 (inl refl), e)
         go v e (Among.later i) = elim i [ ]
 
@@ -320,11 +320,11 @@ keeping_children now twins arena after chart index step = record {
     owner : (d : ℕ) → chart d ≡ chart d → Owns arena chart step.number d → HasOwner after chart d
     owner d e o = go (interior_owns arena chart step.number step.below step.prefix step.least step.writes.posted step.old d step.writes.place step.writes.there o)
       where
-        named : (v : Child) → Among v step.new.children ⊎ ((other : ℕ) × (other ≢ step.number) × Owns arena chart other v.number) → HasOwner after chart v.number
+        named : (v : PlainChild) → Among v step.new.children ⊎ ((other : ℕ) × (other ≢ step.number) × Owns arena chart other v.number) → HasOwner after chart v.number
         named v (inl i) = (step.number, by_interior step.below step.prefix step.least step.writes.posted step.new v step.writes.place step.writes.written.now i refl)
         named v (inr (other, ne, owns)) = still_owns arena after chart chart other v.number (step.writes.written.rest other ne) refl owns
 
-        go : (v : Child) × Among v step.old.children × (v.number ≡ d) → HasOwner after chart d
+        go : (v : PlainChild) × Among v step.old.children × (v.number ≡ d) → HasOwner after chart d
         go (v, i, r) = subst (λ (n : ℕ). HasOwner after chart n) r (named v (step.left_out v i))
 
 pub fewer_twins : PartsNeedBeNoTwins

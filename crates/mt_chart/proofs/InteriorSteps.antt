@@ -2,7 +2,7 @@
 use Rattle.std.proofs.Common.{ℕ, suc, ◌≡◌, ◌≢◌, ◌<◌, ◌⊎◌, ◌↔◌, inl, inr, List, [], ◌∷◌, Some, Bool, true, false, refl, sym, ap, ◌∙◌, subst, arith}
 use Rattle.mt_slice.specs.Place.{Place}
 use Rattle.mt_types.specs.declared.row.Row.{Row}
-use Rattle.mt_chart.specs.Tree.{Child, InteriorNode, head, interior, Arena, Among, first, Has}
+use Rattle.mt_chart.specs.Tree.{PlainChild, InteriorNode, head, interior, Arena, Among, first, Has}
 use Rattle.mt_chart.specs.Chart.{Standing, on, gone, Role, top, at_level, Spot, spot, Chart, IsChild, AreChildren, FirstLow, IsTree, Changes, Dated, Owns, by_head, by_interior, Owned, NoChildTwice}
 use Rattle.mt_chart.proofs.Basics.{same_number}
 use Rattle.mt_chart.proofs.Reach.{children_on, on_child}
@@ -32,7 +32,7 @@ module _ (arena new : Arena) (chart more : Chart) (tree : IsTree arena chart) (t
 
   -- an empty border is dropped from the interior that led to it
   module _ (c : ℕ) (p : List ℕ) (l : ℕ) (at_c : chart c ≡ Some (spot (at_level 0) p l (on true))) (charted : Changes chart more c (Some (spot (at_level 0) p l (on false))))
-      (owns : Owns arena chart i c) (alone : (j : ℕ) → twins j i → ⊥) (sub : (d : Child) → Among d x'.children ↔ (Among d x.children × (d.number ≢ c))) where
+      (owns : Owns arena chart i c) (alone : (j : ℕ) → twins j i → ⊥) (sub : (d : PlainChild) → Among d x'.children ↔ (Among d x.children × (d.number ≢ c))) where
     drop_mid : IsTree new chart
     drop_mid = let w = children_on arena chart tree i f q m y x at_i there in
         take_children arena chart tree new i f q m y x' at_i change low level (record { leftmost = leftmost; each = (λ d k. w.each d ((sub d).0 k).0) })
@@ -66,7 +66,7 @@ module _ (arena new : Arena) (chart more : Chart) (tree : IsTree arena chart) (t
 
   -- a new border, which nobody names, is posted in the interior
   module _ (c : ℕ) (l : ℕ) (at_c : chart c ≡ Some (spot (at_level 0) q l (on false))) (charted : Changes chart more c (Some (spot (at_level 0) q l (on true))))
-      (sub : (d : Child) → Among d x'.children → (d ≡ record { low = l; number = c; level = 0 }) ⊎ Among d x.children) where
+      (sub : (d : PlainChild) → Among d x'.children → (d ≡ record { low = l; number = c; level = 0 }) ⊎ Among d x.children) where
     more_i : more i ≡ Some (spot (at_level (suc f)) q m (on y))
     more_i = charted.rest i (λ e. let w : chart i ≡ chart c = ap chart e in let v = at_c in let z = at_i in let u : at_level (suc f) ≡ at_level 0 = cc in let t : suc f ≡ 0 = cc in omega arith) ∙ at_i
 
@@ -77,8 +77,8 @@ module _ (arena new : Arena) (chart more : Chart) (tree : IsTree arena chart) (t
     border_posted_tree = let w = children_on arena more permitted i f q m y x more_i there in
         take_children arena more permitted new i f q m y x' more_i change low level (record { leftmost = leftmost; each = (λ d k. go d (w.each) (sub d k)) })
       where
-        go : (d : Child) → ((e : Child) → Among e x.children → IsChild more (on y) q (suc f) e) → (d ≡ record { low = l; number = c; level = 0 }) ⊎ Among d x.children → IsChild more (on y) q (suc f) d
-        go d each (inl e) = subst (λ (v : Child). IsChild more (on y) q (suc f) v) (sym e) (record { standing = on true; lower = (omega arith); place = charted.now; may = refl })
+        go : (d : PlainChild) → ((e : PlainChild) → Among e x.children → IsChild more (on y) q (suc f) e) → (d ≡ record { low = l; number = c; level = 0 }) ⊎ Among d x.children → IsChild more (on y) q (suc f) d
+        go d each (inl e) = subst (λ (v : PlainChild). IsChild more (on y) q (suc f) v) (sym e) (record { standing = on true; lower = (omega arith); place = charted.now; may = refl })
         go d each (inr k) = each d k
 
     pub border_posted_content : (k : Place) (w : Row) → Has new k w ↔ Has arena k w
@@ -101,15 +101,15 @@ module _ (arena new : Arena) (chart more : Chart) (tree : IsTree arena chart) (t
             let (lt, pl) = on_child chart z p' (suc k) d (w.each d n) in
             let w' : chart d.number ≡ chart c = ap chart r in let v = at_c in let s : on true ≡ on false = cc in let t' : true ≡ false = cc in (cc)
 
-        mine : (d : ℕ) (k : Child) → k.number ≡ d → (k ≡ record { low = l; number = c; level = 0 }) ⊎ Among k x.children → Owns arena chart i d ⊎ ((j : ℕ) → Owns arena chart j d → twins i j × twins j i)
+        mine : (d : ℕ) (k : PlainChild) → k.number ≡ d → (k ≡ record { low = l; number = c; level = 0 }) ⊎ Among k x.children → Owns arena chart i d ⊎ ((j : ℕ) → Owns arena chart j d → twins i j × twins j i)
         mine d k r (inl e) = inr (λ j o. absurd (unnamed j (subst (λ (v : ℕ). Owns arena chart j v) (sym r ∙ ap (λ v. v.number) e) o)))
         mine d k r (inr n) = inl (by_interior f q m y x k at_i there n r)
 
   -- the interior `c` with one child is bypassed: `i` names that child in its place
-  module _ (c g l : ℕ) (z : Bool) (xc : InteriorNode) (only : Child) (now : ℕ) (dated : Dated chart now) (at_c : chart c ≡ Some (spot (at_level (suc g)) q l (on z))) (there_c : arena c ≡ Some (interior xc))
+  module _ (c g l : ℕ) (z : Bool) (xc : InteriorNode) (only : PlainChild) (now : ℕ) (dated : Dated chart now) (at_c : chart c ≡ Some (spot (at_level (suc g)) q l (on z))) (there_c : arena c ≡ Some (interior xc))
       (locked : xc.locked ≡ true) (one_child : xc.children ≡ only ∷ []) (charted : Changes chart more c (Some (spot (at_level (suc g)) q l (gone now))))
-      (entry : Child) (entry_in : Among entry x.children) (entry_c : entry.number ≡ c) (alone : (j : ℕ) → twins j i → ⊥) (alone_c : (j : ℕ) → twins c j ⊎ twins j c → ⊥)
-      (sub : (d : Child) → Among d x'.children → (d ≡ only) ⊎ (Among d x.children × (d.number ≢ c))) where
+      (entry : PlainChild) (entry_in : Among entry x.children) (entry_c : entry.number ≡ c) (alone : (j : ℕ) → twins j i → ⊥) (alone_c : (j : ℕ) → twins c j ⊎ twins j c → ⊥)
+      (sub : (d : PlainChild) → Among d x'.children → (d ≡ only) ⊎ (Among d x.children × (d.number ≢ c))) where
     owns_c : Owns arena chart i c
     owns_c = by_interior f q m y x entry at_i there entry_in entry_c
 
@@ -131,15 +131,15 @@ module _ (arena new : Arena) (chart more : Chart) (tree : IsTree arena chart) (t
     bypass_mid = let w = children_on arena chart tree i f q m y x at_i there in
         take_children arena chart tree new i f q m y x' at_i change low level (record { leftmost = leftmost; each = (λ d k. go d w.each (sub d k)) })
       where
-        go : (d : Child) → ((e : Child) → Among e x.children → IsChild chart (on y) q (suc f) e) → (d ≡ only) ⊎ (Among d x.children × (d.number ≢ c)) → IsChild chart (on y) q (suc f) d
+        go : (d : PlainChild) → ((e : PlainChild) → Among e x.children → IsChild chart (on y) q (suc f) e) → (d ≡ only) ⊎ (Among d x.children × (d.number ≢ c)) → IsChild chart (on y) q (suc f) d
         go d each (inl e) = let k = only_ok in let h = lower in let lt : only.level < suc g = k.lower in
-            subst (λ (v : Child). IsChild chart (on y) q (suc f) v) (sym e) (record { standing = k.standing; lower = (omega arith); place = k.place; may = k.may })
+            subst (λ (v : PlainChild). IsChild chart (on y) q (suc f) v) (sym e) (record { standing = k.standing; lower = (omega arith); place = k.place; may = k.may })
         go d each (inr k) = each d k.0
 
     bypass_nobody : (j : ℕ) → Owns new chart j c → ⊥
     bypass_nobody j o = go (same_number j i)
       where
-        child : (d : Child) → d.number ≡ c → (d ≡ only) ⊎ (Among d x.children × (d.number ≢ c)) → ⊥
+        child : (d : PlainChild) → d.number ≡ c → (d ≡ only) ⊎ (Among d x.children × (d.number ≢ c)) → ⊥
         child d n (inl e) = only_not_c (ap (λ v. v.number) (sym e) ∙ n)
         child d n (inr k) = k.1 n
 
@@ -165,7 +165,7 @@ module _ (arena new : Arena) (chart more : Chart) (tree : IsTree arena chart) (t
         was : (j d : ℕ) → Owns new more j d → Owns arena chart j d ⊎ ((j ≡ i) × Owns arena chart c d)
         was j d o = go (same_number j i)
           where
-            child : (k : Child) → k.number ≡ d → j ≡ i → (k ≡ only) ⊎ (Among k x.children × (k.number ≢ c)) → Owns arena chart j d ⊎ ((j ≡ i) × Owns arena chart c d)
+            child : (k : PlainChild) → k.number ≡ d → j ≡ i → (k ≡ only) ⊎ (Among k x.children × (k.number ≢ c)) → Owns arena chart j d ⊎ ((j ≡ i) × Owns arena chart c d)
             child k r e (inl h) = inr (e, by_interior g q l z xc only at_c there_c (rw one_child first) (ap (λ v. v.number) (sym h) ∙ r))
             child k r e (inr n) = inl (subst (λ (v : ℕ). Owns arena chart v d) (sym e) (by_interior f q m y x k at_i there n.0 r))
 

@@ -1,6 +1,6 @@
 -- A head that is on and is marked deleted has one border, through each step.
 use Rattle.std.proofs.Common.{ℕ, zero, suc, ◌≡◌, ◌≢◌, ◌<◌, ◌⊎◌, inl, inr, List, Option, Some, None, Bool, true, false, refl, sym, ap, ◌∙◌, subst, arith}
-use Rattle.mt_chart.specs.Tree.{HeadNode, BorderNode, InteriorNode, Node, head, border, interior, Arena, no_right}
+use Rattle.mt_chart.specs.Tree.{HeadNode, BorderNode, InteriorNode, PlainNode, head, border, interior, Arena, no_right}
 use Rattle.mt_chart.specs.Chart.{on, Role, top, at_level, spot, Spot, Chart, OnHead, IsTree, Changes, IsLastBorder, MarkedHeads}
 use Rattle.mt_chart.specs.TreeLaws.{MarkedLayersHaveOneBorder}
 use Rattle.mt_chart.proofs.Basics.{same_number}
@@ -32,7 +32,7 @@ marked_rest arena new chart more tree marked was same = marked_moves arena new c
     (λ j p t g e d at last. let (x, e', r) = last in (x, same t.root (at_level t.level) p 0 true at ∙ e', r))
 
 -- a node is written that is no head
-pub marked_written : (arena new : Arena) (chart more : Chart) → IsTree arena chart → MarkedHeads arena chart → ((j : ℕ) (p : List ℕ) → OnHead more j p → OnHead chart j p) → (i : ℕ) (x : Option Node) → Changes arena new i x →
+pub marked_written : (arena new : Arena) (chart more : Chart) → IsTree arena chart → MarkedHeads arena chart → ((j : ℕ) (p : List ℕ) → OnHead more j p → OnHead chart j p) → (i : ℕ) (x : Option PlainNode) → Changes arena new i x →
     ((t : HeadNode) → x ≡ Some (head t) → ⊥) →
     ((j : ℕ) (p : List ℕ) (t : HeadNode) → OnHead chart j p → arena j ≡ Some (head t) → t.deleted ≡ true → chart t.root ≡ Some (spot (at_level t.level) p 0 (on true)) → t.root ≡ i → IsLastBorder arena i → IsLastBorder new i) → MarkedHeads new more
 marked_written arena new chart more tree marked was i x change no_head kept = marked_moves arena new chart more tree marked
@@ -66,7 +66,7 @@ marked_head arena new chart more tree marked was h t t' there change own = marke
     (λ j p u g e d. stood j p u g e d (same_number j h)) (λ j p u g e d at last. moved u.root last)
   where
     moved : (r : ℕ) → IsLastBorder arena r → IsLastBorder new r
-    moved r (x, e, none) = (x, change.rest r (λ f. let w : arena r ≡ arena h = ap arena f in let c : ◌≡◌ {A = Option Node} (Some (border x)) (Some (head t)) = cc in cc) ∙ e, none)
+    moved r (x, e, none) = (x, change.rest r (λ f. let w : arena r ≡ arena h = ap arena f in let c : ◌≡◌ {A = Option PlainNode} (Some (border x)) (Some (head t)) = cc in cc) ∙ e, none)
 
     stood : (j : ℕ) (p : List ℕ) (u : HeadNode) → OnHead more j p → new j ≡ Some (head u) → u.deleted ≡ true → (j ≡ h) ⊎ (j ≢ h) → IsLastBorder new u.root ⊎ (OnHead chart j p × (arena j ≡ Some (head u)))
     stood j p u g e d (inl f) =
@@ -90,7 +90,7 @@ marked_layer arena new chart more tree marked i b b' there change right t r h x 
     stays m (y, e, z) (inr f) = (y, change.rest m f ∙ e, z)
 
     stood : (j : ℕ) (p : List ℕ) (u : HeadNode) → OnHead more j p → new j ≡ Some (head u) → (j ≡ i) ⊎ (j ≢ i) → (j ≡ t) ⊎ (j ≢ t) → IsLastBorder new u.root ⊎ (OnHead chart j p × (arena j ≡ Some (head u)))
-    stood j p u g e (inl f) _ = absurd (let w : new j ≡ new i = ap new f in let n = change.now in let c : ◌≡◌ {A = Option Node} (Some (border b')) (Some (head u)) = cc in cc)
+    stood j p u g e (inl f) _ = absurd (let w : new j ≡ new i = ap new f in let n = change.now in let c : ◌≡◌ {A = Option PlainNode} (Some (border b')) (Some (head u)) = cc in cc)
     stood j p u g e (inr f) (inl f') =
         let here : arena j ≡ arena t = ap arena f' in
         let was_there = change.rest j f in
@@ -121,7 +121,7 @@ only_border arena chart tree marked h p t on_h there deleted c low posted place 
     level_0 x is root zero e = subst (λ (v : ℕ). chart t.root ≡ Some (spot (at_level v) p 0 (on true))) e root
     level_0 x is root (suc below) e =
         let u = tree.interiors t.root below p 0 (on true) (subst (λ (v : ℕ). chart t.root ≡ Some (spot (at_level v) p 0 (on true))) e root) in
-        absurd (let here = u.is_node in let c : ◌≡◌ {A = Option Node} (Some (border x)) (Some (interior u.node)) = cc in cc)
+        absurd (let here = u.is_node in let c : ◌≡◌ {A = Option PlainNode} (Some (border x)) (Some (interior u.node)) = cc in cc)
 
 pub marked_layers : MarkedLayersHaveOneBorder
 marked_layers now twins arena chart index number prefix node on_head there other low posted place another = go node.deleted refl

@@ -1,6 +1,6 @@
 -- What is on in the tree of a layer is named by what is on, through each step.
 use Rattle.std.proofs.Common.{ℕ, suc, ◌≡◌, ◌≢◌, ◌⊎◌, inl, inr, List, [], ◌∷◌, Option, Some, None, Bool, true, false, refl, sym, ap, ◌∙◌, subst}
-use Rattle.mt_chart.specs.Tree.{HeadNode, Child, InteriorNode, Node, head, interior, Arena, Among, first, later}
+use Rattle.mt_chart.specs.Tree.{HeadNode, PlainChild, InteriorNode, PlainNode, head, interior, Arena, Among, first, later}
 use Rattle.mt_chart.specs.Chart.{Standing, on, gone, Role, top, at_level, Spot, spot, Chart, OnHead, Changes, Owns, by_head, by_interior, HasOwner, Named}
 use Rattle.mt_chart.proofs.Basics.{same_number}
 use Rattle.mt_chart.proofs.Owners.{interior_owns, head_owns, owner_moves}
@@ -65,19 +65,19 @@ named_step arena new chart more i c node place named of_i of_c fresh = named_on 
     stood d k p l y g (inr e) = inl (sym (place d e))
 
 -- a node is written that owns nothing, and the chart stays
-pub named_written : (arena new : Arena) (chart : Chart) (i : ℕ) (x : Option Node) → Changes arena new i x → NoOwner chart i → Named arena chart → Named new chart
+pub named_written : (arena new : Arena) (chart : Chart) (i : ℕ) (x : Option PlainNode) → Changes arena new i x → NoOwner chart i → Named arena chart → Named new chart
 named_written arena new chart i x change none named = named_step arena new chart chart i i change.rest (λ j ne. refl) named
     (λ d e o. absurd (owns_none arena chart i d none o)) (λ d e o. absurd (owns_none arena chart i d none o)) (λ k p l y g. inl refl)
 
 -- a border is written, and another comes into its chain or goes from it, which nobody may name
-pub named_chain : (arena new : Arena) (chart more : Chart) (i c : ℕ) (x : Option Node) (z : Spot) → Changes arena new i x → NoOwner chart i → Changes chart more c (Some z) → NoOwner chart c →
+pub named_chain : (arena new : Arena) (chart more : Chart) (i c : ℕ) (x : Option PlainNode) (z : Spot) → Changes arena new i x → NoOwner chart i → Changes chart more c (Some z) → NoOwner chart c →
     ((k : ℕ) (p : List ℕ) (l : ℕ) (y : Bool) → z ≡ spot (at_level k) p l (on y) → (k ≡ 0) × (y ≡ false)) → Named arena chart → Named new more
 named_chain arena new chart more i c x z change none charted none_c unposted named = named_step arena new chart more i c change.rest charted.rest named
     (λ d e o. absurd (owns_none arena chart i d none o)) (λ d e o. absurd (owns_none arena chart c d none_c o))
     (λ k p l y g. inr (inl (unposted k p l y (let w = charted.now in cc))))
 
 -- the new head `t` of a new layer names its border `r`
-pub named_layer : (arena new : Arena) (chart more : Chart) (n : ℕ) (x : Option Node) → Changes arena new n x → NoOwner chart n → (t r : ℕ) (h : HeadNode) (p : List ℕ) → chart t ≡ None → chart r ≡ None → t ≢ n →
+pub named_layer : (arena new : Arena) (chart more : Chart) (n : ℕ) (x : Option PlainNode) → Changes arena new n x → NoOwner chart n → (t r : ℕ) (h : HeadNode) (p : List ℕ) → chart t ≡ None → chart r ≡ None → t ≢ n →
     OnHead more t p → arena t ≡ Some (head h) → h.root ≡ r → ((j : ℕ) → j ≢ t → j ≢ r → more j ≡ chart j) → Named arena chart → Named new more
 named_layer arena new chart more n x change none t r h p fresh_t fresh_r t_not_n on_t there root rest named = named_on arena new chart more named
     (λ j d e o. kept j d o (same_number j n) (same_number j t) (same_number j r)) (λ d k q l y g. stood d k q l y g (same_number d t) (same_number d r))
@@ -94,7 +94,7 @@ named_layer arena new chart more n x change none t r h p fresh_t fresh_r t_not_n
     stood d k q l y g (inr e) (inr f) = inl (sym (rest d e f))
 
 -- the head `t` of a layer goes, and the border `r` that it names
-pub named_no_layer : (arena new : Arena) (chart more : Chart) (n : ℕ) (x : Option Node) → Changes arena new n x → NoOwner chart n → (t r : ℕ) (h : HeadNode) (p : List ℕ) (low now : ℕ) (posted : Bool) → OnHead chart t p → arena t ≡ Some (head h) →
+pub named_no_layer : (arena new : Arena) (chart more : Chart) (n : ℕ) (x : Option PlainNode) → Changes arena new n x → NoOwner chart n → (t r : ℕ) (h : HeadNode) (p : List ℕ) (low now : ℕ) (posted : Bool) → OnHead chart t p → arena t ≡ Some (head h) →
     h.root ≡ r → chart r ≡ Some (spot (at_level 0) p low (on posted)) → more t ≡ Some (spot top p 0 (gone now)) → more r ≡ Some (spot (at_level 0) p 0 (gone now)) → ((j : ℕ) → j ≢ t → j ≢ r → more j ≡ chart j) →
     Named arena chart → Named new more
 named_no_layer arena new chart more n x change none t r h p low now posted on_t there root on_r goes_t goes_r rest named = named_on arena new chart more named
@@ -117,21 +117,21 @@ named_no_layer arena new chart more n x change none t r h p low now posted on_t 
 -- the interior `i` takes other children, and the number `c`, which owned none or one of these, stands otherwise
 pub named_children : (arena new : Arena) (chart more : Chart) (i f : ℕ) (q : List ℕ) (m : ℕ) (y : Bool) (x x' : InteriorNode) → chart i ≡ Some (spot (at_level (suc f)) q m (on y)) → arena i ≡ Some (interior x) → Changes arena new i (Some (interior x')) →
     (c : ℕ) → more i ≡ chart i → ((j : ℕ) → j ≢ c → more j ≡ chart j) → Named arena chart →
-    ((d : Child) → Among d x.children → chart d.number ≡ more d.number → Among d x'.children ⊎ HasOwner new more d.number) →
-    ((d : ℕ) → Owns arena chart c d → (v : Child) × Among v x'.children × (v.number ≡ d)) →
-    ((k : ℕ) (p : List ℕ) (l : ℕ) (z : Bool) → more c ≡ Some (spot (at_level k) p l (on z)) → (chart c ≡ more c) ⊎ (((k ≡ 0) × (z ≡ false)) ⊎ ((v : Child) × Among v x'.children × (v.number ≡ c)))) → Named new more
+    ((d : PlainChild) → Among d x.children → chart d.number ≡ more d.number → Among d x'.children ⊎ HasOwner new more d.number) →
+    ((d : ℕ) → Owns arena chart c d → (v : PlainChild) × Among v x'.children × (v.number ≡ d)) →
+    ((k : ℕ) (p : List ℕ) (l : ℕ) (z : Bool) → more c ≡ Some (spot (at_level k) p l (on z)) → (chart c ≡ more c) ⊎ (((k ≡ 0) × (z ≡ false)) ⊎ ((v : PlainChild) × Among v x'.children × (v.number ≡ c)))) → Named new more
 named_children arena new chart more i f q m y x x' at_i there change c same_i rest named kept of_c fresh = named_step arena new chart more i c change.rest rest named
     (λ d e o. let (v, n, r) = interior_owns arena chart i f q m y x d at_i there o in mine d v r (kept v n (ap chart r ∙ (e ∙ ap more (sym r)))))
     (λ d e o. owner d (of_c d o)) (λ k p l z g. stood k z (fresh k p l z g))
   where
-    owner : (d : ℕ) → (v : Child) × Among v x'.children × (v.number ≡ d) → HasOwner new more d
+    owner : (d : ℕ) → (v : PlainChild) × Among v x'.children × (v.number ≡ d) → HasOwner new more d
     owner d (v, n, r) = (i, by_interior f q m y x' v (same_i ∙ at_i) change.now n r)
 
-    mine : (d : ℕ) (v : Child) → v.number ≡ d → Among v x'.children ⊎ HasOwner new more v.number → HasOwner new more d
+    mine : (d : ℕ) (v : PlainChild) → v.number ≡ d → Among v x'.children ⊎ HasOwner new more v.number → HasOwner new more d
     mine d v r (inl n) = owner d (v, n, r)
     mine d v r (inr o) = subst (λ (u : ℕ). HasOwner new more u) r o
 
-    stood : (k : ℕ) (z : Bool) → (chart c ≡ more c) ⊎ (((k ≡ 0) × (z ≡ false)) ⊎ ((v : Child) × Among v x'.children × (v.number ≡ c))) → (chart c ≡ more c) ⊎ (((k ≡ 0) × (z ≡ false)) ⊎ HasOwner new more c)
+    stood : (k : ℕ) (z : Bool) → (chart c ≡ more c) ⊎ (((k ≡ 0) × (z ≡ false)) ⊎ ((v : PlainChild) × Among v x'.children × (v.number ≡ c))) → (chart c ≡ more c) ⊎ (((k ≡ 0) × (z ≡ false)) ⊎ HasOwner new more c)
     stood k z (inl e) = inl e
     stood k z (inr (inl u)) = inr (inl u)
     stood k z (inr (inr v)) = inr (inr (owner c v))
@@ -145,11 +145,11 @@ named_head arena new chart h q t t' at_h there change root named = named_step ar
 
 -- a head names the one child of its root `c`, which goes
 pub named_bypassed_root : (arena new : Arena) (chart more : Chart) (h : ℕ) (q : List ℕ) (t t' : HeadNode) → OnHead chart h q → arena h ≡ Some (head t) → Changes arena new h (Some (head t')) →
-    (c g : ℕ) (xc : InteriorNode) (only : Child) (now : ℕ) → t.root ≡ c → chart c ≡ Some (spot (at_level (suc g)) q 0 (on true)) → arena c ≡ Some (interior xc) → xc.children ≡ only ∷ [] → t'.root ≡ only.number →
+    (c g : ℕ) (xc : InteriorNode) (only : PlainChild) (now : ℕ) → t.root ≡ c → chart c ≡ Some (spot (at_level (suc g)) q 0 (on true)) → arena c ≡ Some (interior xc) → xc.children ≡ only ∷ [] → t'.root ≡ only.number →
     Changes chart more c (Some (spot (at_level (suc g)) q 0 (gone now))) → h ≢ c → Named arena chart → Named new more
 named_bypassed_root arena new chart more h q t t' at_h there change c g xc only now was_root at_c there_c one_child root charted h_not_c named = named_step arena new chart more h c change.rest charted.rest named
     (λ d e o. absurd (stayed d e (head_owns arena chart h q t d at_h there o)))
-    (λ d e o. let (v, n, r) = interior_owns arena chart c g q 0 true xc d at_c there_c o in (h, by_head q t' (charted.rest h h_not_c ∙ at_h) change.now (root ∙ only_one v d r (subst (λ (u : List Child). Among v u) one_child n))))
+    (λ d e o. let (v, n, r) = interior_owns arena chart c g q 0 true xc d at_c there_c o in (h, by_head q t' (charted.rest h h_not_c ∙ at_h) change.now (root ∙ only_one v d r (subst (λ (u : List PlainChild). Among v u) one_child n))))
     (λ k p l y e. absurd (let w = charted.now in let s : gone now ≡ on y = cc in cc))
   where
     stayed : (d : ℕ) → chart d ≡ more d → t.root ≡ d → ⊥
@@ -157,7 +157,7 @@ named_bypassed_root arena new chart more h q t t' at_h there change c g xc only 
         let same : chart c ≡ more c = subst (λ (v : ℕ). chart v ≡ more v) (sym r ∙ was_root) e in
         let w = charted.now in let v = at_c in let s : on true ≡ gone now = cc in cc
 
-    only_one : (v : Child) (d : ℕ) → v.number ≡ d → Among v (only ∷ []) → only.number ≡ d
+    only_one : (v : PlainChild) (d : ℕ) → v.number ≡ d → Among v (only ∷ []) → only.number ≡ d
     only_one v d r first = r
     only_one v d r (later n) = elim n [ ]
 
@@ -171,8 +171,8 @@ named_new_root arena new chart next h q t t' at_h next_h there change c k l x f 
     x_not_h : x ≢ h
     x_not_h e = let w : chart x ≡ chart h = ap chart e in let v : ◌≡◌ {A = Option Spot} None (Some (spot top q 0 (on true))) = sym fresh ∙ (w ∙ at_h) in cc
 
-    of_x : (d : ℕ) (v : Child) → Among v ((record { low = 0; number = t.root; level = t.level }) ∷ ((record { low = l; number = c; level = k }) ∷ [])) → v.number ≡ d → HasOwner new next d
-    of_x d v n r = (x, by_interior f q 0 true node v charted (change.rest x x_not_h ∙ filled) (subst (λ (u : List Child). Among v u) (sym children) n) r)
+    of_x : (d : ℕ) (v : PlainChild) → Among v ((record { low = 0; number = t.root; level = t.level }) ∷ ((record { low = l; number = c; level = k }) ∷ [])) → v.number ≡ d → HasOwner new next d
+    of_x d v n r = (x, by_interior f q 0 true node v charted (change.rest x x_not_h ∙ filled) (subst (λ (u : List PlainChild). Among v u) (sym children) n) r)
 
     kept : (j d : ℕ) → Owns arena chart j d → (j ≡ h) ⊎ (j ≢ h) → (j ≡ c) ⊎ (j ≢ c) → (j ≡ x) ⊎ (j ≢ x) → HasOwner new next d
     kept j d o (inl e) _ _ = of_x d (record { low = 0; number = t.root; level = t.level }) first (head_owns arena chart h q t d at_h there (subst (λ (v : ℕ). Owns arena chart v d) e o))

@@ -1,7 +1,7 @@
 -- A new index: head 0 and one empty border. So the invariant can be met.
 use Rattle.std.proofs.Common.{ℕ, zero, suc, ◌≡◌, ◌≢◌, ◌<◌, inl, inr, List, [], Option, Some, None, Bool, true, false, refl, sym, ap, ◌∙◌, subst, arith}
 use Rattle.std.proofs.lemmas.Bool.{cases_eq, eq-eqb, ne_eqb}
-use Rattle.mt_chart.specs.Tree.{Right, HeadNode, BorderNode, Node, head, border}
+use Rattle.mt_chart.specs.Tree.{Right, HeadNode, BorderNode, PlainNode, head, border}
 use Rattle.mt_chart.specs.NewIndex.{only_at, new_head, new_border, arena_of_two, new_arena, new_chart}
 use Rattle.mt_chart.specs.Chart.{Dated, Standing, on, gone, top, at_level, spot, OnBorder, IsBorderNode, Hung, HeadAt, IsTree, Owned, Owns, by_head, by_interior, Named, MarkedHeads}
 
@@ -56,7 +56,7 @@ new_ok root = record {
 module _ (root : ℕ) (positive : 0 < root) where
   is_new : (n : ℕ) (p : List ℕ) (b : BorderNode) → OnBorder (new_arena root) (new_chart root) n p b → (n ≡ root) × (p ≡ []) × (b ≡ new_border)
   is_new n p b o = let (e, f, g, h) = only_border root n p b.low (on o.posted) o.place in
-      (e, f, (let i = ap (new_arena root) e ∙ at_root root new_border positive in let k : ◌≡◌ {A = Option Node} (Some (border new_border)) (Some (border b)) = sym i ∙ o.node in let w : border new_border ≡ border b = cc in let v : new_border ≡ b = cc in sym v))
+      (e, f, (let i = ap (new_arena root) e ∙ at_root root new_border positive in let k : ◌≡◌ {A = Option PlainNode} (Some (border new_border)) (Some (border b)) = sym i ∙ o.node in let w : border new_border ≡ border b = cc in let v : new_border ≡ b = cc in sym v))
 
   head_at : (h : ℕ) (p : List ℕ) (l : ℕ) (y : Bool) → (h ≡ 0) × (p ≡ []) × (l ≡ 0) × (on y ≡ on true) → HeadAt (new_arena root) (new_chart root) h p l y
   head_at h p l y (e, f, g, i) = record {

@@ -3,7 +3,7 @@
 use Rattle.std.proofs.Common.{ℕ, suc, ◌≡◌, ◌≢◌, ◌≤◌, ◌⊎◌, ◌↔◌, inl, inr, List, [], ◌∷◌, Option, Some, None, Bool, true, false, refl, sym, ap, ◌∙◌, subst, arith}
 use Rattle.mt_slice.specs.Place.{Place, deeper, under}
 use Rattle.mt_types.specs.declared.row.Row.{Row}
-use Rattle.mt_chart.specs.Tree.{long, link, Entry, Right, HeadNode, BorderNode, head, border, Arena, Among, first, later, Below, no_right, HoldsRow, Has}
+use Rattle.mt_chart.specs.Tree.{long, link, PlainEntry, Right, HeadNode, BorderNode, head, border, Arena, Among, first, later, Below, no_right, HoldsRow, Has}
 use Rattle.mt_chart.specs.Chart.{Standing, on, gone, Role, top, at_level, Spot, spot, Chart, OnHead, OnBorder, IsBorderNode, class, Apart, Hung, HeadAt, InteriorAt, IsTree, Stored, Changes, Evolves, Owned}
 use Rattle.mt_chart.proofs.Basics.{same_number}
 use Rattle.mt_chart.proofs.Reach.{same_border, stored, has}
@@ -15,18 +15,18 @@ use Rattle.mt_chart.proofs.Ownership.{owned_layer}
 module _ (arena new : Arena) (chart more : Chart) (tree : IsTree arena chart) (n : ℕ) (p : List ℕ) (b b' : BorderNode) (o : OnBorder arena chart n p b) (change : Changes arena new n (Some (border b')))
     (t r : ℕ) (h : HeadNode) (x : BorderNode) (head_filled : arena t ≡ Some (head h)) (border_filled : arena r ≡ Some (border x)) (apart_t_r : t ≢ r)
     (fresh_t : chart t ≡ None) (fresh_r : chart r ≡ None)
-    (s : ℕ) (y : Place) (row : Row) (f : Entry)
+    (s : ℕ) (y : Place) (row : Row) (f : PlainEntry)
     (head_charted : more t ≡ Some (spot top (s ∷ p) 0 (on true))) (border_charted : more r ≡ Some (spot (at_level 0) (s ∷ p) 0 (on true)))
     (rest : (m : ℕ) → m ≢ t → m ≢ r → more m ≡ chart m)
     (low : b'.low ≡ b.low) (right : b'.right ≡ b.right) (alive : b'.deleted ≡ true → b'.entries ≡ [])
     (there : Among (record { slice = s; content = long y row }) b.entries)
-    (entries : (e : Entry) → Among e b'.entries ↔ ((e ≡ record { slice = s; content = link t }) ⊎ (Among e b.entries × (e ≢ record { slice = s; content = long y row }))))
+    (entries : (e : PlainEntry) → Among e b'.entries ↔ ((e ≡ record { slice = s; content = link t }) ⊎ (Among e b.entries × (e ≢ record { slice = s; content = long y row }))))
     (root : h.root ≡ r) (level : h.level ≡ 0) (x_low : x.low ≡ 0) (x_right : x.right ≡ None) (x_alive : x.deleted ≡ false)
     (x_entries : x.entries ≡ f ∷ []) (f_holds : HoldsRow f.slice f.content y row) where
-  abbrev old_entry : Entry
+  abbrev old_entry : PlainEntry
   old_entry = record { slice = s; content = long y row }
 
-  abbrev new_entry : Entry
+  abbrev new_entry : PlainEntry
   new_entry = record { slice = s; content = link t }
 
   ok_n : IsBorderNode chart p b
@@ -70,7 +70,7 @@ module _ (arena new : Arena) (chart more : Chart) (tree : IsTree arena chart) (n
   none_below m d z =
       let (i, g) = tree.in_layer m (s ∷ p) d z in
       let (j, c, w, at) = tree.hung i (s ∷ p) g in
-      let e : Entry = record { slice = s; content = link i } in
+      let e : PlainEntry = record { slice = s; content = link i } in
       let jn : j ≡ n = same_slice arena chart tree j n p c b e old_entry w o at there refl in
       let cb : c ≡ b = same_border arena j c b w.node (rw jn o.node) in
       let at' : Among e b.entries = subst (λ (z : BorderNode). Among e z.entries) cb at in
@@ -102,12 +102,12 @@ module _ (arena new : Arena) (chart more : Chart) (tree : IsTree arena chart) (n
       go (inl u) (inl v) = u ∙ sym v
       go (inl u) (inr (v, ne)) = absurd (ne (sym (ok_n.apart old_entry g there v (sym (ap (λ z. z.slice) u) ∙ sl) (sym (ap (λ z. first_class z) u) ∙ cl))))
         where
-          first_class : Entry → ℕ
+          first_class : PlainEntry → ℕ
           first_class z = class z.content
-      go (inr (u, ne)) (inl v) = absurd (ne (ok_n.apart e old_entry u there (sl ∙ ap (λ z. z.slice) v) (cl ∙ ap (λ (z : Entry). class z.content) v)))
+      go (inr (u, ne)) (inl v) = absurd (ne (ok_n.apart e old_entry u there (sl ∙ ap (λ z. z.slice) v) (cl ∙ ap (λ (z : PlainEntry). class z.content) v)))
       go (inr (u, ne)) (inr (v, ne')) = ok_n.apart e g u v sl cl
 
-  entry_at : (e : Entry) → Among e b'.entries → (b.low ≤ e.slice) × Below e.slice b.right
+  entry_at : (e : PlainEntry) → Among e b'.entries → (b.low ≤ e.slice) × Below e.slice b.right
   entry_at e i = go ((entries e).0 i)
     where
       go : (e ≡ new_entry) ⊎ (Among e b.entries × (e ≢ old_entry)) → (b.low ≤ e.slice) × Below e.slice b.right
@@ -125,7 +125,7 @@ module _ (arena new : Arena) (chart more : Chart) (tree : IsTree arena chart) (n
     empty = alive;
   }
     where
-      go : (s' h' : ℕ) → (◌≡◌ {A = Entry} (record { slice = s'; content = link h' }) new_entry) ⊎ (Among (record { slice = s'; content = link h' }) b.entries × ((record { slice = s'; content = link h' }) ≢ old_entry)) → OnHead more h' (s' ∷ p)
+      go : (s' h' : ℕ) → (◌≡◌ {A = PlainEntry} (record { slice = s'; content = link h' }) new_entry) ⊎ (Among (record { slice = s'; content = link h' }) b.entries × ((record { slice = s'; content = link h' }) ≢ old_entry)) → OnHead more h' (s' ∷ p)
       go s' h' (inl e) = let u : s' ≡ s = ap (λ z. z.slice) e in let w : link h' ≡ link t = ap (λ z. z.content) e in let v : h' ≡ t = cc in rw (u, v) head_charted
       go s' h' (inr (i, ne)) = known h' (spot top (s' ∷ p) 0 (on true)) (ok_n.links s' h' i)
 
@@ -139,18 +139,18 @@ module _ (arena new : Arena) (chart more : Chart) (tree : IsTree arena chart) (n
     empty = (λ e. absurd (let k : true ≡ false = sym e ∙ x_alive in cc));
   }
     where
-      only : (e : Entry) → Among e (f ∷ []) → e ≡ f
+      only : (e : PlainEntry) → Among e (f ∷ []) → e ≡ f
       only e first = refl
       only e (later i) = elim i [ ]
 
-      the_one : (e : Entry) → Among e x.entries → e ≡ f
+      the_one : (e : PlainEntry) → Among e x.entries → e ≡ f
       the_one e i = only e (rw x_entries at i)
 
   make_hung : (i : ℕ) (q : List ℕ) → Hung arena chart i q → Hung new more i q
   make_hung i [] e = e
   make_hung i (s' ∷ q) (m, d, z, at) = go (same_number m n)
     where
-      e : Entry
+      e : PlainEntry
       e = record { slice = s'; content = link i }
 
       go : (m ≡ n) ⊎ (m ≢ n) → Hung new more i (s' ∷ q)
@@ -259,7 +259,7 @@ module _ (arena new : Arena) (chart more : Chart) (tree : IsTree arena chart) (n
   pub layer_made_content : (k : Place) (w : Row) → Has new k w ↔ Has arena k w
   layer_made_content k w = (λ i. has arena chart tree k w (back (stored new more layer_made_tree k w i)), λ i. has new more layer_made_tree k w (forth (stored arena chart tree k w i)))
     where
-      only : (e : Entry) → Among e (f ∷ []) → e ≡ f
+      only : (e : PlainEntry) → Among e (f ∷ []) → e ≡ f
       only e first = refl
       only e (later i) = elim i [ ]
 
@@ -274,7 +274,7 @@ module _ (arena new : Arena) (chart more : Chart) (tree : IsTree arena chart) (n
           go (inl (e, u, v)) =
               let at_x : Among z.entry x.entries = subst (λ (d : BorderNode). Among z.entry d.entries) v z.live in
               let is_f : z.entry ≡ f = only z.entry (rw x_entries at at_x) in
-              let (pl, rows) = same_holds f.slice f.content z.place y w row (subst (λ (d : Entry). HoldsRow d.slice d.content z.place w) is_f z.holds) f_holds in
+              let (pl, rows) = same_holds f.slice f.content z.place y w row (subst (λ (d : PlainEntry). HoldsRow d.slice d.content z.place w) is_f z.holds) f_holds in
               record {
                 prefix = p;
                 number = n;
@@ -294,7 +294,7 @@ module _ (arena new : Arena) (chart more : Chart) (tree : IsTree arena chart) (n
         where
           moved : z.prefix ≡ p → (long z.place w ≡ long z.place w) → z.entry ≡ old_entry → Stored new more k w
           moved u _ e =
-              let hold : HoldsRow s (long y row) z.place w = subst (λ (d : Entry). HoldsRow d.slice d.content z.place w) e z.holds in
+              let hold : HoldsRow s (long y row) z.place w = subst (λ (d : PlainEntry). HoldsRow d.slice d.content z.place w) e z.holds in
               record {
                 prefix = s ∷ p;
                 number = r;
@@ -314,16 +314,16 @@ module _ (arena new : Arena) (chart more : Chart) (tree : IsTree arena chart) (n
           go (inl e) = let q = at_n z.number z.prefix z.node z.on_border e in
               let i : Among z.entry b.entries = subst (λ (d : BorderNode). Among z.entry d.entries) q.1 z.live in pick q.0 i (is_old z.entry z.place w z.holds)
             where
-              is_old : (e : Entry) (c : Place) (v : Row) → HoldsRow e.slice e.content c v → (class e.content ≡ 9) ⊎ (class e.content ≢ 9)
+              is_old : (e : PlainEntry) (c : Place) (v : Row) → HoldsRow e.slice e.content c v → (class e.content ≡ 9) ⊎ (class e.content ≢ 9)
               is_old e c v _ = same_number (class e.content) 9
 
               pick : z.prefix ≡ p → Among z.entry b.entries → (class z.entry.content ≡ 9) ⊎ (class z.entry.content ≢ 9) → Stored new more k w
-              pick u i (inr ne) = stays u i (λ q. ne (ap (λ (d : Entry). class d.content) q))
+              pick u i (inr ne) = stays u i (λ q. ne (ap (λ (d : PlainEntry). class d.content) q))
               pick u i (inl c) = at (same_number z.entry.slice s)
                 where
                   at : (z.entry.slice ≡ s) ⊎ (z.entry.slice ≢ s) → Stored new more k w
                   at (inl sl) = moved u refl (ok_n.apart z.entry old_entry i there sl c)
-                  at (inr ne) = stays u i (λ q. ne (ap (λ (d : Entry). d.slice) q))
+                  at (inr ne) = stays u i (λ q. ne (ap (λ (d : PlainEntry). d.slice) q))
           go (inr e) = record { prefix = z.prefix; number = z.number; node = z.node; entry = z.entry; place = z.place; on_border = kept z.number z.prefix z.node z.on_border e; live = z.live; holds = z.holds; is_key = z.is_key }
 
   pub layer_made_owned : (twins : ℕ → ℕ → Type 0) → Owned arena chart twins → Owned new more twins

@@ -2,7 +2,7 @@
 use Rattle.std.proofs.Common.{ℕ, suc, ◌≡◌, ◌≢◌, ◌⊎◌, ◌↔◌, inl, inr, List, Some, Bool, sym, ap, ◌∙◌, subst}
 use Rattle.mt_slice.specs.Place.{Place}
 use Rattle.mt_types.specs.declared.row.Row.{Row}
-use Rattle.mt_chart.specs.Tree.{HeadNode, Child, InteriorNode, head, interior, Arena, Among, Has}
+use Rattle.mt_chart.specs.Tree.{HeadNode, PlainChild, InteriorNode, head, interior, Arena, Among, Has}
 use Rattle.mt_chart.specs.Chart.{Standing, on, top, at_level, spot, Chart, OnHead, IsTree, Stored, Owns, by_head, by_interior, Owned, NoChildTwice}
 use Rattle.mt_chart.proofs.Basics.{same_number}
 use Rattle.mt_chart.proofs.Reach.{stored, has}
@@ -89,7 +89,7 @@ only_owner arena chart twins w i c x alone j y = go (w.one_owner j i c y x)
 
 -- what an interior that is on owns: its children; a head: its root
 pub interior_owns : (arena : Arena) (chart : Chart) (i k : ℕ) (p : List ℕ) (l : ℕ) (y : Bool) (x : InteriorNode) (c : ℕ) → chart i ≡ Some (spot (at_level (suc k)) p l (on y)) → arena i ≡ Some (interior x) → Owns arena chart i c →
-    (d : Child) × Among d x.children × (d.number ≡ c)
+    (d : PlainChild) × Among d x.children × (d.number ≡ c)
 interior_owns arena chart i k p l y x c g e (by_head q t g' e' f) = absurd (let w : top ≡ at_level (suc k) = cc in cc)
 interior_owns arena chart i k p l y x c g e (by_interior k' p' l' y' node child g' e' m f) =
     let same : node ≡ x = cc in (child, subst (λ (z : InteriorNode). Among child z.children) same m, f)

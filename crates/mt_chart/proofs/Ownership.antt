@@ -1,7 +1,7 @@
 -- Ownership through the steps that publish: a new layer, the new half of an interior, a new root, a bypassed root; and
 -- through the steps by which nobody becomes an owner.
 use Rattle.std.proofs.Common.{ℕ, suc, ◌≡◌, ◌≢◌, ◌⊎◌, inl, inr, List, [], ◌∷◌, ◌++◌, Option, Some, None, Bool, true, false, refl, sym, ap, ◌∙◌, subst, arith}
-use Rattle.mt_chart.specs.Tree.{HeadNode, Child, InteriorNode, head, interior, Arena, Among, first, later}
+use Rattle.mt_chart.specs.Tree.{HeadNode, PlainChild, InteriorNode, head, interior, Arena, Among, first, later}
 use Rattle.mt_chart.specs.Chart.{on, gone, Role, top, at_level, Spot, spot, Chart, OnHead, IsTree, Changes, Owns, by_head, by_interior, Owned, NoChildTwice}
 use Rattle.mt_chart.proofs.Basics.{same_number}
 use Rattle.mt_chart.proofs.Reach.{children_on, on_child}
@@ -47,7 +47,7 @@ owned_layer arena new chart more twins tree w t r h p fresh at_t there root same
 -- the new half `c` of the interior `i` is published: it and `i` are twins
 pub owned_half : (arena : Arena) (chart more : Chart) (some twins : ℕ → ℕ → Type 0) → Owned arena chart some → ((j k : ℕ) → some j k → twins j k) →
     (i f : ℕ) (q : List ℕ) (m : ℕ) (y : Bool) (x : InteriorNode) → chart i ≡ Some (spot (at_level (suc f)) q m (on y)) → arena i ≡ Some (interior x) →
-    (c l : ℕ) (xc : InteriorNode) → arena c ≡ Some (interior xc) → Changes chart more c (Some (spot (at_level (suc f)) q l (on true))) → NoChildTwice xc.children → ((d : Child) → Among d xc.children → Among d x.children) →
+    (c l : ℕ) (xc : InteriorNode) → arena c ≡ Some (interior xc) → Changes chart more c (Some (spot (at_level (suc f)) q l (on true))) → NoChildTwice xc.children → ((d : PlainChild) → Among d xc.children → Among d x.children) →
     ((j : ℕ) → (j ≡ i) ⊎ some j i → twins c j × twins j c) → Owned arena more twins
 owned_half arena chart more some twins w wider i f q m y x at_i there c l xc filled charted once part pair =
     owned_adopt arena arena chart more some twins c w wider
@@ -63,14 +63,14 @@ owned_half arena chart more some twins w wider i f q m y x at_i there c l xc fil
 -- an interior takes other children, each its own before or owned by nobody but twins: a posting, the half that is kept
 pub owned_children : (arena new : Arena) (chart : Chart) (twins : ℕ → ℕ → Type 0) → Owned arena chart twins →
     (i f : ℕ) (q : List ℕ) (m : ℕ) (y : Bool) (x x' : InteriorNode) → chart i ≡ Some (spot (at_level (suc f)) q m (on y)) → arena i ≡ Some (interior x) → Changes arena new i (Some (interior x')) → NoChildTwice x'.children →
-    ((d : Child) → Among d x'.children → Among d x.children ⊎ ((j : ℕ) → Owns arena chart j d.number → twins i j × twins j i)) → Owned new chart twins
+    ((d : PlainChild) → Among d x'.children → Among d x.children ⊎ ((j : ℕ) → Owns arena chart j d.number → twins i j × twins j i)) → Owned new chart twins
 owned_children arena new chart twins w i f q m y x x' at_i there change once sub =
     owned_adopt arena new chart chart twins twins i w (λ j k t. t)
     (λ j d ne o. owner_moves arena new chart chart j d (change.rest j ne) refl o)
     (λ d o. let (k, n, r) = interior_owns new chart i f q m y x' d at_i change.now o in mine d k r (sub k n))
     (λ n k p l z t g e. go n k p l z t g e (same_number n i))
   where
-    mine : (d : ℕ) (k : Child) → k.number ≡ d → Among k x.children ⊎ ((j : ℕ) → Owns arena chart j k.number → twins i j × twins j i) → Owns arena chart i d ⊎ ((j : ℕ) → Owns arena chart j d → twins i j × twins j i)
+    mine : (d : ℕ) (k : PlainChild) → k.number ≡ d → Among k x.children ⊎ ((j : ℕ) → Owns arena chart j k.number → twins i j × twins j i) → Owns arena chart i d ⊎ ((j : ℕ) → Owns arena chart j d → twins i j × twins j i)
     mine d k r (inl n) = inl (by_interior f q m y x k at_i there n r)
     mine d k r (inr h) = inr (λ j o. h j (subst (λ (v : ℕ). Owns arena chart j v) (sym r) o))
 
@@ -110,7 +110,7 @@ owned_go arena chart more some twins w c f q l e charted keep = record {
     go j k n n' (inr t) = inr (keep j k n n' t)
 
 -- the two parts of a list of children share no number: after the cut the halves of a split need be no twins
-pub parts_share_none : (xs ys : List Child) → NoChildTwice (xs ++ ys) → (d e : Child) → Among d xs → Among e ys → e.number ≢ d.number
+pub parts_share_none : (xs ys : List PlainChild) → NoChildTwice (xs ++ ys) → (d e : PlainChild) → Among d xs → Among e ys → e.number ≢ d.number
 parts_share_none [] ys o d e i j = elim i [ ]
 parts_share_none (x ∷ xs) ys o d e first j = o.0 e ((among_append e xs ys).1 (inr j))
 parts_share_none (x ∷ xs) ys o d e (later i) j = parts_share_none xs ys o.1 d e i j

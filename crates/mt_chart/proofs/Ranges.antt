@@ -3,7 +3,7 @@ use Rattle.std.proofs.Common.{ℕ, zero, suc, ◌≡◌, ◌<◌, ◌≤◌, ◌
 use Rattle.std.proofs.lemmas.List.{append-nil}
 use Rattle.mt_slice.specs.Place.{Place, last, deeper, under, Precedes, first_slice}
 use Rattle.mt_types.specs.declared.row.Row.{Row}
-use Rattle.mt_chart.specs.Tree.{link, Entry, Right, HeadNode, BorderNode, Child, InteriorNode, head, border, interior, Node, Arena, Among, first, Below, Has}
+use Rattle.mt_chart.specs.Tree.{link, PlainEntry, Right, HeadNode, BorderNode, PlainChild, InteriorNode, head, border, interior, PlainNode, Arena, Among, first, Below, Has}
 use Rattle.mt_chart.specs.Chart.{Standing, on, gone, Role, top, at_level, spot, Chart, OnBorder, IsTree, Holds, Evolves}
 use Rattle.mt_chart.specs.Scan.{AtMost, Pair, UpTo, Listed, AnswersRange, Scanned, OpenRange, Visiting, VisitOutcome, answers, goes, AtEnd, BorderVisit, Comes}
 use Rattle.mt_chart.proofs.PlaceOrder.{not_both, then_most}
@@ -106,7 +106,7 @@ module _ {V : Type 0} (arena : Arena) (chart : Chart) (tree : IsTree arena chart
   pub range_head : (t : HeadNode) → arena n ≡ Some (head t) → t.deleted ≡ false → OpenRange chart begun stood throughout start limit p t.root at taken
   range_head t e d = record { held = holds_root arena chart tree begun n (first_slice at) (first_slice at) p t range.held e d; scanned = range.scanned }
 
-  pub range_interior : (t : InteriorNode) (c : Child) → arena n ≡ Some (interior t) → t.deleted ≡ false → Among c t.children → c.low ≤ first_slice at →
+  pub range_interior : (t : InteriorNode) (c : PlainChild) → arena n ≡ Some (interior t) → t.deleted ≡ false → Among c t.children → c.low ≤ first_slice at →
       OpenRange chart begun stood throughout start limit p c.number at taken
   range_interior t c e d i le = record { held = holds_child arena chart tree begun n (first_slice at) p t c range.held e d i le; scanned = range.scanned }
 
@@ -129,10 +129,10 @@ module _ {V : Type 0} (show : Row → V) (arena : Arena) (chart : Chart) (tree :
     (stands_now : (key : Place) (row : Row) → Has arena key row → stood key (show row)) (throughout_now : (key : Place) → throughout key → (row : Row) × Has arena key row)
     (start : Place) (limit : ℕ) (p : List ℕ) (n : ℕ) (b : BorderNode) (o : OnBorder arena chart n p b) (in_order : InOrder b.entries)
     (at : Place) (from_low : b.low ≤ first_slice at) (to_right : Below (first_slice at) b.right) where
-  onto : (done : List Entry) (e : Entry) (todo : List Entry) (taken : List (Pair V)) (h : ℕ) → Visiting stood throughout start limit p b at done (e ∷ todo) taken →
+  onto : (done : List PlainEntry) (e : PlainEntry) (todo : List PlainEntry) (taken : List (Pair V)) (h : ℕ) → Visiting stood throughout start limit p b at done (e ∷ todo) taken →
       e.content ≡ link h → Among (record { slice = e.slice; content = link h }) b.entries
   onto done e todo taken h v q = subst (λ w. Among (record { slice = e.slice; content = w }) b.entries) q
-      (subst (λ (es : List Entry). Among e es) (sym v.split) ((among_append e done (e ∷ todo)).1 (inr first)))
+      (subst (λ (es : List PlainEntry). Among e es) (sym v.split) ((among_append e done (e ∷ todo)).1 (inr first)))
 
   to_outcome : (out to : VisitOutcome V) → out ≡ to → Comes chart begun stood throughout start limit to → Comes chart begun stood throughout start limit out
   to_outcome out to e h = subst (λ (w : VisitOutcome V). Comes chart begun stood throughout start limit w) (sym e) h
@@ -151,10 +151,10 @@ module _ {V : Type 0} (show : Row → V) (arena : Arena) (chart : Chart) (tree :
     scanned = visit_leaves stood throughout show arena chart tree stands_now throughout_now start limit n p b o in_order at from_low to_right taken s u v e k;
   })
 
-  visited : (es : List Entry) (done : List Entry) (taken : List (Pair V)) (out : VisitOutcome V) → Visiting stood throughout start limit p b at done es taken →
+  visited : (es : List PlainEntry) (done : List PlainEntry) (taken : List (Pair V)) (out : VisitOutcome V) → Visiting stood throughout start limit p b at done es taken →
       BorderVisit show limit p at b.right es taken out → Comes chart begun stood throughout start limit out
   visited [] done taken out v (inl f) = to_outcome out (answers taken) f.1 (range_full stood throughout start limit (under p at) taken v.scanned f.0)
-  visited [] done taken out v (inr f) = at_end b.right p refl refl taken out (let e : done ≡ b.entries = sym (v.split ∙ append-nil done) in subst (λ (es : List Entry). Visiting stood throughout start limit p b at es [] taken) e v) f
+  visited [] done taken out v (inr f) = at_end b.right p refl refl taken out (let e : done ≡ b.entries = sym (v.split ∙ append-nil done) in subst (λ (es : List PlainEntry). Visiting stood throughout start limit p b at es [] taken) e v) f
   visited (e ∷ es) done taken out v (inl f) = to_outcome out (answers taken) f.1 (range_full stood throughout start limit (under p at) taken v.scanned f.0)
   visited (e ∷ es) done taken out v (inr (inl (x, row, h, u, next))) = visited es (done ++ (e ∷ [])) taken out
       (visit_passes stood throughout show arena chart tree stands_now throughout_now start limit n p b o in_order at from_low to_right done e es taken v
@@ -205,10 +205,10 @@ range_roomier chart begun stood throughout start limit more p n at taken le r = 
 }
 
 -- there is a node where the scan is
-pub range_node : (arena : Arena) (chart : Chart) → IsTree arena chart → (begun n s : ℕ) (p : List ℕ) → Holds chart begun n p s → (x : Node) × (arena n ≡ Some x)
+pub range_node : (arena : Arena) (chart : Chart) → IsTree arena chart → (begun n s : ℕ) (p : List ℕ) → Holds chart begun n p s → (x : PlainNode) × (arena n ≡ Some x)
 range_node arena chart tree begun n s p k = go k.role k.standing k.place
   where
-    go : (role : Role) (st : Standing) → chart n ≡ Some (spot role p k.low st) → (x : Node) × (arena n ≡ Some x)
+    go : (role : Role) (st : Standing) → chart n ≡ Some (spot role p k.low st) → (x : PlainNode) × (arena n ≡ Some x)
     go top (on y) g = let u = tree.heads n p k.low y g in (head u.node, u.is_node)
     go top (gone f) g = let (u, i, j) = tree.gone_heads n p k.low f g in (head u, i)
     go (at_level zero) (on y) g = let (u, i, j) = tree.borders n p k.low y g in (border u, i)

@@ -2,7 +2,7 @@
 use Rattle.std.proofs.Common.{ℕ, zero, suc, ◌≡◌, ◌<◌, ◌≤◌, ◌⊎◌, inl, inr, List, [], ◌∷◌, Option, Some, None, Bool, true, refl, sym, subst, arith}
 use Rattle.mt_slice.specs.Place.{Place}
 use Rattle.mt_types.specs.declared.row.Row.{Row}
-use Rattle.mt_chart.specs.Tree.{link, Right, BorderNode, Child, InteriorNode, head, border, interior, Arena, first, Below, no_right, before_right, Leads, arrived, by_first, Linked, leftmost, by_right, Attached, layer_0, by_link, Has}
+use Rattle.mt_chart.specs.Tree.{link, Right, BorderNode, PlainChild, InteriorNode, head, border, interior, Arena, first, Below, no_right, before_right, Leads, arrived, by_first, Linked, leftmost, by_right, Attached, layer_0, by_link, Has}
 use Rattle.mt_chart.specs.Chart.{on, gone, at_level, spot, Chart, OnHead, OnBorder, IsBorderNode, IsChild, AreChildren, IsTree, Stored}
 
 pub same_border : (arena : Arena) (n : ℕ) (b c : BorderNode) → arena n ≡ Some (border b) → arena n ≡ Some (border c) → b ≡ c
@@ -20,12 +20,12 @@ low_is_below chart p b ok = go b.right refl
     go (Some r) e = before_right ((ok.right r e).0)
 
 -- a child of a node that is on
-pub on_child : (chart : Chart) (y : Bool) (p : List ℕ) (k : ℕ) (c : Child) → IsChild chart (on y) p k c →
+pub on_child : (chart : Chart) (y : Bool) (p : List ℕ) (k : ℕ) (c : PlainChild) → IsChild chart (on y) p k c →
     (c.level < k) × (chart c.number ≡ Some (spot (at_level c.level) p c.low (on true)))
 on_child chart y p k c x = let st : x.standing ≡ on true = x.may in (x.lower, rw st at x.place)
 
-pub first_child_on : (chart : Chart) (y : Bool) (p : List ℕ) (l k : ℕ) (cs : List Child) → AreChildren chart (on y) p l k cs →
-    (c : Child) × (ds : List Child) × (cs ≡ c ∷ ds) × (c.level < k) × (chart c.number ≡ Some (spot (at_level c.level) p l (on true)))
+pub first_child_on : (chart : Chart) (y : Bool) (p : List ℕ) (l k : ℕ) (cs : List PlainChild) → AreChildren chart (on y) p l k cs →
+    (c : PlainChild) × (ds : List PlainChild) × (cs ≡ c ∷ ds) × (c.level < k) × (chart c.number ≡ Some (spot (at_level c.level) p l (on true)))
 first_child_on chart y p l k [] w = absurd w.leftmost
 first_child_on chart y p l k (c ∷ cs) w =
     let (lt, g) = on_child chart y p k c (w.each c first) in
@@ -56,7 +56,7 @@ module _ (arena : Arena) (chart : Chart) (tree : IsTree arena chart) where
   leads_on b n (by_first t c cs e f r) (suc k) p l y g =
       let (d, ds, u, lt, w) = first_child_on chart y p l (suc k) t.children (children_on n k p l y t g e) in
       let same : d ≡ c = cc in
-      leads_on b c.number r c.level p l true (subst (λ (z : Child). chart z.number ≡ Some (spot (at_level z.level) p l (on true))) same w)
+      leads_on b c.number r c.level p l true (subst (λ (z : PlainChild). chart z.number ≡ Some (spot (at_level z.level) p l (on true))) same w)
 
   pub linked_on : (h n : ℕ) (p : List ℕ) → Linked arena h n → OnHead chart h p → (b : BorderNode) × OnBorder arena chart n p b
   linked_on h n p (leftmost t e r) g =

@@ -2,13 +2,13 @@
 use Rattle.std.proofs.Common.{ℕ, suc, ◌≡◌, ◌≢◌, ◌≤◌, ◌⊎◌, ◌↔◌, inl, inr, List, [], ◌∷◌, Some, Bool, true, refl, sym, ap, ◌∙◌, subst, arith}
 use Rattle.mt_slice.specs.Place.{Place, under}
 use Rattle.mt_types.specs.declared.row.Row.{Row}
-use Rattle.mt_chart.specs.Tree.{Content, short, long, link, Entry, BorderNode, border, Arena, Among, Below, HoldsRow, Has}
+use Rattle.mt_chart.specs.Tree.{PlainContent, short, long, link, PlainEntry, BorderNode, border, Arena, Among, Below, HoldsRow, Has}
 use Rattle.mt_chart.specs.Chart.{Standing, on, gone, Role, top, at_level, spot, Chart, OnBorder, IsBorderNode, Apart, Hung, IsTree, Stored, Owns, by_head, by_interior, Owned, Changes}
 use Rattle.mt_chart.proofs.Basics.{same_number}
 use Rattle.mt_chart.proofs.Reach.{same_border, stored, has}
 use Rattle.mt_chart.proofs.Keys.{one_place}
 
-pub same_holds : (s : ℕ) (c : Content) (x y : Place) (r w : Row) → HoldsRow s c x r → HoldsRow s c y w → (x ≡ y) × (r ≡ w)
+pub same_holds : (s : ℕ) (c : PlainContent) (x y : Place) (r w : Row) → HoldsRow s c x r → HoldsRow s c y w → (x ≡ y) × (r ≡ w)
 same_holds s (short k t) x y r w h i = (h.0 ∙ sym i.0, sym h.1 ∙ i.1)
 same_holds s (long z t) x y r w h i = (h.0 ∙ sym i.0, sym h.1 ∙ i.1)
 same_holds s (link t) x y r w h i = elim h [ ]
@@ -46,8 +46,8 @@ module _ (arena new : Arena) (chart : Chart) (tree : IsTree arena chart) (n : �
   on_not_gone : (y : Bool) (e : ℕ) → on y ≢ gone e
   on_not_gone y e q = cc
 
-  module _ (right : b'.right ≡ b.right) (apart : Apart b'.entries) (from_low : (e : Entry) → Among e b'.entries → b.low ≤ e.slice)
-      (to_right : (e : Entry) → Among e b'.entries → Below e.slice b.right)
+  module _ (right : b'.right ≡ b.right) (apart : Apart b'.entries) (from_low : (e : PlainEntry) → Among e b'.entries → b.low ≤ e.slice)
+      (to_right : (e : PlainEntry) → Among e b'.entries → Below e.slice b.right)
       (links : (s h : ℕ) → Among (record { slice = s; content = link h }) b'.entries ↔ Among (record { slice = s; content = link h }) b.entries)
       (empty : b'.deleted ≡ true → b'.entries ≡ []) where
     to_old : (m : ℕ) (q : List ℕ) (c : BorderNode) → OnBorder new chart m q c → (d : BorderNode) × OnBorder arena chart m q d × (d.low ≡ c.low) × (d.right ≡ c.right)
@@ -131,7 +131,7 @@ module _ (arena new : Arena) (chart : Chart) (tree : IsTree arena chart) (n : �
 
     -- the content, entry by entry
     abbrev Here : Place → Row → Type 0
-    Here k r = (e : Entry) × (y : Place) × Among e b'.entries × HoldsRow e.slice e.content y r × (k ≡ under p y)
+    Here k r = (e : PlainEntry) × (y : Place) × Among e b'.entries × HoldsRow e.slice e.content y r × (k ≡ under p y)
 
     abbrev Elsewhere : Place → Row → Type 0
     Elsewhere k r = (s : Stored arena chart k r) × (s.number ≢ n)
@@ -139,11 +139,11 @@ module _ (arena new : Arena) (chart : Chart) (tree : IsTree arena chart) (n : �
     at_new : (k : Place) (r : Row) → Has new k r → Here k r ⊎ Elsewhere k r
     at_new k r h = go (stored new chart refit k r h)
       where
-        go : Stored new chart k r → ((e : Entry) × (y : Place) × Among e b'.entries × HoldsRow e.slice e.content y r × (k ≡ under p y)) ⊎ ((s : Stored arena chart k r) × (s.number ≢ n))
+        go : Stored new chart k r → ((e : PlainEntry) × (y : Place) × Among e b'.entries × HoldsRow e.slice e.content y r × (k ≡ under p y)) ⊎ ((s : Stored arena chart k r) × (s.number ≢ n))
         go s = split (was s.number s.prefix s.node s.on_border)
           where
             split : ((s.number ≡ n) × (s.prefix ≡ p) × (s.node ≡ b')) ⊎ ((s.number ≢ n) × OnBorder arena chart s.number s.prefix s.node) →
-                ((e : Entry) × (y : Place) × Among e b'.entries × HoldsRow e.slice e.content y r × (k ≡ under p y)) ⊎ ((s : Stored arena chart k r) × (s.number ≢ n))
+                ((e : PlainEntry) × (y : Place) × Among e b'.entries × HoldsRow e.slice e.content y r × (k ≡ under p y)) ⊎ ((s : Stored arena chart k r) × (s.number ≢ n))
             split (inl (e, f, g)) = inl (s.entry, s.place, subst (λ (z : BorderNode). Among s.entry z.entries) g s.live, s.holds, subst (λ (z : List ℕ). k ≡ under z s.place) f s.is_key)
             split (inr (e, x)) = inr (record { prefix = s.prefix; number = s.number; node = s.node; entry = s.entry; place = s.place; on_border = x; live = s.live; holds = s.holds; is_key = s.is_key }, e)
 
@@ -166,27 +166,27 @@ module _ (arena new : Arena) (chart : Chart) (tree : IsTree arena chart) (n : �
     elsewhere_had : (k : Place) (r : Row) → Elsewhere k r → Has arena k r
     elsewhere_had k r (s, ne) = has arena chart tree k r s
 
-    old_here : (k : Place) (r : Row) → Has arena k r → ((e : Entry) × (y : Place) × Among e b.entries × HoldsRow e.slice e.content y r × (k ≡ under p y)) ⊎ Elsewhere k r
+    old_here : (k : Place) (r : Row) → Has arena k r → ((e : PlainEntry) × (y : Place) × Among e b.entries × HoldsRow e.slice e.content y r × (k ≡ under p y)) ⊎ Elsewhere k r
     old_here k r h = go (stored arena chart tree k r h)
       where
-        go : Stored arena chart k r → ((e : Entry) × (y : Place) × Among e b.entries × HoldsRow e.slice e.content y r × (k ≡ under p y)) ⊎ ((s : Stored arena chart k r) × (s.number ≢ n))
+        go : Stored arena chart k r → ((e : PlainEntry) × (y : Place) × Among e b.entries × HoldsRow e.slice e.content y r × (k ≡ under p y)) ⊎ ((s : Stored arena chart k r) × (s.number ≢ n))
         go s = split (kept s.number s.prefix s.node s.on_border)
           where
             split : ((s.number ≡ n) × (s.prefix ≡ p) × (s.node ≡ b)) ⊎ ((s.number ≢ n) × OnBorder new chart s.number s.prefix s.node) →
-                ((e : Entry) × (y : Place) × Among e b.entries × HoldsRow e.slice e.content y r × (k ≡ under p y)) ⊎ ((s : Stored arena chart k r) × (s.number ≢ n))
+                ((e : PlainEntry) × (y : Place) × Among e b.entries × HoldsRow e.slice e.content y r × (k ≡ under p y)) ⊎ ((s : Stored arena chart k r) × (s.number ≢ n))
             split (inl (e, f, g)) = inl (s.entry, s.place, subst (λ (z : BorderNode). Among s.entry z.entries) g s.live, s.holds, subst (λ (z : List ℕ). k ≡ under z s.place) f s.is_key)
             split (inr (e, x)) = inr (s, e)
 
-    had : (k : Place) (r : Row) (e : Entry) (y : Place) → Among e b.entries → HoldsRow e.slice e.content y r → k ≡ under p y → Has arena k r
+    had : (k : Place) (r : Row) (e : PlainEntry) (y : Place) → Among e b.entries → HoldsRow e.slice e.content y r → k ≡ under p y → Has arena k r
     had k r e y m h q = has arena chart tree k r (record { prefix = p; number = n; node = b; entry = e; place = y; on_border = o; live = m; holds = h; is_key = q })
 
     -- a key elsewhere is none of this border's
-    elsewhere_differs : (k : Place) (r : Row) (e : Entry) (y : Place) (r' : Row) → Elsewhere k r → Among e b.entries → HoldsRow e.slice e.content y r' → k ≢ under p y
+    elsewhere_differs : (k : Place) (r : Row) (e : PlainEntry) (y : Place) (r' : Row) → Elsewhere k r → Among e b.entries → HoldsRow e.slice e.content y r' → k ≢ under p y
     elsewhere_differs k r e y r' (s, ne) m h q =
         let w = one_place arena chart tree s.number n s.prefix p s.node b s.entry e s.place y r r' s.on_border o s.live m s.holds h (sym s.is_key ∙ q) in ne w.0
 
     -- nothing is shown or hidden
-    pub content_same : ((e : Entry) (y : Place) (r : Row) → HoldsRow e.slice e.content y r → Among e b'.entries ↔ Among e b.entries) →
+    pub content_same : ((e : PlainEntry) (y : Place) (r : Row) → HoldsRow e.slice e.content y r → Among e b'.entries ↔ Among e b.entries) →
         (k : Place) (r : Row) → Has new k r ↔ Has arena k r
     content_same same k r = (λ h. there (at_new k r h), λ h. back (old_here k r h))
       where
@@ -194,25 +194,25 @@ module _ (arena new : Arena) (chart : Chart) (tree : IsTree arena chart) (n : �
         there (inl (e, y, m, h, q)) = had k r e y ((same e y r h).0 m) h q
         there (inr x) = elsewhere_had k r x
 
-        back : ((e : Entry) × (y : Place) × Among e b.entries × HoldsRow e.slice e.content y r × (k ≡ under p y)) ⊎ Elsewhere k r → Has new k r
+        back : ((e : PlainEntry) × (y : Place) × Among e b.entries × HoldsRow e.slice e.content y r × (k ≡ under p y)) ⊎ Elsewhere k r → Has new k r
         back (inl (e, y, m, h, q)) = here_has k r (e, y, (same e y r h).1 m, h, q)
         back (inr x) = elsewhere_has k r x
 
     -- one entry is shown
-    pub content_shown : (x : Entry) (z : Place) (row : Row) → HoldsRow x.slice x.content z row →
-        ((e : Entry) → Among e b'.entries ↔ ((e ≡ x) ⊎ Among e b.entries)) →
+    pub content_shown : (x : PlainEntry) (z : Place) (row : Row) → HoldsRow x.slice x.content z row →
+        ((e : PlainEntry) → Among e b'.entries ↔ ((e ≡ x) ⊎ Among e b.entries)) →
         (k : Place) (r : Row) → Has new k r ↔ (((k ≡ under p z) × (r ≡ row)) ⊎ Has arena k r)
     content_shown x z row hx entries k r = (λ h. there (at_new k r h), back)
       where
-        which : (e : Entry) (y : Place) → HoldsRow e.slice e.content y r → k ≡ under p y → (e ≡ x) ⊎ Among e b.entries → ((k ≡ under p z) × (r ≡ row)) ⊎ Has arena k r
-        which e y h q (inl w) = let (u, v) = same_holds x.slice x.content z y row r hx (subst (λ (f : Entry). HoldsRow f.slice f.content y r) w h) in inl (q ∙ ap (under p) (sym u), sym v)
+        which : (e : PlainEntry) (y : Place) → HoldsRow e.slice e.content y r → k ≡ under p y → (e ≡ x) ⊎ Among e b.entries → ((k ≡ under p z) × (r ≡ row)) ⊎ Has arena k r
+        which e y h q (inl w) = let (u, v) = same_holds x.slice x.content z y row r hx (subst (λ (f : PlainEntry). HoldsRow f.slice f.content y r) w h) in inl (q ∙ ap (under p) (sym u), sym v)
         which e y h q (inr m) = inr (had k r e y m h q)
 
         there : Here k r ⊎ Elsewhere k r → ((k ≡ under p z) × (r ≡ row)) ⊎ Has arena k r
         there (inl (e, y, m, h, q)) = which e y h q ((entries e).0 m)
         there (inr w) = inr (elsewhere_had k r w)
 
-        again : ((e : Entry) × (y : Place) × Among e b.entries × HoldsRow e.slice e.content y r × (k ≡ under p y)) ⊎ Elsewhere k r → Has new k r
+        again : ((e : PlainEntry) × (y : Place) × Among e b.entries × HoldsRow e.slice e.content y r × (k ≡ under p y)) ⊎ Elsewhere k r → Has new k r
         again (inl (e, y, m, h, q)) = here_has k r (e, y, (entries e).1 (inr m), h, q)
         again (inr w) = elsewhere_has k r w
 
@@ -221,8 +221,8 @@ module _ (arena new : Arena) (chart : Chart) (tree : IsTree arena chart) (n : �
         back (inr h) = again (old_here k r h)
 
     -- one entry is hidden
-    pub content_hidden : (x : Entry) (z : Place) (row : Row) → Among x b.entries → HoldsRow x.slice x.content z row →
-        ((e : Entry) → Among e b'.entries ↔ (Among e b.entries × (e ≢ x))) →
+    pub content_hidden : (x : PlainEntry) (z : Place) (row : Row) → Among x b.entries → HoldsRow x.slice x.content z row →
+        ((e : PlainEntry) → Among e b'.entries ↔ (Among e b.entries × (e ≢ x))) →
         (k : Place) (r : Row) → Has new k r ↔ (Has arena k r × (k ≢ under p z))
     content_hidden x z row mx hx entries k r = (λ h. there (at_new k r h), λ h. back (old_here k r h.0) h.1)
       where
@@ -233,26 +233,26 @@ module _ (arena new : Arena) (chart : Chart) (tree : IsTree arena chart) (n : �
         )
         there (inr w) = (elsewhere_had k r w, elsewhere_differs k r x z row w mx hx)
 
-        back : ((e : Entry) × (y : Place) × Among e b.entries × HoldsRow e.slice e.content y r × (k ≡ under p y)) ⊎ Elsewhere k r → k ≢ under p z → Has new k r
-        back (inl (e, y, m, h, q)) ne = here_has k r (e, y, (entries e).1 (m, λ f. ne (q ∙ ap (under p) (sym (same_holds x.slice x.content z y row r hx (subst (λ (f : Entry). HoldsRow f.slice f.content y r) f h)).0))), h, q)
+        back : ((e : PlainEntry) × (y : Place) × Among e b.entries × HoldsRow e.slice e.content y r × (k ≡ under p y)) ⊎ Elsewhere k r → k ≢ under p z → Has new k r
+        back (inl (e, y, m, h, q)) ne = here_has k r (e, y, (entries e).1 (m, λ f. ne (q ∙ ap (under p) (sym (same_holds x.slice x.content z y row r hx (subst (λ (f : PlainEntry). HoldsRow f.slice f.content y r) f h)).0))), h, q)
         back (inr w) ne = elsewhere_has k r w
 
     -- the row of one entry is replaced
-    pub content_set : (x x' : Entry) (z : Place) (row row' : Row) → Among x b.entries → HoldsRow x.slice x.content z row → HoldsRow x'.slice x'.content z row' →
-        ((e : Entry) → Among e b'.entries ↔ ((e ≡ x') ⊎ (Among e b.entries × (e ≢ x)))) →
+    pub content_set : (x x' : PlainEntry) (z : Place) (row row' : Row) → Among x b.entries → HoldsRow x.slice x.content z row → HoldsRow x'.slice x'.content z row' →
+        ((e : PlainEntry) → Among e b'.entries ↔ ((e ≡ x') ⊎ (Among e b.entries × (e ≢ x)))) →
         (k : Place) (r : Row) → Has new k r ↔ (((k ≡ under p z) × (r ≡ row')) ⊎ (Has arena k r × (k ≢ under p z)))
     content_set x x' z row row' mx hx hx' entries k r = (λ h. there (at_new k r h), back)
       where
-        which : (e : Entry) (y : Place) → HoldsRow e.slice e.content y r → k ≡ under p y → (e ≡ x') ⊎ (Among e b.entries × (e ≢ x)) → ((k ≡ under p z) × (r ≡ row')) ⊎ (Has arena k r × (k ≢ under p z))
-        which e y h q (inl w) = let (u, v) = same_holds x'.slice x'.content z y row' r hx' (subst (λ (f : Entry). HoldsRow f.slice f.content y r) w h) in inl (q ∙ ap (under p) (sym u), sym v)
+        which : (e : PlainEntry) (y : Place) → HoldsRow e.slice e.content y r → k ≡ under p y → (e ≡ x') ⊎ (Among e b.entries × (e ≢ x)) → ((k ≡ under p z) × (r ≡ row')) ⊎ (Has arena k r × (k ≢ under p z))
+        which e y h q (inl w) = let (u, v) = same_holds x'.slice x'.content z y row' r hx' (subst (λ (f : PlainEntry). HoldsRow f.slice f.content y r) w h) in inl (q ∙ ap (under p) (sym u), sym v)
         which e y h q (inr (m, ne)) = inr (had k r e y m h q, λ f. ne (let v = one_place arena chart tree n n p p b b e x y z r row o o m mx h hx (sym q ∙ f) in v.2))
 
         there : Here k r ⊎ Elsewhere k r → ((k ≡ under p z) × (r ≡ row')) ⊎ (Has arena k r × (k ≢ under p z))
         there (inl (e, y, m, h, q)) = which e y h q ((entries e).0 m)
         there (inr w) = inr (elsewhere_had k r w, elsewhere_differs k r x z row w mx hx)
 
-        again : ((e : Entry) × (y : Place) × Among e b.entries × HoldsRow e.slice e.content y r × (k ≡ under p y)) ⊎ Elsewhere k r → k ≢ under p z → Has new k r
-        again (inl (e, y, m, h, q)) ne = here_has k r (e, y, (entries e).1 (inr (m, λ f. ne (q ∙ ap (under p) (sym (same_holds x.slice x.content z y row r hx (subst (λ (f : Entry). HoldsRow f.slice f.content y r) f h)).0)))), h, q)
+        again : ((e : PlainEntry) × (y : Place) × Among e b.entries × HoldsRow e.slice e.content y r × (k ≡ under p y)) ⊎ Elsewhere k r → k ≢ under p z → Has new k r
+        again (inl (e, y, m, h, q)) ne = here_has k r (e, y, (entries e).1 (inr (m, λ f. ne (q ∙ ap (under p) (sym (same_holds x.slice x.content z y row r hx (subst (λ (f : PlainEntry). HoldsRow f.slice f.content y r) f h)).0)))), h, q)
         again (inr w) ne = elsewhere_has k r w
 
         back : (((k ≡ under p z) × (r ≡ row')) ⊎ (Has arena k r × (k ≢ under p z))) → Has new k r

@@ -1,6 +1,6 @@
 -- Each move of a get goes from a node whose place it knows to one whose place it knows, of a greater height.
 use Rattle.std.proofs.Common.{ℕ, zero, suc, ◌≡◌, ◌<◌, ◌≤◌, ◌+◌, ◌*◌, ◌-◌, ◌⊎◌, inl, inr, List, ◌∷◌, length, Some, Bool, true, false, refl, sym, ap, subst, arith}
-use Rattle.mt_chart.specs.Tree.{HeadNode, BorderNode, InteriorNode, Child, Right, head, border, interior, link, Arena, Among}
+use Rattle.mt_chart.specs.Tree.{HeadNode, BorderNode, InteriorNode, PlainChild, Right, head, border, interior, link, Arena, Among}
 use Rattle.mt_chart.specs.Chart.{Standing, on, gone, Role, top, at_level, spot, Chart, OnBorder, OnHead, MayName, AreChildren, IsTree}
 use Rattle.mt_chart.specs.Walk.{height, Known, KnownAt, Run, Moves, to_root, to_child, to_right, to_link, Higher}
 
@@ -55,7 +55,7 @@ module _ (arena : Arena) (chart : Chart) (tree : IsTree arena chart) (b : ℕ) w
   since_child (gone f) (gone g) m h e q = let c : g ≡ e = cc in let m' : f ≤ g = m in let k : b ≤ f = h f refl in omega arith
 
   rise_child : (n : ℕ) (role : Role) (p : List ℕ) (l : ℕ) (st : Standing) → chart n ≡ Some (spot role p l st) → ((e : ℕ) → st ≡ gone e → b ≤ e) →
-      (t : InteriorNode) (c : Child) → arena n ≡ Some (interior t) → t.deleted ≡ false → t.level ≤ 15 → t.low < 18446744073709551616 → Among c t.children →
+      (t : InteriorNode) (c : PlainChild) → arena n ≡ Some (interior t) → t.deleted ≡ false → t.level ≤ 15 → t.low < 18446744073709551616 → Among c t.children →
       Higher chart b c.number (height role p l)
   rise_child n top p l st g s t c e d w v m = let (u, i) = a_head n p l st g in absurd cc
   rise_child n (at_level zero) p l st g s t c e d w v m = let (u, i) = a_border n p l st g in absurd cc

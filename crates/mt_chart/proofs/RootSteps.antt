@@ -2,7 +2,7 @@
 use Rattle.std.proofs.Common.{ℕ, suc, ◌≡◌, ◌≢◌, ◌<◌, ◌⊎◌, ◌↔◌, inl, inr, List, [], ◌∷◌, Option, Some, None, Bool, true, refl, sym, ap, ◌∙◌, subst, arith}
 use Rattle.mt_slice.specs.Place.{Place}
 use Rattle.mt_types.specs.declared.row.Row.{Row}
-use Rattle.mt_chart.specs.Tree.{HeadNode, Child, InteriorNode, head, interior, Arena, Among, first, later, Has}
+use Rattle.mt_chart.specs.Tree.{HeadNode, PlainChild, InteriorNode, head, interior, Arena, Among, first, later, Has}
 use Rattle.mt_chart.specs.Chart.{Standing, on, gone, top, at_level, Spot, spot, Chart, OnHead, IsChild, AreChildren, FirstLow, IsTree, Changes, Dated, Owns, by_head, Owned}
 use Rattle.mt_chart.proofs.Basics.{same_number}
 use Rattle.mt_chart.proofs.Reach.{children_on, on_child}
@@ -30,7 +30,7 @@ module _ (arena new : Arena) (chart : Chart) (tree : IsTree arena chart) (h : �
     mark_head_content = same_borders_content arena new chart tree mark_head_tree agree_border
 
   -- the root, an interior with one child, is bypassed
-  module _ (more : Chart) (twins : ℕ → ℕ → Type 0) (owned : Owned arena chart twins) (c g : ℕ) (xc : InteriorNode) (only : Child) (now : ℕ) (dated : Dated chart now)
+  module _ (more : Chart) (twins : ℕ → ℕ → Type 0) (owned : Owned arena chart twins) (c g : ℕ) (xc : InteriorNode) (only : PlainChild) (now : ℕ) (dated : Dated chart now)
       (is_root : t.root ≡ c) (at_c : chart c ≡ Some (spot (at_level (suc g)) q 0 (on true))) (there_c : arena c ≡ Some (interior xc)) (locked : xc.locked ≡ true) (one_child : xc.children ≡ only ∷ [])
       (charted : Changes chart more c (Some (spot (at_level (suc g)) q 0 (gone now)))) (root : t'.root ≡ only.number) (level : t'.level ≡ only.level) (alone : (j : ℕ) → twins j h → ⊥) where
     children_of_c : AreChildren chart (on true) q 0 (suc g) (only ∷ [])
@@ -71,7 +71,7 @@ module _ (arena new : Arena) (chart : Chart) (tree : IsTree arena chart) (h : �
     published = publish arena chart tree next x f q 0 node fresh filled charted low node_level
         (rw children (record { leftmost = refl; each = each }))
       where
-        each : (d : Child) → Among d ((record { low = 0; number = t.root; level = t.level }) ∷ ((record { low = l; number = c; level = k }) ∷ [])) → IsChild chart (on true) q (suc f) d
+        each : (d : PlainChild) → Among d ((record { low = 0; number = t.root; level = t.level }) ∷ ((record { low = l; number = c; level = k }) ∷ [])) → IsChild chart (on true) q (suc f) d
         each d first = record { standing = on true; lower = below; place = head_root arena chart tree h q t at_h there; may = refl }
         each d (later first) = record { standing = on true; lower = below_c; place = at_c; may = refl }
         each d (later (later i)) = elim i [ ]
@@ -88,7 +88,7 @@ module _ (arena new : Arena) (chart : Chart) (tree : IsTree arena chart) (h : �
 -- the split of the interior `i`: the new one, `c`, has some of its children, and is posted in the interior `j`
 module _ (arena new : Arena) (chart more : Chart) (tree : IsTree arena chart) (i f : ℕ) (q : List ℕ) (m : ℕ) (y : Bool) (x : InteriorNode) (at_i : chart i ≡ Some (spot (at_level (suc f)) q m (on y))) (there : arena i ≡ Some (interior x)) where
   -- the first half is kept
-  module _ (x' : InteriorNode) (change : Changes arena new i (Some (interior x'))) (low : x'.low ≡ m) (level : x'.level ≡ suc f) (leftmost : FirstLow m x'.children) (sub : (d : Child) → Among d x'.children → Among d x.children) where
+  module _ (x' : InteriorNode) (change : Changes arena new i (Some (interior x'))) (low : x'.low ≡ m) (level : x'.level ≡ suc f) (leftmost : FirstLow m x'.children) (sub : (d : PlainChild) → Among d x'.children → Among d x.children) where
     pub half_kept_tree : IsTree new chart
     half_kept_tree = let w = children_on arena chart tree i f q m y x at_i there in
         take_children arena chart tree new i f q m y x' at_i change low level (record { leftmost = leftmost; each = (λ d k. w.each d (sub d k)) })
@@ -98,17 +98,17 @@ module _ (arena new : Arena) (chart more : Chart) (tree : IsTree arena chart) (i
 
   -- the new half comes to be known
   module _ (c : ℕ) (l : ℕ) (xc : InteriorNode) (fresh : chart c ≡ None) (filled : arena c ≡ Some (interior xc)) (charted : Changes chart more c (Some (spot (at_level (suc f)) q l (on true))))
-      (low : xc.low ≡ l) (level : xc.level ≡ suc f) (leftmost : FirstLow l xc.children) (part : (d : Child) → Among d xc.children → Among d x.children) where
+      (low : xc.low ≡ l) (level : xc.level ≡ suc f) (leftmost : FirstLow l xc.children) (part : (d : PlainChild) → Among d xc.children → Among d x.children) where
     pub half_known_tree : IsTree arena more
     half_known_tree = publish arena chart tree more c f q l xc fresh filled charted low level (record { leftmost = leftmost; each = (λ d k. each d (part d k)) })
       where
-        each : (d : Child) → Among d x.children → IsChild chart (on true) q (suc f) d
+        each : (d : PlainChild) → Among d x.children → IsChild chart (on true) q (suc f) d
         each d k = let w = children_on arena chart tree i f q m y x at_i there in let o = w.each d k in record { standing = o.standing; lower = o.lower; place = o.place; may = o.may }
 
     -- it is posted in `j`
     module _ (j g v : ℕ) (z : Bool) (xj xj' : InteriorNode) (at_j : chart j ≡ Some (spot (at_level (suc g)) q v (on z))) (there_j : arena j ≡ Some (interior xj)) (change : Changes arena new j (Some (interior xj'))) (above : f < g)
         (low_j : xj'.low ≡ v) (level_j : xj'.level ≡ suc g) (leftmost_j : FirstLow v xj'.children)
-        (sub : (d : Child) → Among d xj'.children → (d ≡ record { low = l; number = c; level = suc f }) ⊎ Among d xj.children) where
+        (sub : (d : PlainChild) → Among d xj'.children → (d ≡ record { low = l; number = c; level = suc f }) ⊎ Among d xj.children) where
       more_j : more j ≡ Some (spot (at_level (suc g)) q v (on z))
       more_j = charted.rest j (λ e. let w : chart j ≡ chart c = ap chart e in let n = fresh in let o = at_j in let k : ◌≡◌ {A = Option Spot} None (Some (spot (at_level (suc g)) q v (on z))) = cc in cc) ∙ at_j
 
@@ -116,8 +116,8 @@ module _ (arena new : Arena) (chart more : Chart) (tree : IsTree arena chart) (i
       half_posted_tree = let w = children_on arena more half_known_tree j g q v z xj more_j there_j in
           take_children arena more half_known_tree new j g q v z xj' more_j change low_j level_j (record { leftmost = leftmost_j; each = (λ d k. go d w.each (sub d k)) })
         where
-          go : (d : Child) → ((e : Child) → Among e xj.children → IsChild more (on z) q (suc g) e) → (d ≡ record { low = l; number = c; level = suc f }) ⊎ Among d xj.children → IsChild more (on z) q (suc g) d
-          go d each (inl e) = subst (λ (n : Child). IsChild more (on z) q (suc g) n) (sym e) (record { standing = on true; lower = (omega arith); place = charted.now; may = refl })
+          go : (d : PlainChild) → ((e : PlainChild) → Among e xj.children → IsChild more (on z) q (suc g) e) → (d ≡ record { low = l; number = c; level = suc f }) ⊎ Among d xj.children → IsChild more (on z) q (suc g) d
+          go d each (inl e) = subst (λ (n : PlainChild). IsChild more (on z) q (suc g) n) (sym e) (record { standing = on true; lower = (omega arith); place = charted.now; may = refl })
           go d each (inr k) = each d k
 
       pub half_posted_content : (k : Place) (w : Row) → Has new k w ↔ Has arena k w

@@ -1,6 +1,6 @@
 -- Each node keeps one owner when a root is bypassed or made, and when the new half of an interior is posted.
 use Rattle.std.proofs.Common.{ℕ, suc, ◌≡◌, ◌≢◌, ◌⊎◌, inl, inr, List, [], ◌∷◌, Option, Some, None, Bool, true, false, refl, sym, ap, ◌∙◌, subst}
-use Rattle.mt_chart.specs.Tree.{HeadNode, Child, InteriorNode, head, interior, Arena, Among, first, later}
+use Rattle.mt_chart.specs.Tree.{HeadNode, PlainChild, InteriorNode, head, interior, Arena, Among, first, later}
 use Rattle.mt_chart.specs.Chart.{on, gone, top, at_level, Spot, spot, Chart, OnHead, IsTree, Changes, Owns, by_head, by_interior, Owned, NoChildTwice}
 use Rattle.mt_chart.proofs.Basics.{same_number}
 use Rattle.mt_chart.proofs.Owners.{owned_shrink, owned_adopt, interior_owns, head_owns, owner_moves}
@@ -12,7 +12,7 @@ abbrev Pair : (ℕ → ℕ → Type 0) → ℕ → ℕ → ℕ → ℕ → Type 
 Pair twins h c i j = twins i j ⊎ (((i ≡ h) × (j ≡ c)) ⊎ ((i ≡ c) × (j ≡ h)))
 
 pub root_bypass_owned : (arena new : Arena) (chart more : Chart) (twins : ℕ → ℕ → Type 0) → Owned arena chart twins → (h : ℕ) (q : List ℕ) (t t' : HeadNode) → OnHead chart h q → arena h ≡ Some (head t) → Changes arena new h (Some (head t')) →
-    (c g : ℕ) (xc : InteriorNode) (only : Child) (now : ℕ) → chart c ≡ Some (spot (at_level (suc g)) q 0 (on true)) → arena c ≡ Some (interior xc) → xc.children ≡ only ∷ [] → t'.root ≡ only.number →
+    (c g : ℕ) (xc : InteriorNode) (only : PlainChild) (now : ℕ) → chart c ≡ Some (spot (at_level (suc g)) q 0 (on true)) → arena c ≡ Some (interior xc) → xc.children ≡ only ∷ [] → t'.root ≡ only.number →
     Changes chart more c (Some (spot (at_level (suc g)) q 0 (gone now))) → ((j : ℕ) → twins c j → ⊥) → Owned new more twins
 root_bypass_owned arena new chart more twins w h q t t' at_h there change c g xc only now at_c there_c one_child root charted alone =
     owned_go new chart more (Pair twins h c) twins mid c g q 0 now charted keep
@@ -37,7 +37,7 @@ root_bypass_owned arena new chart more twins w h q t t' at_h there change c g xc
 
 -- nobody owns the new half `c` of `i`: not itself, since its children were known
 pub half_unowned : (arena : Arena) (chart more : Chart) → IsTree arena chart → (i f : ℕ) (q : List ℕ) (m : ℕ) (y : Bool) (x : InteriorNode) → chart i ≡ Some (spot (at_level (suc f)) q m (on y)) → arena i ≡ Some (interior x) →
-    (c l : ℕ) (xc : InteriorNode) → chart c ≡ None → arena c ≡ Some (interior xc) → Changes chart more c (Some (spot (at_level (suc f)) q l (on true))) → ((d : Child) → Among d xc.children → Among d x.children) →
+    (c l : ℕ) (xc : InteriorNode) → chart c ≡ None → arena c ≡ Some (interior xc) → Changes chart more c (Some (spot (at_level (suc f)) q l (on true))) → ((d : PlainChild) → Among d xc.children → Among d x.children) →
     (k : ℕ) → Owns arena more k c → ⊥
 half_unowned arena chart more tree i f q m y x at_i there c l xc fresh filled charted part k o = pick (same_number k c)
   where
@@ -49,10 +49,10 @@ half_unowned arena chart more tree i f q m y x at_i there c l xc fresh filled ch
 -- the new half `c` of `i` is posted in `j`
 pub half_posted_owned : (arena new : Arena) (chart more : Chart) (some twins : ℕ → ℕ → Type 0) → IsTree arena chart → Owned arena chart some → ((j k : ℕ) → some j k → twins j k) →
     (i f : ℕ) (q : List ℕ) (m : ℕ) (y : Bool) (x : InteriorNode) → chart i ≡ Some (spot (at_level (suc f)) q m (on y)) → arena i ≡ Some (interior x) →
-    (c l : ℕ) (xc : InteriorNode) → chart c ≡ None → arena c ≡ Some (interior xc) → Changes chart more c (Some (spot (at_level (suc f)) q l (on true))) → NoChildTwice xc.children → ((d : Child) → Among d xc.children → Among d x.children) →
+    (c l : ℕ) (xc : InteriorNode) → chart c ≡ None → arena c ≡ Some (interior xc) → Changes chart more c (Some (spot (at_level (suc f)) q l (on true))) → NoChildTwice xc.children → ((d : PlainChild) → Among d xc.children → Among d x.children) →
     ((j : ℕ) → (j ≡ i) ⊎ some j i → twins c j × twins j c) →
     (j g v : ℕ) (z : Bool) (xj xj' : InteriorNode) → chart j ≡ Some (spot (at_level (suc g)) q v (on z)) → arena j ≡ Some (interior xj) → Changes arena new j (Some (interior xj')) → NoChildTwice xj'.children →
-    ((d : Child) → Among d xj'.children → (d ≡ record { low = l; number = c; level = suc f }) ⊎ Among d xj.children) → Owned new more twins
+    ((d : PlainChild) → Among d xj'.children → (d ≡ record { low = l; number = c; level = suc f }) ⊎ Among d xj.children) → Owned new more twins
 half_posted_owned arena new chart more some twins tree w wider i f q m y x at_i there c l xc fresh filled charted once part pair j g v z xj xj' at_j there_j change once_j sub =
     owned_children arena new more twins half j g q v z xj xj' (charted.rest j (λ e. let u : chart j ≡ chart c = ap chart e in let n = fresh in let k : ◌≡◌ {A = Option Spot} None (Some (spot (at_level (suc g)) q v (on z))) = sym n ∙ (sym u ∙ at_j) in cc) ∙ at_j) there_j change once_j
     (λ d k. go d (sub d k))
@@ -63,7 +63,7 @@ half_posted_owned arena new chart more some twins tree w wider i f q m y x at_i 
     unowned : (k : ℕ) → Owns arena more k c → ⊥
     unowned = half_unowned arena chart more tree i f q m y x at_i there c l xc fresh filled charted part
 
-    go : (d : Child) → (d ≡ record { low = l; number = c; level = suc f }) ⊎ Among d xj.children → Among d xj.children ⊎ ((k : ℕ) → Owns arena more k d.number → twins j k × twins k j)
+    go : (d : PlainChild) → (d ≡ record { low = l; number = c; level = suc f }) ⊎ Among d xj.children → Among d xj.children ⊎ ((k : ℕ) → Owns arena more k d.number → twins j k × twins k j)
     go d (inl e) = inr (λ k o. absurd (unowned k (subst (λ (u : ℕ). Owns arena more k u) (ap (λ u. u.number) e) o)))
     go d (inr n) = inl n
 
@@ -88,9 +88,9 @@ module _ (arena new : Arena) (chart next : Chart) (twins : ℕ → ℕ → Type 
     (alone : (j : ℕ) → twins j h → ⊥) where
   -- who is named by `x`
   named : (d : ℕ) → Owns arena next x d → (t.root ≡ d) ⊎ (c ≡ d)
-  named d o = let (v, n, e) = interior_owns arena next x f q 0 true node d charted.now filled o in which v e (subst (λ (u : List Child). Among v u) children n)
+  named d o = let (v, n, e) = interior_owns arena next x f q 0 true node d charted.now filled o in which v e (subst (λ (u : List PlainChild). Among v u) children n)
     where
-      which : (v : Child) → v.number ≡ d → Among v ((record { low = 0; number = t.root; level = t.level }) ∷ ((record { low = l; number = c; level = k }) ∷ [])) → (t.root ≡ d) ⊎ (c ≡ d)
+      which : (v : PlainChild) → v.number ≡ d → Among v ((record { low = 0; number = t.root; level = t.level }) ∷ ((record { low = l; number = c; level = k }) ∷ [])) → (t.root ≡ d) ⊎ (c ≡ d)
       which v e first = inl e
       which v e (later first) = inr e
       which v e (later (later n)) = elim n [ ]

@@ -1,6 +1,6 @@
 -- A layer has one head, and its root has the greatest level.
 use Rattle.std.proofs.Common.{ℕ, zero, suc, ◌≡◌, ◌≢◌, ◌<◌, ◌≤◌, ◌+◌, ◌⊎◌, inl, inr, List, [], ◌∷◌, Option, Some, None, Bool, true, false, refl, sym, ap, ◌∙◌, subst, arith}
-use Rattle.mt_chart.specs.Tree.{link, Entry, HeadNode, BorderNode, InteriorNode, Node, head, border, interior, Arena, Among}
+use Rattle.mt_chart.specs.Tree.{link, PlainEntry, HeadNode, BorderNode, InteriorNode, PlainNode, head, border, interior, Arena, Among}
 use Rattle.mt_chart.specs.Chart.{on, at_level, spot, Chart, OnHead, IsTree, by_head, by_interior, HasOwner, Named}
 use Rattle.mt_chart.specs.TreeLaws.{EndsBy, RootsAreHighest, RootOfASplitIsIt}
 use native.Mathlib.Decide.{dec_lt}
@@ -15,15 +15,15 @@ one_head arena chart tree h j [] g g' = tree.hung h [] g ∙ sym (tree.hung j []
 one_head arena chart tree h j (s ∷ p) g g' =
     let (n, b, o, i) = tree.hung h (s ∷ p) g in
     let (m, d, z, i') = tree.hung j (s ∷ p) g' in
-    let e : Entry = record { slice = s; content = link h } in
-    let e' : Entry = record { slice = s; content = link j } in
+    let e : PlainEntry = record { slice = s; content = link h } in
+    let e' : PlainEntry = record { slice = s; content = link j } in
     let nm : n ≡ m = same_slice arena chart tree n m p b d e e' o z i i' refl in
     let bd : b ≡ d = same_border arena n b d o.node (rw nm z.node) in
     let same : e ≡ e' = (tree.each_border m p d z).apart e e' (subst (λ (w : BorderNode). Among e w.entries) bd i) i' refl refl in
-    (let w : link h ≡ link j = ap (λ (w : Entry). w.content) same in cc)
+    (let w : link h ≡ link j = ap (λ (w : PlainEntry). w.content) same in cc)
 
 -- a bound on all levels
-level_at : Option Node → ℕ
+level_at : Option PlainNode → ℕ
 level_at None = 0
 level_at (Some (head x)) = 0
 level_at (Some (border x)) = 0
@@ -45,7 +45,7 @@ one_of_all arena n x e (suc bound) lt = go (same_number n bound) (λ lt. one_of_
 levels_up_to : (arena : Arena) (bound : ℕ) → EndsBy arena bound → (n : ℕ) (x : InteriorNode) → arena n ≡ Some (interior x) → x.level ≤ all_levels arena bound
 levels_up_to arena bound ends n x e = elim (dec_lt n bound) [
   | yes lt ↦ one_of_all arena n x e bound lt
-  | no past ↦ absurd (let none = ends n (omega (arith, past)) in let clash : ◌≡◌ {A = Option Node} None (Some (interior x)) = sym none ∙ e in cc)
+  | no past ↦ absurd (let none = ends n (omega (arith, past)) in let clash : ◌≡◌ {A = Option PlainNode} None (Some (interior x)) = sym none ∙ e in cc)
 ]
 
 -- the head `h` of a layer, with its root

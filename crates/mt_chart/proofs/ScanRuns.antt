@@ -3,7 +3,7 @@ use Rattle.std.proofs.Common.{ℕ, ◌≡◌, ◌<◌, ◌≤◌, ◌≢◌, ◌
 use Rattle.std.proofs.lemmas.List.{length-append}
 use Rattle.mt_slice.specs.Place.{Place, last, deeper, under, Precedes, first_slice}
 use Rattle.mt_types.specs.declared.row.Row.{Row}
-use Rattle.mt_chart.specs.Tree.{Content, short, long, link, Entry, Right, BorderNode, border, Arena, Among, first, later, Below, HoldsRow, Has}
+use Rattle.mt_chart.specs.Tree.{PlainContent, short, long, link, PlainEntry, Right, BorderNode, border, Arena, Among, first, later, Below, HoldsRow, Has}
 use Rattle.mt_chart.specs.Chart.{Chart, IsTree}
 use Rattle.mt_chart.specs.Scan.{AtMost, Pair, UpTo, AnswersRange, OpenRange, VisitOutcome, answers, goes, AtEnd, BorderVisit}
 use Rattle.mt_chart.specs.ScanRun.{Stood, AllHave, Steady, Never, EntriesInOrder, Scans, begins, others, again, at_head, at_interior, to_right, into_layer, visits}
@@ -16,7 +16,7 @@ use Rattle.mt_chart.proofs.Ranges.{range_begins, range_kept, range_again_at, ran
 pub stands_now : {V : Type 0} (show : Row → V) (a : Arena) (past : List Arena) (key : Place) (row : Row) → Has a key row → Stood show (a ∷ past) key (show row)
 stands_now show a past key row h = inl (row, h, refl)
 
-in_order : (es : List Entry) → EntriesInOrder es → InOrder es
+in_order : (es : List PlainEntry) → EntriesInOrder es → InOrder es
 in_order [] o = tt
 in_order (e ∷ es) o = (o.0, in_order es o.1)
 
@@ -76,7 +76,7 @@ end_total p (Some r) taken = (goes p r.number (last r.low 0) taken, refl)
 end_total [] None taken = (answers taken, refl)
 end_total (s ∷ u) None taken = (goes [] 0 (under u (last s 10)) taken, refl)
 
-at_limit : {V : Type 0} (show : Row → V) (limit : ℕ) (p : List ℕ) (at : Place) (right : Option Right) (e : Entry) (es : List Entry) (taken : List (Pair V)) → length taken ≤ limit →
+at_limit : {V : Type 0} (show : Row → V) (limit : ℕ) (p : List ℕ) (at : Place) (right : Option Right) (e : PlainEntry) (es : List PlainEntry) (taken : List (Pair V)) → length taken ≤ limit →
     ((t : List (Pair V)) → length t ≤ limit → (out : VisitOutcome V) × BorderVisit show limit p at right es t out) →
     (out : VisitOutcome V) × BorderVisit show limit p at right (e ∷ es) taken out
 at_limit {V} show limit p at right e es taken few rest = go (same_number (length taken) limit)
@@ -100,9 +100,9 @@ at_limit {V} show limit p at right e es taken few rest = go (same_number (length
     at_row : (x : Place) (r : Row) → HoldsRow e.slice e.content x r → length taken < limit → (out : VisitOutcome V) × BorderVisit show limit p at right (e ∷ es) taken out
     at_row x r h room = row x r h room (either x at) (up_to_or_after (under p x) taken)
 
-    at_content : (c : Content) → e.content ≡ c → length taken < limit → (out : VisitOutcome V) × BorderVisit show limit p at right (e ∷ es) taken out
-    at_content (short k r) q room = at_row (last e.slice k) r (subst (λ (d : Content). HoldsRow e.slice d (last e.slice k) r) (sym q) (refl, refl)) room
-    at_content (long y r) q room = at_row (deeper e.slice y) r (subst (λ (d : Content). HoldsRow e.slice d (deeper e.slice y) r) (sym q) (refl, refl)) room
+    at_content : (c : PlainContent) → e.content ≡ c → length taken < limit → (out : VisitOutcome V) × BorderVisit show limit p at right (e ∷ es) taken out
+    at_content (short k r) q room = at_row (last e.slice k) r (subst (λ (d : PlainContent). HoldsRow e.slice d (last e.slice k) r) (sym q) (refl, refl)) room
+    at_content (long y r) q room = at_row (deeper e.slice y) r (subst (λ (d : PlainContent). HoldsRow e.slice d (deeper e.slice y) r) (sym q) (refl, refl)) room
     at_content (link h) q room = at_link h q (either at (last e.slice 10))
 
     go : (length taken ≡ limit) ⊎ (length taken ≢ limit) → (out : VisitOutcome V) × BorderVisit show limit p at right (e ∷ es) taken out
@@ -112,7 +112,7 @@ at_limit {V} show limit p at right e es taken few rest = go (same_number (length
         less : length taken ≢ limit → length taken < limit
         less g = grind (arith, g)
 
-pub visits_total : {V : Type 0} (show : Row → V) (limit : ℕ) (p : List ℕ) (at : Place) (right : Option Right) (es : List Entry) (taken : List (Pair V)) → length taken ≤ limit →
+pub visits_total : {V : Type 0} (show : Row → V) (limit : ℕ) (p : List ℕ) (at : Place) (right : Option Right) (es : List PlainEntry) (taken : List (Pair V)) → length taken ≤ limit →
     (out : VisitOutcome V) × BorderVisit show limit p at right es taken out
 visits_total show limit p at right [] taken few = let (out, h) = end_total p right taken in (out, inr h)
 visits_total show limit p at right (e ∷ es) taken few = at_limit show limit p at right e es taken few (visits_total show limit p at right es)

@@ -2,19 +2,19 @@
 use Rattle.std.proofs.Common.{ℕ, ◌≡◌, ◌≤◌, ◌⊎◌, ◌↔◌, inl, inr, List, ◌∷◌, ◌++◌, Some, true, false, sym, ap, ◌∙◌}
 use Rattle.mt_slice.specs.Place.{Place, under}
 use Rattle.mt_types.specs.declared.row.Row.{Row}
-use Rattle.mt_chart.specs.Tree.{link, Entry, BorderNode, border, Arena, Among, Below, HoldsRow, Has}
+use Rattle.mt_chart.specs.Tree.{link, PlainEntry, BorderNode, border, Arena, Among, Below, HoldsRow, Has}
 use Rattle.mt_chart.specs.Chart.{Chart, OnBorder, IsTree, Owned, Changes}
 use Rattle.mt_chart.proofs.Keys.{link_holds_none}
 use Rattle.mt_chart.proofs.Entries.{InOrder, in_order_apart, among_insert}
 use Rattle.mt_chart.proofs.Refit.{refit, refit_owned, content_shown}
 
 module _ (arena new : Arena) (chart : Chart) (tree : IsTree arena chart) (n : ℕ) (p : List ℕ) (b b' : BorderNode) (o : OnBorder arena chart n p b) (change : Changes arena new n (Some (border b')))
-    (x : Entry) (z : Place) (row : Row) (xs ys : List Entry) (before : b.entries ≡ xs ++ ys) (after : b'.entries ≡ xs ++ (x ∷ ys)) (ordered : InOrder (xs ++ (x ∷ ys)))
+    (x : PlainEntry) (z : Place) (row : Row) (xs ys : List PlainEntry) (before : b.entries ≡ xs ++ ys) (after : b'.entries ≡ xs ++ (x ∷ ys)) (ordered : InOrder (xs ++ (x ∷ ys)))
     (low : b'.low ≡ b.low) (right : b'.right ≡ b.right) (alive : b'.deleted ≡ false) (from_low : b.low ≤ x.slice) (to_right : Below x.slice b.right) (holds : HoldsRow x.slice x.content z row) where
-  entries : (e : Entry) → Among e b'.entries ↔ ((e ≡ x) ⊎ Among e b.entries)
+  entries : (e : PlainEntry) → Among e b'.entries ↔ ((e ≡ x) ⊎ Among e b.entries)
   entries e = rw (after, before) (among_insert e x xs ys)
 
-  inside : (e : Entry) → (e ≡ x) ⊎ Among e b.entries → (b.low ≤ e.slice) × Below e.slice b.right
+  inside : (e : PlainEntry) → (e ≡ x) ⊎ Among e b.entries → (b.low ≤ e.slice) × Below e.slice b.right
   inside e (inl q) = let k : x.slice ≡ e.slice = ap (λ v. v.slice) (sym q) in (rw (sym k) from_low, rw (sym k) to_right)
   inside e (inr i) = let ok = tree.each_border n p b o in (ok.from_low e i, ok.to_right e i)
 

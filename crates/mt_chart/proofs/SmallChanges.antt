@@ -1,14 +1,14 @@
 -- The small changes of which each step on heads and interiors is made: either the arena changes and the chart stays,
 -- or the chart changes and the arena stays.
 use Rattle.std.proofs.Common.{ℕ, suc, ◌≡◌, ◌≢◌, ◌<◌, ◌⊎◌, inl, inr, List, [], Some, None, Bool, true, refl, sym, ap, ◌∙◌, subst, arith}
-use Rattle.mt_chart.specs.Tree.{HeadNode, Child, InteriorNode, Node, head, interior, Arena, Among}
+use Rattle.mt_chart.specs.Tree.{HeadNode, PlainChild, InteriorNode, PlainNode, head, interior, Arena, Among}
 use Rattle.mt_chart.specs.Chart.{Standing, on, gone, Role, top, at_level, Spot, spot, Chart, OnHead, MayName, IsChild, AreChildren, HeadAt, IsTree, Changes, Dated, Owns, by_head, by_interior}
 use Rattle.mt_chart.proofs.Basics.{same_number}
 use Rattle.mt_chart.proofs.TreeStep.{step_tree}
 
 -- children under a chart in which one node stands otherwise
 pub child_moves : (chart more : Chart) (c k : ℕ) (p : List ℕ) (l : ℕ) (u t : Standing) → Changes chart more c (Some (spot (at_level k) p l t)) → chart c ≡ Some (spot (at_level k) p l u) →
-    (st st' : Standing) (q : List ℕ) (f : ℕ) (d : Child) → (d.number ≡ c → MayName st' t) → ((v : Standing) → MayName st v → MayName st' v) → IsChild chart st q f d → IsChild more st' q f d
+    (st st' : Standing) (q : List ℕ) (f : ℕ) (d : PlainChild) → (d.number ≡ c → MayName st' t) → ((v : Standing) → MayName st v → MayName st' v) → IsChild chart st q f d → IsChild more st' q f d
 child_moves chart more c k p l u t charted at_c st st' q f d may weaker x = go (same_number d.number c)
   where
     go : (d.number ≡ c) ⊎ (d.number ≢ c) → IsChild more st' q f d
@@ -19,7 +19,7 @@ child_moves chart more c k p l u t charted at_c st st' q f d may weaker x = go (
     go (inr e) = record { standing = x.standing; lower = x.lower; place = charted.rest d.number e ∙ x.place; may = weaker x.standing x.may }
 
 pub children_fresh : (chart more : Chart) (c : ℕ) (s : Spot) → chart c ≡ None → Changes chart more c (Some s) →
-    (st : Standing) (q : List ℕ) (l f : ℕ) (cs : List Child) → AreChildren chart st q l f cs → AreChildren more st q l f cs
+    (st : Standing) (q : List ℕ) (l f : ℕ) (cs : List PlainChild) → AreChildren chart st q l f cs → AreChildren more st q l f cs
 children_fresh chart more c s fresh charted st q l f cs w = record {
   leftmost = w.leftmost;
   each = (λ d m. let x = w.each d m in
@@ -34,14 +34,14 @@ children_fresh chart more c s fresh charted st q l f cs w = record {
 same_chart : (chart : Chart) (c : ℕ) (s : Spot) → chart c ≡ Some s → Changes chart chart c (Some s)
 same_chart chart c s g = record { now = g; rest = (λ m ne. refl) }
 
-same_arena : (arena : Arena) (i : ℕ) (x : Node) → arena i ≡ Some x → Changes arena arena i (Some x)
+same_arena : (arena : Arena) (i : ℕ) (x : PlainNode) → arena i ≡ Some x → Changes arena arena i (Some x)
 same_arena arena i x g = record { now = g; rest = (λ m ne. refl) }
 
 interior_not : (k : ℕ) → at_level (suc k) ≢ at_level 0
 interior_not k e = let z : suc k ≡ 0 = cc in omega arith
 
 -- a child whose place is known has its standing
-named : (chart : Chart) (st : Standing) (q : List ℕ) (f : ℕ) (d : Child) (c k : ℕ) (p : List ℕ) (l : ℕ) (u : Standing) → IsChild chart st q f d → d.number ≡ c → chart c ≡ Some (spot (at_level k) p l u) → MayName st u
+named : (chart : Chart) (st : Standing) (q : List ℕ) (f : ℕ) (d : PlainChild) (c k : ℕ) (p : List ℕ) (l : ℕ) (u : Standing) → IsChild chart st q f d → d.number ≡ c → chart c ≡ Some (spot (at_level k) p l u) → MayName st u
 named chart st q f d c k p l u y n at_c =
     let pl = y.place in let k' : chart d.number ≡ chart c = ap chart n in
     let s : y.standing ≡ u = cc in subst (λ (v : Standing). MayName st v) s y.may
@@ -74,7 +74,7 @@ module _ (arena : Arena) (chart : Chart) (tree : IsTree arena chart) where
           go (inl e) (inr none) = let z0 : m ≡ 0 = u.low in let w0 : w ≡ true = u.posted in absurd (none 0 (by_head q u.node (rw (z0, w0) at g) u.is_node e))
           go (inr ne) _ = charted.rest u.node.root ne ∙ u.root
 
-      others : (j f : ℕ) (q : List ℕ) (m : ℕ) (st : Standing) (x : InteriorNode) (d : Child) → chart j ≡ Some (spot (at_level (suc f)) q m st) → arena j ≡ Some (interior x) → Among d x.children → d.number ≡ c →
+      others : (j f : ℕ) (q : List ℕ) (m : ℕ) (st : Standing) (x : InteriorNode) (d : PlainChild) → chart j ≡ Some (spot (at_level (suc f)) q m st) → arena j ≡ Some (interior x) → Among d x.children → d.number ≡ c →
           (z ≡ true) ⊎ ((j : ℕ) → Owns arena chart j c → ⊥) → MayName st (on z)
       others j f q m (on w) x d g e i n (inl zt) = ap on zt
       others j f q m (on w) x d g e i n (inr none) = absurd (none j (by_interior f q m w x d g e i n))
@@ -179,7 +179,7 @@ module _ (arena : Arena) (chart : Chart) (tree : IsTree arena chart) where
       })
       (λ j f' q m st z d ne ne' g e i ck n. others j f' q m st z d g e i n) (λ h q z ne g e n. absurd (none h (by_head q z g e n)))
     where
-      others : (j f' : ℕ) (q : List ℕ) (m : ℕ) (st : Standing) (z : InteriorNode) (d : Child) → chart j ≡ Some (spot (at_level (suc f')) q m st) → arena j ≡ Some (interior z) → Among d z.children → d.number ≡ c → MayName st (gone now)
+      others : (j f' : ℕ) (q : List ℕ) (m : ℕ) (st : Standing) (z : InteriorNode) (d : PlainChild) → chart j ≡ Some (spot (at_level (suc f')) q m st) → arena j ≡ Some (interior z) → Among d z.children → d.number ≡ c → MayName st (gone now)
       others j f' q m (on w) z d g e i n = absurd (none j (by_interior f' q m w z d g e i n))
       others j f' q m (gone h) z d g e i n = dated j (at_level (suc f')) q m h g
 

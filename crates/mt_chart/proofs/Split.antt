@@ -2,7 +2,7 @@
 use Rattle.std.proofs.Common.{ℕ, suc, ◌≡◌, ◌≢◌, ◌<◌, ◌≤◌, ◌⊎◌, ◌↔◌, inl, inr, List, [], ◌∷◌, Option, Some, None, Bool, true, false, sym, ap, ◌∙◌, subst, arith}
 use Rattle.mt_slice.specs.Place.{Place, under}
 use Rattle.mt_types.specs.declared.row.Row.{Row}
-use Rattle.mt_chart.specs.Tree.{link, Entry, Right, BorderNode, Child, border, Arena, Among, Below, no_right, before_right, Has}
+use Rattle.mt_chart.specs.Tree.{link, PlainEntry, Right, BorderNode, PlainChild, border, Arena, Among, Below, no_right, before_right, Has}
 use Rattle.mt_chart.specs.Chart.{Standing, on, gone, Role, top, at_level, Spot, spot, Chart, OnHead, OnBorder, IsBorderNode, AreChildren, Hung, InteriorAt, IsTree, Stored, Owns, by_head, by_interior, Owned, Changes, Evolves}
 use Rattle.mt_chart.proofs.Basics.{same_number}
 use Rattle.mt_chart.proofs.HeldNodes.{later_same}
@@ -12,7 +12,7 @@ use Rattle.mt_chart.proofs.Reach.{same_border, stored, has, below_less, low_is_b
 abbrev pub Knows : Chart → Chart → Type 0
 Knows chart more = (m : ℕ) (x : Spot) → chart m ≡ Some x → more m ≡ Some x
 
-pub children_known : (chart more : Chart) (st : Standing) (p : List ℕ) (l k : ℕ) (cs : List Child) → Knows chart more → AreChildren chart st p l k cs → AreChildren more st p l k cs
+pub children_known : (chart more : Chart) (st : Standing) (p : List ℕ) (l k : ℕ) (cs : List PlainChild) → Knows chart more → AreChildren chart st p l k cs → AreChildren more st p l k cs
 children_known chart more st p l k cs f w = record {
   leftmost = w.leftmost;
   each = (λ c m. let x = w.each c m in record { standing = x.standing; lower = x.lower; place = f c.number (spot (at_level c.level) p c.low x.standing) x.place; may = x.may });
@@ -45,8 +45,8 @@ known_evolves b chart more f n role p l st g = inl (st, f n (spot role p l st) g
 module _ (arena new : Arena) (chart more : Chart) (tree : IsTree arena chart) (n : ℕ) (p : List ℕ) (b b' : BorderNode) (o : OnBorder arena chart n p b) (change : Changes arena new n (Some (border b')))
     (r : ℕ) (c : BorderNode) (filled : arena r ≡ Some (border c)) (fresh : chart r ≡ None) (charted : Changes chart more r (Some (spot (at_level 0) p c.low (on false))))
     (low : b'.low ≡ b.low) (right : b'.right ≡ Some (record { low = c.low; number = r })) (right' : c.right ≡ b.right) (above : b.low < c.low) (below : Below c.low b.right)
-    (parts : (e : Entry) → Among e b.entries ↔ (Among e b'.entries ⊎ Among e c.entries))
-    (lower : (e : Entry) → Among e b'.entries → e.slice < c.low) (upper : (e : Entry) → Among e c.entries → c.low ≤ e.slice)
+    (parts : (e : PlainEntry) → Among e b.entries ↔ (Among e b'.entries ⊎ Among e c.entries))
+    (lower : (e : PlainEntry) → Among e b'.entries → e.slice < c.low) (upper : (e : PlainEntry) → Among e c.entries → c.low ≤ e.slice)
     (alive : b'.deleted ≡ true → b'.entries ≡ []) (alive' : c.deleted ≡ true → c.entries ≡ []) where
   known : Knows chart more
   known = fresh_known chart more r (spot (at_level 0) p c.low (on false)) fresh charted
@@ -131,7 +131,7 @@ module _ (arena new : Arena) (chart more : Chart) (tree : IsTree arena chart) (n
   split_hung h [] e = e
   split_hung h (s ∷ q) (m, d, x, there) = go (same_number m n)
     where
-      x_link : Entry
+      x_link : PlainEntry
       x_link = record { slice = s; content = link h }
 
       half : (q ≡ p) × (d ≡ b) → Among x_link b'.entries ⊎ Among x_link c.entries → Hung new more h (s ∷ q)

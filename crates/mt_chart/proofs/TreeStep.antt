@@ -3,13 +3,13 @@
 use Rattle.std.proofs.Common.{ℕ, suc, ◌≡◌, ◌≢◌, ◌<◌, ◌⊎◌, ◌↔◌, inl, inr, List, [], ◌∷◌, Some, None, Bool, true, sym, ap, ◌∙◌, subst}
 use Rattle.mt_slice.specs.Place.{Place}
 use Rattle.mt_types.specs.declared.row.Row.{Row}
-use Rattle.mt_chart.specs.Tree.{HeadNode, BorderNode, Child, InteriorNode, Node, head, interior, Arena, Among, Has}
+use Rattle.mt_chart.specs.Tree.{HeadNode, BorderNode, PlainChild, InteriorNode, PlainNode, head, interior, Arena, Among, Has}
 use Rattle.mt_chart.specs.Chart.{Standing, on, gone, Role, top, at_level, Spot, spot, Chart, OnHead, OnBorder, MayName, IsChild, AreChildren, Hung, HeadAt, InteriorAt, IsTree, Stored, Later, Changes, Evolves}
 use Rattle.mt_chart.proofs.Basics.{same_number}
 use Rattle.mt_chart.proofs.HeldNodes.{later_same}
 use Rattle.mt_chart.proofs.Reach.{stored, has}
 
-module _ (arena new : Arena) (chart more : Chart) (tree : IsTree arena chart) (i : ℕ) (node_i : Node) (change : Changes arena new i (Some node_i))
+module _ (arena new : Arena) (chart more : Chart) (tree : IsTree arena chart) (i : ℕ) (node_i : PlainNode) (change : Changes arena new i (Some node_i))
     (c k : ℕ) (p : List ℕ) (l : ℕ) (t : Standing) (charted : Changes chart more c (Some (spot (at_level k) p l t)))
     (place_same : (chart c ≡ None) ⊎ ((u : Standing) × (chart c ≡ Some (spot (at_level k) p l u))))
     (borders_on : k ≡ 0 → (y z : Bool) × (chart c ≡ Some (spot (at_level 0) p l (on y))) × (t ≡ on z))
@@ -18,7 +18,7 @@ module _ (arena new : Arena) (chart more : Chart) (tree : IsTree arena chart) (i
     (new_gone : (q : List ℕ) (m e : ℕ) → chart i ≡ Some (spot top q m (gone e)) → (h : HeadNode) × (new i ≡ Some (head h)) × (h.deleted ≡ true))
     (new_interior : (f : ℕ) (q : List ℕ) (m : ℕ) (st : Standing) → i ≢ c → chart i ≡ Some (spot (at_level (suc f)) q m st) → InteriorAt new more i f q m st)
     (new_c : (f : ℕ) → k ≡ suc f → InteriorAt new more c f p l t)
-    (others : (j f : ℕ) (q : List ℕ) (m : ℕ) (st : Standing) (x : InteriorNode) (d : Child) → j ≢ i → j ≢ c → chart j ≡ Some (spot (at_level (suc f)) q m st) →
+    (others : (j f : ℕ) (q : List ℕ) (m : ℕ) (st : Standing) (x : InteriorNode) (d : PlainChild) → j ≢ i → j ≢ c → chart j ≡ Some (spot (at_level (suc f)) q m st) →
     arena j ≡ Some (interior x) → Among d x.children → IsChild chart st q (suc f) d → d.number ≡ c → MayName st t)
     (roots : (h : ℕ) (q : List ℕ) (x : HeadNode) → h ≢ i → OnHead chart h q → arena h ≡ Some (head x) → x.root ≡ c → t ≡ on true) where
   more_at : (m : ℕ) (x : Spot) → more m ≡ Some x → ((m ≡ c) × (x ≡ spot (at_level k) p l t)) ⊎ ((m ≢ c) × (chart m ≡ Some x))
@@ -89,14 +89,14 @@ module _ (arena new : Arena) (chart more : Chart) (tree : IsTree arena chart) (i
   to_new : (m : ℕ) (q : List ℕ) (d : BorderNode) → OnBorder arena chart m q d → OnBorder new more m q d
   to_new m q d x = let (z, g) = border_kept m q d.low x.posted x.place in record { posted = z; place = g; node = not_i m q d.low (on x.posted) x.place ∙ x.node }
 
-  pub child_step : (st : Standing) (q : List ℕ) (f : ℕ) (d : Child) → (d.number ≡ c → MayName st t) → IsChild chart st q f d → IsChild more st q f d
+  pub child_step : (st : Standing) (q : List ℕ) (f : ℕ) (d : PlainChild) → (d.number ≡ c → MayName st t) → IsChild chart st q f d → IsChild more st q f d
   child_step st q f d may x = go (step_place d.number (at_level d.level) q d.low x.standing x.place)
     where
       go : ((d.number ≡ c) × (at_level d.level ≡ at_level k) × (more d.number ≡ Some (spot (at_level d.level) q d.low t))) ⊎ ((d.number ≢ c) × (more d.number ≡ Some (spot (at_level d.level) q d.low x.standing))) → IsChild more st q f d
       go (inl (e, g, w)) = record { standing = t; lower = x.lower; place = w; may = may e }
       go (inr (e, w)) = record { standing = x.standing; lower = x.lower; place = w; may = x.may }
 
-  pub children_step : (st : Standing) (q : List ℕ) (v f : ℕ) (cs : List Child) → ((d : Child) → Among d cs → IsChild chart st q f d → d.number ≡ c → MayName st t) → AreChildren chart st q v f cs → AreChildren more st q v f cs
+  pub children_step : (st : Standing) (q : List ℕ) (v f : ℕ) (cs : List PlainChild) → ((d : PlainChild) → Among d cs → IsChild chart st q f d → d.number ≡ c → MayName st t) → AreChildren chart st q v f cs → AreChildren more st q v f cs
   children_step st q v f cs may w = record { leftmost = w.leftmost; each = (λ d m. child_step st q f d (may d m (w.each d m)) (w.each d m)) }
 
   pub root_step : (r lev : ℕ) (q : List ℕ) → (r ≡ c → t ≡ on true) → chart r ≡ Some (spot (at_level lev) q 0 (on true)) → more r ≡ Some (spot (at_level lev) q 0 (on true))

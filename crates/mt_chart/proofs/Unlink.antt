@@ -2,7 +2,7 @@
 use Rattle.std.proofs.Common.{ℕ, suc, ◌≡◌, ◌≢◌, ◌<◌, ◌≤◌, ◌⊎◌, ◌↔◌, inl, inr, List, [], ◌∷◌, Some, Bool, true, false, refl, sym, ap, ◌∙◌, subst, arith}
 use Rattle.mt_slice.specs.Place.{Place, under}
 use Rattle.mt_types.specs.declared.row.Row.{Row}
-use Rattle.mt_chart.specs.Tree.{link, Entry, Right, BorderNode, Child, InteriorNode, border, Arena, Among, Below, before_right, Has}
+use Rattle.mt_chart.specs.Tree.{link, PlainEntry, Right, BorderNode, PlainChild, InteriorNode, border, Arena, Among, Below, before_right, Has}
 use Rattle.mt_chart.specs.Chart.{Standing, on, gone, Role, top, at_level, Spot, spot, Chart, OnHead, OnBorder, IsBorderNode, MayName, IsChild, AreChildren, Hung, InteriorAt, IsTree, Stored, Later, went, Changes, Evolves, Dated, Owned}
 use Rattle.mt_chart.proofs.Basics.{same_number}
 use Rattle.mt_chart.proofs.HeldNodes.{later_same}
@@ -123,7 +123,7 @@ module _ (arena new : Arena) (chart more : Chart) (tree : IsTree arena chart) (n
       may (on z) t f h _ = absurd (let k : t ≡ on true = h in let c : false ≡ true = cc in cc)
       may (gone e) t f h d = d e refl
 
-      child : (d : Child) → IsChild chart st q (suc k) d → IsChild more st q (suc k) d
+      child : (d : PlainChild) → IsChild chart st q (suc k) d → IsChild more st q (suc k) d
       child d c = pick (same_number d.number u)
         where
           pick : (d.number ≡ u) ⊎ (d.number ≢ u) → IsChild more st q (suc k) d
@@ -146,7 +146,7 @@ module _ (arena new : Arena) (chart more : Chart) (tree : IsTree arena chart) (n
   unlink_hung h [] e = e
   unlink_hung h (s ∷ q) (m, d, y, i) = go (same_number m u) (same_number m n)
     where
-      x_link : Entry
+      x_link : PlainEntry
       x_link = record { slice = s; content = link h }
 
       none : Among x_link [] → ⊥
@@ -252,7 +252,7 @@ module _ (arena new : Arena) (chart more : Chart) (tree : IsTree arena chart) (n
   pub unlink_content : (k : Place) (row : Row) → Has new k row ↔ Has arena k row
   unlink_content k row = (λ h. has arena chart tree k row (back (stored new more unlink_tree k row h)), λ h. has new more unlink_tree k row (there_now (stored arena chart tree k row h)))
     where
-      none : (e : Entry) → Among e [] → ⊥
+      none : (e : PlainEntry) → Among e [] → ⊥
       none e f = elim f [ ]
 
       back : Stored new more k row → Stored arena chart k row

@@ -3,7 +3,7 @@ use Rattle.std.proofs.Common.{ℕ, ◌≡◌, ◌<◌, ◌≤◌, ◌+◌, ◌�
 use Rattle.std.proofs.lemmas.List.{length-append}
 use Rattle.mt_slice.specs.Place.{Place, last, deeper, under, Precedes, first_slice, first_class}
 use Rattle.mt_types.specs.declared.row.Row.{Row}
-use Rattle.mt_chart.specs.Tree.{Content, short, long, link, Entry, Right, BorderNode, Arena, Among, first, later, Below, no_right, before_right, HoldsRow, Has}
+use Rattle.mt_chart.specs.Tree.{PlainContent, short, long, link, PlainEntry, Right, BorderNode, Arena, Among, first, later, Below, no_right, before_right, HoldsRow, Has}
 use Rattle.mt_chart.specs.Chart.{Chart, OnBorder, class, IsTree}
 use Rattle.mt_chart.specs.Scan.{AtMost, Pair, Rising, UpTo, Listed, AnswersRange, Scanned, Passed, Visiting}
 use Rattle.mt_slice.proofs.PlaceOrder.{never, precedes_again, under_precedes}
@@ -45,10 +45,10 @@ same_slice_at (last s k) = refl
 same_slice_at (deeper s x) = refl
 
 -- no row of the entry, and no place under it if it is a link, comes before `z`
-abbrev pub From : Place → Entry → Type 0
+abbrev pub From : Place → PlainEntry → Type 0
 From z e = ((x : Place) (row : Row) → HoldsRow e.slice e.content x row → AtMost z x) × ((h : ℕ) (y : Place) → e.content ≡ link h → AtMost z (deeper e.slice y))
 
-pub from_later : (z : Place) (e f : Entry) → first_slice z ≡ e.slice → first_class z ≡ class e.content → Before e f → From z f
+pub from_later : (z : Place) (e f : PlainEntry) → first_slice z ≡ e.slice → first_class z ≡ class e.content → Before e f → From z f
 from_later z e f s c b = (row_later, link_later)
   where
     onto : (y : Place) → first_slice y ≡ f.slice → first_class y ≡ class f.content → (e.slice < f.slice) ⊎ ((e.slice ≡ f.slice) × (class e.content < class f.content)) → Precedes z y
@@ -61,25 +61,25 @@ from_later z e f s c b = (row_later, link_later)
     link_later : (h : ℕ) (y : Place) → f.content ≡ link h → AtMost z (deeper f.slice y)
     link_later h y q = inr (onto (deeper f.slice y) refl (ap class (sym q)) b)
 
-holds_one_place : (s : ℕ) (c : Content) (x y : Place) (row row' : Row) → HoldsRow s c x row → HoldsRow s c y row' → x ≡ y
+holds_one_place : (s : ℕ) (c : PlainContent) (x y : Place) (row row' : Row) → HoldsRow s c x row → HoldsRow s c y row' → x ≡ y
 holds_one_place s (short k r) x y row row' h i = h.0 ∙ sym i.0
 holds_one_place s (long z r) x y row row' h i = h.0 ∙ sym i.0
 holds_one_place s (link t) x y row row' h i = elim h [ ]
 
-row_or_link : (s : ℕ) (c : Content) (x : Place) (row : Row) (h : ℕ) → c ≡ link h → HoldsRow s c x row → ⊥
-row_or_link s c x row h e k = subst (λ (d : Content). HoldsRow s d x row) e k
+row_or_link : (s : ℕ) (c : PlainContent) (x : Place) (row : Row) (h : ℕ) → c ≡ link h → HoldsRow s c x row → ⊥
+row_or_link s c x row h e k = subst (λ (d : PlainContent). HoldsRow s d x row) e k
 
-pub from_row : (e : Entry) (x : Place) (row : Row) → HoldsRow e.slice e.content x row → From x e
+pub from_row : (e : PlainEntry) (x : Place) (row : Row) → HoldsRow e.slice e.content x row → From x e
 from_row e x row h = (λ y r k. inl (holds_one_place e.slice e.content x y row r h k), λ t y q. absurd (row_or_link e.slice e.content x row t q h))
 
-pub from_link : (e : Entry) (h : ℕ) → e.content ≡ link h → From (deeper e.slice (last 0 0)) e
+pub from_link : (e : PlainEntry) (h : ℕ) → e.content ≡ link h → From (deeper e.slice (last 0 0)) e
 from_link e h q = (λ x row k. absurd (row_or_link e.slice e.content x row h q k), λ t y r. go y (least y))
   where
     go : (y : Place) → AtMost (last 0 0) y → AtMost (deeper e.slice (last 0 0)) (deeper e.slice y)
     go y (inl i) = inl (ap (deeper e.slice) i)
     go y (inr i) = inr (inr (refl, i))
 
-pub in_order_parts : (xs : List Entry) (e : Entry) (ys : List Entry) → InOrder (xs ++ (e ∷ ys)) → (f : Entry) → Among f ys → Before e f
+pub in_order_parts : (xs : List PlainEntry) (e : PlainEntry) (ys : List PlainEntry) → InOrder (xs ++ (e ∷ ys)) → (f : PlainEntry) → Among f ys → Before e f
 in_order_parts [] e ys o f i = o.0 f i
 in_order_parts (x ∷ xs) e ys o f i = in_order_parts xs e ys o.1 f i
 
@@ -95,8 +95,8 @@ module _ {V : Type 0} (stood : Place → V → Type 0) (throughout : Place → T
     (start : Place) (limit : ℕ) (n : ℕ) (p : List ℕ) (b : BorderNode) (o : OnBorder arena chart n p b) (in_order : InOrder b.entries)
     (at : Place) (from_low : b.low ≤ first_slice at) (to_right : Below (first_slice at) b.right) where
   -- a place of the border's interval whose row, if it has one, does not stand in what is yet to be visited
-  pub seen : (done todo : List Entry) (taken : List (Pair V)) → Visiting stood throughout start limit p b at done todo taken → (x : Place) → Below (first_slice x) b.right →
-      ((e : Entry) → Among e todo → ((row : Row) → HoldsRow e.slice e.content x row → ⊥) × ((h : ℕ) (y : Place) → e.content ≡ link h → x ≡ deeper e.slice y → ⊥)) →
+  pub seen : (done todo : List PlainEntry) (taken : List (Pair V)) → Visiting stood throughout start limit p b at done todo taken → (x : Place) → Below (first_slice x) b.right →
+      ((e : PlainEntry) → Among e todo → ((row : Row) → HoldsRow e.slice e.content x row → ⊥) × ((h : ℕ) (y : Place) → e.content ≡ link h → x ≡ deeper e.slice y → ⊥)) →
       AtMost start (under p x) → throughout (under p x) → Listed (under p x) taken
   seen done todo taken v x hi ahead from t = go (either x at)
     where
@@ -104,7 +104,7 @@ module _ {V : Type 0} (stood : Place → V → Type 0) (throughout : Place → T
       behind (inl h) = v.scanned.covered (under p x) from (inl (under_precedes p x at h)) t
       behind (inr u) = v.scanned.covered (under p x) from (inr u) t
 
-      at_entry : (e : Entry) (row : Row) → HoldsRow e.slice e.content x row → Among e done ⊎ Among e todo → Listed (under p x) taken
+      at_entry : (e : PlainEntry) (row : Row) → HoldsRow e.slice e.content x row → Among e done ⊎ Among e todo → Listed (under p x) taken
       at_entry e row h (inl i) = behind ((v.passed e i).0 x row h)
       at_entry e row h (inr i) = absurd ((ahead e i).0 row h)
 
@@ -114,11 +114,11 @@ module _ {V : Type 0} (stood : Place → V → Type 0) (throughout : Place → T
           (subst (λ (w : Place). Precedes w (last (first_slice x) 10)) (sym q) (inr (refl, omega arith))))
       at_link z h q c (inr i) = absurd ((ahead (record { slice = first_slice x; content = link h }) i).1 h z refl q)
 
-      find : AtMost at x → ((e : Entry) × Among e b.entries × HoldsRow e.slice e.content x (throughout_now (under p x) t).0) ⊎
+      find : AtMost at x → ((e : PlainEntry) × Among e b.entries × HoldsRow e.slice e.content x (throughout_now (under p x) t).0) ⊎
           ((z : Place) × (h : ℕ) × (x ≡ deeper (first_slice x) z) × Among (record { slice = first_slice x; content = link h }) b.entries) → Listed (under p x) taken
-      find c (inl (e, i, h)) = at_entry e (throughout_now (under p x) t).0 h ((among_append e done todo).0 (subst (λ (es : List Entry). Among e es) v.split i))
+      find c (inl (e, i, h)) = at_entry e (throughout_now (under p x) t).0 h ((among_append e done todo).0 (subst (λ (es : List PlainEntry). Among e es) v.split i))
       find c (inr (z, h, q, i)) = at_link z h q c
-          ((among_append (record { slice = first_slice x; content = link h }) done todo).0 (subst (λ (es : List Entry). Among (record { slice = first_slice x; content = link h }) es) v.split i))
+          ((among_append (record { slice = first_slice x; content = link h }) done todo).0 (subst (λ (es : List PlainEntry). Among (record { slice = first_slice x; content = link h }) es) v.split i))
 
       low : AtMost at x → b.low ≤ first_slice x
       low c = let k : first_slice at ≤ first_slice x = slices_rise at x c in let e : first_slice x ≡ first_slice x = same_slice_at x in omega arith
@@ -128,12 +128,12 @@ module _ {V : Type 0} (stood : Place → V → Type 0) (throughout : Place → T
       go (inr c) = find c (in_interval arena chart tree n p b x o (low c) hi (throughout_now (under p x) t).0 (throughout_now (under p x) t).1)
 
   -- all before a place is done, if nothing that is yet to be visited is before it
-  pub seen_before : (done todo : List Entry) (taken : List (Pair V)) → Visiting stood throughout start limit p b at done todo taken → (z : Place) →
-      ((e : Entry) → Among e todo → From z e) → ((x : Place) → Precedes x z → Below (first_slice x) b.right) →
+  pub seen_before : (done todo : List PlainEntry) (taken : List (Pair V)) → Visiting stood throughout start limit p b at done todo taken → (z : Place) →
+      ((e : PlainEntry) → Among e todo → From z e) → ((x : Place) → Precedes x z → Below (first_slice x) b.right) →
       (key : Place) → AtMost start key → Precedes key (under p z) → throughout key → Listed key taken
   seen_before done todo taken v z ahead hi key from h t = go (outside p key)
     where
-      ahead_of : (x : Place) → Precedes x z → (e : Entry) → Among e todo →
+      ahead_of : (x : Place) → Precedes x z → (e : PlainEntry) → Among e todo →
           ((row : Row) → HoldsRow e.slice e.content x row → ⊥) × ((h : ℕ) (y : Place) → e.content ≡ link h → x ≡ deeper e.slice y → ⊥)
       ahead_of x c e i = (λ row k. not_both z x ((ahead e i).0 x row k) c, λ h y q k. not_both z x (subst (λ (w : Place). AtMost z w) (sym k) ((ahead e i).1 h y q)) c)
 
@@ -151,7 +151,7 @@ module _ {V : Type 0} (stood : Place → V → Type 0) (throughout : Place → T
   visit_begins taken s = record { split = refl; scanned = s; passed = λ e i. elim i [ ] }
 
   -- past an entry of which nothing is to be taken
-  pub visit_passes : (done : List Entry) (e : Entry) (todo : List Entry) (taken : List (Pair V)) → Visiting stood throughout start limit p b at done (e ∷ todo) taken →
+  pub visit_passes : (done : List PlainEntry) (e : PlainEntry) (todo : List PlainEntry) (taken : List (Pair V)) → Visiting stood throughout start limit p b at done (e ∷ todo) taken →
       Passed p at taken e → Visiting stood throughout start limit p b at (done ++ (e ∷ [])) todo taken
   visit_passes done e todo taken v h = record {
     split = v.split ∙ (one_over done e todo);
@@ -159,42 +159,42 @@ module _ {V : Type 0} (stood : Place → V → Type 0) (throughout : Place → T
     passed = λ f i. go f ((among_append f done (e ∷ [])).0 i);
   }
     where
-      one_over : (xs : List Entry) (x : Entry) (ys : List Entry) → xs ++ (x ∷ ys) ≡ (xs ++ (x ∷ [])) ++ ys
+      one_over : (xs : List PlainEntry) (x : PlainEntry) (ys : List PlainEntry) → xs ++ (x ∷ ys) ≡ (xs ++ (x ∷ [])) ++ ys
       one_over [] x ys = refl
       one_over (y ∷ xs) x ys = ap (λ w. y ∷ w) (one_over xs x ys)
 
-      go : (f : Entry) → Among f done ⊎ Among f (e ∷ []) → Passed p at taken f
+      go : (f : PlainEntry) → Among f done ⊎ Among f (e ∷ []) → Passed p at taken f
       go f (inl i) = v.passed f i
-      go f (inr i) = let q : e ≡ f = sym (among_one f e i) in subst (λ (w : Entry). Passed p at taken w) q h
+      go f (inr i) = let q : e ≡ f = sym (among_one f e i) in subst (λ (w : PlainEntry). Passed p at taken w) q h
 
-  pub row_passed : (e : Entry) (x : Place) (row : Row) (taken : List (Pair V)) → HoldsRow e.slice e.content x row → Precedes x at ⊎ UpTo (under p x) taken → Passed p at taken e
+  pub row_passed : (e : PlainEntry) (x : Place) (row : Row) (taken : List (Pair V)) → HoldsRow e.slice e.content x row → Precedes x at ⊎ UpTo (under p x) taken → Passed p at taken e
   row_passed e x row taken h u = (
     λ y r k. subst (λ (w : Place). Precedes w at ⊎ UpTo (under p w) taken) (holds_one_place e.slice e.content x y row r h k) u,
     λ t q. absurd (row_or_link e.slice e.content x row t q h),
   )
 
-  pub link_passed : (e : Entry) (h : ℕ) (taken : List (Pair V)) → e.content ≡ link h → AtMost (last e.slice 10) at → Passed p at taken e
+  pub link_passed : (e : PlainEntry) (h : ℕ) (taken : List (Pair V)) → e.content ≡ link h → AtMost (last e.slice 10) at → Passed p at taken e
   link_passed e h taken q c = (λ x row k. absurd (row_or_link e.slice e.content x row h q k), λ t r. c)
 
   -- up to an entry that stands in the border
-  ahead_from : (done : List Entry) (e : Entry) (todo : List Entry) (taken : List (Pair V)) → Visiting stood throughout start limit p b at done (e ∷ todo) taken →
-      (z : Place) → first_slice z ≡ e.slice → first_class z ≡ class e.content → From z e → (f : Entry) → Among f (e ∷ todo) → From z f
+  ahead_from : (done : List PlainEntry) (e : PlainEntry) (todo : List PlainEntry) (taken : List (Pair V)) → Visiting stood throughout start limit p b at done (e ∷ todo) taken →
+      (z : Place) → first_slice z ≡ e.slice → first_class z ≡ class e.content → From z e → (f : PlainEntry) → Among f (e ∷ todo) → From z f
   ahead_from done e todo taken v z s c h f first = h
-  ahead_from done e todo taken v z s c h f (later i) = from_later z e f s c (in_order_parts done e todo (subst (λ (es : List Entry). InOrder es) v.split in_order) f i)
+  ahead_from done e todo taken v z s c h f (later i) = from_later z e f s c (in_order_parts done e todo (subst (λ (es : List PlainEntry). InOrder es) v.split in_order) f i)
 
-  below_entry : (done : List Entry) (e : Entry) (todo : List Entry) (taken : List (Pair V)) → Visiting stood throughout start limit p b at done (e ∷ todo) taken →
+  below_entry : (done : List PlainEntry) (e : PlainEntry) (todo : List PlainEntry) (taken : List (Pair V)) → Visiting stood throughout start limit p b at done (e ∷ todo) taken →
       (z : Place) → first_slice z ≡ e.slice → (x : Place) → Precedes x z → Below (first_slice x) b.right
   below_entry done e todo taken v z s x h =
       let k : first_slice x ≤ first_slice z = slices_rise x z (inr h) in
       let ex : first_slice x ≡ first_slice x = same_slice_at x in let ez : first_slice z ≡ first_slice z = same_slice_at z in
       let le : first_slice x ≤ e.slice = omega arith in
-      below_less le ((tree.each_border n p b o).to_right e (subst (λ (es : List Entry). Among e es) (sym v.split) ((among_append e done (e ∷ todo)).1 (inr first))))
+      below_less le ((tree.each_border n p b o).to_right e (subst (λ (es : List PlainEntry). Among e es) (sym v.split) ((among_append e done (e ∷ todo)).1 (inr first))))
 
-  is_live : (done : List Entry) (e : Entry) (todo : List Entry) (taken : List (Pair V)) → Visiting stood throughout start limit p b at done (e ∷ todo) taken → Among e b.entries
-  is_live done e todo taken v = subst (λ (es : List Entry). Among e es) (sym v.split) ((among_append e done (e ∷ todo)).1 (inr first))
+  is_live : (done : List PlainEntry) (e : PlainEntry) (todo : List PlainEntry) (taken : List (Pair V)) → Visiting stood throughout start limit p b at done (e ∷ todo) taken → Among e b.entries
+  is_live done e todo taken v = subst (λ (es : List PlainEntry). Among e es) (sym v.split) ((among_append e done (e ∷ todo)).1 (inr first))
 
   -- a row is taken: its key is not before the cursor and after the last key taken, and there is room
-  pub visit_takes : (done : List Entry) (e : Entry) (todo : List Entry) (taken : List (Pair V)) → Visiting stood throughout start limit p b at done (e ∷ todo) taken →
+  pub visit_takes : (done : List PlainEntry) (e : PlainEntry) (todo : List PlainEntry) (taken : List (Pair V)) → Visiting stood throughout start limit p b at done (e ∷ todo) taken →
       (x : Place) (row : Row) → HoldsRow e.slice e.content x row → AtMost at x → ((y : Pair V) → Among y taken → Precedes y.key (under p x)) → length taken < limit →
       Visiting stood throughout start limit p b at (done ++ (e ∷ [])) todo (taken ++ (record { key = under p x; value = show row } ∷ []))
   visit_takes done e todo taken v x row h c after room =
@@ -256,7 +256,7 @@ module _ {V : Type 0} (stood : Place → V → Type 0) (throughout : Place → T
       }
 
   -- where the next entry is a link to be entered: the scan goes to its head, at the first place of its layer
-  pub visit_enters : (done : List Entry) (e : Entry) (todo : List Entry) (taken : List (Pair V)) (h : ℕ) → Visiting stood throughout start limit p b at done (e ∷ todo) taken →
+  pub visit_enters : (done : List PlainEntry) (e : PlainEntry) (todo : List PlainEntry) (taken : List (Pair V)) (h : ℕ) → Visiting stood throughout start limit p b at done (e ∷ todo) taken →
       e.content ≡ link h → Precedes at (deeper e.slice (last 0 0)) → Scanned stood throughout start limit (under (e.slice ∷ p) (last 0 0)) taken
   visit_enters done e todo taken h v q c = record {
     onward = most_again start (under p at) (under p (deeper e.slice (last 0 0))) v.scanned.onward (under_most p at (deeper e.slice (last 0 0)) (inr c));
@@ -353,7 +353,7 @@ module _ {V : Type 0} (stood : Place → V → Type 0) (throughout : Place → T
       go key f (inr w) t = v.scanned.covered key f (inr w) t
 
   -- where the range has an end: all before it is done once nothing that is yet to be visited is before it
-  pub visit_stops : (done : List Entry) (e : Entry) (todo : List Entry) (taken : List (Pair V)) → Visiting stood throughout start limit p b at done (e ∷ todo) taken →
+  pub visit_stops : (done : List PlainEntry) (e : PlainEntry) (todo : List PlainEntry) (taken : List (Pair V)) → Visiting stood throughout start limit p b at done (e ∷ todo) taken →
       (z : Place) → first_slice z ≡ e.slice → first_class z ≡ class e.content → From z e → (end : Place) → AtMost end (under p z) →
       (key : Place) → AtMost start key → Precedes key end → throughout key → Listed key taken
   visit_stops done e todo taken v z s c h end g key f k t =

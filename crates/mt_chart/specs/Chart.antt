@@ -3,7 +3,7 @@
 use Rattle.std.specs.Prelude.{ℕ, suc, ◌≡◌, ◌≢◌, ◌<◌, ◌≤◌, ◌⊎◌, List, [], ◌∷◌, Option, Some, None, Bool, true, false}
 use Rattle.mt_slice.specs.Place.{Place, under}
 use Rattle.mt_types.specs.declared.row.Row.{Row}
-use Rattle.mt_chart.specs.Tree.{Content, short, long, link, Entry, Right, HeadNode, BorderNode, Child, InteriorNode, head, border, interior, Arena, Among, Below, HoldsRow}
+use Rattle.mt_chart.specs.Tree.{PlainContent, short, long, link, PlainEntry, Right, HeadNode, BorderNode, PlainChild, InteriorNode, head, border, interior, Arena, Among, Below, HoldsRow}
 
 -- How a node stands. `on true`: it is linked, and a head or an interior may name it. `on false`: a border in its chain
 -- that no head or interior names. `gone epoch`: since the epoch no descent that begins anew comes to it.
@@ -35,22 +35,22 @@ pub record OnBorder (arena : Arena) (chart : Chart) (number : ℕ) (prefix : Lis
   pub node : arena number ≡ Some (border here)
 
 -- one class of the ten of a slice; a link and a row of a longer key are of the same
-abbrev pub class : Content → ℕ
+abbrev pub class : PlainContent → ℕ
 class (short bytes _) = bytes
 class (long _ _) = 9
 class (link _) = 9
 
 -- no two entries have one slice and class
-abbrev pub Apart : List Entry → Type 0
-Apart entries = (entry other : Entry) → Among entry entries → Among other entries → entry.slice ≡ other.slice →
+abbrev pub Apart : List PlainEntry → Type 0
+Apart entries = (entry other : PlainEntry) → Among entry entries → Among other entries → entry.slice ≡ other.slice →
     class entry.content ≡ class other.content → entry ≡ other
 
 -- what holds of a border that is on: its entries stand in its interval, its links name heads that are on, its right
 -- link names a border that is on and stands further right, and it is empty once it is marked deleted
 pub record IsBorderNode (chart : Chart) (prefix : List ℕ) (node : BorderNode) : Type 0 where
   pub apart : Apart node.entries
-  pub from_low : (entry : Entry) → Among entry node.entries → node.low ≤ entry.slice
-  pub to_right : (entry : Entry) → Among entry node.entries → Below entry.slice node.right
+  pub from_low : (entry : PlainEntry) → Among entry node.entries → node.low ≤ entry.slice
+  pub to_right : (entry : PlainEntry) → Among entry node.entries → Below entry.slice node.right
   pub links : (slice number : ℕ) → Among (record { slice = slice; content = link number }) node.entries →
       OnHead chart number (slice ∷ prefix)
   pub right : (link : Right) → node.right ≡ Some link → (node.low < link.low) × (posted : Bool)
@@ -71,12 +71,12 @@ MayName (gone went) (on posted) = Unit {0}
 MayName (gone went) (gone named_went) = went ≤ named_went
 
 -- there is a first child, and it has this low
-abbrev pub FirstLow : ℕ → List Child → Type 0
+abbrev pub FirstLow : ℕ → List PlainChild → Type 0
 FirstLow low [] = ⊥
 FirstLow low (child ∷ others) = child.low ≡ low
 
 -- what an interior of this level may have as a child, where `namer` is the interior's standing
-pub record IsChild (chart : Chart) (namer : Standing) (prefix : List ℕ) (level : ℕ) (child : Child) : Type 0 where
+pub record IsChild (chart : Chart) (namer : Standing) (prefix : List ℕ) (level : ℕ) (child : PlainChild) : Type 0 where
   pub standing : Standing
   pub lower : child.level < level
   pub place : chart child.number ≡ Some (spot (at_level child.level) prefix child.low standing)
@@ -84,9 +84,9 @@ pub record IsChild (chart : Chart) (namer : Standing) (prefix : List ℕ) (level
 
 -- what holds of an interior's children: the first has its low, and each may be its child
 pub record AreChildren (chart : Chart) (namer : Standing) (prefix : List ℕ) (low level : ℕ)
-    (children : List Child) : Type 0 where
+    (children : List PlainChild) : Type 0 where
   pub leftmost : FirstLow low children
-  pub each : (child : Child) → Among child children → IsChild chart namer prefix level child
+  pub each : (child : PlainChild) → Among child children → IsChild chart namer prefix level child
 
 -- What holds of an interior, of the level `suc below`: its children are right, unless it is gone and marked deleted.
 -- Where it is gone it stays locked until it is marked deleted.
@@ -104,7 +104,7 @@ pub record InteriorAt (arena : Arena) (chart : Chart) (number below : ℕ) (pref
 pub data Owns (arena : Arena) (chart : Chart) (owner owned : ℕ) : Type 0 where
   by_head : (prefix : List ℕ) (node : HeadNode) → OnHead chart owner prefix → arena owner ≡ Some (head node) →
       node.root ≡ owned → Owns arena chart owner owned
-  by_interior : (below : ℕ) (prefix : List ℕ) (low : ℕ) (posted : Bool) (node : InteriorNode) (child : Child) →
+  by_interior : (below : ℕ) (prefix : List ℕ) (low : ℕ) (posted : Bool) (node : InteriorNode) (child : PlainChild) →
       chart owner ≡ Some (spot (at_level (suc below)) prefix low (on posted)) →
       arena owner ≡ Some (interior node) → Among child node.children → child.number ≡ owned →
       Owns arena chart owner owned
@@ -151,9 +151,9 @@ pub record IsTree (arena : Arena) (chart : Chart) : Type 0 where
       Below other.low node.right → number ≡ other_number
 
 -- no number stands twice among the children
-abbrev pub NoChildTwice : List Child → Type 0
+abbrev pub NoChildTwice : List PlainChild → Type 0
 NoChildTwice [] = Unit {0}
-NoChildTwice (child ∷ others) = ((other : Child) → Among other others → other.number ≢ child.number)
+NoChildTwice (child ∷ others) = ((other : PlainChild) → Among other others → other.number ≢ child.number)
     × NoChildTwice others
 
 -- Each node of a tree is named by one head or interior that is on, but for the two halves of an interior that is being
@@ -194,7 +194,7 @@ pub record Stored (arena : Arena) (chart : Chart) (key : Place) (row : Row) : Ty
   pub prefix : List ℕ
   pub number : ℕ
   pub node : BorderNode
-  pub entry : Entry
+  pub entry : PlainEntry
   pub place : Place
   pub on_border : OnBorder arena chart number prefix node
   pub live : Among entry node.entries

@@ -49,7 +49,8 @@ PostingsEnd = (free free_after : ℕ) (frame : Frame) (waiting after : List Fram
 -- the cursor's number grows where a scan, its cursor at the slice or behind it, leaves a border by a right link of a
 -- greater low
 abbrev pub CursorsGoRight : Type 0
-CursorsGoRight = (prefix digits : List ℕ) (digit slice low : ℕ) → length prefix ≤ MAX_LAYER → AreDigits digit_base digits →
+CursorsGoRight = (prefix digits : List ℕ) (digit slice low : ℕ) → length prefix ≤ MAX_LAYER
+    → AreDigits digit_base digits →
     digit ≤ 2 * slice + 1 → slice < low →
     cursor_number (digits_above prefix (digit ∷ digits)) < cursor_number (digits_above prefix ((2 * low) ∷ []))
 

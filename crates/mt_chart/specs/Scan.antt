@@ -2,7 +2,7 @@
 use Rattle.std.specs.Prelude.{ℕ, ◌≡◌, ◌<◌, ◌≤◌, ◌⊎◌, List, [], ◌∷◌, ◌++◌, length, Option, Some, None}
 use Rattle.mt_slice.specs.Place.{Place, last, deeper, under, Precedes, first_slice}
 use Rattle.mt_types.specs.declared.row.Row.{Row}
-use Rattle.mt_chart.specs.Tree.{link, Entry, Right, BorderNode, Among, HoldsRow}
+use Rattle.mt_chart.specs.Tree.{link, PlainEntry, Right, BorderNode, Among, HoldsRow}
 use Rattle.mt_chart.specs.Chart.{Chart, Holds}
 
 -- the one place is at or before the other
@@ -59,17 +59,18 @@ pub record OpenRange {V : Type 0} (chart : Chart) (begun : ℕ) (stood : Place �
 
 -- The visit of a border has passed the entry: a row's key is before the cursor or not after the last key taken, a link
 -- is not to be entered, since all of its layer is before the cursor.
-abbrev pub Passed : {V : Type 0} → List ℕ → Place → List (Pair V) → Entry → Type 0
+abbrev pub Passed : {V : Type 0} → List ℕ → Place → List (Pair V) → PlainEntry → Type 0
 Passed prefix at taken entry = ((place : Place) (row : Row) → HoldsRow entry.slice entry.content place row →
     Precedes place at ⊎ UpTo (under prefix place) taken)
     × ((next : ℕ) → entry.content ≡ link next → AtMost (last entry.slice 10) at)
 
 -- a visit of a border that has passed some entries and has the others before it
 pub record Visiting {V : Type 0} (stood : Place → V → Type 0) (throughout : Place → Type 0) (start : Place) (limit : ℕ)
-    (prefix : List ℕ) (node : BorderNode) (at : Place) (done todo : List Entry) (taken : List (Pair V)) : Type 0 where
+    (prefix : List ℕ) (node : BorderNode) (at : Place) (done todo : List PlainEntry)
+    (taken : List (Pair V)) : Type 0 where
   pub split : node.entries ≡ done ++ todo
   pub scanned : Scanned stood throughout start limit (under prefix at) taken
-  pub passed : (entry : Entry) → Among entry done → Passed prefix at taken entry
+  pub passed : (entry : PlainEntry) → Among entry done → Passed prefix at taken entry
 
 -- what a visit of a border comes to: the answer, or where the scan goes: layer, node, cursor, with the pairs taken
 pub data VisitOutcome (V : Type 0) : Type 0 where
@@ -93,7 +94,8 @@ AtLink prefix at slice next taken outcome Rest =
 
 -- The visit of a border, entry by entry: at the limit the answer; a row is passed that is before the cursor or not
 -- after the last key taken, else it is taken; a link is passed or entered.
-abbrev pub BorderVisit : {V : Type 0} → (Row → V) → ℕ → List ℕ → Place → Option Right → List Entry → List (Pair V) →
+abbrev pub BorderVisit : {V : Type 0} → (Row → V) → ℕ → List ℕ → Place → Option Right → List PlainEntry
+    → List (Pair V) →
     VisitOutcome V → Type 0
 BorderVisit show limit prefix at right [] taken outcome = ((length taken ≡ limit) × (outcome ≡ answers taken))
     ⊎ AtEnd prefix right taken outcome

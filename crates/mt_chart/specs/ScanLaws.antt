@@ -2,7 +2,7 @@
 use Rattle.std.specs.Prelude.{ℕ, ◌≡◌, ◌≤◌, List, ◌∷◌, Option, Some, length, false}
 use Rattle.mt_slice.specs.Place.{Place, AreBytes, place_of, first_slice}
 use Rattle.mt_types.specs.declared.row.Row.{Row}
-use Rattle.mt_chart.specs.Tree.{Entry, Right, BorderNode, border, Arena, Below}
+use Rattle.mt_chart.specs.Tree.{PlainEntry, Right, BorderNode, border, Arena, Below}
 use Rattle.mt_chart.specs.Chart.{Chart, IsTree}
 use Rattle.mt_chart.specs.Scan.{Pair, answers, VisitOutcome, BorderVisit, AnswersRange, OpenRange}
 use Rattle.mt_chart.specs.ScanRun.{Stood, AllHave, EntriesInOrder, Scans, Steady, Never}
@@ -29,7 +29,7 @@ ScansAnswerRightly = (show : Row → Row) (begun : ℕ) (start : Place) (limit :
 -- the visit of a border has an outcome
 abbrev pub VisitsHaveOutcomes : Type 0
 VisitsHaveOutcomes = (show : Row → Row) (limit : ℕ) (prefix : List ℕ) (at : Place) (right : Option Right)
-    (entries : List Entry) (taken : List (Pair Row)) → length taken ≤ limit →
+    (entries : List PlainEntry) (taken : List (Pair Row)) → length taken ≤ limit →
     (outcome : VisitOutcome Row) × BorderVisit show limit prefix at right entries taken outcome
 
 -- a right answer by places is a right answer by keys, of bytes

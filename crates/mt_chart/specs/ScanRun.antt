@@ -2,7 +2,7 @@
 use Rattle.std.specs.Prelude.{ℕ, ◌≡◌, ◌≢◌, ◌<◌, ◌≤◌, ◌⊎◌, List, [], ◌∷◌, Some, false}
 use Rattle.mt_slice.specs.Place.{Place, last, deeper, under, Precedes, first_slice}
 use Rattle.mt_types.specs.declared.row.Row.{Row}
-use Rattle.mt_chart.specs.Tree.{link, Entry, Right, HeadNode, BorderNode, Child, InteriorNode, head, border, interior, Arena, Among, Below, Has}
+use Rattle.mt_chart.specs.Tree.{link, PlainEntry, Right, HeadNode, BorderNode, PlainChild, InteriorNode, head, border, interior, Arena, Among, Below, Has}
 use Rattle.mt_chart.specs.Chart.{Chart, class, IsTree, Evolves}
 use Rattle.mt_chart.specs.Scan.{AtMost, Pair, goes, BorderVisit}
 
@@ -17,9 +17,9 @@ AllHave [] key = Unit {0}
 AllHave (arena ∷ past) key = ((row : Row) × Has arena key row) × AllHave past key
 
 -- the entries are in order, by slice and then by class
-abbrev pub EntriesInOrder : List Entry → Type 0
+abbrev pub EntriesInOrder : List PlainEntry → Type 0
 EntriesInOrder [] = Unit {0}
-EntriesInOrder (entry ∷ entries) = ((other : Entry) → Among other entries → (entry.slice < other.slice)
+EntriesInOrder (entry ∷ entries) = ((other : PlainEntry) → Among other entries → (entry.slice < other.slice)
     ⊎ ((entry.slice ≡ other.slice) × (class entry.content < class other.content))) × EntriesInOrder entries
 
 -- A scan that has come, since its begin, to a layer, a node, a cursor and a list of pairs: what others do and its own
@@ -28,21 +28,25 @@ pub data Scans {V : Type 0} (show : Row → V) (begun : ℕ) (start : Place) (li
     List ℕ → ℕ → Place → List (Pair V) → Type 0 where
   begins : {chart : Chart} {arena : Arena} → IsTree arena chart →
       Scans show begun start limit chart arena [] [] 0 start []
-  others : {chart new : Chart} {arena after : Arena} {past : List Arena} {prefix : List ℕ} {number : ℕ} {at : Place} {taken : List (Pair V)} →
+  others : {chart new : Chart} {arena after : Arena} {past : List Arena} {prefix : List ℕ} {number : ℕ} {at : Place}
+      {taken : List (Pair V)} →
       Scans show begun start limit chart arena past prefix number at taken → IsTree after new →
       Evolves begun chart new → Scans show begun start limit new after (arena ∷ past) prefix number at taken
   again : {chart : Chart} {arena : Arena} {past : List Arena} {prefix : List ℕ} {number : ℕ} {at : Place} {taken : List
       (Pair V)} (back : Place) →
       Scans show begun start limit chart arena past prefix number at taken → AtMost start back →
       AtMost back (under prefix at) → Scans show begun start limit chart arena past [] 0 back taken
-  at_head : {chart : Chart} {arena : Arena} {past : List Arena} {prefix : List ℕ} {number : ℕ} {at : Place} {taken : List (Pair V)} (node : HeadNode) →
+  at_head : {chart : Chart} {arena : Arena} {past : List Arena} {prefix : List ℕ} {number : ℕ} {at : Place}
+      {taken : List (Pair V)} (node : HeadNode) →
       Scans show begun start limit chart arena past prefix number at taken → arena number ≡ Some (head node) →
       node.deleted ≡ false → Scans show begun start limit chart arena past prefix node.root at taken
-  at_interior : {chart : Chart} {arena : Arena} {past : List Arena} {prefix : List ℕ} {number : ℕ} {at : Place} {taken : List (Pair V)} (node : InteriorNode) (child : Child) →
+  at_interior : {chart : Chart} {arena : Arena} {past : List Arena} {prefix : List ℕ} {number : ℕ} {at : Place}
+      {taken : List (Pair V)} (node : InteriorNode) (child : PlainChild) →
       Scans show begun start limit chart arena past prefix number at taken → arena number ≡ Some (interior node) →
       node.deleted ≡ false → Among child node.children → child.low ≤ first_slice at →
       Scans show begun start limit chart arena past prefix child.number at taken
-  to_right : {chart : Chart} {arena : Arena} {past : List Arena} {prefix : List ℕ} {number : ℕ} {at : Place} {taken : List (Pair V)} (node : BorderNode) (link : Right) →
+  to_right : {chart : Chart} {arena : Arena} {past : List Arena} {prefix : List ℕ} {number : ℕ} {at : Place}
+      {taken : List (Pair V)} (node : BorderNode) (link : Right) →
       Scans show begun start limit chart arena past prefix number at taken → arena number ≡ Some (border node) →
       node.deleted ≡ false → node.right ≡ Some link → link.low ≤ first_slice at →
       Scans show begun start limit chart arena past prefix link.number at taken

@@ -2,7 +2,7 @@
 use Rattle.std.specs.Prelude.{ℕ, suc, ◌≡◌, ◌≢◌, ◌<◌, ◌≤◌, ◌⊎◌, ◌↔◌, List, [], ◌∷◌, Some, None, Bool, true, false}
 use Rattle.mt_slice.specs.Place.{Place, under}
 use Rattle.mt_types.specs.declared.row.Row.{Row}
-use Rattle.mt_chart.specs.Tree.{link, long, Entry, HeadNode, BorderNode, Child, InteriorNode, head, border, interior, Arena, Among, Below, HoldsRow, Has}
+use Rattle.mt_chart.specs.Tree.{link, long, PlainEntry, HeadNode, BorderNode, PlainChild, InteriorNode, head, border, interior, Arena, Among, Below, HoldsRow, Has}
 use Rattle.mt_chart.specs.Chart.{on, gone, Role, top, at_level, Spot, spot, Chart, OnHead, OnBorder, class, FirstLow, IsTree, NoChildTwice, Owns, Owned, Named, IsLastBorder, MarkedHeads, Dated, Evolves, Changes}
 
 -- the two halves of an interior that is being split
@@ -60,12 +60,12 @@ pub record ShowsRow (arena after : Arena) (chart : Chart) (key : Place) (row : R
   pub new : BorderNode
   pub writes : WritesBorder arena after chart number prefix old new
   pub right : new.right ≡ old.right
-  pub entry : Entry
+  pub entry : PlainEntry
   pub place : Place
   pub is_key : key ≡ under prefix place
   pub holds : HoldsRow entry.slice entry.content place row
-  pub entries : (each : Entry) → Among each new.entries ↔ ((each ≡ entry) ⊎ Among each old.entries)
-  pub lacked : (each : Entry) → Among each old.entries → each.slice ≡ entry.slice →
+  pub entries : (each : PlainEntry) → Among each new.entries ↔ ((each ≡ entry) ⊎ Among each old.entries)
+  pub lacked : (each : PlainEntry) → Among each old.entries → each.slice ≡ entry.slice →
       class each.content ≢ class entry.content
   pub from_low : old.low ≤ entry.slice
   pub to_right : Below entry.slice old.right
@@ -78,12 +78,12 @@ pub record HidesRow (arena after : Arena) (chart : Chart) (key : Place) (row : R
   pub new : BorderNode
   pub writes : WritesBorder arena after chart number prefix old new
   pub right : new.right ≡ old.right
-  pub entry : Entry
+  pub entry : PlainEntry
   pub place : Place
   pub is_key : key ≡ under prefix place
   pub holds : HoldsRow entry.slice entry.content place row
   pub stood : Among entry old.entries
-  pub entries : (each : Entry) → Among each new.entries ↔ (Among each old.entries × (each ≢ entry))
+  pub entries : (each : PlainEntry) → Among each new.entries ↔ (Among each old.entries × (each ≢ entry))
 
 -- a row at a key gives place to another: a border has one entry in place of another, of the same slice and class
 pub record SetsRow (arena after : Arena) (chart : Chart) (key : Place) (before row : Row) : Type 0 where
@@ -93,14 +93,15 @@ pub record SetsRow (arena after : Arena) (chart : Chart) (key : Place) (before r
   pub new : BorderNode
   pub writes : WritesBorder arena after chart number prefix old new
   pub right : new.right ≡ old.right
-  pub entry : Entry
-  pub set : Entry
+  pub entry : PlainEntry
+  pub set : PlainEntry
   pub place : Place
   pub is_key : key ≡ under prefix place
   pub holds : HoldsRow entry.slice entry.content place before
   pub set_holds : HoldsRow set.slice set.content place row
   pub stood : Among entry old.entries
-  pub entries : (each : Entry) → Among each new.entries ↔ ((each ≡ set) ⊎ (Among each old.entries × (each ≢ entry)))
+  pub entries : (each : PlainEntry) → Among each new.entries
+      ↔ ((each ≡ set) ⊎ (Among each old.entries × (each ≢ entry)))
 
 -- The link step of a split: a border keeps the lower of its entries, and its right link names a filled border with the
 -- upper ones, which comes to be on but is not to be named by a head or an interior. No head that is marked deleted has
@@ -120,9 +121,9 @@ pub record LinksHalf (arena after : Arena) (chart next : Chart) : Type 0 where
   pub half_right : half.right ≡ old.right
   pub above : old.low < half.low
   pub below : Below half.low old.right
-  pub parts : (entry : Entry) → Among entry old.entries ↔ (Among entry new.entries ⊎ Among entry half.entries)
-  pub lower : (entry : Entry) → Among entry new.entries → entry.slice < half.low
-  pub upper : (entry : Entry) → Among entry half.entries → half.low ≤ entry.slice
+  pub parts : (entry : PlainEntry) → Among entry old.entries ↔ (Among entry new.entries ⊎ Among entry half.entries)
+  pub lower : (entry : PlainEntry) → Among entry new.entries → entry.slice < half.low
+  pub upper : (entry : PlainEntry) → Among entry half.entries → half.low ≤ entry.slice
   pub half_empty : half.deleted ≡ true → half.entries ≡ []
   pub head_alive : (top_number : ℕ) (top_node : HeadNode) → OnHead chart top_number prefix →
       arena top_number ≡ Some (head top_node) → top_node.root ≡ number → top_node.deleted ≡ false
@@ -143,9 +144,9 @@ pub record MakesLayer (arena after : Arena) (chart next : Chart) : Type 0 where
   pub top_node : HeadNode
   pub root_number : ℕ
   pub root : BorderNode
-  pub entry : Entry
+  pub entry : PlainEntry
   pub stood : Among (record { slice = slice; content = long rest row }) old.entries
-  pub entries : (each : Entry) → Among each new.entries ↔
+  pub entries : (each : PlainEntry) → Among each new.entries ↔
       ((each ≡ record { slice = slice; content = link top_number })
       ⊎ (Among each old.entries × (each ≢ record { slice = slice; content = long rest row })))
   pub top_filled : arena top_number ≡ Some (head top_node)
@@ -203,7 +204,7 @@ pub record DropsLayer (now : ℕ) (twins : List Twin) (arena after : Arena) (cha
   pub root_number : ℕ
   pub root : BorderNode
   pub stood : Among (record { slice = slice; content = link top_number }) old.entries
-  pub entries : (each : Entry) → Among each new.entries
+  pub entries : (each : PlainEntry) → Among each new.entries
       ↔ (Among each old.entries × (each ≢ record { slice = slice; content = link top_number }))
   pub top_on : OnHead chart top_number (slice ∷ prefix)
   pub top_there : arena top_number ≡ Some (head top_node)
@@ -244,12 +245,13 @@ pub record DropsChild (twins : List Twin) (arena after : Arena) (chart next : Ch
   pub old : InteriorNode
   pub new : InteriorNode
   pub writes : WritesInterior arena after chart number below prefix least old new
-  pub child : Child
+  pub child : PlainChild
   pub low : ℕ
   pub stood : Among child old.children
   pub place : chart child.number ≡ Some (spot (at_level 0) prefix low (on true))
   pub charted : Changes chart next child.number (Some (spot (at_level 0) prefix low (on false)))
-  pub children : (each : Child) → Among each new.children ↔ (Among each old.children × (each.number ≢ child.number))
+  pub children : (each : PlainChild) → Among each new.children
+      ↔ (Among each old.children × (each.number ≢ child.number))
   pub no_twin : NoTwin twins number
 
 -- a border that no head or interior may name is posted in an interior
@@ -265,7 +267,7 @@ pub record PostsBorder (arena after : Arena) (chart next : Chart) : Type 0 where
   pub low : ℕ
   pub place : chart posted_number ≡ Some (spot (at_level 0) prefix low (on false))
   pub charted : Changes chart next posted_number (Some (spot (at_level 0) prefix low (on true)))
-  pub children : (each : Child) → Among each new.children
+  pub children : (each : PlainChild) → Among each new.children
       ↔ ((each ≡ record { low = low; number = posted_number; level = 0 }) ⊎ Among each old.children)
 
 -- an interior with one child, locked, is bypassed: the interior above names that child in its place, and it goes
@@ -282,16 +284,16 @@ pub record Bypasses (now : ℕ) (twins : List Twin) (arena after : Arena) (chart
   pub low : ℕ
   pub posted : Bool
   pub gone_node : InteriorNode
-  pub child : Child
+  pub child : PlainChild
   pub place : chart gone_number ≡ Some (spot (at_level (suc gone_below)) prefix low (on posted))
   pub there : arena gone_number ≡ Some (interior gone_node)
   pub locked : gone_node.locked ≡ true
   pub one_child : gone_node.children ≡ child ∷ []
   pub charted : Changes chart next gone_number (Some (spot (at_level (suc gone_below)) prefix low (gone now)))
-  pub entry : Child
+  pub entry : PlainChild
   pub stood : Among entry old.children
   pub named : entry.number ≡ gone_number
-  pub children : (each : Child) → Among each new.children
+  pub children : (each : PlainChild) → Among each new.children
       ↔ ((each ≡ child) ⊎ (Among each old.children × (each.number ≢ gone_number)))
   pub no_twin : NoTwin twins number
   pub gone_no_twin : NoTwin twins gone_number
@@ -324,7 +326,7 @@ pub record BypassesRoot (now : ℕ) (twins : List Twin) (arena after : Arena) (c
   pub gone_number : ℕ
   pub gone_below : ℕ
   pub gone_node : InteriorNode
-  pub child : Child
+  pub child : PlainChild
   pub was_root : old.root ≡ gone_number
   pub place : chart gone_number ≡ Some (spot (at_level (suc gone_below)) prefix 0 (on true))
   pub there : arena gone_number ≡ Some (interior gone_node)
@@ -388,7 +390,7 @@ pub record PostsHalf (twins more_twins : List Twin) (arena after : Arena) (chart
   pub half_level : half.level ≡ suc below
   pub half_leftmost : FirstLow low half.children
   pub half_once : NoChildTwice half.children
-  pub part : (each : Child) → Among each half.children → Among each node.children
+  pub part : (each : PlainChild) → Among each half.children → Among each node.children
   pub parent_number : ℕ
   pub parent_below : ℕ
   pub parent_least : ℕ
@@ -396,7 +398,7 @@ pub record PostsHalf (twins more_twins : List Twin) (arena after : Arena) (chart
   pub new : InteriorNode
   pub writes : WritesInterior arena after chart parent_number parent_below prefix parent_least old new
   pub above : below < parent_below
-  pub children : (each : Child) → Among each new.children
+  pub children : (each : PlainChild) → Among each new.children
       ↔ ((each ≡ record { low = low; number = half_number; level = suc below }) ⊎ Among each old.children)
   pub kept_twins : (one other : ℕ) → AreTwins twins one other → AreTwins more_twins one other
   pub new_twins : (other : ℕ) → (other ≡ number) ⊎ AreTwins twins other number → AreTwins more_twins half_number other
@@ -429,7 +431,7 @@ pub record MakesRootOverHalf (twins more_twins : List Twin) (arena after : Arena
   pub half_level : half.level ≡ suc below
   pub half_leftmost : FirstLow low half.children
   pub half_once : NoChildTwice half.children
-  pub part : (each : Child) → Among each half.children → Among each split.children
+  pub part : (each : PlainChild) → Among each half.children → Among each split.children
   pub root_number : ℕ
   pub root_below : ℕ
   pub root_node : InteriorNode
@@ -460,8 +462,8 @@ pub record KeepsChildren (arena after : Arena) (chart : Chart) : Type 0 where
   pub old : InteriorNode
   pub new : InteriorNode
   pub writes : WritesInterior arena after chart number below prefix least old new
-  pub children : (each : Child) → Among each new.children → Among each old.children
-  pub left_out : (each : Child) → Among each old.children → Among each new.children
+  pub children : (each : PlainChild) → Among each new.children → Among each old.children
+  pub left_out : (each : PlainChild) → Among each old.children → Among each new.children
       ⊎ ((other : ℕ) × (other ≢ number) × Owns arena chart other each.number)
 
 -- an interior that is gone is marked deleted

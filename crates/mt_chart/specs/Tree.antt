@@ -6,15 +6,15 @@ use Rattle.mt_types.specs.declared.row.Row.{Row}
 
 -- What stands at a slice: a row of a key that ends there after so many bytes; a row of a longer key, with the
 -- place of what follows the slice; or a link to the head of the next layer.
-pub data Content : Type 0 where
-  short : ℕ → Row → Content
-  long : Place → Row → Content
-  link : ℕ → Content
+pub data PlainContent : Type 0 where
+  short : ℕ → Row → PlainContent
+  long : Place → Row → PlainContent
+  link : ℕ → PlainContent
 
 -- an entry of a border: what stands at a slice
-pub record Entry : Type 0 where
+pub record PlainEntry : Type 0 where
   pub slice : ℕ
-  pub content : Content
+  pub content : PlainContent
 
 -- a border's right link: the border that it names, and the least slice that stands there
 pub record Right : Type 0 where
@@ -33,11 +33,11 @@ pub record BorderNode : Type 0 where
   pub deleted : Bool
   pub locked : Bool
   pub low : ℕ
-  pub entries : List Entry
+  pub entries : List PlainEntry
   pub right : Option Right
 
 -- a child of an interior: the least slice that it is posted for, its number and its level
-pub record Child : Type 0 where
+pub record PlainChild : Type 0 where
   pub low : ℕ
   pub number : ℕ
   pub level : ℕ
@@ -48,17 +48,17 @@ pub record InteriorNode : Type 0 where
   pub locked : Bool
   pub low : ℕ
   pub level : ℕ
-  pub children : List Child
+  pub children : List PlainChild
 
 -- a node of the arena
-pub data Node : Type 0 where
-  head : HeadNode → Node
-  border : BorderNode → Node
-  interior : InteriorNode → Node
+pub data PlainNode : Type 0 where
+  head : HeadNode → PlainNode
+  border : BorderNode → PlainNode
+  interior : InteriorNode → PlainNode
 
 -- which node a number names
 abbrev pub Arena : Type 0
-Arena = ℕ → Option Node
+Arena = ℕ → Option PlainNode
 
 -- the element stands in the list
 pub data Among {A : Type 0} (element : A) : List A → Type 0 where
@@ -73,7 +73,7 @@ pub data Below (slice : ℕ) : Option Right → Type 0 where
 -- from a node of a layer, first children lead to the target, a border
 pub data Leads (arena : Arena) (target : ℕ) : ℕ → Type 0 where
   arrived : (node : BorderNode) → arena target ≡ Some (border node) → Leads arena target target
-  by_first : {number : ℕ} (node : InteriorNode) (child : Child) (others : List Child) →
+  by_first : {number : ℕ} (node : InteriorNode) (child : PlainChild) (others : List PlainChild) →
       arena number ≡ Some (interior node) → node.children ≡ child ∷ others → Leads arena target child.number →
       Leads arena target number
 
@@ -93,7 +93,7 @@ pub data Attached (arena : Arena) : List ℕ → ℕ → Type 0 where
       Attached arena (slice ∷ prefix) next_top
 
 -- what stands at the slice holds the row, under this place of its layer
-abbrev pub HoldsRow : ℕ → Content → Place → Row → Type 0
+abbrev pub HoldsRow : ℕ → PlainContent → Place → Row → Type 0
 HoldsRow slice (short bytes here) place row = (place ≡ last slice bytes) × (here ≡ row)
 HoldsRow slice (long rest here) place row = (place ≡ deeper slice rest) × (here ≡ row)
 HoldsRow slice (link number) place row = ⊥
@@ -104,7 +104,7 @@ pub record Has (arena : Arena) (key : Place) (row : Row) : Type 0 where
   pub top : ℕ
   pub number : ℕ
   pub node : BorderNode
-  pub entry : Entry
+  pub entry : PlainEntry
   pub place : Place
   pub attached : Attached arena prefix top
   pub linked : Linked arena top number

@@ -2,7 +2,7 @@
 use Rattle.std.specs.Prelude.{ℕ, suc, ◌≡◌, ◌≢◌, ◌<◌, ◌≤◌, ◌⊎◌, ◌↔◌, List, [], ◌∷◌, Some, None, Bool, true, false}
 use Rattle.mt_slice.specs.Place.{Place, last, deeper, under, first_slice}
 use Rattle.mt_types.specs.declared.row.Row.{Row}
-use Rattle.mt_chart.specs.Tree.{link, Entry, Right, HeadNode, BorderNode, Child, InteriorNode, Node, head, border, interior, Arena, Among, Below, HoldsRow, Has}
+use Rattle.mt_chart.specs.Tree.{link, PlainEntry, Right, HeadNode, BorderNode, PlainChild, InteriorNode, PlainNode, head, border, interior, Arena, Among, Below, HoldsRow, Has}
 use Rattle.mt_chart.specs.Chart.{Standing, on, at_level, spot, Chart, OnHead, OnBorder, IsTree, Stored, Holds, Evolves}
 use Rattle.mt_chart.specs.Steps.{Twin, IsIndex, ShowsRow}
 use Rattle.mt_chart.specs.NewIndex.{new_arena, new_chart, first_row_arena}
@@ -39,7 +39,7 @@ pub record IsWhere (arena : Arena) (chart : Chart) (number : ℕ) (prefix : List
 
 -- an entry of the border holds the row at the place
 abbrev pub HasEntry : BorderNode → Place → Row → Type 0
-HasEntry node place row = (entry : Entry) × Among entry node.entries × HoldsRow entry.slice entry.content place row
+HasEntry node place row = (entry : PlainEntry) × Among entry node.entries × HoldsRow entry.slice entry.content place row
 
 -- the border has a link at the place's slice, and the place goes on past that slice
 abbrev pub GoesOnAtALink : BorderNode → Place → Type 0
@@ -82,7 +82,7 @@ RootsAreHeld = (arena : Arena) (chart : Chart) → IsTree arena chart →
 -- from a held interior, not marked deleted, each child is held for the slices from its low on
 abbrev pub ChildrenAreHeld : Type 0
 ChildrenAreHeld = (arena : Arena) (chart : Chart) → IsTree arena chart →
-    (begun number slice : ℕ) (prefix : List ℕ) (node : InteriorNode) (child : Child) →
+    (begun number slice : ℕ) (prefix : List ℕ) (node : InteriorNode) (child : PlainChild) →
     Holds chart begun number prefix slice →
     arena number ≡ Some (interior node) → node.deleted ≡ false → Among child node.children → child.low ≤ slice →
     Holds chart begun child.number prefix slice
@@ -91,7 +91,7 @@ ChildrenAreHeld = (arena : Arena) (chart : Chart) → IsTree arena chart →
 abbrev pub SomeChildLeadsOn : Type 0
 SomeChildLeadsOn = (arena : Arena) (chart : Chart) → IsTree arena chart →
     (begun number slice : ℕ) (prefix : List ℕ) (node : InteriorNode) → Holds chart begun number prefix slice →
-    arena number ≡ Some (interior node) → node.deleted ≡ false → (child : Child) × (others : List Child)
+    arena number ≡ Some (interior node) → node.deleted ≡ false → (child : PlainChild) × (others : List PlainChild)
     × (node.children ≡ child ∷ others) × (child.low ≤ slice)
 
 -- a held border, not marked deleted, is on, and its low is at most the slice
@@ -117,7 +117,7 @@ LinkedHeadsAreHeld = (arena : Arena) (chart : Chart) → IsTree arena chart →
 -- at a held number there is a node
 abbrev pub HeldNodesAreThere : Type 0
 HeldNodesAreThere = (arena : Arena) (chart : Chart) → IsTree arena chart → (begun number slice : ℕ) (prefix : List ℕ) →
-    Holds chart begun number prefix slice → (node : Node) × (arena number ≡ Some node)
+    Holds chart begun number prefix slice → (node : PlainNode) × (arena number ≡ Some node)
 
 -- an interior that the chart knows, not marked deleted and not locked, is on
 abbrev pub FreeInteriorsAreOn : Type 0

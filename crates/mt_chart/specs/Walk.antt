@@ -2,7 +2,7 @@
 -- places.
 use Rattle.std.specs.Prelude.{ℕ, suc, ◌≡◌, ◌<◌, ◌≤◌, ◌+◌, ◌*◌, ◌^◌, ◌-◌, List, [], ◌∷◌, length, Some, Bool, false}
 use Rattle.mt_types.specs.declared.limits.TheConstants.{MAX_LAYER, MAX_LEVEL}
-use Rattle.mt_chart.specs.Tree.{Among, Arena, HeadNode, BorderNode, InteriorNode, Child, Right, head, border, interior, link}
+use Rattle.mt_chart.specs.Tree.{Among, Arena, HeadNode, BorderNode, InteriorNode, PlainChild, Right, head, border, interior, link}
 use Rattle.mt_chart.specs.Chart.{Standing, on, gone, Role, top, at_level, Spot, spot, Chart, IsTree, Evolves}
 
 -- nothing stands twice in the list
@@ -56,7 +56,7 @@ Bounded chart bound = (number : ℕ) (place : Spot) → chart number ≡ Some pl
 pub data Moves (arena : Arena) (number next : ℕ) : Type 0 where
   to_root : (node : HeadNode) → arena number ≡ Some (head node) → node.deleted ≡ false → node.level ≤ MAX_LEVEL →
       node.root ≡ next → Moves arena number next
-  to_child : (node : InteriorNode) (child : Child) → arena number ≡ Some (interior node) → node.deleted ≡ false →
+  to_child : (node : InteriorNode) (child : PlainChild) → arena number ≡ Some (interior node) → node.deleted ≡ false →
       node.level ≤ MAX_LEVEL → node.low < 2 ^ 64 → Among child node.children → child.number ≡ next →
       Moves arena number next
   to_right : (node : BorderNode) (right : Right) → arena number ≡ Some (border node) → node.deleted ≡ false →

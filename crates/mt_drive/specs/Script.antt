@@ -66,7 +66,8 @@ Happens past event outcome h = GoesOn past (event ∷ []) (outcome ∷ []) h
 abbrev pub Steps : History → CallNo → List Outcome → History → Type 0
 Steps past call outcomes h = GoesOn past (map (λ outcome. Step call) outcomes) outcomes h
 
--- steps of a call up to the first that doesn't answer Moved or Commit, or a million of them; this is the outcome of the last
+-- steps of a call up to the first that doesn't answer Moved or Commit, or a million of them; this is the outcome of the
+-- last
 pub record Finishes (past : History) (call : CallNo) (outcome : Outcome) (h : History) : Type 0 where
   pub before : List Outcome
   pub go_on : AllGoOn before
@@ -103,7 +104,8 @@ RunsAlone event past (Came outcome) h = (open_calls past ≡ 0) × Runs event pa
 RunsAlone event past Busy h = (0 < open_calls past) × (h ≡ past)
 RunsAlone event past _ h = ⊥
 
--- after so many commits the log of an index begins that keeps this many for nobody: it has all that is held, and the last ones
+-- after so many commits the log of an index begins that keeps this many for nobody: it has all that is held, and the
+-- last ones
 abbrev pub feed_begin : ℕ → History → ℕ
 feed_begin keep past = min (held_from (moment past)) (length (moment past).commits - keep)
 
@@ -117,11 +119,12 @@ abbrev pub Feeds : ℕ → ℕ → ℕ → ℕ → History → Reply → Type 0
 Feeds C keep from limit past (Fed deltas) =
     (feed_refusal keep from limit past ≡ None) × (deltas ≡ take limit (drop from (deltas_of C (moment past).commits)))
 Feeds C keep from limit past (NotFed refusal) =
-    (feed_refusal keep from limit past ≡ Some refusal) ⊎ ((feed_refusal keep from limit past ≡ None) × (refusal ≡ WantOfMemory))
+    (feed_refusal keep from limit past ≡ Some refusal)
+    ⊎ ((feed_refusal keep from limit past ≡ None) × (refusal ≡ WantOfMemory))
 Feeds C keep from limit past _ = ⊥
 
--- what a line says was answered so after this past, on an index of C columns that keeps this many commits for nobody, and
--- led to this history
+-- what a line says was answered so after this past, on an index of C columns that keeps this many commits for nobody,
+-- and led to this history
 abbrev pub Answers : ℕ → ℕ → Option Command → History → Reply → History → Type 0
 Answers C keep None past reply h = (reply ≡ Bad) × (h ≡ past)
 Answers C keep (Some (Once event)) past reply h = Asks event past reply h
@@ -133,13 +136,14 @@ Answers C keep (Some (Feed from limit)) past reply h = Feeds C keep from limit p
 abbrev pub AnswersAll : ℕ → ℕ → History → List (List ℕ) → List Reply → History → Type 0
 AnswersAll C keep past [] [] h = h ≡ past
 AnswersAll C keep past (line ∷ lines) (reply ∷ replies) h =
-    (between : History) × Answers C keep (command_of line) past reply between × AnswersAll C keep between lines replies h
+    (between : History) × Answers C keep (command_of line) past reply between
+    × AnswersAll C keep between lines replies h
 AnswersAll C keep past [] (reply ∷ replies) h = ⊥
 AnswersAll C keep past (line ∷ lines) [] h = ⊥
 
--- All lines of the input, where it is known, were answered on an empty index of C columns that keeps so many commits for
--- nobody; what happened there is legal, and so keeps the promise; the lines of the replies were written; and so many lines
--- of the input were bad.
+-- All lines of the input, where it is known, were answered on an empty index of C columns that keeps so many commits
+-- for nobody; what happened there is legal, and so keeps the promise; the lines of the replies were written; and so
+-- many lines of the input were bad.
 pub record Played (C keep : ℕ) (input old : Option (List ℕ)) (bad : ℕ) (new : Option (List ℕ)) : Type 0 where
   pub lines : List (List ℕ)
   pub replies : List Reply

@@ -154,7 +154,8 @@ fn play<R: Read, W: Write>(
     writer: &mut Sink<W>,
 ) -> Result<u64, ScriptFault>
     requires { Stands machine.old [] }
-    ensures ok { IfOk result (λ bad. Played machine.old.columns machine.old.log.keep (source_rest R.remaining reader.old)
+    ensures ok { IfOk result (λ bad. Played machine.old.columns machine.old.log.keep
+        (source_rest R.remaining reader.old)
         (W.contents (sink_writer writer.old)) bad (W.contents (sink_writer writer.new))) }
     ensures err { IfErr result (λ fault. Broke machine.old.columns machine.old.log.keep fault
         (source_rest R.remaining reader.old) (W.contents (sink_writer writer.old)) (W.contents (sink_writer writer.new))) }
@@ -183,21 +184,22 @@ fn start_fault(refusal: Refusal) -> ScriptFault
 
 /// Answers the lines of a script on an empty index, one after the other, and gives the number of bad lines.
 ///
-/// A line is `begin PASS REQUEST`, `step CALL`, `finish CALL` or `alone REQUEST`, `apply VIEW`, `view VIEW FLOOR START LIMIT` or
+/// A line is `begin PASS REQUEST`, `step CALL`, `finish CALL` or `alone REQUEST`, `apply VIEW`, `view VIEW FLOOR START
+/// LIMIT` or
 /// `drop VIEW`, `advance`, `collect`, or `feed FROM LIMIT`, which is answered by a line for each delta. A line of other
 /// bytes is answered `bad line`. What a line says and how an outcome is written
 /// is told in `commands`, `reading` and `showing`. `finish` and `alone` make at
 /// most 1,000,000 steps.
 ///
-/// The writer is given each reply in one piece, and is not flushed. A line costs its event, its steps or its deltas, and
-/// some allocations for its words and its reply.
+/// The writer is given each reply in one piece, and is not flushed. A line costs its event, its steps or its deltas,
+/// and some allocations for its words and its reply.
 ///
 /// # Errors
 ///
 /// `Start` where the options break a limit, before anything is read. `Read` where a read of the source failed, `Write`
-/// where a write of the sink failed or took nothing, `NoMemory` where there is none for the empty index, to keep a line or
-/// to make its reply. What was written by then are the first bytes of the replies so far, and all of them where a read
-/// failed.
+/// where a write of the sink failed or took nothing, `NoMemory` where there is none for the empty index, to keep a line
+/// or to make its reply. What was written by then are the first bytes of the replies so far, and all of them where a
+/// read failed.
 pub fn script<R: Read, W: Write>(
     alloc: Global,
     options: Options,

@@ -77,7 +77,8 @@ fn some_rows(alloc: Global, word: &[u8], text: &[u8]) -> Result<Pairs, LineError
     }
 }
 
-/// Rows with their keys: how many, and then each after a space as `KEY:VERSION:VALUES`. Takes some allocations for each.
+/// Rows with their keys: how many, and then each after a space as `KEY:VERSION:VALUES`. Takes some allocations for
+/// each.
 pub fn rows_from(alloc: Global, text: &[u8]) -> Result<Pairs, LineError>
     ensures { Gives (λ p. p) result (rows_of text.now) }
 {

@@ -4,3 +4,5 @@ pub mod StepLemmas
 pub mod PairLemmas
 pub mod TakenLemmas
 pub mod VisitLemmas
+pub mod OnwardLemmas
+pub mod LeadLemmas

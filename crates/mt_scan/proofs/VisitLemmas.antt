@@ -12,7 +12,7 @@ use Rattle.mt_border.specs.Entry.{entry_row, content_row}
 use Rattle.mt_border.specs.declared.entry.Content.{Content}
 use Rattle.mt_border.specs.declared.entry.Content.TheVariants.{Short, Long, Link}
 use Rattle.mt_border.specs.declared.entry.Entry.{Entry}
-use Rattle.mt_chart.specs.Tree.{Entry as PlainEntry, Right, Among}
+use Rattle.mt_chart.specs.Tree.{PlainEntry, Right, Among}
 use Rattle.mt_chart.specs.Scan.{Pair, VisitOutcome, answers, goes, BorderVisit, UpTo}
 use Rattle.mt_chart.specs.KeyAnswer.{as_places}
 use Rattle.mt_tree.specs.Seen.{content_seen, entry_seen, entries_seen, border_seen, content_place, entry_place}

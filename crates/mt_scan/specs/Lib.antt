@@ -1,5 +1,6 @@
 -- What the contracts of this crate cite.
 pub mod Cursor
 pub mod CursorCode
+pub mod Onward
 pub mod Scan
 pub mod ScanCode

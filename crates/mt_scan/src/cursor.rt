@@ -1,9 +1,10 @@
 //! The cursor of a scan: a place of the tree, and the layer in which the scan stands.
 
-ghost use Rattle.std.specs.Prelude.{◌≡◌, ◌<◌, ◌≤◌, ◌≢◌, ◌∷◌, ◌++◌, [], length, vec_len, take, reverse, IfOk, OnOk};
+ghost use Rattle.std.specs.Prelude.{ℕ, ◌≡◌, ◌<◌, ◌≤◌, ◌≢◌, ◌∷◌, ◌++◌, [], length, slice_index, vec_len, take, reverse, IfOk, OnOk};
 ghost use Rattle.std.specs.Ordering.{is_le};
 ghost use Rattle.mt_slice.specs.Place.{last, under, place_of, place_cmp, first_slice};
 ghost use Rattle.mt_scan.specs.Cursor.{StepsAt, Leaves, is_inside, entered_at, place_from, place_with, content_end};
+ghost use Rattle.mt_scan.specs.Onward.{HasDigits};
 
 use mt_border::{Content, Entry};
 use mt_slice::{SLICE_BYTES, key_bytes, rest_of, slice_of};
@@ -71,6 +72,15 @@ fn compare(slice: u64, class: u8, rest: &[u8], cursor: &[u64], end: u8) -> Order
     compare(slice, class.number(), rest_of(rest), &cursor[1..], end)
 }
 
+// The first of these slices. Each of them is of 64 bits, and so a cursor of them has digits.
+fn first_of(slices: &[u64]) -> u64
+    requires some { 0 < length slices.now }
+    ensures value { result ≡ slice_index slices.now 0 }
+    ensures digits { (class : ℕ) → HasDigits (place_from class slices.now) }
+{
+    slices[0]
+}
+
 // Ends the slices at a place, with this one.
 fn end_with(slices: &mut Vec<u64>, place: usize, slice: u64)
     requires { place < vec_len slices.old }
@@ -105,7 +115,14 @@ impl Cursor {
     pub(crate) fn slice(&self) -> u64
         ensures { result ≡ first_slice self.now.at }
     {
-        self.slices[self.depth]
+        first_of(&self.slices[self.depth..])
+    }
+
+    /// Its slices are of 64 bits, and so each of them gives a digit.
+    pub(crate) fn has_digits(&self)
+        ensures { HasDigits (under self.now.prefix self.now.at) }
+    {
+        let _first = first_of(&self.slices);
     }
 
     /// The slices above the layer in which the scan stands, from layer 0 on.

@@ -5,7 +5,6 @@ mod cursor;
 mod pair;
 mod scan;
 
-pub use pair::shown;
 pub use scan::{Scan, ScanMove};
 
 #[cfg(test)]

@@ -1,9 +1,8 @@
-//! The pairs that a scan takes: the keys of entries, and their rows as they are shown.
+//! The pairs that a scan takes: the keys of entries, and their rows.
 
-ghost use Rattle.std.specs.Prelude.{◌≡◌, ◌++◌, [], reverse, slice_index_or, IfOk, IsSome, OnOk, Some};
+ghost use Rattle.std.specs.Prelude.{◌≡◌, ◌++◌, reverse, IfOk, IsSome, OnOk, Some};
 ghost use Rattle.std.specs.Int.{w64, to_be_bytes};
 ghost use Rattle.std.specs.List.{flat_map};
-ghost use Rattle.mt_types.specs.Rows.{shown, chosen};
 ghost use Rattle.mt_slice.specs.Place.{AreBytes, under, place_of, bytes_of_place};
 ghost use Rattle.mt_border.specs.Entry.{entry_row};
 ghost use Rattle.mt_tree.specs.Seen.{entry_place};
@@ -12,11 +11,9 @@ ghost use Rattle.mt_scan.specs.Scan.{HoldsKey};
 use bytes::Bytes;
 use mt_border::{Content, Entry};
 use mt_slice::SLICE_BYTES;
-use mt_types::copying::TryCopy;
-use mt_types::items::Items;
 use mt_types::key::Key;
 use mt_types::refusal::NoMemory;
-use mt_types::row::{Column, ColumnNumbers, Columns, Row};
+use mt_types::row::Row;
 use std::alloc::Global;
 
 // The bytes of these slices, and room for those of one more.
@@ -71,41 +68,4 @@ pub(crate) fn row_of(entry: &Entry) -> &Row
         Some(row) => row,
         None => unreachable!(),
     }
-}
-
-// The column of a number, or no bytes. Shares the bytes.
-fn column_or_empty(columns: &[Column], number: u8) -> Result<Column, NoMemory>
-    ensures { IfOk result (λ column. column ≡ slice_index_or columns.now number []) }
-{
-    match columns.get(number as usize) {
-        Some(column) => Ok(column.clone()?),
-        None => Ok(Bytes::new()),
-    }
-}
-
-fn chosen(alloc: Global, asked: &[u8], columns: &Columns) -> Result<Columns, NoMemory>
-    ensures { IfOk result (λ made. made ≡ chosen asked.now columns.now) }
-{
-    if asked.is_empty() {
-        return columns.copy(alloc);
-    }
-    let mut made = Vec::with_capacity(alloc, asked.len())?;
-    for number in asked {
-        made.push(column_or_empty(columns.as_slice(), *number)?)?;
-    }
-    Ok(Items::from_vec(made))
-}
-
-/// The row with the columns that are asked for. Shares the bytes. Costs one allocation.
-///
-/// # Errors
-///
-/// `NoMemory` where an allocation is refused.
-pub fn shown(alloc: Global, asked: &ColumnNumbers, row: &Row) -> Result<Row, NoMemory>
-    ensures { IfOk result (λ made. made ≡ shown asked.now row.now) }
-{
-    Ok(Row {
-        version: row.version,
-        columns: chosen(alloc, asked.as_slice(), &row.columns)?,
-    })
 }

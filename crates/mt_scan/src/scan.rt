@@ -1,6 +1,6 @@
 //! The scan itself: what it keeps from one visit of a border to the next, and what a visit does.
 
-ghost use Rattle.std.specs.Prelude.{◌≡◌, ◌<◌, ◌↔◌, [], ◌∷◌, length, option_map, IfOk, IsSome, IsTrue, IsFalse, OnOk};
+ghost use Rattle.std.specs.Prelude.{ℕ, ◌≡◌, ◌<◌, ◌↔◌, [], ◌∷◌, length, option_map, IfOk, IsSome, IsTrue, IsFalse, OnOk};
 ghost use Rattle.mt_slice.specs.Place.{AreBytes, first_slice, place_of, under};
 ghost use Rattle.mt_border.specs.Entry.{entry_row};
 ghost use Rattle.mt_chart.specs.Scan.{AtEnd, AtMost};
@@ -8,11 +8,13 @@ ghost use Rattle.mt_chart.specs.KeyAnswer.{as_places, KeysAreBytes};
 ghost use Rattle.mt_tree.specs.Seen.{right_seen};
 ghost use Rattle.mt_scan.specs.Cursor.{StepsAt, entered_at};
 ghost use Rattle.mt_scan.specs.Scan.{HoldsKey, HoldsKeys, TakesPair, WasTaken, IsNext, VisitsBorder, outcome_of};
+ghost use Rattle.mt_scan.specs.Onward.{HasDigits, cursor_in, cursor_of, all_cursors, GoesOnward};
 
 use crate::cursor::{Cursor, Step};
-use crate::pair::{key_of, row_of, shown};
+use crate::pair::{key_of, row_of};
 use mt_border::{Border, Entry, RightLink};
 use mt_slice::compare;
+use mt_types::columns::shown;
 use mt_types::items::Items;
 use mt_types::key::Key;
 use mt_types::numbers::NodeNo;
@@ -180,6 +182,14 @@ impl Scan {
         self.cursor.step(entry)
     }
 
+    // Its cursor has digits, and so a number: its slices are of 64 bits.
+    fn cursor_has_digits(&self)
+        ensures digits { HasDigits self.now.at }
+        ensures within { (places : ℕ) → cursor_of places (cursor_in self.now) < all_cursors places }
+    {
+        self.cursor.has_digits();
+    }
+
     // Leaves a border at its end: to its right neighbour, or else out of the layer.
     fn leave(&mut self, right: Option<RightLink>) -> ScanMove
         ensures left { AtEnd self.old.prefix (option_map right_seen right) (as_places self.old.taken)
@@ -202,7 +212,7 @@ impl Scan {
     /// their order, up to the limit, up to the first link that it has to enter, or to the border's end. The scan is
     /// then at its end, or it goes on at the head of the link's layer, at the border to the right, or at the head of
     /// layer 0, and its cursor is behind all that it has done. Where it has as many pairs as it may take, it is at
-    /// its end at once.
+    /// its end at once. A scan that goes on gets on: its cursor is further on, or it is in the layer below.
     ///
     /// Costs a look at each entry up to there, and for each pair that it takes the allocations of its key and its
     /// row. The bytes of the columns are shared.
@@ -216,9 +226,13 @@ impl Scan {
         ensures visited { IfOk result (λ visited. VisitsBorder self.old border.now visited self.new) }
         ensures full { IfOk result (λ visited. length self.new.taken ≡ self.old.limit → visited ≡ ScanMove.Done) }
         ensures home { IfOk result (λ visited. visited ≡ ScanMove.Top → self.new.prefix ≡ []) }
+        ensures onward { IfOk result (λ visited. GoesOnward (cursor_in self.old) border.now visited
+            (cursor_in self.new)) }
+        ensures within { (places : ℕ) → cursor_of places (cursor_in self.old) < all_cursors places }
         ensures limit { self.new.limit ≡ self.old.limit }
         ensures asked { self.new.asked ≡ self.old.asked }
     {
+        self.cursor_has_digits();
         for place in 0..border.len() {
             if self.is_full() {
                 return Ok(ScanMove::Done);

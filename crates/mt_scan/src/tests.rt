@@ -1,5 +1,5 @@
-//! Each public call once: a scan over borders with no entries, and a row that is shown. What a scan takes of entries
-//! is said by its contract in full.
+//! Each public call once: a scan over borders with no entries. What a scan takes of entries is said by its contract in
+//! full.
 
 use super::*;
 use bytes::Bytes;
@@ -7,7 +7,6 @@ use mt_border::{Border, RightLink};
 use mt_types::items::Items;
 use mt_types::key::Key;
 use mt_types::numbers::NodeNo;
-use mt_types::row::Row;
 use std::test::Fail;
 
 #[test]
@@ -28,17 +27,5 @@ fn empty_borders(rt: HostRuntime) -> Result<(), Fail> {
     border.set_right(None);
     assert_eq!(rt; scan.visit(alloc, &border)?, ScanMove::Done);
     assert_eq!(rt; scan.into_pairs().as_slice().len(), 0);
-    Ok(())
-}
-
-#[test]
-fn all_columns(rt: HostRuntime) -> Result<(), Fail> {
-    let alloc = rt.alloc();
-    let row = Row {
-        version: 7,
-        columns: Items::new(alloc),
-    };
-    let same = shown(alloc, &Items::new(alloc), &row)? == row;
-    assert!(rt; same);
     Ok(())
 }

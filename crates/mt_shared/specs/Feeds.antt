@@ -30,12 +30,13 @@ pub record FeedsSomewhere (from limit : ℕ) (result : Result (Vec Delta) Refusa
   pub feeds : Feeds kept.machine from limit result
 
 -- The copy of a view of a machine: the state in which it stands, with the number of commits at which it stands; at each
--- history at which the machine stands, exactly what the view's specification gives afresh there. Or no such view stands,
--- or memory is wanting.
+-- history at which the machine stands, exactly what the view's specification gives afresh there. Or no such view
+-- stands, or memory is wanting.
 pub record Copies (m : MachineView) (view : ℕ) (result : Result (ℕ × StateView) Refusal) : Type 0 where
   pub state : IfOk result (λ copy. (state_at view m.views.views ≡ Some copy.1) × (copy.0 ≡ copy.1.at))
   pub exact : IfOk result (λ copy. (h : History) → Stands m h → CopiesView m.columns (moment h) view copy.1)
-  pub fault : MatchOption (state_at view m.views.views) (result ≡ Err NoSuchView) (λ s. IfErr result (λ r. r ≡ NoMemory))
+  pub fault : MatchOption (state_at view m.views.views) (result ≡ Err NoSuchView)
+      (λ s. IfErr result (λ r. r ≡ NoMemory))
 
 -- the copy of a view of something that the lock keeps
 pub record CopiesSomewhere (view : ℕ) (result : Result (ℕ × StateView) Refusal) : Type 0 where

@@ -69,7 +69,8 @@ pub fn remove<S: Shared>(
     drive(alloc, shared, pass, &mut NoGate, Request::Remove { key })
 }
 
-/// Up to `limit` rows from the first key at or after `start` on, with the columns asked for. The reply's answer is `Rows`.
+/// Up to `limit` rows from the first key at or after `start` on, with the columns asked for. The reply's answer is
+/// `Rows`.
 ///
 /// # Errors
 ///
@@ -98,8 +99,8 @@ pub fn getrange<S: Shared>(
     )
 }
 
-/// One change that tidies the tree where the key would stand. The reply's answer is `Tidied`, with what was done; no row
-/// changes.
+/// One change that tidies the tree where the key would stand. The reply's answer is `Tidied`, with what was done; no
+/// row changes.
 ///
 /// # Errors
 ///

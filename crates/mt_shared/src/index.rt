@@ -187,8 +187,8 @@ impl<'a, W: Wait> Door<'a, W> {
         index.kept.lock(self.wait).feed(alloc, from, limit)
     }
 
-    /// A copy of a view that stands, with the number of commits at which it stands: `Machine::view_copy`, in one holding
-    /// of the lock. No event.
+    /// A copy of a view that stands, with the number of commits at which it stands: `Machine::view_copy`, in one
+    /// holding of the lock. No event.
     ///
     /// # Errors
     ///

@@ -1,4 +1,5 @@
-//! Passes and their refusals, one caller, and a view that is kept up. What threads alone can show is in `mt_shared_tests`.
+//! Passes and their refusals, one caller, and a view that is kept up. What threads alone can show is in
+//! `mt_shared_tests`.
 
 use crate::calls::{get, put, view_add};
 use crate::driving::Shared;

@@ -31,7 +31,8 @@ pub fn view_read<S: Shared>(
     start: Bytes,
     limit: u16,
 ) -> Result<Page, Refusal>
-    ensures event { S.does shared.old pass.old (ViewRead view floor start limit) (page_outcome result) shared.new pass.new }
+    ensures event { S.does shared.old pass.old (ViewRead view floor start limit) (page_outcome result) shared.new
+        pass.new }
     ensures told { IsTold pass.old (ViewRead view floor start limit) (page_outcome result) pass.new }
     ensures floor { IfOk result (λ page. floor ≤ page.at) }
 {

@@ -14,7 +14,7 @@ use Rattle.mt_border.specs.declared.entry.Content.TheVariants.{Short, Long, Link
 use Rattle.mt_border.specs.declared.entry.Entry.{Entry}
 use Rattle.mt_border.specs.declared.entry.RightLink.{RightLink}
 use Rattle.mt_chart.specs.Tree.{Among, first, later, Below, no_right, before_right}
-use Rattle.mt_chart.specs.Tree.{Entry as PlainEntry}
+use Rattle.mt_chart.specs.Tree.{PlainEntry}
 use Rattle.mt_chart.specs.Chart.{class}
 use Rattle.mt_chart.proofs.Entries.{Before, InOrder, among_append, among_insert, among_hidden, among_set, in_order_apart, stands_once}
 use Rattle.mt_tree.specs.Seen.{content_seen, entry_seen, entries_seen, right_seen}

@@ -4,7 +4,7 @@ use Rattle.std.specs.List.{insert, remove}
 use Rattle.mt_types.specs.declared.numbers.NodeNo.{NodeNo}
 use Rattle.mt_interior.specs.Interior.{InteriorView, renamed, StartsAt}
 use Rattle.mt_interior.specs.declared.child.Child.{Child}
-use Rattle.mt_chart.specs.Tree.{Among, first, later, Child as PlainChild}
+use Rattle.mt_chart.specs.Tree.{Among, first, later, PlainChild}
 use Rattle.mt_chart.specs.Chart.{FirstLow, NoChildTwice}
 use Rattle.mt_tree.specs.Seen.{child_seen, children_seen}
 use Rattle.mt_tree.specs.InteriorSteps.{HasUpperChildren}

@@ -32,7 +32,7 @@ use Rattle.mt_arena.specs.declared.node.Node.TheVariants.{Head as HeadNode, Inte
 use Rattle.mt_arena.specs.Arena.{ArenaView}
 use Rattle.mt_chart.specs.Tree.{Among, first, later, Below, no_right, before_right, link}
 use Rattle.mt_chart.specs.Walk.{to_root, to_child as move_to_child, to_right as move_to_right, to_link}
-use Rattle.mt_chart.specs.Tree.{Entry as PlainEntry}
+use Rattle.mt_chart.specs.Tree.{PlainEntry}
 use Rattle.mt_chart.specs.Chart.{on, gone, Chart, Holds, OnBorder}
 use Rattle.mt_chart.specs.Steps.{Twin}
 use Rattle.mt_chart.proofs.TreeLemmas.{roots_held, children_held, borders_on, rights_held}

@@ -9,7 +9,7 @@ use Rattle.mt_interior.specs.declared.child.Child.{Child}
 use Rattle.mt_arena.specs.Node.{interior_at, head_at, border_at}
 use Rattle.mt_arena.specs.Arena.{ArenaView, with_node_at}
 use Rattle.mt_arena.specs.declared.node.Node.TheVariants.{Head}
-use Rattle.mt_chart.specs.Tree.{Child as PlainChild, Among, first, later, head, Arena}
+use Rattle.mt_chart.specs.Tree.{PlainChild, Among, first, later, head, Arena}
 use Rattle.mt_chart.specs.Chart.{on, gone, top, at_level, Spot, spot, Chart, OnHead, IsLastBorder, FirstLow, NoChildTwice, Changes}
 use Rattle.mt_chart.specs.Steps.{Twin, Keeps, WritesHead}
 use Rattle.mt_chart.proofs.InteriorLaws.{marking_head, marking_gone_head, making_root, making_root_over_half, bypassing_root}

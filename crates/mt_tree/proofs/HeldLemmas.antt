@@ -5,7 +5,7 @@ use Rattle.mt_interior.specs.declared.child.Child.{Child}
 use Rattle.mt_arena.specs.Node.{node_at}
 use Rattle.mt_arena.specs.declared.node.Node.{Node}
 use Rattle.mt_chart.specs.Tree.{InteriorNode, head, border, interior, Arena}
-use Rattle.mt_chart.specs.Tree.{Node as PlainNode, Child as PlainChild}
+use Rattle.mt_chart.specs.Tree.{PlainNode, PlainChild}
 use Rattle.mt_chart.specs.Chart.{Standing, on, gone, Role, top, at_level, spot, Chart, IsTree, Holds}
 use Rattle.mt_chart.proofs.TreeLemmas.{nodes_there, some_child}
 use Rattle.mt_tree.specs.Seen.{arena_seen, node_seen, interior_seen, children_seen}

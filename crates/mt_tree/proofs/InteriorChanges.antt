@@ -10,7 +10,7 @@ use Rattle.mt_interior.proofs.ChildrenLemmas.{length-renamed}
 use Rattle.mt_arena.specs.Node.{interior_at, border_at}
 use Rattle.mt_arena.specs.Arena.{ArenaView, with_node_at}
 use Rattle.mt_arena.specs.declared.node.Node.TheVariants.{Interior}
-use Rattle.mt_chart.specs.Tree.{Among, first, border, Child as PlainChild, Arena}
+use Rattle.mt_chart.specs.Tree.{Among, first, border, PlainChild, Arena}
 use Rattle.mt_chart.specs.Chart.{Standing, on, gone, Role, at_level, spot, Chart, FirstLow, AreChildren, Owns, by_interior, IsTree, NoChildTwice}
 use Rattle.mt_chart.specs.Steps.{Twin, AreTwins, Keeps, WritesInterior}
 use Rattle.mt_chart.proofs.InteriorLaws.{posting_border, posting_half, dropping_child, bypassing}

@@ -4,7 +4,7 @@ use Rattle.mt_interior.specs.Interior.{InteriorView}
 use Rattle.mt_arena.specs.Node.{interior_at}
 use Rattle.mt_arena.specs.Arena.{ArenaView, with_node_at}
 use Rattle.mt_arena.specs.declared.node.Node.TheVariants.{Interior}
-use Rattle.mt_chart.specs.Tree.{Child, InteriorNode, Among, interior, Arena}
+use Rattle.mt_chart.specs.Tree.{PlainChild, InteriorNode, Among, interior, Arena}
 use Rattle.mt_chart.specs.Chart.{Standing, on, gone, Role, top, at_level, Spot, spot, Chart, FirstLow, AreChildren, Owns, IsTree, NoChildTwice, Changes}
 use Rattle.mt_chart.specs.Steps.{Twin, WritesInterior, Keeps}
 use Rattle.mt_chart.proofs.InteriorLaws.{keeping_children, marking_gone}
@@ -75,7 +75,7 @@ is_on_as a number old is now twins chart index prefix stands =
 
 -- what an interior that is on names may be named
 pub child_place : {chart : Chart} {number : ℕ} {prefix : List ℕ} {stands : IsInLayer chart number prefix} {node : InteriorNode} → IsOnAs chart number prefix stands node →
-    (child : Child) → Among child node.children → chart child.number ≡ Some (spot (at_level child.level) prefix child.low (on true))
+    (child : PlainChild) → Among child node.children → chart child.number ≡ Some (spot (at_level child.level) prefix child.low (on true))
 child_place {prefix = prefix} w child among =
     let may = w.children.each child among in
     may.place ∙ ap (λ (s : Standing). Some (spot (at_level child.level) prefix child.low s)) may.may
@@ -108,8 +108,8 @@ module _ (a : ArenaView) (number : ℕ) (old new : InteriorView) (is : interior_
   -- gone, it is marked deleted.
   pub write_keeps : (now : ℕ) (twins : List Twin) (chart : Chart) → IsIndexAt a now twins chart → new.low ≡ old.low → new.level ≡ old.level →
       ((prefix : List ℕ) (stands : IsInLayer chart number prefix) → IsOnAs chart number prefix stands (interior_seen old) →
-      FirstLow new.low (children_seen new.children) × NoChildTwice (children_seen new.children) × ((each : Child) → Among each (children_seen new.children) → Among each (children_seen old.children)) ×
-      ((each : Child) → Among each (children_seen old.children) → Among each (children_seen new.children) ⊎ ((other : ℕ) × (other ≢ number) × Owns (arena_seen a) chart other each.number))) →
+      FirstLow new.low (children_seen new.children) × NoChildTwice (children_seen new.children) × ((each : PlainChild) → Among each (children_seen new.children) → Among each (children_seen old.children)) ×
+      ((each : PlainChild) → Among each (children_seen old.children) → Among each (children_seen new.children) ⊎ ((other : ℕ) × (other ≢ number) × Owns (arena_seen a) chart other each.number))) →
       ((role : Role) (prefix : List ℕ) (low epoch : ℕ) → chart number ≡ Some (spot role prefix low (gone epoch)) → StandsAs chart (interior_seen old) role prefix low (gone epoch) → new.version.deleted ≡ true) →
       Keeps now twins (arena_seen a) after chart chart
   write_keeps now twins chart index same_low same_level where_on where_gone = go (chart number) refl

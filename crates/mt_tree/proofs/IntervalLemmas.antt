@@ -9,7 +9,7 @@ use Rattle.mt_border.specs.declared.entry.Content.{Content}
 use Rattle.mt_border.specs.declared.entry.Content.TheVariants.{Short, Long, Link}
 use Rattle.mt_border.specs.declared.entry.Entry.{Entry}
 use Rattle.mt_chart.specs.Tree.{Among, first, later}
-use Rattle.mt_chart.specs.Tree.{Entry as PlainEntry}
+use Rattle.mt_chart.specs.Tree.{PlainEntry}
 use Rattle.mt_chart.specs.Chart.{class}
 use Rattle.mt_chart.specs.ScanRun.{EntriesInOrder}
 use Rattle.mt_chart.proofs.TreeLemmas.{borders_on, in_their_intervals}

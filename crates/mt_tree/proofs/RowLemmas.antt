@@ -23,7 +23,7 @@ use Rattle.mt_border.specs.declared.found.Found.TheVariants.{Absent, Row as RowF
 use Rattle.mt_arena.specs.Node.{border_at}
 use Rattle.mt_arena.specs.Arena.{ArenaView}
 use Rattle.mt_chart.specs.Tree.{HoldsRow, link}
-use Rattle.mt_chart.specs.Tree.{Entry as PlainEntry}
+use Rattle.mt_chart.specs.Tree.{PlainEntry}
 use Rattle.mt_chart.specs.TreeLaws.{HasEntry, GoesOnAtALink}
 use Rattle.mt_chart.proofs.TreeLemmas.{at_their_places}
 use Rattle.mt_tree.specs.Seen.{arena_seen, border_seen, entry_seen, content_seen, content_place}

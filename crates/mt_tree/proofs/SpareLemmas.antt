@@ -12,7 +12,7 @@ use Rattle.mt_arena.specs.declared.retired.Retired.{Retired}
 use Rattle.mt_arena.specs.declared.node.Node.TheVariants.{Border}
 use Rattle.mt_arena.proofs.NodeLemmas.{updates-without}
 use Rattle.mt_arena.specs.declared.node.Node.{Node}
-use Rattle.mt_chart.specs.Tree.{Arena, Node as PlainNode}
+use Rattle.mt_chart.specs.Tree.{Arena, PlainNode}
 use Rattle.mt_chart.specs.Chart.{Chart, Spot, spot, IsTree}
 use Rattle.mt_chart.proofs.TreeLemmas.{nodes_there}
 use Rattle.mt_chart.proofs.InteriorLaws.{changing_spares, freeing}

@@ -1,6 +1,6 @@
 -- A number that the chart does not know may be written.
 use Rattle.std.proofs.Common.{ℕ, ◌≡◌, ◌≢◌, List, Option, Some, None, sym, ap, ◌∙◌}
-use Rattle.mt_chart.specs.Tree.{Arena, Node}
+use Rattle.mt_chart.specs.Tree.{Arena, PlainNode}
 use Rattle.mt_chart.specs.Chart.{Spot, Chart, Changes}
 use Rattle.mt_chart.specs.Steps.{Twin, IsIndex, Keeps}
 use Rattle.mt_chart.proofs.InteriorLaws.{changing_spares}
@@ -13,6 +13,6 @@ spare_changed now twins arena after chart number index rest unknown =
     differs : (other : ℕ) (place : Spot) → chart other ≡ Some place → other ≢ number
     differs other place known e = let clash : ◌≡◌ {A = Option Spot} None (Some place) = sym unknown ∙ (ap chart (sym e) ∙ known) in cc
 
-pub spare_written : (now : ℕ) (twins : List Twin) (arena after : Arena) (chart : Chart) (number : ℕ) (new : Option Node) → IsIndex now twins arena chart → Changes arena after number new → chart number ≡ None →
+pub spare_written : (now : ℕ) (twins : List Twin) (arena after : Arena) (chart : Chart) (number : ℕ) (new : Option PlainNode) → IsIndex now twins arena chart → Changes arena after number new → chart number ≡ None →
     Keeps now twins arena after chart chart
 spare_written now twins arena after chart number new index written unknown = spare_changed now twins arena after chart number index written.rest unknown

@@ -10,7 +10,7 @@ use Rattle.mt_arena.specs.Node.{border_at}
 use Rattle.mt_arena.specs.Arena.{ArenaView, with_node_at}
 use Rattle.mt_arena.specs.declared.node.Node.TheVariants.{Border}
 use Rattle.mt_chart.specs.Tree.{HeadNode, Among, Below, no_right, before_right}
-use Rattle.mt_chart.specs.Tree.{Entry as PlainEntry}
+use Rattle.mt_chart.specs.Tree.{PlainEntry}
 use Rattle.mt_chart.specs.Chart.{Chart}
 use Rattle.mt_chart.specs.Steps.{Twin, IsIndex, Keeps}
 use Rattle.mt_chart.proofs.BorderLaws.{linking}

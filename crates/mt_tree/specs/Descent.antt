@@ -92,8 +92,8 @@ pub record IsHere (a : ArenaView) (chart : Chart) (number : ℕ) (prefix rest : 
   pub named : border_at a.nodes number ≡ Some border
   pub stands : IsWhere (arena_seen a) chart number prefix (border_seen border) (place_of rest)
 
--- what a call knows where a visit leads it: it holds the next node; or it knows the next one as the head of the layer below; or it has
--- come to the key's border
+-- what a call knows where a visit leads it: it holds the next node; or it knows the next one as the head of the layer
+-- below; or it has come to the key's border
 abbrev pub Knows : ArenaView → Chart → ℕ → ℕ → List ℕ → List ℕ → Visit → Type 0
 Knows a chart begun number prefix rest Again = Unit {0}
 Knows a chart begun number prefix rest (To next) = Holds chart begun next.0 prefix (slice_number rest)

@@ -16,7 +16,7 @@ use Rattle.mt_arena.specs.Arena.{ArenaView}
 use Rattle.mt_arena.specs.declared.node.Node.{Node}
 use Rattle.mt_arena.specs.declared.node.Node.TheVariants.{Head, Interior, Border}
 use Rattle.mt_chart.specs.Tree.{short, long, link, head, border, interior, Has, Arena}
-use Rattle.mt_chart.specs.Tree.{Content as PlainContent, Entry as PlainEntry, Right as PlainRight, Child as PlainChild, Node as PlainNode, HeadNode, BorderNode, InteriorNode}
+use Rattle.mt_chart.specs.Tree.{PlainContent, PlainEntry, Right as PlainRight, PlainChild, PlainNode, HeadNode, BorderNode, InteriorNode}
 
 -- what stands at a slice: of a longer key's row, what follows the slice is seen as its place one layer deeper
 abbrev pub content_seen : Content → PlainContent

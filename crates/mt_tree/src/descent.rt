@@ -97,7 +97,8 @@ impl Tree {
     pub fn visit(&self, number: NodeNo, rest: &[u8]) -> Visit
         requires { MayVisit self.now number.0 (slice_number rest.now) }
         ensures value { IsSomeAnd (node_at self.now.nodes number.0) (λ node. result ≡ node_visit rest.now node) }
-        ensures again { result ≡ Visit.Again → IsSomeAnd (node_at self.now.nodes number.0) (λ node. is_marked node ≡ true) }
+        ensures again { result ≡ Visit.Again
+            → IsSomeAnd (node_at self.now.nodes number.0) (λ node. is_marked node ≡ true) }
         ensures leads { LeadsOn self.now number.0 rest.now result }
         ensures tells { TellsVisit self.now number.0 rest.now result }
         ensures arena { IsArena self.now }

@@ -4,10 +4,11 @@ use Rattle.std.specs.FinMap.{is_sorted}
 use Rattle.std.specs.Ordering.{is_eq, is_ge, is_le}
 use Rattle.mt_types.specs.Keys.{key_cmp}
 
--- The pairs that answer a range from start on, of at most limit pairs. Stood says of a key and a value that at some moment
---     the key had a row that shows so, and Throughout of a key that it had a row at each moment: the moments are the
+-- The pairs that answer a range from start on, of at most limit pairs. Stood says of a key and a value that at some
+-- moment the key had a row that shows so, and Throughout of a key that it had a row at each moment: the moments are the
 --     caller's to name.
-pub record IsRangeAnswer {V : Type 0} (Stood : List ℕ → V → Type 0) (Throughout : List ℕ → Type 0) (start : List ℕ) (limit : ℕ) (pairs : List (List ℕ × V)) : Type 0 where
+pub record IsRangeAnswer {V : Type 0} (Stood : List ℕ → V → Type 0) (Throughout : List ℕ → Type 0) (start : List ℕ)
+    (limit : ℕ) (pairs : List (List ℕ × V)) : Type 0 where
   -- the keys rise strictly
   pub rises : IsTrue (is_sorted key_cmp pairs)
   pub from_start : All (λ pair. IsTrue (is_ge (key_cmp pair.0 start))) pairs

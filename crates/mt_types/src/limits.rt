@@ -71,7 +71,9 @@ fn misnames(columns: u8, names: &[u8]) -> bool
     false
 }
 
-fn columns_fault(columns: u8, names: &[u8]) -> Option<Refusal>
+/// What refuses these numbers of columns, in an index of `columns` columns: one that isn't there, or that stands twice.
+/// O(n^2) in the numbers.
+pub fn columns_fault(columns: u8, names: &[u8]) -> Option<Refusal>
     ensures { result ≡ columns_fault columns names.now }
 {
     misnames(columns, names).then_some(Refusal::BadColumn)
@@ -163,8 +165,8 @@ fn range_fault(columns: u8, lo: &Bytes, hi: &Bytes, test: &RowTest) -> Option<Re
         .or_else(|| end_fault(lo, hi))
 }
 
-/// The first limit that a specification of a view breaks on an index of `columns` columns: of keys, then of its test, then
-/// that its range ends before it begins.
+/// The first limit that a specification of a view breaks on an index of `columns` columns: of keys, then of its test,
+/// then that its range ends before it begins.
 pub fn spec_fault(columns: u8, spec: &ViewSpec) -> Option<Refusal>
     ensures { result ≡ spec_fault columns spec.now }
 {

@@ -37,7 +37,8 @@ test_back (Equals column bytes) = refl
 test_back (AtLeast column least) = refl
 
 abbrev test_code : Coded RowTest
-test_code = code_by TestParts (coded_option (coded⊎ (coded× coded_ℕ bytes_code) (coded× coded_ℕ coded_ℕ))) test_parts test_of test_back
+test_code = code_by TestParts (coded_option (coded⊎ (coded× coded_ℕ bytes_code) (coded× coded_ℕ coded_ℕ))) test_parts
+    test_of test_back
 
 -- a specification is stored as the parts of its range or of its prefix
 abbrev SpecParts : Type 0
@@ -56,7 +57,9 @@ spec_back (Range lo hi test) = refl
 spec_back (Prefix key test) = refl
 
 abbrev spec_code : Coded ViewSpec
-spec_code = code_by SpecParts (coded⊎ (coded× bytes_code (coded× (coded_option bytes_code) test_code)) (coded× bytes_code test_code)) spec_parts spec_of spec_back
+spec_code = code_by SpecParts
+    (coded⊎ (coded× bytes_code (coded× (coded_option bytes_code) test_code)) (coded× bytes_code test_code)) spec_parts
+    spec_of spec_back
 
 -- a row is stored as the pair of its version and its columns
 abbrev row_code : Coded Row

@@ -1,6 +1,7 @@
 use Rattle.std.proofs.Common.{◌+◌, sym, subst}
 use Rattle.mt_scan.proofs.VisitLemmas.{Visiting, comes-full, goes-on, goes-on_taking, comes-enter, holds-key}
 use Rattle.mt_scan.proofs.StepLemmas.{takes-row}
+use Rattle.mt_scan.proofs.OnwardLemmas.{enters_get_on, leaves_get_on}
 use Rattle.mt_scan.specs.Scan.{ScanView}
 use Rattle.mt_scan.proofs.scan.Scan.visit.Goals as goal
 use Rattle.mt_scan.proofs.scan.Scan.visit.Goals.{in-Pass, in-Take+in_ok-take-in-Take}
@@ -21,6 +22,16 @@ take-requires-clause-key c =
 pub returns-in-Enter-clause-visited : goal.returns-in-Enter-clause-visited
 returns-in-Enter-clause-visited c =
     comes-enter c.args.self.now c.loop-place.self c.args.border.now c.loop-place.place c.loop-place.invariant c.entry-entry.result.now c.in-Enter.head c.enter.new.self c.entry-entry.ensures.value c.in-Enter.ensures c.in_ok-enter-in-Enter.ensures.entered
+
+pub returns-in-Enter-clause-onward : goal.returns-in-Enter-clause-onward
+returns-in-Enter-clause-onward c places may =
+    enters_get_on c.args.self.now c.loop-place.self c.enter.new.self c.args.border.now c.loop-place.invariant.same c.cursor_has_digits.ensures.digits places may
+    c.entry-entry.result.now.slice c.entry-entry.result.now.content c.in-Enter.head c.in-Enter.ensures c.in_ok-enter-in-Enter.ensures.entered
+
+pub returns-clause-onward : goal.returns-clause-onward
+returns-clause-onward c places may =
+    leaves_get_on c.args.self.now c.loop-place.self c.leave.new.self c.args.border.now c.loop-place.invariant.same c.cursor_has_digits.ensures.digits places may
+    c.right.result c.leave.result c.right.ensures.value c.leave.ensures.left c.leave.ensures.home
 
 pub loop-place-preserved : goal.loop-place-preserved
 loop-place-preserved c = elim c.match-step.branch [
