@@ -24,7 +24,8 @@ use Rattle.mt_chart.specs.Steps.{Twin, SameContent}
 use Rattle.mt_tree.specs.Seen.{arena_seen}
 use Rattle.mt_calls.specs.Step.{Changes}
 use Rattle.mt_calls.proofs.FrameLemmas.{is_among, taken_back}
-use Rattle.mt_calls.specs.World.{World, IsWorld, RowsAreOfKeys, IsLockedRoot, HeadsStand, IsLockedInterior, TwinsAreLocked, IsGone, RetiredAreGone, NotRetired, IsLocked, IsTaken, NotAmong, Goes}
+use Rattle.mt_calls.proofs.AliveLemmas.{alive_node, alive_there}
+use Rattle.mt_calls.specs.World.{World, IsWorld, RowsAreOfKeys, IsLockedRoot, HeadsStand, IsLockedInterior, IsAliveIfFree, TwinsAreLocked, IsGone, RetiredAreGone, NotRetired, IsLocked, IsTaken, NotAmong, Goes}
 
 -- ---- rows of keys
 pub keys_same : (a after : ArenaView) → SameContent (arena_seen a) (arena_seen after) → RowsAreOfKeys a → RowsAreOfKeys after
@@ -172,16 +173,20 @@ module _ (a : ArenaView) (n : ℕ) (b : BorderView) (change : BorderView → Bor
   pub twins_changed : (chart next : Chart) (twins : List Twin) → Evolves 0 chart next → TwinsAreLocked a chart twins → TwinsAreLocked (with_border_changed a n change) next twins
   twins_changed chart next twins evolves = twins_beside a (with_border_changed a n change) chart next twins n evolves (no_interior a chart n (ap (option_and_then interior_of) (node-from_border a.nodes n b named))) others_named
 
-  -- what the change asks of the border: it is not retired, and if it is closing, it is locked still
+  -- a border that is locked still, or is not marked deleted, is so if it is not locked
+  pub alive_changed : (chart : Chart) → ((change b).version.locked ≡ true) ⊎ ((change b).version.deleted ≡ false) → IsAliveIfFree (with_border_changed a n change) chart n
+  alive_changed chart held = alive_node (with_border_changed a n change) chart n (Border (change b)) updated.changed held
+
+  -- what the change asks of the border: it is not retired; if it is closing, it is locked still; and if it is on and not locked, it is not marked deleted
   abbrev pub MayChange : World → Type 0
-  MayChange w = NotRetired a.retired n × (Among n w.closing → (change b).version.locked ≡ true)
+  MayChange w = NotRetired a.retired n × (Among n w.closing → (change b).version.locked ≡ true) × IsAliveIfFree (with_border_changed a n change) w.chart n
 
   is_locked_node : b.version.locked ≡ true → IsLocked (node_at a.nodes n)
   is_locked_node locked = subst (λ (x : Option Node). IsLocked x) (sym (node-from_border a.nodes n b named)) locked
 
   -- a border that is locked may be changed, if it is not closing
-  pub locked_may : (now : ℕ) (w : World) → IsWorld a now w → b.version.locked ≡ true → NotAmong n w.closing → MayChange w
-  locked_may now w world locked free = (locked_kept a now w.chart n (is_locked_node locked) world.retired, λ i. absurd (free i))
+  pub locked_may : (now : ℕ) (w : World) → IsWorld a now w → b.version.locked ≡ true → NotAmong n w.closing → ((change b).version.locked ≡ true) ⊎ ((change b).version.deleted ≡ false) → MayChange w
+  locked_may now w world locked free held = (locked_kept a now w.chart n (is_locked_node locked) world.retired, λ i. absurd (free i), alive_changed w.chart held)
 
   -- what the step leaves
   pub goes_border : (now : ℕ) (w : World) (owned owns : List ℕ) (Then : World → Type 0) → IsWorld a now w → IsIndexAt (with_border_changed a n change) now w.twins w.chart → RowsAreOfKeys (with_border_changed a n change)
@@ -190,7 +195,7 @@ module _ (a : ArenaView) (n : ℕ) (b : BorderView) (change : BorderView → Bor
       → Goes now a (with_border_changed a n change) w owned owns Then
   goes_border now w owned owns Then world index keys free fewer more mine may truth = record {
     next = w;
-    world = record { index = index; keys = keys; heads = heads_changed w.chart may.1 world.heads; twins = twins_changed w.chart w.chart w.twins (evolves_same 0 w.chart) world.twins; retired = retired_kept a (with_border_changed a n change) now w.chart w.chart n (evolves_same 0 w.chart) may.0 others_named refl world.retired };
+    world = record { index = index; keys = keys; heads = heads_changed w.chart may.1 world.heads; alive = alive_there a (with_border_changed a n change) w.chart n may.2 others_named world.alive; twins = twins_changed w.chart w.chart w.twins (evolves_same 0 w.chart) world.twins; retired = retired_kept a (with_border_changed a n change) now w.chart w.chart n (evolves_same 0 w.chart) may.0 others_named refl world.retired };
     evolves = λ begun before. evolves_same begun w.chart;
     leaves = λ other taken apart. (
       record { node = others_named other (free other taken apart); spot = refl; twins = λ one other here. ((λ h. h), (λ h. h)); closing = λ i. i; retired = ((λ h. h), (λ h. h)) },
@@ -207,6 +212,7 @@ module _ (a : ArenaView) (n : ℕ) (b : BorderView) (change : BorderView → Bor
         | inr out ↦ inr (taken_back a (with_border_changed a n change) w w number (record { node = others_named number differ; spot = refl; twins = λ one other here. ((λ h. h), (λ h. h)); closing = λ i. i; retired = ((λ h. h), (λ h. h)) }) taken, out)
       ]
     ];
+    spots = λ number out apart. refl;
     true = truth;
   }
     where

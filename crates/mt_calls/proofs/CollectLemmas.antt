@@ -13,7 +13,7 @@ use Rattle.mt_arena.specs.Arena.{ArenaView, IsArena, nodes_left, without_first_r
 use Rattle.mt_arena.specs.declared.retired.Retired.{Retired}
 use Rattle.mt_arena.specs.declared.node.Node.{Node}
 use Rattle.mt_arena.proofs.NodeLemmas.{node-from_border, updates-without}
-use Rattle.mt_chart.specs.Tree.{Among, first, later, InteriorNode, border, interior, Node as PlainNode}
+use Rattle.mt_chart.specs.Tree.{Among, first, later, InteriorNode, border, interior, PlainNode}
 use Rattle.mt_chart.specs.Chart.{Role, top, at_level, on, gone, Spot, spot, Chart, OnHead, Evolves, Changes}
 use Rattle.mt_chart.specs.Steps.{SameContent}
 use Rattle.mt_chart.proofs.Basics.{same_number}
@@ -26,6 +26,7 @@ use Rattle.mt_tree.specs.Seen.{node_seen, head_seen}
 use Rattle.mt_tree.proofs.SeenLemmas.{seen-border}
 use Rattle.mt_calls.specs.World.{World, IsWorld, IsLockedRoot, HeadsStand, IsLockedInterior, TwinsAreLocked, IsGone, RetiredAreGone, NotRetired, IsLocked, IsTaken, IsSame, NotAmong, GoneSince}
 use Rattle.mt_calls.proofs.FrameLemmas.{taken_back}
+use Rattle.mt_calls.proofs.AliveLemmas.{alive_unknown, alive_beside, same_on}
 use Rattle.mt_calls.proofs.BorderLemmas.{keys_same}
 use Rattle.mt_calls.proofs.SplitLemmas.{eqb-ne}
 
@@ -65,6 +66,7 @@ advances a now w world = record {
   };
   keys = world.keys;
   heads = world.heads;
+  alive = world.alive;
   twins = world.twins;
   retired = record {
     each = All-weaker (IsGone a now w.chart) (IsGone a (now + 1) w.chart) (λ node g. record { role = g.role; prefix = g.prefix; low = g.low; epoch = g.epoch; place = g.place; before = g.before; dated = let less = g.dated in omega (arith, less); unlocked = g.unlocked }) a.retired world.retired.each;
@@ -239,6 +241,7 @@ module _ (a : ArenaView) (now : ℕ) (w : World) (node : Retired) (others : List
           index = index;
           keys = keys_same a after content world.keys;
           heads = heads;
+          alive = alive_beside a after w.chart next.chart n (alive_unknown after next.chart n charted.now) updated.others (λ other differ. same_on w.chart next.chart other (charted.rest other differ)) world.alive;
           twins = record { locked = λ one other pair. let both = world.twins.locked one other pair in (twin_stays one both.0, twin_stays other both.1) };
           retired = record { each = subst (λ (l : List Retired). All (IsGone after now next.chart) l) (sym retired_are) (all_stay others apart (All-tail (IsGone a now w.chart) node others all_gone)) };
         };

@@ -10,7 +10,7 @@ use Rattle.mt_arena.specs.declared.retired.Retired.{Retired}
 use Rattle.mt_arena.specs.Node.{node_at, head_of}
 use Rattle.mt_arena.specs.Arena.{ArenaView, IsArena}
 use Rattle.mt_arena.specs.declared.node.Node.{Node}
-use Rattle.mt_chart.specs.Tree.{Among, first, later, Node as PlainNode}
+use Rattle.mt_chart.specs.Tree.{Among, first, later, PlainNode}
 use Rattle.mt_chart.proofs.Basics.{same_number}
 use Rattle.mt_chart.proofs.Entries.{among_cases}
 use Rattle.mt_chart.specs.Chart.{spot, Chart, IsTree, Holds}
@@ -54,6 +54,7 @@ goes_same now a w Then owned owns same world truth = record {
   evolves = λ begun before. evolves_same begun w.chart;
   leaves = λ other taken apart. (record { node = refl; spot = refl; twins = λ one other here. ((λ h. h), (λ h. h)); closing = λ i. i; retired = ((λ h. h), (λ h. h)) }, λ i. apart (subst (λ (l : List ℕ). Among other l) (sym same) i));
   takes = λ number taken. elim (is_among number owned) [ inl i ↦ inl (subst (λ (l : List ℕ). Among number l) same i) | inr out ↦ inr (taken, out) ];
+  spots = λ number out apart. refl;
   true = truth;
 }
 

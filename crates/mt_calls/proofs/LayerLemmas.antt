@@ -10,6 +10,7 @@ use Rattle.mt_arena.specs.Node.{node_at, head_at, head_of, interior_of, border_a
 use Rattle.mt_arena.specs.declared.retired.Retired.{Retired}
 use Rattle.mt_arena.specs.Arena.{ArenaView, with_border_changed}
 use Rattle.mt_arena.specs.declared.node.Node.{Node}
+use Rattle.mt_arena.specs.declared.node.Node.TheVariants.{Border}
 use Rattle.mt_arena.proofs.NodeLemmas.{node-from_head, node-from_border}
 use Rattle.mt_chart.specs.Tree.{Among, first, later}
 use Rattle.mt_chart.specs.Chart.{on, at_level, top, Spot, spot, Chart}
@@ -19,8 +20,9 @@ use Rattle.mt_chart.proofs.HeldNodes.{evolves_same, evolves_again}
 use Rattle.mt_tree.specs.Seen.{arena_seen}
 use Rattle.mt_tree.specs.Keeping.{KeepsTree, KeepsUnknown, IsUnknown, IsOnIn}
 use Rattle.mt_tree.specs.BorderSteps.{MakesLayerAt}
-use Rattle.mt_calls.specs.World.{World, IsWorld, HeadsStand, IsLockedInterior, NotRetired, IsLocked, IsTaken, NotAmong, Goes}
+use Rattle.mt_calls.specs.World.{World, IsWorld, HeadsStand, IsLockedInterior, IsAliveIfFree, FreeAreAlive, NotRetired, IsLocked, IsTaken, NotAmong, Goes}
 use Rattle.mt_calls.proofs.FrameLemmas.{is_among, taken_back, retired_same}
+use Rattle.mt_calls.proofs.AliveLemmas.{alive_node, alive_unknown, alive_head, alive_there, alive_placed, same_on}
 use Rattle.mt_calls.proofs.BorderLemmas.{keys_same, heads_changed, twins_changed, twins_beside, no_interior, retired_kept, unknown_kept, MayChange, others_named}
 use Rattle.mt_calls.proofs.SplitLemmas.{vacant_free, vacant_root, heads_occupied, with_spot, spot_changes}
 
@@ -57,6 +59,8 @@ module _ (now : ℕ) (a mid after : ArenaView) (w : World) (one two : ℕ) (node
             keys = keys_same a after content world.keys;
             heads = heads_occupied mid after w two (Some node_two) updates_two (unknown_two.unknown now w.twins w.chart kept.index) (vacant_root a w two vacant_first world.heads)
                 (heads_occupied a mid w one (Some node_one) updates_one (unknown_one.unknown now w.twins w.chart world.index) (vacant_root a w one vacant_one world.heads) world.heads);
+            alive = alive_there mid after w.chart two (alive_unknown after w.chart two (unknown_two.unknown now w.twins w.chart kept.index)) updates_two.others
+                (alive_there a mid w.chart one (alive_unknown mid w.chart one (unknown_one.unknown now w.twins w.chart world.index)) updates_one.others world.alive);
             twins = twins_beside mid after w.chart w.chart w.twins two (evolves_same 0 w.chart) (no_interior mid w.chart two (ap (option_and_then interior_of) vacant_two)) updates_two.others
                 (twins_beside a mid w.chart w.chart w.twins one (evolves_same 0 w.chart) (no_interior a w.chart one (ap (option_and_then interior_of) vacant_one)) updates_one.others world.twins);
             retired = retired_kept mid after now w.chart w.chart two (evolves_same 0 w.chart) (subst (λ (l : List Retired). NotRetired l two) (sym retired_one) (unknown_kept a now w.chart two (unknown_two.unknown now w.twins w.chart kept.index) world.retired)) updates_two.others retired_two
@@ -74,6 +78,7 @@ module _ (now : ℕ) (a mid after : ArenaView) (w : World) (one two : ℕ) (node
               | inr not_one ↦ elim (is_among other owned) [ inl i ↦ inl (later (later i)) | inr out ↦ inr (taken_back a after w w other (record { node = others_same other not_one not_two; spot = refl; twins = λ one other here. ((λ h. h), (λ h. h)); closing = λ i. i; retired = retired_same a.retired after.retired other (retired_two ∙ retired_one) }) taken, out) ]
             ]
           ];
+          spots = λ number out apart. refl;
           true = truth;
         },
         content,
@@ -99,6 +104,7 @@ goes_given_back now a mid after w number node owned Then vacant updates retired 
           index = again.index;
           keys = keys_same a after content world.keys;
           heads = heads_occupied mid after w number None back unknown_now free (heads_occupied a mid w number (Some node) updates unknown_now free world.heads);
+          alive = alive_there mid after w.chart number (alive_unknown after w.chart number unknown_now) back.others (alive_there a mid w.chart number (alive_unknown mid w.chart number unknown_now) updates.others world.alive);
           twins = twins_beside mid after w.chart w.chart w.twins number (evolves_same 0 w.chart) (unknown_free mid w.chart number unknown_now) back.others
               (twins_beside a mid w.chart w.chart w.twins number (evolves_same 0 w.chart) (unknown_free a w.chart number unknown_now) updates.others world.twins);
           retired = retired_kept mid after now w.chart w.chart number (evolves_same 0 w.chart) (subst (λ (l : List Retired). NotRetired l number) (sym retired) (unknown_kept a now w.chart number unknown_now world.retired)) back.others retired_back
@@ -107,6 +113,7 @@ goes_given_back now a mid after w number node owned Then vacant updates retired 
         evolves = λ begun before. evolves_again begun w.chart w.chart w.chart (kept.evolves begun before) (again.evolves begun before);
         leaves = λ other taken apart. (record { node = same other; spot = refl; twins = λ one other here. ((λ h. h), (λ h. h)); closing = λ i. i; retired = retired_same a.retired after.retired other (retired_back ∙ retired) }, apart);
         takes = λ other taken. elim (is_among other owned) [ inl i ↦ inl i | inr out ↦ inr (taken_back a after w w other (record { node = same other; spot = refl; twins = λ one other here. ((λ h. h), (λ h. h)); closing = λ i. i; retired = retired_same a.retired after.retired other (retired_back ∙ retired) }) taken, out) ];
+        spots = λ number out apart. refl;
         true = truth;
       },
       content,
@@ -125,13 +132,14 @@ goes_spare_changed now a after w number node owned Then updates retired keeps un
     let kept = keeps.keeps now w.twins w.chart world.index in
     record {
       next = w;
-      world = record { index = kept.index; keys = keys_same a after kept.content world.keys; heads = heads_occupied a after w number (Some node) updates unknown free world.heads; twins = twins_beside a after w.chart w.chart w.twins number (evolves_same 0 w.chart) (unknown_free a w.chart number unknown) updates.others world.twins; retired = retired_kept a after now w.chart w.chart number (evolves_same 0 w.chart) (unknown_kept a now w.chart number unknown world.retired) updates.others retired world.retired };
+      world = record { index = kept.index; keys = keys_same a after kept.content world.keys; heads = heads_occupied a after w number (Some node) updates unknown free world.heads; alive = alive_there a after w.chart number (alive_unknown after w.chart number unknown) updates.others world.alive; twins = twins_beside a after w.chart w.chart w.twins number (evolves_same 0 w.chart) (unknown_free a w.chart number unknown) updates.others world.twins; retired = retired_kept a after now w.chart w.chart number (evolves_same 0 w.chart) (unknown_kept a now w.chart number unknown world.retired) updates.others retired world.retired };
       evolves = kept.evolves;
       leaves = λ other taken apart. (record { node = updates.others other (λ e. apart (subst (λ (m : ℕ). Among m owned) (sym e) mine)); spot = refl; twins = λ one other here. ((λ h. h), (λ h. h)); closing = λ i. i; retired = retired_same a.retired after.retired other retired }, apart);
       takes = λ other taken. elim (is_among other owned) [
         | inl i ↦ inl i
         | inr out ↦ inr (taken_back a after w w other (record { node = updates.others other (λ e. out (subst (λ (m : ℕ). Among m owned) (sym e) mine)); spot = refl; twins = λ one other here. ((λ h. h), (λ h. h)); closing = λ i. i; retired = retired_same a.retired after.retired other retired }) taken, out)
       ];
+      spots = λ number out apart. refl;
       true = truth;
     }
 
@@ -156,7 +164,7 @@ layered w head root prefix = record { twins = w.twins; closing = w.closing; char
 -- Once the link to the layer is made, the tree is an index in the world that knows the layer. The head and its root are unlocked, and the call
 -- owns the border alone.
 module _ (now : ℕ) (a : ArenaView) (w : World) (n head : ℕ) (root : NodeNo) (b root_b : BorderView) (prefix : List ℕ) (place : ℕ) (entry : Entry) (change : BorderView → BorderView)
-    (named : border_at a.nodes n ≡ Some b) (stands : slice_get b.live place ≡ Some entry) (is_head : head_at a.nodes head ≡ Some (new_head root 0 false)) (is_root : border_at a.nodes root.0 ≡ Some root_b) (unlocked : root_b.version.locked ≡ false)
+    (named : border_at a.nodes n ≡ Some b) (stands : slice_get b.live place ≡ Some entry) (is_head : head_at a.nodes head ≡ Some (new_head root 0 false)) (is_root : border_at a.nodes root.0 ≡ Some root_b) (unlocked : root_b.version.locked ≡ false) (root_alive : root_b.version.deleted ≡ false)
     (apart_head : n ≢ head) (apart_root : n ≢ root.0) (head_unknown : w.chart head ≡ None) (root_unknown : w.chart root.0 ≡ None) (world : IsWorld a now w) (may : MayChange a n b change named w) where
   abbrev below : List ℕ
   below = entry.slice ∷ prefix
@@ -213,13 +221,25 @@ module _ (now : ℕ) (a : ArenaView) (w : World) (n head : ℕ) (root : NodeNo) 
       no_head : (place : Spot) (other : List ℕ) → ◌≡◌ {A = Option Spot} (Some (root_spot below)) (Some (head_spot other)) → ⊥
       no_head place other e = cc
 
+  abbrev between : Chart
+  between = with_spot w.chart root.0 (root_spot below)
+
+  -- the root is not marked deleted, and the head is no border or interior
+  alive_layered : FreeAreAlive new next.chart
+  alive_layered = alive_there a new next.chart n at_n (others_named a n b change named)
+      (alive_placed a between next.chart head (Some (head_spot below)) (spot_changes between head (head_spot below)) (alive_head a next.chart head below 0 (on true) head_placed)
+      (alive_placed a w.chart between root.0 (Some (root_spot below)) (spot_changes w.chart root.0 (root_spot below)) (alive_node a between root.0 (Border root_b) (node-from_border a.nodes root.0 root_b is_root) (inr root_alive)) world.alive))
+    where
+      at_n : IsAliveIfFree new next.chart n
+      at_n layer stands = may.2 layer (same_on w.chart next.chart n (others_placed n apart_head apart_root) layer stands)
+
   pub goes_layered : MakesLayerAt a new n place head → IsOnIn w.chart n prefix → (Then : World → Type 0) → Then next → Goes now a new w (head ∷ root.0 ∷ n ∷ []) (n ∷ []) Then × SameContent (arena_seen a) (arena_seen new)
   goes_layered makes on_in Then truth =
       let kept = (makes.makes b entry (new_head root 0 false) named stands is_head).keeps now w.twins w.chart next.chart world.index
       (record { prefix = prefix; stands = on_in; head_unknown = head_unknown; root_unknown = root_unknown; head_charted = head_placed; root_charted = root_placed; others = others_placed }) in (
         record {
           next = next;
-          world = record { index = kept.index; keys = keys_same a new kept.content world.keys; heads = heads_layered; twins = twins_changed a n b change named w.chart next.chart w.twins (kept.evolves 0 (omega arith)) world.twins; retired = retired_kept a new now w.chart next.chart n (kept.evolves 0 (omega arith)) may.0 (others_named a n b change named) refl world.retired };
+          world = record { index = kept.index; keys = keys_same a new kept.content world.keys; heads = heads_layered; alive = alive_layered; twins = twins_changed a n b change named w.chart next.chart w.twins (kept.evolves 0 (omega arith)) world.twins; retired = retired_kept a new now w.chart next.chart n (kept.evolves 0 (omega arith)) may.0 (others_named a n b change named) refl world.retired };
           evolves = kept.evolves;
           leaves = λ other taken apart. (
             record {
@@ -244,6 +264,7 @@ module _ (now : ℕ) (a : ArenaView) (w : World) (n head : ℕ) (root : NodeNo) 
               ]
             ]
           ];
+          spots = λ number out apart. others_placed number (λ e. out (subst (λ (m : ℕ). Among m (head ∷ root.0 ∷ n ∷ [])) (sym e) first)) (λ e. out (subst (λ (m : ℕ). Among m (head ∷ root.0 ∷ n ∷ [])) (sym e) (later first)));
           true = truth;
         },
         kept.content,

@@ -1,6 +1,7 @@
 pub mod WayLemmas
 pub mod FrameLemmas
 pub mod FoundLemmas
+pub mod AliveLemmas
 pub mod BorderLemmas
 pub mod SplitLemmas
 pub mod LayerLemmas
@@ -10,3 +11,7 @@ pub mod CollectLemmas
 pub mod CollectingLemmas
 pub mod GetLemmas
 pub mod RangeLemmas
+pub mod LoneLemmas
+pub mod LoneWay
+pub mod LoneReads
+pub mod LoneRange

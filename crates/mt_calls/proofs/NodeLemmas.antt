@@ -20,8 +20,9 @@ use Rattle.mt_tree.specs.Seen.{arena_seen, head_seen, interior_seen}
 use Rattle.mt_tree.specs.InteriorSteps.{IsInLayer}
 use Rattle.mt_tree.proofs.SeenLemmas.{changed-interior, seen-head, head-seen, seen-interior}
 use Rattle.mt_tree.proofs.InteriorPlaces.{stands_as}
-use Rattle.mt_calls.specs.World.{World, IsWorld, HeadsStand, IsLockedInterior, TwinsAreLocked, NotRetired, IsLocked, IsTaken, HasSameTwins, NotAmong, Goes}
+use Rattle.mt_calls.specs.World.{World, IsWorld, HeadsStand, IsLockedInterior, IsAliveIfFree, FreeAreAlive, TwinsAreLocked, NotRetired, IsLocked, IsTaken, HasSameTwins, NotAmong, Goes}
 use Rattle.mt_calls.proofs.FrameLemmas.{is_among, taken_back, retired_same}
+use Rattle.mt_calls.proofs.AliveLemmas.{alive_node}
 use Rattle.mt_calls.proofs.BorderLemmas.{interior_kept, keys_same, twins_beside, retired_kept, no_root, roots_kept}
 
 -- the same twins, at another chart
@@ -61,6 +62,7 @@ goes_with now a after w next n owned owns Then world closing retired evolves oth
       | inr differ ↦ inr (taken_back a after w next other (record { node = others other differ; spot = spots other out; twins = twins other out; closing = λ i. subst (λ (l : List ℕ). Among other l) closing i; retired = retired_same a.retired after.retired other retired }) taken, out)
     ]
   ];
+  spots = λ number out apart. spots number out;
   true = truth;
 }
 
@@ -70,6 +72,7 @@ pub goes_kept : (now : ℕ) (a after : ArenaView) (w : World) (chart : Chart) (n
     → ((other : ℕ) → other ≢ n → node_at after.nodes other ≡ node_at a.nodes other)
     → ((other : ℕ) → NotAmong other owned → chart other ≡ w.chart other)
     → HeadsStand after w.closing chart
+    → FreeAreAlive after chart
     → TwinsAreLocked after chart w.twins
     → (IsTaken a w n → NotAmong n owned → ⊥)
     → ((other : ℕ) → IsTaken a w other → NotAmong other owned → NotAmong other owns)
@@ -77,11 +80,12 @@ pub goes_kept : (now : ℕ) (a after : ArenaView) (w : World) (chart : Chart) (n
     → (NotAmong n owned → IsTaken after (at_chart w chart) n → Among n owns)
     → Then (at_chart w chart)
     → Goes now a after w owned owns Then × SameContent (arena_seen a) (arena_seen after)
-goes_kept now a after w chart n owned owns Then world kept retired apart others spots heads twins nobody no_more stays not_taken truth = (
+goes_kept now a after w chart n owned owns Then world kept retired apart others spots heads alive twins nobody no_more stays not_taken truth = (
   goes_with now a after w (at_chart w chart) n owned owns Then (record {
     index = kept.index;
     keys = keys_same a after kept.content world.keys;
     heads = heads;
+    alive = alive;
     twins = twins;
     retired = retired_kept a after now w.chart chart n (kept.evolves 0 (omega arith)) apart others retired world.retired;
   }) refl retired kept.evolves others spots (λ other apart one two here. ((λ h. h), (λ h. h))) nobody no_more stays not_taken truth,
@@ -94,6 +98,7 @@ pub goes_at : (now : ℕ) (a after : ArenaView) (w : World) (chart : Chart) (n :
     → ((other : ℕ) → other ≢ n → node_at after.nodes other ≡ node_at a.nodes other)
     → ((other : ℕ) → NotAmong other owned → chart other ≡ w.chart other)
     → HeadsStand after w.closing chart
+    → FreeAreAlive after chart
     → (IsLockedInterior a w.chart n → ⊥)
     → (IsTaken a w n → NotAmong n owned → ⊥)
     → ((other : ℕ) → IsTaken a w other → NotAmong other owned → NotAmong other owns)
@@ -101,8 +106,8 @@ pub goes_at : (now : ℕ) (a after : ArenaView) (w : World) (chart : Chart) (n :
     → (NotAmong n owned → IsTaken after (at_chart w chart) n → Among n owns)
     → Then (at_chart w chart)
     → Goes now a after w owned owns Then × SameContent (arena_seen a) (arena_seen after)
-goes_at now a after w chart n owned owns Then world kept retired apart others spots heads free nobody no_more stays not_taken truth =
-    goes_kept now a after w chart n owned owns Then world kept retired apart others spots heads (twins_beside a after w.chart chart w.twins n (kept.evolves 0 (omega arith)) free others world.twins) nobody no_more stays not_taken truth
+goes_at now a after w chart n owned owns Then world kept retired apart others spots heads alive free nobody no_more stays not_taken truth =
+    goes_kept now a after w chart n owned owns Then world kept retired apart others spots heads alive (twins_beside a after w.chart chart w.twins n (kept.evolves 0 (omega arith)) free others world.twins) nobody no_more stays not_taken truth
 
 -- twins are locked still, where the one interior that changes is none
 pub twins_lone : (a after : ArenaView) (chart next : Chart) (twins : List Twin) (n : ℕ) → Evolves 0 chart next → NoTwin twins n → ((other : ℕ) → other ≢ n → node_at after.nodes other ≡ node_at a.nodes other) → TwinsAreLocked a chart twins → TwinsAreLocked after next twins
@@ -120,13 +125,14 @@ pub goes_beside : (now : ℕ) (a after : ArenaView) (w : World) (chart : Chart) 
     → ((other : ℕ) → other ≢ n → node_at after.nodes other ≡ node_at a.nodes other)
     → Changes w.chart chart m place
     → HeadsStand after w.closing chart
+    → FreeAreAlive after chart
     → (IsLockedInterior a w.chart n → ⊥)
     → (IsTaken a w n → ⊥)
     → (IsTaken after (at_chart w chart) n → ⊥)
     → Then (at_chart w chart)
     → Goes now a after w (m ∷ []) (m ∷ []) Then × SameContent (arena_seen a) (arena_seen after)
-goes_beside now a after w chart n m place Then world kept retired apart others charted heads free nobody nobody_then truth =
-    goes_at now a after w chart n (m ∷ []) (m ∷ []) Then world kept retired apart others (λ other out. charted.rest other (λ e. out (subst (λ (k : ℕ). Among k (m ∷ [])) (sym e) first))) heads free
+goes_beside now a after w chart n m place Then world kept retired apart others charted heads alive free nobody nobody_then truth =
+    goes_at now a after w chart n (m ∷ []) (m ∷ []) Then world kept retired apart others (λ other out. charted.rest other (λ e. out (subst (λ (k : ℕ). Among k (m ∷ [])) (sym e) first))) heads alive free
     (λ taken out. nobody taken) (λ other taken out k. out k) (λ other k taken. k) (λ out taken. absurd (nobody_then taken)) truth
 
 -- ---- heads are as they were, where one number that is no head changes
@@ -160,6 +166,10 @@ module _ (a : ArenaView) (n : ℕ) (i : InteriorView) (change : InteriorView →
 
   pub interior_no_border : border_at a.nodes n ≡ None
   interior_no_border = ap (option_and_then border_of) (node-from_interior a.nodes n i named)
+
+  -- an interior that is locked still, or is not marked deleted, is so if it is not locked
+  pub interior_alive : (chart : Chart) → ((change i).version.locked ≡ true) ⊎ ((change i).version.deleted ≡ false) → IsAliveIfFree changed chart n
+  interior_alive chart held = alive_node changed chart n (Interior (change i)) interior_updated.changed held
 
   -- a border is named as it was
   pub interior_border : (other : ℕ) (b : BorderView) → border_at a.nodes other ≡ Some b → border_at changed.nodes other ≡ Some b

@@ -1,5 +1,5 @@
 -- The steps of a range.
-use Rattle.std.proofs.Common.{ℕ, zero, suc, ◌≡◌, ◌<◌, ◌+◌, ◌^◌, inl, inr, List, [], ◌∷◌, length, Option, Some, IsSome, true, false, refl, sym, ap, subst, ◌∙◌, arith}
+use Rattle.std.proofs.Common.{ℕ, zero, suc, ◌≡◌, ◌<◌, ◌+◌, ◌^◌, ◌⊎◌, inl, inr, List, [], ◌∷◌, length, Option, Some, IsSome, true, false, refl, sym, ap, subst, ◌∙◌, arith}
 use Rattle.std.specs.Prelude.{All}
 use Rattle.std.specs.Int.{w64, to_be_bytes, from_be_bytes, bytes_high_first}
 use Rattle.std.specs.Slice.Scan.{big_endian}
@@ -21,10 +21,11 @@ use Rattle.mt_border.specs.declared.entry.Entry.{Entry}
 use Rattle.mt_border.specs.declared.entry.Content.{Content}
 use Rattle.mt_border.specs.declared.entry.Content.TheVariants.{Short, Long, Link}
 use Rattle.mt_arena.specs.Node.{border_at}
-use Rattle.mt_arena.specs.Arena.{ArenaView}
+use Rattle.mt_arena.specs.Arena.{ArenaView, IsArena}
 use Rattle.mt_chart.specs.Tree.{Arena, Among, first, later, HoldsRow, Below}
-use Rattle.mt_chart.specs.Tree.{Entry as PlainEntry}
+use Rattle.mt_chart.specs.Tree.{PlainEntry}
 use Rattle.mt_chart.specs.Chart.{Holds, OnBorder}
+use Rattle.mt_chart.specs.Walk.{Moves}
 use Rattle.mt_chart.specs.Scan.{OpenRange, Comes}
 use Rattle.mt_chart.specs.ScanRun.{Stood, AllHave, EntriesInOrder}
 use Rattle.mt_chart.specs.KeyAnswer.{as_places, KeysAreBytes}
@@ -34,12 +35,15 @@ use Rattle.mt_chart.proofs.Ranges.{range_kept, range_again, range_visits}
 use Rattle.mt_chart.proofs.TreeLemmas.{rows_in_borders}
 use Rattle.mt_chart.proofs.ScanLemmas.{of_keys}
 use Rattle.mt_tree.specs.Seen.{arena_seen, border_seen, entry_seen, content_seen, content_place, entry_place}
-use Rattle.mt_tree.specs.Descent.{MayVisit, LeadsOn, TellsVisit, IsHere}
+use Rattle.mt_tree.specs.Descent.{MayVisit, LeadsOn as VisitLeads, TellsVisit, IsHere}
 use Rattle.mt_tree.specs.declared.visit.Visit.TheVariants.{To as VisitTo, Here as VisitHere}
 use Rattle.mt_tree.proofs.DescentLemmas.{slice_of_place}
 use Rattle.mt_tree.proofs.HeldLemmas.{held_may_visit}
 use Rattle.mt_tree.proofs.IntervalLemmas.{entries_in_order}
 use Rattle.mt_tree.proofs.SeenLemmas.{seen-border, among_map}
+use Rattle.mt_chart.specs.Walk.{Moves, to_right, to_link}
+use Rattle.mt_scan.specs.Cursor.{CursorView}
+use Rattle.mt_scan.specs.Onward.{cursor_of, all_cursors, GetsOn, GoesOnward, LeadsOn, GoesFrom}
 use Rattle.mt_scan.specs.Scan.{ScanView, HoldsKey, HoldsKeys, VisitsBorder, outcome_of}
 use Rattle.mt_scan.specs.declared.scan.ScanMove.{ScanMove}
 use Rattle.mt_scan.specs.declared.scan.ScanMove.TheVariants.{Done, To as VisitedTo, Top}
@@ -50,7 +54,7 @@ use Rattle.mt_calls.specs.declared.progress.Progress.{Progress}
 use Rattle.mt_calls.specs.declared.progress.Progress.TheVariants.{Moved, Waits, Answered, Refused}
 use Rattle.mt_calls.specs.World.{World, IsWorld}
 use Rattle.mt_calls.specs.Step.{StepLaw, nothing}
-use Rattle.mt_calls.specs.Ranging.{range_request, RangeIsTrue, IsHeldFor, IsAtSlice, KnowsOfSlice, Seeks}
+use Rattle.mt_calls.specs.Ranging.{range_request, RangeIsTrue, RangeStays, IsHeldFor, IsAtSlice, KnowsOfSlice, Seeks, ScansOn}
 use Rattle.mt_calls.proofs.FrameLemmas.{goes_same, quiet_same}
 
 -- ---- a slice as a rest of eight bytes
@@ -67,13 +71,13 @@ module _ (a : ArenaView) (number slice : ℕ) (rest : List ℕ) (same : slice_nu
   pub seeks-may : IsHeldFor a number slice → MayVisit a number (slice_number rest)
   seeks-may h = subst (λ (s : ℕ). MayVisit a number s) (sym same) (held_may_visit a h.now h.twins h.chart h.begun number slice h.prefix h.index h.holds)
 
-  pub seeks-to : (next : NodeNo) → LeadsOn a number rest (VisitTo next) → Seeks a number slice (To next)
+  pub seeks-to : (next : NodeNo) → VisitLeads a number rest (VisitTo next) → Seeks a number slice (To next)
   seeks-to next leads = record {
     leads = λ now twins chart begun prefix index held.
         subst (λ (s : ℕ). Holds chart begun next.0 prefix s) same (leads.leads now twins chart begun prefix index (subst (λ (s : ℕ). Holds chart begun number prefix s) (sym same) held));
   }
 
-  pub seeks-here : LeadsOn a number rest VisitHere → TellsVisit a number rest VisitHere → Seeks a number slice Here
+  pub seeks-here : VisitLeads a number rest VisitHere → TellsVisit a number rest VisitHere → Seeks a number slice Here
   seeks-here leads tells = record {
     leads = λ now twins chart begun prefix index held.
         let here : IsHere a chart number prefix rest = leads.leads now twins chart begun prefix index (subst (λ (s : ℕ). Holds chart begun number prefix s) (sym same) held) in
@@ -84,6 +88,12 @@ module _ (a : ArenaView) (number slice : ℕ) (rest : List ℕ) (same : slice_nu
           to_right = subst (λ (s : ℕ). Below s (border_seen here.border).right) (slice_of_place rest ∙ same) here.stands.to_right;
         };
   }
+
+-- the node to which a visit leads
+pub seeks-moves : (a : ArenaView) (number : ℕ) (rest : List ℕ) (to next : NodeNo) → TellsVisit a number rest (VisitTo to) → ◌≡◌ {A = Sought} (To to) (To next) → Moves (arena_seen a) number next.0
+seeks-moves a number rest to next tells same =
+    let is : to ≡ next = cc in
+    subst (λ (n : NodeNo). Moves (arena_seen a) number n.0) is tells
 
 -- ---- the rows of a border are those of keys
 all_from : {X : Type 0} (P : X → Type 0) (xs : List X) → ((x : X) → Among x xs → P x) → All P xs
@@ -98,6 +108,37 @@ holds_row slice (Link next) some = absurd (let clash : false ≡ true = some in 
 in_order : (es : List PlainEntry) → EntriesInOrder es → InOrder es
 in_order [] o = tt
 in_order (e ∷ es) o = (o.0, in_order es o.1)
+
+-- ---- a visit of a border gets on
+-- the border is not marked deleted, and the slice stands before its right neighbour
+pub record IsAliveFor (b : BorderView) (slice : ℕ) : Type 0 where
+  pub alive : b.version.deleted ≡ false
+  pub to_right : Below slice (border_seen b).right
+
+-- where a border leads, a move leads
+border_moves : (a : ArenaView) (number : ℕ) (b : BorderView) → border_at a.nodes number ≡ Some b → IsBorder b → b.version.deleted ≡ false → (next : ℕ) → LeadsOn b next ⊎ (next ≡ 0)
+    → Moves (arena_seen a) number next ⊎ (next ≡ 0)
+border_moves a number b named sound alive next (inl (inl (right, is, same))) = inl (to_right (border_seen b) right (seen-border a number b named) alive is same)
+border_moves a number b named sound alive next (inl (inr (slice, there))) = inl (to_link (border_seen b) slice next (seen-border a number b named) alive sound.low_fits there refl)
+border_moves a number b named sound alive next (inr home) = inr home
+
+module _ (a : ArenaView) (number : ℕ) (b : BorderView) (c d : CursorView) (visited : ScanMove) (named : border_at a.nodes number ≡ Some b) (sound : IsBorder b) (alive : IsAliveFor b (first_slice c.at))
+    (leads : GoesFrom b visited) (onward : GoesOnward c b visited d) (within : (places : ℕ) → cursor_of places c < all_cursors places) (arena : IsArena a) where
+  pub scans_on : (next : NodeNo) → visited ≡ VisitedTo next → ScansOn a number next.0 c d
+  scans_on next to = record {
+    gets_on = λ places layer. subst (λ (v : ScanMove). GetsOn places c v d) to (onward places (record { layer = layer; to_right = alive.to_right }));
+    within = within;
+    leads = border_moves a number b named sound alive.alive next.0 (subst (λ (v : ScanMove). GoesFrom b v) to leads);
+    sound = arena;
+  }
+
+  pub scans_top : visited ≡ Top → ScansOn a number 0 c d
+  scans_top to = record {
+    gets_on = λ places layer. inl (subst (λ (v : ScanMove). GetsOn places c v d) to (onward places (record { layer = layer; to_right = alive.to_right })));
+    within = within;
+    leads = inr refl;
+    sound = arena;
+  }
 
 module _ (a : ArenaView) (now begun number slice : ℕ) (w : World) (prefix : List ℕ) (b : BorderView) (world : IsWorld a now w) (held : Holds w.chart begun number prefix slice) (named : border_at a.nodes number ≡ Some b) (alive : b.version.deleted ≡ false) where
   stands : OnBorder (arena_seen a) w.chart number prefix (border_seen b)
@@ -162,6 +203,12 @@ module _ (a : ArenaView) (range : Range) where
           };
     }
 
+    -- what is true of it stays
+    pub range_moves_stays : (next : NodeNo) → sought ≡ To next → RangeStays a range Moved (with_scan range.scan next)
+    range_moves_stays next is now begun moves past w world truth =
+        let held = subst (λ (s : Sought). KnowsOfSlice a w.chart begun range.node.0 range.scan.prefix (first_slice range.scan.at) s) is (seeks.leads now w.twins w.chart begun range.scan.prefix world.index truth.scans.held) in
+        record { bytes = truth.bytes; limit = truth.limit; asked = truth.asked; scans = record { held = held; scanned = truth.scans.scanned } }
+
     here_is : (now begun : ℕ) (w : World) → IsWorld a now w → Holds w.chart begun range.node.0 range.scan.prefix (first_slice range.scan.at) → sought ≡ Here → IsAtSlice a range.node.0 (first_slice range.scan.at)
     here_is now begun w world held is = subst (λ (s : Sought). KnowsOfSlice a w.chart begun range.node.0 range.scan.prefix (first_slice range.scan.at) s) is (seeks.leads now w.twins w.chart begun range.scan.prefix world.index held)
 
@@ -180,6 +227,12 @@ module _ (a : ArenaView) (range : Range) where
       range_keys now begun moves past w world truth =
           let here = here_is now begun w world truth.scans.held is in
           holds_keys a now begun range.node.0 (first_slice range.scan.at) w range.scan.prefix b world truth.scans.held named (ap (λ (x : BorderView). x.version.deleted) (sym (same_border here)) ∙ here.alive)
+
+      -- which is not marked deleted, and in whose interval the slice is
+      pub range_may_get_on : (now begun moves : ℕ) (past : List Arena) (w : World) → IsWorld a now w → RangeIsTrue range begun moves past a w → IsAliveFor b (first_slice range.scan.at)
+      range_may_get_on now begun moves past w world truth =
+          let here = here_is now begun w world truth.scans.held is in
+          subst (λ (x : BorderView). IsAliveFor x (first_slice range.scan.at)) (same_border here) (record { alive = here.alive; to_right = here.to_right })
 
       module _ (sound : IsBorder b) (visited : ScanMove) (scan : ScanView) (visits : VisitsBorder range.scan b visited scan) where
         comes : (now begun moves : ℕ) (past : List Arena) (w : World) → IsWorld a now w → RangeIsTrue range begun moves past a w
@@ -226,6 +279,24 @@ module _ (a : ArenaView) (range : Range) where
                 blocked = inl refl;
                 may = λ get. absurd (let clash : false ≡ true = get in cc);
               };
+        }
+
+        -- what is true of it stays
+        pub range_goes_stays : scan.limit ≡ range.scan.limit → scan.asked ≡ range.scan.asked → (next : NodeNo) → visited ≡ VisitedTo next → RangeStays a range Moved (with_scan scan next)
+        range_goes_stays limit asked next to now begun moves past w world truth = record {
+          bytes = truth.bytes;
+          limit = limit ∙ truth.limit;
+          asked = asked ∙ truth.asked;
+          scans = subst (λ (v : ScanMove). ComesIf w begun past v) to (comes now begun moves past w world truth);
+        }
+
+        pub range_tops_stays : scan.limit ≡ range.scan.limit → scan.asked ≡ range.scan.asked → (visited ≡ Top → scan.prefix ≡ []) → visited ≡ Top → RangeStays a range Moved (with_scan scan (record { 0 = 0 }))
+        range_tops_stays limit asked home to now begun moves past w world truth = record {
+          bytes = truth.bytes;
+          limit = limit ∙ truth.limit;
+          asked = asked ∙ truth.asked;
+          scans = subst (λ (p : List ℕ). OpenRange w.chart begun (Stood (shown range.columns) (arena_seen a ∷ past)) (AllHave (arena_seen a ∷ past)) (place_of range.start) range.limit p 0 scan.at (as_places scan.taken)) (sym (home to))
+              (subst (λ (v : ScanMove). ComesIf w begun past v) to (comes now begun moves past w world truth));
         }
 
         pub range_answers : visited ≡ Done → (pairs : List (List ℕ × Row)) → pairs ≡ scan.taken → KeysAreBytes scan.taken → (next : Range) (log : LogView) → RangeLaw log (Answered (RowsAnswer pairs)) next

@@ -17,6 +17,7 @@ use Rattle.mt_tree.specs.Seen.{arena_seen}
 use Rattle.mt_tree.specs.Keeping.{KeepsTree}
 use Rattle.mt_calls.specs.World.{World, IsWorld, HeadsStand, IsLockedInterior, TwinsAreLocked, IsGone, RetiredAreGone, NotRetired, IsLocked, IsTaken, IsSame, NotAmong, Goes}
 use Rattle.mt_calls.proofs.FrameLemmas.{is_among, taken_back}
+use Rattle.mt_calls.proofs.AliveLemmas.{alive_gone, alive_there}
 use Rattle.mt_calls.proofs.BorderLemmas.{keys_same, retired_kept}
 use Rattle.mt_calls.proofs.LayerLemmas.{content_twice}
 
@@ -79,7 +80,7 @@ module _ (now : ℕ) (a mid : ArenaView) (w : World) (number : NodeNo) (rest : L
   goes_retired once truth = (
     record {
       next = w;
-      world = record { index = again.index; keys = keys_same a after content world.keys; heads = record { alive = heads.alive; roots = heads.roots }; twins = record { locked = λ one other pair. let both = twins.locked one other pair in (still_locked one both.0, still_locked other both.1) }; retired = retired_are };
+      world = record { index = again.index; keys = keys_same a after content world.keys; heads = record { alive = heads.alive; roots = heads.roots }; alive = record { each = (alive_there a mid w.chart number.0 (alive_gone mid w.chart number.0 role prefix low epoch place) others world.alive).each }; twins = record { locked = λ one other pair. let both = twins.locked one other pair in (still_locked one both.0, still_locked other both.1) }; retired = retired_are };
       evolves = λ begun before. evolves_same begun w.chart;
       leaves = λ other taken out. (is_same other (λ e. out (subst (λ (m : ℕ). Among m (number.0 ∷ rest)) (sym e) first)), λ i. out (later i));
       takes = λ other taken. elim (same_number other number.0) [
@@ -89,6 +90,7 @@ module _ (now : ℕ) (a mid : ArenaView) (w : World) (number : NodeNo) (rest : L
           | inr out ↦ inr (taken_back a after w w other (is_same other differ) taken, λ i. elim (among_cases other number.0 rest i) [ inl e ↦ differ e | inr j ↦ out j ])
         ]
       ];
+      spots = λ number out apart. refl;
       true = truth;
     },
     content,

@@ -8,6 +8,8 @@ use Rattle.mt_interior.specs.Head.{HeadView}
 use Rattle.std.specs.Prelude.{IsSomeAnd}
 use Rattle.mt_arena.specs.Arena.{ArenaView, with_border_changed}
 use Rattle.mt_arena.specs.declared.node.Node.{Node}
+use Rattle.mt_arena.specs.declared.node.Node.TheVariants.{Border}
+use Rattle.mt_arena.proofs.NodeLemmas.{node-from_border}
 use Rattle.mt_chart.specs.Tree.{Among, first, later}
 use Rattle.mt_chart.proofs.Basics.{same_number}
 use Rattle.mt_chart.proofs.HeldNodes.{evolves_same}
@@ -18,9 +20,10 @@ use Rattle.mt_chart.proofs.Entries.{among_cases}
 use Rattle.mt_tree.specs.Seen.{arena_seen}
 use Rattle.mt_tree.specs.Keeping.{KeepsTree, KeepsUnknown, IsUnknown, IsOnIn}
 use Rattle.mt_tree.specs.BorderSteps.{LinksHalfAt}
-use Rattle.mt_calls.specs.World.{World, IsWorld, HeadsStand, NotRetired, IsLocked, IsTaken, NotAmong, Goes}
-use Rattle.mt_calls.proofs.BorderLemmas.{goes_border, locked_may, unknown_kept, no_root, roots_kept, heads_changed, twins_changed, twins_beside, no_interior, retired_kept, keys_same, others_named}
+use Rattle.mt_calls.specs.World.{World, IsWorld, HeadsStand, FreeAreAlive, NotRetired, IsLocked, IsTaken, NotAmong, Goes}
+use Rattle.mt_calls.proofs.BorderLemmas.{goes_border, locked_may, alive_changed, unknown_kept, no_root, roots_kept, heads_changed, twins_changed, twins_beside, no_interior, retired_kept, keys_same, others_named}
 use Rattle.mt_calls.proofs.FrameLemmas.{is_among, taken_back, retired_same}
+use Rattle.mt_calls.proofs.AliveLemmas.{alive_node, alive_unknown, alive_there, alive_placed}
 
 pub eqb-ne : (a b : ℕ) → a ≢ b → (a == b) ≡ false
 eqb-ne a b ne = elim (eqb_tells a b) [ inl p ↦ absurd (ne p.1) | inr p ↦ p.0 ]
@@ -61,7 +64,7 @@ goes_occupied now a after w number node owned Then vacant updates retired unknow
     let kept = keeps.keeps now w.twins w.chart world.index in
     record {
       next = w;
-      world = record { index = kept.index; keys = keys_same a after kept.content world.keys; heads = heads_occupied a after w number (Some node) updates (unknown.unknown now w.twins w.chart world.index) (vacant_root a w number vacant world.heads) world.heads; twins = twins_beside a after w.chart w.chart w.twins number (evolves_same 0 w.chart) (no_interior a w.chart number (ap (option_and_then interior_of) vacant)) updates.others world.twins; retired = retired_kept a after now w.chart w.chart number (evolves_same 0 w.chart) (unknown_kept a now w.chart number (unknown.unknown now w.twins w.chart world.index) world.retired) updates.others retired world.retired };
+      world = record { index = kept.index; keys = keys_same a after kept.content world.keys; heads = heads_occupied a after w number (Some node) updates (unknown.unknown now w.twins w.chart world.index) (vacant_root a w number vacant world.heads) world.heads; alive = alive_there a after w.chart number (alive_unknown after w.chart number (unknown.unknown now w.twins w.chart world.index)) updates.others world.alive; twins = twins_beside a after w.chart w.chart w.twins number (evolves_same 0 w.chart) (no_interior a w.chart number (ap (option_and_then interior_of) vacant)) updates.others world.twins; retired = retired_kept a after now w.chart w.chart number (evolves_same 0 w.chart) (unknown_kept a now w.chart number (unknown.unknown now w.twins w.chart world.index) world.retired) updates.others retired world.retired };
       evolves = kept.evolves;
       leaves = λ other taken apart.
           let differ = vacant_free a w number other vacant taken in
@@ -70,6 +73,7 @@ goes_occupied now a after w number node owned Then vacant updates retired unknow
         | inl e ↦ inl (subst (λ (m : ℕ). Among other (m ∷ owned)) e first)
         | inr differ ↦ elim (is_among other owned) [ inl i ↦ inl (later i) | inr out ↦ inr (taken_back a after w w other (record { node = updates.others other differ; spot = refl; twins = λ one other here. ((λ h. h), (λ h. h)); closing = λ i. i; retired = retired_same a.retired after.retired other retired }) taken, out) ]
       ];
+      spots = λ number out apart. refl;
       true = truth;
     }
 
@@ -82,7 +86,7 @@ pub goes_filled : (now : ℕ) (a : ArenaView) (w : World) (n : ℕ) (b : BorderV
 goes_filled now a w n b change owned Then named keeps mine unknown locked world truth =
     let kept = keeps.keeps now w.twins w.chart world.index unknown in
     goes_border a n b change named now w owned owned Then world kept.index (keys_same a (with_border_changed a n change) kept.content world.keys)
-    (λ other taken apart e. apart (subst (λ (m : ℕ). Among m owned) (sym e) mine)) (λ other i. inl i) (λ other ne i. i) (λ locked. mine) (unknown_kept a now w.chart n unknown world.retired, locked) truth
+    (λ other taken apart e. apart (subst (λ (m : ℕ). Among m owned) (sym e) mine)) (λ other i. inl i) (λ other ne i. i) (λ locked. mine) (unknown_kept a now w.chart n unknown world.retired, locked, alive_unknown (with_border_changed a n change) w.chart n unknown) truth
 
 -- ---- the link
 -- the chart with one more number
@@ -105,15 +109,22 @@ heads_linked a chart next half prefix low changes heads = record {
   roots = heads.roots;
 }
 
+-- the border and its half are locked still, and other borders and interiors stand as they stood
+alive_linked : (a : ArenaView) (n half : ℕ) (b upper : BorderView) (change : BorderView → BorderView) (chart next : Chart) (place : Spot) → border_at a.nodes n ≡ Some b → border_at a.nodes half ≡ Some upper → (change b).version.locked ≡ true → upper.version.locked ≡ true → Changes chart next half (Some place)
+    → FreeAreAlive a chart → FreeAreAlive (with_border_changed a n change) next
+alive_linked a n half b upper change chart next place named filled still half_locked changes alive =
+    alive_there a (with_border_changed a n change) next n (alive_changed a n b change named next (inl still)) (others_named a n b change named)
+    (alive_placed a chart next half (Some place) changes (alive_node a next half (Border upper) (node-from_border a.nodes half upper filled) (inl half_locked)) alive)
+
 -- Once the half is linked, the tree is an index in the world in which the half is known. The call owns the border and the half, so no other
 -- call's number changes its node or its place. What is to be true of the call is asked of that world.
 pub goes_linked : (now : ℕ) (a : ArenaView) (w : World) (n half : ℕ) (b upper : BorderView) (prefix : List ℕ) (change : BorderView → BorderView) (owned : List ℕ) (Then : World → Type 0)
     → border_at a.nodes n ≡ Some b → border_at a.nodes half ≡ Some upper → LinksHalfAt a (with_border_changed a n change) n half
-    → IsOnIn w.chart n prefix → w.chart half ≡ None → Among n owned → Among half owned → b.version.locked ≡ true → NotAmong n w.closing → IsWorld a now w
+    → IsOnIn w.chart n prefix → w.chart half ≡ None → Among n owned → Among half owned → b.version.locked ≡ true → (change b).version.locked ≡ true → upper.version.locked ≡ true → NotAmong n w.closing → IsWorld a now w
     → Then (record { twins = w.twins; closing = w.closing; chart = with_spot w.chart half (spot (at_level 0) prefix upper.low (on false)) })
     → Goes now a (with_border_changed a n change) w owned owned Then × SameContent (arena_seen a) (arena_seen (with_border_changed a n change))
-goes_linked now a w n half b upper prefix change owned Then named filled links stands unknown mine spare locked opened world truth =
-    let may = locked_may a n b change named now w world locked opened in
+goes_linked now a w n half b upper prefix change owned Then named filled links stands unknown mine spare locked still half_locked opened world truth =
+    let may = locked_may a n b change named now w world locked opened (inl still) in
     let place : Spot = spot (at_level 0) prefix upper.low (on false) in
     let changes = spot_changes w.chart half place in
     let kept = (links.links upper filled).keeps now w.twins w.chart (with_spot w.chart half place) world.index (record {
@@ -128,7 +139,7 @@ goes_linked now a w n half b upper prefix change owned Then named filled links s
     }) in (
       record {
         next = record { twins = w.twins; closing = w.closing; chart = with_spot w.chart half place };
-        world = record { index = kept.index; keys = keys_same a (with_border_changed a n change) kept.content world.keys; heads = heads_linked (with_border_changed a n change) w.chart _ half prefix upper.low changes (heads_changed a n b change named w.chart may.1 world.heads); twins = twins_changed a n b change named w.chart (with_spot w.chart half place) w.twins (kept.evolves 0 (omega arith)) world.twins; retired = retired_kept a (with_border_changed a n change) now w.chart (with_spot w.chart half place) n (kept.evolves 0 (omega arith)) may.0 (others_named a n b change named) refl world.retired };
+        world = record { index = kept.index; keys = keys_same a (with_border_changed a n change) kept.content world.keys; heads = heads_linked (with_border_changed a n change) w.chart _ half prefix upper.low changes (heads_changed a n b change named w.chart may.1 world.heads); alive = alive_linked a n half b upper change w.chart (with_spot w.chart half place) place named filled still half_locked changes world.alive; twins = twins_changed a n b change named w.chart (with_spot w.chart half place) w.twins (kept.evolves 0 (omega arith)) world.twins; retired = retired_kept a (with_border_changed a n change) now w.chart (with_spot w.chart half place) n (kept.evolves 0 (omega arith)) may.0 (others_named a n b change named) refl world.retired };
         evolves = kept.evolves;
         leaves = λ other taken apart. (
           record {
@@ -153,6 +164,7 @@ goes_linked now a w n half b upper prefix change owned Then named filled links s
             apart,
           )
         ];
+        spots = λ number out apart. changes.rest number (λ e. out (subst (λ (m : ℕ). Among m owned) (sym e) spare));
         true = truth;
       },
       kept.content,

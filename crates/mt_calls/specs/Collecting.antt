@@ -23,7 +23,8 @@ abbrev pub TakenSince : ℕ → ArenaView → World → Type 0
 TakenSince before a w = (number : ℕ) → IsTaken a w number → (below : ℕ) (prefix : List ℕ) (low epoch : ℕ) →
     w.chart number ≡ Some (spot (at_level (suc below)) prefix low (gone epoch)) → before ≤ epoch
 
--- what is left, in a next world: each call that began in the epoch or later may go on, and each number that is taken is as it was
+-- what is left, in a next world: each call that began in the epoch or later may go on, and each number that is taken is
+-- as it was
 pub record Leaves (now before : ℕ) (a after : ArenaView) (w : World) : Type 0 where
   pub next : World
   pub world : IsWorld after now next
@@ -34,4 +35,5 @@ pub record Leaves (now before : ℕ) (a after : ArenaView) (w : World) : Type 0 
 
 -- the law of a collection
 abbrev pub CollectLaw : ArenaView → ArenaView → ℕ → Type 0
-CollectLaw a after before = (now : ℕ) (w : World) → IsWorld a now w → TakenSince before a w → Leaves now before a after w
+CollectLaw a after before = (now : ℕ) (w : World) → IsWorld a now w → TakenSince before a w
+    → Leaves now before a after w

@@ -9,7 +9,10 @@ use Rattle.mt_chart.specs.Walk.{Trail}
 use Rattle.mt_calls.specs.declared.way.Way.{Way}
 use Rattle.mt_calls.specs.declared.getting.Get.{Get}
 use Rattle.mt_calls.specs.World.{World, IsWorld}
-use Rattle.mt_calls.specs.Way.{IsOnWay, IsAtPlace}
+use Rattle.mt_calls.specs.declared.way.Went.TheVariants.{To}
+use Rattle.mt_calls.specs.declared.progress.Progress.{Progress}
+use Rattle.mt_calls.specs.declared.progress.Progress.TheVariants.{Moved}
+use Rattle.mt_calls.specs.Way.{IsOnWay, IsAtPlace, Visits}
 use Rattle.mt_calls.specs.Step.{IsRight}
 
 abbrev pub get_request : Get → Request
@@ -21,4 +24,10 @@ GetIsTrue get begun moves past a w = IsOnWay begun get.key get.way w × Trail be
 
 -- what is read at the place of a key is right at that moment
 pub record Reads (a : ArenaView) (key : List ℕ) (way : Way) (asked : List ℕ) (answer : Answer) : Type 0 where
-  pub reads : (now : ℕ) (w : World) → IsWorld a now w → IsAtPlace a key way w → (past : List Arena) → IsRight past a (GetRequest key asked) None answer
+  pub reads : (now : ℕ) (w : World) → IsWorld a now w → IsAtPlace a key way w → (past : List Arena)
+      → IsRight past a (GetRequest key asked) None answer
+
+-- where it moves, it goes to the node to which its visit leads
+abbrev pub GetFollows : ArenaView → Get → Progress → Get → Type 0
+GetFollows a get Moved new = Visits a get.key get.way (To new.way)
+GetFollows a get _ new = Unit {0}

@@ -6,3 +6,4 @@ pub mod Getting
 pub mod Ranging
 pub mod Causes
 pub mod Collecting
+pub mod Lone

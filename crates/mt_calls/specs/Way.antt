@@ -30,7 +30,8 @@ pub record IsOnWay (begun : ℕ) (key : List ℕ) (way : Way) (w : World) : Type
   pub layer : IsLayerOf key way
   pub held : Holds w.chart begun way.node.0 (prefix_of key way) (slice_number (rest_of key way))
 
--- it stands at the border where its key's entry is, if there is one: the border is not marked deleted, and no link leads on
+-- it stands at the border where its key's entry is, if there is one: the border is not marked deleted, and no link
+-- leads on
 pub record IsAtPlace (a : ArenaView) (key : List ℕ) (way : Way) (w : World) : Type 0 where
   pub layer : IsLayerOf key way
   pub here : IsHere a w.chart way.node.0 (prefix_of key way) (rest_of key way)
@@ -43,12 +44,14 @@ IsHeadOf w begun number prefix = Known w.chart begun number top prefix 0
 
 -- a way that leads a layer deeper leads to the head of that layer
 abbrev pub LeadsToHead : ℕ → List ℕ → World → Way → Way → Type 0
-LeadsToHead begun key w way next = (next.layer ≡ way.layer) ⊎ ((next.layer ≡ way.layer + 1) × IsHeadOf w begun next.node.0 (prefix_of key next))
+LeadsToHead begun key w way next = (next.layer ≡ way.layer)
+    ⊎ ((next.layer ≡ way.layer + 1) × IsHeadOf w begun next.node.0 (prefix_of key next))
 
 -- what a visit leads to
 abbrev pub GoesTo : ArenaView → ℕ → List ℕ → Way → World → Went → Type 0
 GoesTo a begun key way w Again = Unit {0}
-GoesTo a begun key way w (To next) = IsOnWay begun key next w × Moves (arena_seen a) way.node.0 next.node.0 × LeadsToHead begun key w way next
+GoesTo a begun key way w (To next) = IsOnWay begun key next w × Moves (arena_seen a) way.node.0 next.node.0
+    × LeadsToHead begun key w way next
 GoesTo a begun key way w Here = IsAtPlace a key way w
 
 -- what a visit comes to, on the way
@@ -65,4 +68,5 @@ pub record MayGo (a : ArenaView) (key : List ℕ) (way : Way) : Type 0 where
 
 -- what a visit tells, in each world in which the call holds the node
 pub record Visits (a : ArenaView) (key : List ℕ) (way : Way) (went : Went) : Type 0 where
-  pub goes : (now : ℕ) (w : World) (begun : ℕ) → IsWorld a now w → IsOnWay begun key way w → GoesTo a begun key way w went
+  pub goes : (now : ℕ) (w : World) (begun : ℕ) → IsWorld a now w → IsOnWay begun key way w
+      → GoesTo a begun key way w went

@@ -15,9 +15,11 @@ use Rattle.mt_chart.specs.Chart.{Role, at_level, gone, spot, Chart, OnHead, Evol
 use Rattle.mt_chart.specs.Steps.{Twin, AreTwins}
 use Rattle.mt_tree.specs.Seen.{arena_seen}
 use Rattle.mt_tree.specs.Keeping.{IsIndexAt}
+use Rattle.mt_tree.specs.InteriorSteps.{IsInLayer}
+use Rattle.mt_tree.specs.Descent.{is_marked}
 
--- what the proofs know beside the arena: where each node stands, which interiors are being split, and which borders are the roots of layers
--- that are being taken out
+-- what the proofs know beside the arena: where each node stands, which interiors are being split, and which borders are
+-- the roots of layers that are being taken out
 pub record World : Type 0 where
   pub twins : List Twin
   pub closing : List ℕ
@@ -38,10 +40,12 @@ pub record RowsAreOfKeys (a : ArenaView) : Type 0 where
 abbrev pub IsLockedRoot : ArenaView → ℕ → Type 0
 IsLockedRoot a number = IsSomeAnd (border_at a.nodes number) (λ b. b.version.locked ≡ true)
 
--- No head of the tree is locked. One that is marked deleted is the head of a layer that is being taken out: its root is among the closing
--- borders, each of which is locked.
+-- No head of the tree is locked. One that is marked deleted is the head of a layer that is being taken out: its root is
+-- among the closing borders, each of which is locked.
 pub record HeadsStand (a : ArenaView) (closing : List ℕ) (chart : Chart) : Type 0 where
-  pub alive : (number : ℕ) (prefix : List ℕ) (head : HeadView) → OnHead chart number prefix → head_at a.nodes number ≡ Some head → ((head.version.deleted ≡ false) ⊎ Among head.root.0 closing) × (head.version.locked ≡ false)
+  pub alive : (number : ℕ) (prefix : List ℕ) (head : HeadView) → OnHead chart number prefix
+      → head_at a.nodes number ≡ Some head → ((head.version.deleted ≡ false) ⊎ Among head.root.0 closing)
+      × (head.version.locked ≡ false)
   pub roots : (number : ℕ) → Among number closing → IsLockedRoot a number
 
 -- the number names an interior of the tree, which is locked
@@ -51,7 +55,8 @@ pub record IsLockedInterior (a : ArenaView) (chart : Chart) (number : ℕ) : Typ
 
 -- the two halves of each interior that is being split are locked
 pub record TwinsAreLocked (a : ArenaView) (chart : Chart) (twins : List Twin) : Type 0 where
-  pub locked : (one other : ℕ) → AreTwins twins one other → IsLockedInterior a chart one × IsLockedInterior a chart other
+  pub locked : (one other : ℕ) → AreTwins twins one other → IsLockedInterior a chart one
+      × IsLockedInterior a chart other
 
 -- the node is locked
 abbrev pub is_locked : Node → Bool
@@ -63,7 +68,17 @@ abbrev pub IsLocked : Option Node → Type 0
 IsLocked None = ⊥
 IsLocked (Some node) = is_locked node ≡ true
 
--- a retired node is gone, since an epoch that is not after that of its retiring, which is not to come; and it is not locked
+-- the number, if it is a border or interior that is on and not locked, is not marked deleted
+abbrev pub IsAliveIfFree : ArenaView → Chart → ℕ → Type 0
+IsAliveIfFree a chart number = (prefix : List ℕ) → IsInLayer chart number prefix → (node : Node) →
+    node_at a.nodes number ≡ Some node → is_locked node ≡ false → is_marked node ≡ false
+
+-- a border or interior of the tree that is not locked is not marked deleted
+pub record FreeAreAlive (a : ArenaView) (chart : Chart) : Type 0 where
+  pub each : (number : ℕ) → IsAliveIfFree a chart number
+
+-- a retired node is gone, since an epoch that is not after that of its retiring, which is not to come; and it is not
+-- locked
 pub record IsGone (a : ArenaView) (now : ℕ) (chart : Chart) (node : Retired) : Type 0 where
   pub role : Role
   pub prefix : List ℕ
@@ -83,6 +98,7 @@ pub record IsWorld (a : ArenaView) (now : ℕ) (w : World) : Type 0 where
   pub index : IsIndexAt a now w.twins w.chart
   pub keys : RowsAreOfKeys a
   pub heads : HeadsStand a w.closing w.chart
+  pub alive : FreeAreAlive a w.chart
   pub twins : TwinsAreLocked a w.chart w.twins
   pub retired : RetiredAreGone a now w.chart
 
@@ -95,15 +111,19 @@ pub record IsMarkedHead (a : ArenaView) (number : ℕ) : Type 0 where
   pub marked : IsSomeAnd (head_at a.nodes number) (λ head. head.version.deleted ≡ true)
   pub kept : NotRetired a.retired number
 
--- a number is taken: it names a locked node; or a spare, which the chart doesn't know; or a head that is marked deleted and is not retired
+-- a number is taken: it names a locked node; or a spare, which the chart doesn't know; or a head that is marked deleted
+-- and is not retired
 abbrev pub IsTaken : ArenaView → World → ℕ → Type 0
-IsTaken a w number = IsLocked (node_at a.nodes number) ⊎ ((IsSome (node_at a.nodes number) × (w.chart number ≡ None)) ⊎ IsMarkedHead a number)
+IsTaken a w number = IsLocked (node_at a.nodes number)
+    ⊎ ((IsSome (node_at a.nodes number) × (w.chart number ≡ None)) ⊎ IsMarkedHead a number)
 
 -- the number has the same twins
 abbrev pub HasSameTwins : List Twin → List Twin → ℕ → Type 0
-HasSameTwins twins then number = (one other : ℕ) → (one ≡ number) ⊎ (other ≡ number) → AreTwins then one other ↔ AreTwins twins one other
+HasSameTwins twins then number = (one other : ℕ) → (one ≡ number) ⊎ (other ≡ number) → AreTwins then one other
+    ↔ AreTwins twins one other
 
--- the number names the same node, which stands where it stood, has the twins that it had, and is closing or retired only if it was
+-- the number names the same node, which stands where it stood, has the twins that it had, and is closing or retired
+-- only if it was
 pub record IsSame (a after : ArenaView) (w next : World) (number : ℕ) : Type 0 where
   pub node : node_at after.nodes number ≡ node_at a.nodes number
   pub spot : next.chart number ≡ w.chart number
@@ -115,25 +135,32 @@ pub record IsSame (a after : ArenaView) (w next : World) (number : ℕ) : Type 0
 abbrev pub NotAmong : ℕ → List ℕ → Type 0
 NotAmong number numbers = Among number numbers → ⊥
 
--- the number is a border of the tree, and is locked, and not by a call that takes its layer out
+-- the number is a border of the tree, and is locked, and not by a call that takes its layer out; it is not marked
+-- deleted
 pub record IsLockedBorder (a : ArenaView) (w : World) (number : ℕ) : Type 0 where
   pub b : BorderView
   pub named : border_at a.nodes number ≡ Some b
   pub known : IsSome (w.chart number)
   pub locked : b.version.locked ≡ true
+  pub alive : b.version.deleted ≡ false
   pub free : NotAmong number w.closing
 
 -- each interior among these numbers that is gone went in this epoch or later
 abbrev pub GoneSince : ℕ → World → List ℕ → Type 0
-GoneSince begun w numbers = (number : ℕ) → Among number numbers → (below : ℕ) (prefix : List ℕ) (low epoch : ℕ) → w.chart number ≡ Some (spot (at_level (suc below)) prefix low (gone epoch)) → begun ≤ epoch
+GoneSince begun w numbers = (number : ℕ) → Among number numbers → (below : ℕ) (prefix : List ℕ) (low epoch : ℕ)
+    → w.chart number ≡ Some (spot (at_level (suc below)) prefix low (gone epoch)) → begun ≤ epoch
 
--- what a step of one call leaves, which owned these numbers and then owns those: there is a next world in which the tree is an index;
--- all that calls rely on stays; each number that is taken by another call is as it was, and is not this call's; and what is then to be true
--- of this call is. And what is then taken is this call's, or was taken and was not this call's: no call leaves a lock or a spare behind.
+-- what a step of one call leaves, which owned these numbers and then owns those: there is a next world in which the
+-- tree is an index; all that calls rely on stays; each number that is taken by another call is as it was, and is not
+-- this call's; and what is then to be true of this call is. And what is then taken is this call's, or was taken and was
+-- not this call's: no call leaves a lock or a spare behind. The chart is changed at numbers of this call alone.
 pub record Goes (now : ℕ) (a after : ArenaView) (w : World) (owned owns : List ℕ) (Then : World → Type 0) : Type 0 where
   pub next : World
   pub world : IsWorld after now next
   pub evolves : (begun : ℕ) → begun ≤ now → Evolves begun w.chart next.chart
-  pub leaves : (other : ℕ) → IsTaken a w other → NotAmong other owned → IsSame a after w next other × NotAmong other owns
-  pub takes : (number : ℕ) → IsTaken after next number → Among number owns ⊎ (IsTaken a w number × NotAmong number owned)
+  pub leaves : (other : ℕ) → IsTaken a w other → NotAmong other owned → IsSame a after w next other
+      × NotAmong other owns
+  pub takes : (number : ℕ) → IsTaken after next number → Among number owns
+      ⊎ (IsTaken a w number × NotAmong number owned)
+  pub spots : (number : ℕ) → NotAmong number owned → NotAmong number owns → next.chart number ≡ w.chart number
   pub true : Then next

@@ -6,7 +6,8 @@ ghost use Rattle.mt_calls.specs.Collecting.{IsCollected, CollectLaw};
 use mt_tree::Tree;
 use mt_types::limits::MAX_NODES;
 
-/// Frees the nodes that were retired in this epoch or before, and tells how many (Masstree, EuroSys 2012, section 4.6.1).
+/// Frees the nodes that were retired in this epoch or before, and tells how many (Masstree, EuroSys 2012, section
+/// 4.6.1).
 /// Where each open call began in a later one, no call can stand at one of them. O(n) in those that are freed.
 pub fn collect(tree: &mut Tree, upto: u64) -> u32
     ensures exactly { IsCollected tree.old tree.new (upto + 1) result }

@@ -6,7 +6,7 @@ ghost use Rattle.mt_commit.specs.Log.{LogView};
 ghost use Rattle.mt_arena.specs.Node.{border_at};
 ghost use Rattle.mt_calls.specs.Step.{StepLaw, MayStep, nothing};
 ghost use Rattle.mt_calls.specs.Causes.{ReadWaits, ReadFails};
-ghost use Rattle.mt_calls.specs.Getting.{get_request, GetIsTrue, Reads};
+ghost use Rattle.mt_calls.specs.Getting.{get_request, GetIsTrue, GetFollows, Reads};
 
 use crate::progress::Progress;
 use crate::way::{START, Way, Went, rest_of};
@@ -66,9 +66,12 @@ impl Get {
     pub fn step(&mut self, alloc: Global, tree: &Tree) -> Progress
         requires { (log : LogView) × MayStep tree.now log nothing (GetIsTrue self.old) }
         ensures request { get_request self.new ≡ get_request self.old }
-        ensures steps { (C : ℕ) (log : LogView) → StepLaw C tree.now tree.now log log (get_request self.old) nothing result nothing (GetIsTrue self.old) (GetIsTrue self.new) }
+        ensures steps { (C : ℕ) (log : LogView)
+            → StepLaw C tree.now tree.now log log (get_request self.old) nothing result nothing (GetIsTrue self.old)
+            (GetIsTrue self.new) }
         ensures waits { ReadWaits tree.now self.old.way.node.0 result }
         ensures fails { ReadFails tree.now self.old.way.node.0 result }
+        ensures gets_on { GetFollows tree.now self.old result self.new }
     {
         match self.way.visit(tree, &self.key) {
             Went::Again => {

@@ -2,9 +2,11 @@
 
 ghost use Rattle.std.specs.Prelude.{◌≡◌, ℕ};
 ghost use Rattle.mt_commit.specs.Log.{LogView};
+ghost use Rattle.mt_chart.specs.Walk.{Moves};
+ghost use Rattle.mt_tree.specs.Seen.{arena_seen};
 ghost use Rattle.mt_calls.specs.Step.{StepLaw, MayStep, nothing};
 ghost use Rattle.mt_calls.specs.Causes.{IsMarkedAt, ReadWaits, ReadFails};
-ghost use Rattle.mt_calls.specs.Ranging.{range_request, RangeIsTrue, IsHeldFor, Seeks};
+ghost use Rattle.mt_calls.specs.Ranging.{range_request, RangeIsTrue, RangeFollows, RangeStays, IsHeldFor, Seeks};
 
 use crate::progress::Progress;
 use mt_scan::{Scan, ScanMove};
@@ -42,6 +44,7 @@ pub fn seek(tree: &Tree, number: NodeNo, slice: u64) -> Sought
     requires { IsHeldFor tree.now number.0 slice }
     ensures seeks { Seeks tree.now number.0 slice result }
     ensures again { result ≡ Sought.Again → IsMarkedAt tree.now number.0 }
+    ensures moves { (next : NodeNo) → result ≡ Sought.To next → Moves (arena_seen tree.now) number.0 next.0 }
 {
     match tree.visit(number, &slice.to_be_bytes()) {
         Visit::Again => Sought::Again,
@@ -56,9 +59,13 @@ impl Range {
     pub fn step(&mut self, alloc: Global, tree: &Tree) -> Progress
         requires { (log : LogView) × MayStep tree.now log nothing (RangeIsTrue self.old) }
         ensures request { range_request self.new ≡ range_request self.old }
-        ensures steps { (C : ℕ) (log : LogView) → StepLaw C tree.now tree.now log log (range_request self.old) nothing result nothing (RangeIsTrue self.old) (RangeIsTrue self.new) }
+        ensures steps { (C : ℕ) (log : LogView)
+            → StepLaw C tree.now tree.now log log (range_request self.old) nothing result nothing (RangeIsTrue self.old)
+            (RangeIsTrue self.new) }
         ensures waits { ReadWaits tree.now self.old.node.0 result }
         ensures fails { ReadFails tree.now self.old.node.0 result }
+        ensures gets_on { RangeFollows tree.now self.old result self.new }
+        ensures stays { RangeStays tree.now self.old result self.new }
     {
         match seek(tree, self.node, self.scan.slice()) {
             Sought::Again => {

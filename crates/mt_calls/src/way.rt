@@ -54,7 +54,8 @@ impl Way {
     pub fn visit(&self, tree: &Tree, key: &Key) -> Went
         requires { MayGo tree.now key.now self.now }
         ensures visits { Visits tree.now key.now self.now result }
-        ensures value { IsSomeAnd (node_at tree.now.nodes self.now.node.0) (λ node. result ≡ went_by self.now (node_visit (rest_at self.now.layer key.now) node)) }
+        ensures value { IsSomeAnd (node_at tree.now.nodes self.now.node.0)
+            (λ node. result ≡ went_by self.now (node_visit (rest_at self.now.layer key.now) node)) }
         ensures again { result ≡ Went.Again → IsMarkedAt tree.now self.now.node.0 }
         ensures sound { IsArena tree.now }
         ensures bytes { AreBytes key.now }

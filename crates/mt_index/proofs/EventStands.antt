@@ -34,7 +34,7 @@ use Rattle.mt_commit.specs.Laws.{times_held}
 use Rattle.mt_commit.specs.Holders.{with_holder, without_holder}
 use Rattle.mt_arena.specs.Arena.{ArenaView}
 use Rattle.mt_chart.specs.Tree.{Among, Has}
-use Rattle.mt_chart.specs.Tree.{Node as PlainNode, head}
+use Rattle.mt_chart.specs.Tree.{PlainNode, head}
 use Rattle.mt_chart.specs.Chart.{Chart, Spot}
 use Rattle.mt_interior.specs.Head.{HeadView, new_head}
 use Rattle.mt_tree.specs.Seen.{head_seen}
@@ -48,13 +48,18 @@ use Rattle.mt_calls.specs.declared.progress.Progress.TheVariants.{Moved, Waits, 
 use Rattle.std.proofs.lemmas.List.Elements.{All-nil}
 use Rattle.mt_arena.specs.declared.retired.Retired.{Retired}
 use Rattle.mt_arena.specs.declared.node.Node.{Node}
+use Rattle.mt_arena.specs.declared.node.Node.TheVariants.{Head as HeadIn, Border as BorderIn}
+use Rattle.mt_border.specs.Border.{new_border}
+use Rattle.mt_tree.specs.Keeping.{IsIndexAt}
+use Rattle.mt_tree.specs.Descent.{is_marked}
+use Rattle.mt_calls.proofs.AliveLemmas.{alive_node}
 use Rattle.std.specs.Prelude.{IsSomeAnd, All, ◌⊎◌}
 use Rattle.std.specs.Option.{option_and_then}
 use Rattle.mt_arena.specs.Node.{node_at, head_at, head_of}
 use Rattle.mt_arena.proofs.NodeLemmas.{node-from_head, node-from_border}
 use Rattle.mt_chart.proofs.Basics.{same_number}
 use Rattle.mt_tree.specs.NewTree.{IsNewTree}
-use Rattle.mt_calls.specs.World.{IsLocked, IsTaken, World, IsWorld, RowsAreOfKeys, HeadsStand, TwinsAreLocked, IsGone, RetiredAreGone, Goes}
+use Rattle.mt_calls.specs.World.{IsLocked, IsTaken, World, IsWorld, RowsAreOfKeys, HeadsStand, is_locked, IsAliveIfFree, FreeAreAlive, TwinsAreLocked, IsGone, RetiredAreGone, Goes}
 use Rattle.mt_calls.specs.Step.{Held, IsQuiet, IsRight, Stepped, Commits, bounds, put_row}
 use Rattle.mt_chart.specs.Tree.{Arena}
 use Rattle.mt_types.specs.declared.row.Change.TheVariants.{Put as PutChange, Drop}
@@ -602,6 +607,25 @@ new_heads a new chart = record {
   where
     no_head : {head : HeadView} → ◌≡◌ {A = Option HeadView} None (Some head) → ((head.version.deleted ≡ false) ⊎ Among head.root.0 []) × (head.version.locked ≡ false)
     no_head e = absurd (cc)
+
+-- nor is its only border
+pub new_alive : (a : ArenaView) → IsNewTree a → (chart : Chart) → FreeAreAlive a chart
+new_alive a new chart = record {
+  each = λ number. elim (same_number number 0) [
+    | inl e ↦ subst (λ (m : ℕ). IsAliveIfFree a chart m) (sym e) (alive_node a chart 0 (HeadIn (new_head new.root 0 false)) (node-from_head a.nodes 0 _ new.top) (inr refl))
+    | inr apart ↦ elim (same_number number new.root.0) [
+      | inl e ↦ subst (λ (m : ℕ). IsAliveIfFree a chart m) (sym e) (alive_node a chart new.root.0 (BorderIn (new_border 0 0 false)) (node-from_border a.nodes new.root.0 _ new.below) (inr refl))
+      | inr other ↦ λ prefix stands node is. no_node (sym (new.rest number apart other) ∙ is)
+    ]
+  ];
+}
+  where
+    no_node : {node : Node} → ◌≡◌ {A = Option Node} None (Some node) → is_locked node ≡ false → is_marked node ≡ false
+    no_node e = absurd (cc)
+
+-- so it is a world, where it is an index without a row
+pub new_world : (a : ArenaView) → IsNewTree a → (chart : Chart) → IsIndexAt a 0 [] chart → ((place : Place) (row : Row) → Has (arena_seen a) place row → ⊥) → IsWorld a 0 (record { twins = []; closing = []; chart = chart })
+new_world a new chart index empty = record { index = index; keys = new_keys a empty; heads = new_heads a new chart; alive = new_alive a new chart; twins = new_twins a chart; retired = new_retired a new 0 chart }
 
 -- and nothing in it is locked
 pub new_unlocked : (a : ArenaView) → IsNewTree a → (number : ℕ) → IsLocked (node_at a.nodes number) → ⊥

@@ -14,5 +14,6 @@ pub mod ApplyStands
 pub mod EpochStands
 pub mod MachineLemmas
 pub mod CauseLemmas
+pub mod AloneStands
 pub mod LawLemmas
 pub mod FeedLemmas

@@ -12,6 +12,7 @@ use Rattle.mt_calls.specs.declared.progress.Progress.{Progress}
 use Rattle.mt_calls.specs.World.{NotAmong}
 use Rattle.mt_calls.specs.Step.{StepLawIn}
 use Rattle.mt_works.specs.Causes.{WorkWaits, WorkFails}
+use Rattle.mt_works.specs.Follows.{WorkFollows, WorkReads, WorkPosts}
 use Rattle.mt_works.specs.Works.{request_of, held, IsTrue, MayWork, HasNext, IsBuiltWork, WorkBuilds}
 
 pub record CallsView : Type 0 where
@@ -49,7 +50,8 @@ AreBegun begun (entry ∷ entries) = (entry.0 ≤ begun) × AreBegun begun entri
 
 -- no number is owned by two calls
 abbrev pub AreApart : List (ℕ × Call) → Type 0
-AreApart calls = (one other : ℕ × Call) → Among one calls → Among other calls → one.0 ≢ other.0 → (number : ℕ) → Among number (held one.1.work).owns → NotAmong number (held other.1.work).owns
+AreApart calls = (one other : ℕ × Call) → Among one calls → Among other calls → one.0 ≢ other.0 → (number : ℕ)
+    → Among number (held one.1.work).owns → NotAmong number (held other.1.work).owns
 
 -- the sum of a number of each call
 abbrev pub total : (Call → ℕ) → List (ℕ × Call) → ℕ
@@ -76,15 +78,20 @@ MayStepOf now C a log None = Unit {0}
 MayStepOf now C a log (Some call) = MayWork now C a log call.work × HasNext log call.work
 
 -- a step of the call of this number, in this epoch: it comes so far
-pub record StepsCall (now C number : ℕ) (old new : CallsView) (a after : ArenaView) (log left : LogView) (pass : PassNo) (reads builds : Bool) (from : ℕ) (p : Progress) : Type 0 where
+pub record StepsCall (now C number : ℕ) (old new : CallsView) (a after : ArenaView) (log left : LogView) (pass : PassNo)
+    (reads builds : Bool) (from : ℕ) (p : Progress) : Type 0 where
   pub call : Call
   pub is_open : call_at number old.calls ≡ Some call
   pub work : Work
   pub same_request : request_of work ≡ request_of call.work
-  pub law : StepLawIn now C a after log left (request_of call.work) (held call.work) p (held work) (IsTrue C call.work) (IsTrue C work)
+  pub law : StepLawIn now C a after log left (request_of call.work) (held call.work) p (held work) (IsTrue C call.work)
+      (IsTrue C work)
   pub goes_on : WorkBuilds a log call.work p work
   pub waits : WorkWaits a call.work p
   pub fails : WorkFails a log call.work p work
+  pub follows : WorkFollows a call.work p work
+  pub read : WorkReads a after call.work
+  pub posts : WorkPosts a after call.work p work
   pub changed : new ≡ record old { calls = with_changed (with_work work) number old.calls }
   pub pass_is : pass ≡ call.pass
   pub reads_is : reads ≡ reads_log (request_of call.work)

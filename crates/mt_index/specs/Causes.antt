@@ -22,16 +22,18 @@ abbrev pub WaitsFor : MachineView → Option Call → Type 0
 WaitsFor s None = ⊥
 WaitsFor s (Some call) = WorkWaits s.tree call.work Waits
 
--- the call of this number, before its step and after it, where it goes on: a put or remove comes to be failed only for a fault that stands where
--- it makes ready, and for want of memory only where none stands
+-- the call of this number, before its step and after it, where it goes on: a put or remove comes to be failed only for
+-- a fault that stands where it makes ready, and for want of memory only where none stands
 abbrev pub FailsFor : MachineView → ℕ → MachineView → Type 0
-FailsFor s number t = (before after : Call) → call_at number s.calls.calls ≡ Some before → call_at number t.calls.calls ≡ Some after → WorkFails s.tree s.log before.work WentOn after.work
+FailsFor s number t = (before after : Call) → call_at number s.calls.calls ≡ Some before
+    → call_at number t.calls.calls ≡ Some after → WorkFails s.tree s.log before.work WentOn after.work
 
 -- no number of a view is left for the build that would open one
 abbrev pub SpentFor : MachineView → Call → Refusal → Type 0
 SpentFor s call refusal = (refusal ≡ Spent) × (greatest_number ≤ s.views.built) × IsBuiltWork call.work
 
--- the call is refused for what it had failed for; a get or range, for want of memory at a border; a build for that, or for the number of its view
+-- the call is refused for what it had failed for; a get or range, for want of memory at a border; a build for that, or
+-- for the number of its view
 abbrev pub RefusedFor : MachineView → Option Call → Refusal → Type 0
 RefusedFor s None refusal = refusal ≡ NoSuchCall
 RefusedFor s (Some call) refusal = WorkRefuses s.tree call.work refusal ⊎ SpentFor s call refusal
@@ -43,14 +45,16 @@ AllBeganAfter calls node = (k : ℕ × Call) → Among k calls → node.epoch < 
 abbrev pub OneBeganBy : List (ℕ × Call) → Retired → Type 0
 OneBeganBy calls node = (k : ℕ × Call) × Among k calls × (k.1.epoch ≤ node.epoch)
 
--- WHAT A COLLECTION FREES: exactly the retired nodes since whose retiring each open call began, which are the first so many
+-- WHAT A COLLECTION FREES: exactly the retired nodes since whose retiring each open call began, which are the first so
+-- many
 pub record FreesSo (s : MachineView) (count : ℕ) (t : MachineView) : Type 0 where
   pub left : t.tree ≡ given_back count s.tree
   pub freed : All (AllBeganAfter s.calls.calls) (take count s.tree.retired)
   pub kept : All (OneBeganBy s.calls.calls) (drop count s.tree.retired)
 
--- WHY A CALL WAITS, FAILS OR IS REFUSED, by the machine before the step and after it. It waits only where the node that its step visits is marked
--- deleted; or, for a put or remove, is a border that is locked or, while it posts, an interior that is. So a get or range never waits at a lock.
+-- WHY A CALL WAITS, FAILS OR IS REFUSED, by the machine before the step and after it. It waits only where the node that
+-- its step visits is marked deleted; or, for a put or remove, is a border that is locked or, while it posts, an
+-- interior that is. So a get or range never waits at a lock.
 abbrev pub IsCaused : MachineView → Event → Outcome → MachineView → Type 0
 IsCaused s (Step call) Again t = WaitsFor s (call_at call.0 s.calls.calls)
 IsCaused s (Step call) Moved t = FailsFor s call.0 t

@@ -9,7 +9,8 @@ use Rattle.mt_commit.specs.Log.{LogView}
 
 -- why a reader isn't given the deltas after a number: the limit is out of its bounds, or some of them were trimmed
 abbrev pub feed_fault : LogView → ℕ → ℕ → Option Refusal
-feed_fault log from limit = option_or (limit_fault limit) (refused_if (nat_lt from log.held_after) (Behind log.held_after))
+feed_fault log from limit =
+    option_or (limit_fault limit) (refused_if (nat_lt from log.held_after) (Behind log.held_after))
 
 -- the deltas of the commits after a number that a log has, so many at most
 abbrev pub deltas_after : LogView → ℕ → ℕ → List Delta

@@ -10,8 +10,8 @@ use Rattle.mt_commit.specs.Deltas.{Fits, redo, rows_at}
 use Rattle.mt_commit.specs.Logged.{key_of}
 use Rattle.mt_index.specs.Stands.{MachineView, Stands}
 
--- the present rows, with the deltas after a number that the log reaches undone from the newest on, are those after the first so many
---     commits: so the last k deltas lead back to the rows before the last k commits
+-- the present rows, with the deltas after a number that the log reaches undone from the newest on, are those after the
+-- first so many commits: so the last k deltas lead back to the rows before the last k commits
 abbrev pub LogTellsThePast : Type 0
 LogTellsThePast =
     (s : MachineView) (h : History) (number : ℕ) → Stands s h → s.log.held_after ≤ number
@@ -21,8 +21,8 @@ LogTellsThePast =
 abbrev pub LogFits : Type 0
 LogFits = (s : MachineView) (h : History) → Stands s h → Fits s.log (rows s.columns (moment h))
 
--- the delta of the commit that follows so many: its change's key, the row that the key had and the row that it then has,
---     and the rows then are the rows before with that row
+-- the delta of the commit that follows so many: its change's key, the row that the key had and the row that it then
+-- has, and the rows then are the rows before with that row
 pub record TellsOf (C : ℕ) (commits : List Change) (done : ℕ) (change : Change) (delta : Delta) : Type 0 where
   pub number : delta.number ≡ done + 1
   pub key : delta.key ≡ key_of change

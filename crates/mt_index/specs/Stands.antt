@@ -57,24 +57,28 @@ pub record MachineView : Type 0 where
 
 -- what is taken, a locked node or a spare, is owned by an open call
 abbrev pub AllOwned : ArenaView → World → List (ℕ × Call) → Type 0
-AllOwned a w calls = (number : ℕ) → IsTaken a w number → (k : ℕ × Call) × Among k calls × Among number (held k.1.work).owns
+AllOwned a w calls = (number : ℕ) → IsTaken a w number → (k : ℕ × Call) × Among k calls
+    × Among number (held k.1.work).owns
 
 -- the tree has exactly the rows that the history has come to
 abbrev pub HasRowsOf : ℕ → ArenaView → History → Type 0
-HasRowsOf C a h = (key : List ℕ) → AreBytes key → (row : Row) → HasRow a key row ↔ (get (rows C (moment h)) key ≡ Some row)
+HasRowsOf C a h = (key : List ℕ) → AreBytes key → (row : Row) → HasRow a key row
+    ↔ (get (rows C (moment h)) key ≡ Some row)
 
--- the moments of a call that began when so much had happened, and so many commits there were, as arenas: a row that one of them has was there at
--- some moment since, and a key that was there at each moment since has a row in each of them; and the deltas of the commits since lead from
--- the rows of each to those of the next
+-- the moments of a call that began when so much had happened, and so many commits there were, as arenas: a row that one
+-- of them has was there at some moment since, and a key that was there at each moment since has a row in each of them;
+-- and the deltas of the commits since lead from the rows of each to those of the next
 pub record IsPast (C began from : ℕ) (h : History) (arenas : List Arena) : Type 0 where
-  pub stood : (asked key : List ℕ) (row : Row) → AreBytes key → Stood (shown asked) arenas (place_of key) row → Sometime began (Shows C key asked row) h
+  pub stood : (asked key : List ℕ) (row : Row) → AreBytes key → Stood (shown asked) arenas (place_of key) row
+      → Sometime began (Shows C key asked row) h
   pub throughout : (key : List ℕ) → AreBytes key → Throughout began (IsThere C key) h → AllHave arenas (place_of key)
   pub earlier : List Rows
   pub had : HadRows arenas (rows C (moment h) ∷ earlier)
   pub goes : GoesBy (rows C (moment h) ∷ earlier) (drop from (deltas_of C (moment h).commits))
   pub reached : from ≤ length (moment h).commits
 
--- from which numbers of commits the log is held: by each view that stands, from its own; by each open call that reads the log, from its begin
+-- from which numbers of commits the log is held: by each view that stands, from its own; by each open call that reads
+-- the log, from its begin
 abbrev pub holding : Moment → List ℕ
 holding m =
     map (λ (v : StandingView). v.at) m.views
@@ -86,7 +90,8 @@ WasBlocked began h None = Unit {0}
 WasBlocked began h (Some number) = Sometime began (λ m. held_from m ≡ number) h
 
 -- the machine's record of a call is true after a history
-pub record CallStands (C now : ℕ) (a : ArenaView) (w : World) (h : History) (kept : ℕ × Call) (call : OpenCall) : Type 0 where
+pub record CallStands (C now : ℕ) (a : ArenaView) (w : World) (h : History) (kept : ℕ × Call)
+    (call : OpenCall) : Type 0 where
   pub pass : call.pass ≡ kept.1.pass.0
   pub request : call.request ≡ request_of kept.1.work
   pub from : call.from ≡ kept.1.from
@@ -111,7 +116,8 @@ pub record Stands (s : MachineView) (h : History) : Type 0 where
   pub world : IsWorld s.tree s.epoch w
   pub content : HasRowsOf s.columns s.tree h
   pub keys : (key : List ℕ) (row : Row) → get (rows s.columns (moment h)) key ≡ Some row → AreBytes key
-  -- the log has exactly the deltas of the commits after the least number from which it is held, and of the last ones that it keeps for nobody
+  -- the log has exactly the deltas of the commits after the least number from which it is held, and of the last ones
+  -- that it keeps for nobody
   pub logged : s.log.deltas ≡ drop s.log.held_after (deltas_of s.columns (moment h).commits)
   pub trimmed : s.log.held_after ≡ min (held_from (moment h)) (length (moment h).commits - s.log.keep)
   -- it is held from each number as often as views and open calls hold it from there
@@ -134,7 +140,8 @@ abbrev pub outcome_of : ℕ → PassNo → ℕ → ℕ → Progress → Outcome
 outcome_of number pass from to WentOn = Moved
 outcome_of number pass from to Waits = Again
 outcome_of number pass from to (Committed commit) = Commit commit
-outcome_of number pass from to (Answered answer) = Done (record { pass = pass; call = record { 0 = number }; from = from; to = to; answer = answer })
+outcome_of number pass from to (Answered answer) =
+    Done (record { pass = pass; call = record { 0 = number }; from = from; to = to; answer = answer })
 outcome_of number pass from to (EndsRefused refusal) = Refused refusal
 
 -- the calls, once the step has answered so
@@ -213,16 +220,31 @@ with_view state views = record {
 
 -- what the end of a build answers
 abbrev pub built_outcome : PassNo → ℕ → ℕ → ℕ → Result ℕ Refusal → Outcome
-built_outcome pass number from to (Ok view) = Done (record { pass = pass; call = record { 0 = number }; from = from; to = to; answer = Built (record { 0 = view }) })
+built_outcome pass number from to (Ok view) =
+    Done (record {
+      pass = pass;
+      call = record { 0 = number };
+      from = from;
+      to = to;
+      answer = Built (record { 0 = view });
+    })
 built_outcome pass number from to (Err refusal) = Refused refusal
 
 -- a build's view is opened, and holds the log from where it stands
-pub record Opens (s : MachineView) (number : ℕ) (call : Call) (state : StateView) (outcome : Outcome) (t : MachineView) : Type 0 where
+pub record Opens (s : MachineView) (number : ℕ) (call : Call) (state : StateView) (outcome : Outcome)
+    (t : MachineView) : Type 0 where
   pub holders : List ℕ
   pub are : holders ≡ without_holder call.from (with_holder state.at s.log.holders)
   pub sound : IsLog (record s.log { holders = holders })
   pub unspent : s.views.built < greatest_number
-  pub is_outcome : outcome ≡ Done (record { pass = call.pass; call = record { 0 = number }; from = call.from; to = newest s.log; answer = Built (record { 0 = s.views.built + 1 }) })
+  pub is_outcome : outcome ≡ Done
+      (record {
+        pass = call.pass;
+        call = record { 0 = number };
+        from = call.from;
+        to = newest s.log;
+        answer = Built (record { 0 = s.views.built + 1 });
+      })
   pub is_next : t ≡ call_ended number holders (with_view state s.views) s
 
 -- or it isn't opened, for want of memory or of a number
@@ -258,7 +280,8 @@ abbrev pub none_meant : ℕ → Outcome
 none_meant asked = if asked == 0 then Current else Refused NoSuchView
 
 -- a view that is behind is taken on by the delta of the next commit, and holds the log from there
-pub record TakesOn (s : MachineView) (number : ℕ) (state : StateView) (outcome : Outcome) (t : MachineView) : Type 0 where
+pub record TakesOn (s : MachineView) (number : ℕ) (state : StateView) (outcome : Outcome)
+    (t : MachineView) : Type 0 where
   pub behind : state.at < newest s.log
   pub delta : Delta
   pub is_delta : delta_of s.log (state.at + 1) ≡ Some delta
@@ -266,7 +289,8 @@ pub record TakesOn (s : MachineView) (number : ℕ) (state : StateView) (outcome
   pub are : holders ≡ without_holder state.at (with_holder (state.at + 1) s.log.holders)
   pub sound : IsLog (record s.log { holders = holders })
   pub is_outcome : outcome ≡ Applied (state.at + 1)
-  pub is_next : t ≡ with_views holders (record s.views { views = with_state number (applied delta state) s.views.views }) s
+  pub is_next : t ≡ with_views holders
+      (record s.views { views = with_state number (applied delta state) s.views.views }) s
 
 pub record AppliesTo (s : MachineView) (asked : ℕ) (outcome : Outcome) (t : MachineView) : Type 0 where
   pub number : ℕ
@@ -356,14 +380,16 @@ with_call s pass work =
 -- a begin leads from one machine to the next, with this outcome
 abbrev pub Begins : MachineView → PassNo → Request → Outcome → MachineView → Type 0
 Begins s pass request (Called number) t =
-    (fault_of s request ≡ None) × (number ≡ record { 0 = s.calls.begun + 1 }) × (work : Work) × (request_of work ≡ request) × IsNew s.columns (newest s.log) work × (t ≡ with_call s pass work)
+    (fault_of s request ≡ None) × (number ≡ record { 0 = s.calls.begun + 1 }) × (work : Work)
+    × (request_of work ≡ request) × IsNew s.columns (newest s.log) work × (t ≡ with_call s pass work)
 Begins s pass request (Refused refusal) t =
     ((fault_of s request ≡ Some refusal) ⊎ ((fault_of s request ≡ None) × (refusal ≡ NoMemory))) × (t ≡ s)
 Begins s pass request _ t = ⊥
 
--- These events, with these outcomes, led from an empty index of C columns to this machine; each outcome was one that its
--- event may have; so each get, each range and each page of a view is right; and the machine can go on from there.
-pub record IsRun (C : ℕ) (events : List Event) (outcomes : List Outcome) (machine : MachineView) (h : History) : Type 0 where
+-- These events, with these outcomes, led from an empty index of C columns to this machine; each outcome was one that
+-- its event may have; so each get, each range and each page of a view is right; and the machine can go on from there.
+pub record IsRun (C : ℕ) (events : List Event) (outcomes : List Outcome) (machine : MachineView)
+    (h : History) : Type 0 where
   pub told : GoesOn [] events outcomes h
   pub legal : Legal C h
   pub gets : GetsAreRight C h

@@ -16,7 +16,8 @@ use Rattle.mt_works.specs.declared.work.Work.{Work}
 use Rattle.mt_works.specs.declared.work.Work.TheVariants.{Build}
 
 -- ---- views
--- a view stands at a number of commits that there were, and is exactly what its specification gives afresh on the rows after so many
+-- a view stands at a number of commits that there were, and is exactly what its specification gives afresh on the rows
+-- after so many
 pub record IsExact (C : ℕ) (m : Moment) (view : ℕ × StateView) : Type 0 where
   pub reached : view.1.at ≤ length m.commits
   pub state : IsStateOf C m (standing view) view.1
@@ -45,8 +46,8 @@ pub record ViewsStand (C : ℕ) (m : Moment) (views : ViewsView) : Type 0 where
 abbrev pub deltas_between : ℕ → List Change → ℕ → ℕ → List Delta
 deltas_between C commits from upto = take (upto - from) (drop from (deltas_of C commits))
 
--- while a build scans, its view stands at the commits of its begin; then the deltas that it is still to take lead it to the rows
--- after the last of them
+-- while a build scans, its view stands at the commits of its begin; then the deltas that it is still to take lead it to
+-- the rows after the last of them
 abbrev pub ReadsFrom : ℕ → List Change → ℕ → Option ℕ → StateView → Type 0
 ReadsFrom C commits from None state = state.at ≡ from
 ReadsFrom C commits from (Some upto) state =
@@ -60,7 +61,8 @@ ReadsOf C commits from (Build building) =
 ReadsOf C commits from _ = Unit {0}
 
 -- a view has been taken on by the delta of the next commit
-pub record TakesView (number at : ℕ) (log : LogView) (old : ViewsView) (state : StateView) (new : ViewsView) : Type 0 where
+pub record TakesView (number at : ℕ) (log : LogView) (old : ViewsView) (state : StateView)
+    (new : ViewsView) : Type 0 where
   pub delta : Delta
   pub is_delta : delta_of log (at + 1) ≡ Some delta
   pub taken : new ≡ record old { views = with_state number (applied delta state) old.views }

@@ -106,7 +106,8 @@ impl Calls {
     pub(crate) fn begin(&mut self, call: Call) -> Result<u64, NoMemory>
         requires { self.old.begun < 2 ^ 64 - 1 }
         ensures number { IfOk result (λ number. number ≡ self.old.begun + 1) }
-        ensures ok { OnOk result (self.new ≡ record { begun = self.old.begun + 1; calls = self.old.calls ++ (self.old.begun + 1, call) ∷ [] }) }
+        ensures ok { OnOk result (self.new
+            ≡ record { begun = self.old.begun + 1; calls = self.old.calls ++ (self.old.begun + 1, call) ∷ [] }) }
         ensures err { OnErr result (self.new ≡ self.old) }
     {
         let number = self.begun + 1;
@@ -126,8 +127,11 @@ impl Calls {
         log: &mut Log,
     ) -> Option<Stepped>
         requires { MayStepOf epoch columns tree.old log.old (call_at number self.old.calls) }
-        ensures none { result ≡ None → (call_at number self.old.calls ≡ None) × (self.new ≡ self.old) × (tree.new ≡ tree.old) × (log.new ≡ log.old) }
-        ensures steps { MatchOption result (Unit {0}) (λ stepped. StepsCall epoch columns number self.old self.new tree.old tree.new log.old log.new stepped.pass stepped.reads stepped.builds stepped.from stepped.progress) }
+        ensures none { result ≡ None → (call_at number self.old.calls ≡ None) × (self.new ≡ self.old)
+            × (tree.new ≡ tree.old) × (log.new ≡ log.old) }
+        ensures steps { MatchOption result (Unit {0})
+            (λ stepped. StepsCall epoch columns number self.old self.new tree.old tree.new log.old log.new stepped.pass
+            stepped.reads stepped.builds stepped.from stepped.progress) }
     {
         let Some(call) = self.calls.get_mut(&number) else {
             return None;

@@ -28,7 +28,8 @@ pub(crate) fn deltas_after(
     from: u64,
     limit: u16,
 ) -> Result<Vec<Delta>, Refusal>
-    ensures fault { MatchOption (feed_fault log.now from limit) (IfErr result (λ refusal. refusal ≡ Refusal.NoMemory)) (λ refusal. result ≡ Err refusal) }
+    ensures fault { MatchOption (feed_fault log.now from limit) (IfErr result (λ refusal. refusal ≡ Refusal.NoMemory))
+        (λ refusal. result ≡ Err refusal) }
     ensures deltas { IfOk result (λ deltas. deltas.items ≡ deltas_after log.now from limit) }
 {
     if let Some(refusal) = feed_fault(log, from, limit) {

@@ -2,6 +2,7 @@
 //! are interleaved in any order.
 #![tactic(auto)]
 
+mod alone;
 mod calls;
 mod feed;
 pub mod laws;

@@ -10,6 +10,7 @@ ghost use Rattle.mt_index.specs.Viewing.{CopiesView};
 ghost use Rattle.mt_types.specs.declared.limits.TheConstants.{MAX_VIEWS};
 ghost use Rattle.mt_arena.specs.Node.{occupied};
 ghost use Rattle.mt_types.specs.declared.event.Event.TheVariants.{Collect};
+ghost use Rattle.mt_index.specs.Alone.{IsIdle};
 ghost use Rattle.mt_index.specs.Causes.{IsCaused};
 ghost use Rattle.mt_commit.specs.Logged.{deltas_of};
 ghost use Rattle.mt_index.specs.Feed.{feed_fault};
@@ -44,9 +45,9 @@ use std::marker::Model;
 /// An index over the whole tree, which is driven by events.
 #[derive(Drop)]
 pub struct Machine {
-    columns: u8,
+    pub(crate) columns: u8,
     epoch: u64,
-    tree: Tree,
+    pub(crate) tree: Tree,
     log: Log,
     calls: Calls,
     views: Views,
@@ -64,9 +65,24 @@ impl Model for Machine {
 
     ghost coded = { Prim.hlevel (codes, place_code, state_code) };
 
-    ghost view = { λ m. record { columns = m.columns; epoch = m.epoch; tree = m.tree; log = m.log; calls = m.calls; views = m.views } };
+    ghost view = { λ m. record {
+      columns = m.columns;
+      epoch = m.epoch;
+      tree = m.tree;
+      log = m.log;
+      calls = m.calls;
+      views = m.views;
+    } };
 
-    ghost invariant = { λ m. (h : History) × Stands (record { columns = m.columns; epoch = m.epoch; tree = m.tree; log = m.log; calls = m.calls; views = m.views }) h };
+    ghost invariant = { λ m. (h : History)
+        × Stands (record {
+          columns = m.columns;
+          epoch = m.epoch;
+          tree = m.tree;
+          log = m.log;
+          calls = m.calls;
+          views = m.views;
+        }) h };
 }
 
 fn is_build(request: &Request) -> bool
@@ -220,11 +236,15 @@ impl Machine {
     ///
     /// # Errors
     ///
-    /// `BadColumn` where there are to be no columns or more than 16, `BadLimit` where `feed` or `keep` is out of its bounds,
-    /// and else `NoMemory` for want of it.
+    /// `BadColumn` where there are to be no columns or more than 16, `BadLimit` where `feed` or `keep` is out of its
+    /// bounds, and else `NoMemory` for want of it.
     pub fn open(alloc: Global, options: Options) -> Result<Machine, Refusal>
-        ensures opened { IfOk result (λ machine. (machine.columns ≡ options.columns) × HasBounds options.feed options.keep machine.log × Stands machine []) }
-        ensures fault { MatchOption (open_fault options.columns options.feed options.keep) (IfErr result (λ refusal. refusal ≡ Refusal.NoMemory)) (λ refusal. result ≡ Err refusal) }
+        ensures opened { IfOk result
+            (λ machine. (machine.columns ≡ options.columns) × HasBounds options.feed options.keep machine.log
+            × Stands machine []) }
+        ensures fault { MatchOption (open_fault options.columns options.feed options.keep)
+            (IfErr result (λ refusal. refusal ≡ Refusal.NoMemory)) (λ refusal. result ≡ Err refusal) }
+        ensures idle { IfOk result IsIdle }
     {
         if let Some(refusal) = open_fault(options.columns, options.feed, options.keep) {
             return Err(refusal);
@@ -264,7 +284,8 @@ impl Machine {
     /// The pass of the open call of this number, if it is open. Costs a way down the tree of open calls.
     pub fn pass_of(&self, call: CallNo) -> Option<PassNo>
         ensures pass { result ≡ pass_at call.0 self.now.calls.calls }
-        ensures told { (h : History) → Stands self.now h → option_map (λ pass. pass.0) result ≡ option_map (λ kept. kept.pass) (call_of call.0 (moment h).calls) }
+        ensures told { (h : History) → Stands self.now h
+            → option_map (λ pass. pass.0) result ≡ option_map (λ kept. kept.pass) (call_of call.0 (moment h).calls) }
     {
         self.calls.pass_of(call.0)
     }
@@ -276,33 +297,38 @@ impl Machine {
         MAX_NODES as usize - self.tree.free_numbers()
     }
 
-    /// The deltas of the commits after the first `from`, in their order, `limit` at most: each with its number, its key, and
-    /// the rows that the key had before and has after it. None where there are none.
+    /// The deltas of the commits after the first `from`, in their order, `limit` at most: each with its number, its
+    /// key, and the rows that the key had before and has after it. None where there are none.
     ///
     /// Costs an allocation or two for each of them; a list of them grows by doubling.
     ///
     /// # Errors
     ///
-    /// `BadLimit` unless `limit` is from 1 to 1000. `Behind` where some of these deltas were trimmed, with the number from
-    /// which on they are there: the log keeps what open ranges hold, and the last `keep` of its options. Else `NoMemory` for
-    /// want of it.
+    /// `BadLimit` unless `limit` is from 1 to 1000. `Behind` where some of these deltas were trimmed, with the number
+    /// from which on they are there: the log keeps what open ranges hold, and the last `keep` of its options. Else
+    /// `NoMemory` for want of it.
     pub fn feed(&self, alloc: Global, from: u64, limit: u16) -> Result<Vec<Delta>, Refusal>
-        ensures tells { IfOk result (λ deltas. (h : History) → Stands self.now h → deltas.items ≡ take limit (drop from (deltas_of self.now.columns (moment h).commits))) }
-        ensures fault { MatchOption (feed_fault self.now.log from limit) (IfErr result (λ refusal. refusal ≡ Refusal.NoMemory)) (λ refusal. result ≡ Err refusal) }
+        ensures tells { IfOk result (λ deltas. (h : History) → Stands self.now h
+            → deltas.items ≡ take limit (drop from (deltas_of self.now.columns (moment h).commits))) }
+        ensures fault { MatchOption (feed_fault self.now.log from limit)
+            (IfErr result (λ refusal. refusal ≡ Refusal.NoMemory)) (λ refusal. result ≡ Err refusal) }
     {
         deltas_after(alloc, &self.log, from, limit)
     }
 
-    /// The number of commits at which a view stands, and a copy of its state: from there on it can be taken on by deltas
-    /// elsewhere. No event happens. O(n log n) in its rows, with an allocation for each. Shares the bytes.
+    /// The number of commits at which a view stands, and a copy of its state: from there on it can be taken on by
+    /// deltas elsewhere. No event happens. O(n log n) in its rows, with an allocation for each. Shares the bytes.
     ///
     /// # Errors
     ///
     /// `NoSuchView` where no such view stands. Else `NoMemory` for want of it.
     pub fn view_copy(&self, alloc: Global, view: ViewNo) -> Result<(u64, ViewState), Refusal>
-        ensures copies { IfOk result (λ copy. (state_at view.0 self.now.views.views ≡ Some copy.1) × (copy.0 ≡ copy.1.at)) }
-        ensures exact { IfOk result (λ copy. (h : History) → Stands self.now h → CopiesView self.now.columns (moment h) view.0 copy.1) }
-        ensures fault { MatchOption (state_at view.0 self.now.views.views) (result ≡ Err Refusal.NoSuchView) (λ state. IfErr result (λ refusal. refusal ≡ Refusal.NoMemory)) }
+        ensures copies { IfOk result
+            (λ copy. (state_at view.0 self.now.views.views ≡ Some copy.1) × (copy.0 ≡ copy.1.at)) }
+        ensures exact { IfOk result (λ copy. (h : History) → Stands self.now h
+            → CopiesView self.now.columns (moment h) view.0 copy.1) }
+        ensures fault { MatchOption (state_at view.0 self.now.views.views) (result ≡ Err Refusal.NoSuchView)
+            (λ state. IfErr result (λ refusal. refusal ≡ Refusal.NoMemory)) }
     {
         let Some(at) = self.views.at(view.0) else {
             return Err(Refusal::NoSuchView);
@@ -311,7 +337,15 @@ impl Machine {
         Ok((at, state))
     }
 
-    fn begin(&mut self, alloc: Global, pass: PassNo, request: &Request) -> Outcome
+    /// Whether no call is open.
+    pub fn is_idle(&self) -> bool
+        ensures idle { IsTrue result ↔ IsIdle self.now }
+        ensures stands { (h : History) × Stands self.now h }
+    {
+        self.calls.len() == 0
+    }
+
+    pub(crate) fn begin(&mut self, alloc: Global, pass: PassNo, request: &Request) -> Outcome
         ensures begins { Begins self.old pass request.now result self.new }
         ensures bounds { HasBounds self.old.log.feed self.old.log.keep self.new.log }
     {
@@ -341,7 +375,7 @@ impl Machine {
         Outcome::Call(CallNo(number))
     }
 
-    fn step(&mut self, alloc: Global, number: u64) -> Outcome
+    pub(crate) fn step(&mut self, alloc: Global, number: u64) -> Outcome
         ensures steps { Steps self.old number result self.new }
         ensures bounds { HasBounds self.old.log.feed self.old.log.keep self.new.log }
     {
@@ -472,14 +506,16 @@ impl Machine {
         }
     }
 
-    /// One event, and what came of it. Wherever the machine stands, it then stands where this has happened too, and that
-    /// is legal: `stands` says so of each history. Why a call waits, fails or is refused, and which
+    /// One event, and what came of it. Wherever the machine stands, it then stands where this has happened too, and
+    /// that is legal: `stands` says so of each history. Why a call waits, fails or is refused, and which
     /// nodes a collection frees, which a history doesn't show, is the clause `caused`.
     ///
-    /// A begin costs some allocations, and a step the visit of one node and at most some allocations; each of them finds
-    /// its call at the cost of a way down the tree of open calls. A collection is O(n) in the nodes that it frees.
+    /// A begin costs some allocations, and a step the visit of one node and at most some allocations; each of them
+    /// finds its call at the cost of a way down the tree of open calls. A collection is O(n) in the nodes that it
+    /// frees.
     pub fn event(&mut self, alloc: Global, event: &Event) -> Outcome
-        ensures stands { (h : History) → Stands self.old h → (opens : ℕ) × Stands self.new (happening event.now result opens ∷ h) }
+        ensures stands { (h : History) → Stands self.old h → (opens : ℕ)
+            × Stands self.new (happening event.now result opens ∷ h) }
         ensures caused { IsCaused self.old event.now result self.new }
         ensures columns { self.new.columns ≡ self.old.columns }
         ensures bounds { HasBounds self.old.log.feed self.old.log.keep self.new.log }
@@ -515,7 +551,8 @@ impl Machine {
         ensures legal { IfOk result (λ run. (h : History) × IsRun options.columns events.now run.1.items run.0 h) }
         ensures length { IfOk result (λ run. length run.1.items ≡ length events.now) }
         ensures bounds { IfOk result (λ run. HasBounds options.feed options.keep run.0.log) }
-        ensures fault { MatchOption (open_fault options.columns options.feed options.keep) (IfErr result (λ refusal. refusal ≡ Refusal.NoMemory)) (λ refusal. result ≡ Err refusal) }
+        ensures fault { MatchOption (open_fault options.columns options.feed options.keep)
+            (IfErr result (λ refusal. refusal ≡ Refusal.NoMemory)) (λ refusal. result ≡ Err refusal) }
     {
         let mut machine = Machine::open(alloc, options)?;
         let mut outcomes = Vec::new(alloc);

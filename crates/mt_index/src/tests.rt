@@ -1,11 +1,12 @@
-//! Each public call of the machine once: a put of a long key that commits, with its delta, and a run of a get. Whole scripts are run one crate
-//! up.
+//! Each public call of the machine once: a put of a long key that commits, with its delta, and a run of a get. Whole
+//! scripts are run one crate up.
 
 use crate::machine::Machine;
 use crate::options::Options;
 use bytes::Bytes;
 use mt_types::event::{Answer, Event, Outcome, Request};
 use mt_types::items::Items;
+use mt_types::key::Key;
 use mt_types::numbers::{CallNo, PassNo};
 use std::alloc::Global;
 use std::test::Fail;
@@ -16,28 +17,22 @@ const OPTIONS: Options = Options {
     keep: 1,
 };
 
-// A get of all columns, by pass 2.
-fn get(alloc: Global, key: &'static [u8]) -> Event {
-    Event::Begin(
-        PassNo(2),
-        Request::Get {
-            key: Bytes::from_static(key),
-            columns: Items::new(alloc),
-        },
-    )
+// A get of all columns.
+fn get(alloc: Global, key: &'static [u8]) -> Request {
+    Request::Get {
+        key: Bytes::from_static(key),
+        columns: Items::new(alloc),
+    }
 }
 
-// A put of column 0, by pass 1.
-fn put(alloc: Global, key: &'static [u8], value: &'static [u8]) -> Result<Event, Fail> {
+// A put of column 0.
+fn put(alloc: Global, key: &'static [u8], value: &'static [u8]) -> Result<Request, Fail> {
     let mut sets = Vec::new(alloc);
     sets.push((0, Bytes::from_static(value)))?;
-    Ok(Event::Begin(
-        PassNo(1),
-        Request::Put {
-            key: Bytes::from_static(key),
-            sets: Items::from_vec(sets),
-        },
-    ))
+    Ok(Request::Put {
+        key: Bytes::from_static(key),
+        sets: Items::from_vec(sets),
+    })
 }
 
 fn step(machine: &mut Machine, alloc: Global, call: u64) -> Outcome {
@@ -57,7 +52,7 @@ fn put_commits(rt: HostRuntime) -> Result<(), Fail> {
     let alloc = rt.alloc();
     let mut machine = Machine::open(alloc, OPTIONS)?;
     let put = put(alloc, b"a key of more than one slice", &[0x76])?;
-    let _ = machine.event(alloc, &put);
+    let _ = machine.event(alloc, &Event::Begin(PassNo(1), put));
     for _ in 0..3 {
         let _ = step(&mut machine, alloc, 1);
     }
@@ -74,7 +69,7 @@ fn put_commits(rt: HostRuntime) -> Result<(), Fail> {
 fn empty_index_empty_key(rt: HostRuntime) -> Result<(), Fail> {
     let alloc = rt.alloc();
     let events = [
-        get(alloc, &[]),
+        Event::Begin(PassNo(2), get(alloc, &[])),
         Event::Step(CallNo(1)),
         Event::Step(CallNo(1)),
     ];
@@ -83,5 +78,38 @@ fn empty_index_empty_key(rt: HostRuntime) -> Result<(), Fail> {
     assert_eq!(rt; outcomes.len(), 3);
     let absent = matches!(&outcomes[2], Outcome::Done(reply) if reply.answer == Answer::Absent);
     assert!(rt; absent);
+    Ok(())
+}
+
+// A put, gets and a range that read its row, a remove and a get that finds none, each by itself.
+#[test]
+fn calls_alone(rt: HostRuntime) -> Result<(), Fail> {
+    let alloc = rt.alloc();
+    let mut machine = Machine::open(alloc, OPTIONS)?;
+    let reply = machine.do_alone(alloc, &put(alloc, b"a", &[0x76])?)?;
+    assert_eq!(rt; reply.from, 0);
+    assert_eq!(rt; reply.to, 1);
+    let stored = reply.answer == Answer::Stored(1);
+    assert!(rt; stored);
+    let reply = machine.do_alone(alloc, &get(alloc, b"a"))?;
+    let version = match &reply.answer {
+        Answer::Found(row) => row.version,
+        _ => 0,
+    };
+    assert_eq!(rt; version, 1);
+    let key = Key::new(Bytes::from_static(b"a"))?;
+    let read = machine.get(alloc, key, Items::new(alloc))?;
+    assert_eq!(rt; read.map(|row| row.version), Some(1));
+    let first = Key::new(Bytes::new())?;
+    let pairs = machine.range(alloc, first, 10, Items::new(alloc))?;
+    assert_eq!(rt; pairs.as_slice().len(), 1);
+    let remove = Request::Remove {
+        key: Bytes::from_static(b"a"),
+    };
+    let removed = machine.do_alone(alloc, &remove)?.answer == Answer::Removed(2);
+    assert!(rt; removed);
+    let absent = machine.do_alone(alloc, &get(alloc, b"a"))?.answer == Answer::Absent;
+    assert!(rt; absent);
+    assert!(rt; machine.is_idle());
     Ok(())
 }

@@ -34,7 +34,8 @@ fn open_view(log: &mut Log, views: &mut Views, state: ViewState) -> Result<u64, 
     ensures log { OnOk result (log.new ≡ record log.old { holders = with_holder state.at log.old.holders }) }
     ensures views { OnOk result (views.new ≡ with_view state views.old) }
     ensures err { OnErr result ((log.new ≡ log.old) × (views.new ≡ views.old)) }
-    ensures why { IfErr result (λ refusal. (refusal ≡ Refusal.NoMemory) ⊎ ((refusal ≡ Refusal.Spent) × (greatest_number ≤ views.old.built))) }
+    ensures why { IfErr result (λ refusal. (refusal ≡ Refusal.NoMemory)
+        ⊎ ((refusal ≡ Refusal.Spent) × (greatest_number ≤ views.old.built))) }
 {
     if views.is_spent() {
         return Err(Refusal::Spent);
@@ -50,8 +51,8 @@ fn open_view(log: &mut Log, views: &mut Views, state: ViewState) -> Result<u64, 
     }
 }
 
-/// A build that has taken all ends, which began when there were `from` commits: its view is opened, or it is refused. The
-/// build holds the log no longer.
+/// A build that has taken all ends, which began when there were `from` commits: its view is opened, or it is refused.
+/// The build holds the log no longer.
 pub(crate) fn close_build(
     log: &mut Log,
     views: &mut Views,
@@ -65,11 +66,13 @@ pub(crate) fn close_build(
     requires held { 0 < times_held from log.old.holders }
     ensures number { IfOk result (λ number. number ≡ views.old.built + 1) }
     ensures unspent { OnOk result (views.old.built < greatest_number) }
-    ensures log { OnOk result (log.new ≡ record log.old { holders = without_holder from (with_holder state.at log.old.holders) }) }
+    ensures log { OnOk result (log.new
+        ≡ record log.old { holders = without_holder from (with_holder state.at log.old.holders) }) }
     ensures views { OnOk result (views.new ≡ with_view state views.old) }
     ensures err_log { OnErr result (log.new ≡ record log.old { holders = without_holder from log.old.holders }) }
     ensures err_views { OnErr result (views.new ≡ vacated true views.old) }
-    ensures why { IfErr result (λ refusal. (refusal ≡ Refusal.NoMemory) ⊎ ((refusal ≡ Refusal.Spent) × (greatest_number ≤ views.old.built))) }
+    ensures why { IfErr result (λ refusal. (refusal ≡ Refusal.NoMemory)
+        ⊎ ((refusal ≡ Refusal.Spent) × (greatest_number ≤ views.old.built))) }
     ensures sound { IsLog log.new }
 {
     match open_view(log, views, state) {
@@ -97,9 +100,11 @@ pub(crate) fn take_on(
     requires behind { at < newest log.old }
     requires few { length log.old.holders < MAX_HOLDERS }
     requires held { 0 < times_held at log.old.holders }
-    ensures log { OnOk result (log.new ≡ record log.old { holders = without_holder at (with_holder (at + 1) log.old.holders) }) }
+    ensures log { OnOk result (log.new
+        ≡ record log.old { holders = without_holder at (with_holder (at + 1) log.old.holders) }) }
     ensures sound { IsLog log.new }
-    ensures views { OnOk result ((state : StateView) → state_at number views.old.views ≡ Some state → TakesView number at log.old views.old state views.new) }
+    ensures views { OnOk result ((state : StateView) → state_at number views.old.views ≡ Some state
+        → TakesView number at log.old views.old state views.new) }
     ensures err { OnErr result ((log.new ≡ log.old) × (views.new ≡ views.old)) }
 {
     prove!(at < log.number());

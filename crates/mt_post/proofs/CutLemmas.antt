@@ -7,7 +7,7 @@ use Rattle.mt_interior.specs.declared.child.Child.{Child}
 use Rattle.mt_interior.specs.declared.interior.TheConstants.{KEPT_CHILDREN}
 use Rattle.mt_arena.specs.Node.{node_at, interior_at, interior_of}
 use Rattle.mt_arena.specs.Arena.{ArenaView, with_interior_changed}
-use Rattle.mt_chart.specs.Tree.{first, later, Among, head, interior, Arena, InteriorNode, Child as PlainChild, Node as PlainNode}
+use Rattle.mt_chart.specs.Tree.{first, later, Among, head, interior, Arena, InteriorNode, PlainChild, PlainNode}
 use Rattle.mt_chart.specs.Chart.{at_level, on, gone, Spot, spot, Chart, NoChildTwice, Owns, by_head, by_interior}
 use Rattle.mt_chart.specs.Steps.{Twin, AreTwins, SameContent}
 use Rattle.mt_chart.proofs.Basics.{same_number}
@@ -21,6 +21,7 @@ use Rattle.mt_tree.proofs.SeenLemmas.{seen-interior}
 use Rattle.mt_tree.proofs.InteriorPlaces.{is_on_as}
 use Rattle.mt_calls.specs.World.{World, IsWorld, IsTaken, HasSameTwins, Goes}
 use Rattle.mt_calls.proofs.BorderLemmas.{keys_same, interior_kept, retired_kept, on_kept}
+use Rattle.mt_calls.proofs.AliveLemmas.{alive_there}
 use Rattle.mt_calls.proofs.FoundLemmas.{some_at}
 use Rattle.mt_post.specs.declared.posting.Posting.{Posting}
 use Rattle.mt_post.specs.declared.posting.Progressed.TheVariants.{Moved}
@@ -28,9 +29,10 @@ use Rattle.mt_post.specs.declared.split.Split.{Split}
 use Rattle.mt_post.specs.declared.posting.PostStage.TheVariants.{HalfPosted, HalfCut}
 use Rattle.mt_post.specs.Posting.{goal_level, split_owns, AreWaiting, IsToPost, IsHeadOf, IsPostedHalf, PostingIsTrue, MayPost}
 use Rattle.mt_post.specs.Follows.{PostStep}
-use Rattle.mt_calls.proofs.NodeLemmas.{goes_with, heads_beside, interior_now, interior_others, interior_no_head, interior_no_border, interior_taken, not_both, known_some}
+use Rattle.mt_calls.proofs.NodeLemmas.{goes_with, heads_beside, interior_now, interior_others, interior_no_head, interior_no_border, interior_alive, interior_taken, not_both, known_some}
 use Rattle.mt_post.proofs.WalkLemmas.{at_stage, true_at}
 use Rattle.mt_post.proofs.KeptLemmas.{all_stay, owns_below}
+use Rattle.mt_post.proofs.NumberLemmas.{interior_leaves_twice}
 
 -- ---- the twins but for those of a number
 abbrev kept_pair : {A B C D : Type 0} → Twin → A ⊎ B → C ⊎ D → List Twin → List Twin
@@ -189,6 +191,7 @@ module _ (a : ArenaView) (posting : Posting) (split : Split) (is : posting.stage
           index = index;
           keys = keys_same a new content world.keys;
           heads = heads_beside a new w.chart w.chart i (λ number q h. h) (interior_no_head middle i (cut_one x) unlock there) (interior_no_border a i x cut_one p.named) others world.heads;
+          alive = alive_there a new w.chart i (interior_alive middle i (cut_one x) unlock there w.chart (inr p.alive)) others world.alive;
           twins = record {
             locked = λ one other pair.
                 let (old, not_one, not_other) = without_out i w.twins one other pair in
@@ -213,10 +216,12 @@ module _ (a : ArenaView) (posting : Posting) (split : Split) (is : posting.stage
                 border = stay.0;
                 head = known;
                 waiting = stay.1;
+                walks = tt;
                 stage = record {
                   interior = p.half;
                   named = now_m;
                   locked = p.half_locked;
+                  alive = p.half_alive;
                   stands = p.half_stands;
                   lone = (
                     (λ other pair. let (old, not_one, not_other) = without_out i w.twins other m pair in elim (p.half_twins other m old (inr refl)) [ inl e ↦ not_one e | inr e ↦ not_other e ]),
@@ -244,6 +249,9 @@ module _ (a : ArenaView) (posting : Posting) (split : Split) (is : posting.stage
     waits = tt;
     ends = tt;
     gets_on = refl;
+    numbers = (interior_leaves_twice a between after i cut_one unlock cut_is unlocked (λ i. refl) (λ i. refl)).numbers;
+    heads = (interior_leaves_twice a between after i cut_one unlock cut_is unlocked (λ i. refl) (λ i. refl)).heads;
+    marks = (interior_leaves_twice a between after i cut_one unlock cut_is unlocked (λ i. refl) (λ i. refl)).marks;
   })
 
   -- what the calls ask

@@ -25,6 +25,7 @@ use Rattle.mt_tree.specs.Seen.{arena_seen}
 use Rattle.mt_tree.specs.Keeping.{KeepsTree, KeepsUnknown, KeepsWhere, IsUnknown}
 use Rattle.mt_tree.specs.InteriorSteps.{IsNotGone}
 use Rattle.mt_calls.specs.World.{World, IsWorld, IsLockedInterior, IsTaken, Goes}
+use Rattle.mt_calls.proofs.AliveLemmas.{alive_unknown, alive_there}
 use Rattle.mt_calls.proofs.FoundLemmas.{some_at}
 use Rattle.mt_calls.proofs.SplitLemmas.{goes_occupied}
 use Rattle.mt_post.specs.declared.posting.Posting.{Posting}
@@ -36,10 +37,13 @@ use Rattle.mt_post.specs.Posting.{goal, goal_level, split_owns, AreWaiting, IsTo
 use Rattle.mt_post.specs.Follows.{FollowsInterior, PostStep}
 use Rattle.mt_calls.specs.World.{IsLockedBorder}
 use Rattle.mt_calls.proofs.BorderLemmas.{unknown_kept, on_kept}
-use Rattle.mt_calls.proofs.NodeLemmas.{goes_at, goes_kept, twins_lone, heads_beside, interior_now, interior_others, interior_no_head, interior_no_border, interior_taken, interior_is_taken, not_both, known_some}
+use Rattle.mt_calls.proofs.NodeLemmas.{goes_at, goes_kept, twins_lone, heads_beside, interior_now, interior_others, interior_no_head, interior_no_border, interior_alive, interior_taken, interior_is_taken, not_both, known_some}
 use Rattle.mt_post.proofs.WalkLemmas.{at_stage, true_at, still_locked, from_head, goes_on, in_layer, is_above}
 use Rattle.mt_post.proofs.KeptLemmas.{all_stay, same_beside, splitting_stays, apart_known, owns_below, owns_beside, goal_has_level, few_wait}
 use Rattle.mt_post.proofs.RootLemmas.{not_retired, gives_number, vacant_free}
+use Rattle.mt_arena.specs.Node.{head_of}
+use Rattle.mt_post.specs.Follows.{OccupiesOne, GivesOneBack, SameHeads, MarksNone}
+use Rattle.mt_post.proofs.NumberLemmas.{interior_leaves, occupied_heads, occupied_marks, given_back}
 
 -- two interiors under one number are one
 pub same_interior : (a : ArenaView) (n : ℕ) (i j : InteriorView) → interior_at a.nodes n ≡ Some i → interior_at a.nodes n ≡ Some j → i ≡ j
@@ -75,6 +79,7 @@ module _ (a : ArenaView) (posting : Posting) (node : NodeNo) (is : posting.stage
       let stay = all_stay a locked_one w w prefix half posting.low posting.waiting (λ number k. same_beside a locked_one w refl n others number (owns_beside a w prefix half posting.low n posting.waiting t all free number k)) t all in
       goes_at now a locked_one w w.chart n rest (n ∷ rest) _ world kept refl (on_kept a now w.chart n _ _ _ _ stands.place world.retired) others (λ other apart. refl)
       (heads_beside a locked_one w.chart w.chart n (λ number p h. h) (interior_no_head a n i lock f.named) (interior_no_border a n i lock f.named) others world.heads)
+      (alive_there a locked_one w.chart n (interior_alive a n i lock f.named w.chart (inl refl)) others world.alive)
       clash_locked (λ taken apart. free taken)
       (λ other taken out k. elim (among_cases other n rest k) [ inl e ↦ free (subst (λ (m : ℕ). IsTaken a w m) e taken) | inr j ↦ out j ])
       (λ other k taken. later k) (λ apart taken. first) (
@@ -83,12 +88,14 @@ module _ (a : ArenaView) (posting : Posting) (node : NodeNo) (is : posting.stage
           border = stay.0;
           head = known;
           waiting = stay.1;
+          walks = tt;
           stage = (
             lock i,
             (let level = is_above a posting node is wanted refl i f.named f.alive f.unlocked begun prefix w world.index.tree truth in let same = goal_has_level posting.half posting.low posting.waiting in omega (arith, level, same)),
             record {
               named = interior_now a n i lock f.named;
               locked = refl;
+              alive = f.alive;
               stands = stands;
               lone = (
                 (λ other pair. clash_locked (world.twins.locked other n pair).1),
@@ -111,6 +118,9 @@ module _ (a : ArenaView) (posting : Posting) (node : NodeNo) (is : posting.stage
     waits = tt;
     ends = tt;
     gets_on = inr (subst (λ (o : Option InteriorView). IsSomeAnd o (FollowsInterior posting (record posting { stage = HalfWanted node }) node)) (sym f.named) (inr (f.stops, inr (f.full, inl (omega (arith, below), refl)))));
+    numbers = (interior_leaves a after n lock value (λ i. refl)).numbers;
+    heads = (interior_leaves a after n lock value (λ i. refl)).heads;
+    marks = (interior_leaves a after n lock value (λ i. refl)).marks;
   })
 
 -- ---- a number is spared for the new half
@@ -121,12 +131,12 @@ module _ (a : ArenaView) (posting : Posting) (interior : NodeNo) (is : posting.s
   pub half_refused : (after : ArenaView) → after ≡ a → PostStep a after posting Moved (record posting { stage = LetGo interior })
   half_refused after same = subst (λ (x : ArenaView). PostStep a x posting Moved (record posting { stage = LetGo interior })) (sym same)
       (goes_on a posting posting.waiting posting.waiting (HalfWanted interior) (LetGo interior) refl refl is (λ now begun w prefix world border known all truth.
-      let (i, above, s) = truth in (all, record { interior = i; named = s.named; locked = s.locked; stands = s.stands; lone = s.lone; above = above })) tt tt (inr refl))
+      let (i, above, s) = truth in (all, record { interior = i; named = s.named; locked = s.locked; alive = s.alive; stands = s.stands; lone = s.lone; above = above }, tt)) tt tt (inr refl) refl)
 
   pub half_spares : (i : InteriorView) (middle : Child) (spare : NodeNo) (after : ArenaView) → interior_at a.nodes interior.0 ≡ Some i → slice_get i.children KEPT_CHILDREN ≡ Some middle → IsInterior (empty_half i middle.low)
-      → node_at a.nodes spare.0 ≡ None → Updates a.nodes after.nodes spare.0 (Some (Interior (empty_half i middle.low))) → after.retired ≡ a.retired → IsUnknown a spare.0 → KeepsTree a after
+      → node_at a.nodes spare.0 ≡ None → Updates a.nodes after.nodes spare.0 (Some (Interior (empty_half i middle.low))) → after.retired ≡ a.retired → IsUnknown a spare.0 → KeepsTree a after → OccupiesOne a after
       → PostStep a after posting Moved (record posting { stage = HalfSpared interior spare })
-  half_spares i middle spare after named read sound vacant updates retired unknown keeps = at_stage a after posting posting.waiting (HalfWanted interior) Moved (record posting { stage = HalfSpared interior spare }) refl is (record {
+  half_spares i middle spare after named read sound vacant updates retired unknown keeps numbers = at_stage a after posting posting.waiting (HalfWanted interior) Moved (record posting { stage = HalfSpared interior spare }) refl is (record {
     steps = λ now begun w prefix world before border known all truth.
         let (j, above, was) = truth in
         let half : ℕ = posting.half.0 in
@@ -142,6 +152,7 @@ module _ (a : ArenaView) (posting : Posting) (interior : NodeNo) (is : posting.s
               border = stay.0;
               head = known;
               waiting = stay.1;
+              walks = tt;
               stage = (
                 i,
                 subst (λ (x : InteriorView). goal_level posting.waiting < x.level) same_one above,
@@ -149,7 +160,7 @@ module _ (a : ArenaView) (posting : Posting) (interior : NodeNo) (is : posting.s
                 middle.low,
                 (middle, read, refl),
                 sound,
-                record { named = ap (option_and_then interior_of) updates.changed; unknown = out },
+                record { named = ap (option_and_then interior_of) updates.changed; unknown = out; alive = refl },
               );
             },
           ),
@@ -159,6 +170,9 @@ module _ (a : ArenaView) (posting : Posting) (interior : NodeNo) (is : posting.s
     waits = tt;
     ends = tt;
     gets_on = inl (spare, refl);
+    numbers = numbers;
+    heads = occupied_heads a after spare.0 (empty_half i middle.low) vacant updates;
+    marks = occupied_marks a after spare.0 (empty_half i middle.low) updates refl;
   })
 
 -- ---- it is filled
@@ -243,6 +257,7 @@ module _ (a : ArenaView) (posting : Posting) (interior spare : NodeNo) (is : pos
           subst (λ (x : ArenaView). Goes now a x w owns owns (λ next. PostingIsTrue begun then x next) × SameContent (arena_seen a) (arena_seen x)) (sym value)
           (goes_at now a filled w w.chart m owns owns (λ next. PostingIsTrue begun then filled next) world kept refl (unknown_kept a now w.chart m spared.unknown world.retired) others (λ other apart. refl)
           (heads_beside a filled w.chart w.chart m (λ number p h. h) (interior_no_head a m (empty_half i middle.low) fill spared.named) (interior_no_border a m (empty_half i middle.low) fill spared.named) others world.heads)
+          (alive_there a filled w.chart m (alive_unknown filled w.chart m spared.unknown) others world.alive)
           (λ locked. (let known_half = locked.known in let clash : false ≡ true = subst (λ (x : Option Spot). IsSome x) spared.unknown known_half in cc))
           (λ taken apart. absurd (apart first)) (λ other t out k. out k) (λ other k taken. k) (λ apart taken. absurd (apart first)) (
             prefix,
@@ -254,12 +269,13 @@ module _ (a : ArenaView) (posting : Posting) (interior spare : NodeNo) (is : pos
                 record {
                   interior = i;
                   splits = splitting_stays a filled w w prefix interior.0 i (same interior.0 (apart_known a w prefix interior.0 m _ s.stands.place spared.unknown)) s;
-                  spare = record { named = interior_now a m (empty_half i middle.low) fill spared.named ∙ ap (λ (l : List Child). Some (with_children (empty_half i middle.low) l)) upper_is; unknown = spared.unknown };
+                  spare = record { named = interior_now a m (empty_half i middle.low) fill spared.named ∙ ap (λ (l : List Child). Some (with_children (empty_half i middle.low) l)) upper_is; unknown = spared.unknown; alive = refl };
                   level = refl;
                   starts = (middle, read, refl);
                 },
                 stay.1,
               );
+              walks = λ layer low standing at. refl;
               stage = from_head begun prefix split.half posting.head.0 w known;
             },
           ));
@@ -267,6 +283,9 @@ module _ (a : ArenaView) (posting : Posting) (interior spare : NodeNo) (is : pos
       waits = tt;
       ends = tt;
       gets_on = (split, refl, refl, refl);
+      numbers = (interior_leaves a after spare.0 fill value (λ i. refl)).numbers;
+      heads = (interior_leaves a after spare.0 fill value (λ i. refl)).heads;
+      marks = (interior_leaves a after spare.0 fill value (λ i. refl)).marks;
     })
 
 -- ---- the new half is given back
@@ -279,8 +298,13 @@ module _ (a : ArenaView) (posting : Posting) (left : Split) (is : posting.stage 
       let (above, h) = true_at may.begun a may.w posting (HalfLeftOut left) is may.true in
       (half_named may.w may.true.0 h, not_retired a may.w may.now left.half.node.0 may.world h.spare.unknown)
 
-  pub gives_half_back : (after : ArenaView) → after ≡ without_node a left.half.node.0 → KeepsUnknown a after left.half.node.0 → PostStep a after posting Moved (record posting { stage = LetGo left.interior })
-  gives_half_back after value keeps = at_stage a after posting posting.waiting (HalfLeftOut left) Moved (record posting { stage = LetGo left.interior }) refl is (record {
+  given_half : (may : MayPost a posting) (after : ArenaView) → after ≡ without_node a left.half.node.0 → GivesOneBack a after × SameHeads a after × MarksNone a after
+  given_half may after value =
+      let (above, h) = true_at may.begun a may.w posting (HalfLeftOut left) is may.true in
+      given_back a after left.half.node.0 value (half_named may.w may.true.0 h) (ap (option_and_then head_of) (node-from_interior a.nodes left.half.node.0 _ h.spare.named))
+
+  pub gives_half_back : (after : ArenaView) → after ≡ without_node a left.half.node.0 → KeepsUnknown a after left.half.node.0 → MayPost a posting → PostStep a after posting Moved (record posting { stage = LetGo left.interior })
+  gives_half_back after value keeps may = at_stage a after posting posting.waiting (HalfLeftOut left) Moved (record posting { stage = LetGo left.interior }) refl is (record {
     steps = λ now begun w prefix world before border known all truth.
         let (less, h) = truth in
         let above : goal_level posting.waiting < h.interior.level = subst (λ (l : ℕ). goal_level posting.waiting < l) h.level less in
@@ -300,13 +324,17 @@ module _ (a : ArenaView) (posting : Posting) (left : Split) (is : posting.stage 
             border = stay.0;
             head = known;
             waiting = stay.1;
-            stage = record { interior = h.interior; named = s.named; locked = s.locked; stands = s.stands; lone = s.lone; above = above };
+            walks = tt;
+            stage = record { interior = h.interior; named = s.named; locked = s.locked; alive = s.alive; stands = s.stands; lone = s.lone; above = above };
           },
         ));
     same = refl;
     waits = tt;
     ends = tt;
     gets_on = refl;
+    numbers = (given_half may after value).0;
+    heads = (given_half may after value).1;
+    marks = (given_half may after value).2;
   })
 
 -- ---- an interior without a twin is unlocked
@@ -340,6 +368,7 @@ module _ (a : ArenaView) (posting : Posting) (n : ℕ) where
       subst (λ (x : ArenaView). Goes now a x w (n ∷ rest) rest (Then x) × SameContent (arena_seen a) (arena_seen x)) (sym value)
       (goes_kept now a unlocked w w.chart n (n ∷ rest) rest (Then unlocked) world kept refl (on_kept a now w.chart n _ _ _ _ l.stands.place world.retired) others (λ other apart. refl)
       (heads_beside a unlocked w.chart w.chart n (λ number p h. h) (interior_no_head a n i unlock l.named) (interior_no_border a n i unlock l.named) others world.heads)
+      (alive_there a unlocked w.chart n (interior_alive a n i unlock l.named w.chart (inr l.alive)) others world.alive)
       (twins_lone a unlocked w.chart w.chart w.twins n (evolves_same 0 w.chart) l.lone others world.twins)
       (λ taken apart. absurd (apart first)) (λ other t out k. out (later k))
       (λ other k taken. elim (among_cases other n rest k) [ inl e ↦ absurd (free (subst (λ (m : ℕ). IsTaken unlocked w m) e taken)) | inr j ↦ j ])
@@ -356,6 +385,9 @@ module _ (a : ArenaView) (posting : Posting) (interior : NodeNo) (after : ArenaV
     waits = tt;
     ends = value;
     gets_on = none;
+    numbers = (interior_leaves a after interior.0 (unlock a posting interior.0) value (λ i. refl)).numbers;
+    heads = (interior_leaves a after interior.0 (unlock a posting interior.0) value (λ i. refl)).heads;
+    marks = (interior_leaves a after interior.0 (unlock a posting interior.0) value (λ i. refl)).marks;
   })
 
   -- or the newest of the new halves that wait is left out
@@ -364,11 +396,14 @@ module _ (a : ArenaView) (posting : Posting) (interior : NodeNo) (after : ArenaV
     steps = λ now begun w prefix world before border known all truth.
         let (t, (above, halved, more)) = rest_beside a posting interior.0 w prefix (split ∷ waiting) truth border all in
         unlocks_lone a posting interior.0 now after w prefix split.half.level (split_owns posting.half.0 (split ∷ waiting)) (λ x next. PostingIsTrue begun (record posting { waiting = waiting; stage = HalfLeftOut split }) x next) world truth value keeps
-        (prefix, record { border = t; head = known; waiting = more; stage = (above, halved) });
+        (prefix, record { border = t; head = known; waiting = more; stage = (above, halved); walks = tt });
     same = refl;
     waits = tt;
     ends = tt;
     gets_on = (split, some, refl);
+    numbers = (interior_leaves a after interior.0 (unlock a posting interior.0) value (λ i. refl)).numbers;
+    heads = (interior_leaves a after interior.0 (unlock a posting interior.0) value (λ i. refl)).heads;
+    marks = (interior_leaves a after interior.0 (unlock a posting interior.0) value (λ i. refl)).marks;
   })
 
   -- the new half is unlocked, and the way of what is to be named begins again
@@ -377,11 +412,14 @@ module _ (a : ArenaView) (posting : Posting) (interior : NodeNo) (after : ArenaV
     steps = λ now begun w prefix world before border known all truth.
         let stay = rest_beside a posting interior.0 w prefix posting.waiting truth border all in
         unlocks_lone a posting interior.0 now after w prefix (goal_level posting.waiting) (split_owns posting.half.0 posting.waiting) (λ x next. PostingIsTrue begun (record posting { stage = Walks posting.head }) x next) world truth value keeps
-        (prefix, record { border = stay.0; head = known; waiting = stay.1; stage = from_head begun prefix (goal posting.half posting.low posting.waiting) posting.head.0 w known });
+        (prefix, record { border = stay.0; head = known; waiting = stay.1; walks = λ layer low standing at. refl; stage = from_head begun prefix (goal posting.half posting.low posting.waiting) posting.head.0 w known });
     same = refl;
     waits = tt;
     ends = tt;
     gets_on = refl;
+    numbers = (interior_leaves a after interior.0 (unlock a posting interior.0) value (λ i. refl)).numbers;
+    heads = (interior_leaves a after interior.0 (unlock a posting interior.0) value (λ i. refl)).heads;
+    marks = (interior_leaves a after interior.0 (unlock a posting interior.0) value (λ i. refl)).marks;
   })
 
 pub may_unlock_at : (a : ArenaView) (posting : Posting) (interior : NodeNo) (may : MayPost a posting) → ((posting.stage ≡ LetGo interior) ⊎ (posting.stage ≡ HalfCut interior)) → IsSomeAnd (interior_at a.nodes interior.0) (λ i. i.version.locked ≡ true)

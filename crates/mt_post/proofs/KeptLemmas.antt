@@ -21,11 +21,11 @@ use Rattle.mt_post.specs.Posting.{IsToPost, IsSpareInterior, IsSplitting, IsHalv
 module _ (a after : ArenaView) (w next : World) (prefix : List ℕ) where
   -- the border that is to be posted stays so where its number does
   pub to_post_stays : (number low : ℕ) → IsSame a after w next number → IsToPost a w prefix number low → IsToPost after next prefix number low
-  to_post_stays number low same t = record { b = t.b; named = ap (option_and_then border_of) same.node ∙ t.named; low_is = t.low_is; locked = t.locked; place = same.spot ∙ t.place; free = λ i. t.free (same.closing i) }
+  to_post_stays number low same t = record { b = t.b; named = ap (option_and_then border_of) same.node ∙ t.named; low_is = t.low_is; locked = t.locked; alive = t.alive; place = same.spot ∙ t.place; free = λ i. t.free (same.closing i) }
 
   -- a spare stays one
   pub spare_stays : (number : ℕ) (i : InteriorView) → IsSame a after w next number → IsSpareInterior a w number i → IsSpareInterior after next number i
-  spare_stays number i same s = record { named = ap (option_and_then interior_of) same.node ∙ s.named; unknown = same.spot ∙ s.unknown }
+  spare_stays number i same s = record { named = ap (option_and_then interior_of) same.node ∙ s.named; unknown = same.spot ∙ s.unknown; alive = s.alive }
 
   pub layer_stays : (number : ℕ) → IsSame a after w next number → IsInLayer w.chart number prefix → IsInLayer next.chart number prefix
   layer_stays number same s = record { level = s.level; low = s.low; posted = s.posted; place = same.spot ∙ s.place }
@@ -41,6 +41,7 @@ module _ (a after : ArenaView) (w next : World) (prefix : List ℕ) where
   splitting_stays number i same s = record {
     named = ap (option_and_then interior_of) same.node ∙ s.named;
     locked = s.locked;
+    alive = s.alive;
     stands = layer_stays number same s.stands;
     lone = lone_stays number same s.lone;
     full = s.full;
@@ -75,6 +76,7 @@ module _ (a after : ArenaView) (w next : World) (prefix : List ℕ) where
     interior = l.interior;
     named = ap (option_and_then interior_of) same.node ∙ l.named;
     locked = l.locked;
+    alive = l.alive;
     stands = layer_stays number same l.stands;
     lone = lone_stays number same l.lone;
     above = l.above;
@@ -88,6 +90,8 @@ module _ (a after : ArenaView) (w next : World) (prefix : List ℕ) where
     half_named = ap (option_and_then interior_of) same_half.node ∙ p.half_named;
     locked = p.locked;
     half_locked = p.half_locked;
+    alive = p.alive;
+    half_alive = p.half_alive;
     level = p.level;
     half_level = p.half_level;
     stands = layer_stays split.interior.0 same p.stands;

@@ -1,3 +1,4 @@
+pub mod NumberLemmas
 pub mod WalkLemmas
 pub mod KeptLemmas
 pub mod RootLemmas
@@ -6,3 +7,5 @@ pub mod TwinLemmas
 pub mod CutLemmas
 pub mod NameLemmas
 pub mod PostingLasts
+pub mod EndingLemmas
+pub mod AloneLemmas

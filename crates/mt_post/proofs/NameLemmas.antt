@@ -9,8 +9,8 @@ use Rattle.mt_interior.specs.declared.interior.TheConstants.{KEPT_CHILDREN}
 use Rattle.mt_arena.specs.Node.{head_at, head_of, interior_at, interior_of, Updates, border_at, border_of}
 use Rattle.mt_arena.specs.Arena.{ArenaView, IsArena, with_head_changed}
 use Rattle.mt_arena.specs.declared.node.Node.{Node}
-use Rattle.mt_arena.specs.declared.node.Node.TheVariants.{Head}
-use Rattle.mt_arena.proofs.NodeLemmas.{updates-with_node, node-from_head}
+use Rattle.mt_arena.specs.declared.node.Node.TheVariants.{Head, Interior}
+use Rattle.mt_arena.proofs.NodeLemmas.{updates-with_node, node-from_head, node-from_interior}
 use Rattle.mt_chart.specs.Tree.{first, later, Among}
 use Rattle.mt_chart.specs.Chart.{at_level, on, Spot, spot, Chart, OnHead}
 use Rattle.mt_chart.specs.Steps.{SameContent}
@@ -23,6 +23,7 @@ use Rattle.mt_tree.proofs.SeenLemmas.{changed-head}
 use Rattle.mt_tree.proofs.RootLemmas.{root_of_split}
 use Rattle.mt_calls.specs.World.{World, IsWorld, HeadsStand, IsTaken, Goes}
 use Rattle.mt_calls.proofs.BorderLemmas.{keys_same, known_stays, no_interior, twins_beside, retired_kept, on_kept, no_root, roots_kept}
+use Rattle.mt_calls.proofs.AliveLemmas.{alive_node, alive_there, alive_placed}
 use Rattle.mt_calls.proofs.FoundLemmas.{some_at}
 use Rattle.mt_calls.proofs.SplitLemmas.{with_spot, spot_changes}
 use Rattle.mt_post.specs.declared.posting.Posting.{Posting}
@@ -38,6 +39,7 @@ use Rattle.mt_post.proofs.WalkLemmas.{at_stage, true_at, from_head}
 use Rattle.mt_post.proofs.KeptLemmas.{all_stay, apart_known, interior_apart_head, owns_below, owns_beside, beside_half}
 use Rattle.mt_post.proofs.HalfLemmas.{from_place}
 use Rattle.mt_post.proofs.TwinLemmas.{with_pair, pair_cases, pair_same, half_is_posted, twins_now, has_upper, new_pair}
+use Rattle.mt_post.proofs.NumberLemmas.{head_leaves_by}
 
 module _ (a : ArenaView) (posting : Posting) (old : Root) (root : NodeNo) (split : Split) (waiting : List Split) (is : posting.stage ≡ RootFilled old root) (some : posting.waiting ≡ split ∷ waiting) (sound : IsArena a) (still : IsRootStill a posting.head.0 old) where
   abbrev n : ℕ
@@ -158,6 +160,9 @@ module _ (a : ArenaView) (posting : Posting) (old : Root) (root : NodeNo) (split
           index = kept.index;
           keys = keys_same a new kept.content world.keys;
           heads = heads_named w.chart chart (λ number layer place. heads_were w.chart between m s.interior.level split.half.low prefix (on true) half_charted number layer (heads_were between chart root.0 top_root.level 0 prefix (on true) root_charted number layer place)) world.heads;
+          alive = alive_there a new chart n (alive_node new chart n (Head (change h)) updated.changed (inr still.alive)) updated.others
+              (alive_placed a between chart root.0 (Some root_at) root_charted (alive_node a chart root.0 (Interior top_root) (node-from_interior a.nodes root.0 top_root spare.named) (inr refl))
+              (alive_placed a w.chart between m (Some half_place) half_charted (alive_node a between m (Interior u) (node-from_interior a.nodes m u s.spare.named) (inl refl)) world.alive));
           twins = twins_now a new now w chart prefix split world s (updated.others i i_apart) (updated.others m m_apart) i_spot m_spot (twins_beside a new w.chart chart w.twins n (kept.evolves 0 (omega arith)) (no_interior a w.chart n none_there) updated.others world.twins);
           retired = retired_kept a new now w.chart chart n (kept.evolves 0 (omega arith)) (on_kept a now w.chart n _ _ _ _ stands world.retired) updated.others refl world.retired;
         }) refl refl kept.evolves updated.others
@@ -176,6 +181,7 @@ module _ (a : ArenaView) (posting : Posting) (old : Root) (root : NodeNo) (split
                 border = stay.0;
                 head = known_kept begun n _ prefix 0 w.chart chart (kept.evolves begun before) known;
                 waiting = stay.1;
+                walks = tt;
                 stage = (above, half_is_posted a new now w chart prefix split world s (updated.others i i_apart) (updated.others m m_apart) i_spot m_spot);
               },
             ),
@@ -193,6 +199,9 @@ module _ (a : ArenaView) (posting : Posting) (old : Root) (root : NodeNo) (split
     waits = tt;
     ends = tt;
     gets_on = inl (still, (split, some, refl));
+    numbers = (head_leaves_by a after n (λ (x : InteriorView) (v : HeadView). with_root v root x.level) (interior_at a.nodes root.0) value (λ x h. refl)).0;
+    marks = (head_leaves_by a after n (λ (x : InteriorView) (v : HeadView). with_root v root x.level) (interior_at a.nodes root.0) value (λ x h. refl)).1;
+    heads = tt;
   })
 
   -- what the call asks

@@ -1,12 +1,12 @@
 -- What others' steps leave of a posting, and what a posting owns.
-use Rattle.std.proofs.Common.{ℕ, ◌≡◌, List, [], ◌∷◌, Some, true}
+use Rattle.std.proofs.Common.{ℕ, ◌≡◌, List, [], ◌∷◌, Option, Some, true, sym, ap, ◌∙◌}
 use Rattle.mt_types.specs.declared.numbers.NodeNo.{NodeNo}
 use Rattle.mt_interior.specs.Interior.{InteriorView}
 use Rattle.mt_interior.specs.declared.child.Child.{Child}
 use Rattle.mt_arena.specs.Node.{interior_at}
 use Rattle.mt_arena.specs.Arena.{ArenaView}
 use Rattle.mt_chart.specs.Tree.{Among, first, later}
-use Rattle.mt_chart.specs.Chart.{Evolves}
+use Rattle.mt_chart.specs.Chart.{Role, top, Spot, spot, Evolves}
 use Rattle.mt_chart.proofs.Walk.{known_kept}
 use Rattle.mt_tree.specs.InteriorSteps.{IsInLayer}
 use Rattle.mt_calls.specs.World.{World, IsWorld, IsTaken, IsSame, GoneSince}
@@ -15,7 +15,7 @@ use Rattle.mt_post.specs.declared.posting.Posting.{Posting}
 use Rattle.mt_post.specs.declared.split.Split.{Split}
 use Rattle.mt_post.specs.declared.posting.PostStage.{PostStage}
 use Rattle.mt_post.specs.declared.posting.PostStage.TheVariants.{Walks, RootWanted, RootSpared, RootFilled, RootLate, HalfWanted, HalfSpared, HalfLeftOut, LetGo, HalfPosted, HalfCut}
-use Rattle.mt_post.specs.Posting.{split_owns, stage_owns, owned, IsToPost, IsWalking, IsSpareInterior, AreWaiting, PostStageIsTrue, PostingIsTrue}
+use Rattle.mt_post.specs.Posting.{split_owns, stage_owns, owned, WalksFrom, IsToPost, IsWalking, IsSpareInterior, AreWaiting, PostStageIsTrue, PostingIsTrue}
 use Rattle.mt_post.proofs.KeptLemmas.{all_stay, spare_stays, splitting_stays, halved_stays, let_go_stays, posted_half_stays, owns_taken, spare_taken, locked_taken}
 
 -- ---- what others' steps leave
@@ -41,6 +41,25 @@ module _ (a after : ArenaView) (w next : World) (begun : ℕ) (evolves : Evolves
   stage_stays prefix half low waiting (HalfPosted posted) same truth = (truth.0, posted_half_stays a after w next prefix posted (same posted.interior.0 (later first)) (same posted.half.node.0 first) truth.1)
   stage_stays prefix half low waiting (HalfCut posted) same truth = let_go_stays a after w next prefix posted.0 _ (same posted.0 first) truth
 
+  -- where it walks, it is at no other head than the layer's
+  walks_stay : (prefix : List ℕ) (head half : NodeNo) (low : ℕ) (waiting : List Split) (stage : PostStage) → PostStageIsTrue begun prefix half low waiting stage a w → WalksFrom head stage w → WalksFrom head stage next
+  walks_stay prefix head half low waiting (Walks node) truth walks = λ layer least standing at.
+      let held = truth.held in
+      let known = known_kept begun node.0 held.role prefix held.low w.chart next.chart evolves (record { standing = held.standing; place = held.place; since = held.since }) in
+      let both : ◌≡◌ {A = Option Spot} (Some (spot held.role prefix held.low known.standing)) (Some (spot top layer least standing)) = sym known.place ∙ at in
+      let is_top : held.role ≡ top = cc in
+      walks prefix held.low held.standing (held.place ∙ ap (λ (r : Role). Some (spot r prefix held.low held.standing)) is_top)
+  walks_stay prefix head half low waiting (RootWanted old) truth walks = tt
+  walks_stay prefix head half low waiting (RootSpared old root) truth walks = tt
+  walks_stay prefix head half low waiting (RootFilled old root) truth walks = tt
+  walks_stay prefix head half low waiting (RootLate root) truth walks = tt
+  walks_stay prefix head half low waiting (HalfWanted interior) truth walks = tt
+  walks_stay prefix head half low waiting (HalfSpared interior spare) truth walks = tt
+  walks_stay prefix head half low waiting (HalfLeftOut left) truth walks = tt
+  walks_stay prefix head half low waiting (LetGo interior) truth walks = tt
+  walks_stay prefix head half low waiting (HalfPosted posted) truth walks = tt
+  walks_stay prefix head half low waiting (HalfCut posted) truth walks = tt
+
   -- the splits that wait, and the border, are owned at each stage
   among_stage : (half : ℕ) (waiting : List Split) (stage : PostStage) (number : ℕ) → Among number (split_owns half waiting) → Among number (stage_owns half waiting stage)
   among_stage half waiting (Walks node) number i = i
@@ -65,6 +84,7 @@ module _ (a after : ArenaView) (w next : World) (begun : ℕ) (evolves : Evolves
           border = stay.0;
           head = known_kept begun posting.head.0 _ prefix 0 w.chart next.chart evolves t.head;
           waiting = stay.1;
+          walks = walks_stay prefix posting.head posting.half posting.low posting.waiting posting.stage t.stage t.walks;
           stage = stage_stays prefix posting.half posting.low posting.waiting posting.stage same t.stage;
         },
       )

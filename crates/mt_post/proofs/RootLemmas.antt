@@ -15,8 +15,8 @@ use Rattle.mt_arena.specs.Node.{node_at, head_at, head_of, interior_at, interior
 use Rattle.mt_arena.specs.Arena.{ArenaView, with_head_changed, with_interior_changed, without_node}
 use Rattle.mt_arena.specs.declared.retired.Retired.{Retired}
 use Rattle.mt_arena.specs.declared.node.Node.{Node}
-use Rattle.mt_arena.specs.declared.node.Node.TheVariants.{Head, Interior}
-use Rattle.mt_arena.proofs.NodeLemmas.{updates-with_node, updates-without, node-from_head, node-from_interior}
+use Rattle.mt_arena.specs.declared.node.Node.TheVariants.{Head, Interior, Border}
+use Rattle.mt_arena.proofs.NodeLemmas.{updates-with_node, updates-without, node-from_head, node-from_interior, node-from_border}
 use Rattle.mt_chart.specs.Tree.{first, later, Among, HeadNode, head}
 use Rattle.mt_chart.specs.Chart.{top, at_level, Standing, on, gone, Spot, spot, Chart, OnHead}
 use Rattle.mt_chart.specs.Steps.{Keeps, SameContent}
@@ -30,6 +30,7 @@ use Rattle.mt_tree.specs.HeadSteps.{IsRootOver, NamesRootAt}
 use Rattle.mt_tree.proofs.SeenLemmas.{changed-head, head-seen}
 use Rattle.mt_calls.specs.World.{World, IsWorld, HeadsStand, IsLocked, IsTaken, IsSame, Goes}
 use Rattle.mt_calls.proofs.BorderLemmas.{known_stays, no_interior, unknown_kept, on_kept, no_root, roots_kept}
+use Rattle.mt_calls.proofs.AliveLemmas.{alive_node, alive_unknown, alive_there, alive_placed}
 use Rattle.mt_calls.proofs.FoundLemmas.{some_at}
 use Rattle.mt_calls.proofs.SplitLemmas.{goes_occupied, with_spot, spot_changes}
 use Rattle.mt_post.specs.declared.posting.Posting.{Posting}
@@ -41,6 +42,8 @@ use Rattle.mt_post.specs.Causes.{IsRootStill}
 use Rattle.mt_post.specs.Follows.{PostStep}
 use Rattle.mt_calls.proofs.NodeLemmas.{at_chart, goes_at, heads_beside, interior_now, interior_others, interior_no_head, interior_no_border, interior_is_taken, alive_free, not_both, known_some, root_place, heads_were, head_there}
 use Rattle.mt_post.proofs.WalkLemmas.{at_stage, true_at, from_head, goes_on}
+use Rattle.mt_post.specs.Follows.{OccupiesOne, GivesOneBack, SameHeads, MarksNone}
+use Rattle.mt_post.proofs.NumberLemmas.{interior_leaves_twice, head_leaves_by, occupied_heads, occupied_marks, given_back}
 
 -- a node's number says which it is
 pub same_node : (one other : NodeNo) → one.0 ≡ other.0 → one ≡ other
@@ -65,6 +68,7 @@ gives_number now a w n owns Then world named none unknown kept truth =
     let updates : Updates a.nodes new.nodes n None = updates-without a.nodes n named in
     goes_at now a new w w.chart n (n ∷ owns) owns Then world kept refl (unknown_kept a now w.chart n unknown world.retired) updates.others (λ other apart. refl)
     (heads_beside a new w.chart w.chart n (λ number p h. h) (ap (option_and_then head_of) updates.changed) none updates.others world.heads)
+    (alive_there a new w.chart n (alive_unknown new w.chart n unknown) updates.others world.alive)
     (λ locked. (let known_root = locked.known in let clash : false ≡ true = subst (λ (x : Option Spot). IsSome x) unknown known_root in cc))
     (λ taken apart. absurd (apart first)) (λ other t out k. out (later k))
     (λ other k taken. elim (among_cases other n owns k) [
@@ -87,9 +91,9 @@ module _ (a : ArenaView) (posting : Posting) (old : Root) (is : posting.stage �
   may_spare may =
       subst (λ (c : Child). c.level + 1 ≤ MAX_LEVEL) (sym is_goal) (goal_fits a may.w may.true.0 posting.half posting.low posting.waiting may.true.1.waiting)
 
-  pub spares : (root : NodeNo) (after : ArenaView) → node_at a.nodes root.0 ≡ None → Updates a.nodes after.nodes root.0 (Some (Interior (new_root wanted))) → after.retired ≡ a.retired → IsUnknown a root.0 → KeepsTree a after
+  pub spares : (root : NodeNo) (after : ArenaView) → node_at a.nodes root.0 ≡ None → Updates a.nodes after.nodes root.0 (Some (Interior (new_root wanted))) → after.retired ≡ a.retired → IsUnknown a root.0 → KeepsTree a after → OccupiesOne a after
       → PostStep a after posting Moved (record posting { stage = RootSpared old root })
-  spares root after vacant updates_wanted retired unknown keeps = at_stage a after posting posting.waiting (RootWanted old) Moved (record posting { stage = RootSpared old root }) refl is (record {
+  spares root after vacant updates_wanted retired unknown keeps numbers = at_stage a after posting posting.waiting (RootWanted old) Moved (record posting { stage = RootSpared old root }) refl is (record {
     steps = λ now begun w prefix world before border known all truth.
         let half : ℕ = posting.half.0 in
         let waiting : List Split = posting.waiting in
@@ -100,7 +104,7 @@ module _ (a : ArenaView) (posting : Posting) (old : Root) (is : posting.stage �
         let stay = all_stay a after w w prefix half posting.low waiting same border all in (
           goes_occupied now a after w root.0 (Interior (new_root (goal posting.half posting.low waiting))) (split_owns half waiting) _ vacant updates retired unknown keeps world (
             prefix,
-            record { border = stay.0; head = known; waiting = stay.1; stage = (truth, record { named = ap (option_and_then interior_of) updates.changed; unknown = out }) },
+            record { border = stay.0; head = known; waiting = stay.1; walks = tt; stage = (truth, record { named = ap (option_and_then interior_of) updates.changed; unknown = out; alive = refl }) },
           ),
           (keeps.keeps now w.twins w.chart world.index).content,
         );
@@ -108,6 +112,9 @@ module _ (a : ArenaView) (posting : Posting) (old : Root) (is : posting.stage �
     waits = tt;
     ends = tt;
     gets_on = inl (root, refl);
+    numbers = numbers;
+    heads = occupied_heads a after root.0 (new_root wanted) vacant updates_wanted;
+    marks = occupied_marks a after root.0 (new_root wanted) updates_wanted refl;
   })
 
 -- ---- it is filled
@@ -182,6 +189,7 @@ module _ (a : ArenaView) (posting : Posting) (old : Root) (root : NodeNo) (is : 
         (record { index = kept_again.index; content = λ key row. ((λ h. (kept.content key row).0 ((kept_again.content key row).0 h)), (λ h. (kept_again.content key row).1 ((kept.content key row).1 h))); evolves = λ b le. evolves_same b w.chart })
         refl (unknown_kept a now w.chart n spare.unknown world.retired) others (λ other apart. refl)
         (heads_beside a new w.chart w.chart n (λ number p h. h) (interior_no_head middle n (fill (new_root wanted)) unlock there) (interior_no_border a n (new_root wanted) fill spare.named) others world.heads)
+        (alive_there a new w.chart n (alive_unknown new w.chart n spare.unknown) others world.alive)
         (λ locked. (let known_root = locked.known in let clash : false ≡ true = subst (λ (x : Option Spot). IsSome x) spare.unknown known_root in cc))
         (λ taken apart. absurd (apart first)) (λ other t out k. out k) (λ other k taken. k) (λ apart taken. absurd (apart first)) (
           prefix,
@@ -189,13 +197,17 @@ module _ (a : ArenaView) (posting : Posting) (old : Root) (root : NodeNo) (is : 
             border = stay.0;
             head = known;
             waiting = stay.1;
-            stage = (less, subst (λ (c : Child). IsSpareInterior new w n (root_over old c)) is_goal (record { named = interior_now middle n (fill (new_root wanted)) unlock there; unknown = spare.unknown }));
+            walks = tt;
+            stage = (less, subst (λ (c : Child). IsSpareInterior new w n (root_over old c)) is_goal (record { named = interior_now middle n (fill (new_root wanted)) unlock there; unknown = spare.unknown; alive = refl }));
           },
         ));
     same = refl;
     waits = tt;
     ends = tt;
     gets_on = refl;
+    numbers = (interior_leaves_twice a between after root.0 fill unlock filled unlocked (λ i. refl) (λ i. refl)).numbers;
+    heads = (interior_leaves_twice a between after root.0 fill unlock filled unlocked (λ i. refl) (λ i. refl)).heads;
+    marks = (interior_leaves_twice a between after root.0 fill unlock filled unlocked (λ i. refl) (λ i. refl)).marks;
   })
 
 -- ---- the head names it, or it comes too late
@@ -230,7 +242,7 @@ module _ (a : ArenaView) (posting : Posting) (old : Root) (root : NodeNo) (is : 
       ]
 
   pub too_late : (IsRootStill a posting.head.0 old → ⊥) → PostStep a a posting Moved (record posting { stage = RootLate root })
-  too_late not_still = goes_on a posting posting.waiting posting.waiting (RootFilled old root) (RootLate root) refl refl is (λ now begun w prefix world border known all truth. (all, (root_over old (goal posting.half posting.low posting.waiting), root_above posting.half posting.low posting.waiting, truth.1))) tt tt (inr (not_still, refl))
+  too_late not_still = goes_on a posting posting.waiting posting.waiting (RootFilled old root) (RootLate root) refl refl is (λ now begun w prefix world border known all truth. (all, (root_over old (goal posting.half posting.low posting.waiting), root_above posting.half posting.low posting.waiting, truth.1), tt)) tt tt (inr (not_still, refl)) refl
 
   module _ (h : HeadView) (named : head_at a.nodes n ≡ Some h) (alive : h.version.deleted ≡ false) (same_root : h.root ≡ old.node) (same_level : h.level ≡ old.level) (none : posting.waiting ≡ []) where
     -- what the call asks
@@ -296,6 +308,9 @@ module _ (a : ArenaView) (posting : Posting) (old : Root) (root : NodeNo) (is : 
         goes_at now a new w chart n (root.0 ∷ half ∷ []) (half ∷ []) _ world kept refl (on_kept a now w.chart n _ _ _ _ stands world.retired) head_updated.others
         (λ other apart. root_charted.rest other (λ e. apart (subst (λ (m : ℕ). Among m (root.0 ∷ half ∷ [])) (sym e) first)) ∙ half_charted.rest other (λ e. apart (subst (λ (m : ℕ). Among m (root.0 ∷ half ∷ [])) (sym e) (later first))))
         (heads_named w.chart chart (λ number layer place. heads_were w.chart between half 0 posting.low prefix (on true) half_charted number layer (heads_were between chart root.0 1 0 prefix (on true) root_charted number layer place)) world.heads)
+        (alive_there a new chart n (alive_node new chart n (Head (change h)) head_updated.changed (inr alive)) head_updated.others
+        (alive_placed a between chart root.0 (Some root_at) root_charted (alive_node a chart root.0 (Interior top_root) (node-from_interior a.nodes root.0 top_root spare.named) (inr refl))
+        (alive_placed a w.chart between half (Some half_place) half_charted (alive_node a between half (Border border.b) (node-from_border a.nodes half border.b border.named) (inl border.locked)) world.alive)))
         (no_interior a w.chart n none_there)
         (λ taken apart. alive_free a n h w named free alive is_known taken)
         (λ other t out k. out (later k))
@@ -310,6 +325,7 @@ module _ (a : ArenaView) (posting : Posting) (old : Root) (root : NodeNo) (is : 
           named = ap (option_and_then border_of) (head_updated.others half beside) ∙ border.named;
           known = known_some (at_chart w chart) half half_place (root_charted.rest half differ ∙ half_charted.now);
           locked = border.locked;
+          alive = border.alive;
           free = border.free;
         })
       where
@@ -344,6 +360,9 @@ module _ (a : ArenaView) (posting : Posting) (old : Root) (root : NodeNo) (is : 
           let spare = subst (λ (o : List Split). IsSpareInterior a may.w root.0 (root_over old (goal posting.half posting.low o))) none spare_goal in
           some_at _ (interior_at a.nodes root.0) top_root value spare.named;
       gets_on = none;
+      numbers = (head_leaves_by a after n (λ (i : InteriorView) (x : HeadView). with_root x root i.level) (interior_at a.nodes root.0) value (λ x h. refl)).0;
+      marks = (head_leaves_by a after n (λ (i : InteriorView) (x : HeadView). with_root x root i.level) (interior_at a.nodes root.0) value (λ x h. refl)).1;
+      heads = tt;
     })
 
 -- ---- the number is given back
@@ -359,8 +378,13 @@ module _ (a : ArenaView) (posting : Posting) (root : NodeNo) (is : posting.stage
         not_retired a may.w may.now root.0 may.world spare.unknown,
       )
 
-  pub gives_back : (after : ArenaView) → after ≡ without_node a root.0 → KeepsUnknown a after root.0 → PostStep a after posting Moved (record posting { stage = Walks posting.head })
-  gives_back after value keeps = at_stage a after posting posting.waiting (RootLate root) Moved (record posting { stage = Walks posting.head }) refl is (record {
+  given : (may : MayPost a posting) (after : ArenaView) → after ≡ without_node a root.0 → GivesOneBack a after × SameHeads a after × MarksNone a after
+  given may after value =
+      let (i, above, spare) = true_at may.begun a may.w posting (RootLate root) is may.true in
+      given_back a after root.0 value (is_named may.w i spare) (ap (option_and_then head_of) (node-from_interior a.nodes root.0 i spare.named))
+
+  pub gives_back : (after : ArenaView) → after ≡ without_node a root.0 → KeepsUnknown a after root.0 → MayPost a posting → PostStep a after posting Moved (record posting { stage = Walks posting.head })
+  gives_back after value keeps may = at_stage a after posting posting.waiting (RootLate root) Moved (record posting { stage = Walks posting.head }) refl is (record {
     steps = λ now begun w prefix world before border known all truth.
         let (i, above, spare) = truth in
         let half : ℕ = posting.half.0 in
@@ -374,10 +398,13 @@ module _ (a : ArenaView) (posting : Posting) (root : NodeNo) (is : posting.stage
         subst (λ (x : ArenaView). Goes now a x w (n ∷ split_owns half waiting) (split_owns half waiting) (λ next. PostingIsTrue begun (record posting { stage = Walks posting.head }) x next) × SameContent (arena_seen a) (arena_seen x)) (sym value)
         (gives_number now a w n (split_owns half waiting) (λ next. PostingIsTrue begun (record posting { stage = Walks posting.head }) new next) world (is_named w i spare) (ap (option_and_then border_of) (node-from_interior a.nodes root.0 i spare.named)) spare.unknown kept (
           prefix,
-          record { border = stay.0; head = known; waiting = stay.1; stage = from_head begun prefix (goal posting.half posting.low waiting) posting.head.0 w known },
+          record { border = stay.0; head = known; waiting = stay.1; walks = λ layer low standing at. refl; stage = from_head begun prefix (goal posting.half posting.low waiting) posting.head.0 w known },
         ));
     same = refl;
     waits = tt;
     ends = tt;
     gets_on = refl;
+    numbers = (given may after value).0;
+    heads = (given may after value).1;
+    marks = (given may after value).2;
   })

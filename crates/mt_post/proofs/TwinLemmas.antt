@@ -8,6 +8,8 @@ use Rattle.mt_interior.specs.declared.child.Child.{Child}
 use Rattle.mt_interior.specs.declared.interior.TheConstants.{KEPT_CHILDREN}
 use Rattle.mt_arena.specs.Node.{node_at, interior_at, interior_of}
 use Rattle.mt_arena.specs.Arena.{ArenaView, with_interior_changed}
+use Rattle.mt_arena.specs.declared.node.Node.TheVariants.{Interior}
+use Rattle.mt_arena.proofs.NodeLemmas.{node-from_interior}
 use Rattle.mt_chart.specs.Tree.{first, later, Among}
 use Rattle.mt_chart.specs.Chart.{at_level, on, Spot, spot, Chart}
 use Rattle.mt_chart.specs.Steps.{Twin, AreTwins, SameContent}
@@ -17,6 +19,7 @@ use Rattle.mt_tree.specs.Seen.{arena_seen}
 use Rattle.mt_tree.specs.InteriorSteps.{HasUpperChildren, HasRoomFrom, KeepsHalf}
 use Rattle.mt_calls.specs.World.{World, IsWorld, IsLockedInterior, TwinsAreLocked, HasSameTwins, IsTaken, Goes}
 use Rattle.mt_calls.proofs.BorderLemmas.{keys_same, known_stays, twins_beside, retired_kept, on_kept}
+use Rattle.mt_calls.proofs.AliveLemmas.{alive_node, alive_there, alive_placed}
 use Rattle.mt_calls.proofs.FoundLemmas.{some_at}
 use Rattle.mt_calls.proofs.SplitLemmas.{with_spot, spot_changes}
 use Rattle.mt_post.specs.declared.posting.Posting.{Posting}
@@ -26,9 +29,10 @@ use Rattle.mt_post.specs.declared.posting.PostStage.TheVariants.{Walks, HalfPost
 use Rattle.mt_post.specs.Causes.{HasRoomAt}
 use Rattle.mt_post.specs.Posting.{goal, split_owns, AreWaiting, IsToPost, IsHeadOf, IsWalking, IsHalved, IsPostedHalf, upper_half, PostingIsTrue, MayPost}
 use Rattle.mt_post.specs.Follows.{FollowsInterior, PostStep}
-use Rattle.mt_calls.proofs.NodeLemmas.{goes_with, heads_beside, interior_others, interior_no_head, interior_no_border, interior_taken, interior_is_taken, not_both, known_some, heads_were}
+use Rattle.mt_calls.proofs.NodeLemmas.{goes_with, heads_beside, interior_others, interior_no_head, interior_no_border, interior_alive, interior_taken, interior_is_taken, not_both, known_some, heads_were}
 use Rattle.mt_post.proofs.WalkLemmas.{at_stage, true_at, in_layer, is_above, room_for}
 use Rattle.mt_post.proofs.KeptLemmas.{all_stay, apart_known, owns_beside, beside_half}
+use Rattle.mt_post.proofs.NumberLemmas.{interior_leaves_by}
 
 -- ---- two more twins
 abbrev pub with_pair : ℕ → ℕ → List Twin → List Twin
@@ -99,6 +103,8 @@ module _ (a after : ArenaView) (now : ℕ) (w : World) (chart : Chart) (prefix :
     half_named = ap (option_and_then interior_of) same_half ∙ h.spare.named;
     locked = h.splits.locked;
     half_locked = refl;
+    alive = h.splits.alive;
+    half_alive = refl;
     level = sym h.level;
     half_level = sym h.level;
     stands = record { level = h.splits.stands.level; low = h.splits.stands.low; posted = h.splits.stands.posted; place = same_spot ∙ h.splits.stands.place };
@@ -207,6 +213,8 @@ module _ (a : ArenaView) (posting : Posting) (node : NodeNo) (split : Split) (wa
           index = kept.index;
           keys = keys_same a new kept.content world.keys;
           heads = heads_beside a new w.chart chart n (heads_were w.chart chart m h.interior.level split.half.low prefix (on true) charted) (interior_no_head a n x change r.named) (interior_no_border a n x change r.named) others world.heads;
+          alive = alive_there a new chart n (interior_alive a n x change r.named chart (inr r.alive)) others
+              (alive_placed a w.chart chart m (Some place) charted (alive_node a chart m (Interior (upper_half h.interior split.half.low)) (node-from_interior a.nodes m _ h.spare.named) (inl refl)) world.alive);
           twins = twins_now a new now w chart prefix split world h (others i (apart i (later first))) (others m (apart m first)) i_spot charted.now (twins_beside a new w.chart chart w.twins n (kept.evolves 0 (omega arith)) clash_locked others world.twins);
           retired = retired_kept a new now w.chart chart n (kept.evolves 0 (omega arith)) (on_kept a now w.chart n _ _ _ _ stands.place world.retired) others refl world.retired;
         }) refl refl kept.evolves others
@@ -219,6 +227,7 @@ module _ (a : ArenaView) (posting : Posting) (node : NodeNo) (split : Split) (wa
                 border = stay.0;
                 head = known_kept begun posting.head.0 _ prefix 0 w.chart chart (kept.evolves begun before) known;
                 waiting = stay.1;
+                walks = tt;
                 stage = (above, half_is_posted a new now w chart prefix split world h (others i (apart i (later first))) (others m (apart m first)) i_spot charted.now);
               },
             ),
@@ -236,6 +245,9 @@ module _ (a : ArenaView) (posting : Posting) (node : NodeNo) (split : Split) (wa
     waits = tt;
     ends = tt;
     gets_on = inr (subst (λ (o : Option InteriorView). IsSomeAnd o (FollowsInterior posting then node)) (sym r.named) (inr (r.stops, inl (r.room, (split, some, refl)))));
+    numbers = (interior_leaves_by a after n names (interior_at a.nodes split.half.node.0) value (λ x i. refl)).numbers;
+    heads = (interior_leaves_by a after n names (interior_at a.nodes split.half.node.0) value (λ x i. refl)).heads;
+    marks = (interior_leaves_by a after n names (interior_at a.nodes split.half.node.0) value (λ x i. refl)).marks;
   })
 
   -- what the call asks

@@ -11,6 +11,7 @@ use Rattle.mt_interior.specs.declared.interior.TheConstants.{MAX_CHILDREN}
 use Rattle.mt_arena.specs.Node.{node_at, head_at, interior_at, border_at}
 use Rattle.mt_arena.specs.Arena.{ArenaView, with_interior_changed}
 use Rattle.mt_arena.specs.declared.node.Node.TheVariants.{Border}
+use Rattle.mt_arena.proofs.NodeLemmas.{node-from_border}
 use Rattle.mt_chart.specs.Tree.{head, border as plain_border, first, Among}
 use Rattle.mt_chart.specs.Chart.{Role, top, at_level, Standing, on, gone, Spot, spot, Chart, Holds, IsTree, OnHead, AreChildren, Changes}
 use Rattle.mt_chart.specs.Steps.{SameContent}
@@ -40,7 +41,13 @@ use Rattle.mt_post.specs.Posting.{stage_owns, owned_after, IsToPost, IsHeadOf, I
 use Rattle.mt_post.specs.Causes.{IsHeldBack, CanLeaveOut, PostStageWaits, PostStageEnds}
 use Rattle.mt_post.specs.Follows.{FollowsHead, FollowsInterior, LeavesOut, StageFollows, Follows, PostStep}
 use Rattle.mt_calls.specs.World.{IsLockedBorder}
-use Rattle.mt_calls.proofs.NodeLemmas.{at_chart, goes_at, heads_beside, interior_others, interior_no_head, interior_no_border, interior_border, interior_taken, interior_is_taken, not_both, known_some, heads_were, root_place}
+use Rattle.mt_calls.proofs.AliveLemmas.{alive_node, alive_there, alive_placed}
+use Rattle.mt_calls.proofs.NodeLemmas.{at_chart, goes_at, heads_beside, interior_others, interior_no_head, interior_no_border, interior_alive, interior_border, interior_taken, interior_is_taken, not_both, known_some, heads_were, root_place}
+use Rattle.mt_types.specs.declared.limits.TheConstants.{MAX_LEVEL}
+use Rattle.mt_post.specs.declared.posting.PostStage.TheVariants.{RootSpared, RootFilled, RootLate, HalfWanted, HalfSpared, LetGo, HalfPosted, HalfCut}
+use Rattle.mt_post.specs.Posting.{WalksFrom}
+use Rattle.mt_post.specs.Follows.{NumbersGo, HeadsGo, MarksNone}
+use Rattle.mt_post.proofs.NumberLemmas.{interior_leaves_by}
 
 -- ---- what a step does, of a posting that is at a stage
 pub record StageStep (a after : ArenaView) (posting : Posting) (waiting : List Split) (stage : PostStage) (p : Progressed) (then : Posting) : Type 0 where
@@ -51,6 +58,9 @@ pub record StageStep (a after : ArenaView) (posting : Posting) (waiting : List S
   pub waits : PostStageWaits a stage p
   pub ends : PostStageEnds a after posting stage p
   pub gets_on : Follows a posting stage p then
+  pub numbers : NumbersGo a stage p after then.stage
+  pub heads : HeadsGo a stage after
+  pub marks : MarksNone a after
 
 pub at_stage : (a after : ArenaView) (posting : Posting) (waiting : List Split) (stage : PostStage) (p : Progressed) (then : Posting) → posting.waiting ≡ waiting → posting.stage ≡ stage → StageStep a after posting waiting stage p then → PostStep a after posting p then
 at_stage a after posting waiting stage p then has is step = record {
@@ -65,6 +75,9 @@ at_stage a after posting waiting stage p then has is step = record {
   waits = subst (λ (s : PostStage). PostStageWaits a s p) (sym is) step.waits;
   ends = subst (λ (s : PostStage). PostStageEnds a after posting s p) (sym is) step.ends;
   gets_on = subst (λ (s : PostStage). Follows a posting s p then) (sym is) step.gets_on;
+  numbers = subst (λ (s : PostStage). NumbersGo a s p after then.stage) (sym is) step.numbers;
+  heads = subst (λ (s : PostStage). HeadsGo a s after) (sym is) step.heads;
+  marks = step.marks;
 }
 
 -- what is true of the stage where it is
@@ -73,7 +86,7 @@ true_at begun a w posting stage is truth = subst (λ (s : PostStage). PostStageI
 
 -- the border that was to be posted is locked
 pub still_locked : (a : ArenaView) (w : World) (prefix : List ℕ) (number low : ℕ) → IsToPost a w prefix number low → IsLockedBorder a w number
-still_locked a w prefix number low t = record { b = t.b; named = t.named; known = known_some w number _ t.place; locked = t.locked; free = t.free }
+still_locked a w prefix number low t = record { b = t.b; named = t.named; known = known_some w number _ t.place; locked = t.locked; alive = t.alive; free = t.free }
 
 -- from the head it begins its way
 pub from_head : (begun : ℕ) (prefix : List ℕ) (wanted : Child) (number : ℕ) (w : World) → IsHeadOf w begun number prefix → IsWalking begun prefix wanted number w
@@ -92,6 +105,7 @@ new_is_true posting none is = record {
         head = known;
         waiting = subst (λ (o : List Split). AreWaiting a w prefix o) (sym none) tt;
         stage = subst (λ (s : PostStage). PostStageIsTrue begun prefix posting.half posting.low posting.waiting s a w) (sym is) (from_head begun prefix (goal posting.half posting.low posting.waiting) posting.head.0 w known);
+        walks = subst (λ (s : PostStage). WalksFrom posting.head s w) (sym is) (λ layer low standing at. refl);
       },
     ),
     ap (stage_owns posting.half.0 posting.waiting) is ∙ ap (split_owns posting.half.0) none,
@@ -103,6 +117,19 @@ module _ (a : ArenaView) (posting : Posting) where
   same_content : SameContent (arena_seen a) (arena_seen a)
   same_content key row = ((λ h. h), (λ h. h))
 
+  same_heads : (stage : PostStage) → HeadsGo a stage a
+  same_heads (RootFilled old root) = tt
+  same_heads (Walks node) = λ number. refl
+  same_heads (RootWanted old) = λ number. refl
+  same_heads (RootSpared old root) = λ number. refl
+  same_heads (RootLate root) = λ number. refl
+  same_heads (HalfWanted interior) = λ number. refl
+  same_heads (HalfSpared interior half) = λ number. refl
+  same_heads (HalfLeftOut left) = λ number. refl
+  same_heads (LetGo interior) = λ number. refl
+  same_heads (HalfPosted posted) = λ number. refl
+  same_heads (HalfCut half) = λ number. refl
+
   -- the border is left out
   pub left_out : (stage : PostStage) (left : List Split) → stage_owns posting.half.0 [] stage ≡ posting.half.0 ∷ [] → posting.waiting ≡ [] → posting.stage ≡ stage → PostStageWaits a stage Ended → PostStageEnds a a posting stage Ended
       → PostStep a a posting Ended (record posting { waiting = left })
@@ -112,6 +139,9 @@ module _ (a : ArenaView) (posting : Posting) where
     waits = waits;
     ends = ends;
     gets_on = none;
+    numbers = refl;
+    heads = same_heads stage;
+    marks = λ number marked. marked;
   })
 
   module _ (p : Progressed) (waiting next_waiting : List Split) (stage next : PostStage) (owns : stage_owns posting.half.0 waiting stage ≡ stage_owns posting.half.0 next_waiting next) (has : posting.waiting ≡ waiting) (is : posting.stage ≡ stage) where
@@ -120,13 +150,13 @@ module _ (a : ArenaView) (posting : Posting) where
 
     abbrev ThenStage : Type 0
     ThenStage = (now begun : ℕ) (w : World) (prefix : List ℕ) → IsWorld a now w → IsToPost a w prefix posting.half.0 posting.low → IsHeadOf w begun posting.head.0 prefix → AreWaiting a w prefix waiting
-        → PostStageIsTrue begun prefix posting.half posting.low waiting stage a w → AreWaiting a w prefix next_waiting × PostStageIsTrue begun prefix posting.half posting.low next_waiting next a w
+        → PostStageIsTrue begun prefix posting.half posting.low waiting stage a w → AreWaiting a w prefix next_waiting × PostStageIsTrue begun prefix posting.half posting.low next_waiting next a w × WalksFrom posting.head next w
 
-    goes_so : (p ≡ Moved) ⊎ (p ≡ Waits) → ThenStage → PostStageWaits a stage p → PostStageEnds a a posting stage p → Follows a posting stage p then → PostStep a a posting p then
-    goes_so either goes waits ends gets_on = at_stage a a posting waiting stage p then has is (record {
+    goes_so : (p ≡ Moved) ⊎ (p ≡ Waits) → ThenStage → PostStageWaits a stage p → PostStageEnds a a posting stage p → Follows a posting stage p then → NumbersGo a stage p a next → PostStep a a posting p then
+    goes_so either goes waits ends gets_on numbers = at_stage a a posting waiting stage p then has is (record {
       steps = λ now begun w prefix world before border known all truth.
           let both = goes now begun w prefix world border known all truth in
-          let t : PostingIsTrue begun then a w = (prefix, record { border = border; head = known; waiting = both.0; stage = both.1 }) in
+          let t : PostingIsTrue begun then a w = (prefix, record { border = border; head = known; waiting = both.0; stage = both.1; walks = both.2 }) in
           elim either [
             | inl e ↦ subst (λ (q : Progressed). Goes now a a w (stage_owns posting.half.0 waiting stage) (owned_after q then) (ThenPosts q begun then a) × SameContent (arena_seen a) (arena_seen a)) (sym e)
                 (goes_same now a w _ (stage_owns posting.half.0 waiting stage) (stage_owns posting.half.0 next_waiting next) owns world t, same_content)
@@ -137,16 +167,19 @@ module _ (a : ArenaView) (posting : Posting) where
       waits = waits;
       ends = ends;
       gets_on = gets_on;
+      numbers = numbers;
+      heads = same_heads stage;
+      marks = λ number marked. marked;
     })
 
   module _ (waiting next_waiting : List Split) (stage next : PostStage) (owns : stage_owns posting.half.0 waiting stage ≡ stage_owns posting.half.0 next_waiting next) (has : posting.waiting ≡ waiting) (is : posting.stage ≡ stage) where
-    pub goes_on : ThenStage Moved waiting next_waiting stage next owns has is → PostStageWaits a stage Moved → PostStageEnds a a posting stage Moved → Follows a posting stage Moved (record posting { waiting = next_waiting; stage = next })
+    pub goes_on : ThenStage Moved waiting next_waiting stage next owns has is → PostStageWaits a stage Moved → PostStageEnds a a posting stage Moved → Follows a posting stage Moved (record posting { waiting = next_waiting; stage = next }) → NumbersGo a stage Moved a next
         → PostStep a a posting Moved (record posting { waiting = next_waiting; stage = next })
-    goes_on goes waits ends gets_on = goes_so Moved waiting next_waiting stage next owns has is (inl refl) goes waits ends gets_on
+    goes_on goes waits ends gets_on numbers = goes_so Moved waiting next_waiting stage next owns has is (inl refl) goes waits ends gets_on numbers
 
     pub waits_on : ThenStage Waits waiting next_waiting stage next owns has is → PostStageWaits a stage Waits → PostStageEnds a a posting stage Waits → Follows a posting stage Waits (record posting { waiting = next_waiting; stage = next })
         → PostStep a a posting Waits (record posting { waiting = next_waiting; stage = next })
-    waits_on goes waits ends gets_on = goes_so Waits waiting next_waiting stage next owns has is (inr refl) goes waits ends gets_on
+    waits_on goes waits ends gets_on = goes_so Waits waiting next_waiting stage next owns has is (inr refl) goes waits ends gets_on refl
 
 -- ---- at a head
 module _ (a : ArenaView) (posting : Posting) (node : NodeNo) (is : posting.stage ≡ Walks node) (wanted : Child) (is_goal : wanted ≡ goal posting.half posting.low posting.waiting) where
@@ -157,28 +190,38 @@ module _ (a : ArenaView) (posting : Posting) (node : NodeNo) (is : posting.stage
   walks_wanted : (begun : ℕ) (prefix : List ℕ) (number : ℕ) (w : World) → IsWalking begun prefix (goal posting.half posting.low posting.waiting) number w → IsWalking begun prefix wanted number w
   walks_wanted begun prefix number w at = subst (λ (g : Child). IsWalking begun prefix g number w) (sym is_goal) at
 
-  pub head_leads : (h : HeadView) (root : NodeNo) (level : ℕ) → head_at a.nodes node.0 ≡ Some h → h.version.deleted ≡ false → root ≡ h.root → level ≡ h.level → wanted.level < level → PostStep a a posting Moved (record posting { stage = Walks root })
-  head_leads h root level named alive same same_level from = goes_on a posting posting.waiting posting.waiting (Walks node) (Walks root) refl refl is (λ now begun w prefix world border known all truth.
+  -- what stands at a level is no head
+  below_head : (w : World) (number level : ℕ) (prefix : List ℕ) (low : ℕ) (standing : Standing) → w.chart number ≡ Some (spot (at_level level) prefix low standing)
+      → (layer : List ℕ) (least : ℕ) (other : Standing) → w.chart number ≡ Some (spot top layer least other) → record { 0 = number } ≡ posting.head
+  below_head w number level prefix low standing place layer least other at = absurd (let clash : ◌≡◌ {A = Option Spot} (Some (spot (at_level level) prefix low standing)) (Some (spot top layer least other)) = sym place ∙ at in cc)
+
+  pub head_leads : (h : HeadView) (root : NodeNo) (level : ℕ) → head_at a.nodes node.0 ≡ Some h → h.version.deleted ≡ false → h.level ≤ MAX_LEVEL → root ≡ h.root → level ≡ h.level → wanted.level < level → PostStep a a posting Moved (record posting { stage = Walks root })
+  head_leads h root level named alive most same same_level from = goes_on a posting posting.waiting posting.waiting (Walks node) (Walks root) refl refl is (λ now begun w prefix world border known all truth.
       let (stands, is_root) = root_place a w.chart begun node.0 wanted.low prefix h world.index.tree ((walks_wanted begun prefix node.0 w truth).held) named alive in (
         all,
         walks_for begun prefix root.0 w (record {
           held = record { role = at_level h.level; low = 0; standing = on true; place = ap (λ (r : NodeNo). w.chart r.0) same ∙ is_root; at_most = omega arith; since = λ epoch e. absurd (let clash : on true ≡ gone epoch = e in cc) };
           inner = subst (λ (l : ℕ). wanted.level < l) same_level from;
         }),
+        below_head w root.0 h.level prefix 0 (on true) (ap (λ (r : NodeNo). w.chart r.0) same ∙ is_root),
       )) tt tt (inl (subst (λ (o : Option HeadView). IsSomeAnd o (FollowsHead posting (record posting { stage = Walks root }))) (sym named)
-      (inl (subst (λ (g : Child). g.level < h.level) is_goal (subst (λ (l : ℕ). wanted.level < l) same_level from), ap (λ (r : NodeNo). record posting { stage = Walks r }) same))))
+      (inl (alive, most, inl (subst (λ (g : Child). g.level < h.level) is_goal (subst (λ (l : ℕ). wanted.level < l) same_level from), ap (λ (r : NodeNo). record posting { stage = Walks r }) same))))) refl
 
-  pub head_lacks : (h : HeadView) (old : Root) → head_at a.nodes node.0 ≡ Some h → old.node ≡ h.root → old.level ≡ h.level → old.level ≤ wanted.level → PostStep a a posting Moved (record posting { stage = RootWanted old })
-  head_lacks h old named same same_level less = goes_on a posting posting.waiting posting.waiting (Walks node) (RootWanted old) refl refl is (λ now begun w prefix world border known all truth. (all, subst (λ (g : Child). old.level < g.level + 1) is_goal (omega (arith, less)))) tt tt
+  pub head_lacks : (h : HeadView) (old : Root) → head_at a.nodes node.0 ≡ Some h → h.version.deleted ≡ false → h.level ≤ MAX_LEVEL → old.node ≡ h.root → old.level ≡ h.level → old.level ≤ wanted.level → PostStep a a posting Moved (record posting { stage = RootWanted old })
+  head_lacks h old named alive most same same_level less = goes_on a posting posting.waiting posting.waiting (Walks node) (RootWanted old) refl refl is (λ now begun w prefix world border known all truth. (all, subst (λ (g : Child). old.level < g.level + 1) is_goal (omega (arith, less)), tt)) tt tt
       (inl (subst (λ (o : Option HeadView). IsSomeAnd o (FollowsHead posting (record posting { stage = RootWanted old }))) (sym named)
-      (inr (inl (
-        subst (λ (g : Child). h.level ≤ g.level) is_goal (subst (λ (l : ℕ). l ≤ wanted.level) same_level less),
-        ap (λ (r : NodeNo). record posting { stage = RootWanted (record { node = r; level = old.level }) }) same ∙ ap (λ (l : ℕ). record posting { stage = RootWanted (record { node = h.root; level = l }) }) same_level,
-      )))))
+      (inl (
+        alive,
+        most,
+        inr (
+          subst (λ (g : Child). h.level ≤ g.level) is_goal (subst (λ (l : ℕ). l ≤ wanted.level) same_level less),
+          ap (λ (r : NodeNo). record posting { stage = RootWanted (record { node = r; level = old.level }) }) same ∙ ap (λ (l : ℕ). record posting { stage = RootWanted (record { node = h.root; level = l }) }) same_level,
+        ),
+      )))) refl
 
   -- ---- at an interior
   pub held_back : IsHeldBack a node.0 → PostStep a a posting Waits (record posting { stage = Walks posting.head })
-  held_back cause = waits_on a posting posting.waiting posting.waiting (Walks node) (Walks posting.head) refl refl is (λ now begun w prefix world border known all truth. (all, from_head begun prefix (goal posting.half posting.low posting.waiting) posting.head.0 w known)) cause tt refl
+  held_back cause = waits_on a posting posting.waiting posting.waiting (Walks node) (Walks posting.head) refl refl is (λ now begun w prefix world border known all truth. (all, from_head begun prefix (goal posting.half posting.low posting.waiting) posting.head.0 w known, λ layer low standing at. refl)) cause tt refl
 
   pub child_leads : (i : InteriorView) (place : ℕ) (child : Child) → interior_at a.nodes node.0 ≡ Some i → i.version.deleted ≡ false → place + 1 ≡ children_up_to wanted.low i.children → slice_get i.children place ≡ Some child → child.low ≤ wanted.low → wanted.level < child.level
       → PostStep a a posting Moved (record posting { stage = Walks child.node })
@@ -186,10 +229,13 @@ module _ (a : ArenaView) (posting : Posting) (node : NodeNo) (is : posting.stage
       let there = seen-interior a node.0 i named in
       let at = walks_wanted begun prefix node.0 w truth in
       let stands = stands_as (arena_seen a) w.chart node.0 (interior_seen i) world.index.tree there at.held.role prefix at.held.low at.held.standing at.held.place in
-      let held = children_held (arena_seen a) w.chart world.index.tree begun node.0 wanted.low prefix (interior_seen i) (child_seen child) at.held there alive (among_read i.children place child read) from_low in
-      (all, walks_for begun prefix child.node.0 w (record { held = held; inner = subst (λ (r : Role). IsAbove wanted.level r) (sym (role_is w.chart held.role held.standing prefix held.low at.held.standing stands.below at.held.low held.place stands.ok)) from }))) tt tt
+      let held = children_held (arena_seen a) w.chart world.index.tree begun node.0 wanted.low prefix (interior_seen i) (child_seen child) at.held there alive (among_read i.children place child read) from_low in (
+        all,
+        walks_for begun prefix child.node.0 w (record { held = held; inner = subst (λ (r : Role). IsAbove wanted.level r) (sym (role_is w.chart held.role held.standing prefix held.low at.held.standing stands.below at.held.low held.place stands.ok)) from }),
+        below_head w child.node.0 child.level prefix held.low held.standing (held.place ∙ ap (λ (r : Role). Some (spot r prefix held.low held.standing)) (role_is w.chart held.role held.standing prefix held.low at.held.standing stands.below at.held.low held.place stands.ok)),
+      )) tt tt
       (inr (subst (λ (o : Option InteriorView). IsSomeAnd o (FollowsInterior posting (record posting { stage = Walks child.node }) node)) (sym named)
-      (inl (record { place = place; child = child; leads = subst (λ (g : Child). place + 1 ≡ children_up_to g.low i.children) is_goal leads; is_child = read; above = subst (λ (g : Child). g.level < child.level) is_goal from; goes = refl }))))
+      (inl (record { alive = alive; place = place; child = child; leads = subst (λ (g : Child). place + 1 ≡ children_up_to g.low i.children) is_goal leads; is_child = read; above = subst (λ (g : Child). g.level < child.level) is_goal from; goes = refl })))) refl
     where
       role_is : (chart : Chart) (role : Role) (standing : Standing) (prefix : List ℕ) (low : ℕ) (namer : Standing) (below least : ℕ) → chart child.node.0 ≡ Some (spot role prefix low standing)
           → (((epoch : ℕ) × (namer ≡ gone epoch)) × ((interior_seen i).deleted ≡ true)) ⊎ AreChildren chart namer prefix least (suc below) (children_seen i.children) → role ≡ at_level child.level
@@ -249,6 +295,9 @@ module _ (a : ArenaView) (posting : Posting) (node : NodeNo) (is : posting.stage
       waits = tt;
       ends = inl (let border = may.true.1.border in some_at _ (border_at a.nodes posting.half.0) border.b value border.named ∙ ap (λ (l : ℕ). with_interior_changed a node.0 (names l)) border.low_is);
       gets_on = none;
+      numbers = (interior_leaves_by a after node.0 (λ (b : BorderView). names b.low) (border_at a.nodes posting.half.0) value (λ x i. refl)).numbers;
+      heads = (interior_leaves_by a after node.0 (λ (b : BorderView). names b.low) (border_at a.nodes posting.half.0) value (λ x i. refl)).heads;
+      marks = (interior_leaves_by a after node.0 (λ (b : BorderView). names b.low) (border_at a.nodes posting.half.0) value (λ x i. refl)).marks;
     })
       where
         posted : (now begun : ℕ) (w : World) (prefix : List ℕ) → IsWorld a now w → (border : IsToPost a w prefix posting.half.0 posting.low) → IsWalking begun prefix (goal posting.half posting.low []) node.0 w
@@ -268,11 +317,13 @@ module _ (a : ArenaView) (posting : Posting) (node : NodeNo) (is : posting.stage
             goes_at now a new w chart n (posting.half.0 ∷ []) (posting.half.0 ∷ []) _ world kept refl (on_kept a now w.chart n _ _ _ _ stands.place world.retired) (interior_others a n i change named)
             (λ other apart. charted.rest other (λ e. apart (subst (λ (m : ℕ). Among m (posting.half.0 ∷ [])) (sym e) first)))
             (heads_beside a new w.chart chart n (heads_were w.chart chart posting.half.0 0 posting.low prefix (on true) charted) (interior_no_head a n i change named) (interior_no_border a n i change named) (interior_others a n i change named) world.heads)
+            (alive_there a new chart n (interior_alive a n i change named chart (inr alive)) (interior_others a n i change named)
+            (alive_placed a w.chart chart posting.half.0 (Some place) charted (alive_node a chart posting.half.0 (Border border.b) (node-from_border a.nodes posting.half.0 border.b border.named) (inl border.locked)) world.alive))
             (λ locked. (let clash : false ≡ true = sym unlocked ∙ some_at _ (interior_at a.nodes n) i locked.locked named in cc))
             (λ taken apart. not_both i.version.locked (w.chart n) unlocked is_known (interior_is_taken a n i w named taken))
             (λ other t out k. out k) (λ other k taken. k)
             (λ apart taken. absurd (not_both i.version.locked (chart n) unlocked (known_stays w.chart chart n (kept.evolves 0 (omega arith)) is_known) (interior_taken a n i change named (at_chart w chart) taken)))
-            (record { b = border.b; named = interior_border a n i change named posting.half.0 border.b border.named; known = known_some (at_chart w chart) posting.half.0 place charted.now; locked = border.locked; free = border.free })
+            (record { b = border.b; named = interior_border a n i change named posting.half.0 border.b border.named; known = known_some (at_chart w chart) posting.half.0 place charted.now; locked = border.locked; alive = border.alive; free = border.free })
 
     -- it has room, and its low is at most that of what is to be named
     pub room_for : (may : MayPost a posting) → length i.children < MAX_CHILDREN → IsSomeAnd (interior_at a.nodes node.0) (HasRoomFrom wanted.low)
@@ -292,9 +343,9 @@ is_some_weaker None P Q weaker h = h
 is_some_weaker (Some x) P Q weaker h = weaker x h
 
 module _ (a : ArenaView) (posting : Posting) (stage : PostStage) (owns : (waiting : List Split) → stage_owns posting.half.0 waiting stage ≡ split_owns posting.half.0 waiting) (is : posting.stage ≡ stage) where
-  pub half_left_out : (split : Split) (waiting : List Split) → posting.waiting ≡ split ∷ waiting → PostStageWaits a stage Moved → PostStageEnds a a posting stage Moved → Follows a posting stage Moved (record posting { waiting = waiting; stage = HalfLeftOut split })
+  pub half_left_out : (split : Split) (waiting : List Split) → posting.waiting ≡ split ∷ waiting → PostStageWaits a stage Moved → PostStageEnds a a posting stage Moved → Follows a posting stage Moved (record posting { waiting = waiting; stage = HalfLeftOut split }) → NumbersGo a stage Moved a (HalfLeftOut split)
       → PostStep a a posting Moved (record posting { waiting = waiting; stage = HalfLeftOut split })
-  half_left_out split waiting some waits ends gets_on = goes_on a posting (split ∷ waiting) waiting stage (HalfLeftOut split) (owns (split ∷ waiting)) some is (λ now begun w prefix world border known all truth. let (above, halved, more) = all in (more, (above, halved))) waits ends gets_on
+  half_left_out split waiting some waits ends gets_on numbers = goes_on a posting (split ∷ waiting) waiting stage (HalfLeftOut split) (owns (split ∷ waiting)) some is (λ now begun w prefix world border known all truth. let (above, halved, more) = all in (more, (above, halved), tt)) waits ends gets_on numbers
 
   pub all_left_out : (left : List Split) → posting.waiting ≡ [] → PostStageWaits a stage Ended → PostStageEnds a a posting stage Ended → PostStep a a posting Ended (record posting { waiting = left })
   all_left_out left none waits ends = left_out a posting stage left (owns []) none is waits ends
@@ -308,5 +359,5 @@ left_out_so posting P Ended then (none, same) border half = subst (λ (t : Posti
 
 -- at a node where it can be
 pub follows_left_out : (a : ArenaView) (posting : Posting) (node : NodeNo) (split : Split) (waiting : List Split) → posting.waiting ≡ split ∷ waiting → CanLeaveOut a posting node.0 → StageFollows a posting (Walks node) (record posting { waiting = waiting; stage = HalfLeftOut split })
-follows_left_out a posting node split waiting some (inl marked) = inl (is_some_weaker (head_at a.nodes node.0) _ _ (λ head deleted. inr (inr (deleted, (split, some, refl)))) marked)
+follows_left_out a posting node split waiting some (inl marked) = inl (is_some_weaker (head_at a.nodes node.0) _ _ (λ head deleted. inr (deleted, (split, some, refl))) marked)
 follows_left_out a posting node split waiting some (inr full) = inr (is_some_weaker (interior_at a.nodes node.0) _ _ (λ i at. inr (at.0, inr (at.1, inr (at.2, (split, some, refl))))) full)

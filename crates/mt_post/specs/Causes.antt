@@ -17,7 +17,9 @@ use Rattle.mt_post.specs.declared.posting.PostStage.TheVariants.{Walks, RootWant
 
 -- the number names an interior that is marked deleted, or that another call has locked
 abbrev pub IsHeldBack : ArenaView → ℕ → Type 0
-IsHeldBack a number = IsSomeAnd (interior_at a.nodes number) (λ interior. (interior.version.deleted ≡ true) ⊎ (interior.version.locked ≡ true))
+IsHeldBack a number =
+    IsSomeAnd (interior_at a.nodes number)
+    (λ interior. (interior.version.deleted ≡ true) ⊎ (interior.version.locked ≡ true))
 
 -- a posting waits only at such an interior
 abbrev pub PostStageWaits : ArenaView → PostStage → Progressed → Type 0
@@ -27,7 +29,9 @@ PostStageWaits a _ _ = Unit {0}
 
 -- the interior names the border from now on
 abbrev pub IsPosted : ArenaView → ArenaView → ℕ → Posting → Type 0
-IsPosted a after number posting = after ≡ with_interior_changed a number (λ interior. with_child interior (record { low = posting.low; node = posting.half; level = 0 }))
+IsPosted a after number posting =
+    after ≡ with_interior_changed a number
+    (λ interior. with_child interior (record { low = posting.low; node = posting.half; level = 0 }))
 
 -- the last child whose low is at most that of what is to be named is not above it: here it is to be named
 pub record StopsAt (posting : Posting) (interior : InteriorView) : Type 0 where
@@ -37,10 +41,13 @@ pub record StopsAt (posting : Posting) (interior : InteriorView) : Type 0 where
   pub is_child : slice_get interior.children place ≡ Some child
   pub below : child.level ≤ (goal_of posting).level
 
--- a node where what is to be named may be left out: a head that is marked deleted, or a full interior of the greatest level
+-- a node where what is to be named may be left out: a head that is marked deleted, or a full interior of the greatest
+-- level
 abbrev pub CanLeaveOut : ArenaView → Posting → ℕ → Type 0
 CanLeaveOut a posting number = IsSomeAnd (head_at a.nodes number) (λ head. head.version.deleted ≡ true)
-    ⊎ IsSomeAnd (interior_at a.nodes number) (λ interior. StopsAt posting interior × (length interior.children ≡ MAX_CHILDREN) × (interior.level ≡ MAX_LEVEL))
+    ⊎ IsSomeAnd (interior_at a.nodes number)
+    (λ interior. StopsAt posting interior × (length interior.children ≡ MAX_CHILDREN)
+    × (interior.level ≡ MAX_LEVEL))
 
 -- the interior is neither marked deleted nor locked, and is full where it is to be named
 pub record IsFullAt (a : ArenaView) (posting : Posting) (number : ℕ) : Type 0 where
@@ -68,13 +75,16 @@ pub record IsRootStill (a : ArenaView) (number : ℕ) (root : Root) : Type 0 whe
   pub root_is : head.root ≡ root.node
   pub level_is : head.level ≡ root.level
 
--- A posting ends where an interior that has room, or a new root, names the border; or it is left out: where it can be, or where no number
--- or no memory is had for a new root or a new half.
+-- A posting ends where an interior that has room, or a new root, names the border; or it is left out: where it can be,
+-- or where no number or no memory is had for a new root or a new half.
 abbrev pub PostStageEnds : ArenaView → ArenaView → Posting → PostStage → Progressed → Type 0
-PostStageEnds a after posting (Walks node) Ended = IsPosted a after node.0 posting ⊎ ((after ≡ a) × CanLeaveOut a posting node.0)
+PostStageEnds a after posting (Walks node) Ended = IsPosted a after node.0 posting
+    ⊎ ((after ≡ a) × CanLeaveOut a posting node.0)
 PostStageEnds a after posting (RootWanted old) Ended = after ≡ a
-PostStageEnds a after posting (RootFilled old root) Ended = after ≡ with_head_changed a posting.head.0 (λ head. with_root head root 1)
-PostStageEnds a after posting (LetGo interior) Ended = after ≡ with_interior_changed a interior.0 (λ x. with_lock x false)
+PostStageEnds a after posting (RootFilled old root) Ended =
+    after ≡ with_head_changed a posting.head.0 (λ head. with_root head root 1)
+PostStageEnds a after posting (LetGo interior) Ended =
+    after ≡ with_interior_changed a interior.0 (λ x. with_lock x false)
 PostStageEnds a after posting _ Ended = ⊥
 PostStageEnds a after posting _ _ = Unit {0}
 

@@ -1,12 +1,14 @@
 -- Where a posting stands after a step: said of the nodes before it, and of the posting before and after it.
-use Rattle.std.specs.Prelude.{ℕ, ◌≡◌, ◌⊎◌, ◌<◌, ◌≤◌, ◌+◌, [], ◌∷◌, length, slice_get, Some, IsSomeAnd, true}
+use Rattle.std.specs.Prelude.{ℕ, ◌≡◌, ◌⊎◌, ◌<◌, ◌≤◌, ◌+◌, Bool, true, false, [], ◌∷◌, length, slice_get, Option, Some, None, IsSomeAnd}
 use Rattle.mt_types.specs.declared.limits.TheConstants.{MAX_LEVEL}
 use Rattle.mt_types.specs.declared.numbers.NodeNo.{NodeNo}
 use Rattle.mt_interior.specs.Interior.{InteriorView, children_up_to}
 use Rattle.mt_interior.specs.Head.{HeadView}
 use Rattle.mt_interior.specs.declared.child.Child.{Child}
 use Rattle.mt_interior.specs.declared.interior.TheConstants.{MAX_CHILDREN}
-use Rattle.mt_arena.specs.Node.{head_at, interior_at}
+use Rattle.mt_arena.specs.declared.node.Node.{Node}
+use Rattle.mt_arena.specs.declared.node.Node.TheVariants.{Head, Interior, Border}
+use Rattle.mt_arena.specs.Node.{node_at, head_at, interior_at, occupied}
 use Rattle.mt_arena.specs.Arena.{ArenaView}
 use Rattle.mt_post.specs.declared.posting.Posting.{Posting}
 use Rattle.mt_post.specs.declared.posting.Progressed.{Progressed}
@@ -30,18 +32,27 @@ IsLeftOut posting then = (split : Split) × (posting.waiting ≡ split ∷ then.
 
 -- what is to be named is left out: the newest new half; or the border, where none waits
 abbrev pub LeavesOut : Posting → Progressed → Posting → Type 0
-LeavesOut posting Moved then = IsLeftOut posting then × (then ≡ record posting { waiting = then.waiting; stage = then.stage })
+LeavesOut posting Moved then = IsLeftOut posting then
+    × (then ≡ record posting { waiting = then.waiting; stage = then.stage })
 LeavesOut posting Waits then = ⊥
 LeavesOut posting Ended then = (posting.waiting ≡ []) × (then ≡ record posting { waiting = then.waiting })
 
 -- at a head: it goes to the root, where that is above what is to be named; else it wants a new root
-abbrev pub FollowsHead : Posting → Posting → HeadView → Type 0
-FollowsHead posting then head = ((goal_of posting).level < head.level × GoesTo posting then (Walks head.root))
-    ⊎ ((head.level ≤ (goal_of posting).level × GoesTo posting then (RootWanted (record { node = head.root; level = head.level })))
-    ⊎ ((head.version.deleted ≡ true) × IsLeftOut posting then))
+abbrev pub FollowsRoot : Posting → Posting → HeadView → Type 0
+FollowsRoot posting then head = ((goal_of posting).level < head.level × GoesTo posting then (Walks head.root))
+    ⊎ (head.level ≤ (goal_of posting).level
+    × GoesTo posting then (RootWanted (record { node = head.root; level = head.level })))
 
--- at an interior: it goes to the last child whose low is at most that of what is to be named, where that child is above it
+-- so where the head isn't marked deleted
+abbrev pub FollowsHead : Posting → Posting → HeadView → Type 0
+FollowsHead posting then head =
+    ((head.version.deleted ≡ false) × (head.level ≤ MAX_LEVEL) × FollowsRoot posting then head)
+    ⊎ ((head.version.deleted ≡ true) × IsLeftOut posting then)
+
+-- at an interior: it goes to the last child whose low is at most that of what is to be named, where that child is above
+-- it
 pub record LeadsOn (posting then : Posting) (interior : InteriorView) : Type 0 where
+  pub alive : interior.version.deleted ≡ false
   pub place : ℕ
   pub child : Child
   pub leads : place + 1 ≡ children_up_to (goal_of posting).low interior.children
@@ -69,7 +80,8 @@ IsFilled posting then interior half = (split : Split) × (split.interior ≡ int
 abbrev pub StageFollows : ArenaView → Posting → PostStage → Posting → Type 0
 StageFollows a posting (Walks node) then = IsSomeAnd (head_at a.nodes node.0) (FollowsHead posting then)
     ⊎ IsSomeAnd (interior_at a.nodes node.0) (FollowsInterior posting then node)
-StageFollows a posting (RootWanted old) then = ((root : NodeNo) × GoesTo posting then (RootSpared old root)) ⊎ IsLeftOut posting then
+StageFollows a posting (RootWanted old) then = ((root : NodeNo) × GoesTo posting then (RootSpared old root))
+    ⊎ IsLeftOut posting then
 StageFollows a posting (RootSpared old root) then = GoesTo posting then (RootFilled old root)
 StageFollows a posting (RootFilled old root) then = (IsRootStill a posting.head.0 old × IsNamed posting then)
     ⊎ ((IsRootStill a posting.head.0 old → ⊥) × GoesTo posting then (RootLate root))
@@ -91,6 +103,58 @@ Follows a posting stage Ended then = posting.waiting ≡ []
 abbrev pub PostFollows : ArenaView → Posting → Progressed → Posting → Type 0
 PostFollows a posting p then = Follows a posting posting.stage p then
 
+-- ---- what it changes
+-- one more number names a node than before; one fewer; as many
+abbrev pub OccupiesOne : ArenaView → ArenaView → Type 0
+OccupiesOne a after = occupied after.nodes ≡ occupied a.nodes + 1
+
+abbrev pub GivesOneBack : ArenaView → ArenaView → Type 0
+GivesOneBack a after = occupied after.nodes + 1 ≡ occupied a.nodes
+
+abbrev pub OccupiesAsMany : ArenaView → ArenaView → Type 0
+OccupiesAsMany a after = occupied after.nodes ≡ occupied a.nodes
+
+-- How many numbers are free where it moves on from a stage to another: one fewer where a spare was occupied, one more
+-- where one was given back, and else as many. What isn't free names a node.
+abbrev pub StageNumbers : ArenaView → PostStage → ArenaView → PostStage → Type 0
+StageNumbers a (RootWanted old) after (RootSpared same root) = OccupiesOne a after
+StageNumbers a (HalfWanted interior) after (HalfSpared same half) = OccupiesOne a after
+StageNumbers a (RootLate root) after _ = GivesOneBack a after
+StageNumbers a (HalfLeftOut left) after _ = GivesOneBack a after
+StageNumbers a _ after _ = OccupiesAsMany a after
+
+-- the same of each step: as many where it waits or has ended
+abbrev pub NumbersGo : ArenaView → PostStage → Progressed → ArenaView → PostStage → Type 0
+NumbersGo a stage Moved after next = StageNumbers a stage after next
+NumbersGo a stage Waits after next = OccupiesAsMany a after
+NumbersGo a stage Ended after next = OccupiesAsMany a after
+
+abbrev pub NumbersFollow : ArenaView → Posting → Progressed → ArenaView → Posting → Type 0
+NumbersFollow a posting p after then = NumbersGo a posting.stage p after then.stage
+
+-- each number that names a head names it as before
+abbrev pub SameHeads : ArenaView → ArenaView → Type 0
+SameHeads a after = (number : ℕ) → head_at after.nodes number ≡ head_at a.nodes number
+
+-- the heads are as before, but where a new root may be named
+abbrev pub HeadsGo : ArenaView → PostStage → ArenaView → Type 0
+HeadsGo a (RootFilled old root) after = Unit {0}
+HeadsGo a _ after = SameHeads a after
+
+abbrev pub HeadsFollow : ArenaView → Posting → ArenaView → Type 0
+HeadsFollow a posting after = HeadsGo a posting.stage after
+
+-- whether it is a head or an interior that is marked deleted
+abbrev pub mark_of : Option Node → Bool
+mark_of None = false
+mark_of (Some (Head head)) = head.version.deleted
+mark_of (Some (Interior interior)) = interior.version.deleted
+mark_of (Some (Border border)) = false
+
+-- each head or interior that is marked deleted after the step was so before
+abbrev pub MarksNone : ArenaView → ArenaView → Type 0
+MarksNone a after = (number : ℕ) → mark_of (node_at after.nodes number) ≡ true → mark_of (node_at a.nodes number) ≡ true
+
 -- WHAT A STEP DOES, all of it
 pub record PostStep (a after : ArenaView) (posting : Posting) (p : Progressed) (then : Posting) : Type 0 where
   pub same : then ≡ record posting { waiting = then.waiting; stage = then.stage }
@@ -98,3 +162,6 @@ pub record PostStep (a after : ArenaView) (posting : Posting) (p : Progressed) (
   pub waits : PostWaits a posting p
   pub ends : PostEnds a after posting p
   pub gets_on : PostFollows a posting p then
+  pub numbers : NumbersFollow a posting p after then
+  pub heads : HeadsFollow a posting after
+  pub marks : MarksNone a after

@@ -1,11 +1,13 @@
 //! A posting: on its way to the interior that is to name the border, or to a new root; full interiors are split.
 
-ghost use Rattle.std.specs.Prelude.{◌≡◌, ℕ, IsSome};
+ghost use Rattle.std.specs.Prelude.{◌≡◌, ℕ, [], IsSome};
 ghost use Rattle.mt_arena.specs.Node.{head_at, interior_at};
 ghost use Rattle.mt_arena.specs.Arena.{IsArena};
 ghost use Rattle.mt_post.specs.Posting.{PostLaw, MayPost, NewPostingIsTrue, goal};
 ghost use Rattle.mt_post.specs.Causes.{PostWaits, PostEnds, CanLeaveOut, IsFullAt, HasRoomAt, IsRootStill};
-ghost use Rattle.mt_post.specs.Follows.{LeavesOut, PostFollows, PostStep};
+ghost use Rattle.mt_post.specs.Follows.{LeavesOut, PostFollows, NumbersFollow, HeadsFollow, MarksNone, PostStep};
+ghost use Rattle.mt_post.specs.Ending.{GetsNearer};
+ghost use Rattle.mt_post.specs.Alone.{LoneStep};
 
 use crate::split::Split;
 use crate::waiting::Waiting;
@@ -80,6 +82,8 @@ impl Posting {
         ensures head { result.head ≡ head }
         ensures half { result.half ≡ half }
         ensures low { result.low ≡ low }
+        ensures idle { result.waiting ≡ [] }
+        ensures walks { result.stage ≡ PostStage.Walks head }
         ensures begins { NewPostingIsTrue result }
     {
         Posting {
@@ -427,6 +431,11 @@ impl Posting {
         ensures waits { PostWaits tree.old self.old result }
         ensures ends { PostEnds tree.old tree.new self.old result }
         ensures gets_on { PostFollows tree.old self.old result self.new }
+        ensures numbers { NumbersFollow tree.old self.old result tree.new self.new }
+        ensures heads { HeadsFollow tree.old self.old tree.new }
+        ensures marks { MarksNone tree.old tree.new }
+        ensures nearer { GetsNearer tree.old tree.new self.old result self.new }
+        ensures alone { LoneStep tree.old tree.new self.old result self.new }
     {
         self.go(tree)
     }

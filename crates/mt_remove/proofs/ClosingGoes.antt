@@ -11,7 +11,7 @@ use Rattle.mt_arena.specs.declared.node.Node.{Node}
 use Rattle.mt_arena.specs.declared.node.Node.TheVariants.{Head}
 use Rattle.mt_arena.proofs.NodeLemmas.{updates-with_node, node-from_head}
 use Rattle.mt_chart.specs.Tree.{Among, first, later}
-use Rattle.mt_chart.specs.Chart.{OnHead}
+use Rattle.mt_chart.specs.Chart.{on, OnHead}
 use Rattle.mt_chart.specs.Steps.{SameContent}
 use Rattle.mt_chart.proofs.Basics.{same_number}
 use Rattle.mt_chart.proofs.Entries.{among_cases}
@@ -22,6 +22,7 @@ use Rattle.mt_tree.proofs.SeenLemmas.{changed-head}
 use Rattle.mt_calls.specs.World.{World, IsWorld, IsLockedRoot, HeadsStand, IsTaken, IsSame, NotAmong, Goes}
 use Rattle.mt_calls.proofs.FrameLemmas.{is_among, taken_back}
 use Rattle.mt_calls.proofs.BorderLemmas.{keys_same, no_interior, twins_beside, retired_kept, on_kept, no_root, roots_kept}
+use Rattle.mt_calls.proofs.AliveLemmas.{alive_head, alive_there}
 use Rattle.mt_calls.proofs.NodeLemmas.{alive_free, known_some}
 
 -- ---- the closing borders without one
@@ -126,6 +127,7 @@ module _ (a : ArenaView) (n : ℕ) (h : HeadView) (named : head_at a.nodes n ≡
               index = kept.index;
               keys = keys_same a marked kept.content world.keys;
               heads = heads_marked;
+              alive = alive_there a marked w.chart n (alive_head marked w.chart n prefix 0 (on true) stands) head_others world.alive;
               twins = twins_beside a marked w.chart w.chart w.twins n (evolves_same 0 w.chart) (no_interior a w.chart n none_there) head_others world.twins;
               retired = retired_kept a marked now w.chart w.chart n (evolves_same 0 w.chart) (on_kept a now w.chart n _ _ _ _ stands world.retired) head_others refl world.retired;
             };
@@ -140,6 +142,7 @@ module _ (a : ArenaView) (n : ℕ) (h : HeadView) (named : head_at a.nodes n ≡
                 | inr out ↦ inr (taken_back a marked w (closing_too w) number (is_same number differ out) taken, out)
               ]
             ];
+            spots = λ number out apart. refl;
             true = truth;
           },
           kept.content,

@@ -28,7 +28,7 @@ use Rattle.mt_calls.specs.declared.progress.Progress.TheVariants.{Moved, Answere
 use Rattle.mt_calls.specs.World.{World, IsWorld, IsLocked, NotAmong, Goes}
 use Rattle.mt_calls.specs.Way.{prefix_of}
 use Rattle.mt_calls.proofs.LayerLemmas.{head_apart}
-use Rattle.mt_calls.proofs.BorderLemmas.{keys_same, now_named, others_named, goes_border, heads_changed, twins_changed, unlocked_free, unlocked_root, mine_free, locked_may, locked_kept, on_kept, among_one}
+use Rattle.mt_calls.proofs.BorderLemmas.{alive_changed, keys_same, now_named, others_named, goes_border, heads_changed, twins_changed, unlocked_free, unlocked_root, mine_free, locked_may, locked_kept, on_kept, among_one}
 use Rattle.mt_calls.proofs.NodeLemmas.{known_some, root_place, head_there}
 use Rattle.mt_calls.proofs.RetireLemmas.{goes_retired}
 use Rattle.mt_remove.specs.declared.tidy.Tidy.{Tidy}
@@ -45,16 +45,16 @@ use Rattle.mt_remove.proofs.ClosingGoes.{head_now, border_same, goes_marked}
 abbrev unlocked_one : BorderView → BorderView
 unlocked_one b = with_lock b false
 
-goes_unlocked : (epoch : ℕ) (a : ArenaView) (w : World) (n : ℕ) (b : BorderView) → border_at a.nodes n ≡ Some b → b.version.locked ≡ true → NotAmong n w.closing → IsSome (w.chart n) → (rest : List ℕ) → NotAmong n rest → IsWorld a epoch w → (after : ArenaView) → after ≡ with_border_changed a n unlocked_one → KeepsTree a after
+goes_unlocked : (epoch : ℕ) (a : ArenaView) (w : World) (n : ℕ) (b : BorderView) → border_at a.nodes n ≡ Some b → b.version.locked ≡ true → b.version.deleted ≡ false → NotAmong n w.closing → IsSome (w.chart n) → (rest : List ℕ) → NotAmong n rest → IsWorld a epoch w → (after : ArenaView) → after ≡ with_border_changed a n unlocked_one → KeepsTree a after
     → (Then : ArenaView → World → Type 0) → Then (with_border_changed a n unlocked_one) w → Goes epoch a after w (n ∷ rest) rest (Then after) × SameContent (arena_seen a) (arena_seen after)
-goes_unlocked epoch a w n b named locked free known rest once world after value keeps Then truth =
+goes_unlocked epoch a w n b named locked alive free known rest once world after value keeps Then truth =
     let new : ArenaView = with_border_changed a n unlocked_one in
     let kept = (subst (λ (x : ArenaView). KeepsTree a x) value keeps).keeps epoch w.twins w.chart world.index in
     subst (λ (x : ArenaView). Goes epoch a x w (n ∷ rest) rest (Then x) × SameContent (arena_seen a) (arena_seen x)) (sym value) (
       goes_border a n b unlocked_one named epoch w (n ∷ rest) rest (Then new) world kept.index (keys_same a new kept.content world.keys) (mine_free a n w (n ∷ rest) first) (λ other i. inl (later i))
           (λ other ne i. elim (among_cases other n rest i) [ inl e ↦ absurd (ne e) | inr j ↦ j ])
           (λ taken. absurd (elim taken [ inl held ↦ (let clash : false ≡ true = held in cc) | inr none ↦ (let some : IsSome (let nothing : Option Spot = None in nothing) = subst (λ (x : Option Spot). IsSome x) none known in cc) ]))
-          (locked_may a n b unlocked_one named epoch w world locked free) truth,
+          (locked_may a n b unlocked_one named epoch w world locked free (inr alive)) truth,
       kept.content,
     )
 
@@ -69,7 +69,7 @@ module _ (epoch : ℕ) (a : ArenaView) (tidy : Tidy) (root head above : NodeNo) 
   -- it has not the link any more
   pub lost_link : IsSomeAnd (node_at a.nodes n) (λ node. None ≡ link_place (rest_above tidy) node head) → TidyStep epoch a a tidy Moved (record tidy { stage = KeepsBorder root })
   lost_link none = at_stage epoch a a tidy (RootLocked root head above) Moved (record tidy { stage = KeepsBorder root }) is refl refl
-      (law_same epoch a tidy (RootLocked root head above) Moved (record tidy { stage = KeepsBorder root }) refl (λ begun w world t. root_locked a w root.0 t.border t.free)) tt tt
+      (law_same epoch a tidy (RootLocked root head above) Moved (record tidy { stage = KeepsBorder root }) refl (λ begun w world t. root_locked a w root.0 t.border t.alive t.free)) tt tt
       (some_by (node_at a.nodes n) _ _ (λ node e. subst (λ (o : Option ℕ). LocksAbove tidy root head above o Moved (record tidy { stage = KeepsBorder root })) e (refl, refl)) none)
 
   module _ (place : ℕ) (found : IsSomeAnd (node_at a.nodes n) (λ node. Some place ≡ link_place (rest_above tidy) node head)) where
@@ -92,6 +92,7 @@ module _ (epoch : ℕ) (a : ArenaView) (tidy : Tidy) (root head above : NodeNo) 
     layer = record { above = above; place = place; head = head; root = root }
 
     pub locks_above : (slice : ℕ) (after : ArenaView) → IsSomeAnd (border_at a.nodes n) (λ x. slice_get x.live place ≡ Some (record { slice = slice; content = Link head })) → after ≡ new → KeepsTree a after → TidyStep epoch a after tidy Moved (record tidy { stage = AboveLocked layer })
+    unfolding root_beside
     locks_above slice after linked value keeps = at_stage epoch a after tidy (RootLocked root head above) Moved (record tidy { stage = AboveLocked layer }) is refl (ap (λ (x : ArenaView). x.retired) value) (record {
       steps = λ begun w world before t.
           let (upper, deeper, known) = t.known in
@@ -104,12 +105,13 @@ module _ (epoch : ℕ) (a : ArenaView) (tidy : Tidy) (root head above : NodeNo) 
             goes_border a n b lock b_named epoch w (root.0 ∷ []) (n ∷ root.0 ∷ []) (Then new) world kept.index (keys_same a new kept.content world.keys)
                 (unlocked_free a n b lock b_named w (root.0 ∷ []) seen.unlocked (known_some w n _ stands.place))
                 (λ other i. elim (among_cases other n (root.0 ∷ []) i) [ inl e ↦ inr e | inr j ↦ inl j ]) (λ other ne i. later i) (λ locked. first)
-                (on_kept a epoch w.chart n _ _ _ _ stands.place world.retired, λ i. refl) (record {
+                (on_kept a epoch w.chart n _ _ _ _ stands.place world.retired, λ i. refl, alive_changed a n b lock b_named w.chart (inl refl)) (record {
                   root = root_beside a w w n root.0 b lock b_named differ refl t.border;
+                  alive = t.alive;
                   free = t.free;
                   headed = t.headed;
                   above = record {
-                    border = record { b = lock b; named = now_named a n b lock b_named; locked = refl; prefix = slices_above upper tidy.key; stands = stands; free = unlocked_root a w.closing w.chart n b b_named seen.unlocked world.heads };
+                    border = record { b = lock b; named = now_named a n b lock b_named; locked = refl; alive = seen.alive; prefix = slices_above upper tidy.key; stands = stands; free = unlocked_root a w.closing w.chart n b b_named seen.unlocked world.heads };
                     slice = slice;
                     linked = subst (λ (o : Option BorderView). IsSomeAnd o (λ x. slice_get x.live place ≡ Some (record { slice = slice; content = Link head }))) b_named linked;
                   };
@@ -135,7 +137,7 @@ module _ (epoch : ℕ) (a : ArenaView) (tidy : Tidy) (layer : Layer) (is : tidy.
   -- the border is not its root any more
   pub lost_root : (h : HeadView) → head_at a.nodes t ≡ Some h → (IsRootOf layer.root h → ⊥) → TidyStep epoch a a tidy Moved (record tidy { stage = KeepsLayer layer })
   lost_root h named lost = at_stage epoch a a tidy (AboveLocked layer) Moved (record tidy { stage = KeepsLayer layer }) is refl refl
-      (law_same epoch a tidy (AboveLocked layer) Moved (record tidy { stage = KeepsLayer layer }) refl (λ begun w world k. (above_locked a w layer.above.0 k.above.border, root_locked a w layer.root.0 k.root k.free, layer_apart a w layer k.root k.above))) tt tt
+      (law_same epoch a tidy (AboveLocked layer) Moved (record tidy { stage = KeepsLayer layer }) refl (λ begun w world k. (above_locked a w layer.above.0 k.above.border, root_locked a w layer.root.0 k.root k.alive k.free, layer_apart a w layer k.root k.above))) tt tt
       (subst (λ (o : Option HeadView). IsSomeAnd o (λ v. (IsRootOf layer.root v × ((Moved ≡ Moved) × (record tidy { stage = KeepsLayer layer } ≡ record tidy { stage = HeadMarked layer }))) ⊎ ((IsRootOf layer.root v → ⊥) × ((Moved ≡ Moved) × (record tidy { stage = KeepsLayer layer } ≡ record tidy { stage = KeepsLayer layer }))))) (sym named) (inr (lost, (refl, refl))))
 
   module _ (h : HeadView) (named : head_at a.nodes t ≡ Some h) (root : IsRootOf layer.root h) where
@@ -161,6 +163,7 @@ module _ (epoch : ℕ) (a : ArenaView) (tidy : Tidy) (layer : Layer) (is : tidy.
                 b = k.above.border.b;
                 named = border_same a t h named layer.above.0 k.above.border.b k.above.border.named;
                 locked = k.above.border.locked;
+                alive = k.above.border.alive;
                 prefix = k.above.border.prefix;
                 stands = k.above.border.stands;
                 free = λ i. elim (among_cases layer.above.0 h.root.0 w.closing i) [
@@ -211,7 +214,7 @@ module _ (epoch : ℕ) (a : ArenaView) (tidy : Tidy) (layer : Layer) (is : tidy.
         let Then : ArenaView → World → Type 0 = λ x next. StageIsTrue begun tidy.key tidy.way (RootMarked layer) x next in
         subst (λ (x : ArenaView). Goes epoch a x w owned owned (Then x) × SameContent (arena_seen a) (arena_seen x)) (sym value) (
           goes_border a n b with_deleted named epoch w owned owned (Then new) world kept.index (keys_same a new kept.content world.keys) (mine_free a n w owned (later first)) (λ other i. inl i) (λ other ne i. i) (λ locked. later first)
-              (locked_kept a epoch w.chart n (subst (λ (x : Option Node). IsLocked x) (sym (node-from_border a.nodes n b named)) k.root.locked) world.retired, λ i. k.root.locked) (
+              (locked_kept a epoch w.chart n (subst (λ (x : Option Node). IsLocked x) (sym (node-from_border a.nodes n b named)) k.root.locked) world.retired, λ i. k.root.locked, alive_changed a n b with_deleted named w.chart (inl k.root.locked)) (
                 record {
                   root = record { b = with_deleted b; named = now_named a n b with_deleted named; known = k.root.known; locked = k.root.locked; empty = k.root.empty; right = k.root.right };
                   above = above_beside a w n b with_deleted layer named (layer_apart a w layer k.root k.above) k.above;
@@ -234,7 +237,7 @@ module _ (epoch : ℕ) (a : ArenaView) (tidy : Tidy) (layer : Layer) (is : tidy.
         let (u, g, k) = truth in
         let n : ℕ = layer.above.0 in
         let differ : layer.root.0 ≢ n = λ e. still_on _ _ _ _ _ _ (sym (ap w.chart e ∙ u.stands.place) ∙ g.place) in
-        goes_unlocked epoch a w n u.b u.named u.locked u.free (known_some w n _ u.stands.place) (layer.root.0 ∷ layer.head.0 ∷ []) (λ i. elim (among_cases n layer.root.0 (layer.head.0 ∷ []) i) [
+        goes_unlocked epoch a w n u.b u.named u.locked u.alive u.free (known_some w n _ u.stands.place) (layer.root.0 ∷ layer.head.0 ∷ []) (λ i. elim (among_cases n layer.root.0 (layer.head.0 ∷ []) i) [
           | inl e ↦ differ (sym e)
           | inr j ↦ head_apart a layer.head.0 n k.head.h u.b k.head.named u.named (among_one n layer.head.0 j)
         ]) world after value keeps (λ x next. StageIsTrue begun tidy.key tidy.way (LayerGone layer.root layer.head) x next)
@@ -302,11 +305,12 @@ module _ (epoch : ℕ) (a : ArenaView) (tidy : Tidy) (layer : Layer) (is : tidy.
     steps = λ begun w world before truth.
         let (u, r, apart) = truth in
         let n : ℕ = layer.above.0 in
-        goes_unlocked epoch a w n u.b u.named u.locked u.free u.known (layer.root.0 ∷ []) (λ i. apart (among_one n layer.root.0 i)) world after value keeps (λ x next. StageIsTrue begun tidy.key tidy.way (KeepsBorder layer.root) x next) (record {
+        goes_unlocked epoch a w n u.b u.named u.locked u.alive u.free u.known (layer.root.0 ∷ []) (λ i. apart (among_one n layer.root.0 i)) world after value keeps (λ x next. StageIsTrue begun tidy.key tidy.way (KeepsBorder layer.root) x next) (record {
           b = r.b;
           named = ap (option_and_then border_of) (others_named a n u.b unlocked_one u.named layer.root.0 (λ e. apart (sym e))) ∙ r.named;
           known = r.known;
           locked = r.locked;
+          alive = r.alive;
           free = r.free;
         });
   }) tt tt (refl, refl)

@@ -1,6 +1,6 @@
 -- The steps that take an empty border out, up to its mark: it is dropped from the interior that names it, or the tidy gives up.
 use Rattle.std.proofs.Common.{ℕ, ◌≡◌, ◌≢◌, ◌-◌, inl, inr, List, [], ◌∷◌, slice_get, Option, Some, None, IsSome, Bool, true, false, refl, sym, ap, subst, ◌∙◌, arith}
-use Rattle.std.specs.Prelude.{IsSomeAnd}
+use Rattle.std.specs.Prelude.{◌<◌, ◌^◌, IsSomeAnd}
 use Rattle.std.specs.Option.{option_and_then}
 use Rattle.mt_types.specs.declared.numbers.NodeNo.{NodeNo}
 use Rattle.mt_types.specs.declared.event.Answer.TheVariants.{Tidied}
@@ -10,6 +10,8 @@ use Rattle.mt_interior.specs.Interior.{InteriorView, without_child}
 use Rattle.mt_interior.specs.declared.child.Child.{Child}
 use Rattle.mt_arena.specs.Node.{node_at, interior_at, border_at}
 use Rattle.mt_arena.specs.Arena.{ArenaView, with_interior_changed, with_border_changed}
+use Rattle.mt_arena.specs.declared.node.Node.TheVariants.{Border}
+use Rattle.mt_arena.proofs.NodeLemmas.{node-from_border}
 use Rattle.mt_chart.specs.Tree.{Among, first, later}
 use Rattle.mt_chart.specs.Chart.{top, at_level, Standing, on, Spot, spot, Chart}
 use Rattle.mt_chart.specs.Steps.{SameContent}
@@ -23,8 +25,9 @@ use Rattle.mt_calls.specs.declared.progress.Progress.TheVariants.{Moved, Answere
 use Rattle.mt_calls.specs.World.{World, IsWorld, IsLockedBorder, Goes}
 use Rattle.mt_calls.specs.Way.{prefix_of}
 use Rattle.mt_calls.proofs.SplitLemmas.{with_spot, spot_changes}
+use Rattle.mt_calls.proofs.AliveLemmas.{alive_node, alive_there, alive_placed}
 use Rattle.mt_calls.proofs.BorderLemmas.{now_named, keys_same, known_stays, goes_border, locked_may, mine_free, on_kept}
-use Rattle.mt_calls.proofs.NodeLemmas.{at_chart, goes_beside, heads_beside, heads_were, interior_others, interior_no_head, interior_no_border, interior_border, interior_taken, interior_is_taken, not_both, known_some, seen_on, free_no_twin, unlocked_no}
+use Rattle.mt_calls.proofs.NodeLemmas.{at_chart, goes_beside, heads_beside, heads_were, interior_others, interior_no_head, interior_no_border, interior_alive, interior_border, interior_taken, interior_is_taken, not_both, known_some, seen_on, free_no_twin, unlocked_no}
 use Rattle.mt_remove.specs.declared.tidy.Tidy.{Tidy}
 use Rattle.mt_remove.specs.declared.stage.Stage.TheVariants.{Locked, Dropped, Marked, KeepsBorder}
 use Rattle.mt_remove.specs.Seen.{later_place}
@@ -32,9 +35,9 @@ use Rattle.mt_remove.specs.Tidy.{StageIsTrue, IsEmptyBorder, StageLaw, MayTidy}
 use Rattle.mt_remove.specs.Follows.{DropsBy, TidyStep}
 use Rattle.mt_remove.proofs.StageLemmas.{at_stage, true_at, law_same, holds_known, known_there, IsSeen, named_so, later_seen, some_by}
 
--- an empty border that the call has locked is a locked border
-pub empty_locked : (a : ArenaView) (w : World) (number : ℕ) (prefix : List ℕ) (posted : Bool) → IsEmptyBorder a w number prefix posted → IsLockedBorder a w number
-empty_locked a w number prefix posted e = record { b = e.b; named = e.named; known = known_some w number _ e.place; locked = e.locked; free = e.free }
+-- an empty border that the call has locked, and that is not marked deleted, is a locked border
+pub empty_locked : (a : ArenaView) (w : World) (number : ℕ) (prefix : List ℕ) (posted : Bool) (e : IsEmptyBorder a w number prefix posted) → e.b.version.deleted ≡ false → IsLockedBorder a w number
+empty_locked a w number prefix posted e alive = record { b = e.b; named = e.named; known = known_some w number _ e.place; locked = e.locked; alive = alive; free = e.free }
 
 -- ---- it is dropped
 module _ (epoch : ℕ) (a : ArenaView) (tidy : Tidy) (border head parent : NodeNo) (is : tidy.stage ≡ Locked border head parent) where
@@ -42,12 +45,12 @@ module _ (epoch : ℕ) (a : ArenaView) (tidy : Tidy) (border head parent : NodeN
   n = parent.0
 
   pub parent_there : MayTidy epoch a tidy → IsSome (node_at a.nodes n)
-  parent_there may = let (e, known, held) = true_at epoch a tidy (Locked border head parent) is may in known_there a epoch may.begun may.w n (prefix_of tidy.key tidy.way) may.world held
+  parent_there may = let (empty, known, held) = true_at epoch a tidy (Locked border head parent) is may in known_there a epoch may.begun may.w n (prefix_of tidy.key tidy.way) may.world held
 
   -- the interior doesn't name it any more, or not as a later child
   pub gives_up : IsSomeAnd (node_at a.nodes n) (λ node. None ≡ later_place node border) → TidyStep epoch a a tidy Moved (record tidy { stage = KeepsBorder border })
   gives_up none = at_stage epoch a a tidy (Locked border head parent) Moved (record tidy { stage = KeepsBorder border }) is refl refl
-      (law_same epoch a tidy (Locked border head parent) Moved (record tidy { stage = KeepsBorder border }) refl (λ begun w world truth. let ((posted, e), known, held) = truth in empty_locked a w border.0 (prefix_of tidy.key tidy.way) posted e)) tt tt
+      (law_same epoch a tidy (Locked border head parent) Moved (record tidy { stage = KeepsBorder border }) refl (λ begun w world truth. let ((posted, e, alive), known, held) = truth in empty_locked a w border.0 (prefix_of tidy.key tidy.way) posted e alive)) tt tt
       (some_by (node_at a.nodes n) _ _ (λ node e. subst (λ (o : Option ℕ). DropsBy tidy border head o Moved (record tidy { stage = KeepsBorder border })) e (refl, refl)) none)
 
   module _ (place : ℕ) (found : IsSomeAnd (node_at a.nodes n) (λ node. Some place ≡ later_place node border)) (named : IsSomeAnd (child_at a.nodes n place) (λ there. there.node ≡ border)) where
@@ -91,7 +94,7 @@ module _ (epoch : ℕ) (a : ArenaView) (tidy : Tidy) (border head parent : NodeN
       drops_law : KeepsAlong a new (DropsAt n child) → StageLaw epoch a new tidy (Locked border head parent) Moved (record tidy { stage = Dropped border head })
       drops_law keeps = record {
         steps = λ begun w world before truth.
-            let ((posted, e), known, held) = truth in
+            let ((posted, e, alive), known, held) = truth in
             let prefix = prefix_of tidy.key tidy.way in
             let h = holds_known begun w n prefix held in
             let stands = seen_on a w.chart begun n held.low prefix i world.index.tree h i_named seen.alive seen.unlocked in
@@ -111,6 +114,8 @@ module _ (epoch : ℕ) (a : ArenaView) (tidy : Tidy) (border head parent : NodeN
             let is_known = known_some w n _ stands.place in
             goes_beside epoch a new w chart n border.0 (Some there) _ world kept refl (on_kept a epoch w.chart n _ _ _ _ stands.place world.retired) (interior_others a n i change i_named) charted
             (heads_beside a new w.chart chart n (heads_were w.chart chart border.0 0 e.b.low prefix (on false) charted) (interior_no_head a n i change i_named) (interior_no_border a n i change i_named) (interior_others a n i change i_named) world.heads)
+            (alive_there a new chart n (interior_alive a n i change i_named chart (inr seen.alive)) (interior_others a n i change i_named)
+            (alive_placed a w.chart chart border.0 (Some there) charted (alive_node a chart border.0 (Border e.b) (node-from_border a.nodes border.0 e.b e.named) (inl e.locked)) world.alive))
             no_lock
             (λ taken. not_both i.version.locked (w.chart n) seen.unlocked is_known (interior_is_taken a n i w i_named taken))
             (λ taken. not_both i.version.locked (chart n) seen.unlocked (known_stays w.chart chart n (kept.evolves 0 (omega arith)) is_known) (interior_taken a n i change i_named (at_chart w chart) taken)) (
@@ -130,8 +135,8 @@ module _ (epoch : ℕ) (a : ArenaView) (tidy : Tidy) (border head parent : NodeN
 
 -- ---- it is marked deleted
 module _ (epoch : ℕ) (a : ArenaView) (tidy : Tidy) (border head : NodeNo) (is : tidy.stage ≡ Dropped border head) where
-  pub marks : (b : BorderView) (slice : ℕ) (after : ArenaView) → border_at a.nodes border.0 ≡ Some b → slice ≡ b.low - 1 → after ≡ with_border_changed a border.0 with_deleted → KeepsTree a after → TidyStep epoch a after tidy Moved (record tidy { stage = Marked border head head slice })
-  marks b slice after read low_is value keeps = at_stage epoch a after tidy (Dropped border head) Moved (record tidy { stage = Marked border head head slice }) is refl (ap (λ (x : ArenaView). x.retired) value) (record {
+  pub marks : (b : BorderView) (slice : ℕ) (after : ArenaView) → border_at a.nodes border.0 ≡ Some b → slice ≡ b.low - 1 → slice < 2 ^ 64 → after ≡ with_border_changed a border.0 with_deleted → KeepsTree a after → TidyStep epoch a after tidy Moved (record tidy { stage = Marked border head head slice })
+  marks b slice after read low_is within value keeps = at_stage epoch a after tidy (Dropped border head) Moved (record tidy { stage = Marked border head head slice }) is refl (ap (λ (x : ArenaView). x.retired) value) (record {
     steps = λ begun w world before truth.
         let (e, known) = truth in
         let prefix = prefix_of tidy.key tidy.way in
@@ -142,7 +147,7 @@ module _ (epoch : ℕ) (a : ArenaView) (tidy : Tidy) (border head : NodeNo) (is 
         let Then : ArenaView → World → Type 0 = λ x next. StageIsTrue begun tidy.key tidy.way (Marked border head head slice) x next in
         subst (λ (x : ArenaView). Goes epoch a x w (border.0 ∷ []) (border.0 ∷ []) (Then x) × SameContent (arena_seen a) (arena_seen x)) (sym value) (
           goes_border a border.0 e.b with_deleted e.named epoch w (border.0 ∷ []) (border.0 ∷ []) (Then new) world kept.index (keys_same a new kept.content world.keys) (mine_free a border.0 w (border.0 ∷ []) first) (λ other i. inl i) (λ other ne i. i) (λ locked. first)
-              (locked_may a border.0 e.b with_deleted e.named epoch w world e.locked e.free) (record {
+              (locked_may a border.0 e.b with_deleted e.named epoch w world e.locked e.free (inl e.locked)) (record {
                 border = record { b = with_deleted e.b; named = now_named a border.0 e.b with_deleted e.named; locked = e.locked; empty = e.empty; later = e.later; place = e.place; free = e.free };
                 marked = refl;
                 before = let above = e.later in omega (arith, low, above);
@@ -151,7 +156,7 @@ module _ (epoch : ℕ) (a : ArenaView) (tidy : Tidy) (border head : NodeNo) (is 
               }),
           kept.content,
         );
-  }) tt tt (slice, (refl, refl))
+  }) tt tt (slice, within, (refl, refl))
 
 -- ---- it is unlocked as it was
 module _ (epoch : ℕ) (a : ArenaView) (tidy : Tidy) (border : NodeNo) (is : tidy.stage ≡ KeepsBorder border) where
@@ -166,7 +171,7 @@ module _ (epoch : ℕ) (a : ArenaView) (tidy : Tidy) (border : NodeNo) (is : tid
         subst (λ (x : ArenaView). Goes epoch a x w (border.0 ∷ []) [] (λ next. Unit {0}) × SameContent (arena_seen a) (arena_seen x)) (sym value) (
           goes_border a border.0 at.b unlock at.named epoch w (border.0 ∷ []) [] (λ next. Unit {0}) world kept.index (keys_same a new kept.content world.keys) (mine_free a border.0 w (border.0 ∷ []) first) (λ other i. elim i [ ]) (λ other ne i. absurd (only other ne i))
               (λ taken. absurd (elim taken [ inl locked ↦ (let clash : false ≡ true = locked in cc) | inr none ↦ (let some : IsSome (let nothing : Option Spot = None in nothing) = subst (λ (x : Option Spot). IsSome x) none at.known in cc) ]))
-              (locked_may a border.0 at.b unlock at.named epoch w world at.locked at.free) tt,
+              (locked_may a border.0 at.b unlock at.named epoch w world at.locked at.free (inr at.alive)) tt,
           kept.content,
         );
   }) tt tt refl

@@ -9,18 +9,19 @@ use Rattle.mt_arena.specs.Arena.{ArenaView, with_border_changed}
 use Rattle.mt_arena.specs.declared.node.Node.{Node}
 use Rattle.mt_arena.proofs.NodeLemmas.{node-from_head, node-from_border}
 use Rattle.mt_chart.specs.Tree.{Among, first, later}
-use Rattle.mt_chart.specs.Chart.{top, at_level, gone, on, Spot, spot, OnHead, Owns, by_head}
+use Rattle.mt_chart.specs.Chart.{top, at_level, gone, on, Spot, spot, Chart, OnHead, Owns, by_head}
 use Rattle.mt_chart.specs.Steps.{SameContent, AreTwins}
 use Rattle.mt_chart.proofs.Basics.{same_number}
 use Rattle.mt_tree.specs.Seen.{arena_seen}
 use Rattle.mt_tree.specs.BorderSteps.{DropsLayerAt}
 use Rattle.mt_tree.proofs.SeenLemmas.{seen-head}
 use Rattle.mt_calls.specs.declared.progress.Progress.TheVariants.{Moved}
-use Rattle.mt_calls.specs.World.{World, IsWorld, HeadsStand, IsLocked, IsSame, NotAmong, Goes}
+use Rattle.mt_calls.specs.World.{World, IsWorld, HeadsStand, FreeAreAlive, IsLocked, IsSame, NotAmong, Goes}
 use Rattle.mt_calls.proofs.FrameLemmas.{is_among, taken_back}
-use Rattle.mt_calls.proofs.BorderLemmas.{keys_same, no_interior, twins_changed, retired_kept, locked_kept, on_kept, roots_kept, now_named, others_named}
+use Rattle.mt_calls.proofs.BorderLemmas.{alive_changed, keys_same, no_interior, twins_changed, retired_kept, locked_kept, on_kept, roots_kept, now_named, others_named}
 use Rattle.mt_calls.proofs.LayerLemmas.{head_apart}
 use Rattle.mt_calls.proofs.SplitLemmas.{with_spot, spot_changes}
+use Rattle.mt_calls.proofs.AliveLemmas.{alive_gone, alive_there, alive_placed}
 use Rattle.mt_remove.specs.declared.tidy.Tidy.{Tidy}
 use Rattle.mt_remove.specs.declared.stage.Layer.{Layer}
 use Rattle.mt_remove.specs.declared.stage.Stage.TheVariants.{RootMarked, LinkHidden}
@@ -127,6 +128,15 @@ module _ (now : ℕ) (a : ArenaView) (w : World) (layer : Layer) (k : IsClosing 
       free_above : NotAmong n w.closing
       free_above = k.above.border.free
 
+  abbrev between : Chart
+  between = with_spot w.chart r (gone_root now below)
+
+  -- the border above is not marked deleted, and the two are gone
+  alive_hidden : FreeAreAlive new next.chart
+  alive_hidden = alive_there a new next.chart n (alive_changed a n b hide named next.chart (inr k.above.border.alive)) others
+      (alive_placed a between next.chart t (Some (gone_head now below)) (spot_changes between t (gone_head now below)) (alive_gone a next.chart t top below 0 now head_goes)
+      (alive_placed a w.chart between r (Some (gone_root now below)) (spot_changes w.chart r (gone_root now below)) (alive_gone a between r (at_level 0) below 0 now (spot_changes w.chart r (gone_root now below)).now) world.alive))
+
   is_hidden : (other : ℕ) → NotAmong other (layer_owns layer) → IsSame a new w next other
   is_hidden other out = record {
     node = others other (λ e. out (subst (λ (m : ℕ). Among m (layer_owns layer)) (sym e) first));
@@ -142,6 +152,7 @@ module _ (now : ℕ) (a : ArenaView) (w : World) (layer : Layer) (k : IsClosing 
     b = hide b;
     named = now_named a n b hide named;
     locked = k.above.border.locked;
+    alive = k.above.border.alive;
     prefix = k.above.border.prefix;
     stands = record {
       low = k.above.border.stands.low;
@@ -183,6 +194,7 @@ module _ (now : ℕ) (a : ArenaView) (w : World) (layer : Layer) (k : IsClosing 
             index = kept.index;
             keys = keys_same a new kept.content world.keys;
             heads = heads_hidden;
+            alive = alive_hidden;
             twins = twins_changed a n b hide named w.chart next.chart w.twins (kept.evolves 0 (omega arith)) world.twins;
             retired = retired_kept a new now w.chart next.chart n (kept.evolves 0 (omega arith)) (on_kept a now w.chart n _ _ _ _ k.above.border.stands.place world.retired) others refl world.retired;
           };
@@ -192,6 +204,7 @@ module _ (now : ℕ) (a : ArenaView) (w : World) (layer : Layer) (k : IsClosing 
             | inl i ↦ inl i
             | inr out ↦ inr (taken_back a new w next number (is_hidden number out) taken, out)
           ];
+          spots = λ number out apart. (is_hidden number out).spot;
           true = (still_above, then_gone, head_then_gone);
         },
         kept.content,

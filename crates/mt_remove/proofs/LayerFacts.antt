@@ -1,5 +1,5 @@
 -- What a tidy knows of the nodes of a layer that it takes out: they are three, and each is as it was where another changes.
-use Rattle.std.proofs.Common.{ℕ, ◌≡◌, ◌≢◌, List, [], slice_get, Option, Some, IsSome, sym, ap, subst, ◌∙◌}
+use Rattle.std.proofs.Common.{ℕ, ◌≡◌, ◌≢◌, List, [], slice_get, Option, Some, IsSome, false, sym, ap, subst, ◌∙◌}
 use Rattle.std.specs.Option.{option_and_then}
 use Rattle.mt_border.specs.Border.{BorderView}
 use Rattle.mt_border.specs.declared.entry.Entry.{Entry}
@@ -14,12 +14,12 @@ use Rattle.mt_remove.specs.declared.stage.Layer.{Layer}
 use Rattle.mt_remove.specs.Tidy.{IsEmptyRoot, IsAbove, HasLayer, IsOwnHead, IsGoneBorder, IsGoneHead}
 
 -- ---- they are locked
--- an empty border that is no closing one is a locked border
-pub root_locked : (a : ArenaView) (w : World) (number : ℕ) → IsEmptyRoot a w number → NotAmong number w.closing → IsLockedBorder a w number
-root_locked a w number e free = record { b = e.b; named = e.named; known = e.known; locked = e.locked; free = free }
+-- an empty border that is not marked deleted, and is no closing one, is a locked border
+pub root_locked : (a : ArenaView) (w : World) (number : ℕ) (e : IsEmptyRoot a w number) → e.b.version.deleted ≡ false → NotAmong number w.closing → IsLockedBorder a w number
+root_locked a w number e alive free = record { b = e.b; named = e.named; known = e.known; locked = e.locked; alive = alive; free = free }
 
 pub above_locked : (a : ArenaView) (w : World) (number : ℕ) → IsAbove a w number → IsLockedBorder a w number
-above_locked a w number e = record { b = e.b; named = e.named; known = known_some w number _ e.stands.place; locked = e.locked; free = e.free }
+above_locked a w number e = record { b = e.b; named = e.named; known = known_some w number _ e.stands.place; locked = e.locked; alive = e.alive; free = e.free }
 
 -- ---- they are three
 pub same_border : (a : ArenaView) (number : ℕ) (b c : BorderView) → border_at a.nodes number ≡ Some b → border_at a.nodes number ≡ Some c → b ≡ c
@@ -36,7 +36,7 @@ layer_apart a w layer root above e =
 
 -- ---- where another border changes
 -- an empty border is as it was
-pub root_beside : (a : ArenaView) (w next : World) (n number : ℕ) (b : BorderView) (change : BorderView → BorderView) → border_at a.nodes n ≡ Some b → number ≢ n → next.chart number ≡ w.chart number → IsEmptyRoot a w number → IsEmptyRoot (with_border_changed a n change) next number
+unfoldable pub root_beside : (a : ArenaView) (w next : World) (n number : ℕ) (b : BorderView) (change : BorderView → BorderView) → border_at a.nodes n ≡ Some b → number ≢ n → next.chart number ≡ w.chart number → IsEmptyRoot a w number → IsEmptyRoot (with_border_changed a n change) next number
 root_beside a w next n number b change named differ same e = record {
   b = e.b;
   named = ap (option_and_then border_of) (others_named a n b change named number differ) ∙ e.named;
@@ -53,6 +53,7 @@ above_beside a w n b change layer named differ x = record {
     b = x.border.b;
     named = ap (option_and_then border_of) (others_named a n b change named layer.above.0 differ) ∙ x.border.named;
     locked = x.border.locked;
+    alive = x.border.alive;
     prefix = x.border.prefix;
     stands = x.border.stands;
     free = x.border.free;

@@ -9,3 +9,4 @@ pub mod HidingLemmas
 pub mod ClosingLemmas
 pub mod LawLemmas
 pub mod TidyLasts
+pub mod LoneTidy

@@ -33,8 +33,9 @@ use Rattle.mt_calls.specs.Way.{prefix_of, IsHeadOf}
 use Rattle.mt_calls.proofs.FoundLemmas.{some_at}
 use Rattle.mt_calls.proofs.LayerLemmas.{content_twice}
 use Rattle.mt_calls.proofs.SplitLemmas.{with_spot, spot_changes}
+use Rattle.mt_calls.proofs.AliveLemmas.{alive_node, alive_gone, alive_there, alive_placed}
 use Rattle.mt_calls.proofs.BorderLemmas.{known_stays, no_interior, no_root, roots_kept, on_kept}
-use Rattle.mt_calls.proofs.NodeLemmas.{at_chart, goes_kept, goes_at, goes_beside, twins_lone, heads_beside, heads_were, interior_now, interior_others, interior_no_head, interior_no_border, interior_taken, interior_is_taken, alive_free, not_both, known_some, root_place, seen_on, head_there, free_no_twin, unlocked_no}
+use Rattle.mt_calls.proofs.NodeLemmas.{at_chart, goes_kept, goes_at, goes_beside, twins_lone, heads_beside, heads_were, interior_now, interior_others, interior_no_head, interior_no_border, interior_alive, interior_taken, interior_is_taken, alive_free, not_both, known_some, root_place, seen_on, head_there, free_no_twin, unlocked_no}
 use Rattle.mt_calls.proofs.RetireLemmas.{goes_retired}
 use Rattle.mt_remove.specs.declared.noted.Namer.{Namer}
 use Rattle.mt_remove.specs.declared.noted.Namer.TheVariants.{Head as NamedByHead, Interior as NamedByInterior}
@@ -90,10 +91,11 @@ module _ (epoch : ℕ) (a : ArenaView) (tidy : Tidy) (lone : Lone) (is : tidy.st
           let free : IsTaken a w p → ⊥ = λ taken. not_both i.version.locked (w.chart p) has.seen.unlocked (known_some w p _ stands.place) (interior_is_taken a p i w i_named taken) in
           goes_at epoch a new w w.chart p [] (p ∷ []) _ world kept refl (on_kept a epoch w.chart p _ _ _ _ stands.place world.retired) others (λ other out. refl)
           (heads_beside a new w.chart w.chart p (λ number q h. h) (interior_no_head a p i lock i_named) (interior_no_border a p i lock i_named) others world.heads)
+          (alive_there a new w.chart p (interior_alive a p i lock i_named w.chart (inl refl)) others world.alive)
           no_lock (λ taken out. free taken)
           (λ other taken out k. elim (among_cases other p [] k) [ inl e ↦ free (subst (λ (m : ℕ). IsTaken a w m) e taken) | inr j ↦ out j ])
           (λ other k taken. elim k [ ]) (λ out taken. first) (
-            record { i = lock i; named = interior_now a p i lock i_named; locked = refl; stands = stands; apart = free_no_twin a w.chart w.twins p no_lock world.twins; one = has.one },
+            record { i = lock i; named = interior_now a p i lock i_named; locked = refl; alive = has.seen.alive; stands = stands; apart = free_no_twin a w.chart w.twins p no_lock world.twins; one = has.one },
             namer,
           );
     }
@@ -195,8 +197,8 @@ module _ (epoch : ℕ) (a : ArenaView) (tidy : Tidy) (lone : Lone) (is : tidy.st
           go None at same w prefix child world l stands read = absurd same
           go (Some there) at same w prefix child world l stands read = lower_so w prefix child there world l stands read (sym (ap (option_and_then (λ (x : InteriorView). slice_get x.children place)) j_named) ∙ at) same
 
-      bypass_law : (change : InteriorView → InteriorView) → KeepsAlong a (with_interior_changed a m change) (BypassesAt m q) → (change j).version.locked ≡ false → StageLaw epoch a (with_interior_changed a m change) tidy (LoneLocked lone) Moved (record tidy { stage = Bypassed lone.interior ChildRule })
-      bypass_law change keeps unlocked = record {
+      bypass_law : (change : InteriorView → InteriorView) → KeepsAlong a (with_interior_changed a m change) (BypassesAt m q) → (change j).version.locked ≡ false → (change j).version.deleted ≡ false → StageLaw epoch a (with_interior_changed a m change) tidy (LoneLocked lone) Moved (record tidy { stage = Bypassed lone.interior ChildRule })
+      bypass_law change keeps unlocked alive = record {
         steps = λ begun w world before truth.
             let (l, namer) = truth in
             let prefix = prefix_of tidy.key tidy.way in
@@ -211,6 +213,8 @@ module _ (epoch : ℕ) (a : ArenaView) (tidy : Tidy) (lone : Lone) (is : tidy.st
             let apart : q ≢ m = λ e. clash_locked l.i l.locked (ap (λ (x : ℕ). interior_at a.nodes x) (sym e) ∙ l.named) in
             goes_beside epoch a new w chart m q (Some there) _ world kept refl (on_kept a epoch w.chart m _ _ _ _ stands.place world.retired) (interior_others a m j change j_named) charted
             (heads_beside a new w.chart chart m (heads_were w.chart chart q l.stands.level l.stands.low prefix (gone epoch) charted) (interior_no_head a m j change j_named) (interior_no_border a m j change j_named) (interior_others a m j change j_named) world.heads)
+            (alive_there a new chart m (interior_alive a m j change j_named chart (inr alive)) (interior_others a m j change j_named)
+            (alive_placed a w.chart chart q (Some there) charted (alive_gone a chart q (at_level l.stands.level) prefix l.stands.low epoch charted.now) world.alive))
             no_lock
             (λ taken. not_both j.version.locked (w.chart m) seen.unlocked is_known (interior_is_taken a m j w j_named taken))
             (λ taken. not_both (change j).version.locked (chart m) unlocked (known_stays w.chart chart m (kept.evolves 0 (omega arith)) is_known) (interior_taken a m j change j_named (at_chart w chart) taken))
@@ -231,7 +235,7 @@ module _ (epoch : ℕ) (a : ArenaView) (tidy : Tidy) (lone : Lone) (is : tidy.st
           go : (o : Option Child) → IsSomeAnd o (λ child. after ≡ with_interior_changed a m (λ x. with_bypass x place child.node child.level)) → StageLaw epoch a after tidy (LoneLocked lone) Moved (record tidy { stage = Bypassed lone.interior ChildRule })
           go None h = absurd h
           go (Some child) h = subst (λ (x : ArenaView). StageLaw epoch a x tidy (LoneLocked lone) Moved (record tidy { stage = Bypassed lone.interior ChildRule })) (sym h)
-              (bypass_law (λ x. with_bypass x place child.node child.level) (subst (λ (x : ArenaView). KeepsAlong a x (BypassesAt m q)) h keeps) seen.unlocked)
+              (bypass_law (λ x. with_bypass x place child.node child.level) (subst (λ (x : ArenaView). KeepsAlong a x (BypassesAt m q)) h keeps) seen.unlocked seen.alive)
 
   -- ---- by the head
   module _ (head : NodeNo) (by : lone.namer ≡ NamedByHead head) where
@@ -276,6 +280,8 @@ module _ (epoch : ℕ) (a : ArenaView) (tidy : Tidy) (lone : Lone) (is : tidy.st
             let apart : q ≢ n = λ e. no_head l.i (ap (λ (x : ℕ). interior_at a.nodes x) (sym e) ∙ l.named) in
             goes_beside epoch a new w chart n q (Some there) _ world kept refl (on_kept a epoch w.chart n _ _ _ _ stands world.retired) updated.others charted
             (heads_named w chart world (heads_were w.chart chart q l.stands.level l.stands.low prefix (gone epoch) charted))
+            (alive_there a new chart n (alive_node new chart n (Head (change h)) updated.changed (inr (ap (λ v. v.deleted) same ∙ root.0))) updated.others
+            (alive_placed a w.chart chart q (Some there) charted (alive_gone a chart q (at_level l.stands.level) prefix l.stands.low epoch charted.now) world.alive))
             (no_interior a w.chart n none_there)
             (λ taken. alive_free a n h w named free root.0 is_known taken)
             (λ taken. alive_free new n (change h) (at_chart w chart) now_is (ap (λ v. v.locked) same ∙ free) (ap (λ v. v.deleted) same ∙ root.0) (known_stays w.chart chart n (kept.evolves 0 (omega arith)) is_known) taken)
@@ -370,6 +376,7 @@ module _ (epoch : ℕ) (a : ArenaView) (tidy : Tidy) (interior : NodeNo) (is : t
         subst (λ (x : ArenaView). Goes epoch a x w (n ∷ []) [] (λ next. Unit {0}) × SameContent (arena_seen a) (arena_seen x)) (sym value)
         (goes_kept epoch a new w w.chart n (n ∷ []) [] (λ next. Unit {0}) world kept refl (on_kept a epoch w.chart n _ _ _ _ l.stands.place world.retired) others (λ other out. refl)
         (heads_beside a new w.chart w.chart n (λ number layer h. h) (interior_no_head a n l.i open_it l.named) (interior_no_border a n l.i open_it l.named) others world.heads)
+        (alive_there a new w.chart n (interior_alive a n l.i open_it l.named w.chart (inr l.alive)) others world.alive)
         (twins_lone a new w.chart w.chart w.twins n (evolves_same 0 w.chart) l.apart others world.twins)
         (λ taken out. absurd (out first)) (λ other taken out k. elim k [ ])
         (λ other k taken. elim (among_cases other n [] k) [ inl e ↦ absurd (free (subst (λ (x : ℕ). IsTaken new w x) e taken)) | inr j ↦ j ])

@@ -30,7 +30,7 @@ use Rattle.mt_calls.specs.Causes.{IsMarkedAt}
 use Rattle.mt_calls.specs.Way.{prefix_of, rest_of, went_by, IsOnWay, IsAtPlace, IsHeadOf, LeadsToHead, GoesTo, MayGo, Visits}
 use Rattle.mt_calls.proofs.GetLemmas.{may_go}
 use Rattle.mt_calls.proofs.WayLemmas.{starts, starts_at_head}
-use Rattle.mt_calls.proofs.BorderLemmas.{now_named, goes_border, keys_same, unlocked_free, unlocked_root, on_kept, among_one}
+use Rattle.mt_calls.proofs.BorderLemmas.{alive_changed, now_named, goes_border, keys_same, unlocked_free, unlocked_root, on_kept, among_one}
 use Rattle.mt_calls.proofs.SplitLemmas.{eqb-ne}
 use Rattle.mt_calls.proofs.NodeLemmas.{known_some}
 use Rattle.mt_remove.specs.declared.noted.Came.{Came}
@@ -93,7 +93,7 @@ module _ (epoch : ℕ) (a : ArenaView) (tidy : Tidy) (noted : Noted) (is : tidy.
 
   pub restarts : IsMarkedAt a tidy.way.node.0 → IsSomeAnd (node_at a.nodes tidy.way.node.0) (λ node. Again ≡ went_by tidy.way (node_visit (rest_of tidy.key tidy.way) node)) → TidyStep epoch a a tidy Waits (record tidy { way = start; stage = Seeks not_noted })
   restarts marked visit = at_stage epoch a a tidy (Seeks noted) Waits (record tidy { way = start; stage = Seeks not_noted }) is refl refl
-      (law_same epoch a tidy (Seeks noted) Waits (record tidy { way = start; stage = Seeks not_noted }) refl (λ begun w world truth. (starts a epoch w begun tidy.key world, record { head = starts_at_head a epoch w begun world; above = tt; came = tt; lone = tt }))) tt (inl marked)
+      (law_same epoch a tidy (Seeks noted) Waits (record tidy { way = start; stage = Seeks not_noted }) refl (λ begun w world truth. (starts a epoch w begun tidy.key world, record { head = starts_at_head a epoch w begun world; above = tt; came = tt; lone = tt }))) tt marked
       (some_by (node_at a.nodes tidy.way.node.0) _ _ (λ node e. subst (λ (t : Went). FollowsVisit a tidy noted node t Waits (record tidy { way = start; stage = Seeks not_noted })) e (refl, refl)) visit)
 
   pub moves : (next : Way) (went : Went) (then_noted : Noted) → went ≡ To next → Visits a tidy.key tidy.way went → IsSomeAnd (node_at a.nodes tidy.way.node.0) (λ node. To next ≡ went_by tidy.way (node_visit (rest_of tidy.key tidy.way) node)) → IsSomeAnd (node_at a.nodes tidy.way.node.0) (λ node. then_noted ≡ noted_from node tidy.way next noted)
@@ -113,7 +113,11 @@ module _ (epoch : ℕ) (a : ArenaView) (tidy : Tidy) (noted : Noted) (is : tidy.
       both : (o : Option Node) → IsSomeAnd o (λ node. To next ≡ went_by tidy.way (node_visit (rest_of tidy.key tidy.way) node)) → IsSomeAnd o (λ node. then_noted ≡ noted_from node tidy.way next noted)
           → IsSomeAnd o (λ node. FollowsVisit a tidy noted node (went_by tidy.way (node_visit (rest_of tidy.key tidy.way) node)) Moved (record tidy { way = next; stage = Seeks then_noted }))
       both None visit h = absurd h
-      both (Some node) visit h = subst (λ (t : Went). FollowsVisit a tidy noted node t Moved (record tidy { way = next; stage = Seeks then_noted })) visit (refl, ap (λ (x : Noted). record tidy { way = next; stage = Seeks x }) h)
+      both (Some node) visit h = subst (λ (t : Went). FollowsVisit a tidy noted node t Moved (record tidy { way = next; stage = Seeks then_noted })) visit (
+        refl,
+        ap (λ (x : Noted). record tidy { way = next; stage = Seeks x }) h,
+        subst (λ (t : Went). Visits a tidy.key tidy.way t) went_is visits,
+      )
 
   -- ---- at its place
   module _ (b : BorderView) (named : border_at a.nodes tidy.way.node.0 ≡ Some b) (at_place : IsHereBy a tidy.key tidy.way) where
@@ -286,8 +290,8 @@ module _ (epoch : ℕ) (a : ArenaView) (tidy : Tidy) (noted : Noted) (is : tidy.
           subst (λ (x : ArenaView). Goes epoch a x w [] (n ∷ []) (Then x) × SameContent (arena_seen a) (arena_seen x)) (sym value) (
             goes_border a n b lock named epoch w [] (n ∷ []) (Then new) world kept.index (keys_same a new kept.content world.keys)
                 (unlocked_free a n b lock named w [] unlocked (known_some w n _ stands.stands.place))
-                (λ other i. inr (among_one other n i)) (λ other ne i. elim i [ ]) (λ locked. first) (on_kept a epoch w.chart n _ _ _ _ stands.stands.place world.retired, λ i. refl) (
-                  (stands.stands.posted, record { b = lock b; named = now_named a n b lock named; locked = refl; empty = d.empty; later = d.low; place = stands.stands.place; free = unlocked_root a w.closing w.chart n b named unlocked world.heads }),
+                (λ other i. inr (among_one other n i)) (λ other ne i. elim i [ ]) (λ locked. first) (on_kept a epoch w.chart n _ _ _ _ stands.stands.place world.retired, λ i. refl, alive_changed a n b lock named w.chart (inl refl)) (
+                  (stands.stands.posted, record { b = lock b; named = now_named a n b lock named; locked = refl; empty = d.empty; later = d.low; place = stands.stands.place; free = unlocked_root a w.closing w.chart n b named unlocked world.heads }, ap (λ (x : BorderView). x.version.deleted) (sym same) ∙ at.alive),
                   truth.1.head,
                   subst (λ (c : Came). CameIsKnown begun (prefix_of tidy.key tidy.way) w c) d.came truth.1.came,
                 ),
@@ -310,8 +314,9 @@ module _ (epoch : ℕ) (a : ArenaView) (tidy : Tidy) (noted : Noted) (is : tidy.
           subst (λ (x : ArenaView). Goes epoch a x w [] (n ∷ []) (Then x) × SameContent (arena_seen a) (arena_seen x)) (sym value) (
             goes_border a n b lock named epoch w [] (n ∷ []) (Then new) world kept.index (keys_same a new kept.content world.keys)
                 (unlocked_free a n b lock named w [] unlocked (known_some w n _ stands.stands.place))
-                (λ other i. inr (among_one other n i)) (λ other ne i. elim i [ ]) (λ locked. first) (on_kept a epoch w.chart n _ _ _ _ stands.stands.place world.retired, λ i. refl) (record {
+                (λ other i. inr (among_one other n i)) (λ other ne i. elim i [ ]) (λ locked. first) (on_kept a epoch w.chart n _ _ _ _ stands.stands.place world.retired, λ i. refl, alive_changed a n b lock named w.chart (inl refl)) (record {
                   border = record { b = lock b; named = now_named a n b lock named; known = known_some w n _ stands.stands.place; locked = refl; empty = d.empty; right = d.right };
+                  alive = ap (λ (x : BorderView). x.version.deleted) (sym same) ∙ at.alive;
                   free = unlocked_root a w.closing w.chart n b named unlocked world.heads;
                   headed = truth.1.head;
                   within = truth.0.layer.within;

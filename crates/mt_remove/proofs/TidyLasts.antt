@@ -11,7 +11,7 @@ use Rattle.mt_arena.specs.Node.{head_of, interior_at, interior_of, border_at, bo
 use Rattle.mt_arena.specs.Arena.{ArenaView}
 use Rattle.mt_arena.specs.declared.node.Node.{Node}
 use Rattle.mt_arena.proofs.NodeLemmas.{node-from_interior, node-from_border}
-use Rattle.mt_chart.specs.Tree.{Among, first, later, head as plain_head, interior as plain_interior, Node as PlainNode}
+use Rattle.mt_chart.specs.Tree.{Among, first, later, head as plain_head, interior as plain_interior, PlainNode}
 use Rattle.mt_chart.specs.Chart.{top, at_level, gone, Spot, spot, Evolves}
 use Rattle.mt_chart.specs.Steps.{NoTwin}
 use Rattle.mt_chart.proofs.HeldNodes.{holds_kept}
@@ -84,6 +84,7 @@ module _ (a after : ArenaView) (w next : World) (begun : ℕ) (evolves : Evolves
     i = l.i;
     named = interior_stays number l.i same l.named;
     locked = l.locked;
+    alive = l.alive;
     stands = record { level = l.stands.level; low = l.stands.low; posted = l.stands.posted; place = same.spot ∙ l.stands.place };
     apart = twin_stays number same l.apart;
     one = l.one;
@@ -103,7 +104,7 @@ module _ (a after : ArenaView) (w next : World) (begun : ℕ) (evolves : Evolves
   }
 
   locked_stays : (number : ℕ) → IsSame a after w next number → IsLockedBorder a w number → IsLockedBorder after next number
-  locked_stays number s k = record { b = k.b; named = border_stays number k.b s k.named; known = subst (λ (x : Option Spot). IsSome x) (sym s.spot) k.known; locked = k.locked; free = λ i. k.free (s.closing i) }
+  locked_stays number s k = record { b = k.b; named = border_stays number k.b s k.named; known = subst (λ (x : Option Spot). IsSome x) (sym s.spot) k.known; locked = k.locked; alive = k.alive; free = λ i. k.free (s.closing i) }
 
   root_stays : (number : ℕ) → IsSame a after w next number → IsEmptyRoot a w number → IsEmptyRoot after next number
   root_stays number s e = record { b = e.b; named = border_stays number e.b s e.named; known = subst (λ (x : Option Spot). IsSome x) (sym s.spot) e.known; locked = e.locked; empty = e.empty; right = e.right }
@@ -113,6 +114,7 @@ module _ (a after : ArenaView) (w next : World) (begun : ℕ) (evolves : Evolves
     b = u.b;
     named = border_stays number u.b s u.named;
     locked = u.locked;
+    alive = u.alive;
     prefix = u.prefix;
     stands = record { low = u.stands.low; posted = u.stands.posted; place = s.spot ∙ u.stands.place };
     free = λ i. u.free (s.closing i);
@@ -142,7 +144,7 @@ module _ (a after : ArenaView) (w next : World) (begun : ℕ) (evolves : Evolves
   stage_stays : (key : List ℕ) (way : Way) (stage : Stage) → ((number : ℕ) → Among number (stage_owns stage) → IsSame a after w next number) → StageIsTrue begun key way stage a w → StageIsTrue begun key way stage after next
   unfolding empty_stays closing_stays root_stays
   stage_stays key way (Seeks noted) same t = (record { layer = t.0.layer; held = holds_kept begun way.node.0 _ _ w.chart next.chart evolves t.0.held }, noted_stays key way noted t.1)
-  stage_stays key way (Locked border head parent) same t = let ((posted, e), known, held) = t in ((posted, empty_stays border.0 (prefix_of key way) posted (same border.0 first) e), head_stays head.0 (prefix_of key way) known, known_stays parent.0 (prefix_of key way) held)
+  stage_stays key way (Locked border head parent) same t = let ((posted, e, alive), known, held) = t in ((posted, empty_stays border.0 (prefix_of key way) posted (same border.0 first) e, alive), head_stays head.0 (prefix_of key way) known, known_stays parent.0 (prefix_of key way) held)
   stage_stays key way (Dropped border head) same t = (empty_stays border.0 (prefix_of key way) false (same border.0 first) t.0, head_stays head.0 (prefix_of key way) t.1)
   stage_stays key way (Marked border head node slice) same t = record {
     border = empty_stays border.0 (prefix_of key way) false (same border.0 first) t.border;
@@ -169,6 +171,7 @@ module _ (a after : ArenaView) (w next : World) (begun : ℕ) (evolves : Evolves
   }
   stage_stays key way (RootLocked root head above) same t = record {
     border = root_stays root.0 (same root.0 first) t.border;
+    alive = t.alive;
     free = λ i. t.free ((same root.0 first).closing i);
     headed = head_stays head.0 (prefix_of key way) t.headed;
     within = t.within;
@@ -176,6 +179,7 @@ module _ (a after : ArenaView) (w next : World) (begun : ℕ) (evolves : Evolves
   }
   stage_stays key way (AboveLocked layer) same t = record {
     root = root_stays layer.root.0 (same layer.root.0 (later first)) t.root;
+    alive = t.alive;
     free = λ i. t.free ((same layer.root.0 (later first)).closing i);
     headed = head_stays layer.head.0 (prefix_of key way) t.headed;
     above = link_stays layer (same layer.above.0 first) t.above;
@@ -218,7 +222,7 @@ module _ (a : ArenaView) (w : World) (begun : ℕ) where
 
   stage_taken : (key : List ℕ) (way : Way) (stage : Stage) → StageIsTrue begun key way stage a w → (number : ℕ) → Among number (stage_owns stage) → IsTaken a w number
   stage_taken key way (Seeks noted) t number i = elim i [ ]
-  stage_taken key way (Locked border head parent) t number i = let ((posted, e), known, held) = t in border_taken border.0 number e.b e.named e.locked i
+  stage_taken key way (Locked border head parent) t number i = let ((posted, e, alive), known, held) = t in border_taken border.0 number e.b e.named e.locked i
   stage_taken key way (Dropped border head) t number i = border_taken border.0 number t.0.b t.0.named t.0.locked i
   stage_taken key way (Marked border head node slice) t number i = border_taken border.0 number t.border.b t.border.named t.border.locked i
   stage_taken key way (Unlinked border) t number i = border_taken border.0 number t.b t.named t.locked i
@@ -260,7 +264,7 @@ module _ (a : ArenaView) (w : World) (begun : ℕ) where
 
   stage_since : (now : ℕ) → IsWorld a now w → (key : List ℕ) (way : Way) (stage : Stage) → StageIsTrue begun key way stage a w → GoneSince begun w (stage_owns stage)
   stage_since now world key way (Seeks noted) t = λ number i. elim i [ ]
-  stage_since now world key way (Locked border head parent) t = let ((posted, e), known, held) = t in only_since begun w border.0 (border_no a now w border.0 e.b world e.named)
+  stage_since now world key way (Locked border head parent) t = let ((posted, e, alive), known, held) = t in only_since begun w border.0 (border_no a now w border.0 e.b world e.named)
   stage_since now world key way (Dropped border head) t = only_since begun w border.0 (border_no a now w border.0 t.0.b world t.0.named)
   stage_since now world key way (Marked border head node slice) t = only_since begun w border.0 (border_no a now w border.0 t.border.b world t.border.named)
   stage_since now world key way (Unlinked border) t = only_since begun w border.0 (border_no a now w border.0 t.b world t.named)

@@ -14,6 +14,7 @@ use Rattle.mt_arena.proofs.NodeLemmas.{node-from_border}
 use Rattle.mt_chart.specs.Tree.{Right}
 use Rattle.mt_chart.specs.Chart.{top, at_level, gone, Spot, spot, Chart, Holds, OnBorder}
 use Rattle.mt_chart.specs.Steps.{SameContent}
+use Rattle.mt_chart.specs.Walk.{Moves}
 use Rattle.mt_chart.proofs.HeldNodes.{border_is_on, evolves_same}
 use Rattle.mt_chart.proofs.TreeLemmas.{left_found}
 use Rattle.mt_tree.specs.Seen.{arena_seen, border_seen, right_seen}
@@ -28,7 +29,8 @@ use Rattle.mt_calls.specs.Way.{prefix_of}
 use Rattle.mt_calls.specs.Ranging.{IsHeldFor, IsAtSlice, KnowsOfSlice, Seeks}
 use Rattle.mt_calls.specs.Causes.{IsMarkedAt, IsLockedAlready}
 use Rattle.mt_calls.proofs.SplitLemmas.{with_spot, spot_changes}
-use Rattle.mt_calls.proofs.BorderLemmas.{now_named, others_named, no_interior, known_stays, heads_changed, twins_changed, unlocked_free, unlocked_root, on_kept}
+use Rattle.mt_calls.proofs.AliveLemmas.{alive_gone, alive_there, alive_placed}
+use Rattle.mt_calls.proofs.BorderLemmas.{alive_changed, now_named, others_named, no_interior, known_stays, heads_changed, twins_changed, unlocked_free, unlocked_root, on_kept}
 use Rattle.mt_calls.proofs.NodeLemmas.{at_chart, goes_beside, heads_were, known_some}
 use Rattle.mt_calls.proofs.RetireLemmas.{goes_retired}
 use Rattle.mt_remove.specs.declared.tidy.Tidy.{Tidy}
@@ -66,15 +68,15 @@ module _ (epoch : ℕ) (a : ArenaView) (tidy : Tidy) (border head node : NodeNo)
       })) tt (inl marked) (inl (marked, refl, refl))
 
   -- it goes on
-  pub goes_on : (next : NodeNo) (sought : Sought) → sought ≡ To next → Seeks a n slice sought → TidyStep epoch a a tidy Moved (record tidy { stage = Marked border head next slice })
-  goes_on next sought sought_is seeks = at_stage epoch a a tidy (Marked border head node slice) Moved (record tidy { stage = Marked border head next slice }) is refl refl
+  pub goes_on : (next : NodeNo) (sought : Sought) → sought ≡ To next → Seeks a n slice sought → ((to : NodeNo) → sought ≡ To to → Moves (arena_seen a) n to.0) → TidyStep epoch a a tidy Moved (record tidy { stage = Marked border head next slice })
+  goes_on next sought sought_is seeks moves = at_stage epoch a a tidy (Marked border head node slice) Moved (record tidy { stage = Marked border head next slice }) is refl refl
       (law_same epoch a tidy (Marked border head node slice) Moved (record tidy { stage = Marked border head next slice }) refl (λ begun w world u. record {
         border = u.border;
         marked = u.marked;
         before = u.before;
         headed = u.headed;
         held = subst (λ (s : Sought). KnowsOfSlice a w.chart begun n (prefix_of tidy.key tidy.way) slice s) sought_is (seeks.leads epoch w.twins w.chart begun (prefix_of tidy.key tidy.way) world.index u.held);
-      })) tt tt (inr (inr (inl (next, (refl, refl)))))
+      })) tt tt (inr (inr (inl (next, moves next sought_is, (refl, refl)))))
 
   -- it is at the border before it
   pub here : (sought : Sought) → sought ≡ Here → Seeks a n slice sought → MayTidy epoch a tidy → IsAtSlice a n slice
@@ -133,6 +135,8 @@ module _ (epoch : ℕ) (a : ArenaView) (tidy : Tidy) (border head node : NodeNo)
             let apart : border.0 ≢ n = λ x. clash_locked e.b e.locked (ap (λ (m : ℕ). border_at a.nodes m) (sym x) ∙ e.named) in
             goes_beside epoch a new w chart n border.0 (Some there) _ world kept refl (on_kept a epoch w.chart n _ _ _ _ on_border.place world.retired) (others_named a n c change at.named) charted
             (record { alive = λ number layer h place x. heads.alive number layer h (heads_were w.chart chart border.0 0 e.b.low prefix (gone epoch) charted number layer place) x; roots = heads.roots })
+            (alive_there a new chart n (alive_changed a n c change at.named chart (inr at.alive)) (others_named a n c change at.named)
+            (alive_placed a w.chart chart border.0 (Some there) charted (alive_gone a chart border.0 (at_level 0) prefix e.b.low epoch charted.now) world.alive))
             (no_interior a w.chart n (ap (option_and_then interior_of) (node-from_border a.nodes n c at.named)))
             (λ taken. unlocked_free a n c change at.named w [] unlocked is_known n taken (λ i. elim i [ ]) refl)
             (λ taken. unlocked_free new n (change c) (λ x. x) (now_named a n c change at.named) (at_chart w chart) [] unlocked (known_stays w.chart chart n (kept.evolves 0 (omega arith)) is_known) n taken (λ i. elim i [ ]) refl)

@@ -1,5 +1,5 @@
 -- Where a tidy stands after a step: said of the nodes before it, and of the tidy before and after it.
-use Rattle.std.specs.Prelude.{ℕ, ◌≡◌, ◌-◌, ◌⊎◌, Bool, true, false, List, [], ◌∷◌, ◌++◌, Option, Some, None, IsSomeAnd}
+use Rattle.std.specs.Prelude.{ℕ, ◌≡◌, ◌<◌, ◌^◌, ◌-◌, ◌⊎◌, Bool, true, false, List, [], ◌∷◌, ◌++◌, Option, Some, None, IsSomeAnd}
 use Rattle.mt_types.specs.declared.numbers.NodeNo.{NodeNo}
 use Rattle.mt_types.specs.declared.event.Answer.TheVariants.{Tidied}
 use Rattle.mt_types.specs.declared.event.TidyRule.{TidyRule}
@@ -11,6 +11,8 @@ use Rattle.mt_arena.specs.Node.{node_at, head_at, border_at}
 use Rattle.mt_arena.specs.Arena.{ArenaView}
 use Rattle.mt_arena.specs.declared.node.Node.{Node}
 use Rattle.mt_arena.specs.declared.retired.Retired.{Retired}
+use Rattle.mt_chart.specs.Walk.{Moves}
+use Rattle.mt_tree.specs.Seen.{arena_seen}
 use Rattle.mt_tree.specs.Descent.{node_visit}
 use Rattle.mt_calls.specs.declared.way.Way.{Way}
 use Rattle.mt_calls.specs.declared.way.Went.{Went}
@@ -18,7 +20,7 @@ use Rattle.mt_calls.specs.declared.way.Went.TheVariants.{Again, To, Here}
 use Rattle.mt_calls.specs.declared.progress.Progress.{Progress}
 use Rattle.mt_calls.specs.declared.progress.Progress.TheVariants.{Moved, Waits, Answered}
 use Rattle.mt_calls.specs.Causes.{IsMarkedAt, IsLockedAlready}
-use Rattle.mt_calls.specs.Way.{rest_of, went_by}
+use Rattle.mt_calls.specs.Way.{rest_of, went_by, Visits}
 use Rattle.mt_remove.specs.declared.noted.Came.TheVariants.{Head as FromHead}
 use Rattle.mt_remove.specs.declared.noted.Namer.{Namer}
 use Rattle.mt_remove.specs.declared.noted.Namer.TheVariants.{Head as NamedByHead, Interior as NamedByInterior}
@@ -67,6 +69,7 @@ FollowsVisit a tidy noted node Again p then =
     (p ≡ Waits) × (then ≡ record tidy { way = start; stage = Seeks not_noted })
 FollowsVisit a tidy noted node (To next) p then =
     (p ≡ Moved) × (then ≡ record tidy { way = next; stage = Seeks (noted_from node tidy.way next noted) })
+    × Visits a tidy.key tidy.way (To next)
 FollowsVisit a tidy noted node Here p then =
     IsSomeAnd (border_at a.nodes tidy.way.node.0) (λ b. Begins tidy noted b p then)
 
@@ -77,13 +80,13 @@ DropsBy tidy border head None p then = GoesTo tidy p then (KeepsBorder border)
 DropsBy tidy border head (Some place) p then = GoesTo tidy p then (Dropped border head)
 
 -- it waits where the node is marked deleted, and begins its way again at the head; or where the border before is
--- locked; else it goes on,
--- or the border is unlinked
+-- locked; else it goes on to a node to which this one leads, or the border is unlinked
 abbrev pub FollowsMarked : ArenaView → Tidy → NodeNo → NodeNo → NodeNo → ℕ → Progress → Tidy → Type 0
 FollowsMarked a tidy border head node slice p then =
     (IsMarkedAt a node.0 × (p ≡ Waits) × (then ≡ record tidy { stage = Marked border head head slice }))
     ⊎ ((IsLockedAlready a node.0 × (p ≡ Waits) × (then ≡ tidy))
-    ⊎ (((next : NodeNo) × GoesTo tidy p then (Marked border head next slice)) ⊎ GoesTo tidy p then (Unlinked border)))
+    ⊎ (((next : NodeNo) × Moves (arena_seen a) node.0 next.0 × GoesTo tidy p then (Marked border head next slice))
+    ⊎ GoesTo tidy p then (Unlinked border)))
 
 -- ---- an interior with one child
 -- it is locked where it still has the one child that was noted; or the tidy ends
@@ -130,10 +133,13 @@ FollowsAbove a tidy layer p then = IsSomeAnd (head_at a.nodes layer.head.0) (λ 
 
 -- ---- at each stage
 abbrev pub Follows : ArenaView → Tidy → Stage → Progress → Tidy → Type 0
-Follows a tidy (Seeks noted) p then = IsSomeAnd (node_at a.nodes tidy.way.node.0) (λ node. FollowsVisit a tidy noted node (went_by tidy.way (node_visit (rest_of tidy.key tidy.way) node)) p then)
+Follows a tidy (Seeks noted) p then =
+    IsSomeAnd (node_at a.nodes tidy.way.node.0)
+    (λ node. FollowsVisit a tidy noted node (went_by tidy.way (node_visit (rest_of tidy.key tidy.way) node)) p then)
 Follows a tidy (Locked border head parent) p then =
     IsSomeAnd (node_at a.nodes parent.0) (λ node. DropsBy tidy border head (later_place node border) p then)
-Follows a tidy (Dropped border head) p then = (slice : ℕ) × GoesTo tidy p then (Marked border head head slice)
+Follows a tidy (Dropped border head) p then =
+    (slice : ℕ) × (slice < 2 ^ 64) × GoesTo tidy p then (Marked border head head slice)
 Follows a tidy (Marked border head node slice) p then = FollowsMarked a tidy border head node slice p then
 Follows a tidy (Unlinked border) p then = Did BorderRule p
 Follows a tidy (Lonely lone) p then =
@@ -154,16 +160,13 @@ Follows a tidy (KeepsInterior interior) p then = Did NoRule p
 abbrev pub TidyFollows : ArenaView → Tidy → Progress → Tidy → Type 0
 TidyFollows a tidy p then = Follows a tidy tidy.stage p then
 
--- the node that a tidy visits, at a stage at which it may wait
-abbrev pub waits_at : Tidy → Stage → ℕ
-waits_at tidy (Marked border head node slice) = node.0
-waits_at tidy _ = tidy.way.node.0
-
 -- WHY IT WAITS: the node that it visits is marked deleted; or is the border before the one that it unlinks, and is
--- locked
+-- locked. At no other stage does it wait.
 abbrev pub StageWaits : ArenaView → Tidy → Stage → Progress → Type 0
-StageWaits a tidy stage Waits = IsMarkedAt a (waits_at tidy stage) ⊎ IsLockedAlready a (waits_at tidy stage)
-StageWaits a tidy stage _ = Unit {0}
+StageWaits a tidy (Seeks noted) Waits = IsMarkedAt a tidy.way.node.0
+StageWaits a tidy (Marked border head node slice) Waits = IsMarkedAt a node.0 ⊎ IsLockedAlready a node.0
+StageWaits a tidy _ Waits = ⊥
+StageWaits a tidy _ _ = Unit {0}
 
 abbrev pub TidyWaits : ArenaView → Tidy → Progress → Type 0
 TidyWaits a tidy p = StageWaits a tidy tidy.stage p

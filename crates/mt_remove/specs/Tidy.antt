@@ -125,11 +125,12 @@ pub record IsGoneBorder (a : ArenaView) (w : World) (number : ℕ) : Type 0 wher
   pub free : NotAmong number w.closing
   pub kept : NotRetired a.retired number
 
--- the call has locked an interior with one child, which is on in the layer and has no twin
+-- the call has locked an interior with one child, which is not marked deleted, is on in the layer and has no twin
 pub record IsLoneInterior (a : ArenaView) (w : World) (number : ℕ) (prefix : List ℕ) : Type 0 where
   pub i : InteriorView
   pub named : interior_at a.nodes number ≡ Some i
   pub locked : i.version.locked ≡ true
+  pub alive : i.version.deleted ≡ false
   pub stands : IsInLayer w.chart number prefix
   pub apart : NoTwin w.twins number
   pub one : length i.children ≡ 1
@@ -150,7 +151,8 @@ pub record IsGoneInterior (begun : ℕ) (a : ArenaView) (w : World) (number : �
 
 -- a border is to be unlinked from the one where the slice before its low stands, on the way to which the call holds
 -- a node
-pub record IsUnlinking (begun : ℕ) (a : ArenaView) (w : World) (number : ℕ) (prefix : List ℕ) (head node slice : ℕ) : Type 0 where
+pub record IsUnlinking (begun : ℕ) (a : ArenaView) (w : World) (number : ℕ) (prefix : List ℕ)
+    (head node slice : ℕ) : Type 0 where
   pub border : IsEmptyBorder a w number prefix false
   pub marked : border.b.version.deleted ≡ true
   pub before : slice + 1 ≡ border.b.low
@@ -167,11 +169,13 @@ pub record IsEmptyRoot (a : ArenaView) (w : World) (number : ℕ) : Type 0 where
   pub empty : b.live ≡ []
   pub right : b.right ≡ None
 
--- the call has locked a border that is on, and that is not the root of a layer that is being taken out
+-- the call has locked a border that is on and not marked deleted, and that is not the root of a layer that is being
+-- taken out
 pub record IsAbove (a : ArenaView) (w : World) (number : ℕ) : Type 0 where
   pub b : BorderView
   pub named : border_at a.nodes number ≡ Some b
   pub locked : b.version.locked ≡ true
+  pub alive : b.version.deleted ≡ false
   pub prefix : List ℕ
   pub stands : IsOnIn w.chart number prefix
   pub free : NotAmong number w.closing
@@ -198,10 +202,11 @@ pub record IsGoneHead (a : ArenaView) (w : World) (number : ℕ) : Type 0 where
   pub epoch : ℕ
   pub place : w.chart number ≡ Some (spot top prefix low (gone epoch))
 
--- the call has locked the root of a layer, and knows its head and the border above
+-- the call has locked the root of a layer, which is not marked deleted yet, and knows its head and the border above
 pub record IsRootLocked (begun : ℕ) (key : List ℕ) (way : Way) (root head above : NodeNo)
     (a : ArenaView) (w : World) : Type 0 where
   pub border : IsEmptyRoot a w root.0
+  pub alive : border.b.version.deleted ≡ false
   pub free : NotAmong root.0 w.closing
   pub headed : IsHeadOf w begun head.0 (prefix_of key way)
   pub within : 8 * way.layer ≤ length key
@@ -210,6 +215,7 @@ pub record IsRootLocked (begun : ℕ) (key : List ℕ) (way : Way) (root head ab
 -- the same, and it has locked the border above
 pub record IsAboveLocked (begun : ℕ) (prefix : List ℕ) (layer : Layer) (a : ArenaView) (w : World) : Type 0 where
   pub root : IsEmptyRoot a w layer.root.0
+  pub alive : root.b.version.deleted ≡ false
   pub free : NotAmong layer.root.0 w.closing
   pub headed : IsHeadOf w begun layer.head.0 prefix
   pub above : HasLayer a w layer
@@ -226,7 +232,8 @@ pub record IsClosing (layer : Layer) (a : ArenaView) (w : World) : Type 0 where
 abbrev pub StageIsTrue : ℕ → List ℕ → Way → Stage → ArenaView → World → Type 0
 StageIsTrue begun key way (Seeks noted) a w = IsOnWay begun key way w × NotedIsTrue begun key way noted w
 StageIsTrue begun key way (Locked border head parent) a w =
-    ((posted : Bool) × IsEmptyBorder a w border.0 (prefix_of key way) posted)
+    ((posted : Bool) × (empty : IsEmptyBorder a w border.0 (prefix_of key way) posted)
+    × (empty.b.version.deleted ≡ false))
     × IsHeadOf w begun head.0 (prefix_of key way) × IsKnownIn w begun parent.0 (prefix_of key way)
 StageIsTrue begun key way (Dropped border head) a w =
     IsEmptyBorder a w border.0 (prefix_of key way) false × IsHeadOf w begun head.0 (prefix_of key way)
@@ -275,8 +282,10 @@ abbrev pub ThenTidy : Progress → ℕ → Tidy → ArenaView → World → Type
 ThenTidy p begun then after next = ThenTrue p 0 (λ moves x. TidyIsTrue then begun after x) next
 
 -- what a step leaves, from a stage: the rows are the same
-pub record StageLaw (epoch : ℕ) (a after : ArenaView) (tidy : Tidy) (stage : Stage) (p : Progress) (then : Tidy) : Type 0 where
-  pub steps : (begun : ℕ) (w : World) → IsWorld a epoch w → begun ≤ epoch → StageIsTrue begun tidy.key tidy.way stage a w →
+pub record StageLaw (epoch : ℕ) (a after : ArenaView) (tidy : Tidy) (stage : Stage) (p : Progress)
+    (then : Tidy) : Type 0 where
+  pub steps : (begun : ℕ) (w : World) → IsWorld a epoch w → begun ≤ epoch
+      → StageIsTrue begun tidy.key tidy.way stage a w →
       Goes epoch a after w (stage_owns stage) (left_with p (tidy_held then)).owns (ThenTidy p begun then after)
       × SameContent (arena_seen a) (arena_seen after)
 

@@ -46,7 +46,8 @@ pub fn is_lone(tree: &Tree, number: NodeNo, child: NodeNo) -> bool
 pub fn place_in(tree: &Tree, number: NodeNo, child: NodeNo) -> Option<usize>
     requires { IsSome (node_at tree.now.nodes number.0) }
     ensures value { IsSomeAnd (node_at tree.now.nodes number.0) (λ node. result ≡ place_in node child) }
-    ensures named { IfSome result (λ place. IsSomeAnd (child_at tree.now.nodes number.0 place) (λ there. there.node ≡ child)) }
+    ensures named { IfSome result
+        (λ place. IsSomeAnd (child_at tree.now.nodes number.0 place) (λ there. there.node ≡ child)) }
 {
     match free_interior(tree.node(number)) {
         Some(interior) => interior.place_of(child),
@@ -58,7 +59,8 @@ pub fn place_in(tree: &Tree, number: NodeNo, child: NodeNo) -> Option<usize>
 pub fn later_place(tree: &Tree, number: NodeNo, child: NodeNo) -> Option<usize>
     requires { IsSome (node_at tree.now.nodes number.0) }
     ensures value { IsSomeAnd (node_at tree.now.nodes number.0) (λ node. result ≡ later_place node child) }
-    ensures named { IfSome result (λ place. IsSomeAnd (child_at tree.now.nodes number.0 place) (λ there. there.node ≡ child)) }
+    ensures named { IfSome result
+        (λ place. IsSomeAnd (child_at tree.now.nodes number.0 place) (λ there. there.node ≡ child)) }
     ensures later { IfSome result (λ place. 0 < place) }
 {
     match place_in(tree, number, child) {

@@ -6,7 +6,7 @@ ghost use Rattle.mt_arena.specs.Node.{border_at};
 ghost use Rattle.mt_types.specs.declared.event.Request.TheVariants.{Tidy as TidyRequest};
 ghost use Rattle.mt_calls.specs.Step.{StepLawIn, MayStepIn, nothing as nothing_held};
 ghost use Rattle.mt_remove.specs.Tidy.{tidy_request, tidy_held, TidyTruth, NewTidyIsTrue, MayTidy, IsHereBy, IsTidied};
-ghost use Rattle.mt_remove.specs.Follows.{TidyStep, TidyFollows, TidyWaits, TidyRetires};
+ghost use Rattle.mt_remove.specs.Follows.{start, not_noted, TidyStep, TidyFollows, TidyWaits, TidyRetires};
 
 use crate::noted::{NOTHING, Noted};
 use crate::sign::{Sign, sign_of};
@@ -38,6 +38,7 @@ impl Tidy {
         ensures request { tidy_request result ≡ TidyRequest key }
         ensures has { tidy_held result ≡ nothing_held }
         ensures begins { NewTidyIsTrue result }
+        ensures at_start { (result.way ≡ start) × (result.stage ≡ Stage.Seeks not_noted) }
     {
         Tidy {
             key,
@@ -153,7 +154,9 @@ impl Tidy {
     pub fn step(&mut self, tree: &mut Tree, epoch: u64) -> Progress
         requires { MayStepIn epoch tree.old (TidyTruth self.old) }
         ensures request { tidy_request self.new ≡ tidy_request self.old }
-        ensures steps { (C : ℕ) (log : LogView) → StepLawIn epoch C tree.old tree.new log log (tidy_request self.old) (tidy_held self.old) result (tidy_held self.new) (TidyTruth self.old) (TidyTruth self.new) }
+        ensures steps { (C : ℕ) (log : LogView)
+            → StepLawIn epoch C tree.old tree.new log log (tidy_request self.old) (tidy_held self.old) result
+            (tidy_held self.new) (TidyTruth self.old) (TidyTruth self.new) }
         ensures tidied { IsTidied result }
         ensures waits { TidyWaits tree.old self.old result }
         ensures gets_on { TidyFollows tree.old self.old result self.new }

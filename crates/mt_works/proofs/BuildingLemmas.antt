@@ -15,19 +15,19 @@ use Rattle.mt_tree.proofs.SeenLemmas.{seen-border}
 use Rattle.mt_scan.specs.Scan.{HoldsKeys}
 use Rattle.mt_scan.specs.declared.scan.ScanMove.{ScanMove}
 use Rattle.mt_scan.specs.declared.scan.ScanMove.TheVariants.{Done, To as VisitedTo, Top}
-use Rattle.mt_build.specs.Build.{BuildView, IsScanning, ComesTo, VisitsOn}
+use Rattle.mt_build.specs.Build.{BuildView, build_cursor, IsScanning, ComesTo, VisitsOn}
 use Rattle.mt_build.proofs.ReadLemmas.{others_keep, restarts_keep, ways_keep}
 use Rattle.mt_calls.specs.declared.progress.Progress.{Progress}
 use Rattle.mt_calls.specs.declared.progress.Progress.TheVariants.{Moved, Waits, Refused}
 use Rattle.mt_calls.specs.declared.ranging.Sought.{Sought}
 use Rattle.mt_calls.specs.declared.ranging.Sought.TheVariants.{To, Here}
 use Rattle.mt_calls.specs.World.{World, IsWorld}
-use Rattle.mt_calls.specs.Ranging.{IsHeldFor, IsAtSlice, KnowsOfSlice, Seeks}
+use Rattle.mt_calls.specs.Ranging.{IsHeldFor, IsAtSlice, KnowsOfSlice, Seeks, ScanGoes}
 use Rattle.mt_calls.proofs.FrameLemmas.{goes_same, quiet_same}
-use Rattle.mt_calls.proofs.RangeLemmas.{holds_keys}
+use Rattle.mt_calls.proofs.RangeLemmas.{IsAliveFor, holds_keys}
 use Rattle.mt_works.specs.declared.building.Building.{Building}
 use Rattle.mt_calls.specs.Causes.{ReadFails}
-use Rattle.mt_works.specs.Building.{BuildingIsTrue, BuildingLaw, ScansOn, ScansAll, KeepsView, TakesNext, GoesOn, FailsAt, OnlyForMemory, IsInLog}
+use Rattle.mt_works.specs.Building.{BuildingIsTrue, BuildingLaw, ScansOn, ScansAll, KeepsView, TakesNext, GoesOn, BuildMoves, FailsAt, OnlyForMemory, IsInLog}
 
 -- one moment more, in which nothing changes
 later : (w : World) (begun number : ℕ) (arena : Arena) (past : List Arena) (build : BuildView) → IsScanning w.chart begun (arena ∷ past) number build
@@ -120,6 +120,12 @@ module _ (a : ArenaView) (log : LogView) (build : BuildView) (number : NodeNo) w
           let here : IsAtSlice a number.0 (first_slice build.at) = knows now begun past w world truth Here is in
           holds_keys a now begun number.0 (first_slice build.at) w build.prefix b world truth.held named (ap (λ (x : BorderView). x.version.deleted) (sym (same_border here)) ∙ here.alive)
 
+      -- which is not marked deleted, and in whose interval the slice is
+      pub scan_alive : (now begun : ℕ) (past : List Arena) (w : World) → IsWorld a now w → IsScanning w.chart begun (arena_seen a ∷ past) number.0 build → IsAliveFor b (first_slice build.at)
+      scan_alive now begun past w world truth =
+          let here : IsAtSlice a number.0 (first_slice build.at) = knows now begun past w world truth Here is in
+          subst (λ (x : BorderView). IsAliveFor x (first_slice build.at)) (same_border here) (record { alive = here.alive; to_right = here.to_right })
+
       module _ (visited : ScanMove) (new : BuildView) (visits : VisitsOn build b visited new) where
         comes : (move : ScanMove) → visited ≡ move → (now begun : ℕ) (past : List Arena) (w : World) → IsWorld a now w → IsScanning w.chart begun (arena_seen a ∷ past) number.0 build → ComesTo w.chart begun (arena_seen a ∷ past) move new
         comes move to now begun past w world truth =
@@ -160,6 +166,13 @@ module _ (a : ArenaView) (log : LogView) (old : Building) (scanning : old.upto �
   pub has_scanned : (upto : ℕ) (new : BuildView) → upto ≡ newest log → KeepsView old.build.state new.state → ScansAll a old.build old.node.0 new → GoesOn a log old.upto old.build old.node.0 (Some upto) new
   has_scanned upto new is keeps all = subst (λ (u : Option ℕ). GoesOn a log u old.build old.node.0 (Some upto) new) (sym scanning) (is, keeps, all)
 
+  -- its scan gets on, or has ended
+  pub scan_follows : (new : BuildView) (node : NodeNo) → ScanGoes a old.node.0 node.0 (build_cursor old.build) (build_cursor new) → BuildMoves a old.upto old.upto old.node.0 old.build node.0 new
+  scan_follows new node goes = subst (λ (u : Option ℕ). BuildMoves a u u old.node.0 old.build node.0 new) (sym scanning) goes
+
+  pub scan_ended : (upto : ℕ) (new : BuildView) → BuildMoves a old.upto (Some upto) old.node.0 old.build old.node.0 new
+  scan_ended upto new = subst (λ (u : Option ℕ). BuildMoves a u (Some upto) old.node.0 old.build old.node.0 new) (sym scanning) tt
+
   pub scan_fails : (p : Progress) → ReadFails a old.node.0 p → FailsAt a old.node.0 old.upto p
   scan_fails p fails = subst (λ (u : Option ℕ). FailsAt a old.node.0 u p) (sym scanning) fails
 
@@ -171,6 +184,9 @@ module _ (a : ArenaView) (log : LogView) (old : Building) (upto : ℕ) (scanned 
 
   pub takes : (new : BuildView) → TakesNext log old.build.state new.state → GoesOn a log old.upto old.build old.node.0 old.upto new
   takes new next = subst (λ (u : Option ℕ). GoesOn a log u old.build old.node.0 u new) (sym scanned) (refl, next)
+
+  pub take_follows : (new : BuildView) → new.state.at ≡ old.build.state.at + 1 → BuildMoves a old.upto old.upto old.node.0 old.build old.node.0 new
+  take_follows new next = subst (λ (u : Option ℕ). BuildMoves a u u old.node.0 old.build old.node.0 new) (sym scanned) (refl, next)
 
   pub take_fails : (p : Progress) → OnlyForMemory p → FailsAt a old.node.0 old.upto p
   take_fails p fails = subst (λ (u : Option ℕ). FailsAt a old.node.0 u p) (sym scanned) fails

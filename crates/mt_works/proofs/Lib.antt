@@ -1,3 +1,6 @@
 pub mod BuildingLemmas
 pub mod WorkLemmas
 pub mod NewWorks
+pub mod LoneBuild
+pub mod LoneKinds
+pub mod LoneWork

@@ -6,44 +6,51 @@ use Rattle.mt_chart.specs.Tree.{Arena}
 use Rattle.mt_chart.specs.Chart.{Chart, IsTree}
 use Rattle.mt_build.specs.Build.{BuildView, IsScanning}
 use Rattle.mt_types.specs.Rows.{shown}
-use Rattle.mt_slice.specs.Place.{AreBytes, place_of}
+use Rattle.mt_slice.specs.Place.{place_of}
 use Rattle.mt_chart.specs.ScanRun.{Stood, AllHave}
 use Rattle.mt_chart.proofs.Ranges.{range_begins}
 use Rattle.mt_scan.specs.Scan.{ScanView}
 use Rattle.mt_calls.specs.Step.{nothing}
 use Rattle.mt_remove.specs.declared.tidy.Tidy.{Tidy}
-use Rattle.mt_remove.specs.Tidy.{tidy_held, NewTidyIsTrue}
-use Rattle.mt_works.specs.Works.{IsNew}
+use Rattle.mt_remove.specs.Tidy.{tidy_held, tidy_request, NewTidyIsTrue}
+use Rattle.mt_types.specs.declared.event.Request.TheVariants.{Tidy as TidyRequest}
+use Rattle.mt_works.specs.Works.{IsKey, AsksForKey, IsAtStart, IsNew}
 use Rattle.mt_calls.proofs.WayLemmas.{starts}
 use Rattle.mt_calls.proofs.FrameLemmas.{trail_begins}
 
-pub new_get : (C number : ℕ) (key columns : List ℕ) → IsNew C number (GetWork (record { key = key; columns = columns; way = record { node = record { 0 = 0 }; layer = 0 } }))
-new_get C number key columns = record {
+pub new_get : (C number : ℕ) (key columns : List ℕ) → IsKey key → IsNew C number (GetWork (record { key = key; columns = columns; way = record { node = record { 0 = 0 }; layer = 0 } }))
+new_get C number key columns is = record {
   has = refl;
+  key = is;
+  at_start = refl;
   opens = tt;
   true = λ a now begun w world. let way = starts a now w begun key world in (way, trail_begins w.chart begun 0 _ _ way.held);
 }
 
-pub new_range : (C number : ℕ) (start columns : List ℕ) (limit : ℕ) (scan : ScanView) → AreBytes start → scan ≡ record { prefix = []; at = place_of start; taken = []; limit = limit; asked = columns }
+pub new_range : (C number : ℕ) (start columns : List ℕ) (limit : ℕ) (scan : ScanView) → IsKey start → scan ≡ record { prefix = []; at = place_of start; taken = []; limit = limit; asked = columns }
     → IsNew C number (RangeWork (record { start = start; limit = limit; columns = columns; scan = scan; node = record { 0 = 0 } }))
-new_range C number start columns limit scan bytes is = subst (λ (s : ScanView). IsNew C number (RangeWork (record { start = start; limit = limit; columns = columns; scan = s; node = record { 0 = 0 } }))) (sym is) (record {
+new_range C number start columns limit scan key is = subst (λ (s : ScanView). IsNew C number (RangeWork (record { start = start; limit = limit; columns = columns; scan = s; node = record { 0 = 0 } }))) (sym is) (record {
   has = refl;
+  key = key;
+  at_start = (refl, refl);
   opens = tt;
   true = λ a now begun w world. record {
-    bytes = bytes;
+    bytes = key.0;
     limit = refl;
     asked = refl;
     scans = range_begins (arena_seen a) w.chart world.index.tree begun (Stood (shown columns) (arena_seen a ∷ [])) (AllHave (arena_seen a ∷ [])) (place_of start) limit;
   };
 })
 
-pub new_build : (C number : ℕ) (build : BuildView) → ((chart : Chart) (begun : ℕ) (arena : Arena) → IsTree arena chart → IsScanning chart begun (arena ∷ []) 0 build) → build.state.at ≡ number → build.state.columns ≡ C
+pub new_build : (C number : ℕ) (build : BuildView) → ((chart : Chart) (begun : ℕ) (arena : Arena) → IsTree arena chart → IsScanning chart begun (arena ∷ []) 0 build) → build.prefix ≡ [] → build.state.at ≡ number → build.state.columns ≡ C
     → IsNew C number (BuildWork (record { build = build; node = record { 0 = 0 }; upto = None }))
-new_build C number build scans at columns = record {
+new_build C number build scans prefix at columns = record {
   has = refl;
+  key = tt;
+  at_start = (refl, prefix);
   true = λ a now begun w world. scans w.chart begun (arena_seen a) world.index.tree;
   opens = (refl, at, columns);
 }
 
-pub new_tidy : (C number : ℕ) (tidy : Tidy) → tidy_held tidy ≡ nothing → NewTidyIsTrue tidy → IsNew C number (TidyWork tidy)
-new_tidy C number tidy has begins = record { has = has; true = λ a now begun w world. begins a now begun w world; opens = tt }
+pub new_tidy : (C number : ℕ) (tidy : Tidy) (key : List ℕ) → IsKey key → tidy_request tidy ≡ TidyRequest key → tidy_held tidy ≡ nothing → NewTidyIsTrue tidy → IsAtStart (TidyWork tidy) → IsNew C number (TidyWork tidy)
+new_tidy C number tidy key is request has begins at_start = record { has = has; key = subst AsksForKey (sym request) is; at_start = at_start; true = λ a now begun w world. begins a now begun w world; opens = tt }

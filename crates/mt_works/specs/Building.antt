@@ -9,10 +9,11 @@ use Rattle.mt_arena.specs.Arena.{ArenaView}
 use Rattle.mt_chart.specs.Tree.{Arena}
 use Rattle.mt_tree.specs.Seen.{arena_seen}
 use Rattle.mt_view.specs.State.{StateView, applied}
-use Rattle.mt_build.specs.Build.{BuildView, IsScanning, HasScanned}
+use Rattle.mt_build.specs.Build.{BuildView, build_cursor, IsScanning, HasScanned}
 use Rattle.mt_calls.specs.declared.progress.Progress.{Progress}
-use Rattle.mt_calls.specs.declared.progress.Progress.TheVariants.{Refused}
+use Rattle.mt_calls.specs.declared.progress.Progress.TheVariants.{Moved, Waits, Refused}
 use Rattle.mt_calls.specs.World.{World, IsWorld}
+use Rattle.mt_calls.specs.Ranging.{ScanGoes}
 use Rattle.mt_calls.specs.Causes.{ReadWaits, ReadFails}
 use Rattle.mt_calls.specs.Step.{StepLaw, nothing}
 use Rattle.mt_works.specs.declared.building.Building.{Building}
@@ -20,8 +21,8 @@ use Rattle.mt_works.specs.declared.building.Building.{Building}
 abbrev pub building_request : Building → Request
 building_request building = BuildRequest building.build.state.spec
 
--- while it scans, it holds the node where it stands, and has read all before its cursor, by the arenas of its moments; once it
--- has scanned all, nothing is said of the tree any more
+-- while it scans, it holds the node where it stands, and has read all before its cursor, by the arenas of its moments;
+-- once it has scanned all, nothing is said of the tree any more
 abbrev pub ScansOn : Option ℕ → BuildView → ℕ → ℕ → List Arena → ArenaView → World → Type 0
 ScansOn None build number begun past a w = IsScanning w.chart begun (arena_seen a ∷ past) number build
 ScansOn (Some upto) build number begun past a w = Unit {0}
@@ -49,7 +50,8 @@ KeepsView old new = new ≡ record old { rows = new.rows }
 -- the scan has read each key of the view, by the arenas of its moments, in every world in which it was true
 abbrev pub ScansAll : ArenaView → BuildView → ℕ → BuildView → Type 0
 ScansAll a old number new =
-    (now begun : ℕ) (past : List Arena) (w : World) → IsWorld a now w → IsScanning w.chart begun (arena_seen a ∷ past) number old
+    (now begun : ℕ) (past : List Arena) (w : World) → IsWorld a now w
+    → IsScanning w.chart begun (arena_seen a ∷ past) number old
     → HasScanned (arena_seen a ∷ past) new
 
 -- the state has taken the next delta of the log
@@ -58,25 +60,41 @@ pub record TakesNext (log : LogView) (old new : StateView) : Type 0 where
   pub is_next : delta_of log (old.at + 1) ≡ Some delta
   pub taken : new ≡ applied delta old
 
--- A step of a build that goes on: it scans; or its scan ends, and it is to take the deltas up to that of the newest commit; or it
--- takes the next of them.
+-- A step of a build that goes on: it scans; or its scan ends, and it is to take the deltas up to that of the newest
+-- commit; or it takes the next of them.
 abbrev pub GoesOn : ArenaView → LogView → Option ℕ → BuildView → ℕ → Option ℕ → BuildView → Type 0
 GoesOn a log None old number None new = KeepsView old.state new.state
-GoesOn a log None old number (Some upto) new = (upto ≡ newest log) × KeepsView old.state new.state × ScansAll a old number new
+GoesOn a log None old number (Some upto) new = (upto ≡ newest log) × KeepsView old.state new.state
+    × ScansAll a old number new
 GoesOn a log (Some upto) old number then new = (then ≡ Some upto) × TakesNext log old.state new.state
 
 abbrev pub BuildsOn : ArenaView → LogView → Building → Progress → Building → Type 0
 BuildsOn a log old (Refused refusal) new = Unit {0}
 BuildsOn a log old p new = GoesOn a log old.upto old.build old.node.0 new.upto new.build
 
+-- where it scans and moves, its scan gets on, or has ended; where it takes a delta, its view stands one commit later
+abbrev pub BuildMoves : ArenaView → Option ℕ → Option ℕ → ℕ → BuildView → ℕ → BuildView → Type 0
+BuildMoves a None None number old next new = ScanGoes a number next (build_cursor old) (build_cursor new)
+BuildMoves a None (Some upto) number old next new = Unit {0}
+BuildMoves a (Some upto) then number old next new = (then ≡ Some upto) × (new.state.at ≡ old.state.at + 1)
+
+abbrev pub BuildFollows : ArenaView → Building → Progress → Building → Type 0
+BuildFollows a old Moved new = BuildMoves a old.upto new.upto old.node.0 old.build new.node.0 new.build
+BuildFollows a old _ new = Unit {0}
+
 -- its step is the law's, whatever the tree has: it changes neither the tree nor the log
 abbrev pub BuildingLaw : ℕ → ArenaView → LogView → Building → Progress → Building → Type 0
 BuildingLaw C a log old p new =
     StepLaw C a a log log (building_request old) nothing p nothing (BuildingIsTrue old) (BuildingIsTrue new)
 
--- it waits only where the node that its scan visits is marked deleted
+-- it waits only while it scans, where the node that its scan visits is marked deleted
+abbrev pub WaitsBy : ArenaView → ℕ → Option ℕ → Progress → Type 0
+WaitsBy a number None p = ReadWaits a number p
+WaitsBy a number (Some upto) Waits = ⊥
+WaitsBy a number (Some upto) _ = Unit {0}
+
 abbrev pub BuildWaits : ArenaView → Building → Progress → Type 0
-BuildWaits a building p = ReadWaits a building.node.0 p
+BuildWaits a building p = WaitsBy a building.node.0 building.upto p
 
 abbrev pub OnlyForMemory : Progress → Type 0
 OnlyForMemory (Refused refusal) = refusal ≡ NoMemory

@@ -1,6 +1,9 @@
 -- The kinds of calls: what each asks for, what it has, and what is true of it.
-use Rattle.std.specs.Prelude.{ℕ, ◌≡◌, ◌≤◌, List, [], None}
+use Rattle.std.specs.Prelude.{ℕ, ◌≡◌, ◌≤◌, List, [], length, None}
 use Rattle.mt_types.specs.declared.event.Request.{Request}
+use Rattle.mt_types.specs.declared.event.Request.TheVariants.{Get as GetRequest, Put as PutRequest, Remove as RemoveRequest, Range as RangeRequest, Tidy as TidyRequest, Build as BuildRequest}
+use Rattle.mt_types.specs.declared.limits.TheConstants.{MAX_KEY_BYTES}
+use Rattle.mt_slice.specs.Place.{AreBytes}
 use Rattle.mt_commit.specs.Log.{LogView}
 use Rattle.mt_arena.specs.Arena.{ArenaView}
 use Rattle.mt_chart.specs.Tree.{Arena}
@@ -10,6 +13,9 @@ use Rattle.mt_calls.specs.Step.{Held, nothing}
 use Rattle.mt_calls.specs.Getting.{get_request, GetIsTrue}
 use Rattle.mt_calls.specs.Ranging.{range_request, RangeIsTrue}
 use Rattle.mt_write.specs.Writing.{write_request, write_held, WriteIsTrue}
+use Rattle.mt_write.specs.declared.writing.Stage.TheVariants.{Seeks as WriteSeeks}
+use Rattle.mt_remove.specs.declared.stage.Stage.TheVariants.{Seeks as TidySeeks}
+use Rattle.mt_remove.specs.Follows.{start, not_noted}
 use Rattle.mt_remove.specs.Tidy.{tidy_request, tidy_held, TidyTruth}
 use Rattle.mt_works.specs.Building.{building_request, BuildingIsTrue, IsInLog, IsBuilt, BuildsOn}
 use Rattle.mt_works.specs.declared.work.Work.{Work}
@@ -38,8 +44,8 @@ IsTrue C (Range range) begun moves past a w = RangeIsTrue range begun moves past
 IsTrue C (Tidy tidy) begun moves past a w = TidyTruth tidy begun moves past a w
 IsTrue C (Build building) begun moves past a w = BuildingIsTrue building begun moves past a w
 
--- what its step asks in an epoch, the present one: there is a world in which its record is true, and the log has the room that
--- it has reserved
+-- what its step asks in an epoch, the present one: there is a world in which its record is true, and the log has the
+-- room that it has reserved
 pub record MayWork (now C : ℕ) (a : ArenaView) (log : LogView) (work : Work) : Type 0 where
   pub begun : ℕ
   pub moves : ℕ
@@ -71,8 +77,30 @@ OpensAt C number (Build building) =
     (building.upto ≡ None) × (building.build.state.at ≡ number) × (building.build.state.columns ≡ C)
 OpensAt C number _ = Unit {0}
 
+abbrev pub IsKey : List ℕ → Type 0
+IsKey key = AreBytes key × (length key ≤ MAX_KEY_BYTES)
+
+-- the key that it asks for is one: of bytes, and not too long
+abbrev pub AsksForKey : Request → Type 0
+AsksForKey (GetRequest key asked) = IsKey key
+AsksForKey (PutRequest key sets) = IsKey key
+AsksForKey (RemoveRequest key) = IsKey key
+AsksForKey (RangeRequest start limit asked) = IsKey start
+AsksForKey (TidyRequest key) = IsKey key
+AsksForKey (BuildRequest spec) = Unit {0}
+
+-- it stands at the head of layer 0, and has done nothing
+abbrev pub IsAtStart : Work → Type 0
+IsAtStart (Get get) = get.way ≡ start
+IsAtStart (Write write) = (write.way ≡ start) × (write.stage ≡ WriteSeeks) × (write.head ≡ start.node)
+IsAtStart (Range range) = (range.node ≡ start.node) × (range.scan.prefix ≡ [])
+IsAtStart (Tidy tidy) = (tidy.way ≡ start) × (tidy.stage ≡ TidySeeks not_noted)
+IsAtStart (Build building) = (building.node ≡ start.node) × (building.build.prefix ≡ [])
+
 -- a call that begins has nothing, and its record is true
 pub record IsNew (C number : ℕ) (work : Work) : Type 0 where
   pub has : held work ≡ nothing
+  pub key : AsksForKey (request_of work)
+  pub at_start : IsAtStart work
   pub true : (a : ArenaView) (now begun : ℕ) (w : World) → IsWorld a now w → IsTrue C work begun 0 [] a w
   pub opens : OpensAt C number work

@@ -1,10 +1,11 @@
-//! A build of a view as a call: a scan of the view's keys, border by border, and then a step for each delta since its begin.
+//! A build of a view as a call: a scan of the view's keys, border by border, and then a step for each delta since its
+//! begin.
 
 ghost use Rattle.std.specs.Prelude.{◌≡◌, ◌≢◌, ◌↔◌, ℕ, IsTrue, IsSome, None};
 ghost use Rattle.mt_arena.specs.Arena.{ArenaView};
 ghost use Rattle.mt_calls.specs.Step.{MayStep, nothing};
 ghost use Rattle.mt_calls.specs.Causes.{ReadWaits, ReadFails};
-ghost use Rattle.mt_works.specs.Building.{building_request, BuildingIsTrue, BuildingLaw, IsBuilt, IsInLog, BuildsOn, BuildWaits, BuildFails, OnlyForMemory};
+ghost use Rattle.mt_works.specs.Building.{building_request, BuildingIsTrue, BuildingLaw, IsBuilt, IsInLog, BuildsOn, BuildFollows, BuildWaits, BuildFails, OnlyForMemory};
 
 use mt_build::build::Build;
 use mt_calls::progress::Progress;
@@ -44,6 +45,7 @@ impl Building {
         ensures request { building_request self.new ≡ building_request self.old }
         ensures steps { (C : ℕ) → BuildingLaw C tree.now log.now self.old result self.new }
         ensures builds { BuildsOn tree.now log.now self.old result self.new }
+        ensures gets_on { BuildFollows tree.now self.old result self.new }
         ensures waits { BuildWaits tree.now self.old result }
         ensures fails { BuildFails tree.now self.old result }
     {
@@ -60,6 +62,7 @@ impl Building {
         ensures request { building_request self.new ≡ building_request self.old }
         ensures steps { (C : ℕ) → BuildingLaw C tree.now log.now self.old result self.new }
         ensures builds { BuildsOn tree.now log.now self.old result self.new }
+        ensures gets_on { BuildFollows tree.now self.old result self.new }
         ensures waits { ReadWaits tree.now self.old.node.0 result }
         ensures fails { ReadFails tree.now self.old.node.0 result }
     {
@@ -98,6 +101,7 @@ impl Building {
         ensures request { building_request self.new ≡ building_request self.old }
         ensures steps { (a : ArenaView) (C : ℕ) → BuildingLaw C a log.now self.old result self.new }
         ensures builds { (a : ArenaView) → BuildsOn a log.now self.old result self.new }
+        ensures gets_on { (a : ArenaView) → BuildFollows a self.old result self.new }
         ensures waits { result ≢ Progress.Waits }
         ensures fails { OnlyForMemory result }
     {

@@ -7,8 +7,8 @@ ghost use Rattle.mt_calls.specs.Step.{StepLawIn};
 ghost use Rattle.mt_calls.specs.Ranging.{range_request};
 ghost use Rattle.mt_works.specs.Building.{building_request};
 ghost use Rattle.mt_works.specs.Causes.{WorkWaits, WorkFails};
-ghost use Rattle.mt_works.specs.Follows.{WorkFollows};
-ghost use Rattle.mt_works.specs.Works.{request_of, held, IsTrue, IsNew, MayWork, IsBuiltWork, HasNext, WorkBuilds};
+ghost use Rattle.mt_works.specs.Follows.{WorkFollows, WorkReads, WorkPosts};
+ghost use Rattle.mt_works.specs.Works.{request_of, held, IsTrue, IsKey, IsNew, MayWork, IsBuiltWork, HasNext, WorkBuilds};
 
 use crate::building::Building;
 use bytes::Bytes;
@@ -77,15 +77,23 @@ impl Work {
         requires may { MayWork epoch columns tree.old log.old self.old }
         requires next { HasNext log.old self.old }
         ensures request { request_of self.new ≡ request_of self.old }
-        ensures steps { StepLawIn epoch columns tree.old tree.new log.old log.new (request_of self.old) (held self.old) result (held self.new) (IsTrue columns self.old) (IsTrue columns self.new) }
+        ensures steps { StepLawIn epoch columns tree.old tree.new log.old log.new (request_of self.old) (held self.old)
+            result (held self.new) (IsTrue columns self.old) (IsTrue columns self.new) }
         ensures builds { WorkBuilds tree.old log.old self.old result self.new }
         ensures waits { WorkWaits tree.old self.old result }
         ensures fails { WorkFails tree.old log.old self.old result self.new }
         ensures gets_on { WorkFollows tree.old self.old result self.new }
+        ensures reads { WorkReads tree.old tree.new self.old }
+        ensures posts { WorkPosts tree.old tree.new self.old result self.new }
     {
         match self {
             Work::Get(get) => get.step(alloc, tree),
-            Work::Write(write) => write.step(alloc, columns, tree, log),
+            Work::Write(write) => {
+                let _before = tree.free_numbers();
+                let progress = write.step(alloc, columns, tree, log);
+                let _after = tree.free_numbers();
+                progress
+            }
             Work::Range(range) => range.step(alloc, tree),
             Work::Tidy(tidy) => tidy.step(tree, epoch),
             Work::Build(building) => building.step(alloc, tree, log),
@@ -95,13 +103,19 @@ impl Work {
 
 // The key of these bytes, which are few enough: the begin of a call tests that. Shares them.
 fn key_of(alloc: Global, bytes: &Bytes) -> Result<Key, NoMemory>
-    ensures { IfOk result (λ key. key ≡ bytes.now) }
+    ensures value { IfOk result (λ key. key ≡ bytes.now) }
+    ensures key { IfOk result IsKey }
 {
-    Key::new(bytes.copy(alloc)?).map_err(|_| NoMemory)
+    let Ok(key) = Key::new(bytes.copy(alloc)?) else {
+        return Err(NoMemory);
+    };
+    let _key = rest_of(&key, 0);
+    Ok(key)
 }
 
 // A put or remove on its way.
 fn new_write(key: Key, edit: Edit) -> Write
+    requires { IsKey key }
     ensures key { result.key ≡ key }
     ensures edit { result.edit ≡ edit }
     ensures new { (C number : ℕ) → IsNew C number (Work.Write result) }
@@ -125,7 +139,7 @@ fn new_range(
     ensures request { IfOk result (λ range. range_request range ≡ RangeRequest start limit columns.now) }
     ensures new { IfOk result (λ range. (C number : ℕ) → IsNew C number (Work.Range range)) }
 {
-    let _bytes = rest_of(&start, 0);
+    let _key = rest_of(&start, 0);
     let scan = Scan::new(alloc, &start, limit, columns.copy(alloc)?)?;
     Ok(Range {
         start,

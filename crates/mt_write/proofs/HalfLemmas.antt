@@ -121,10 +121,10 @@ module _ (C : ℕ) (a : ArenaView) (log : LogView) (key : List ℕ) (edit : Edit
     half_named = ap (option_and_then border_of) (others_named a n b (link low) at.named half.0 (λ e. apart (sym e))) ∙ s.named
 
     left_locked : IsLockedBorder new next n
-    left_locked = record { b = link low b; named = now_named a n b (link low) at.named; known = subst (λ (x : Option Spot). IsSome x) (sym left_spot) refl; locked = at.locked; free = at.free }
+    left_locked = record { b = link low b; named = now_named a n b (link low) at.named; known = subst (λ (x : Option Spot). IsSome x) (sym left_spot) refl; locked = at.locked; alive = at.alive; free = at.free }
 
     half_locked : IsLockedBorder new next half.0
-    half_locked = record { b = upper_half b cut c.middle; named = half_named; known = subst (λ (x : Option Spot). IsSome x) (sym (spot_changes w.chart half.0 place).now) refl; locked = refl; free = s.free }
+    half_locked = record { b = upper_half b cut c.middle; named = half_named; known = subst (λ (x : Option Spot). IsSome x) (sym (spot_changes w.chart half.0 place).now) refl; locked = refl; alive = refl; free = s.free }
 
     both_locked : (other : ℕ) → Among other (half.0 ∷ n ∷ []) → IsLockedBorder new next other
     both_locked other first = half_locked
@@ -205,7 +205,7 @@ module _ (C : ℕ) (a : ArenaView) (log : LogView) (key : List ℕ) (edit : Edit
           let (goes, content) = goes_linked now a w n half.0 b (upper_half b cut c.middle) (prefix_of key way) (link c.middle.slice) (half.0 ∷ n ∷ [])
           (λ next. StageIsTrue C key edit goal (Halved halves) begun (with_border_changed a n (link c.middle.slice)) next) at.named s.named
           (subst (λ (x : ArenaView). LinksHalfAt a x n half.0) is links) (record { low = b.low; posted = at.stands.stands.posted; place = at.stands.stands.place })
-          s.unknown (later first) first at.locked at.free world (then begun w b at c s) in
+          s.unknown (later first) first at.locked at.locked refl at.free world (then begun w b at c s) in
           subst (λ (x : ArenaView). Stepped C now moves past a x log log w (edit_request key edit) (stage_held n (HalfFilled half cut)) Moved (stage_held goal.node.0 (Halved halves)) (λ m next. StageIsTrue C key edit goal (Halved halves) begun x next)) (sym is) (record {
             goes = goes;
             does = (record { content = content; trimmed = refl; deltas = refl }, refl);

@@ -4,6 +4,9 @@ pub mod SpareLemmas
 pub mod WriteLemmas
 pub mod HalfLemmas
 pub mod PostLemmas
+pub mod LinkLemmas
 pub mod NewLayerLemmas
 pub mod WorkLemmas
 pub mod WriteLasts
+pub mod LoneWrite
+pub mod LoneWrites

@@ -1,6 +1,6 @@
 -- The steps of a new layer in a put: its head and root are spared, the root is filled, the head is unlocked, the link is made, and the put
 -- goes on there.
-use Rattle.std.proofs.Common.{ℕ, zero, suc, ◌≡◌, ◌≢◌, ◌≤◌, ◌<◌, ◌+◌, List, [], ◌∷◌, length, drop, replicate, slice_index_or, Option, Some, None, IsSome, true, false, refl, sym, ap, subst, ◌∙◌, arith, add-one, inl}
+use Rattle.std.proofs.Common.{ℕ, zero, suc, ◌≡◌, ◌≢◌, ◌≤◌, ◌<◌, ◌+◌, List, [], ◌∷◌, length, drop, replicate, slice_index_or, Option, Some, None, IsSome, true, false, refl, sym, ap, subst, ◌∙◌, arith, add-one, inl, inr}
 use Rattle.std.specs.Prelude.{IsSomeAnd}
 use Rattle.std.proofs.lemmas.List.Elements.{All-drop, All-replicate}
 use Rattle.mt_border.specs.Table.{blank_slot}
@@ -41,6 +41,7 @@ use Rattle.mt_write.specs.declared.writing.Layer.{Layer}
 use Rattle.mt_write.specs.declared.writing.Stage.{Stage}
 use Rattle.mt_write.specs.declared.writing.Stage.TheVariants.{Seeks, LayerSpared, LayerFilled, LayerReady, Layered}
 use Rattle.mt_write.specs.Writing.{edit_request, stage_held, layer_owned, StageIsTrue, HeadedStage, IsLockedAt, moved_entry, lone_root, way_below}
+use Rattle.mt_write.proofs.LinkLemmas.{linked_among}
 use Rattle.mt_write.proofs.WorkLemmas.{locked_at_stays}
 use Rattle.mt_write.proofs.WriteLemmas.{no_get, row_of_content, entry_place_is, ends}
 
@@ -168,13 +169,18 @@ module _ (C : ℕ) (a : ArenaView) (log : LogView) (key : List ℕ) (edit : Edit
         let next : World = layered w layer.head.0 layer.root.0 below in
         let no_head : n ≢ layer.head.0 = apart_spare b w layer.head.0 at f.has.head_unknown in
         let no_root : n ≢ layer.root.0 = apart_spare b w layer.root.0 at f.has.root_unknown in
-        let may = locked_may a n b link at.named now w world at.locked at.free in
-        let placed = head_placed now a w n layer.head.0 layer.root b root (prefix_of key way) layer.place entry link at.named f.at.other.stands f.has.head f.has.is_root refl no_head no_root f.has.head_unknown f.has.root_unknown world may in
-        let kept = others_placed now a w n layer.head.0 layer.root b root (prefix_of key way) layer.place entry link at.named f.at.other.stands f.has.head f.has.is_root refl no_head no_root f.has.head_unknown f.has.root_unknown world may n no_head no_root in
+        let may = locked_may a n b link at.named now w world at.locked at.free (inr at.alive) in
+        let placed = head_placed now a w n layer.head.0 layer.root b root (prefix_of key way) layer.place entry link at.named f.at.other.stands f.has.head f.has.is_root refl refl no_head no_root f.has.head_unknown f.has.root_unknown world may in
+        let kept = others_placed now a w n layer.head.0 layer.root b root (prefix_of key way) layer.place entry link at.named f.at.other.stands f.has.head f.has.is_root refl refl no_head no_root f.has.head_unknown f.has.root_unknown world may n no_head no_root in
         let held : (slice : ℕ) → Holds next.chart begun layer.head.0 below slice = λ slice. record { role = top; low = 0; standing = on true; place = placed; at_most = omega arith; since = λ epoch gone_is. absurd (let clash : on true ≡ gone epoch = gone_is in cc) } in
-        let (goes, content) = goes_layered now a w n layer.head.0 layer.root b root (prefix_of key way) layer.place entry link at.named f.at.other.stands f.has.head f.has.is_root refl no_head no_root f.has.head_unknown f.has.root_unknown world may
+        let (goes, content) = goes_layered now a w n layer.head.0 layer.root b root (prefix_of key way) layer.place entry link at.named f.at.other.stands f.has.head f.has.is_root refl refl no_head no_root f.has.head_unknown f.has.root_unknown world may
         (subst (λ (x : ArenaView). MakesLayerAt a x n layer.place layer.head.0) is makes) (record { low = b.low; posted = at.stands.stands.posted; place = at.stands.stands.place }) (λ next. StageIsTrue C key edit way (Layered layer.head) begun new next) (
-          record { b = link b; named = now_named a n b link at.named; known = subst (λ (x : Option Spot). IsSome x) (sym (kept ∙ at.stands.stands.place)) refl; locked = at.locked; free = at.free },
+          record {
+            border = record { b = link b; named = now_named a n b link at.named; known = subst (λ (x : Option Spot). IsSome x) (sym (kept ∙ at.stands.stands.place)) refl; locked = at.locked; alive = at.alive; free = at.free };
+            stands = record { low = b.low; posted = at.stands.stands.posted; place = kept ∙ at.stands.stands.place };
+            slice = slice_number (rest_of key way);
+            linked = linked_among b.live layer.place entry layer.head f.at.other.stands;
+          },
           record {
             layer = layer_below key way layer.head f.at.other.goes_on at.layer;
             held = subst (λ (m : ℕ). Holds next.chart begun layer.head.0 (slices_above m key) (slice_number (rest_at (way.layer + 1) key))) (sym (add-one way.layer)) (held (slice_number (rest_at (way.layer + 1) key)));
@@ -196,7 +202,7 @@ pub goes_below : (C : ℕ) (a : ArenaView) (log : LogView) (key : List ℕ) (edi
     → StepLaw C a after log log (edit_request key edit) (stage_held way.node.0 (Layered head)) Moved (stage_held head.0 Seeks) (λ begun moves past x w. HeadedStage C key edit way old_head (Layered head) begun x w) (λ begun moves past x w. HeadedStage C key edit (way_below way head) head Seeks begun x w)
 goes_below C a log key edit way old_head head after is keeps = record {
   steps = λ now begun moves past w world before truth.
-      let (goes, quiet) = ends C a log key edit way (λ next. HeadedStage C key edit (way_below way head) head Seeks begun after next) now w after is keeps world truth.0.0 (truth.0.1, truth.0.2) in
+      let (goes, quiet) = ends C a log key edit way (λ next. HeadedStage C key edit (way_below way head) head Seeks begun after next) now w after is keeps world truth.0.0.border (truth.0.1, truth.0.2) in
       record { goes = goes; does = (quiet, refl); reserved = refl; bounds = refl; blocked = inl refl; may = λ get. absurd (no_get key edit get) };
 }
 
@@ -237,4 +243,4 @@ module _ (C begun : ℕ) (a : ArenaView) (w : World) (key : List ℕ) (edit : Ed
 
 -- the border that the call has locked
 pub layered_locked : (C begun : ℕ) (a : ArenaView) (w : World) (key : List ℕ) (edit : Edit) (way : Way) (head : NodeNo) → StageIsTrue C key edit way (Layered head) begun a w → IsSomeAnd (border_at a.nodes way.node.0) (λ b. b.version.locked ≡ true)
-layered_locked C begun a w key edit way head truth = subst (λ (o : Option BorderView). IsSomeAnd o (λ b. b.version.locked ≡ true)) (sym truth.0.named) truth.0.locked
+layered_locked C begun a w key edit way head truth = subst (λ (o : Option BorderView). IsSomeAnd o (λ b. b.version.locked ≡ true)) (sym truth.0.border.named) truth.0.border.locked

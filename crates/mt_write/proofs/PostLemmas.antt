@@ -41,7 +41,7 @@ use Rattle.mt_write.proofs.WriteLemmas.{no_get, seek_again}
 
 -- ---- what is true of a call after a step, with more that lasts
 goes_more : (now : ℕ) (a after : ArenaView) (w : World) (owned owns : List ℕ) (Then More : World → Type 0) → (g : Goes now a after w owned owns Then) → (((begun : ℕ) → begun ≤ now → Evolves begun w.chart g.next.chart) → Then g.next → More g.next) → Goes now a after w owned owns More
-goes_more now a after w owned owns Then More g more = record { next = g.next; world = g.world; evolves = g.evolves; leaves = g.leaves; takes = g.takes; true = more g.evolves g.true }
+goes_more now a after w owned owns Then More g more = record { next = g.next; world = g.world; evolves = g.evolves; leaves = g.leaves; takes = g.takes; spots = g.spots; true = more g.evolves g.true }
 
 then_more : (p : Progress) (moves : ℕ) (True More : ℕ → World → Type 0) (next : World) → ((m : ℕ) → True m next → More m next) → ThenTrue p moves True next → ThenTrue p moves More next
 then_more Moved moves True More next more truth = more (moves + 1) truth
@@ -83,7 +83,7 @@ module _ (C : ℕ) (a : ArenaView) (key : List ℕ) (edit : Edit) (way : Way) (h
     steps = λ now begun moves past w world before truth.
         let s = (seek_again C a key edit way went visits stage seeks log).steps now begun moves past w world before truth.0 in
         record {
-          goes = record { next = s.goes.next; world = s.goes.world; evolves = s.goes.evolves; leaves = s.goes.leaves; takes = s.goes.takes; true = (s.goes.true, starts_at_head a now s.goes.next begun s.goes.world) };
+          goes = record { next = s.goes.next; world = s.goes.world; evolves = s.goes.evolves; leaves = s.goes.leaves; takes = s.goes.takes; spots = s.goes.spots; true = (s.goes.true, starts_at_head a now s.goes.next begun s.goes.world) };
           does = s.does;
           reserved = s.reserved;
           bounds = s.bounds;
@@ -139,7 +139,7 @@ module _ (C : ℕ) (a : ArenaView) (log : LogView) (key : List ℕ) (edit : Edit
             (goes_border a split.left.0 left.b unlock left.named now w (split.half.0 ∷ split.left.0 ∷ []) (split.half.0 ∷ []) Then world (subst (λ (x : ArenaView). IsIndexAt x now w.twins w.chart) is kept.index)
             (subst (λ (x : ArenaView). RowsAreOfKeys x) is (keys_same a after kept.content world.keys))
             (mine_free a split.left.0 w (split.half.0 ∷ split.left.0 ∷ []) (later first)) (λ other i. inl (widen other i)) (λ other ne i. among_two other i ne)
-            (λ taken. absurd (elim taken [ inl locked ↦ (let clash : false ≡ true = locked in cc) | inr none ↦ (let some : IsSome (let nothing : Option Spot = None in nothing) = subst (λ (x : Option Spot). IsSome x) none left.known in cc) ])) (locked_may a split.left.0 left.b unlock left.named now w world left.locked left.free) truth),
+            (λ taken. absurd (elim taken [ inl locked ↦ (let clash : false ≡ true = locked in cc) | inr none ↦ (let some : IsSome (let nothing : Option Spot = None in nothing) = subst (λ (x : Option Spot). IsSome x) none left.known in cc) ])) (locked_may a split.left.0 left.b unlock left.named now w world left.locked left.free (inr left.alive)) truth),
         record { content = kept.content; trimmed = refl; deltas = refl },
       )
 
@@ -162,6 +162,7 @@ module _ (C : ℕ) (a : ArenaView) (log : LogView) (key : List ℕ) (edit : Edit
           named = ap (λ (h : NodeNo). border_at after.nodes h.0) half_is ∙ here;
           low_is = has.halves.low_is k.b k.named ∙ sym low;
           locked = k.locked;
+          alive = k.alive;
           place = ap (λ (h : NodeNo). w.chart h.0) half_is ∙ (has.halves.place ∙ ap (λ (l : ℕ). Some (spot (at_level 0) (prefix_of key way) l (on false))) (sym low));
           free = subst (λ (h : NodeNo). NotAmong h.0 w.closing) (sym half_is) k.free;
         }) (subst (λ (h : NodeNo). IsHeadOf w begun h.0 (prefix_of key way)) (sym head_is) known)

@@ -1,6 +1,7 @@
 -- What others' steps leave of a put or remove, and what it owns.
 use Rattle.std.proofs.Common.{ℕ, ◌≡◌, inl, inr, List, [], ◌∷◌, Option, Some, None, IsSome, Bool, true, false, refl, sym, ap, subst, ◌∙◌}
 use Rattle.std.specs.Option.{option_map, option_and_then}
+use Rattle.mt_types.specs.declared.numbers.NodeNo.{NodeNo}
 use Rattle.mt_border.specs.Border.{BorderView}
 use Rattle.mt_arena.specs.Node.{head_of, border_at, border_of}
 use Rattle.mt_arena.specs.Arena.{ArenaView}
@@ -22,7 +23,7 @@ use Rattle.mt_calls.specs.Way.{IsOnWay, prefix_of}
 use Rattle.mt_chart.specs.Chart.{top}
 use Rattle.mt_chart.proofs.Walk.{known_kept}
 use Rattle.mt_post.proofs.PostingLasts.{posting_stays, posting_taken}
-use Rattle.mt_write.specs.Writing.{StageIsTrue, stage_held, IsLockedAt, HasLocked, AreHalves, HasLayer, IsSpare, owned, layer_owned, way_below, WriteIsTrue, write_held}
+use Rattle.mt_write.specs.Writing.{StageIsTrue, stage_held, IsLockedAt, HasLocked, AreHalves, HasLayer, HasLink, IsSpare, owned, layer_owned, way_below, WriteIsTrue, write_held}
 use Rattle.mt_calls.specs.World.{IsLockedBorder}
 
 -- ---- what others' steps leave
@@ -54,7 +55,7 @@ module _ (a after : ArenaView) (w next : World) where
   }
 
   locked_stays : (number : ℕ) → IsSame a after w next number → IsLockedBorder a w number → IsLockedBorder after next number
-  locked_stays number same at = record { b = at.b; named = same_border number at.b same at.named; known = subst (λ (x : Option Spot). IsSome x) (sym same.spot) at.known; locked = at.locked; free = λ i. at.free (same.closing i) }
+  locked_stays number same at = record { b = at.b; named = same_border number at.b same at.named; known = subst (λ (x : Option Spot). IsSome x) (sym same.spot) at.known; locked = at.locked; alive = at.alive; free = λ i. at.free (same.closing i) }
 
   spare_stays : (number : ℕ) (b : BorderView) → IsSame a after w next number → IsSpare a w number b → IsSpare after next number b
   spare_stays number b same s = record { named = same_border number b same s.named; unknown = same.spot ∙ s.unknown; locked = s.locked; free = λ i. s.free (same.closing i) }
@@ -65,6 +66,15 @@ module _ (a after : ArenaView) (w next : World) where
     is_root = same_border layer.root.0 root root_same has.is_root;
     head_unknown = head_same.spot ∙ has.head_unknown;
     root_unknown = root_same.spot ∙ has.root_unknown;
+  }
+
+  link_stays : (prefix : List ℕ) (number : ℕ) (head : NodeNo) → IsSame a after w next number → HasLink prefix a w number head → HasLink prefix after next number head
+  unfolding locked_stays
+  link_stays prefix number head same has = record {
+    border = locked_stays number same has.border;
+    stands = record { low = has.stands.low; posted = has.stands.posted; place = same.spot ∙ has.stands.place };
+    slice = has.slice;
+    linked = has.linked;
   }
 
   halves_stay : (prefix : List ℕ) (split : Option Halves) → ((half : Halves) → split ≡ Some half → IsSame a after w next half.half.0) → AreHalves prefix a w split → AreHalves prefix after next split
@@ -96,7 +106,7 @@ module _ (a after : ArenaView) (w next : World) where
     stage_stays key edit way (LayerSpared layer entries) same truth = let (b, at, f) = truth in (b, locked_at_stays key way b (same way.node.0 (later (later first))) at, record { number = f.number; at = f.at; has = layer_stays layer true _ (same layer.head.0 first) (same layer.root.0 (later first)) f.has; moved = f.moved; whole = f.whole })
     stage_stays key edit way (LayerFilled layer) same truth = let (b, at, f) = truth in (b, locked_at_stays key way b (same way.node.0 (later (later first))) at, record { number = f.number; at = f.at; has = layer_stays layer true _ (same layer.head.0 first) (same layer.root.0 (later first)) f.has })
     stage_stays key edit way (LayerReady layer) same truth = let (b, at, f) = truth in (b, locked_at_stays key way b (same way.node.0 (later (later first))) at, record { number = f.number; at = f.at; has = layer_stays layer false _ (same layer.head.0 first) (same layer.root.0 (later first)) f.has })
-    stage_stays key edit way (Layered head) same truth = (locked_stays way.node.0 (same way.node.0 first) truth.0, way_stays begun key (way_below way head) evolves truth.1, known_kept begun head.0 top (prefix_of key (way_below way head)) 0 w.chart next.chart evolves truth.2)
+    stage_stays key edit way (Layered head) same truth = (link_stays (prefix_of key way) way.node.0 head (same way.node.0 first) truth.0, way_stays begun key (way_below way head) evolves truth.1, known_kept begun head.0 top (prefix_of key (way_below way head)) 0 w.chart next.chart evolves truth.2)
     stage_stays key edit way (Filled place stored logged split) same truth = let (b, at, f, has) = truth in (b, locked_at_stays key way b (same way.node.0 has.own) at, f, has_locked_stays (prefix_of key way) way.node.0 split same has)
     stage_stays key edit way (Made place stored columns logged) same truth = let (b, at, f) = truth in (b, locked_at_stays key way b (same way.node.0 first) at, f)
     stage_stays key edit way (Taken place stored before) same truth = let (b, at, f) = truth in (b, locked_at_stays key way b (same way.node.0 first) at, f)
@@ -135,7 +145,7 @@ module _ (C begun moves : ℕ) (past : List Arena) (a : ArenaView) (w : World) w
   stage_taken key edit way (LayerSpared layer entries) truth number i = let (b, at, f) = truth in layer_taken way.node.0 number layer true _ f.has b at.named at.locked i
   stage_taken key edit way (LayerFilled layer) truth number i = let (b, at, f) = truth in layer_taken way.node.0 number layer true _ f.has b at.named at.locked i
   stage_taken key edit way (LayerReady layer) truth number i = let (b, at, f) = truth in layer_taken way.node.0 number layer false _ f.has b at.named at.locked i
-  stage_taken key edit way (Layered head) truth number i = border_taken a w way.node.0 number truth.0.b truth.0.named truth.0.locked i
+  stage_taken key edit way (Layered head) truth number i = border_taken a w way.node.0 number truth.0.border.b truth.0.border.named truth.0.border.locked i
   stage_taken key edit way (Filled place stored logged split) truth number i = let (b, at, f, has) = truth in all_taken (prefix_of key way) way.node.0 split has number i
   stage_taken key edit way (Made place stored columns logged) truth number i = let (b, at, f) = truth in border_taken a w way.node.0 number b at.named at.locked i
   stage_taken key edit way (Taken place stored before) truth number i = let (b, at, f) = truth in border_taken a w way.node.0 number b at.named at.locked i

@@ -1,9 +1,9 @@
 -- Since when an interior is gone that a put or remove owns: none is.
-use Rattle.std.proofs.Common.{ℕ, ◌≡◌, List, [], ◌∷◌, Option, Some, None, Bool, true, false}
+use Rattle.std.proofs.Common.{ℕ, ◌≡◌, List, [], ◌∷◌, Option, Some, Bool, true, false}
 use Rattle.mt_border.specs.Border.{BorderView}
 use Rattle.mt_arena.specs.Node.{border_at}
 use Rattle.mt_arena.specs.Arena.{ArenaView}
-use Rattle.mt_chart.specs.Tree.{Arena, Among, first, later}
+use Rattle.mt_chart.specs.Tree.{Arena, first, later}
 use Rattle.mt_calls.specs.World.{World, IsWorld, GoneSince}
 use Rattle.mt_calls.specs.declared.way.Way.{Way}
 use Rattle.mt_calls.proofs.CollectLemmas.{border_no, unknown_no, only_since}
@@ -14,7 +14,7 @@ use Rattle.mt_write.specs.declared.writing.Stage.{Stage}
 use Rattle.mt_write.specs.declared.writing.Stage.TheVariants.{Seeks, Locked, Spared, HalfFilled, Halved, Posts, LayerSpared, LayerFilled, LayerReady, Layered, Filled, Made, Taken, Stored, Failed}
 use Rattle.mt_write.specs.declared.writing.Halves.{Halves}
 use Rattle.mt_write.specs.declared.writing.Layer.{Layer}
-use Rattle.mt_write.specs.Writing.{StageIsTrue, stage_held, HasLocked, HasLayer, IsSpare, owned, layer_owned, WriteIsTrue, write_held}
+use Rattle.mt_write.specs.Writing.{StageIsTrue, stage_held, HasLocked, HasLayer, owned, layer_owned, WriteIsTrue, write_held}
 
 module _ (C : ℕ) (a : ArenaView) (now begun : ℕ) (w : World) (world : IsWorld a now w) where
   border_since : (number : ℕ) (b : BorderView) → border_at a.nodes number ≡ Some b → GoneSince begun w (number ∷ [])
@@ -40,7 +40,7 @@ module _ (C : ℕ) (a : ArenaView) (now begun : ℕ) (w : World) (world : IsWorl
   stage_since key edit way (LayerSpared layer entries) truth = let (b, at, f) = truth in layer_since way.node.0 b layer true _ at.named f.has
   stage_since key edit way (LayerFilled layer) truth = let (b, at, f) = truth in layer_since way.node.0 b layer true _ at.named f.has
   stage_since key edit way (LayerReady layer) truth = let (b, at, f) = truth in layer_since way.node.0 b layer false _ at.named f.has
-  stage_since key edit way (Layered head) truth = border_since way.node.0 truth.0.b truth.0.named
+  stage_since key edit way (Layered head) truth = border_since way.node.0 truth.0.border.b truth.0.border.named
   stage_since key edit way (Filled place stored logged split) truth = let (b, at, f, has) = truth in locked_since _ way.node.0 split has
   stage_since key edit way (Made place stored columns logged) truth = let (b, at, f) = truth in border_since way.node.0 b at.named
   stage_since key edit way (Taken place stored before) truth = let (b, at, f) = truth in border_since way.node.0 b at.named

@@ -70,7 +70,7 @@ use Rattle.mt_calls.proofs.FoundLemmas.{some_at}
 use Rattle.mt_tree.proofs.RowLemmas.{stands_at, tells_row}
 use Rattle.mt_calls.proofs.WayLemmas.{starts}
 use Rattle.mt_calls.proofs.GetLemmas.{found_is_row}
-use Rattle.mt_calls.proofs.BorderLemmas.{now_named, others_named, keys_same, keys_changed, goes_border, locked_may, on_kept, unlocked_root, unlocked_free, own_free, mine_free, among_one}
+use Rattle.mt_calls.proofs.BorderLemmas.{alive_changed, now_named, others_named, keys_same, keys_changed, goes_border, locked_may, on_kept, unlocked_root, unlocked_free, own_free, mine_free, among_one}
 
 -- no write is a get
 pub no_get : (key : List ℕ) (edit : Edit) → IsTrue (is_get (edit_request key edit)) → ⊥
@@ -178,7 +178,7 @@ module _ (C : ℕ) (a : ArenaView) (key : List ℕ) (edit : Edit) (way : Way) (w
             record {
               goes = goes_border a way.node.0 b lock named now w [] (way.node.0 ∷ []) _ world kept.index (keys_same a (with_border_changed a way.node.0 lock) kept.content world.keys)
                   (unlocked_free a way.node.0 b lock named w [] unlocked (known_on (arena_seen a) w.chart way.node.0 (prefix_of key way) (border_seen b) stands.stands))
-                  (λ other i. inr (among_one other way.node.0 i)) (λ other ne i. elim i [ ]) (λ locked. first) (on_kept a now w.chart way.node.0 _ _ _ _ stands.stands.place world.retired, λ i. refl) (
+                  (λ other i. inr (among_one other way.node.0 i)) (λ other ne i. elim i [ ]) (λ locked. first) (on_kept a now w.chart way.node.0 _ _ _ _ stands.stands.place world.retired, λ i. refl, alive_changed a way.node.0 b lock named w.chart (inl refl)) (
                     lock b,
                     locked_at-changed a key way b w lock named at.layer stands (subst (λ (x : BorderView). IsLast (found_for (rest_of key way) x.live)) same at.last) refl refl refl
                         (ap (λ (x : BorderView). x.version.deleted) (sym same) ∙ at.alive) refl (unlocked_root a w.closing w.chart way.node.0 b named unlocked world.heads),
@@ -230,13 +230,13 @@ next_slot (s ∷ slots) entry some = record { slot = record s { entry = entry };
 -- ---- what is locked
 alone : (a : ArenaView) (key : List ℕ) (way : Way) (b : BorderView) (w : World) → IsLockedAt a key way b w → HasLocked (prefix_of key way) a w way.node.0 None
 alone a key way b w at = record {
-  locked = λ other i. subst (λ (m : ℕ). IsLockedBorder a w m) (sym (among_one other way.node.0 i)) (record { b = b; named = at.named; known = known_on (arena_seen a) w.chart way.node.0 (prefix_of key way) (border_seen b) at.stands.stands; locked = at.locked; free = at.free });
+  locked = λ other i. subst (λ (m : ℕ). IsLockedBorder a w m) (sym (among_one other way.node.0 i)) (record { b = b; named = at.named; known = known_on (arena_seen a) w.chart way.node.0 (prefix_of key way) (border_seen b) at.stands.stands; locked = at.locked; alive = at.alive; free = at.free });
   own = first;
   halves = tt;
 }
 
 pub other_locked : (a : ArenaView) (n : ℕ) (b : BorderView) (change : BorderView → BorderView) (named : border_at a.nodes n ≡ Some b) (w : World) (other : ℕ) → other ≢ n → IsLockedBorder a w other → IsLockedBorder (with_border_changed a n change) w other
-other_locked a n b change named w other differ k = record { b = k.b; named = ap (option_and_then border_of) (others_named a n b change named other differ) ∙ k.named; known = k.known; locked = k.locked; free = k.free }
+other_locked a n b change named w other differ k = record { b = k.b; named = ap (option_and_then border_of) (others_named a n b change named other differ) ∙ k.named; known = k.known; locked = k.locked; alive = k.alive; free = k.free }
 
 halves_changed : (prefix : List ℕ) (a : ArenaView) (n : ℕ) (b : BorderView) (change : BorderView → BorderView) (named : border_at a.nodes n ≡ Some b) (w : World) (split : Option Halves) → (change b).low ≡ b.low → AreHalves prefix a w split → AreHalves prefix (with_border_changed a n change) w split
 halves_changed prefix a n b change named w None low halves = tt
@@ -251,10 +251,10 @@ halves_changed prefix a n b change named w (Some split) low halves = record {
   ];
 }
 
-has_changed : (prefix : List ℕ) (a : ArenaView) (n : ℕ) (b : BorderView) (change : BorderView → BorderView) (named : border_at a.nodes n ≡ Some b) (w : World) (split : Option Halves) → (change b).version.locked ≡ true → (change b).low ≡ b.low → HasLocked prefix a w n split → HasLocked prefix (with_border_changed a n change) w n split
-has_changed prefix a n b change named w split locked low has = record {
+has_changed : (prefix : List ℕ) (a : ArenaView) (n : ℕ) (b : BorderView) (change : BorderView → BorderView) (named : border_at a.nodes n ≡ Some b) (w : World) (split : Option Halves) → (change b).version.locked ≡ true → (change b).version.deleted ≡ false → (change b).low ≡ b.low → HasLocked prefix a w n split → HasLocked prefix (with_border_changed a n change) w n split
+has_changed prefix a n b change named w split locked alive low has = record {
   locked = λ other i. elim (same_number other n) [
-    | inl e ↦ subst (λ (m : ℕ). IsLockedBorder (with_border_changed a n change) w m) (sym e) (record { b = change b; named = now_named a n b change named; known = (has.locked n has.own).known; locked = locked; free = (has.locked n has.own).free })
+    | inl e ↦ subst (λ (m : ℕ). IsLockedBorder (with_border_changed a n change) w m) (sym e) (record { b = change b; named = now_named a n b change named; known = (has.locked n has.own).known; locked = locked; alive = alive; free = (has.locked n has.own).free })
     | inr differ ↦ other_locked a n b change named w other differ (has.locked other i)
   ];
   own = has.own;
@@ -316,11 +316,11 @@ module _ (C : ℕ) (a : ArenaView) (log : LogView) (key : List ℕ) (sets : List
       (record {
         goes = goes_border a way.node.0 b fill at.named now w (owned way.node.0 split) (owned way.node.0 split) _ world (subst (λ (x : ArenaView). IsIndexAt x now w.twins w.chart) f.filled kept.index)
             (subst (λ (x : ArenaView). RowsAreOfKeys x) f.filled (keys_same a after kept.content world.keys))
-            (mine_free a way.node.0 w (owned way.node.0 split) has.own) (λ other i. inl i) (λ other ne i. i) (λ locked. has.own) (locked_may a way.node.0 b fill at.named now w world at.locked at.free) (
+            (mine_free a way.node.0 w (owned way.node.0 split) has.own) (λ other i. inl i) (λ other ne i. i) (λ locked. has.own) (locked_may a way.node.0 b fill at.named now w world at.locked at.free (inr (filled_deleted (first_held b.unused) b.version ∙ at.alive))) (
               fill b,
               locked_at-changed a key way b w fill at.named at.layer at.stands at.last refl refl refl (filled_deleted (first_held b.unused) b.version ∙ at.alive) (filled_locked (first_held b.unused) b.version ∙ at.locked) at.free,
               filled_is b place stored logged after left f same at.alive low right,
-              has_changed (prefix_of key way) a way.node.0 b fill at.named w split (filled_locked (first_held b.unused) b.version ∙ at.locked) refl has,
+              has_changed (prefix_of key way) a way.node.0 b fill at.named w split (filled_locked (first_held b.unused) b.version ∙ at.locked) (filled_deleted (first_held b.unused) b.version ∙ at.alive) refl has,
             );
         does = (record { content = subst (λ (x : ArenaView). SameContent (arena_seen a) (arena_seen x)) f.filled kept.content; trimmed = ap (λ (l : LogView). l.held_after) f.reserved; deltas = ap (λ (l : LogView). l.deltas) f.reserved }, refl);
         reserved = let more = ap (λ (l : LogView). l.reserved) f.reserved in omega (arith, more);
@@ -559,8 +559,8 @@ module _ (C : ℕ) (a : ArenaView) (log : LogView) (key : List ℕ) (edit : Edit
         record {
           goes = subst (λ (x : ArenaView). Goes now a x w (owned way.node.0 split) (owned way.node.0 split) (λ next. StageIsTrue C key edit way (Stored number split) begun after next)) (sym is)
               (goes_border a way.node.0 b show at.named now w (owned way.node.0 split) (owned way.node.0 split) _ world (subst (λ (x : ArenaView). IsIndexAt x now w.twins w.chart) is adds.0)
-              (subst (λ (x : ArenaView). RowsAreOfKeys x) is (keys_changed a after log left key None (Some (put_row C number f.sets None)) number done world.keys)) (mine_free a way.node.0 w (owned way.node.0 split) has.own) (λ other i. inl i) (λ other ne i. i) (λ locked. has.own) (locked_may a way.node.0 b show at.named now w world at.locked at.free)
-              (subst (λ (x : ArenaView). HasLocked (prefix_of key way) x w way.node.0 split) (sym is) (has_changed (prefix_of key way) a way.node.0 b show at.named w split at.locked refl has)));
+              (subst (λ (x : ArenaView). RowsAreOfKeys x) is (keys_changed a after log left key None (Some (put_row C number f.sets None)) number done world.keys)) (mine_free a way.node.0 w (owned way.node.0 split) has.own) (λ other i. inl i) (λ other ne i. i) (λ locked. has.own) (locked_may a way.node.0 b show at.named now w world at.locked at.free (inr at.alive))
+              (subst (λ (x : ArenaView). HasLocked (prefix_of key way) x w way.node.0 split) (sym is) (has_changed (prefix_of key way) a way.node.0 b show at.named w split at.locked at.alive refl has)));
           does = (
             subst (λ (e : Edit). Commits C a after log left (edit_request key e) number) (sym f.is_put) (
               None,
@@ -603,8 +603,8 @@ module _ (C : ℕ) (a : ArenaView) (log : LogView) (key : List ℕ) (edit : Edit
         record {
           goes = subst (λ (x : ArenaView). Goes now a x w (way.node.0 ∷ []) (way.node.0 ∷ []) (λ next. StageIsTrue C key edit way (Stored number None) begun after next)) (sym is)
               (goes_border a way.node.0 b write at.named now w (way.node.0 ∷ []) (way.node.0 ∷ []) _ world (subst (λ (x : ArenaView). IsIndexAt x now w.twins w.chart) is replaces.0)
-              (subst (λ (x : ArenaView). RowsAreOfKeys x) is (keys_changed a after log left key (row_at place b.live) (Some (put_row C number f.sets (row_at place b.live))) number done world.keys)) (own_free a way.node.0 w) (λ other i. inl i) (λ other ne i. i) (λ locked. first) (locked_may a way.node.0 b write at.named now w world at.locked at.free)
-              (subst (λ (x : ArenaView). HasLocked (prefix_of key way) x w way.node.0 None) (sym is) (has_changed (prefix_of key way) a way.node.0 b write at.named w None at.locked refl (alone a key way b w at))));
+              (subst (λ (x : ArenaView). RowsAreOfKeys x) is (keys_changed a after log left key (row_at place b.live) (Some (put_row C number f.sets (row_at place b.live))) number done world.keys)) (own_free a way.node.0 w) (λ other i. inl i) (λ other ne i. i) (λ locked. first) (locked_may a way.node.0 b write at.named now w world at.locked at.free (inr at.alive))
+              (subst (λ (x : ArenaView). HasLocked (prefix_of key way) x w way.node.0 None) (sym is) (has_changed (prefix_of key way) a way.node.0 b write at.named w None at.locked at.alive refl (alone a key way b w at))));
           does = (
             subst (λ (e : Edit). Commits C a after log left (edit_request key e) number) (sym f.is_put) (
               row_at place b.live,
@@ -638,8 +638,8 @@ module _ (C : ℕ) (a : ArenaView) (log : LogView) (key : List ℕ) (edit : Edit
         record {
           goes = subst (λ (x : ArenaView). Goes now a x w (way.node.0 ∷ []) (way.node.0 ∷ []) (λ next. StageIsTrue C key edit way (Stored number None) begun after next)) (sym is)
               (goes_border a way.node.0 b hide at.named now w (way.node.0 ∷ []) (way.node.0 ∷ []) _ world (subst (λ (x : ArenaView). IsIndexAt x now w.twins w.chart) is removes.0)
-              (subst (λ (x : ArenaView). RowsAreOfKeys x) is (keys_changed a after log left key (Some before) None number done world.keys)) (own_free a way.node.0 w) (λ other i. inl i) (λ other ne i. i) (λ locked. first) (locked_may a way.node.0 b hide at.named now w world at.locked at.free)
-              (subst (λ (x : ArenaView). HasLocked (prefix_of key way) x w way.node.0 None) (sym is) (has_changed (prefix_of key way) a way.node.0 b hide at.named w None at.locked refl (alone a key way b w at))));
+              (subst (λ (x : ArenaView). RowsAreOfKeys x) is (keys_changed a after log left key (Some before) None number done world.keys)) (own_free a way.node.0 w) (λ other i. inl i) (λ other ne i. i) (λ locked. first) (locked_may a way.node.0 b hide at.named now w world at.locked at.free (inr at.alive))
+              (subst (λ (x : ArenaView). HasLocked (prefix_of key way) x w way.node.0 None) (sym is) (has_changed (prefix_of key way) a way.node.0 b hide at.named w None at.locked at.alive refl (alone a key way b w at))));
           does = (
             subst (λ (x : Edit). Commits C a after log left (edit_request key x) number) (sym f.is_remove) (
               before,
@@ -722,7 +722,7 @@ module _ (C : ℕ) (a : ArenaView) (log : LogView) (key : List ℕ) (edit : Edit
         subst (λ (x : ArenaView). Goes now a x w (way.node.0 ∷ []) [] Then) (sym is)
             (goes_border a way.node.0 at.b unlock at.named now w (way.node.0 ∷ []) [] _ world (subst (λ (x : ArenaView). IsIndexAt x now w.twins w.chart) is kept.index)
             (subst (λ (x : ArenaView). RowsAreOfKeys x) is (keys_same a after kept.content world.keys))
-            (own_free a way.node.0 w) (λ other i. elim i [ ]) (λ other ne i. absurd (ne (among_one other way.node.0 i))) (λ taken. absurd (elim taken [ inl locked ↦ (let clash : false ≡ true = locked in cc) | inr none ↦ (let some : IsSome (let nothing : Option Spot = None in nothing) = subst (λ (x : Option Spot). IsSome x) none at.known in cc) ])) (locked_may a way.node.0 at.b unlock at.named now w world at.locked at.free) truth),
+            (own_free a way.node.0 w) (λ other i. elim i [ ]) (λ other ne i. absurd (ne (among_one other way.node.0 i))) (λ taken. absurd (elim taken [ inl locked ↦ (let clash : false ≡ true = locked in cc) | inr none ↦ (let some : IsSome (let nothing : Option Spot = None in nothing) = subst (λ (x : Option Spot). IsSome x) none at.known in cc) ])) (locked_may a way.node.0 at.b unlock at.named now w world at.locked at.free (inr at.alive)) truth),
         record { content = kept.content; trimmed = refl; deltas = refl },
       )
 
@@ -740,7 +740,7 @@ module _ (C : ℕ) (a : ArenaView) (log : LogView) (key : List ℕ) (edit : Edit
     steps = λ now begun moves past w world before truth.
         let (b, at) = truth in
         let same : lacking.b ≡ b = (let both : ◌≡◌ {A = Option BorderView} (Some lacking.b) (Some b) = sym lacking.named ∙ at.named in cc) in
-        let (goes, quiet) = ends (λ next. Unit {0}) now w after is keeps world (record { b = b; named = at.named; known = known_on (arena_seen a) w.chart way.node.0 (prefix_of key way) (border_seen b) at.stands.stands; locked = at.locked; free = at.free }) tt in
+        let (goes, quiet) = ends (λ next. Unit {0}) now w after is keeps world (record { b = b; named = at.named; known = known_on (arena_seen a) w.chart way.node.0 (prefix_of key way) (border_seen b) at.stands.stands; locked = at.locked; alive = at.alive; free = at.free }) tt in
         let stood = stood_is b w now lacking.bytes (subst IsBorder same lacking.sound) world at in
         let none : row_found b.live (found_for rest b.live) ≡ None = subst (λ (x : BorderView). row_found x.live (found_for rest x.live) ≡ None) same lacking.none in
         record {

@@ -24,7 +24,7 @@ use Rattle.mt_write.specs.declared.writing.Edit.{Edit}
 use Rattle.mt_write.specs.declared.writing.Edit.TheVariants.{Put, Remove}
 use Rattle.mt_write.specs.declared.writing.Halves.{Halves}
 use Rattle.mt_write.specs.declared.writing.Stage.{Stage}
-use Rattle.mt_write.specs.declared.writing.Stage.TheVariants.{Locked, Halved, Posts, Failed}
+use Rattle.mt_write.specs.declared.writing.Stage.TheVariants.{Seeks, Locked, Halved, Posts, Failed}
 use Rattle.mt_write.specs.declared.writing.Ending.{Ending}
 use Rattle.mt_write.specs.declared.writing.Ending.TheVariants.{Stored as EndStored, Failed as EndFailed}
 use Rattle.mt_post.specs.declared.posting.Posting.{Posting}
@@ -36,26 +36,35 @@ abbrev pub PostingWaits : ArenaView → Posting → Progress → Type 0
 PostingWaits a posting Waits = PostWaits a posting PostAgain
 PostingWaits a posting _ = Unit {0}
 
--- else a put or remove waits only where the node that it visits is marked deleted, or is a border that is locked
+-- a put or remove waits on its way only where the node that it visits is marked deleted, or is a border that is locked
 abbrev pub BorderWaits : ArenaView → ℕ → Progress → Type 0
 BorderWaits a number Waits = IsMarkedAt a number ⊎ IsLockedAlready a number
 BorderWaits a number _ = Unit {0}
 
+-- it never waits
+abbrev pub NeverWaits : Progress → Type 0
+NeverWaits Waits = ⊥
+NeverWaits _ = Unit {0}
+
+-- once it has locked its border it waits only while it posts
 abbrev pub StageWaits : ArenaView → ℕ → Stage → Progress → Type 0
+StageWaits a number Seeks p = BorderWaits a number p
 StageWaits a number (Posts posting ending) p = PostingWaits a posting p
-StageWaits a number stage p = BorderWaits a number p
+StageWaits a number stage p = NeverWaits p
 
 abbrev pub WriteWaits : ArenaView → WriteView → Progress → Type 0
 WriteWaits a write p = StageWaits a write.way.node.0 write.stage p
 
 -- ---- why a put or remove fails, unless memory is wanting
--- a new row can't be made ready where the slot's counter of insertions would rise and is spent, or no commit's number is left
+-- a new row can't be made ready where the slot's counter of insertions would rise and is spent, or no commit's number
+-- is left
 abbrev pub fill_fault : LogView → BorderView → Option Refusal
 fill_fault log b = option_or (refused_if (fill_is_spent b) Spent) (reserve_fault log)
 
 -- a full border can't be split where its counter of splits is spent, or no number is left for the half
 abbrev pub split_fault : ArenaView → BorderView → Option Refusal
-split_fault a b = option_or (refused_if (b.version.vsplit == MAX_SPLITS) Spent) (refused_if (occupied a.nodes == MAX_NODES) ArenaFull)
+split_fault a b = option_or (refused_if (b.version.vsplit == MAX_SPLITS) Spent)
+    (refused_if (occupied a.nodes == MAX_NODES) ArenaFull)
 
 -- a layer can't be made where fewer than two numbers are left
 abbrev pub layer_fault : ArenaView → Option Refusal
@@ -111,12 +120,17 @@ EndsWith (EndStored commit) stage = IsNotFailed stage
 EndsWith (EndFailed refusal) (Failed failed split) = failed ≡ refusal
 EndsWith (EndFailed refusal) _ = Unit {0}
 
--- WHY A PUT OR REMOVE FAILS. It fails only in the step that makes ready at the border that it has locked, or at the half where its key belongs,
--- for a fault there, and for want of memory only where there is none. It is refused only where it had failed, for that.
+-- WHY A PUT OR REMOVE FAILS. It fails only in the step that makes ready at the border that it has locked, or at the
+-- half where its key belongs, for a fault there, and for want of memory only where there is none. It is refused only
+-- where it had failed, for that.
 abbrev pub StageFails : ArenaView → LogView → List ℕ → Edit → Way → Stage → Progress → Stage → Type 0
-StageFails a log key edit way Locked (Answered answer) new = IsSomeAnd (border_at a.nodes way.node.0) (λ b. edit_fault a log edit b (found_for (rest_of key way) b.live) ≡ None)
-StageFails a log key edit way Locked p new = IsNotRefused p × IsSomeAnd (border_at a.nodes way.node.0) (λ b. FailsBy (edit_fault a log edit b (found_for (rest_of key way) b.live)) None new)
-StageFails a log key edit way (Halved split) p new = IsNotRefused p × IsSomeAnd (border_at a.nodes way.node.0) (λ b. FailsBy (fill_fault log b) (Some split) new)
+StageFails a log key edit way Locked (Answered answer) new =
+    IsSomeAnd (border_at a.nodes way.node.0) (λ b. edit_fault a log edit b (found_for (rest_of key way) b.live) ≡ None)
+StageFails a log key edit way Locked p new = IsNotRefused p
+    × IsSomeAnd (border_at a.nodes way.node.0)
+    (λ b. FailsBy (edit_fault a log edit b (found_for (rest_of key way) b.live)) None new)
+StageFails a log key edit way (Halved split) p new = IsNotRefused p
+    × IsSomeAnd (border_at a.nodes way.node.0) (λ b. FailsBy (fill_fault log b) (Some split) new)
 StageFails a log key edit way (Failed refusal split) (Refused refused) new = (refused ≡ refusal) × (split ≡ None)
 StageFails a log key edit way (Failed refusal split) p new = IsNotRefused p × IsPosting (EndFailed refusal) new
 StageFails a log key edit way (Posts posting ending) p new = IsNotRefused p × EndsWith ending new

@@ -1,14 +1,19 @@
 -- Which stage of a put or remove follows which: said of the nodes before the step, and of the call before and after it.
-use Rattle.std.specs.Prelude.{ℕ, ◌≡◌, ◌≢◌, ◌⊎◌, ◌+◌, List, Option, Some, None}
+use Rattle.std.specs.Prelude.{ℕ, ◌≡◌, ◌≢◌, ◌⊎◌, ◌+◌, List, [], Option, Some, None}
 use Rattle.mt_arena.specs.Arena.{ArenaView}
+use Rattle.mt_types.specs.declared.numbers.NodeNo.{NodeNo}
 use Rattle.mt_calls.specs.declared.progress.Progress.{Progress}
 use Rattle.mt_calls.specs.declared.progress.Progress.TheVariants.{Moved, Waits, Committed}
 use Rattle.mt_calls.specs.declared.way.Way.{Way}
 use Rattle.mt_calls.specs.declared.way.Went.TheVariants.{To}
 use Rattle.mt_calls.specs.Way.{Visits}
 use Rattle.mt_post.specs.declared.posting.Posting.{Posting}
-use Rattle.mt_post.specs.declared.posting.Progressed.TheVariants.{Moved as PostMoved}
-use Rattle.mt_post.specs.Follows.{PostFollows}
+use Rattle.mt_post.specs.declared.posting.Progressed.{Progressed}
+use Rattle.mt_post.specs.declared.posting.Progressed.TheVariants.{Moved as PostMoved, Waits as PostAgain}
+use Rattle.mt_post.specs.declared.posting.PostStage.TheVariants.{Walks}
+use Rattle.mt_post.specs.Follows.{PostFollows, MarksNone}
+use Rattle.mt_post.specs.Ending.{GetsNearer}
+use Rattle.mt_post.specs.Alone.{LoneStep}
 use Rattle.mt_write.specs.declared.writing.Halves.{Halves}
 use Rattle.mt_write.specs.declared.writing.Ending.{Ending}
 use Rattle.mt_write.specs.declared.writing.Ending.TheVariants.{Stored as EndStored, Failed as EndFailed}
@@ -48,7 +53,8 @@ abbrev pub StageFollows : ArenaView → List ℕ → Way → Stage → Way → S
 StageFollows a key way Seeks next new = StaysAt way next new Locked ⊎ ((new ≡ Seeks) × Visits a key way (To next))
 StageFollows a key way Locked next new = IsMadeReady new × (next ≡ way)
 StageFollows a key way (Spared half cut entries) next new = StaysAt way next new (HalfFilled half cut)
-StageFollows a key way (HalfFilled half cut) next new = (new ≡ Halved (record { left = way.node; half = half })) × (next.layer ≡ way.layer)
+StageFollows a key way (HalfFilled half cut) next new = (new ≡ Halved (record { left = way.node; half = half }))
+    × (next.layer ≡ way.layer)
 StageFollows a key way (Halved split) next new = IsReadyIn split new × (next ≡ way)
 StageFollows a key way (LayerSpared layer entries) next new = StaysAt way next new (LayerFilled layer)
 StageFollows a key way (LayerFilled layer) next new = StaysAt way next new (LayerReady layer)
@@ -72,3 +78,51 @@ Follows a key way stage _ next new = Unit {0}
 
 abbrev pub WriteFollows : ArenaView → WriteView → Progress → WriteView → Type 0
 WriteFollows a write p new = Follows a write.key write.way write.stage p new.way new.stage
+
+-- ---- the head of the layer where it is
+-- on its way: the same head in the same layer, and else the node to which it goes; where it waits it may begin again
+abbrev pub HeadOnWay : NodeNo → Way → Progress → Way → NodeNo → Type 0
+HeadOnWay head way Waits next then = Unit {0}
+HeadOnWay head way p next then = ((next.layer ≡ way.layer) × (then ≡ head)) ⊎ ((next.layer ≢ way.layer)
+    × (then ≡ next.node))
+
+-- where it goes into a layer that it has linked it is that layer's head; else it stays
+abbrev pub HeadGoes : NodeNo → Way → Stage → Progress → Way → NodeNo → Type 0
+HeadGoes head way Seeks p next then = HeadOnWay head way p next then
+HeadGoes head way (Layered below) p next then = then ≡ below
+HeadGoes head way _ p next then = then ≡ head
+
+abbrev pub HeadFollows : WriteView → Progress → WriteView → Type 0
+HeadFollows write p new = HeadGoes write.head write.way write.stage p new.way new.head
+
+-- ---- its posting
+-- a new posting of a half in the layer of a head: no split waits, and it is at the head
+pub record IsNewPosting (head half : NodeNo) (posting : Posting) : Type 0 where
+  pub same_head : posting.head ≡ head
+  pub same_half : posting.half ≡ half
+  pub idle : posting.waiting ≡ []
+  pub walks : posting.stage ≡ Walks head
+
+-- what a step of its posting has done
+pub record PostingSteps (a after : ArenaView) (posting : Posting) (p : Progressed) (then : Posting) : Type 0 where
+  pub same : then ≡ record posting { waiting = then.waiting; stage = then.stage }
+  pub gets_on : PostFollows a posting p then
+  pub nearer : GetsNearer a after posting p then
+  pub alone : LoneStep a after posting p then
+  pub marks : MarksNone a after
+
+-- while it posts, a step of it is one of its posting
+abbrev pub PostingGoes : ArenaView → ArenaView → Posting → Progress → Posting → Type 0
+PostingGoes a after posting Moved then = PostingSteps a after posting PostMoved then
+PostingGoes a after posting Waits then = PostingSteps a after posting PostAgain then
+PostingGoes a after posting _ then = Unit {0}
+
+-- the posting with which it goes on: a new one of its right half, or the one that it had, after a step
+abbrev pub PostsGo : ArenaView → ArenaView → NodeNo → Stage → Progress → Stage → Type 0
+PostsGo a after head (Stored commit (Some split)) p (Posts posting ending) = IsNewPosting head split.half posting
+PostsGo a after head (Failed refusal (Some split)) p (Posts posting ending) = IsNewPosting head split.half posting
+PostsGo a after head (Posts posting ending) p (Posts then other) = PostingGoes a after posting p then
+PostsGo a after head _ p new = Unit {0}
+
+abbrev pub PostsFollow : ArenaView → ArenaView → WriteView → Progress → WriteView → Type 0
+PostsFollow a after write p new = PostsGo a after write.head write.stage p new.stage

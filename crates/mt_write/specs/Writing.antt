@@ -20,7 +20,7 @@ use Rattle.mt_chart.specs.Tree.{Among}
 use Rattle.mt_border.specs.Entry.{IsEntry, entry_of_row}
 use Rattle.mt_border.specs.Order.{IsBorder}
 use Rattle.mt_border.specs.declared.entry.Entry.{Entry}
-use Rattle.mt_border.specs.declared.entry.Content.TheVariants.{Long}
+use Rattle.mt_border.specs.declared.entry.Content.TheVariants.{Long, Link}
 use Rattle.mt_border.specs.declared.slot_table.Slot.{Slot}
 use Rattle.mt_border.specs.declared.found.Found.TheVariants.{Absent, Row as RowFound}
 use Rattle.mt_arena.specs.Node.{node_at, head_at, border_at, Updates}
@@ -30,7 +30,7 @@ use Rattle.mt_arena.specs.Arena.{ArenaView, with_border_changed}
 use Rattle.mt_chart.specs.Tree.{Arena}
 use Rattle.mt_chart.specs.TreeLaws.{IsWhere}
 use Rattle.mt_tree.specs.Seen.{arena_seen, border_seen}
-use Rattle.mt_tree.specs.Keeping.{KeepsTree, KeepsUnknown, IsUnknown}
+use Rattle.mt_tree.specs.Keeping.{KeepsTree, KeepsUnknown, IsUnknown, IsOnIn}
 use Rattle.mt_tree.specs.Descent.{IsLast, HasOtherSuffix, found_for, row_found}
 use Rattle.mt_tree.specs.BorderSteps.{MayShowAt}
 use Rattle.mt_calls.specs.declared.way.Way.{Way}
@@ -90,19 +90,36 @@ ending_stage (EndFailed refusal) split = Failed refusal split
 abbrev pub stage_held : ℕ → Stage → Held
 stage_held number Seeks = nothing
 stage_held number Locked = record { owns = number ∷ []; reserves = 0; committed = None; blocked = None }
-stage_held number (Spared half cut entries) = record { owns = half.0 ∷ number ∷ []; reserves = 0; committed = None; blocked = None }
-stage_held number (HalfFilled half cut) = record { owns = half.0 ∷ number ∷ []; reserves = 0; committed = None; blocked = None }
-stage_held number (Halved split) = record { owns = owned number (Some split); reserves = 0; committed = None; blocked = None }
-stage_held number (LayerSpared layer entries) = record { owns = layer_owned number layer; reserves = 0; committed = None; blocked = None }
-stage_held number (LayerFilled layer) = record { owns = layer_owned number layer; reserves = 0; committed = None; blocked = None }
-stage_held number (LayerReady layer) = record { owns = layer_owned number layer; reserves = 0; committed = None; blocked = None }
+stage_held number (Spared half cut entries) =
+    record { owns = half.0 ∷ number ∷ []; reserves = 0; committed = None; blocked = None }
+stage_held number (HalfFilled half cut) =
+    record { owns = half.0 ∷ number ∷ []; reserves = 0; committed = None; blocked = None }
+stage_held number (Halved split) =
+    record { owns = owned number (Some split); reserves = 0; committed = None; blocked = None }
+stage_held number (LayerSpared layer entries) =
+    record { owns = layer_owned number layer; reserves = 0; committed = None; blocked = None }
+stage_held number (LayerFilled layer) =
+    record { owns = layer_owned number layer; reserves = 0; committed = None; blocked = None }
+stage_held number (LayerReady layer) =
+    record { owns = layer_owned number layer; reserves = 0; committed = None; blocked = None }
 stage_held number (Layered head) = record { owns = number ∷ []; reserves = 0; committed = None; blocked = None }
-stage_held number (Filled place stored logged split) = record { owns = owned number split; reserves = 1; committed = None; blocked = None }
-stage_held number (Made place stored columns logged) = record { owns = number ∷ []; reserves = 1; committed = None; blocked = None }
-stage_held number (Taken place stored before) = record { owns = number ∷ []; reserves = 1; committed = None; blocked = None }
-stage_held number (Posts posting ending) = record { owns = posting_owned posting; reserves = 0; committed = ending_commit ending; blocked = ending_blocked ending }
-stage_held number (Stored commit split) = record { owns = owned number split; reserves = 0; committed = Some commit; blocked = None }
-stage_held number (Failed refusal split) = record { owns = owned number split; reserves = 0; committed = None; blocked = blocked_by refusal }
+stage_held number (Filled place stored logged split) =
+    record { owns = owned number split; reserves = 1; committed = None; blocked = None }
+stage_held number (Made place stored columns logged) =
+    record { owns = number ∷ []; reserves = 1; committed = None; blocked = None }
+stage_held number (Taken place stored before) =
+    record { owns = number ∷ []; reserves = 1; committed = None; blocked = None }
+stage_held number (Posts posting ending) =
+    record {
+      owns = posting_owned posting;
+      reserves = 0;
+      committed = ending_commit ending;
+      blocked = ending_blocked ending;
+    }
+stage_held number (Stored commit split) =
+    record { owns = owned number split; reserves = 0; committed = Some commit; blocked = None }
+stage_held number (Failed refusal split) =
+    record { owns = owned number split; reserves = 0; committed = None; blocked = blocked_by refusal }
 
 abbrev pub write_held : Write → Held
 write_held write = stage_held write.way.node.0 write.stage
@@ -111,13 +128,15 @@ write_held write = stage_held write.way.node.0 write.stage
 pub record IsLockedAt (a : ArenaView) (key : List ℕ) (way : Way) (b : BorderView) (w : World) : Type 0 where
   pub layer : IsLayerOf key way
   pub named : border_at a.nodes way.node.0 ≡ Some b
-  pub stands : IsWhere (arena_seen a) w.chart way.node.0 (prefix_of key way) (border_seen b) (place_of (rest_of key way))
+  pub stands : IsWhere (arena_seen a) w.chart way.node.0 (prefix_of key way) (border_seen b)
+      (place_of (rest_of key way))
   pub alive : b.version.deleted ≡ false
   pub last : IsLast (found_for (rest_of key way) b.live)
   pub locked : b.version.locked ≡ true
   pub free : NotAmong way.node.0 w.closing
 
--- the halves of a border that is split: the right one is on in the layer of the prefix from its low on, and nothing may name it yet
+-- the halves of a border that is split: the right one is on in the layer of the prefix from its low on, and nothing may
+-- name it yet
 pub record IsSplit (prefix : List ℕ) (a : ArenaView) (w : World) (split : Halves) : Type 0 where
   pub apart : split.left.0 ≢ split.half.0
   pub low : ℕ
@@ -188,11 +207,14 @@ lone_root number entry = with_entries (new_border number 0 false) (entry ∷ [])
 
 -- the entry at a place is of a key that goes on after its slice
 abbrev pub HoldsLong : BorderView → ℕ → Type 0
-HoldsLong b place = (slice : ℕ) × (suffix : List ℕ) × (row : Row) × (slice_get b.live place ≡ Some (record { slice = slice; content = Long suffix row }))
+HoldsLong b place = (slice : ℕ) × (suffix : List ℕ) × (row : Row)
+    × (slice_get b.live place ≡ Some (record { slice = slice; content = Long suffix row }))
 
 -- these entries are that key's alone, one layer deeper
 abbrev pub MovesLong : BorderView → ℕ → List Entry → Type 0
-MovesLong b place entries = (slice : ℕ) (suffix : List ℕ) (row : Row) → slice_get b.live place ≡ Some (record { slice = slice; content = Long suffix row }) → (entries ≡ entry_of_row suffix row ∷ []) × IsEntry (entry_of_row suffix row)
+MovesLong b place entries = (slice : ℕ) (suffix : List ℕ) (row : Row)
+    → slice_get b.live place ≡ Some (record { slice = slice; content = Long suffix row })
+    → (entries ≡ entry_of_row suffix row ∷ []) × IsEntry (entry_of_row suffix row)
 
 -- the head and the root of a layer, which the chart doesn't know
 pub record HasLayer (a : ArenaView) (w : World) (layer : Layer) (locked : Bool) (root : BorderView) : Type 0 where
@@ -202,17 +224,26 @@ pub record HasLayer (a : ArenaView) (w : World) (layer : Layer) (locked : Bool) 
   pub root_unknown : w.chart layer.root.0 ≡ None
 
 -- the layer's root is to be filled, or is filled with the entry of the other key
-pub record IsToFill (a : ArenaView) (w : World) (key : List ℕ) (way : Way) (b : BorderView) (layer : Layer) (entries : List Entry) : Type 0 where
+pub record IsToFill (a : ArenaView) (w : World) (key : List ℕ) (way : Way) (b : BorderView) (layer : Layer)
+    (entries : List Entry) : Type 0 where
   pub number : ℕ
   pub at : IsLayerAt key way b layer.place
   pub has : HasLayer a w layer true (new_border number 0 false)
   pub moved : entries ≡ moved_entry key way b layer.place at ∷ []
   pub whole : IsEntry (moved_entry key way b layer.place at)
 
-pub record IsToLink (a : ArenaView) (w : World) (key : List ℕ) (way : Way) (b : BorderView) (layer : Layer) (locked : Bool) : Type 0 where
+pub record IsToLink (a : ArenaView) (w : World) (key : List ℕ) (way : Way) (b : BorderView) (layer : Layer)
+    (locked : Bool) : Type 0 where
   pub number : ℕ
   pub at : IsLayerAt key way b layer.place
   pub has : HasLayer a w layer locked (lone_root number (moved_entry key way b layer.place at))
+
+-- the call has locked a border that is on in the layer of a prefix, and that has the link to the head of a layer below
+pub record HasLink (prefix : List ℕ) (a : ArenaView) (w : World) (number : ℕ) (head : NodeNo) : Type 0 where
+  pub border : IsLockedBorder a w number
+  pub stands : IsOnIn w.chart number prefix
+  pub slice : ℕ
+  pub linked : Among (record { slice = slice; content = Link head }) border.b.live
 
 -- the way of the key into the layer of a head
 abbrev pub way_below : Way → NodeNo → Way
@@ -223,7 +254,8 @@ abbrev pub new_entry : List ℕ → Way → List (List ℕ) → Entry
 new_entry key way columns = entry_of_row (rest_of key way) (record { version = 0; columns = columns })
 
 -- the key has no row, and the first unused slot holds the new one
-pub record IsFilled (C : ℕ) (key : List ℕ) (edit : Edit) (way : Way) (b : BorderView) (place : ℕ) (stored : List ℕ) (logged : List (List ℕ)) : Type 0 where
+pub record IsFilled (C : ℕ) (key : List ℕ) (edit : Edit) (way : Way) (b : BorderView) (place : ℕ) (stored : List ℕ)
+    (logged : List (List ℕ)) : Type 0 where
   pub bytes : AreBytes key
   pub fits : length key ≤ MAX_KEY_BYTES
   pub sound : IsBorder b
@@ -239,7 +271,8 @@ pub record IsFilled (C : ℕ) (key : List ℕ) (edit : Edit) (way : Way) (b : Bo
   pub entry : slot.entry ≡ new_entry key way logged
 
 -- the key has a row, and the columns are made that it is to have
-pub record IsMade (C : ℕ) (key : List ℕ) (edit : Edit) (way : Way) (b : BorderView) (place : ℕ) (stored : List ℕ) (columns logged : List (List ℕ)) : Type 0 where
+pub record IsMade (C : ℕ) (key : List ℕ) (edit : Edit) (way : Way) (b : BorderView) (place : ℕ) (stored : List ℕ)
+    (columns logged : List (List ℕ)) : Type 0 where
   pub bytes : AreBytes key
   pub fits : length key ≤ MAX_KEY_BYTES
   pub sound : IsBorder b
@@ -251,7 +284,8 @@ pub record IsMade (C : ℕ) (key : List ℕ) (edit : Edit) (way : Way) (b : Bord
   pub copied : logged ≡ columns
 
 -- the key has a row, which is copied for the log, and is to be removed
-pub record IsFound (key : List ℕ) (edit : Edit) (way : Way) (b : BorderView) (place : ℕ) (stored : List ℕ) (before : Row) : Type 0 where
+pub record IsFound (key : List ℕ) (edit : Edit) (way : Way) (b : BorderView) (place : ℕ) (stored : List ℕ)
+    (before : Row) : Type 0 where
   pub bytes : AreBytes key
   pub fits : length key ≤ MAX_KEY_BYTES
   pub sound : IsBorder b
@@ -268,44 +302,64 @@ MayEnd key edit (EndFailed refusal) = MayRefuse (edit_request key edit) refusal
 abbrev pub StageIsTrue : ℕ → List ℕ → Edit → Way → Stage → ℕ → ArenaView → World → Type 0
 StageIsTrue C key edit way Seeks begun a w = IsOnWay begun key way w
 StageIsTrue C key edit way Locked begun a w = (b : BorderView) × IsLockedAt a key way b w
-StageIsTrue C key edit way (Spared half cut entries) begun a w = (b : BorderView) × IsLockedAt a key way b w × (c : IsCutAt key edit way b cut) × IsSpare a w half.0 (empty_half b c.middle) × (entries ≡ drop cut b.live)
-StageIsTrue C key edit way (HalfFilled half cut) begun a w = (b : BorderView) × IsLockedAt a key way b w × (c : IsCutAt key edit way b cut) × IsSpare a w half.0 (upper_half b cut c.middle)
-StageIsTrue C key edit way (Halved split) begun a w = (b : BorderView) × IsLockedAt a key way b w × IsHalf key edit way b × HasLocked (prefix_of key way) a w way.node.0 (Some split)
-StageIsTrue C key edit way (LayerSpared layer entries) begun a w = (b : BorderView) × IsLockedAt a key way b w × IsToFill a w key way b layer entries
-StageIsTrue C key edit way (LayerFilled layer) begun a w = (b : BorderView) × IsLockedAt a key way b w × IsToLink a w key way b layer true
-StageIsTrue C key edit way (LayerReady layer) begun a w = (b : BorderView) × IsLockedAt a key way b w × IsToLink a w key way b layer false
-StageIsTrue C key edit way (Layered head) begun a w = IsLockedBorder a w way.node.0 × IsOnWay begun key (way_below way head) w × IsHeadOf w begun head.0 (prefix_of key (way_below way head))
-StageIsTrue C key edit way (Filled place stored logged split) begun a w = (b : BorderView) × IsLockedAt a key way b w × IsFilled C key edit way b place stored logged × HasLocked (prefix_of key way) a w way.node.0 split
-StageIsTrue C key edit way (Made place stored columns logged) begun a w = (b : BorderView) × IsLockedAt a key way b w × IsMade C key edit way b place stored columns logged
-StageIsTrue C key edit way (Taken place stored before) begun a w = (b : BorderView) × IsLockedAt a key way b w × IsFound key edit way b place stored before
-StageIsTrue C key edit way (Posts posting ending) begun a w = PostingIsTrue begun posting a w × (posting.half ≡ way.node) × MayEnd key edit ending
+StageIsTrue C key edit way (Spared half cut entries) begun a w = (b : BorderView) × IsLockedAt a key way b w
+    × (c : IsCutAt key edit way b cut) × IsSpare a w half.0 (empty_half b c.middle) × (entries ≡ drop cut b.live)
+StageIsTrue C key edit way (HalfFilled half cut) begun a w = (b : BorderView) × IsLockedAt a key way b w
+    × (c : IsCutAt key edit way b cut) × IsSpare a w half.0 (upper_half b cut c.middle)
+StageIsTrue C key edit way (Halved split) begun a w = (b : BorderView) × IsLockedAt a key way b w
+    × IsHalf key edit way b × HasLocked (prefix_of key way) a w way.node.0 (Some split)
+StageIsTrue C key edit way (LayerSpared layer entries) begun a w = (b : BorderView) × IsLockedAt a key way b w
+    × IsToFill a w key way b layer entries
+StageIsTrue C key edit way (LayerFilled layer) begun a w = (b : BorderView) × IsLockedAt a key way b w
+    × IsToLink a w key way b layer true
+StageIsTrue C key edit way (LayerReady layer) begun a w = (b : BorderView) × IsLockedAt a key way b w
+    × IsToLink a w key way b layer false
+StageIsTrue C key edit way (Layered head) begun a w = HasLink (prefix_of key way) a w way.node.0 head
+    × IsOnWay begun key (way_below way head) w × IsHeadOf w begun head.0 (prefix_of key (way_below way head))
+StageIsTrue C key edit way (Filled place stored logged split) begun a w = (b : BorderView) × IsLockedAt a key way b w
+    × IsFilled C key edit way b place stored logged × HasLocked (prefix_of key way) a w way.node.0 split
+StageIsTrue C key edit way (Made place stored columns logged) begun a w = (b : BorderView) × IsLockedAt a key way b w
+    × IsMade C key edit way b place stored columns logged
+StageIsTrue C key edit way (Taken place stored before) begun a w = (b : BorderView) × IsLockedAt a key way b w
+    × IsFound key edit way b place stored before
+StageIsTrue C key edit way (Posts posting ending) begun a w = PostingIsTrue begun posting a w
+    × (posting.half ≡ way.node) × MayEnd key edit ending
 StageIsTrue C key edit way (Stored number split) begun a w = HasLocked (prefix_of key way) a w way.node.0 split
-StageIsTrue C key edit way (Failed refusal split) begun a w = HasLocked (prefix_of key way) a w way.node.0 split × MayRefuse (edit_request key edit) refusal
+StageIsTrue C key edit way (Failed refusal split) begun a w = HasLocked (prefix_of key way) a w way.node.0 split
+    × MayRefuse (edit_request key edit) refusal
 
 -- and it knows the head of the layer where it is
 abbrev pub HeadedStage : ℕ → List ℕ → Edit → Way → NodeNo → Stage → ℕ → ArenaView → World → Type 0
-HeadedStage C key edit way head stage begun a w = StageIsTrue C key edit way stage begun a w × IsHeadOf w begun head.0 (prefix_of key way)
+HeadedStage C key edit way head stage begun a w = StageIsTrue C key edit way stage begun a w
+    × IsHeadOf w begun head.0 (prefix_of key way)
 
 abbrev pub WriteIsTrue : ℕ → Write → ℕ → ℕ → List Arena → ArenaView → World → Type 0
 WriteIsTrue C write begun moves past a w = HeadedStage C write.key write.edit write.way write.head write.stage begun a w
 
 -- what a step asks, and its law, of a write that is at a stage
 abbrev pub MayStage : ℕ → ArenaView → LogView → Write → Stage → Type 0
-MayStage C a log write stage = MayStep a log (stage_held write.way.node.0 stage) (λ begun moves past x w. HeadedStage C write.key write.edit write.way write.head stage begun x w)
+MayStage C a log write stage =
+    MayStep a log (stage_held write.way.node.0 stage)
+    (λ begun moves past x w. HeadedStage C write.key write.edit write.way write.head stage begun x w)
 
 abbrev pub StageLaw : ℕ → ArenaView → ArenaView → LogView → LogView → Write → Stage → Progress → Write → Type 0
-StageLaw C a after log left write stage p then = StepLaw C a after log left (write_request write) (stage_held write.way.node.0 stage) p (write_held then) (λ begun moves past x w. HeadedStage C write.key write.edit write.way write.head stage begun x w) (WriteIsTrue C then)
+StageLaw C a after log left write stage p then =
+    StepLaw C a after log left (write_request write) (stage_held write.way.node.0 stage) p (write_held then)
+    (λ begun moves past x w. HeadedStage C write.key write.edit write.way write.head stage begun x w)
+    (WriteIsTrue C then)
 
 -- the way leads on to the half of a border where the key belongs, by the low of the upper half
 abbrev pub IsHalfOf : List ℕ → Way → NodeNo → ℕ → Way → Type 0
-IsHalfOf key way half low goal = ((slice_number (rest_of key way) < low) × (goal ≡ way)) ⊎ ((low ≤ slice_number (rest_of key way)) × (goal ≡ record { node = half; layer = way.layer }))
+IsHalfOf key way half low goal = ((slice_number (rest_of key way) < low) × (goal ≡ way))
+    ⊎ ((low ≤ slice_number (rest_of key way)) × (goal ≡ record { node = half; layer = way.layer }))
 
 -- the room for one delta more
 abbrev pub with_room : LogView → LogView
 with_room log = record log { reserved = log.reserved + 1 }
 
 -- what a put makes ready at the border that it has locked: a new row in the first unused slot
-pub record Fills (C : ℕ) (key : List ℕ) (sets : List (ℕ × List ℕ)) (way : Way) (a : ArenaView) (log : LogView) (place : ℕ) (stored : List ℕ) (logged : List (List ℕ)) (after : ArenaView) (left : LogView) : Type 0 where
+pub record Fills (C : ℕ) (key : List ℕ) (sets : List (ℕ × List ℕ)) (way : Way) (a : ArenaView) (log : LogView)
+    (place : ℕ) (stored : List ℕ) (logged : List (List ℕ)) (after : ArenaView) (left : LogView) : Type 0 where
   pub b : BorderView
   pub named : border_at a.nodes way.node.0 ≡ Some b
   pub bytes : AreBytes key
@@ -321,7 +375,8 @@ pub record Fills (C : ℕ) (key : List ℕ) (sets : List (ℕ × List ℕ)) (way
   pub reserved : left ≡ with_room log
 
 -- the first unused slot of a border holds the new row of a key, whose columns are made for the log too
-pub record FillsNew (C : ℕ) (key : List ℕ) (sets : List (ℕ × List ℕ)) (way : Way) (a : ArenaView) (stored : List ℕ) (logged : List (List ℕ)) (after : ArenaView) : Type 0 where
+pub record FillsNew (C : ℕ) (key : List ℕ) (sets : List (ℕ × List ℕ)) (way : Way) (a : ArenaView) (stored : List ℕ)
+    (logged : List (List ℕ)) (after : ArenaView) : Type 0 where
   pub b : BorderView
   pub named : border_at a.nodes way.node.0 ≡ Some b
   pub bytes : AreBytes key
@@ -355,7 +410,8 @@ abbrev pub IsBack : ArenaView → ArenaView → Type 0
 IsBack a after = (after ≡ a) ⊎ GaveBack a after
 
 -- or a half for the border, which is full
-pub record Spares (key : List ℕ) (sets : List (ℕ × List ℕ)) (way : Way) (a : ArenaView) (half cut : ℕ) (entries : List Entry) (after : ArenaView) : Type 0 where
+pub record Spares (key : List ℕ) (sets : List (ℕ × List ℕ)) (way : Way) (a : ArenaView) (half cut : ℕ)
+    (entries : List Entry) (after : ArenaView) : Type 0 where
   pub b : BorderView
   pub named : border_at a.nodes way.node.0 ≡ Some b
   pub cut_at : IsCutAt key (PutEdit sets) way b cut
@@ -363,7 +419,8 @@ pub record Spares (key : List ℕ) (sets : List (ℕ × List ℕ)) (way : Way) (
   pub copied : entries ≡ drop cut b.live
 
 -- or the head and the root of a layer, for a key that has another's slice
-pub record LayerSpares (key : List ℕ) (way : Way) (a : ArenaView) (layer : Layer) (entries : List Entry) (after : ArenaView) : Type 0 where
+pub record LayerSpares (key : List ℕ) (way : Way) (a : ArenaView) (layer : Layer) (entries : List Entry)
+    (after : ArenaView) : Type 0 where
   pub b : BorderView
   pub named : border_at a.nodes way.node.0 ≡ Some b
   pub at : IsLayerAt key way b layer.place
@@ -375,7 +432,8 @@ pub record LayerSpares (key : List ℕ) (way : Way) (a : ArenaView) (layer : Lay
   pub whole : IsEntry (moved_entry key way b layer.place at)
 
 -- or the columns that the row is to have
-pub record Makes (C : ℕ) (key : List ℕ) (sets : List (ℕ × List ℕ)) (way : Way) (a : ArenaView) (log : LogView) (place : ℕ) (stored : List ℕ) (columns logged : List (List ℕ)) (after : ArenaView) (left : LogView) : Type 0 where
+pub record Makes (C : ℕ) (key : List ℕ) (sets : List (ℕ × List ℕ)) (way : Way) (a : ArenaView) (log : LogView)
+    (place : ℕ) (stored : List ℕ) (columns logged : List (List ℕ)) (after : ArenaView) (left : LogView) : Type 0 where
   pub b : BorderView
   pub named : border_at a.nodes way.node.0 ≡ Some b
   pub made : IsMade C key (PutEdit sets) way b place stored columns logged
@@ -388,20 +446,33 @@ SomeSets (PutEdit sets) P = P sets
 SomeSets RemoveEdit P = ⊥
 
 -- A put is ready, or it fails. It has split its border already, into these halves, or not.
-abbrev pub Prepares : ℕ → List ℕ → List (ℕ × List ℕ) → Way → ArenaView → LogView → Option Halves → Stage → ArenaView → LogView → Type 0
-Prepares C key sets way a log split (Spared half cut entries) after left = (split ≡ None) × Spares key sets way a half.0 cut entries after × (left ≡ log)
-Prepares C key sets way a log split (LayerSpared layer entries) after left = (split ≡ None) × LayerSpares key way a layer entries after × (left ≡ log)
-Prepares C key sets way a log split (Filled place stored logged halves) after left = (halves ≡ split) × Fills C key sets way a log place stored logged after left
-Prepares C key sets way a log split (Made place stored columns logged) after left = (split ≡ None) × Makes C key sets way a log place stored columns logged after left
-Prepares C key sets way a log split (Failed refusal halves) after left = (halves ≡ split) × MayFail log (PutRequest key sets) refusal × IsBack a after × (left ≡ log)
+abbrev pub Prepares : ℕ → List ℕ → List (ℕ × List ℕ) → Way → ArenaView → LogView → Option Halves → Stage → ArenaView
+    → LogView → Type 0
+Prepares C key sets way a log split (Spared half cut entries) after left = (split ≡ None)
+    × Spares key sets way a half.0 cut entries after × (left ≡ log)
+Prepares C key sets way a log split (LayerSpared layer entries) after left = (split ≡ None)
+    × LayerSpares key way a layer entries after × (left ≡ log)
+Prepares C key sets way a log split (Filled place stored logged halves) after left = (halves ≡ split)
+    × Fills C key sets way a log place stored logged after left
+Prepares C key sets way a log split (Made place stored columns logged) after left = (split ≡ None)
+    × Makes C key sets way a log place stored columns logged after left
+Prepares C key sets way a log split (Failed refusal halves) after left = (halves ≡ split)
+    × MayFail log (PutRequest key sets) refusal × IsBack a after × (left ≡ log)
 Prepares C key sets way a log split _ after left = ⊥
 
 -- the delta of a put's commit
 abbrev pub put_delta : ℕ → List ℕ → Option Row → List (List ℕ) → Delta
-put_delta number key before columns = record { number = number; key = key; before = before; after = Some (record { version = number; columns = columns }) }
+put_delta number key before columns =
+    record {
+      number = number;
+      key = key;
+      before = before;
+      after = Some (record { version = number; columns = columns });
+    }
 
 -- what a remove makes ready: the row that is to be removed is copied
-pub record Takes (key : List ℕ) (way : Way) (a : ArenaView) (log : LogView) (place : ℕ) (stored : List ℕ) (before : Row) (left : LogView) : Type 0 where
+pub record Takes (key : List ℕ) (way : Way) (a : ArenaView) (log : LogView) (place : ℕ) (stored : List ℕ) (before : Row)
+    (left : LogView) : Type 0 where
   pub b : BorderView
   pub named : border_at a.nodes way.node.0 ≡ Some b
   pub found : IsFound key RemoveEdit way b place stored before
@@ -418,7 +489,8 @@ pub record LacksRow (key : List ℕ) (way : Way) (a : ArenaView) : Type 0 where
 abbrev pub PreparesRemove : List ℕ → Way → ArenaView → LogView → Option Stage → LogView → Type 0
 PreparesRemove key way a log None left = LacksRow key way a × (left ≡ log)
 PreparesRemove key way a log (Some (Taken place stored before)) left = Takes key way a log place stored before left
-PreparesRemove key way a log (Some (Failed refusal split)) left = (split ≡ None) × MayFail log (RemoveRequest key) refusal × (left ≡ log)
+PreparesRemove key way a log (Some (Failed refusal split)) left = (split ≡ None)
+    × MayFail log (RemoveRequest key) refusal × (left ≡ log)
 PreparesRemove key way a log _ left = ⊥
 
 -- the delta of a remove's commit

@@ -57,9 +57,12 @@ pub fn overwrite(
     requires row { IsSomeAnd (border_at tree.old.nodes number.0) (λ b. HasRowAt b place) }
     requires room { 0 < log.old.reserved }
     ensures number { result ≡ newest log.old + 1 }
-    ensures written { tree.new ≡ with_border_changed tree.old number.0 (λ b. with_value b place (record { version = newest log.old + 1; columns = columns })) }
-    ensures sets { SetsRowAt tree.old tree.new number.0 place (record { version = newest log.old + 1; columns = columns }) }
-    ensures logged { IsSomeAnd (border_at tree.old.nodes number.0) (λ b. log.new ≡ with_delta log.old (put_delta (newest log.old + 1) key (row_at place b.live) logged)) }
+    ensures written { tree.new ≡ with_border_changed tree.old number.0
+        (λ b. with_value b place (record { version = newest log.old + 1; columns = columns })) }
+    ensures sets { SetsRowAt tree.old tree.new number.0 place
+        (record { version = newest log.old + 1; columns = columns }) }
+    ensures logged { IsSomeAnd (border_at tree.old.nodes number.0)
+        (λ b. log.new ≡ with_delta log.old (put_delta (newest log.old + 1) key (row_at place b.live) logged)) }
 {
     let commit = log.number() + 1;
     let row = Row {

@@ -1,5 +1,5 @@
-//! A new layer, for a key that goes on after a slice that another key has: a head and a border are spared, the border takes the other
-//! key's row, one layer deeper.
+//! A new layer, for a key that goes on after a slice that another key has: a head and a border are spared, the border
+//! takes the other key's row, one layer deeper.
 
 ghost use Rattle.std.specs.Prelude.{◌≡◌, ℕ, ◌≤◌, ◌*◌, List, [], ◌∷◌, length, slice_get, MatchResult, IfOk, IsSomeAnd, Some, None};
 ghost use Rattle.mt_types.specs.declared.event.Request.TheVariants.{Put as PutRequest};
@@ -51,8 +51,11 @@ pub fn spare_layer(
     sets: &Sets,
 ) -> Result<Stage, Refusal>
     requires within { 8 * way.layer ≤ length key.now }
-    requires other { IsSomeAnd (border_at tree.old.nodes way.node.0) (λ b. HasOtherSuffix (rest_of key.now way) b.live place) }
-    ensures ready { MatchResult result (λ stage. (C : ℕ) (log : LogView) → Prepares C key.now sets.now way tree.old log None stage tree.new log) (λ refusal. ((log : LogView) → MayFail log (PutRequest key.now sets.now) refusal) × IsBack tree.old tree.new) }
+    requires other { IsSomeAnd (border_at tree.old.nodes way.node.0)
+        (λ b. HasOtherSuffix (rest_of key.now way) b.live place) }
+    ensures ready { MatchResult result
+        (λ stage. (C : ℕ) (log : LogView) → Prepares C key.now sets.now way tree.old log None stage tree.new log)
+        (λ refusal. ((log : LogView) → MayFail log (PutRequest key.now sets.now) refusal) × IsBack tree.old tree.new) }
     ensures fault { ReadyFor (layer_fault tree.old) result }
 {
     if tree.free_numbers() < 2 {

@@ -34,7 +34,8 @@ use std::alloc::Global;
 // The entry of a key with these columns, before its commit.
 fn new_entry(alloc: Global, key: &Key, layer: usize, columns: Columns) -> Result<Entry, NoMemory>
     requires { 8 * layer ≤ length key.now }
-    ensures { IfOk result (λ entry. entry ≡ entry_of_row (rest_at layer key.now) (record { version = 0; columns = columns })) }
+    ensures { IfOk result (λ entry. entry
+        ≡ entry_of_row (rest_at layer key.now) (record { version = 0; columns = columns })) }
 {
     let bytes = key.copy(alloc)?.into_bytes();
     let rest = bytes.slice(SLICE_BYTES * layer..)?;
@@ -55,7 +56,8 @@ fn put_new(
     sets: &Sets,
 ) -> Result<(Key, Columns), NoMemory>
     requires within { 8 * way.layer ≤ length key.now }
-    requires room { IsSomeAnd (border_at tree.old.nodes way.node.0) (λ b. (length b.live < SLOTS) × IsFalse (fill_is_spent b)) }
+    requires room { IsSomeAnd (border_at tree.old.nodes way.node.0)
+        (λ b. (length b.live < SLOTS) × IsFalse (fill_is_spent b)) }
     ensures ok { IfOk result (λ made. FillsNew columns key.now sets.now way tree.old made.0 made.1 tree.new) }
     ensures err { OnErr result (tree.new ≡ tree.old) }
 {
@@ -85,8 +87,12 @@ pub fn fill(
     split: Option<Halves>,
 ) -> Result<Stage, Refusal>
     requires within { 8 * way.layer ≤ length key.now }
-    requires absent { IsSomeAnd (border_at tree.old.nodes way.node.0) (λ b. (length b.live < SLOTS) × (found_for (rest_of key.now way) b.live ≡ AbsentFound place)) }
-    ensures ready { MatchResult result (λ stage. Prepares columns key.now sets.now way tree.old log.old split stage tree.new log.new) (λ refusal. MayFail log.old (PutRequest key.now sets.now) refusal × IsBack tree.old tree.new × (log.new ≡ log.old)) }
+    requires absent { IsSomeAnd (border_at tree.old.nodes way.node.0)
+        (λ b. (length b.live < SLOTS) × (found_for (rest_of key.now way) b.live ≡ AbsentFound place)) }
+    ensures ready { MatchResult result
+        (λ stage. Prepares columns key.now sets.now way tree.old log.old split stage tree.new log.new)
+        (λ refusal. MayFail log.old (PutRequest key.now sets.now) refusal × IsBack tree.old tree.new
+        × (log.new ≡ log.old)) }
     ensures fault { IsSomeAnd (border_at tree.old.nodes way.node.0) (λ b. ReadyFor (fill_fault log.old b) result) }
 {
     if tree.border(way.node).is_fill_spent() {
@@ -118,7 +124,8 @@ fn make_columns(
 ) -> Result<(Key, Columns, Columns), NoMemory>
     requires within { place < length border.now.live }
     requires row { IsSome (row_at place border.now.live) }
-    ensures { IfOk result (λ made. (made.0 ≡ key.now) × (made.1 ≡ columns_after columns sets.now (row_at place border.now.live)) × (made.2 ≡ made.1)) }
+    ensures { IfOk result (λ made. (made.0 ≡ key.now)
+        × (made.1 ≡ columns_after columns sets.now (row_at place border.now.live)) × (made.2 ≡ made.1)) }
 {
     let made = made_columns(alloc, columns, Some(row_at(border, place)), sets)?;
     let logged = made.copy(alloc)?;
@@ -137,8 +144,11 @@ fn make(
     sets: &Sets,
 ) -> Result<Stage, Refusal>
     requires within { 8 * way.layer ≤ length key.now }
-    requires there { IsSomeAnd (border_at tree.now.nodes way.node.0) (λ b. found_for (rest_of key.now way) b.live ≡ RowFound place) }
-    ensures ready { MatchResult result (λ stage. Prepares columns key.now sets.now way tree.now log.old None stage tree.now log.new) (λ refusal. MayFail log.old (PutRequest key.now sets.now) refusal × (log.new ≡ log.old)) }
+    requires there { IsSomeAnd (border_at tree.now.nodes way.node.0)
+        (λ b. found_for (rest_of key.now way) b.live ≡ RowFound place) }
+    ensures ready { MatchResult result
+        (λ stage. Prepares columns key.now sets.now way tree.now log.old None stage tree.now log.new)
+        (λ refusal. MayFail log.old (PutRequest key.now sets.now) refusal × (log.new ≡ log.old)) }
     ensures fault { ReadyFor (reserve_fault log.old) result }
 {
     let border = tree.border(way.node);
@@ -159,8 +169,8 @@ fn make(
     }
 }
 
-// Makes a put ready at the border that its call has locked: its row stands in an unused slot, or its columns are made, and
-// there is room in the log; or it fails.
+// Makes a put ready at the border that its call has locked: its row stands in an unused slot, or its columns are made,
+// and there is room in the log; or it fails.
 pub fn prepare(
     alloc: Global,
     columns: u8,
@@ -171,9 +181,11 @@ pub fn prepare(
     sets: &Sets,
 ) -> Stage
     requires within { 8 * way.layer ≤ length key.now }
-    requires last { IsSomeAnd (border_at tree.old.nodes way.node.0) (λ b. IsLast (found_for (rest_of key.now way) b.live)) }
+    requires last { IsSomeAnd (border_at tree.old.nodes way.node.0)
+        (λ b. IsLast (found_for (rest_of key.now way) b.live)) }
     ensures ready { Prepares columns key.now sets.now way tree.old log.old None result tree.new log.new }
-    ensures fault { IsSomeAnd (border_at tree.old.nodes way.node.0) (λ b. FailsBy (put_fault tree.old log.old b (found_for (rest_of key.now way) b.live)) None result) }
+    ensures fault { IsSomeAnd (border_at tree.old.nodes way.node.0)
+        (λ b. FailsBy (put_fault tree.old log.old b (found_for (rest_of key.now way) b.live)) None result) }
 {
     let made = match tree.find(way.node, rest_of(key, way.layer)) {
         Found::Row(place) => make(alloc, columns, tree, log, way, place, key, sets),
@@ -213,8 +225,10 @@ fn take(
     key: &Key,
 ) -> Result<Stage, Refusal>
     requires within { 8 * way.layer ≤ length key.now }
-    requires there { IsSomeAnd (border_at tree.now.nodes way.node.0) (λ b. found_for (rest_of key.now way) b.live ≡ RowFound place) }
-    ensures ready { MatchResult result (λ stage. PreparesRemove key.now way tree.now log.old (Some stage) log.new) (λ refusal. MayFail log.old (RemoveRequest key.now) refusal × (log.new ≡ log.old)) }
+    requires there { IsSomeAnd (border_at tree.now.nodes way.node.0)
+        (λ b. found_for (rest_of key.now way) b.live ≡ RowFound place) }
+    ensures ready { MatchResult result (λ stage. PreparesRemove key.now way tree.now log.old (Some stage) log.new)
+        (λ refusal. MayFail log.old (RemoveRequest key.now) refusal × (log.new ≡ log.old)) }
     ensures fault { ReadyFor (reserve_fault log.old) result }
 {
     let border = tree.border(way.node);
@@ -230,8 +244,8 @@ fn take(
     }
 }
 
-// Makes a remove ready at the border that its call has locked: the row is copied, and there is room in the log, or it fails;
-// or the key has no row.
+// Makes a remove ready at the border that its call has locked: the row is copied, and there is room in the log, or it
+// fails; or the key has no row.
 pub fn prepare_remove(
     alloc: Global,
     tree: &Tree,
@@ -242,7 +256,8 @@ pub fn prepare_remove(
     requires within { 8 * way.layer ≤ length key.now }
     requires border { IsSome (border_at tree.now.nodes way.node.0) }
     ensures ready { PreparesRemove key.now way tree.now log.old result log.new }
-    ensures fault { IsSomeAnd (border_at tree.now.nodes way.node.0) (λ b. RemoveFailsBy (remove_fault log.old (found_for (rest_of key.now way) b.live)) result) }
+    ensures fault { IsSomeAnd (border_at tree.now.nodes way.node.0)
+        (λ b. RemoveFailsBy (remove_fault log.old (found_for (rest_of key.now way) b.live)) result) }
 {
     let _sound = tree.border(way.node).len();
     match tree.find(way.node, rest_of(key, way.layer)) {

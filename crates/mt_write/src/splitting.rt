@@ -39,8 +39,11 @@ pub fn spare(
     key: &Key,
     sets: &Sets,
 ) -> Result<Stage, Refusal>
-    requires full { IsSomeAnd (border_at tree.old.nodes way.node.0) (λ b. (length b.live ≡ SLOTS) × IsAbsent (found_for (rest_of key.now way) b.live)) }
-    ensures ready { MatchResult result (λ stage. (C : ℕ) (log : LogView) → Prepares C key.now sets.now way tree.old log None stage tree.new log) (λ refusal. ((log : LogView) → MayFail log (PutRequest key.now sets.now) refusal) × IsBack tree.old tree.new) }
+    requires full { IsSomeAnd (border_at tree.old.nodes way.node.0)
+        (λ b. (length b.live ≡ SLOTS) × IsAbsent (found_for (rest_of key.now way) b.live)) }
+    ensures ready { MatchResult result
+        (λ stage. (C : ℕ) (log : LogView) → Prepares C key.now sets.now way tree.old log None stage tree.new log)
+        (λ refusal. ((log : LogView) → MayFail log (PutRequest key.now sets.now) refusal) × IsBack tree.old tree.new) }
     ensures fault { IsSomeAnd (border_at tree.old.nodes way.node.0) (λ b. ReadyFor (split_fault tree.old b) result) }
 {
     let border = tree.border(way.node);
@@ -60,8 +63,10 @@ pub fn spare(
 
 // The half that is spared takes the entries that were copied, and the right link of the left half.
 pub fn fill_spare(tree: &mut Tree, left: NodeNo, half: NodeNo, entries: Items<Entry>)
-    requires fill { IsSomeAnd (border_at tree.old.nodes left.0) (λ b. IsSomeAnd (border_at tree.old.nodes half.0) (λ spare. MayFill spare entries b.right)) }
-    ensures filled { IsSomeAnd (border_at tree.old.nodes left.0) (λ b. tree.new ≡ with_border_changed tree.old half.0 (λ spare. with_entries spare entries b.right)) }
+    requires fill { IsSomeAnd (border_at tree.old.nodes left.0)
+        (λ b. IsSomeAnd (border_at tree.old.nodes half.0) (λ spare. MayFill spare entries b.right)) }
+    ensures filled { IsSomeAnd (border_at tree.old.nodes left.0)
+        (λ b. tree.new ≡ with_border_changed tree.old half.0 (λ spare. with_entries spare entries b.right)) }
     ensures keeps { KeepsUnknown tree.old tree.new half.0 }
 {
     let right = tree.border(left).right();
@@ -71,8 +76,11 @@ pub fn fill_spare(tree: &mut Tree, left: NodeNo, half: NodeNo, entries: Items<En
 // The half is linked. Gives the half where the key belongs.
 pub fn link_halves(tree: &mut Tree, way: Way, key: &Key, half: NodeNo, cut: usize) -> Way
     requires within { 8 * way.layer ≤ length key.now }
-    requires upper { IsSomeAnd (border_at tree.old.nodes way.node.0) (λ b. IsSomeAnd (border_at tree.old.nodes half.0) (λ upper. IsUpperHalf b upper cut)) }
-    ensures linked { IsSomeAnd (border_at tree.old.nodes half.0) (λ upper. tree.new ≡ with_border_changed tree.old way.node.0 (λ b. with_split b cut (record { low = upper.low; node = half }))) }
+    requires upper { IsSomeAnd (border_at tree.old.nodes way.node.0)
+        (λ b. IsSomeAnd (border_at tree.old.nodes half.0) (λ upper. IsUpperHalf b upper cut)) }
+    ensures linked { IsSomeAnd (border_at tree.old.nodes half.0)
+        (λ upper. tree.new ≡ with_border_changed tree.old way.node.0
+        (λ b. with_split b cut (record { low = upper.low; node = half }))) }
     ensures links { LinksHalfAt tree.old tree.new way.node.0 half.0 }
     ensures way { IsSomeAnd (border_at tree.old.nodes half.0) (λ upper. IsHalfOf key.now way half upper.low result) }
 {
@@ -101,8 +109,10 @@ pub fn fill_half(
 ) -> Stage
     requires within { 8 * way.layer ≤ length key.now }
     requires half { IsSomeAnd (border_at tree.old.nodes way.node.0) (IsHalf key.now edit.now way) }
-    ensures fault { IsSomeAnd (border_at tree.old.nodes way.node.0) (λ b. FailsBy (fill_fault log.old b) (Some split) result) }
-    ensures ready { SomeSets edit.now (λ sets. Prepares columns key.now sets way tree.old log.old (Some split) result tree.new log.new) }
+    ensures fault { IsSomeAnd (border_at tree.old.nodes way.node.0)
+        (λ b. FailsBy (fill_fault log.old b) (Some split) result) }
+    ensures ready { SomeSets edit.now
+        (λ sets. Prepares columns key.now sets way tree.old log.old (Some split) result tree.new log.new) }
 {
     let Edit::Put(sets) = edit else {
         unreachable!();

@@ -2,8 +2,8 @@
 
 ghost use Rattle.std.specs.Prelude.{◌≡◌, ◌≢◌, ◌⊎◌, ℕ, Some, None};
 ghost use Rattle.mt_commit.specs.Log.{LogView};
-ghost use Rattle.mt_write.specs.Follows.{Follows, WriteFollows};
-ghost use Rattle.mt_write.specs.Causes.{WriteWaits, WriteFails, StageFails, IsPosting, PostingWaits, BorderWaits, IsNotRefused, IsNotFailed};
+ghost use Rattle.mt_write.specs.Follows.{Follows, WriteFollows, HeadOnWay, HeadFollows, IsNewPosting, PostsGo, PostsFollow};
+ghost use Rattle.mt_write.specs.Causes.{WriteWaits, WriteFails, StageFails, IsPosting, PostingWaits, BorderWaits, NeverWaits, IsNotRefused, IsNotFailed};
 ghost use Rattle.mt_calls.specs.Step.{StepLaw, MayStep};
 ghost use Rattle.mt_write.specs.Writing.{write_request, write_held, written_answer, WriteIsTrue, StageLaw, MayStage, ending_stage};
 
@@ -80,7 +80,8 @@ pub enum Stage {
     Halved(Halves),
     /// The right half of the border that it has split is posted in the interiors above.
     Posts(Posting, Ending),
-    /// Another key has the slice of its key. A head and a border are spared for a layer, and the other key's entry there is made.
+    /// Another key has the slice of its key. A head and a border are spared for a layer, and the other key's entry
+    /// there is made.
     LayerSpared {
         layer: Layer,
         entries: Items<Entry>,
@@ -168,10 +169,13 @@ impl Write {
         requires may { (C : ℕ) × (log : LogView) × MayStep tree.old log (write_held self.old) (WriteIsTrue C self.old) }
         requires seeks { self.old.stage ≡ Stage.Seeks }
         ensures request { write_request self.new ≡ write_request self.old }
-        ensures steps { (C : ℕ) (log : LogView) → StepLaw C tree.old tree.new log log (write_request self.old) (write_held self.old) result (write_held self.new) (WriteIsTrue C self.old) (WriteIsTrue C self.new) }
+        ensures steps { (C : ℕ) (log : LogView)
+            → StepLaw C tree.old tree.new log log (write_request self.old) (write_held self.old) result
+            (write_held self.new) (WriteIsTrue C self.old) (WriteIsTrue C self.new) }
         ensures waits { BorderWaits tree.old self.old.way.node.0 result }
         ensures fails { IsNotRefused result × IsNotFailed self.new.stage }
         ensures gets_on { Follows tree.old self.old.key self.old.way Stage.Seeks result self.new.way self.new.stage }
+        ensures head { HeadOnWay self.old.head self.old.way result self.new.way self.new.head }
     {
         match self.way.visit(tree, &self.key) {
             Went::Again => {
@@ -200,9 +204,11 @@ impl Write {
         requires may { MayStage columns tree.old log.old self.old (Stage.Locked) }
         ensures request { write_request self.new ≡ write_request self.old }
         ensures steps { StageLaw columns tree.old tree.new log.old log.new self.old (Stage.Locked) result self.new }
-        ensures waits { BorderWaits tree.old self.old.way.node.0 result }
-        ensures fails { StageFails tree.old log.old self.old.key self.old.edit self.old.way Stage.Locked result self.new.stage }
+        ensures waits { NeverWaits result }
+        ensures fails { StageFails tree.old log.old self.old.key self.old.edit self.old.way Stage.Locked result
+            self.new.stage }
         ensures gets_on { Follows tree.old self.old.key self.old.way Stage.Locked result self.new.way self.new.stage }
+        ensures head { self.new.head ≡ self.old.head }
     {
         let number = self.way.node;
         match &self.edit {
@@ -231,10 +237,13 @@ impl Write {
     ) -> Progress
         requires may { (C : ℕ) × (log : LogView) × MayStage C tree.old log self.old (Stage.Spared half cut entries) }
         ensures request { write_request self.new ≡ write_request self.old }
-        ensures steps { (C : ℕ) (log : LogView) → StageLaw C tree.old tree.new log log self.old (Stage.Spared half cut entries) result self.new }
-        ensures waits { BorderWaits tree.old self.old.way.node.0 result }
+        ensures steps { (C : ℕ) (log : LogView)
+            → StageLaw C tree.old tree.new log log self.old (Stage.Spared half cut entries) result self.new }
+        ensures waits { NeverWaits result }
         ensures fails { IsNotRefused result × IsNotFailed self.new.stage }
-        ensures gets_on { Follows tree.old self.old.key self.old.way (Stage.Spared half cut entries) result self.new.way self.new.stage }
+        ensures gets_on { Follows tree.old self.old.key self.old.way (Stage.Spared half cut entries) result self.new.way
+            self.new.stage }
+        ensures head { self.new.head ≡ self.old.head }
     {
         fill_spare(tree, self.way.node, half, entries);
         self.stage = Stage::HalfFilled { half, cut };
@@ -245,10 +254,13 @@ impl Write {
     fn link(&mut self, tree: &mut Tree, half: NodeNo, cut: usize) -> Progress
         requires may { (C : ℕ) × (log : LogView) × MayStage C tree.old log self.old (Stage.HalfFilled half cut) }
         ensures request { write_request self.new ≡ write_request self.old }
-        ensures steps { (C : ℕ) (log : LogView) → StageLaw C tree.old tree.new log log self.old (Stage.HalfFilled half cut) result self.new }
-        ensures waits { BorderWaits tree.old self.old.way.node.0 result }
+        ensures steps { (C : ℕ) (log : LogView)
+            → StageLaw C tree.old tree.new log log self.old (Stage.HalfFilled half cut) result self.new }
+        ensures waits { NeverWaits result }
         ensures fails { IsNotRefused result × IsNotFailed self.new.stage }
-        ensures gets_on { Follows tree.old self.old.key self.old.way (Stage.HalfFilled half cut) result self.new.way self.new.stage }
+        ensures gets_on { Follows tree.old self.old.key self.old.way (Stage.HalfFilled half cut) result self.new.way
+            self.new.stage }
+        ensures head { self.new.head ≡ self.old.head }
     {
         let left = self.way.node;
         self.way = link_halves(tree, self.way, &self.key, half, cut);
@@ -268,9 +280,12 @@ impl Write {
         requires may { MayStage columns tree.old log.old self.old (Stage.Halved split) }
         ensures request { write_request self.new ≡ write_request self.old }
         ensures steps { StageLaw columns tree.old tree.new log.old log.new self.old (Stage.Halved split) result self.new }
-        ensures waits { BorderWaits tree.old self.old.way.node.0 result }
-        ensures fails { StageFails tree.old log.old self.old.key self.old.edit self.old.way (Stage.Halved split) result self.new.stage }
-        ensures gets_on { Follows tree.old self.old.key self.old.way (Stage.Halved split) result self.new.way self.new.stage }
+        ensures waits { NeverWaits result }
+        ensures fails { StageFails tree.old log.old self.old.key self.old.edit self.old.way (Stage.Halved split) result
+            self.new.stage }
+        ensures gets_on { Follows tree.old self.old.key self.old.way (Stage.Halved split) result self.new.way
+            self.new.stage }
+        ensures head { self.new.head ≡ self.old.head }
     {
         self.stage = fill_half(
             alloc, columns, tree, log, self.way, split, &self.key, &self.edit,
@@ -282,10 +297,13 @@ impl Write {
     fn fill_root(&mut self, tree: &mut Tree, layer: Layer, entries: Items<Entry>) -> Progress
         requires may { (C : ℕ) × (log : LogView) × MayStage C tree.old log self.old (Stage.LayerSpared layer entries) }
         ensures request { write_request self.new ≡ write_request self.old }
-        ensures steps { (C : ℕ) (log : LogView) → StageLaw C tree.old tree.new log log self.old (Stage.LayerSpared layer entries) result self.new }
-        ensures waits { BorderWaits tree.old self.old.way.node.0 result }
+        ensures steps { (C : ℕ) (log : LogView)
+            → StageLaw C tree.old tree.new log log self.old (Stage.LayerSpared layer entries) result self.new }
+        ensures waits { NeverWaits result }
         ensures fails { IsNotRefused result × IsNotFailed self.new.stage }
-        ensures gets_on { Follows tree.old self.old.key self.old.way (Stage.LayerSpared layer entries) result self.new.way self.new.stage }
+        ensures gets_on { Follows tree.old self.old.key self.old.way (Stage.LayerSpared layer entries) result
+            self.new.way self.new.stage }
+        ensures head { self.new.head ≡ self.old.head }
     {
         tree.fill_border(layer.root, entries, None);
         self.stage = Stage::LayerFilled(layer);
@@ -296,10 +314,13 @@ impl Write {
     fn unlock_head(&mut self, tree: &mut Tree, layer: Layer) -> Progress
         requires may { (C : ℕ) × (log : LogView) × MayStage C tree.old log self.old (Stage.LayerFilled layer) }
         ensures request { write_request self.new ≡ write_request self.old }
-        ensures steps { (C : ℕ) (log : LogView) → StageLaw C tree.old tree.new log log self.old (Stage.LayerFilled layer) result self.new }
-        ensures waits { BorderWaits tree.old self.old.way.node.0 result }
+        ensures steps { (C : ℕ) (log : LogView)
+            → StageLaw C tree.old tree.new log log self.old (Stage.LayerFilled layer) result self.new }
+        ensures waits { NeverWaits result }
         ensures fails { IsNotRefused result × IsNotFailed self.new.stage }
-        ensures gets_on { Follows tree.old self.old.key self.old.way (Stage.LayerFilled layer) result self.new.way self.new.stage }
+        ensures gets_on { Follows tree.old self.old.key self.old.way (Stage.LayerFilled layer) result self.new.way
+            self.new.stage }
+        ensures head { self.new.head ≡ self.old.head }
     {
         tree.unlock_head(layer.head);
         self.stage = Stage::LayerReady(layer);
@@ -310,10 +331,13 @@ impl Write {
     fn link_layer(&mut self, tree: &mut Tree, layer: Layer) -> Progress
         requires may { (C : ℕ) × (log : LogView) × MayStage C tree.old log self.old (Stage.LayerReady layer) }
         ensures request { write_request self.new ≡ write_request self.old }
-        ensures steps { (C : ℕ) (log : LogView) → StageLaw C tree.old tree.new log log self.old (Stage.LayerReady layer) result self.new }
-        ensures waits { BorderWaits tree.old self.old.way.node.0 result }
+        ensures steps { (C : ℕ) (log : LogView)
+            → StageLaw C tree.old tree.new log log self.old (Stage.LayerReady layer) result self.new }
+        ensures waits { NeverWaits result }
         ensures fails { IsNotRefused result × IsNotFailed self.new.stage }
-        ensures gets_on { Follows tree.old self.old.key self.old.way (Stage.LayerReady layer) result self.new.way self.new.stage }
+        ensures gets_on { Follows tree.old self.old.key self.old.way (Stage.LayerReady layer) result self.new.way
+            self.new.stage }
+        ensures head { self.new.head ≡ self.old.head }
     {
         tree.make_link(self.way.node, layer.place, layer.head);
         self.stage = Stage::Layered(layer.head);
@@ -324,10 +348,13 @@ impl Write {
     fn go_below(&mut self, tree: &mut Tree, head: NodeNo) -> Progress
         requires may { (C : ℕ) × (log : LogView) × MayStage C tree.old log self.old (Stage.Layered head) }
         ensures request { write_request self.new ≡ write_request self.old }
-        ensures steps { (C : ℕ) (log : LogView) → StageLaw C tree.old tree.new log log self.old (Stage.Layered head) result self.new }
-        ensures waits { BorderWaits tree.old self.old.way.node.0 result }
+        ensures steps { (C : ℕ) (log : LogView)
+            → StageLaw C tree.old tree.new log log self.old (Stage.Layered head) result self.new }
+        ensures waits { NeverWaits result }
         ensures fails { IsNotRefused result × IsNotFailed self.new.stage }
-        ensures gets_on { Follows tree.old self.old.key self.old.way (Stage.Layered head) result self.new.way self.new.stage }
+        ensures gets_on { Follows tree.old self.old.key self.old.way (Stage.Layered head) result self.new.way
+            self.new.stage }
+        ensures head { self.new.head ≡ head }
     {
         let _bytes = rest_of(&self.key, self.way.layer);
         tree.unlock_border(self.way.node);
@@ -344,8 +371,12 @@ impl Write {
     fn unlock_left(&mut self, tree: &mut Tree, split: Halves, ending: Ending)
         requires may { (C : ℕ) × (log : LogView) × MayStage C tree.old log self.old (ending_stage ending (Some split)) }
         ensures request { write_request self.new ≡ write_request self.old }
-        ensures steps { (C : ℕ) (log : LogView) → StageLaw C tree.old tree.new log log self.old (ending_stage ending (Some split)) Progress.Moved self.new }
+        ensures steps { (C : ℕ) (log : LogView)
+            → StageLaw C tree.old tree.new log log self.old (ending_stage ending (Some split)) Progress.Moved self.new }
         ensures posts { IsPosting ending self.new.stage }
+        ensures head { self.new.head ≡ self.old.head }
+        ensures begins { PostsGo tree.old tree.new self.old.head (ending_stage ending (Some split)) Progress.Moved
+            self.new.stage }
     {
         let low = tree.border(split.half).low();
         tree.unlock_border(split.left);
@@ -357,10 +388,16 @@ impl Write {
     fn post(&mut self, tree: &mut Tree, posting: Posting, ending: Ending) -> Progress
         requires may { (C : ℕ) × (log : LogView) × MayStage C tree.old log self.old (Stage.Posts posting ending) }
         ensures request { write_request self.new ≡ write_request self.old }
-        ensures steps { (C : ℕ) (log : LogView) → StageLaw C tree.old tree.new log log self.old (Stage.Posts posting ending) result self.new }
+        ensures steps { (C : ℕ) (log : LogView)
+            → StageLaw C tree.old tree.new log log self.old (Stage.Posts posting ending) result self.new }
         ensures waits { PostingWaits tree.old posting result }
-        ensures fails { (log : LogView) → StageFails tree.old log self.old.key self.old.edit self.old.way (Stage.Posts posting ending) result self.new.stage }
-        ensures gets_on { Follows tree.old self.old.key self.old.way (Stage.Posts posting ending) result self.new.way self.new.stage }
+        ensures fails { (log : LogView)
+            → StageFails tree.old log self.old.key self.old.edit self.old.way (Stage.Posts posting ending) result
+            self.new.stage }
+        ensures gets_on { Follows tree.old self.old.key self.old.way (Stage.Posts posting ending) result self.new.way
+            self.new.stage }
+        ensures head { self.new.head ≡ self.old.head }
+        ensures posts { PostsGo tree.old tree.new self.old.head (Stage.Posts posting ending) result self.new.stage }
     {
         let mut posting = posting;
         match posting.step(tree) {
@@ -379,15 +416,20 @@ impl Write {
         }
     }
 
-    // Unlocks the left half, where its border was split, and goes on with the other; else it unlocks its border, and answers.
+    // Unlocks the left half, where its border was split, and goes on with the other; else it unlocks its border, and
+    // answers.
     fn end_stored(&mut self, tree: &mut Tree, commit: u64, split: Option<Halves>) -> Progress
         requires may { (C : ℕ) × (log : LogView) × MayStage C tree.old log self.old (Stage.Stored commit split) }
         requires idle { self.old.stage ≡ Stage.Seeks }
         ensures request { write_request self.new ≡ write_request self.old }
-        ensures steps { (C : ℕ) (log : LogView) → StageLaw C tree.old tree.new log log self.old (Stage.Stored commit split) result self.new }
-        ensures waits { BorderWaits tree.old self.old.way.node.0 result }
+        ensures steps { (C : ℕ) (log : LogView)
+            → StageLaw C tree.old tree.new log log self.old (Stage.Stored commit split) result self.new }
+        ensures waits { NeverWaits result }
         ensures fails { IsNotRefused result × IsNotFailed self.new.stage }
-        ensures gets_on { Follows tree.old self.old.key self.old.way (Stage.Stored commit split) result self.new.way self.new.stage }
+        ensures gets_on { Follows tree.old self.old.key self.old.way (Stage.Stored commit split) result self.new.way
+            self.new.stage }
+        ensures head { self.new.head ≡ self.old.head }
+        ensures posts { PostsGo tree.old tree.new self.old.head (Stage.Stored commit split) result self.new.stage }
     {
         let Some(split) = split else {
             tree.unlock_border(self.way.node);
@@ -401,10 +443,16 @@ impl Write {
     fn end_failed(&mut self, tree: &mut Tree, refusal: Refusal, split: Option<Halves>) -> Progress
         requires may { (C : ℕ) × (log : LogView) × MayStage C tree.old log self.old (Stage.Failed refusal split) }
         ensures request { write_request self.new ≡ write_request self.old }
-        ensures steps { (C : ℕ) (log : LogView) → StageLaw C tree.old tree.new log log self.old (Stage.Failed refusal split) result self.new }
-        ensures waits { BorderWaits tree.old self.old.way.node.0 result }
-        ensures fails { (log : LogView) → StageFails tree.old log self.old.key self.old.edit self.old.way (Stage.Failed refusal split) result self.new.stage }
-        ensures gets_on { Follows tree.old self.old.key self.old.way (Stage.Failed refusal split) result self.new.way self.new.stage }
+        ensures steps { (C : ℕ) (log : LogView)
+            → StageLaw C tree.old tree.new log log self.old (Stage.Failed refusal split) result self.new }
+        ensures waits { NeverWaits result }
+        ensures fails { (log : LogView)
+            → StageFails tree.old log self.old.key self.old.edit self.old.way (Stage.Failed refusal split) result
+            self.new.stage }
+        ensures gets_on { Follows tree.old self.old.key self.old.way (Stage.Failed refusal split) result self.new.way
+            self.new.stage }
+        ensures head { self.new.head ≡ self.old.head }
+        ensures posts { PostsGo tree.old tree.new self.old.head (Stage.Failed refusal split) result self.new.stage }
     {
         let Some(split) = split else {
             tree.unlock_border(self.way.node);
@@ -418,10 +466,13 @@ impl Write {
     pub fn step(&mut self, alloc: Global, columns: u8, tree: &mut Tree, log: &mut Log) -> Progress
         requires { MayStep tree.old log.old (write_held self.old) (WriteIsTrue columns self.old) }
         ensures request { write_request self.new ≡ write_request self.old }
-        ensures steps { StepLaw columns tree.old tree.new log.old log.new (write_request self.old) (write_held self.old) result (write_held self.new) (WriteIsTrue columns self.old) (WriteIsTrue columns self.new) }
+        ensures steps { StepLaw columns tree.old tree.new log.old log.new (write_request self.old) (write_held self.old)
+            result (write_held self.new) (WriteIsTrue columns self.old) (WriteIsTrue columns self.new) }
         ensures waits { WriteWaits tree.old self.old result }
         ensures fails { WriteFails tree.old log.old self.old result self.new }
         ensures gets_on { WriteFollows tree.old self.old result self.new }
+        ensures head { HeadFollows self.old result self.new }
+        ensures posts { PostsFollow tree.old tree.new self.old result self.new }
     {
         let number = self.way.node;
         match mem::replace(&mut self.stage, Stage::Seeks) {

@@ -57,8 +57,8 @@ status_of (Err Read) = 3
 status_of (Err Write) = 3
 status_of (Err NoMemory) = 3
 
--- how a script ended on an index of so many columns that keeps so many commits for nobody: what was read of the input, and
--- written after the old bytes
+-- how a script ended on an index of so many columns that keeps so many commits for nobody: what was read of the input,
+-- and written after the old bytes
 abbrev pub Ended : ℕ → ℕ → Result ℕ ScriptFault → Option (List ℕ) → Option (List ℕ) → Option (List ℕ) → Type 0
 Ended C keep (Ok bad) input old new = Played C keep input old bad new
 Ended C keep (Err fault) input old new = Broke C keep fault input old new

@@ -1,6 +1,6 @@
 //! Prints the rows that a list of changes gives. The first line of standard input is `columns C`, each other one
-//! `put KEY SETS` or `remove KEY`. A line that says nothing prints `bad line`, and one that breaks a limit `refused N`; both
-//! change nothing. The last line printed is `rows K`, and each row as KEY:VERSION:VALUES.
+//! `put KEY SETS` or `remove KEY`. A line that says nothing prints `bad line`, and one that breaks a limit `refused N`;
+//! both change nothing. The last line printed is `rows K`, and each row as KEY:VERSION:VALUES.
 #![tactic(auto)]
 
 ghost use Rattle.std.specs.Prelude.{◌≡◌, IfOk};

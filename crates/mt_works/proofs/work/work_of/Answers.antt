@@ -1,8 +1,8 @@
-use Rattle.mt_works.proofs.NewWorks.{new_get}
+use Rattle.mt_works.proofs.NewWorks.{new_get, new_tidy}
 use Rattle.mt_works.proofs.work.work_of.Goals as goal
 
 pub returns-in_ok-copy-in-Get-clause-new : goal.returns-in_ok-copy-in-Get-clause-new
-returns-in_ok-copy-in-Get-clause-new c = new_get c.args.columns c.args.number c.in_ok-key_of-in-Get.field-0 c.in_ok-copy-in-Get.field-0
+returns-in_ok-copy-in-Get-clause-new c = new_get c.args.columns c.args.number c.in_ok-key_of-in-Get.field-0 c.in_ok-copy-in-Get.field-0 c.in_ok-key_of-in-Get.ensures.key
 
 pub returns-in_ok-copy-in-Put-clause-new : goal.returns-in_ok-copy-in-Put-clause-new
 returns-in_ok-copy-in-Put-clause-new c = c.new_write-in-Put.ensures.new c.args.columns c.args.number
@@ -12,3 +12,7 @@ returns-in_ok-key_of-in-Remove-clause-new c = c.new_write-in-Remove.ensures.new 
 
 pub returns-in_ok-new_range-in-Range-clause-new : goal.returns-in_ok-new_range-in-Range-clause-new
 returns-in_ok-new_range-in-Range-clause-new c = c.in_ok-new_range-in-Range.ensures.new c.args.columns c.args.number
+
+pub returns-in_ok-key_of-in-Tidy-clause-new : goal.returns-in_ok-key_of-in-Tidy-clause-new
+returns-in_ok-key_of-in-Tidy-clause-new c =
+    new_tidy c.args.columns c.args.number c.new.result c.in_ok-key_of-in-Tidy.field-0 c.in_ok-key_of-in-Tidy.ensures.key c.new.ensures.request c.new.ensures.has c.new.ensures.begins c.new.ensures.at_start

@@ -1,6 +1,8 @@
-use Rattle.std.proofs.Common.{ℕ, subst}
+use Rattle.std.proofs.Common.{ℕ, inl, inr, refl, subst, arith}
+use Rattle.mt_scan.specs.Onward.{cursor_in}
+use Rattle.mt_scan.proofs.LeadLemmas.{visit_leads}
 use Rattle.mt_calls.specs.Ranging.{Seeks}
-use Rattle.mt_calls.proofs.RangeLemmas.{range_may, range_waits, range_moves, range_border, range_keys, range_goes, range_tops, range_answers, range_fails}
+use Rattle.mt_calls.proofs.RangeLemmas.{range_may, range_waits, range_moves, range_border, range_keys, range_goes, range_tops, range_answers, range_fails, range_moves_stays, range_goes_stays, range_tops_stays, range_may_get_on, scans_on, scans_top}
 use Rattle.mt_calls.proofs.ranging.Range.step.Goals as goal
 
 pub seek-requires : goal.seek-requires
@@ -41,3 +43,35 @@ returns-in-Ok-Done-clause-steps c = λ C log.
 
 pub returns-in-Err-clause-steps : goal.returns-in-Err-clause-steps
 returns-in-Err-clause-steps c = λ C log. range_fails c.args.tree.now c.args.self.now _ log C
+
+pub returns-in-To-clause-stays : goal.returns-in-To-clause-stays
+returns-in-To-clause-stays c = range_moves_stays c.args.tree.now c.args.self.now c.seek.result (subst (λ (s : ℕ). Seeks c.args.tree.now c.args.self.now.node.0 s c.seek.result) c.slice.ensures c.seek.ensures.seeks) c.in-To.next c.in-To.is
+
+pub returns-in-To-clause-gets_on : goal.returns-in-To-clause-gets_on
+returns-in-To-clause-gets_on c = inl (record { fits = omega (arith, c.slice.ensures, c.slice.type_inv); moves = c.seek.ensures.moves c.in-To.next c.in-To.is }, refl)
+
+pub returns-in-Ok-To-clause-stays : goal.returns-in-Ok-To-clause-stays
+returns-in-Ok-To-clause-stays c =
+    range_goes_stays c.args.tree.now c.args.self.now c.seek.result (subst (λ (s : ℕ). Seeks c.args.tree.now c.args.self.now.node.0 s c.seek.result) c.slice.ensures c.seek.ensures.seeks)
+    c.border-border.result.now c.border-border.ensures.value c.in-Here.is c.len-sound.ensures.sound c.in-Ok-To.field-0 c.visit.new.self c.in-Ok-To.ensures.visited c.in-Ok-To.ensures.limit c.in-Ok-To.ensures.asked c.in-Ok-To.next c.in-Ok-To.field-0-is
+
+pub returns-in-Ok-To-clause-gets_on : goal.returns-in-Ok-To-clause-gets_on
+returns-in-Ok-To-clause-gets_on c =
+    let may = c.requires.1 in
+    let alive = range_may_get_on c.args.tree.now c.args.self.now c.seek.result (subst (λ (s : ℕ). Seeks c.args.tree.now c.args.self.now.node.0 s c.seek.result) c.slice.ensures c.seek.ensures.seeks)
+    c.border-border.result.now c.border-border.ensures.value c.in-Here.is may.now may.begun may.moves may.past may.w may.world may.true in
+    inr (scans_on c.args.tree.now c.args.self.now.node.0 c.border-border.result.now (cursor_in c.args.self.now.scan) (cursor_in c.visit.new.self) c.in-Ok-To.field-0 c.border-border.ensures.value c.len-sound.ensures.sound alive
+    (visit_leads c.args.self.now.scan c.border-border.result.now c.in-Ok-To.field-0 c.visit.new.self c.in-Ok-To.ensures.visited) c.in-Ok-To.ensures.onward c.in-Ok-To.ensures.within c.border-border.ensures.arena c.in-Ok-To.next c.in-Ok-To.field-0-is)
+
+pub returns-in-Ok-Top-clause-stays : goal.returns-in-Ok-Top-clause-stays
+returns-in-Ok-Top-clause-stays c =
+    range_tops_stays c.args.tree.now c.args.self.now c.seek.result (subst (λ (s : ℕ). Seeks c.args.tree.now c.args.self.now.node.0 s c.seek.result) c.slice.ensures c.seek.ensures.seeks)
+    c.border-border.result.now c.border-border.ensures.value c.in-Here.is c.len-sound.ensures.sound c.in-Ok-Top.field-0 c.visit.new.self c.in-Ok-Top.ensures.visited c.in-Ok-Top.ensures.limit c.in-Ok-Top.ensures.asked c.in-Ok-Top.ensures.home c.in-Ok-Top.field-0-is
+
+pub returns-in-Ok-Top-clause-gets_on : goal.returns-in-Ok-Top-clause-gets_on
+returns-in-Ok-Top-clause-gets_on c =
+    let may = c.requires.1 in
+    let alive = range_may_get_on c.args.tree.now c.args.self.now c.seek.result (subst (λ (s : ℕ). Seeks c.args.tree.now c.args.self.now.node.0 s c.seek.result) c.slice.ensures c.seek.ensures.seeks)
+    c.border-border.result.now c.border-border.ensures.value c.in-Here.is may.now may.begun may.moves may.past may.w may.world may.true in
+    inr (scans_top c.args.tree.now c.args.self.now.node.0 c.border-border.result.now (cursor_in c.args.self.now.scan) (cursor_in c.visit.new.self) c.in-Ok-Top.field-0 c.border-border.ensures.value c.len-sound.ensures.sound alive
+    (visit_leads c.args.self.now.scan c.border-border.result.now c.in-Ok-Top.field-0 c.visit.new.self c.in-Ok-Top.ensures.visited) c.in-Ok-Top.ensures.onward c.in-Ok-Top.ensures.within c.border-border.ensures.arena c.in-Ok-Top.field-0-is)

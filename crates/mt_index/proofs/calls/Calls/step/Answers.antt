@@ -43,6 +43,9 @@ returns-clause-steps c =
       goes_on = c.step-progress.ensures.builds;
       waits = c.step-progress.ensures.waits;
       fails = c.step-progress.ensures.fails;
+      follows = c.step-progress.ensures.gets_on;
+      read = c.step-progress.ensures.reads;
+      posts = c.step-progress.ensures.posts;
       changed = ap (λ (entries : Entries). record { begun = c.self.inside.begun; calls = entries })
           (written ∙ set-changed (with_work c.step-progress.new.self) c.args.number c.self.inside.calls.entries c.in-Some.call.now new found refl)
           ∙ ap (λ (s : CallsView). record { begun = s.begun; calls = with_changed (with_work c.step-progress.new.self) c.args.number s.calls }) c.self.view_is;

@@ -4,7 +4,7 @@ use Rattle.mt_slice.specs.Place.{place_of}
 use Rattle.mt_views.specs.Views.{ViewsView}
 use Rattle.mt_index.specs.Calls.{CallsView}
 use Rattle.mt_index.specs.Stands.{Stands}
-use Rattle.mt_index.proofs.EventStands.{opens-stands, new_keys, new_heads, new_twins, new_retired, new_untaken}
+use Rattle.mt_index.proofs.EventStands.{opens-stands, new_world, new_untaken}
 use Rattle.mt_index.proofs.LaterStands.{seen}
 use Rattle.mt_index.proofs.machine.Machine.open.Goals as goal
 
@@ -13,17 +13,18 @@ invariant_of-result c = (
   [],
   subst (λ (v : ViewsView). Stands (seen c.args.options.columns 0 c.in_ok-open.field-0 c.open-2.result c.new.result v) []) (sym c.new-2.ensures)
       (subst (λ (k : CallsView). Stands (seen c.args.options.columns 0 c.in_ok-open.field-0 c.open-2.result k (record { built = 0; building = 0; views = [] })) []) (sym c.new.ensures)
-      (opens-stands c.args.options.columns c.args.options.feed c.args.options.keep c.in_ok-open.field-0 c.open-2.result _ (record { index = c.in_ok-open.ensures.index c.in_ok-open.ensures.new; keys = new_keys c.in_ok-open.field-0 c.in_ok-open.ensures.empty; heads = new_heads c.in_ok-open.field-0 c.in_ok-open.ensures.new _; twins = new_twins c.in_ok-open.field-0 _; retired = new_retired c.in_ok-open.field-0 c.in_ok-open.ensures.new 0 _ }) (new_untaken c.in_ok-open.field-0 c.in_ok-open.ensures.new _ _ (record { index = c.in_ok-open.ensures.index c.in_ok-open.ensures.new; keys = new_keys c.in_ok-open.field-0 c.in_ok-open.ensures.empty; heads = new_heads c.in_ok-open.field-0 c.in_ok-open.ensures.new _; twins = new_twins c.in_ok-open.field-0 _; retired = new_retired c.in_ok-open.field-0 c.in_ok-open.ensures.new 0 _ })) (λ key row. c.in_ok-open.ensures.empty (place_of key) row) c.open-2.ensures.empty)),
+      (opens-stands c.args.options.columns c.args.options.feed c.args.options.keep c.in_ok-open.field-0 c.open-2.result _ (new_world c.in_ok-open.field-0 c.in_ok-open.ensures.new _ (c.in_ok-open.ensures.index c.in_ok-open.ensures.new) c.in_ok-open.ensures.empty) (new_untaken c.in_ok-open.field-0 c.in_ok-open.ensures.new _ _ (new_world c.in_ok-open.field-0 c.in_ok-open.ensures.new _ (c.in_ok-open.ensures.index c.in_ok-open.ensures.new) c.in_ok-open.ensures.empty)) (λ key row. c.in_ok-open.ensures.empty (place_of key) row) c.open-2.ensures.empty)),
 )
 
 pub returns : goal.returns
 returns c = record {
   fault = rw (sym c.in_default.ensures) tt;
+  idle = ap (λ (k : CallsView). k.calls) c.new.ensures;
   opened = (
     refl,
     (ap (λ (l : LogView). l.feed) c.open-2.ensures.empty, ap (λ (l : LogView). l.keep) c.open-2.ensures.empty),
     subst (λ (v : ViewsView). Stands (seen c.args.options.columns 0 c.in_ok-open.field-0 c.open-2.result c.new.result v) []) (sym c.new-2.ensures)
         (subst (λ (k : CallsView). Stands (seen c.args.options.columns 0 c.in_ok-open.field-0 c.open-2.result k (record { built = 0; building = 0; views = [] })) []) (sym c.new.ensures)
-        (opens-stands c.args.options.columns c.args.options.feed c.args.options.keep c.in_ok-open.field-0 c.open-2.result _ (record { index = c.in_ok-open.ensures.index c.in_ok-open.ensures.new; keys = new_keys c.in_ok-open.field-0 c.in_ok-open.ensures.empty; heads = new_heads c.in_ok-open.field-0 c.in_ok-open.ensures.new _; twins = new_twins c.in_ok-open.field-0 _; retired = new_retired c.in_ok-open.field-0 c.in_ok-open.ensures.new 0 _ }) (new_untaken c.in_ok-open.field-0 c.in_ok-open.ensures.new _ _ (record { index = c.in_ok-open.ensures.index c.in_ok-open.ensures.new; keys = new_keys c.in_ok-open.field-0 c.in_ok-open.ensures.empty; heads = new_heads c.in_ok-open.field-0 c.in_ok-open.ensures.new _; twins = new_twins c.in_ok-open.field-0 _; retired = new_retired c.in_ok-open.field-0 c.in_ok-open.ensures.new 0 _ })) (λ key row. c.in_ok-open.ensures.empty (place_of key) row) c.open-2.ensures.empty)),
+        (opens-stands c.args.options.columns c.args.options.feed c.args.options.keep c.in_ok-open.field-0 c.open-2.result _ (new_world c.in_ok-open.field-0 c.in_ok-open.ensures.new _ (c.in_ok-open.ensures.index c.in_ok-open.ensures.new) c.in_ok-open.ensures.empty) (new_untaken c.in_ok-open.field-0 c.in_ok-open.ensures.new _ _ (new_world c.in_ok-open.field-0 c.in_ok-open.ensures.new _ (c.in_ok-open.ensures.index c.in_ok-open.ensures.new) c.in_ok-open.ensures.empty)) (λ key row. c.in_ok-open.ensures.empty (place_of key) row) c.open-2.ensures.empty)),
   );
 }

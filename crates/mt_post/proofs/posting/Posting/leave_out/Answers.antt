@@ -8,4 +8,4 @@ pub returns : goal.returns
 returns c =
     left_out_so c.args.self.now (λ p then. PostStep c.args.tree.now c.args.tree.now c.args.self.now p then) c.left_out.result c.left_out.new.self c.left_out.ensures
     (λ left none. all_left_out c.args.tree.now c.args.self.now (Walks c.args.node) (λ waiting. refl) c.requires.walks left none tt (inr (refl, c.requires.cause)))
-    (λ split waiting some. half_left_out c.args.tree.now c.args.self.now (Walks c.args.node) (λ waiting. refl) c.requires.walks split waiting some tt tt (follows_left_out c.args.tree.now c.args.self.now c.args.node split waiting some c.requires.cause))
+    (λ split waiting some. half_left_out c.args.tree.now c.args.self.now (Walks c.args.node) (λ waiting. refl) c.requires.walks split waiting some tt tt (follows_left_out c.args.tree.now c.args.self.now c.args.node split waiting some c.requires.cause) refl)

@@ -8,4 +8,4 @@ pub returns : goal.returns
 returns c =
     left_out_so c.args.self.now (λ p then. PostStep c.args.tree.now c.args.tree.now c.args.self.now p then) c.left_out.result c.left_out.new.self c.left_out.ensures
     (λ left none. all_left_out c.args.tree.now c.args.self.now (RootWanted c.args.old) (λ waiting. refl) c.requires.wants left none tt refl)
-    (λ split waiting some. half_left_out c.args.tree.now c.args.self.now (RootWanted c.args.old) (λ waiting. refl) c.requires.wants split waiting some tt tt (inr (split, some, refl)))
+    (λ split waiting some. half_left_out c.args.tree.now c.args.self.now (RootWanted c.args.old) (λ waiting. refl) c.requires.wants split waiting some tt tt (inr (split, some, refl)) refl)

@@ -11,7 +11,7 @@ returns-in-Ok c =
     half_spares c.args.tree.now c.args.self.now c.args.interior c.requires.wants c.interior-split.result.now c.child-middle.result c.in-Ok.half c.occupy.new.self c.interior-split.ensures.value c.child-middle.ensures.value
     (subst IsInterior made c.new_locked.ensures.sound) c.in-Ok.ensures.vacant
     (subst (λ (i : InteriorView). Updates c.args.tree.now.nodes c.occupy.new.self.nodes c.in-Ok.half.0 (Some (Interior i))) made c.in-Ok.ensures.updates)
-    c.occupy.ensures.retired c.in-Ok.ensures.unknown c.in-Ok.ensures.keeps
+    c.occupy.ensures.retired c.in-Ok.ensures.unknown c.in-Ok.ensures.keeps c.in-Ok.ensures.occupied
 
 pub returns-in-Err : goal.returns-in-Err
 returns-in-Err c = half_refused c.args.tree.now c.args.self.now c.args.interior c.requires.wants c.occupy.new.self c.in-Err.ensures.err

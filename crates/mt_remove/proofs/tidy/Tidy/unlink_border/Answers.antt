@@ -11,4 +11,4 @@ pub returns-in-Again : goal.returns-in-Again
 returns-in-Again c = again c.args.epoch c.args.tree.now c.args.self.now c.args.border c.args.head c.args.node c.args.slice c.requires.at (c.seek.ensures.again c.in-Again.is)
 
 pub returns-in-To : goal.returns-in-To
-returns-in-To c = goes_on c.args.epoch c.args.tree.now c.args.self.now c.args.border c.args.head c.args.node c.args.slice c.requires.at c.in-To.next c.seek.result c.in-To.is c.seek.ensures.seeks
+returns-in-To c = goes_on c.args.epoch c.args.tree.now c.args.self.now c.args.border c.args.head c.args.node c.args.slice c.requires.at c.in-To.next c.seek.result c.in-To.is c.seek.ensures.seeks c.seek.ensures.moves

@@ -1,6 +1,8 @@
-use Rattle.std.proofs.Common.{ℕ, Some, subst}
+use Rattle.std.proofs.Common.{ℕ, Some, inl, inr, refl, subst, arith}
+use Rattle.mt_build.specs.Build.{build_cursor}
+use Rattle.mt_calls.proofs.RangeLemmas.{scans_on, scans_top}
 use Rattle.mt_calls.specs.Ranging.{Seeks}
-use Rattle.mt_works.proofs.BuildingLemmas.{scan_may, scan_again, scan_moves, scan_border, scan_keys, scan_goes, scan_tops, scan_ends, scans_all, as_scanning, as_ended, as_truth, has_scanned, build_fails}
+use Rattle.mt_works.proofs.BuildingLemmas.{scan_may, scan_again, scan_moves, scan_border, scan_keys, scan_goes, scan_tops, scan_ends, scans_all, as_scanning, as_ended, as_truth, has_scanned, build_fails, scan_alive, scan_follows, scan_ended}
 use Rattle.mt_works.proofs.building.Building.scan.Goals as goal
 
 pub seek-requires : goal.seek-requires
@@ -57,3 +59,27 @@ returns-in-Ok-Done-clause-builds c =
 
 pub returns-in-Err-clause-steps : goal.returns-in-Err-clause-steps
 returns-in-Err-clause-steps c = λ C. build_fails c.args.tree.now c.args.log.now c.args.self.now _ C
+
+pub returns-in-To-clause-gets_on : goal.returns-in-To-clause-gets_on
+returns-in-To-clause-gets_on c =
+    scan_follows c.args.tree.now c.args.log.now c.args.self.now c.requires.scans c.args.self.now.build c.in-To.next
+    (inl (record { fits = omega (arith, c.slice.ensures, c.slice.type_inv); moves = c.seek.ensures.moves c.in-To.next c.in-To.is }, refl))
+
+pub returns-in-Ok-To-clause-gets_on : goal.returns-in-Ok-To-clause-gets_on
+returns-in-Ok-To-clause-gets_on c =
+    let may = c.requires.may in
+    let alive = scan_alive c.args.tree.now c.args.log.now c.args.self.now.build c.args.self.now.node c.seek.result (subst (λ (s : ℕ). Seeks c.args.tree.now c.args.self.now.node.0 s c.seek.result) c.slice.ensures c.seek.ensures.seeks) c.border.result.now c.border.ensures.value c.in-Here.is may.now may.begun may.past may.w may.world (as_truth c.args.tree.now c.args.log.now c.args.self.now c.requires.scans may.begun may.moves may.past may.w may.true) in
+    scan_follows c.args.tree.now c.args.log.now c.args.self.now c.requires.scans c.visit.new.self _
+    (inr (scans_on c.args.tree.now c.args.self.now.node.0 c.border.result.now (build_cursor c.args.self.now.build) (build_cursor c.visit.new.self) c.in-Ok-To.field-0 c.border.ensures.value c.border.ensures.sound alive
+    c.in-Ok-To.ensures.leads c.in-Ok-To.ensures.onward c.in-Ok-To.ensures.within c.border.ensures.arena c.in-Ok-To.next c.in-Ok-To.field-0-is))
+
+pub returns-in-Ok-Top-clause-gets_on : goal.returns-in-Ok-Top-clause-gets_on
+returns-in-Ok-Top-clause-gets_on c =
+    let may = c.requires.may in
+    let alive = scan_alive c.args.tree.now c.args.log.now c.args.self.now.build c.args.self.now.node c.seek.result (subst (λ (s : ℕ). Seeks c.args.tree.now c.args.self.now.node.0 s c.seek.result) c.slice.ensures c.seek.ensures.seeks) c.border.result.now c.border.ensures.value c.in-Here.is may.now may.begun may.past may.w may.world (as_truth c.args.tree.now c.args.log.now c.args.self.now c.requires.scans may.begun may.moves may.past may.w may.true) in
+    scan_follows c.args.tree.now c.args.log.now c.args.self.now c.requires.scans c.visit.new.self _
+    (inr (scans_top c.args.tree.now c.args.self.now.node.0 c.border.result.now (build_cursor c.args.self.now.build) (build_cursor c.visit.new.self) c.in-Ok-Top.field-0 c.border.ensures.value c.border.ensures.sound alive
+    c.in-Ok-Top.ensures.leads c.in-Ok-Top.ensures.onward c.in-Ok-Top.ensures.within c.border.ensures.arena c.in-Ok-Top.field-0-is))
+
+pub returns-in-Ok-Done-clause-gets_on : goal.returns-in-Ok-Done-clause-gets_on
+returns-in-Ok-Done-clause-gets_on c = scan_ended c.args.tree.now c.args.log.now c.args.self.now c.requires.scans c.number.result c.visit.new.self

@@ -5,7 +5,7 @@ pub returns-in-Get-clause-steps : goal.returns-in-Get-clause-steps
 returns-in-Get-clause-steps c = step_get c.args.epoch c.args.columns c.args.tree.now c.args.tree.now c.args.log.now c.args.log.now c.args.self.now c.in-Get.get _ _ _ c.in-Get.is (c.step.ensures.steps c.args.columns c.args.log.now)
 
 pub returns-in-Write-clause-steps : goal.returns-in-Write-clause-steps
-returns-in-Write-clause-steps c = step_write c.args.epoch c.args.columns c.args.tree.now c.step-in-Write.new.tree c.args.log.now c.step-in-Write.new.log c.args.self.now c.in-Write.write _ _ _ c.in-Write.is c.step-in-Write.ensures.steps
+returns-in-Write-clause-steps c = step_write c.args.epoch c.args.columns c.args.tree.now c.step-progress.new.tree c.args.log.now c.step-progress.new.log c.args.self.now c.in-Write.write _ _ _ c.in-Write.is c.step-progress.ensures.steps
 
 pub returns-in-Range-clause-steps : goal.returns-in-Range-clause-steps
 returns-in-Range-clause-steps c = step_range c.args.epoch c.args.columns c.args.tree.now c.args.tree.now c.args.log.now c.args.log.now c.args.self.now c.in-Range.range _ _ _ c.in-Range.is (c.step-in-Range.ensures.steps c.args.columns c.args.log.now)

@@ -1,0 +1,350 @@
+-- A machine on which one call runs alone: from its begin on, at each step, and once it has ended.
+use Rattle.std.proofs.Common.{ℕ, ◌≡◌, ◌<◌, ◌==◌, ◌⊎◌, Bool, true, false, inl, inr, List, [], ◌∷◌, ◌++◌, length, Option, Some, None, refl, sym, ap, subst, ◌∙◌, arith}
+use Rattle.std.specs.Prelude.{if◌then◌else◌, min, ◌-◌, ◌+◌, drop}
+use Rattle.std.proofs.lemmas.Bool.{eq-eqb}
+use Rattle.mt_types.specs.declared.numbers.PassNo.{PassNo}
+use Rattle.mt_types.specs.declared.numbers.CallNo.{CallNo}
+use Rattle.mt_types.specs.declared.event.Event.TheVariants.{Begin, Step}
+use Rattle.mt_types.specs.declared.event.Request.{Request}
+use Rattle.std.specs.Prelude.{All, IsSome}
+use Rattle.std.specs.Option.{option_map}
+use Rattle.std.specs.FinMap.{get}
+use Rattle.std.proofs.lemmas.List.Elements.{All-nil, All-cons, All-head, All-tail}
+use Rattle.mt_types.specs.Rows.{Rows, shown}
+use Rattle.mt_types.specs.declared.row.Row.{Row}
+use Rattle.mt_types.specs.declared.event.Answer.TheVariants.{Absent, Found, Rows as RowsAnswer}
+use Rattle.mt_types.specs.declared.event.Request.TheVariants.{Get as GetRequest, Range as RangeRequest}
+use Rattle.mt_slice.specs.Place.{AreBytes, place_of}
+use Rattle.mt_chart.specs.ScanRun.{Stood, AllHave}
+use Rattle.mt_chart.specs.KeyAnswer.{KeysAreBytes}
+use Rattle.mt_tree.specs.Seen.{arena_seen}
+use Rattle.mt_calls.specs.Lone.{IsLoneTree, IsRightNow}
+use Rattle.mt_types.specs.declared.event.Reply.{Reply}
+use Rattle.mt_types.specs.declared.event.Outcome.{Outcome}
+use Rattle.mt_types.specs.declared.event.Outcome.TheVariants.{Call as Called, Moved, Again, Commit, Done, Refused}
+use Rattle.mt_types.specs.declared.refusal.Refusal.{Refusal}
+use Rattle.mt_promise.specs.History.{History, happening, moment, rows, Happening, OpenCall}
+use Rattle.mt_promise.specs.Legal.{reads_log}
+use Rattle.mt_promise.specs.Alone.{ShowsRow, IsRangeOfMap, GoesOnBy, RunsAlone, EndsPlainly}
+use Rattle.mt_promise.proofs.AloneLemmas.{lone_calls_are_plain, lone_refusals_do_nothing}
+use Rattle.mt_commit.specs.Log.{LogView, newest, trimmed, IsLog}
+use Rattle.mt_commit.proofs.LogLemmas.{newest-trimmed}
+use Rattle.mt_arena.specs.Arena.{ArenaView}
+use Rattle.mt_chart.specs.Tree.{Among}
+use Rattle.mt_calls.specs.declared.progress.Progress.{Progress}
+use Rattle.mt_calls.specs.declared.progress.Progress.TheVariants.{Moved as WentOn, Waits, Committed, Answered, Refused as EndsProgress}
+use Rattle.mt_calls.specs.World.{IsTaken}
+use Rattle.mt_works.specs.declared.work.Work.{Work}
+use Rattle.mt_works.specs.Works.{request_of, held, IsTrue, IsBuiltWork, WorkBuilds}
+use Rattle.mt_works.specs.Causes.{WorkWaits}
+use Rattle.mt_works.specs.Follows.{WorkFollows, WorkPosts}
+use Rattle.mt_calls.specs.Step.{StepLawIn}
+use Rattle.mt_works.proofs.LoneWork.{LoneLaws, RunsLone, work_left, lone_begins, lone_moves, lone_commits, lone_waits_not}
+use Rattle.mt_index.specs.declared.calls.Call.{Call}
+use Rattle.mt_index.specs.Calls.{CallsView, call_at, with_changed, with_work, without, StepsCall, IsBuiltCall}
+use Rattle.mt_index.specs.Paired.{Paired}
+use Rattle.mt_index.specs.Stands.{MachineView, Stands, CallStands, Begins, Steps, StepsOpen, EndsBuild, with_call, outcome_of, calls_after, log_after, views_after, pinned}
+use Rattle.mt_index.specs.Alone.{IsIdle, AnswersPlainly, RefusesPlainly}
+use Rattle.mt_index.proofs.EventStands.{begins-stands, begins-columns}
+use Rattle.mt_index.proofs.ViewEvents.{steps-stand, steps-columns}
+
+-- ---- the machine
+-- the call of this number alone is open
+pub record IsRunning (s : MachineView) (number : ℕ) : Type 0 where
+  pub call : Call
+  pub only : s.calls.calls ≡ (number, call) ∷ []
+  pub lone : RunsLone s.columns s.epoch s.tree (newest s.log) call.work
+
+-- what is left of the first open call
+abbrev pub calls_left : ArenaView → ℕ → List (ℕ × Call) → ℕ
+calls_left a commits [] = 0
+calls_left a commits (entry ∷ entries) = work_left a commits entry.1.work
+
+abbrev pub machine_left : MachineView → ℕ
+machine_left s = calls_left s.tree (newest s.log) s.calls.calls
+
+-- ---- one open call
+one_at : (number : ℕ) (call : Call) → call_at number ((number, call) ∷ []) ≡ Some call
+one_at number call = ap (λ (b : Bool). if b then Some call else None) (eq-eqb number number refl)
+
+one_changed : (number : ℕ) (call : Call) (work : Work) → with_changed (with_work work) number ((number, call) ∷ []) ≡ (number, with_work work call) ∷ []
+one_changed number call work = ap (λ (b : Bool). if b then (number, with_work work call) ∷ [] else (number, call) ∷ []) (eq-eqb number number refl)
+
+one_without : (number : ℕ) (call : Call) → without number ((number, call) ∷ []) ≡ []
+one_without number call = ap (λ (b : Bool). if b then [] else (number, call) ∷ []) (eq-eqb number number refl)
+
+same_call : (one other : Call) → ◌≡◌ {A = Option Call} (Some one) (Some other) → one ≡ other
+same_call one other e = cc
+
+-- trimming keeps the number of the newest commit
+trimmed_newest : (log : LogView) → IsLog log → newest (trimmed log) ≡ newest log
+trimmed_newest log sound = newest-trimmed log (trimmed log).held_after (trimmed log).deltas sound refl refl
+
+pinned_newest : (reads : Bool) (log : LogView) → newest (pinned reads log) ≡ newest log
+pinned_newest true log = refl
+pinned_newest false log = refl
+
+-- ---- its begin
+pub begins_running : LoneLaws → (s t : MachineView) (h : History) (pass : PassNo) (request : Request) (number : CallNo) → IsIdle s → Stands s h → Begins s pass request (Called number) t → IsRunning t number.0
+begins_running laws s t h pass request number idle st (none, numbered, work, asks, new, next) =
+    subst (λ (m : MachineView). IsRunning m number.0) (sym next) (record {
+      call = record { pass = pass; from = newest s.log; epoch = s.epoch; work = work };
+      only = ap (λ (l : List (ℕ × Call)). l ++ (s.calls.begun + 1, record { pass = pass; from = newest s.log; epoch = s.epoch; work = work }) ∷ []) idle
+          ∙ ap (λ (n : ℕ). (n, record { pass = pass; from = newest s.log; epoch = s.epoch; work = work }) ∷ []) (sym (ap (λ (c : CallNo). c.0) numbered));
+      lone = subst (λ (n : ℕ). RunsLone s.columns s.epoch s.tree n work) (sym (pinned_newest (reads_log (request_of work)) s.log)) (lone_begins laws s.columns s.epoch (newest s.log) s.tree st.w st.world free work new);
+    })
+  where
+    none_among : (k : ℕ × Call) → Among k [] → ⊥
+    none_among k i = elim i [ ]
+
+    free : (n : ℕ) → IsTaken s.tree st.w n → ⊥
+    free n taken = let (k, i, owned) = st.owned n taken in none_among k (subst (λ (l : List (ℕ × Call)). Among k l) idle i)
+
+-- ---- its steps
+-- what a step comes to
+abbrev pub ComesTo : MachineView → ℕ → Outcome → MachineView → Type 0
+ComesTo s number Moved t = IsRunning t number × (machine_left t < machine_left s)
+ComesTo s number (Commit commit) t = IsRunning t number × (machine_left t < machine_left s)
+ComesTo s number (Done reply) t = IsIdle t
+ComesTo s number (Refused refusal) t = IsIdle t
+ComesTo s number _ t = ⊥
+
+module _ (laws : LoneLaws) (s t : MachineView) (number : ℕ) (runs : IsRunning s number) where
+  there : call_at number s.calls.calls ≡ Some runs.call
+  there = ap (call_at number) runs.only ∙ one_at number runs.call
+
+  -- what was left before the step
+  left_before : machine_left s ≡ work_left s.tree (newest s.log) runs.call.work
+  left_before = ap (calls_left s.tree (newest s.log)) runs.only
+
+  module _ (outcome : Outcome) (o : StepsOpen s number outcome t) where
+    same : o.steps.call ≡ runs.call
+    same = same_call o.steps.call runs.call (sym o.steps.is_open ∙ there)
+
+    lone : RunsLone s.columns s.epoch s.tree (newest s.log) o.steps.call.work
+    lone = subst (λ (c : Call). RunsLone s.columns s.epoch s.tree (newest s.log) c.work) (sym same) runs.lone
+
+    unbuilt : IsBuiltWork o.steps.call.work → ⊥
+    unbuilt built = o.unbuilt (subst (λ (c : Option Call). IsBuiltCall c) (sym o.steps.is_open) built)
+
+    abbrev next : Progress → MachineView
+    next p = record {
+      columns = s.columns;
+      epoch = s.epoch;
+      tree = o.tree;
+      log = trimmed (log_after o.reads o.from p o.log);
+      calls = calls_after number p o.calls;
+      views = views_after o.builds p s.views;
+    }
+
+    -- the call has come so far
+    calls_now : o.calls.calls ≡ (number, with_work o.steps.work runs.call) ∷ []
+    calls_now = ap (λ (c : CallsView). c.calls) o.steps.changed ∙ ap (with_changed (with_work o.steps.work) number) runs.only ∙ one_changed number runs.call o.steps.work
+
+    goes_on : (p : Progress) → calls_after number p o.calls ≡ o.calls → log_after o.reads o.from p o.log ≡ o.log → IsLog o.log
+        → RunsLone s.columns s.epoch o.tree (newest o.log) o.steps.work × (work_left o.tree (newest o.log) o.steps.work < work_left s.tree (newest s.log) o.steps.call.work)
+        → IsRunning (next p) number × (machine_left (next p) < machine_left s)
+    goes_on p calls log sound (further, falls) = (
+      record {
+        call = with_work o.steps.work runs.call;
+        only = ap (λ (c : CallsView). c.calls) calls ∙ calls_now;
+        lone = subst (λ (n : ℕ). RunsLone s.columns s.epoch o.tree n o.steps.work) (sym (ap (λ (l : LogView). newest (trimmed l)) log ∙ trimmed_newest o.log sound)) further;
+      },
+      subst (λ (n : ℕ). n < machine_left s) (sym left_now) (subst (λ (n : ℕ). work_left o.tree (newest o.log) o.steps.work < n) (ap (λ (c : Call). work_left s.tree (newest s.log) c.work) same ∙ sym left_before) falls),
+    )
+      where
+        left_now : machine_left (next p) ≡ work_left o.tree (newest o.log) o.steps.work
+        left_now = ap (calls_left o.tree (newest (trimmed (log_after o.reads o.from p o.log)))) (ap (λ (c : CallsView). c.calls) calls ∙ calls_now)
+            ∙ ap (λ (n : ℕ). work_left o.tree n o.steps.work) (ap (λ (l : LogView). newest (trimmed l)) log ∙ trimmed_newest o.log sound)
+
+    ended : without number o.calls.calls ≡ []
+    ended = ap (without number) calls_now ∙ one_without number (with_work o.steps.work runs.call)
+
+    comes_by : (p : Progress) → o.p ≡ p → ComesTo s number (outcome_of number o.pass o.from (newest o.log) p) (next p)
+    comes_by WentOn e = goes_on WentOn refl refl (subst (λ (p : Progress). IsLog (log_after o.reads o.from p o.log)) e o.sound)
+        (lone_moves laws s.columns s.epoch s.tree o.tree s.log o.log o.steps.call.work lone unbuilt o.steps.work
+        (subst (λ (p : Progress). StepLawIn s.epoch s.columns s.tree o.tree s.log o.log (request_of o.steps.call.work) (held o.steps.call.work) p (held o.steps.work) (IsTrue s.columns o.steps.call.work) (IsTrue s.columns o.steps.work)) e o.steps.law)
+        o.steps.same_request (subst (λ (p : Progress). WorkFollows s.tree o.steps.call.work p o.steps.work) e o.steps.follows) (subst (λ (p : Progress). WorkBuilds s.tree s.log o.steps.call.work p o.steps.work) e o.steps.goes_on) o.steps.read (subst (λ (p : Progress). WorkPosts s.tree o.tree o.steps.call.work p o.steps.work) e o.steps.posts))
+    comes_by Waits e = lone_waits_not laws s.columns s.epoch s.tree o.tree s.log o.log o.steps.call.work lone unbuilt (subst (λ (p : Progress). WorkWaits s.tree o.steps.call.work p) e o.steps.waits)
+    comes_by (Committed n) e = goes_on (Committed n) refl refl (subst (λ (p : Progress). IsLog (log_after o.reads o.from p o.log)) e o.sound)
+        (lone_commits laws s.columns s.epoch s.tree o.tree s.log o.log o.steps.call.work lone unbuilt o.steps.work n
+        (subst (λ (p : Progress). StepLawIn s.epoch s.columns s.tree o.tree s.log o.log (request_of o.steps.call.work) (held o.steps.call.work) p (held o.steps.work) (IsTrue s.columns o.steps.call.work) (IsTrue s.columns o.steps.work)) e o.steps.law)
+        o.steps.same_request (subst (λ (p : Progress). WorkFollows s.tree o.steps.call.work p o.steps.work) e o.steps.follows) (subst (λ (p : Progress). WorkBuilds s.tree s.log o.steps.call.work p o.steps.work) e o.steps.goes_on) o.steps.read (subst (λ (p : Progress). WorkPosts s.tree o.tree o.steps.call.work p o.steps.work) e o.steps.posts))
+    comes_by (Answered answer) e = ended
+    comes_by (EndsProgress refusal) e = ended
+
+    comes_open : ComesTo s number outcome t
+    comes_open =
+        subst (λ (out : Outcome). ComesTo s number out t) (sym (o.is_outcome))
+        (subst (λ (m : MachineView). ComesTo s number (outcome_of number o.pass o.from (newest o.log) o.p) m) (sym o.is_next) (comes_by o.p refl))
+
+  comes_built : (outcome : Outcome) → EndsBuild s number outcome t → ComesTo s number outcome t
+  comes_built outcome ends = elim ends.comes [
+    | inl opens ↦ subst (λ (out : Outcome). ComesTo s number out t) (sym opens.is_outcome) (subst (λ (m : MachineView). IsIdle m) (sym opens.is_next) left_none)
+    | inr not_ ↦ subst (λ (out : Outcome). ComesTo s number out t) (sym not_.is_outcome) (subst (λ (m : MachineView). IsIdle m) (sym not_.is_next) left_none)
+  ]
+    where
+      left_none : without number s.calls.calls ≡ []
+      left_none = ap (without number) runs.only ∙ one_without number runs.call
+
+  pub comes : (outcome : Outcome) → Steps s number outcome t → ComesTo s number outcome t
+  comes outcome (inl none) = absurd (let clash : ◌≡◌ {A = Option Call} (Some runs.call) None = sym there ∙ none.0 in cc)
+  comes outcome (inr (inl o)) = comes_open outcome o
+  comes outcome (inr (inr ends)) = comes_built outcome ends
+
+-- ---- from its begin to its end
+nothing_paired : (R : ℕ × Call → OpenCall → Type 0) (low high : ℕ) (calls : List OpenCall) → Paired R low high [] calls → calls ≡ []
+nothing_paired R low high [] paired = refl
+nothing_paired R low high (call ∷ calls) paired = absurd paired
+
+-- so the history has no open call either
+none_open : (s : MachineView) → IsIdle s → (h : History) → Stands s h → (moment h).calls ≡ []
+none_open s idle h stands = nothing_paired (CallStands s.columns s.epoch s.tree stands.w h) 0 s.calls.begun (moment h).calls
+    (subst (λ (l : List (ℕ × Call)). Paired (CallStands s.columns s.epoch s.tree stands.w h) 0 s.calls.begun l (moment h).calls) idle stands.calls)
+
+-- a call of this request runs alone on a machine since it was this one
+pub record RunsFrom (begun s : MachineView) (request : Request) (number : CallNo) : Type 0 where
+  pub runs : IsRunning s number.0
+  pub columns : s.columns ≡ begun.columns
+  pub since : (h : History) → Stands begun h → (past : History) × Stands s past × RunsAlone request number h past
+
+pub runs_from_begin : LoneLaws → (s t : MachineView) (pass : PassNo) (request : Request) (number : CallNo) → IsIdle s → (h : History) → Stands s h → Begins s pass request (Called number) t → RunsFrom s t request number
+runs_from_begin laws s t pass request number idle h st begins = record {
+  runs = begins_running laws s t h pass request number idle st begins;
+  columns = begins-columns s t pass request (Called number) begins;
+  since = λ past stands. (
+    happening (Begin pass request) (Called number) 0 ∷ past,
+    begins-stands s t pass request (Called number) past begins stands,
+    record { nothing_open = none_open s idle past stands; pass = pass; note = 0; steps = []; are_steps = tt; is_past = refl },
+  );
+}
+
+pub runs_on : LoneLaws → (begun s t : MachineView) (request : Request) (number : CallNo) (outcome : Outcome) → RunsFrom begun s request number → Steps s number.0 outcome t → GoesOnBy outcome → IsRunning t number.0 → RunsFrom begun t request number
+runs_on laws begun s t request number outcome from steps goes runs = record {
+  runs = runs;
+  columns = steps-columns s t number.0 outcome steps ∙ from.columns;
+  since = λ h stands.
+      let (past, there, alone) = from.since h stands in
+      let (opens, stood) = steps-stand s t number.0 outcome past steps there in (
+        happening (Step number) outcome opens ∷ past,
+        stood,
+        record {
+          nothing_open = alone.nothing_open;
+          pass = alone.pass;
+          note = alone.note;
+          steps = happening (Step number) outcome opens ∷ alone.steps;
+          are_steps = (refl, goes, alone.are_steps);
+          is_past = ap (λ (l : History). happening (Step number) outcome opens ∷ l) alone.is_past;
+        },
+      );
+}
+
+pub answers_plainly : (begun s t : MachineView) (request : Request) (number : CallNo) (reply : Reply) → RunsFrom begun s request number → Steps s number.0 (Done reply) t → AnswersPlainly begun request reply.answer t
+answers_plainly begun s t request number reply from steps h stands =
+    let (past, there, alone) = from.since h stands in
+    let (opens, stood) = steps-stand s t number.0 (Done reply) past steps there in
+    let columns = steps-columns s t number.0 (Done reply) steps ∙ from.columns in (
+      happening (Step number) (Done reply) opens ∷ past,
+      stood,
+      subst (λ (C : ℕ). EndsPlainly C h request reply.answer (moment (happening (Step number) (Done reply) opens ∷ past))) columns
+          (lone_calls_are_plain t.columns request number reply opens h past alone stood.legal),
+    )
+
+pub refuses_plainly : (begun s t : MachineView) (request : Request) (number : CallNo) (refusal : Refusal) → RunsFrom begun s request number → Steps s number.0 (Refused refusal) t → RefusesPlainly begun t
+refuses_plainly begun s t request number refusal from steps h stands =
+    let (past, there, alone) = from.since h stands in
+    let (opens, stood) = steps-stand s t number.0 (Refused refusal) past steps there in (
+      happening (Step number) (Refused refusal) opens ∷ past,
+      stood,
+      lone_refusals_do_nothing t.columns request number refusal opens h past alone stood.legal,
+    )
+
+-- or its begin is refused
+pub begin_refuses_plainly : (s t : MachineView) (pass : PassNo) (request : Request) (refusal : Refusal) → IsIdle s → Begins s pass request (Refused refusal) t → RefusesPlainly s t
+begin_refuses_plainly s t pass request refusal idle begins h stands = (
+  happening (Begin pass request) (Refused refusal) 0 ∷ h,
+  begins-stands s t pass request (Refused refusal) h begins stands,
+  record { commits = refl; views = refl; closed = none_open s idle h stands },
+)
+
+-- a step comes to nothing else
+pub never_else : (s t : MachineView) (number : ℕ) (outcome : Outcome) → ComesTo s number outcome t → (outcome ≡ Moved → ⊥) → ((commit : ℕ) → outcome ≡ Commit commit → ⊥) → ((reply : Reply) → outcome ≡ Done reply → ⊥)
+    → ((refusal : Refusal) → outcome ≡ Refused refusal → ⊥) → ⊥
+never_else s t number Moved came moved commit done refused = moved refl
+never_else s t number (Commit n) came moved commit done refused = commit n refl
+never_else s t number (Done reply) came moved commit done refused = done reply refl
+never_else s t number (Refused refusal) came moved commit done refused = refused refusal refl
+never_else s t number _ came moved commit done refused = absurd came
+
+-- by which the call has gone on
+abbrev pub HasMoved : Outcome → Type 0
+HasMoved outcome = (outcome ≡ Moved) ⊎ ((commit : ℕ) × (outcome ≡ Commit commit))
+
+pub went_on : LoneLaws → (begun s t : MachineView) (request : Request) (number : CallNo) (outcome : Outcome) → HasMoved outcome → RunsFrom begun s request number → Steps s number.0 outcome t
+    → RunsFrom begun t request number × (machine_left t < machine_left s)
+went_on laws begun s t request number outcome (inl moved) from steps =
+    let made = subst (λ (o : Outcome). Steps s number.0 o t) moved steps in
+    let (runs, falls) = comes laws s t number.0 from.runs Moved made in
+    (runs_on laws begun s t request number Moved from made tt runs, falls)
+went_on laws begun s t request number outcome (inr (commit, committed)) from steps =
+    let made = subst (λ (o : Outcome). Steps s number.0 o t) committed steps in
+    let (runs, falls) = comes laws s t number.0 from.runs (Commit commit) made in
+    (runs_on laws begun s t request number (Commit commit) from made tt runs, falls)
+
+-- ---- reads of an idle machine
+-- nothing in its tree is taken
+pub lone_tree : (s : MachineView) (h : History) → Stands s h → IsIdle s → IsLoneTree s.tree
+lone_tree s h st idle = record {
+  now = s.epoch;
+  w = st.w;
+  world = st.world;
+  free = λ n taken. let (k, i, owned) = st.owned n taken in none_among k (subst (λ (l : List (ℕ × Call)). Among k l) idle i);
+}
+  where
+    none_among : (k : ℕ × Call) → Among k [] → ⊥
+    none_among k i = elim i [ ]
+
+-- what a get reads is the row of the rows
+pub read_found : (s : MachineView) (h : History) → Stands s h → (key asked : List ℕ) (row : Row) → IsRightNow s.tree (GetRequest key asked) (Found row)
+    → ◌≡◌ {A = Option Row} (Some row) (option_map (shown asked) (get (rows s.columns (moment h)) key))
+read_found s h st key asked row (bytes, there, is, shows) =
+    let stands : get (rows s.columns (moment h)) key ≡ Some there = (st.content key bytes there).0 ((is there).1 refl) in
+    ap (λ (r : Row). Some r) shows ∙ sym (ap (option_map (shown asked)) stands)
+
+pub read_none : (s : MachineView) (h : History) → Stands s h → (key asked : List ℕ) → IsRightNow s.tree (GetRequest key asked) Absent
+    → ◌≡◌ {A = Option Row} None (option_map (shown asked) (get (rows s.columns (moment h)) key))
+read_none s h st key asked (bytes, is) = sym (ap (option_map (shown asked)) (none (get (rows s.columns (moment h)) key) refl))
+  where
+    none : (found : Option Row) → get (rows s.columns (moment h)) key ≡ found → get (rows s.columns (moment h)) key ≡ None
+    none None e = e
+    none (Some row) e = absurd (let clash : ◌≡◌ {A = Option Row} None (Some row) = (is row).0 ((st.content key bytes row).1 e) in cc)
+
+-- what a range reads are the pairs of the rows
+module _ (s : MachineView) (h : History) (st : Stands s h) (asked : List ℕ) where
+  abbrev map : Rows
+  map = rows s.columns (moment h)
+
+  shows_so : (key : List ℕ) (value : Row) → AreBytes key → Stood (shown asked) (arena_seen s.tree ∷ []) (place_of key) value → ShowsRow map asked key value
+  shows_so key value bytes (inl (row, has, is)) = (row, (st.content key bytes row).0 has, sym is)
+  shows_so key value bytes (inr never) = absurd never
+
+  all_shown : (pairs : List (List ℕ × Row)) → KeysAreBytes pairs → All (λ (pair : List ℕ × Row). Stood (shown asked) (arena_seen s.tree ∷ []) (place_of pair.0) pair.1) pairs
+      → All (λ (pair : List ℕ × Row). ShowsRow map asked pair.0 pair.1) pairs
+  all_shown [] bytes all = All-nil (λ (pair : List ℕ × Row). ShowsRow map asked pair.0 pair.1)
+  all_shown (pair ∷ pairs) bytes all =
+      All-cons (λ (p : List ℕ × Row). ShowsRow map asked p.0 p.1) pair pairs
+      (shows_so pair.0 pair.1 bytes.0 (All-head (λ (p : List ℕ × Row). Stood (shown asked) (arena_seen s.tree ∷ []) (place_of p.0) p.1) pair pairs all))
+      (all_shown pairs bytes.1 (All-tail (λ (p : List ℕ × Row). Stood (shown asked) (arena_seen s.tree ∷ []) (place_of p.0) p.1) pair pairs all))
+
+  stands_so : (key : List ℕ) (found : Option Row) → get map key ≡ found → IsSome found → AreBytes key × AllHave (arena_seen s.tree ∷ []) (place_of key)
+  stands_so key None e some = absurd (let clash : false ≡ true = some in cc)
+  stands_so key (Some row) e some = let bytes = st.keys key row e in (bytes, ((row, (st.content key bytes row).1 e), tt))
+
+  pub read_range : (start : List ℕ) (limit : ℕ) (pairs : List (List ℕ × Row)) → IsRightNow s.tree (RangeRequest start limit asked) (RowsAnswer pairs) → IsRangeOfMap map asked start limit pairs
+  read_range start limit pairs right = record {
+    rises = right.answers.rises;
+    from_start = right.answers.from_start;
+    few = right.answers.few;
+    stood = all_shown pairs right.bytes right.answers.stood;
+    once = λ key from there enough. right.answers.once key from (stands_so key (get map key) refl there) enough;
+  }

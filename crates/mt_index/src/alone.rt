@@ -1,0 +1,133 @@
+//! Calls alone: from begin to end while no other call is open, as on a plain map.
+
+ghost use Rattle.std.specs.Prelude.{◌≡◌, IfOk, IfErr, MatchOption, Err};
+ghost use Rattle.std.specs.Option.{option_map, option_or};
+ghost use Rattle.std.specs.FinMap.{get};
+ghost use Rattle.mt_types.specs.Rows.{shown};
+ghost use Rattle.mt_types.specs.Limits.{columns_fault, limit_fault};
+ghost use Rattle.mt_promise.specs.History.{History, moment, rows};
+ghost use Rattle.mt_promise.specs.Alone.{IsRangeOfMap};
+ghost use Rattle.mt_index.specs.Alone.{IsIdle, AnswersPlainly, RefusesPlainly};
+ghost use Rattle.mt_index.specs.Stands.{Stands, HasBounds};
+
+use crate::machine::Machine;
+use mt_calls::getting::Get;
+use mt_calls::ranging::Range;
+use mt_calls::way::START;
+use mt_scan::Scan;
+use mt_tree::TOP;
+use mt_types::copying::TryCopy;
+use mt_types::event::{Answer, Outcome, Reply, Request};
+use mt_types::key::Key;
+use mt_types::limits::{columns_fault, limit_fault};
+use mt_types::numbers::PassNo;
+use mt_types::refusal::Refusal;
+use mt_types::row::{ColumnNumbers, Pairs, Row};
+use std::alloc::Global;
+
+impl Machine {
+    /// The row of a key with some of its columns, or with all where none is named, while no call is open: what a plain map
+    /// has. Begins no call, and changes nothing. Costs the visit of each node on the way to the key, and memory for the
+    /// row alone; shares the bytes.
+    ///
+    /// # Errors
+    ///
+    /// `BadColumn` for columns that aren't there or stand twice; `NoMemory` where an allocation is refused.
+    pub fn get(
+        &self,
+        alloc: Global,
+        key: Key,
+        columns: ColumnNumbers,
+    ) -> Result<Option<Row>, Refusal>
+        requires { IsIdle self.now }
+        ensures row { IfOk result (λ row. (h : History) → Stands self.now h
+            → row ≡ option_map (shown columns) (get (rows self.now.columns (moment h)) key)) }
+        ensures fault { MatchOption (columns_fault self.now.columns columns)
+            (IfErr result (λ refusal. refusal ≡ Refusal.NoMemory)) (λ refusal. result ≡ Err refusal) }
+    {
+        if let Some(refusal) = columns_fault(self.columns, columns.as_slice()) {
+            return Err(refusal);
+        }
+        let call = Get {
+            key,
+            columns,
+            way: START,
+        };
+        match call.run_alone(alloc, &self.tree)? {
+            Answer::Found(row) => Ok(Some(row)),
+            Answer::Absent => Ok(None),
+            _ => unreachable!(),
+        }
+    }
+
+    /// The first pairs from a key on, up to a limit, with some columns of each row, or with all where none is named, while
+    /// no call is open: those of a plain map. Begins no call, and changes nothing. Costs the visit of each border that it
+    /// reads and of the nodes on the way there, and for each pair the memory of its key and row; shares the columns' bytes.
+    ///
+    /// # Errors
+    ///
+    /// `BadColumn` for columns that aren't there or stand twice; `BadLimit` for a limit of 0 or of more than `MAX_RANGE`;
+    /// `NoMemory` where an allocation is refused.
+    pub fn range(
+        &self,
+        alloc: Global,
+        start: Key,
+        limit: u16,
+        columns: ColumnNumbers,
+    ) -> Result<Pairs, Refusal>
+        requires { IsIdle self.now }
+        ensures pairs { IfOk result (λ pairs. (h : History) → Stands self.now h
+            → IsRangeOfMap (rows self.now.columns (moment h)) columns start limit pairs) }
+        ensures fault { MatchOption (option_or (columns_fault self.now.columns columns) (limit_fault limit))
+            (IfErr result (λ refusal. refusal ≡ Refusal.NoMemory)) (λ refusal. result ≡ Err refusal) }
+    {
+        if let Some(refusal) = columns_fault(self.columns, columns.as_slice()) {
+            return Err(refusal);
+        }
+        if let Some(refusal) = limit_fault(limit) {
+            return Err(refusal);
+        }
+        let scan = Scan::new(alloc, &start, limit, columns.copy(alloc)?)?;
+        let call = Range {
+            start,
+            limit,
+            columns,
+            scan,
+            node: TOP,
+        };
+        Ok(call.run_alone(alloc, &self.tree)?)
+    }
+
+    /// Does what is asked for as a call of pass 0, from its begin to its end, while no other call is open: its answer is
+    /// that of a plain map, and a put or remove has made its one commit. It ends: each of its steps brings it nearer.
+    ///
+    /// A get, put, remove or tidy costs the visit of each node on its way, and a put the steps of its splits; a range and
+    /// a build besides each border that they read. It takes memory for the call, its answer and what it stores.
+    ///
+    /// # Errors
+    ///
+    /// What refuses its begin (a limit that the request breaks, spent numbers, too many views), and what a call may be
+    /// refused for; then nothing has come of it.
+    pub fn do_alone(&mut self, alloc: Global, request: &Request) -> Result<Reply, Refusal>
+        requires { IsIdle self.old }
+        ensures answered { IfOk result (λ reply. AnswersPlainly self.old request.now reply.answer self.new) }
+        ensures refused { IfErr result (λ refusal. RefusesPlainly self.old self.new) }
+        ensures idle { IsIdle self.new }
+        ensures bounds { HasBounds self.old.log.feed self.old.log.keep self.new.log }
+    {
+        let _stands = self.is_idle();
+        let call = match self.begin(alloc, PassNo(0), request) {
+            Outcome::Call(call) => call,
+            Outcome::Refused(refusal) => return Err(refusal),
+            _ => unreachable!(),
+        };
+        loop {
+            match self.step(alloc, call.0) {
+                Outcome::Moved | Outcome::Commit(_) => {}
+                Outcome::Done(reply) => return Ok(reply),
+                Outcome::Refused(refusal) => return Err(refusal),
+                _ => unreachable!(),
+            }
+        }
+    }
+}

@@ -1,0 +1,249 @@
+-- A call that runs alone, of any kind: what is known of it between its steps, and that each step brings it nearer to its end.
+use Rattle.std.proofs.Common.{ℕ, ◌≡◌, ◌≤◌, ◌<◌, ◌+◌, ◌⊎◌, inl, inr, List, [], ◌∷◌, length, Option, refl, sym, ap, subst, ◌∙◌, arith}
+use Rattle.mt_types.specs.declared.row.Delta.{Delta}
+use Rattle.mt_commit.specs.Log.{LogView, newest}
+use Rattle.mt_arena.specs.Arena.{ArenaView}
+use Rattle.mt_chart.specs.Tree.{Arena, Among}
+use Rattle.mt_chart.specs.Chart.{Evolves}
+use Rattle.mt_tree.specs.Seen.{arena_seen}
+use Rattle.mt_calls.specs.declared.progress.Progress.{Progress}
+use Rattle.mt_calls.specs.declared.progress.Progress.TheVariants.{Moved, Waits, Committed, Answered, Refused}
+use Rattle.mt_calls.specs.World.{World, IsWorld, IsTaken, NotAmong, Goes}
+use Rattle.mt_calls.specs.Step.{Held, Stepped, StepLawIn, Does, left_with}
+use Rattle.mt_types.specs.declared.numbers.NodeNo.{NodeNo}
+use Rattle.mt_calls.specs.declared.way.Way.{Way}
+use Rattle.mt_write.specs.declared.writing.Write.{Write as WriteView}
+use Rattle.mt_write.specs.declared.writing.Edit.{Edit}
+use Rattle.mt_write.specs.declared.writing.Edit.TheVariants.{Put, Remove}
+use Rattle.mt_write.specs.Writing.{write_request, edit_request}
+use Rattle.mt_calls.proofs.LoneWay.{way_left, IsOnThere, starts_on}
+use Rattle.mt_calls.proofs.LoneRange.{ScanStands, range_stands, range_left, lone_range_waits_not, range_begins}
+use Rattle.mt_remove.proofs.LoneTidy.{tidy_stands, tidy_left, tidy_begins, lone_tidy_waits_not, lone_tidy_nearer}
+use Rattle.mt_write.proofs.LoneWrite.{request_key}
+use Rattle.mt_write.proofs.LoneWrites.{lone_stands as write_stands, lone_left as write_left, begins as write_begins, waits_not as write_waits_not, nearer as write_nearer}
+use Rattle.mt_works.specs.Works.{IsKey}
+use Rattle.mt_works.proofs.LoneBuild.{StandsBy, build_left}
+use Rattle.mt_works.proofs.LoneKinds.{lone_build_stands, StandsWithin, get_waits_not, get_nearer, range_nearer, build_waits_not, build_nearer}
+use Rattle.mt_works.specs.declared.work.Work.{Work}
+use Rattle.mt_works.specs.declared.work.Work.TheVariants.{Get, Write, Range, Tidy, Build}
+use Rattle.mt_works.specs.Works.{request_of, held, IsTrue, AsksForKey, IsAtStart, IsNew, IsBuiltWork, WorkBuilds}
+use Rattle.mt_works.specs.Causes.{WorkWaits}
+use Rattle.mt_works.specs.Follows.{WorkFollows, WorkReads, WorkPosts}
+
+-- what else is true of a call that runs alone, in a world, where there are so many commits
+abbrev pub work_stands : ArenaView → ℕ → World → Work → Type 0
+work_stands a commits w (Get get) = IsOnThere w get.key get.way
+work_stands a commits w (Write write) = write_stands a w write
+work_stands a commits w (Range range) = range_stands w range
+work_stands a commits w (Tidy tidy) = tidy_stands w tidy
+work_stands a commits w (Build building) = lone_build_stands commits w building
+
+-- WHAT IS LEFT of it, at most
+abbrev pub work_left : ArenaView → ℕ → Work → ℕ
+work_left a commits (Get get) = way_left a get.way.layer get.way.node.0
+work_left a commits (Write write) = write_left a write
+work_left a commits (Range range) = range_left a range
+work_left a commits (Tidy tidy) = tidy_left a tidy
+work_left a commits (Build building) = build_left a commits building
+
+-- what is taken is its own
+abbrev pub OwnsAll : ArenaView → World → List ℕ → Type 0
+OwnsAll a w owned = (number : ℕ) → IsTaken a w number → Among number owned
+
+-- it goes on
+abbrev pub GoesOn : Progress → Type 0
+GoesOn Moved = Unit {0}
+GoesOn (Committed number) = Unit {0}
+GoesOn _ = ⊥
+
+-- a call alone in a world, where there are so many commits
+pub record IsLone (C now begun moves : ℕ) (past : List Arena) (a : ArenaView) (commits : ℕ) (w : World) (work : Work) : Type 0 where
+  pub world : IsWorld a now w
+  pub before : begun ≤ now
+  pub true : IsTrue C work begun moves past a w
+  pub owns : OwnsAll a w (held work).owns
+  pub stands : work_stands a commits w work
+
+-- the same in some world, and what it asks for is a key
+pub record RunsLone (C now : ℕ) (a : ArenaView) (commits : ℕ) (work : Work) : Type 0 where
+  pub begun : ℕ
+  pub moves : ℕ
+  pub past : List Arena
+  pub w : World
+  pub lone : IsLone C now begun moves past a commits w work
+  pub key : AsksForKey (request_of work)
+
+-- what its step says, where it goes on, and the next world
+pub record StepsOn (C now begun moves : ℕ) (before : List Arena) (a after : ArenaView) (log left : LogView) (w next : World) (work : Work) (p : Progress) (new : Work) : Type 0 where
+  pub goes : GoesOn p
+  pub world : IsWorld after now next
+  pub spots : (number : ℕ) → NotAmong number (held work).owns → NotAmong number (held new).owns → next.chart number ≡ w.chart number
+  pub evolves : (epoch : ℕ) → epoch ≤ now → Evolves epoch w.chart next.chart
+  pub then : ℕ
+  pub past : List Arena
+  pub true : IsTrue C new begun then past after next
+  pub owns : OwnsAll after next (held new).owns
+  pub request : request_of new ≡ request_of work
+  pub follows : WorkFollows a work p new
+  pub builds : WorkBuilds a log work p new
+  pub read : WorkReads a after work
+  pub posts : WorkPosts a after work p new
+  pub does : Does C before a after log left (request_of work) (held work).committed p (held new).committed
+  pub quiet : p ≡ Moved → newest left ≡ newest log
+
+-- the laws of calls alone
+pub record LoneLaws : Type 0 where
+  pub begins : (C number : ℕ) (a : ArenaView) (now : ℕ) (w : World) → IsWorld a now w → ((n : ℕ) → IsTaken a w n → ⊥) → (work : Work) → IsNew C number work → work_stands a number w work
+  pub waits_not : (C now begun moves : ℕ) (past : List Arena) (a : ArenaView) (commits : ℕ) (w : World) (work : Work) → IsLone C now begun moves past a commits w work → (IsBuiltWork work → ⊥) → AsksForKey (request_of work) → WorkWaits a work Waits → ⊥
+  pub nearer : (C now begun moves : ℕ) (past : List Arena) (a after : ArenaView) (log left : LogView) (w next : World) (work : Work) (p : Progress) (new : Work)
+      → IsLone C now begun moves past a (newest log) w work → (IsBuiltWork work → ⊥) → AsksForKey (request_of work) → StepsOn C now begun moves past a after log left w next work p new
+      → work_stands after (newest left) next new × (work_left after (newest left) new < work_left a (newest log) work)
+
+-- ---- a step, of any kind
+then_owned : (owned : List ℕ) (owns : List ℕ) (a after : ArenaView) (w next : World) → ((number : ℕ) → IsTaken after next number → Among number owns ⊎ (IsTaken a w number × NotAmong number owned)) → OwnsAll a w owned → OwnsAll after next owns
+then_owned owned owns a after w next takes all number taken = elim (takes number taken) [
+  | inl mine ↦ mine
+  | inr other ↦ absurd (other.1 (all number other.0))
+]
+
+module _ (laws : LoneLaws) (C now : ℕ) (a after : ArenaView) (log left : LogView) (work : Work) (lone : RunsLone C now a (newest log) work) (unbuilt : IsBuiltWork work → ⊥) where
+  abbrev Law : Progress → Work → Type 0
+  Law p new = StepLawIn now C a after log left (request_of work) (held work) p (held new) (IsTrue C work) (IsTrue C new)
+
+  abbrev Goes_on : ArenaView → ℕ → Work → Type 0
+  Goes_on then commits new = RunsLone C now then commits new × (work_left then commits new < work_left a (newest log) work)
+
+  ends_so : (new : Work) (p : Progress) (moves : ℕ) (s : Stepped C now lone.moves lone.past a after log left lone.w (request_of work) (held work) p (held new) (λ m next. IsTrue C new lone.begun m (arena_seen a ∷ lone.past) after next))
+      → GoesOn p → left_with p (held new) ≡ held new → IsTrue C new lone.begun moves (arena_seen a ∷ lone.past) after s.goes.next → (p ≡ Moved → newest left ≡ newest log)
+      → request_of new ≡ request_of work → WorkFollows a work p new → WorkBuilds a log work p new → WorkReads a after work → WorkPosts a after work p new → Goes_on after (newest left) new
+  ends_so new p moves s goes kept true quiet request follows builds read posts =
+      let next = s.goes.next in
+      let owns = then_owned (held work).owns (held new).owns a after lone.w next (subst (λ (h : Held). (number : ℕ) → IsTaken after next number → Among number h.owns ⊎ (IsTaken a lone.w number × NotAmong number (held work).owns)) kept s.goes.takes) lone.lone.owns in
+      let steps : StepsOn C now lone.begun lone.moves lone.past a after log left lone.w next work p new = record {
+        goes = goes;
+        world = s.goes.world;
+        spots = subst (λ (h : Held). (number : ℕ) → NotAmong number (held work).owns → NotAmong number h.owns → next.chart number ≡ lone.w.chart number) kept s.goes.spots;
+        evolves = s.goes.evolves;
+        then = moves;
+        past = arena_seen a ∷ lone.past;
+        true = true;
+        owns = owns;
+        request = request;
+        follows = follows;
+        builds = builds;
+        read = read;
+        posts = posts;
+        does = s.does;
+        quiet = quiet;
+      } in
+      let (stands, falls) = laws.nearer C now lone.begun lone.moves lone.past a after log left lone.w next work p new lone.lone unbuilt lone.key steps in (
+        record {
+          begun = lone.begun;
+          moves = moves;
+          past = arena_seen a ∷ lone.past;
+          w = next;
+          lone = record { world = s.goes.world; before = lone.lone.before; true = true; owns = owns; stands = stands };
+          key = subst AsksForKey (sym request) lone.key;
+        },
+        falls,
+      )
+
+  pub lone_moves : (new : Work) → Law Moved new → request_of new ≡ request_of work → WorkFollows a work Moved new → WorkBuilds a log work Moved new → WorkReads a after work → WorkPosts a after work Moved new → Goes_on after (newest left) new
+  lone_moves new law request follows builds read posts =
+      let s = law.steps lone.begun lone.moves lone.past lone.w lone.lone.world lone.lone.before lone.lone.true in
+      ends_so new Moved (lone.moves + 1) s tt refl s.goes.true (λ moved. ap (λ (n : ℕ). n + length left.deltas) s.does.0.trimmed ∙ ap (λ (l : List Delta). log.held_after + length l) s.does.0.deltas) request follows builds read posts
+
+  pub lone_commits : (new : Work) (number : ℕ) → Law (Committed number) new → request_of new ≡ request_of work → WorkFollows a work (Committed number) new → WorkBuilds a log work (Committed number) new → WorkReads a after work → WorkPosts a after work (Committed number) new → Goes_on after (newest left) new
+  lone_commits new number law request follows builds read posts =
+      let s = law.steps lone.begun lone.moves lone.past lone.w lone.lone.world lone.lone.before lone.lone.true in
+      ends_so new (Committed number) 0 s tt refl s.goes.true (λ moved. absurd (let clash : Committed number ≡ Moved = moved in cc)) request follows builds read posts
+
+  pub lone_waits_not : WorkWaits a work Waits → ⊥
+  lone_waits_not waits = laws.waits_not C now lone.begun lone.moves lone.past a (newest log) lone.w work lone.lone unbuilt lone.key waits
+
+-- from its begin on, where nothing is taken
+pub lone_begins : (laws : LoneLaws) (C now number : ℕ) (a : ArenaView) (w : World) → IsWorld a now w → ((n : ℕ) → IsTaken a w n → ⊥) → (work : Work) → IsNew C number work → RunsLone C now a number work
+lone_begins laws C now number a w world free work new = record {
+  begun = now;
+  moves = 0;
+  past = [];
+  w = w;
+  lone = record {
+    world = world;
+    before = omega arith;
+    true = new.true a now now w world;
+    owns = λ n taken. absurd (free n taken);
+    stands = laws.begins C number a now w world free work new;
+  };
+  key = new.key;
+}
+
+-- the key of a put or remove
+edit_key : (key : List ℕ) (edit : Edit) → AsksForKey (edit_request key edit) → IsKey key
+edit_key key (Put sets) is = is
+edit_key key Remove is = is
+
+write_key : (write : WriteView) → AsksForKey (write_request write) → IsKey write.key
+write_key write is = edit_key write.key write.edit is
+
+same_key : (write new : WriteView) → write_request new ≡ write_request write → new.key ≡ write.key
+same_key write new request = request_key new.key write.key new.edit write.edit request
+
+-- ---- the laws, of each kind
+none_owned : (a : ArenaView) (w : World) → OwnsAll a w [] → (number : ℕ) → IsTaken a w number → ⊥
+none_owned a w owns number taken = elim (owns number taken) [ ]
+
+not_in_none : (number : ℕ) → NotAmong number []
+not_in_none number i = elim i [ ]
+
+begins_so : (C number : ℕ) (a : ArenaView) (now : ℕ) (w : World) → IsWorld a now w → ((n : ℕ) → IsTaken a w n → ⊥) → (work : Work) → IsNew C number work → work_stands a number w work
+begins_so C number a now w world free (Get get) new = subst (λ (way : Way). IsOnThere w get.key way) (sym new.at_start) (starts_on a now w get.key world)
+begins_so C number a now w world free (Write write) new = write_begins a now w write world free new.at_start.0 new.at_start.2 new.at_start.1
+begins_so C number a now w world free (Range range) new =
+    subst (λ (n : NodeNo). ScanStands w.chart n.0 range.scan.prefix) (sym new.at_start.0) (subst (λ (p : List ℕ). ScanStands w.chart 0 p) (sym new.at_start.1) (range_begins a now w world))
+begins_so C number a now w world free (Tidy tidy) new = tidy_begins a now w tidy world new.at_start.0 new.at_start.1
+begins_so C number a now w world free (Build building) new = (
+  subst (λ (u : Option ℕ). StandsBy u w building.node.0 building.build) (sym new.opens.0)
+      (subst (λ (n : NodeNo). ScanStands w.chart n.0 building.build.prefix) (sym new.at_start.0) (subst (λ (p : List ℕ). ScanStands w.chart 0 p) (sym new.at_start.1) (range_begins a now w world))),
+  subst (λ (u : Option ℕ). StandsWithin u building.build.state.at number) (sym new.opens.0) (omega (arith, new.opens.1)),
+)
+
+waits_so : (C now begun moves : ℕ) (past : List Arena) (a : ArenaView) (commits : ℕ) (w : World) (work : Work) → IsLone C now begun moves past a commits w work → (IsBuiltWork work → ⊥) → AsksForKey (request_of work) → WorkWaits a work Waits → ⊥
+waits_so C now begun moves past a commits w (Get get) lone unbuilt key waits = get_waits_not a now w get lone.world lone.stands (none_owned a w lone.owns) waits
+waits_so C now begun moves past a commits w (Write write) lone unbuilt key waits = write_waits_not C now begun a w write lone.world lone.before lone.true.0 lone.stands (write_key write key).0 (write_key write key).1 lone.owns waits
+waits_so C now begun moves past a commits w (Range range) lone unbuilt key waits = lone_range_waits_not a now w range lone.world lone.stands (none_owned a w lone.owns) waits
+waits_so C now begun moves past a commits w (Tidy tidy) lone unbuilt key waits = lone_tidy_waits_not a now begun w tidy lone.world lone.true lone.stands lone.owns waits
+waits_so C now begun moves past a commits w (Build building) lone unbuilt key waits = build_waits_not a now w building lone.world lone.stands.0 (none_owned a w lone.owns) waits
+
+nearer_so : (C now begun moves : ℕ) (past : List Arena) (a after : ArenaView) (log left : LogView) (w next : World) (work : Work) (p : Progress) (new : Work)
+    → IsLone C now begun moves past a (newest log) w work → (IsBuiltWork work → ⊥) → AsksForKey (request_of work) → StepsOn C now begun moves past a after log left w next work p new
+    → work_stands after (newest left) next new × (work_left after (newest left) new < work_left a (newest log) work)
+nearer_so C now begun moves past a after log left w next (Get get) Moved (Get new) lone unbuilt key s =
+    get_nearer a after now begun moves past w next get new lone.world lone.true lone.stands key s.follows s.request s.read (λ n. s.spots n (not_in_none n) (not_in_none n))
+nearer_so C now begun moves past a after log left w next (Get get) (Committed number) (Get new) lone unbuilt key s = absurd s.does.0
+nearer_so C now begun moves past a after log left w next (Get get) p (Get new) lone unbuilt key s = absurd s.goes
+nearer_so C now begun moves past a after log left w next (Get get) p _ lone unbuilt key s = absurd s.follows
+nearer_so C now begun moves past a after log left w next (Write write) Moved (Write new) lone unbuilt key s =
+    write_nearer C now begun a after w next write new Moved lone.world lone.before lone.true.0 lone.stands (write_key write key).0 (write_key write key).1 lone.owns s.posts.2 s.posts.3 s.follows s.posts.0 s.posts.1 tt tt s.world s.spots (s.evolves 0 (omega arith)) s.true.0 s.owns (same_key write new s.request)
+nearer_so C now begun moves past a after log left w next (Write write) (Committed number) (Write new) lone unbuilt key s =
+    write_nearer C now begun a after w next write new (Committed number) lone.world lone.before lone.true.0 lone.stands (write_key write key).0 (write_key write key).1 lone.owns s.posts.2 s.posts.3 s.follows s.posts.0 s.posts.1 tt s.does.1 s.world s.spots (s.evolves 0 (omega arith)) s.true.0 s.owns (same_key write new s.request)
+nearer_so C now begun moves past a after log left w next (Write write) p (Write new) lone unbuilt key s = absurd s.goes
+nearer_so C now begun moves past a after log left w next (Write write) p _ lone unbuilt key s = absurd s.follows
+nearer_so C now begun moves past a after log left w next (Range range) Moved (Range new) lone unbuilt key s =
+    range_nearer a after now begun moves begun s.then past s.past w next range new lone.world lone.true lone.stands s.follows s.read (λ n. s.spots n (not_in_none n) (not_in_none n)) s.true
+nearer_so C now begun moves past a after log left w next (Range range) (Committed number) (Range new) lone unbuilt key s = absurd s.does.0
+nearer_so C now begun moves past a after log left w next (Range range) p (Range new) lone unbuilt key s = absurd s.goes
+nearer_so C now begun moves past a after log left w next (Range range) p _ lone unbuilt key s = absurd s.follows
+nearer_so C now begun moves past a after log left w next (Tidy tidy) Moved (Tidy new) lone unbuilt key s =
+    lone_tidy_nearer a after now begun w next tidy new lone.world lone.true lone.stands key.0 key.1 s.follows s.world s.spots s.true
+nearer_so C now begun moves past a after log left w next (Tidy tidy) (Committed number) (Tidy new) lone unbuilt key s = absurd s.does.0
+nearer_so C now begun moves past a after log left w next (Tidy tidy) p (Tidy new) lone unbuilt key s = absurd s.goes
+nearer_so C now begun moves past a after log left w next (Tidy tidy) p _ lone unbuilt key s = absurd s.follows
+nearer_so C now begun moves past a after log left w next (Build building) Moved (Build new) lone unbuilt key s =
+    build_nearer a after log left now begun moves begun s.then past s.past w next building new lone.world lone.true lone.stands unbuilt s.builds s.follows s.read (λ n. s.spots n (not_in_none n) (not_in_none n)) (s.quiet refl) s.true
+nearer_so C now begun moves past a after log left w next (Build building) (Committed number) (Build new) lone unbuilt key s = absurd s.does.0
+nearer_so C now begun moves past a after log left w next (Build building) p (Build new) lone unbuilt key s = absurd s.goes
+nearer_so C now begun moves past a after log left w next (Build building) p _ lone unbuilt key s = absurd s.follows
+
+pub lone_laws : LoneLaws
+lone_laws = record { begins = begins_so; waits_not = waits_so; nearer = nearer_so }

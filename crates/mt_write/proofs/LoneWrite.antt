@@ -1,0 +1,464 @@
+-- A put or remove that runs alone: it waits nowhere, and with each step that gets on what is left of it falls.
+use Rattle.std.proofs.Common.{ℕ, ◌≡◌, ◌<◌, ◌≤◌, ◌+◌, ◌*◌, ◌-◌, ◌⊎◌, inl, inr, List, [], ◌∷◌, length, Option, Some, None, true, refl, sym, ap, subst, ◌∙◌, arith}
+use Rattle.std.specs.Prelude.{◌^◌, IsSomeAnd}
+use Rattle.std.specs.Option.{option_and_then}
+use Rattle.std.proofs.Math.Nat.{mul-le-mul_left}
+use Rattle.mt_types.specs.declared.limits.TheConstants.{MAX_KEY_BYTES}
+use Rattle.mt_types.specs.declared.numbers.NodeNo.{NodeNo}
+use Rattle.mt_types.specs.declared.event.Request.TheVariants.{Put as PutRequest, Remove as RemoveRequest}
+use Rattle.mt_slice.specs.Place.{AreBytes}
+use Rattle.mt_commit.specs.Log.{LogView}
+use Rattle.mt_arena.specs.Node.{node_at, border_of}
+use Rattle.mt_arena.specs.Arena.{ArenaView}
+use Rattle.mt_arena.specs.declared.node.Node.{Node}
+use Rattle.mt_arena.specs.declared.node.Node.TheVariants.{Head, Interior, Border}
+use Rattle.mt_chart.specs.Tree.{Arena, PlainNode, HeadNode, BorderNode, head as head_node, border as border_node, Among, first, later}
+use Rattle.mt_chart.specs.Chart.{Standing, Role, top, at_level, Spot, spot, on}
+use Rattle.mt_chart.specs.Walk.{all_heights, IsOn}
+use Rattle.mt_tree.specs.Seen.{arena_seen, border_seen}
+use Rattle.mt_tree.proofs.SeenLemmas.{seen-border}
+use Rattle.mt_calls.specs.declared.progress.Progress.{Progress}
+use Rattle.mt_calls.specs.declared.progress.Progress.TheVariants.{Moved, Waits, Committed, Answered, Refused}
+use Rattle.mt_calls.specs.declared.way.Way.{Way}
+use Rattle.mt_calls.specs.World.{World, IsWorld, IsTaken, IsLocked, NotAmong, Goes}
+use Rattle.mt_calls.specs.Step.{Stepped}
+use Rattle.mt_calls.specs.Way.{prefix_of, IsOnWay}
+use Rattle.mt_calls.proofs.LoneWay.{layer_height, height_in, way_left, layers_above, on_height, IsOnThere, stands_in, way_moves, not_marked, starts_on}
+use Rattle.mt_post.specs.declared.posting.Posting.{Posting}
+use Rattle.mt_post.specs.declared.posting.Progressed.TheVariants.{Waits as PostAgain}
+use Rattle.mt_post.specs.Posting.{PostingIsTrue, owned as posting_owned}
+use Rattle.mt_post.specs.Causes.{PostWaits}
+use Rattle.mt_write.specs.declared.writing.Write.{Write}
+use Rattle.mt_write.specs.declared.writing.Edit.{Edit}
+use Rattle.mt_write.specs.declared.writing.Edit.TheVariants.{Put as PutEdit, Remove as RemoveEdit}
+use Rattle.mt_write.specs.declared.writing.Halves.{Halves}
+use Rattle.mt_write.specs.declared.writing.Ending.{Ending}
+use Rattle.mt_write.specs.declared.writing.Ending.TheVariants.{Stored as EndStored, Failed as EndFailed}
+use Rattle.mt_write.specs.declared.writing.Stage.{Stage}
+use Rattle.mt_write.specs.declared.writing.Stage.TheVariants.{Seeks, Locked, Spared, HalfFilled, Halved, Posts, LayerSpared, LayerFilled, LayerReady, Layered, Filled, Made, Taken, Stored, Failed}
+use Rattle.mt_write.specs.Writing.{edit_request, write_request, StageIsTrue, WriteIsTrue, stage_held, write_held, way_below, ending_stage}
+use Rattle.mt_write.specs.Causes.{StageWaits, WriteWaits, IsPosting}
+use Rattle.mt_write.proofs.LinkLemmas.{linked_head_is_on}
+use Rattle.mt_write.specs.Follows.{IsMadeReady, IsReadyIn, PostsOn, StaysAt, halves_of, StageFollows, Follows, WriteFollows}
+
+-- ---- what is left
+-- what is left of a way, at most, at the head of the layer below
+abbrev pub layer_left : ℕ → ℕ
+layer_left layer = all_heights - layer_height (layer + 1) top 0
+
+-- what is left of a way, so many times over: more than all the steps that a write takes at one node, where a posting
+-- takes at most so many
+abbrev pub times : ℕ → ℕ → ℕ
+times most left = (most + 64) * left
+
+-- WHAT IS LEFT of a put or remove at a stage, at most, where a posting's steps are told
+abbrev pub stage_left : (ArenaView → Posting → ℕ) → ℕ → ArenaView → Way → Stage → ℕ
+stage_left posting_left most a way Seeks = times most (way_left a way.layer way.node.0)
+stage_left posting_left most a way Locked = times most (layer_left way.layer) + (most + 40)
+stage_left posting_left most a way (LayerSpared layer entries) = times most (layer_left way.layer) + 5
+stage_left posting_left most a way (LayerFilled layer) = times most (layer_left way.layer) + 4
+stage_left posting_left most a way (LayerReady layer) = times most (layer_left way.layer) + 3
+stage_left posting_left most a way (Layered head) = times most (layer_left way.layer) + 2
+stage_left posting_left most a way (Spared half cut entries) = most + 20
+stage_left posting_left most a way (HalfFilled half cut) = most + 19
+stage_left posting_left most a way (Halved split) = most + 18
+stage_left posting_left most a way (Filled place stored logged split) = most + 16
+stage_left posting_left most a way (Made place stored columns logged) = most + 16
+stage_left posting_left most a way (Taken place stored before) = most + 16
+stage_left posting_left most a way (Stored commit (Some split)) = most + 4
+stage_left posting_left most a way (Stored commit None) = 1
+stage_left posting_left most a way (Failed refusal (Some split)) = most + 4
+stage_left posting_left most a way (Failed refusal None) = 2
+stage_left posting_left most a way (Posts posting ending) = posting_left a posting + 3
+
+abbrev pub write_left : (ArenaView → Posting → ℕ) → ℕ → ArenaView → Write → ℕ
+write_left posting_left most a write = stage_left posting_left most a write.way write.stage
+
+-- WHAT ELSE IS TRUE of a put or remove that runs alone, where it is told of a posting
+abbrev pub stage_stands : (ArenaView → World → Posting → Type 0) → ArenaView → World → List ℕ → Way → Stage → Type 0
+stage_stands post_stands a w key way Seeks = IsOnThere w key way
+stage_stands post_stands a w key way (Posts posting ending) = post_stands a w posting
+stage_stands post_stands a w key way _ = Unit {0}
+
+abbrev pub write_stands : (ArenaView → World → Posting → Type 0) → ArenaView → World → Write → Type 0
+write_stands post_stands a w write = stage_stands post_stands a w write.key write.way write.stage
+
+-- all that is taken is among these
+abbrev pub OnlyOwn : ArenaView → World → List ℕ → Type 0
+OnlyOwn a w owns = (number : ℕ) → IsTaken a w number → Among number owns
+
+-- what the call didn't own and doesn't own stands where it stood
+abbrev pub KeepsSpots : World → World → List ℕ → List ℕ → Type 0
+KeepsSpots w next owned owns = (number : ℕ) → NotAmong number owned → NotAmong number owns → next.chart number ≡ w.chart number
+
+-- ---- numbers
+more : (x n m : ℕ) → n < m → x + n < x + m
+more x n m h = omega arith
+
+above : (x n m : ℕ) → n < m → n < x + m
+above x n m h = omega arith
+
+falls_times : (most less left : ℕ) → less < left → times most less + (most + 63) < times most left
+falls_times most less left h = let up : (most + 64) * (less + 1) ≤ (most + 64) * left = mul-le-mul_left (most + 64) (omega arith) in omega (arith, up)
+
+locks_times : (most less left : ℕ) → less < left → times most less + (most + 40) < times most left
+locks_times most less left h = omega (arith, falls_times most less left h)
+
+moves_times : (most less left : ℕ) → less < left → times most less < times most left
+moves_times most less left h = omega (arith, falls_times most less left h)
+
+some_times : (most less left : ℕ) → less < left → 1 < times most left
+some_times most less left h = omega (arith, falls_times most less left h)
+
+ends_times : (most here there : ℕ) → here ≡ there → times most here < times most there + 2
+ends_times most here there same = let both : times most here ≡ times most there = ap (times most) same in omega (arith, both)
+
+-- a node of a layer stands before the head of the layer below
+before_below : (layer : ℕ) (role : Role) (low : ℕ) → layer ≤ 31 → low < 2 ^ 64 → layer_left layer < all_heights - layer_height layer role low
+before_below layer top low deep fits = omega arith
+before_below layer (at_level level) low deep fits = omega arith
+
+-- ---- in a world: what is left of a way is told by the spot of its node
+left_by_spot : (a : ArenaView) (now : ℕ) (w : World) → IsWorld a now w → (key : List ℕ) (way : Way) (there : IsOnThere w key way)
+    → way_left a way.layer way.node.0 ≡ all_heights - layer_height way.layer there.role there.low
+left_by_spot a now w world key way there =
+    ap (λ (n : ℕ). all_heights - n)
+    (subst (λ (n : ℕ). height_in n (arena_seen a way.node.0) ≡ layer_height n there.role there.low) (layers_above way.layer key)
+    (on_height (arena_seen a) w.chart world.index.tree way.node.0 there.role (prefix_of key way) there.low there.posted there.place))
+
+-- so it stays where the spot does
+same_left : (a after : ArenaView) (now : ℕ) (w next : World) → IsWorld a now w → IsWorld after now next → (key : List ℕ) (way : Way)
+    → IsOnThere w key way → next.chart way.node.0 ≡ w.chart way.node.0
+    → IsOnThere next key way × (way_left after way.layer way.node.0 ≡ way_left a way.layer way.node.0)
+same_left a after now w next world then key way there same = (still, left_by_spot after now next then key way still ∙ sym (left_by_spot a now w world key way there))
+  where
+    still : IsOnThere next key way
+    still = record { posted = there.posted; role = there.role; low = there.low; place = same ∙ there.place }
+
+-- at a node of a layer more is left than at the head of the layer below
+more_left : (a : ArenaView) (now begun : ℕ) (w : World) (key : List ℕ) (way : Way) → IsWorld a now w → AreBytes key → length key ≤ MAX_KEY_BYTES
+    → IsOnWay begun key way w → IsOnThere w key way → layer_left way.layer < way_left a way.layer way.node.0
+more_left a now begun w key way world bytes fits held there =
+    let within = held.layer.within in
+    let deep : way.layer ≤ 31 = omega (arith, within, fits) in
+    let inside = stands_in w begun key way bytes held there in
+    let here : IsOnThere w key way = record { posted = inside.posted; role = inside.role; low = inside.low; place = inside.place } in
+    subst (λ (n : ℕ). layer_left way.layer < n) (sym (left_by_spot a now w world key way here)) (before_below way.layer inside.role inside.low deep inside.fits)
+
+-- ---- a head is no border
+head_apart : (a : ArenaView) (one other : ℕ) (h : HeadNode) (b : BorderNode) → arena_seen a one ≡ Some (head_node h) → arena_seen a other ≡ Some (border_node b) → one ≡ other → ⊥
+head_apart a one other h b is_head is_border same =
+    let both : ◌≡◌ {A = Option PlainNode} (Some (head_node h)) (Some (border_node b)) = sym is_head ∙ (ap (arena_seen a) same ∙ is_border) in
+    cc
+
+not_only : (number other : ℕ) → (number ≡ other → ⊥) → NotAmong number (other ∷ [])
+not_only number other apart first = apart refl
+not_only number other apart (later i) = elim i [ ]
+
+not_none : (number : ℕ) → NotAmong number []
+not_none number i = elim i [ ]
+
+-- what is on, where a call knows it as the head of a layer, is on as that
+pub head_place : (w : World) (number : ℕ) (prefix : List ℕ) (standing : Standing) → w.chart number ≡ Some (spot top prefix 0 standing) → (stands : IsOn w.chart number)
+    → w.chart number ≡ Some (spot top prefix 0 (on stands.posted))
+head_place w number prefix standing place stands = place ∙ ap (λ (s : Standing). Some (spot top prefix 0 s)) (same top stands.role 0 stands.low standing (on stands.posted) prefix stands.prefix (sym place ∙ stands.place))
+  where
+    same : (one other : Role) (low least : ℕ) (standing stands : Standing) (prefix layer : List ℕ) → ◌≡◌ {A = Option Spot} (Some (spot one prefix low standing)) (Some (spot other layer least stands)) → standing ≡ stands
+    same one other low least standing stands prefix layer e = cc
+
+-- ---- it waits not
+locked_node : (o : Option Node) → IsSomeAnd (option_and_then border_of o) (λ b. b.version.locked ≡ true) → IsLocked o
+locked_node None h = absurd h
+locked_node (Some (Head x)) h = absurd h
+locked_node (Some (Interior x)) h = absurd h
+locked_node (Some (Border x)) h = h
+
+-- where a call is on its way, nothing is taken
+seeks_waits_not : (a : ArenaView) (now : ℕ) (w : World) (key : List ℕ) (way : Way) → IsWorld a now w → IsOnThere w key way → OnlyOwn a w []
+    → StageWaits a way.node.0 Seeks Waits → ⊥
+seeks_waits_not a now w key way world there only (inl marked) = not_marked a now w world way.node.0 (λ taken. not_none way.node.0 (only way.node.0 taken))
+    (record { role = there.role; prefix = prefix_of key way; low = there.low; posted = there.posted; place = there.place }) marked
+seeks_waits_not a now w key way world there only (inr locked) = not_none way.node.0 (only way.node.0 (inl (locked_node (node_at a.nodes way.node.0) locked)))
+
+-- ---- each step that gets on leaves less
+-- it moves or commits
+abbrev pub GetsOn : Progress → Type 0
+GetsOn Moved = Unit {0}
+GetsOn (Committed number) = Unit {0}
+GetsOn _ = ⊥
+
+-- it commits only where it has not committed
+abbrev pub CommitsOnce : Progress → Option ℕ → Type 0
+CommitsOnce (Committed number) committed = committed ≡ None
+CommitsOnce _ committed = Unit {0}
+
+-- what is told of its posting after a step: where a write that was to end begins to post, and while it posts
+abbrev pub PostingGoesOn : (ArenaView → World → Posting → Type 0) → (ArenaView → Posting → ℕ) → ℕ → ArenaView → ArenaView → World → Stage → Stage → Type 0
+PostingGoesOn post_stands posting_left most a after w (Stored commit split) (Posts posting ending) = post_stands after w posting × (posting_left after posting ≤ most)
+PostingGoesOn post_stands posting_left most a after w (Failed refusal split) (Posts posting ending) = post_stands after w posting × (posting_left after posting ≤ most)
+PostingGoesOn post_stands posting_left most a after w (Posts posting ending) (Posts then other) = post_stands after w then × (posting_left after then < posting_left a posting)
+PostingGoesOn post_stands posting_left most a after w _ _ = Unit {0}
+
+-- A PUT OR REMOVE THAT RUNS ALONE in a world: all that is taken is its own
+pub record IsLoneWrite (post_stands : ArenaView → World → Posting → Type 0) (C now begun : ℕ) (a : ArenaView) (w : World) (write : Write) : Type 0 where
+  pub world : IsWorld a now w
+  pub true : StageIsTrue C write.key write.edit write.way write.stage begun a w
+  pub stands : write_stands post_stands a w write
+  pub bytes : AreBytes write.key
+  pub fits : length write.key ≤ MAX_KEY_BYTES
+  pub only_own : (number : ℕ) → IsTaken a w number → Among number (write_held write).owns
+
+-- and its step that gets on, to the next world
+pub record IsLoneStep (post_stands : ArenaView → World → Posting → Type 0) (posting_left : ArenaView → Posting → ℕ) (most C now begun : ℕ) (a after : ArenaView) (w next : World) (write : Write) (p : Progress) (new : Write) : Type 0 where
+  pub follows : WriteFollows a write p new
+  pub gets_on : GetsOn p
+  pub once : CommitsOnce p (write_held write).committed
+  pub same_key : new.key ≡ write.key
+  pub world : IsWorld after now next
+  pub spots : (number : ℕ) → NotAmong number (write_held write).owns → NotAmong number (write_held new).owns → next.chart number ≡ w.chart number
+  pub true : StageIsTrue C new.key new.edit new.way new.stage begun after next
+  pub posts : PostingGoesOn post_stands posting_left most a after next write.stage new.stage
+
+module _ (post_stands : ArenaView → World → Posting → Type 0) (posting_left : ArenaView → Posting → ℕ) (most : ℕ) where
+  -- what is true after a step, and that less is left
+  abbrev Nearer : ArenaView → ArenaView → World → List ℕ → Way → Stage → Way → Stage → Type 0
+  Nearer a after next key way stage goal new = stage_stands post_stands after next key goal new
+      × (stage_left posting_left most after goal new < stage_left posting_left most a way stage)
+
+  -- a step that leaves the way where it is
+  stays : (a after : ArenaView) (next : World) (key : List ℕ) (way goal : Way) (stage new : Stage) → goal ≡ way
+      → Nearer a after next key way stage way new → Nearer a after next key way stage goal new
+  stays a after next key way goal stage new same there = subst (λ (g : Way). Nearer a after next key way stage g new) (sym same) there
+
+  -- a step that leads to a stage that is told
+  leads : (a after : ArenaView) (next : World) (key : List ℕ) (way goal : Way) (stage new then : Stage) → new ≡ then
+      → Nearer a after next key way stage goal then → Nearer a after next key way stage goal new
+  leads a after next key way goal stage new then is there = subst (λ (s : Stage). Nearer a after next key way stage goal s) (sym is) there
+
+  stays_at : (a after : ArenaView) (next : World) (key : List ℕ) (way goal : Way) (stage new then : Stage) → StaysAt way goal new then
+      → Nearer a after next key way stage way then → Nearer a after next key way stage goal new
+  stays_at a after next key way goal stage new then (is, same) there =
+      leads a after next key way goal stage new then is (stays a after next key way goal stage then same there)
+
+  -- from its lock on
+  readied : (a after : ArenaView) (next : World) (key : List ℕ) (way : Way) (new : Stage) → IsMadeReady new → Nearer a after next key way Locked way new
+  readied a after next key way (Spared half cut entries) ready = (tt, above _ _ _ (omega arith))
+  readied a after next key way (LayerSpared layer entries) ready = (tt, more _ _ _ (omega arith))
+  readied a after next key way (Filled place stored logged split) ready = (tt, above _ _ _ (omega arith))
+  readied a after next key way (Made place stored columns logged) ready = (tt, above _ _ _ (omega arith))
+  readied a after next key way (Taken place stored before) ready = (tt, above _ _ _ (omega arith))
+  readied a after next key way (Failed refusal None) ready = (tt, above _ _ _ (omega arith))
+  readied a after next key way (Failed refusal (Some split)) ready = (tt, above _ _ _ (omega arith))
+  readied a after next key way _ ready = absurd ready
+
+  half_readied : (a after : ArenaView) (next : World) (key : List ℕ) (way : Way) (split : Halves) (new : Stage) → IsReadyIn split new → Nearer a after next key way (Halved split) way new
+  half_readied a after next key way split (Filled place stored logged halves) ready = (tt, omega arith)
+  half_readied a after next key way split (Failed refusal None) ready = (tt, omega arith)
+  half_readied a after next key way split (Failed refusal (Some halves)) ready = (tt, omega arith)
+  half_readied a after next key way split _ ready = absurd ready
+
+  -- a posting that has ended
+  posted : (a after : ArenaView) (next : World) (key : List ℕ) (way : Way) (posting : Posting) (ending : Ending) → Nearer a after next key way (Posts posting ending) way (ending_stage ending None)
+  posted a after next key way posting (EndStored commit) = (tt, omega arith)
+  posted a after next key way posting (EndFailed refusal) = (tt, omega arith)
+
+  -- a commit
+  committed : (a after : ArenaView) (next : World) (key : List ℕ) (way : Way) (number : ℕ) (stage : Stage) → (stage ≡ Seeks → 1 < times most (way_left a way.layer way.node.0))
+      → (stage_held way.node.0 stage).committed ≡ None → Nearer a after next key way stage way (Stored number (halves_of stage))
+  committed a after next key way number Seeks some once = (tt, some refl)
+  committed a after next key way number Locked some once = (tt, above _ _ _ (omega arith))
+  committed a after next key way number (LayerSpared layer entries) some once = (tt, above _ _ _ (omega arith))
+  committed a after next key way number (LayerFilled layer) some once = (tt, above _ _ _ (omega arith))
+  committed a after next key way number (LayerReady layer) some once = (tt, above _ _ _ (omega arith))
+  committed a after next key way number (Layered below) some once = (tt, above _ _ _ (omega arith))
+  committed a after next key way number (Spared half cut entries) some once = (tt, omega arith)
+  committed a after next key way number (HalfFilled half cut) some once = (tt, omega arith)
+  committed a after next key way number (Halved split) some once = (tt, omega arith)
+  committed a after next key way number (Filled place stored logged None) some once = (tt, omega arith)
+  committed a after next key way number (Filled place stored logged (Some split)) some once = (tt, omega arith)
+  committed a after next key way number (Made place stored columns logged) some once = (tt, omega arith)
+  committed a after next key way number (Taken place stored before) some once = (tt, omega arith)
+  committed a after next key way number (Stored commit split) some once = absurd (let clash : ◌≡◌ {A = Option ℕ} (Some commit) None = once in cc)
+  committed a after next key way number (Failed refusal None) some once = (tt, omega arith)
+  committed a after next key way number (Failed refusal (Some split)) some once = (tt, omega arith)
+  committed a after next key way number (Posts posting ending) some once = (tt, omega arith)
+
+  -- the right half of a border that it has split is to be posted
+  ended : (a after : ArenaView) (next : World) (key : List ℕ) (way goal : Way) (stage new : Stage) (ending : Ending) → IsPosting ending new → stage_left posting_left most a way stage ≡ most + 4
+      → ((posting : Posting) (other : Ending) → new ≡ Posts posting other → post_stands after next posting × (posting_left after posting ≤ most))
+      → Nearer a after next key way stage goal new
+  ended a after next key way goal stage (Posts posting other) ending is left begins =
+      let (stands, within) = begins posting other refl in
+      (stands, omega (arith, within, left))
+  ended a after next key way goal stage _ ending is left begins = absurd is
+
+  module _ (C now begun : ℕ) (a after : ArenaView) (w next : World) (key : List ℕ) (edit : Edit) (way goal : Way) (world : IsWorld a now w) (then_world : IsWorld after now next)
+      (bytes : AreBytes key) (fits : length key ≤ MAX_KEY_BYTES) where
+    -- on its way
+    sought : IsOnWay begun key way w → IsOnThere w key way → (new : Stage) → KeepsSpots w next [] (stage_held goal.node.0 new).owns → StageFollows a key way Seeks goal new
+        → Nearer a after next key way Seeks goal new
+    sought held there new spots (inl at) = stays_at a after next key way goal Seeks new Locked at (tt, locks_times most _ _ (more_left a now begun w key way world bytes fits held there))
+    sought held there new spots (inr (is, visits)) =
+        let (on_there, falls) = way_moves a now begun w key way goal world bytes fits held there (visits.goes now w begun world held) in
+        let free : NotAmong goal.node.0 (stage_held goal.node.0 new).owns = subst (λ (s : Stage). NotAmong goal.node.0 (stage_held goal.node.0 s).owns) (sym is) (not_none goal.node.0) in
+        let (still, left) = same_left a after now w next world then_world key goal on_there (spots goal.node.0 (not_none goal.node.0) free) in
+        leads a after next key way goal Seeks new Seeks is (still, subst (λ (n : ℕ). times most n < times most (way_left a way.layer way.node.0)) (sym left) (moves_times most _ _ falls))
+
+    -- into the layer that it has linked
+    went_below : (below : NodeNo) → StageIsTrue C key edit way (Layered below) begun a w → IsOn w.chart below.0 → (new : Stage)
+        → KeepsSpots w next (way.node.0 ∷ []) (stage_held goal.node.0 new).owns → StageFollows a key way (Layered below) goal new → Nearer a after next key way (Layered below) goal new
+    went_below below truth stands new spots (is, to) =
+        let locked = truth.0 in
+        let known = truth.2 in
+        let prefix = prefix_of key (way_below way below) in
+        let place = head_place w below.0 prefix known.standing known.place stands in
+        let h = world.index.tree.heads below.0 prefix 0 stands.posted place in
+        let apart = head_apart a below.0 way.node.0 h.node (border_seen locked.border.b) h.is_node (seen-border a way.node.0 locked.border.b locked.border.named) in
+        let free : NotAmong below.0 (stage_held goal.node.0 new).owns = subst (λ (s : Stage). NotAmong below.0 (stage_held goal.node.0 s).owns) (sym is) (not_none below.0) in
+        let same = spots below.0 (not_only below.0 way.node.0 apart) free in
+        let here : IsOnThere next key (way_below way below) = record { posted = stands.posted; role = top; low = 0; place = same ∙ place } in
+        leads a after next key way goal (Layered below) new Seeks is
+        (subst (λ (g : Way). Nearer a after next key way (Layered below) g Seeks) (sym to) (here, ends_times most _ _ (left_by_spot after now next then_world key (way_below way below) here)))
+
+    -- while it posts
+    posts_on : (posting : Posting) (ending : Ending) (new : Stage) → PostingGoesOn post_stands posting_left most a after next (Posts posting ending) new
+        → PostsOn a posting ending new → goal ≡ way → Nearer a after next key way (Posts posting ending) goal new
+    posts_on posting ending (Posts then other) (still, falls) follows to = (still, omega (arith, falls))
+    posts_on posting ending new goes is to = leads a after next key way goal (Posts posting ending) new (ending_stage ending None) is
+        (stays a after next key way goal (Posts posting ending) (ending_stage ending None) to (posted a after next key way posting ending))
+
+    -- where it moves
+    moved : (stage new : Stage) → StageIsTrue C key edit way stage begun a w
+        → stage_stands post_stands a w key way stage → KeepsSpots w next (stage_held way.node.0 stage).owns (stage_held goal.node.0 new).owns
+        → PostingGoesOn post_stands posting_left most a after next stage new → StageFollows a key way stage goal new → Nearer a after next key way stage goal new
+    moved Seeks new truth stands spots goes follows = sought truth stands new spots follows
+    moved Locked new truth stands spots goes (ready, to) = stays a after next key way goal Locked new to (readied a after next key way new ready)
+    moved (Spared half cut entries) new truth stands spots goes follows = stays_at a after next key way goal (Spared half cut entries) new (HalfFilled half cut) follows (tt, omega arith)
+    moved (HalfFilled half cut) new truth stands spots goes (is, layer) = leads a after next key way goal (HalfFilled half cut) new _ is (tt, omega arith)
+    moved (Halved split) new truth stands spots goes (ready, to) = stays a after next key way goal (Halved split) new to (half_readied a after next key way split new ready)
+    moved (LayerSpared layer entries) new truth stands spots goes follows =
+        stays_at a after next key way goal (LayerSpared layer entries) new (LayerFilled layer) follows (tt, more _ _ _ (omega arith))
+    moved (LayerFilled layer) new truth stands spots goes follows = stays_at a after next key way goal (LayerFilled layer) new (LayerReady layer) follows (tt, more _ _ _ (omega arith))
+    moved (LayerReady layer) new truth stands spots goes follows = stays_at a after next key way goal (LayerReady layer) new (Layered layer.head) follows (tt, more _ _ _ (omega arith))
+    moved (Layered below) new truth stands spots goes follows = went_below below truth (linked_head_is_on (prefix_of key way) a now w way.node.0 below world truth.0) new spots follows
+    moved (Posts posting ending) new truth stands spots goes (follows, to) = posts_on posting ending new goes follows to
+    moved (Stored commit None) new truth stands spots goes (is, split) = absurd (split refl)
+    moved (Stored commit (Some split)) new truth stands spots goes (is, some) = ended a after next key way goal (Stored commit (Some split)) new (EndStored commit) is refl
+        (λ posting other at. subst (λ (s : Stage). PostingGoesOn post_stands posting_left most a after next (Stored commit (Some split)) s) at goes)
+    moved (Failed refusal None) new truth stands spots goes (is, split) = absurd (split refl)
+    moved (Failed refusal (Some split)) new truth stands spots goes (is, some) = ended a after next key way goal (Failed refusal (Some split)) new (EndFailed refusal) is refl
+        (λ posting other at. subst (λ (s : Stage). PostingGoesOn post_stands posting_left most a after next (Failed refusal (Some split)) s) at goes)
+    moved (Filled place stored logged split) new truth stands spots goes follows = absurd follows
+    moved (Made place stored columns logged) new truth stands spots goes follows = absurd follows
+    moved (Taken place stored before) new truth stands spots goes follows = absurd follows
+
+    -- where it moves or commits
+    got_on : (stage new : Stage) (p : Progress) → StageIsTrue C key edit way stage begun a w
+        → stage_stands post_stands a w key way stage → KeepsSpots w next (stage_held way.node.0 stage).owns (stage_held goal.node.0 new).owns
+        → PostingGoesOn post_stands posting_left most a after next stage new → GetsOn p → CommitsOnce p (stage_held way.node.0 stage).committed
+        → Follows a key way stage p goal new → Nearer a after next key way stage goal new
+    got_on stage new Moved truth stands spots goes gets once follows = moved stage new truth stands spots goes follows
+    got_on stage new (Committed number) truth stands spots goes gets once follows =
+        stays_at a after next key way goal stage new (Stored number (halves_of stage)) follows (committed a after next key way number stage some once)
+      where
+        some : stage ≡ Seeks → 1 < times most (way_left a way.layer way.node.0)
+        some is =
+            let held : IsOnWay begun key way w = subst (λ (s : Stage). StageIsTrue C key edit way s begun a w) is truth in
+            let there : IsOnThere w key way = subst (λ (s : Stage). stage_stands post_stands a w key way s) is stands in
+            some_times most _ _ (more_left a now begun w key way world bytes fits held there)
+    got_on stage new Waits truth stands spots goes gets once follows = absurd gets
+    got_on stage new (Answered answer) truth stands spots goes gets once follows = absurd gets
+    got_on stage new (Refused refusal) truth stands spots goes gets once follows = absurd gets
+
+  -- WITH EACH STEP THAT GETS ON less is left
+  pub lone_write_nearer : (C now begun : ℕ) (a after : ArenaView) (w next : World) (write new : Write) (p : Progress)
+      → IsLoneWrite post_stands C now begun a w write → IsLoneStep post_stands posting_left most C now begun a after w next write p new
+      → write_stands post_stands after next new × (write_left posting_left most after new < write_left posting_left most a write)
+  lone_write_nearer C now begun a after w next write new p lone step =
+      let (stands, falls) = got_on C now begun a after w next write.key write.edit write.way new.way lone.world step.world lone.bytes lone.fits
+      write.stage new.stage p lone.true lone.stands step.spots step.posts step.gets_on step.once step.follows in
+      (subst (λ (k : List ℕ). stage_stands post_stands after next k new.way new.stage) (sym step.same_key) stands, falls)
+
+-- it begins at a node that is on
+pub write_begins : (post_stands : ArenaView → World → Posting → Type 0) (a : ArenaView) (now : ℕ) (w : World) (write : Write) → IsWorld a now w
+    → write.way ≡ record { node = record { 0 = 0 }; layer = 0 } → write.stage ≡ Seeks → write_stands post_stands a w write
+write_begins post_stands a now w write world begins seeks =
+    subst (λ (s : Stage). stage_stands post_stands a w write.key write.way s) (sym seeks)
+    (subst (λ (way : Way). IsOnThere w write.key way) (sym begins) (starts_on a now w write.key world))
+
+-- IT WAITS NOWHERE, if its posting doesn't
+pub lone_write_waits_not : (post_stands : ArenaView → World → Posting → Type 0)
+    (posting_waits_not : (a : ArenaView) (now begun : ℕ) (w : World) (posting : Posting) → IsWorld a now w → begun ≤ now → PostingIsTrue begun posting a w → post_stands a w posting
+    → OnlyOwn a w (posting_owned posting) → PostWaits a posting PostAgain → ⊥)
+    (C now begun : ℕ) (a : ArenaView) (w : World) (write : Write) → begun ≤ now → IsLoneWrite post_stands C now begun a w write → WriteWaits a write Waits → ⊥
+lone_write_waits_not post_stands posting_waits_not C now begun a w write before lone waits = go write.stage lone.true lone.stands lone.only_own waits
+  where
+    go : (stage : Stage) → StageIsTrue C write.key write.edit write.way stage begun a w → stage_stands post_stands a w write.key write.way stage
+        → OnlyOwn a w (stage_held write.way.node.0 stage).owns → StageWaits a write.way.node.0 stage Waits → ⊥
+    go Seeks truth stands only waits = seeks_waits_not a now w write.key write.way lone.world stands only waits
+    go (Posts posting ending) truth stands only waits = posting_waits_not a now begun w posting lone.world before truth.0 stands only waits
+    go _ truth stands only waits = absurd waits
+
+-- ---- from step to step, by the law
+pub request_key : (one other : List ℕ) (edit then : Edit) → edit_request one edit ≡ edit_request other then → one ≡ other
+request_key one other (PutEdit sets) (PutEdit others) e = (let same : PutRequest one sets ≡ PutRequest other others = e in cc)
+request_key one other (PutEdit sets) RemoveEdit e = absurd (let clash : PutRequest one sets ≡ RemoveRequest other = e in cc)
+request_key one other RemoveEdit (PutEdit others) e = absurd (let clash : RemoveRequest one ≡ PutRequest other others = e in cc)
+request_key one other RemoveEdit RemoveEdit e = (let same : RemoveRequest one ≡ RemoveRequest other = e in cc)
+
+-- the law of a step tells the next world
+pub lone_step : (post_stands : ArenaView → World → Posting → Type 0) (posting_left : ArenaView → Posting → ℕ) (most C now begun moves : ℕ) (past : List Arena) (a after : ArenaView) (log left : LogView) (w : World) (write new : Write) (p : Progress)
+    → WriteFollows a write p new → GetsOn p → write_request new ≡ write_request write
+    → (s : Stepped C now moves past a after log left w (write_request write) (write_held write) p (write_held new) (λ m next. WriteIsTrue C new begun m (arena_seen a ∷ past) after next))
+    → KeepsSpots w s.goes.next (write_held write).owns (write_held new).owns → PostingGoesOn post_stands posting_left most a after s.goes.next write.stage new.stage
+    → IsLoneStep post_stands posting_left most C now begun a after w s.goes.next write p new
+lone_step post_stands posting_left most C now begun moves past a after log left w write new Moved follows gets request s spots posts = record {
+  follows = follows;
+  gets_on = tt;
+  once = tt;
+  same_key = request_key new.key write.key new.edit write.edit request;
+  world = s.goes.world;
+  spots = spots;
+  true = s.goes.true.0;
+  posts = posts;
+}
+lone_step post_stands posting_left most C now begun moves past a after log left w write new (Committed number) follows gets request s spots posts = record {
+  follows = follows;
+  gets_on = tt;
+  once = s.does.1;
+  same_key = request_key new.key write.key new.edit write.edit request;
+  world = s.goes.world;
+  spots = spots;
+  true = s.goes.true.0;
+  posts = posts;
+}
+lone_step post_stands posting_left most C now begun moves past a after log left w write new Waits follows gets request s spots posts = absurd gets
+lone_step post_stands posting_left most C now begun moves past a after log left w write new (Answered answer) follows gets request s spots posts = absurd gets
+lone_step post_stands posting_left most C now begun moves past a after log left w write new (Refused refusal) follows gets request s spots posts = absurd gets
+
+-- what is then taken is its own too
+own_still : (a after : ArenaView) (w next : World) (owned owns : List ℕ) → OnlyOwn a w owned
+    → ((number : ℕ) → IsTaken after next number → Among number owns ⊎ (IsTaken a w number × NotAmong number owned)) → OnlyOwn after next owns
+own_still a after w next owned owns only takes number taken = elim (takes number taken) [
+  | inl own ↦ own
+  | inr other ↦ absurd (other.1 (only number other.0))
+]
+
+-- so it runs alone after the step
+pub stays_lone : (post_stands : ArenaView → World → Posting → Type 0) (posting_left : ArenaView → Posting → ℕ) (most C now begun : ℕ) (a after : ArenaView) (w next : World) (write new : Write) (p : Progress)
+    → IsLoneWrite post_stands C now begun a w write → IsLoneStep post_stands posting_left most C now begun a after w next write p new → write_stands post_stands after next new
+    → ((number : ℕ) → IsTaken after next number → Among number (write_held new).owns ⊎ (IsTaken a w number × NotAmong number (write_held write).owns))
+    → IsLoneWrite post_stands C now begun after next new
+stays_lone post_stands posting_left most C now begun a after w next write new p lone step stands takes = record {
+  world = step.world;
+  true = step.true;
+  stands = stands;
+  bytes = subst AreBytes (sym step.same_key) lone.bytes;
+  fits = subst (λ (k : List ℕ). length k ≤ MAX_KEY_BYTES) (sym step.same_key) lone.fits;
+  only_own = own_still a after w next (write_held write).owns (write_held new).owns lone.only_own takes;
+}
+
+-- and once it has ended nothing is taken
+pub lone_write_ends : (post_stands : ArenaView → World → Posting → Type 0) (C now begun : ℕ) (a after : ArenaView) (w : World) (write : Write) (Then : World → Type 0)
+    → IsLoneWrite post_stands C now begun a w write → (goes : Goes now a after w (write_held write).owns [] Then) → (number : ℕ) → IsTaken after goes.next number → ⊥
+lone_write_ends post_stands C now begun a after w write Then lone goes number taken = not_none number (own_still a after w goes.next (write_held write).owns [] lone.only_own goes.takes number taken)
