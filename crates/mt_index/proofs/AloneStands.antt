@@ -43,7 +43,7 @@ use Rattle.mt_works.proofs.LoneWork.{LoneLaws, RunsLone, work_left, lone_begins,
 use Rattle.mt_index.specs.declared.calls.Call.{Call}
 use Rattle.mt_index.specs.Calls.{CallsView, call_at, with_changed, with_work, without, StepsCall, IsBuiltCall}
 use Rattle.mt_index.specs.Paired.{Paired}
-use Rattle.mt_index.specs.Stands.{MachineView, Stands, CallStands, Begins, Steps, StepsOpen, EndsBuild, with_call, outcome_of, calls_after, log_after, views_after, pinned}
+use Rattle.mt_index.specs.Stands.{MachineView, Stands, CallStands, Begins, Steps, StepsOpen, EndsBuild, with_call, outcome_of, calls_after, log_after, views_after, pinned, fault_of}
 use Rattle.mt_index.specs.Alone.{IsIdle, AnswersPlainly, RefusesPlainly}
 use Rattle.mt_index.proofs.EventStands.{begins-stands, begins-columns}
 use Rattle.mt_index.proofs.ViewEvents.{steps-stand, steps-columns}
@@ -206,16 +206,21 @@ none_open s idle h stands = nothing_paired (CallStands s.columns s.epoch s.tree 
 pub record RunsFrom (begun s : MachineView) (request : Request) (number : CallNo) : Type 0 where
   pub runs : IsRunning s number.0
   pub columns : s.columns ≡ begun.columns
-  pub since : (h : History) → Stands begun h → (past : History) × Stands s past × RunsAlone request number h past
+  pub unfaulted : fault_of begun request ≡ None
+  pub numbered : number ≡ record { 0 = begun.calls.begun + 1 }
+  pub since : (h : History) → Stands begun h → (past : History) × Stands s past × (run : RunsAlone request number h past) × (run.pass ≡ record { 0 = 0 })
 
-pub runs_from_begin : LoneLaws → (s t : MachineView) (pass : PassNo) (request : Request) (number : CallNo) → IsIdle s → (h : History) → Stands s h → Begins s pass request (Called number) t → RunsFrom s t request number
-runs_from_begin laws s t pass request number idle h st begins = record {
+pub runs_from_begin : LoneLaws → (s t : MachineView) (pass : PassNo) (request : Request) (number : CallNo) → pass ≡ record { 0 = 0 } → IsIdle s → (h : History) → Stands s h → Begins s pass request (Called number) t → RunsFrom s t request number
+runs_from_begin laws s t pass request number zero idle h st begins = record {
+  unfaulted = begins.0;
+  numbered = begins.1;
   runs = begins_running laws s t h pass request number idle st begins;
   columns = begins-columns s t pass request (Called number) begins;
   since = λ past stands. (
     happening (Begin pass request) (Called number) 0 ∷ past,
     begins-stands s t pass request (Called number) past begins stands,
     record { nothing_open = none_open s idle past stands; pass = pass; note = 0; steps = []; are_steps = tt; is_past = refl },
+    zero,
   );
 }
 
@@ -223,8 +228,10 @@ pub runs_on : LoneLaws → (begun s t : MachineView) (request : Request) (number
 runs_on laws begun s t request number outcome from steps goes runs = record {
   runs = runs;
   columns = steps-columns s t number.0 outcome steps ∙ from.columns;
+  unfaulted = from.unfaulted;
+  numbered = from.numbered;
   since = λ h stands.
-      let (past, there, alone) = from.since h stands in
+      let (past, there, alone, zero) = from.since h stands in
       let (opens, stood) = steps-stand s t number.0 outcome past steps there in (
         happening (Step number) outcome opens ∷ past,
         stood,
@@ -236,23 +243,27 @@ runs_on laws begun s t request number outcome from steps goes runs = record {
           are_steps = (refl, goes, alone.are_steps);
           is_past = ap (λ (l : History). happening (Step number) outcome opens ∷ l) alone.is_past;
         },
+        zero,
       );
 }
 
-pub answers_plainly : (begun s t : MachineView) (request : Request) (number : CallNo) (reply : Reply) → RunsFrom begun s request number → Steps s number.0 (Done reply) t → AnswersPlainly begun request reply.answer t
+pub answers_plainly : (begun s t : MachineView) (request : Request) (number : CallNo) (reply : Reply) → RunsFrom begun s request number → Steps s number.0 (Done reply) t → AnswersPlainly begun request reply t
 answers_plainly begun s t request number reply from steps h stands =
-    let (past, there, alone) = from.since h stands in
+    let (past, there, alone, zero) = from.since h stands in
     let (opens, stood) = steps-stand s t number.0 (Done reply) past steps there in
-    let columns = steps-columns s t number.0 (Done reply) steps ∙ from.columns in (
+    let columns = steps-columns s t number.0 (Done reply) steps ∙ from.columns in
+    let after = moment (happening (Step number) (Done reply) opens ∷ past) in (
       happening (Step number) (Done reply) opens ∷ past,
       stood,
-      subst (λ (C : ℕ). EndsPlainly C h request reply.answer (moment (happening (Step number) (Done reply) opens ∷ past))) columns
-          (lone_calls_are_plain t.columns request number reply opens h past alone stood.legal),
+      subst (λ (n : CallNo). EndsPlainly begun.columns h (record { 0 = 0 }) n request reply after) from.numbered
+          (subst (λ (p : PassNo). EndsPlainly begun.columns h p number request reply after) zero
+          (subst (λ (C : ℕ). EndsPlainly C h alone.pass number request reply after) columns
+          (lone_calls_are_plain t.columns request number reply opens h past alone stood.legal))),
     )
 
 pub refuses_plainly : (begun s t : MachineView) (request : Request) (number : CallNo) (refusal : Refusal) → RunsFrom begun s request number → Steps s number.0 (Refused refusal) t → RefusesPlainly begun t
 refuses_plainly begun s t request number refusal from steps h stands =
-    let (past, there, alone) = from.since h stands in
+    let (past, there, alone, zero) = from.since h stands in
     let (opens, stood) = steps-stand s t number.0 (Refused refusal) past steps there in (
       happening (Step number) (Refused refusal) opens ∷ past,
       stood,

@@ -8,7 +8,7 @@ ghost use Rattle.mt_types.specs.Limits.{columns_fault, limit_fault};
 ghost use Rattle.mt_promise.specs.History.{History, moment, rows};
 ghost use Rattle.mt_promise.specs.Alone.{IsRangeOfMap};
 ghost use Rattle.mt_index.specs.Alone.{IsIdle, AnswersPlainly, RefusesPlainly};
-ghost use Rattle.mt_index.specs.Stands.{Stands, HasBounds};
+ghost use Rattle.mt_index.specs.Stands.{Stands, HasBounds, fault_of};
 
 use crate::machine::Machine;
 use mt_calls::getting::Get;
@@ -106,12 +106,13 @@ impl Machine {
     ///
     /// # Errors
     ///
-    /// What refuses its begin (a limit that the request breaks, spent numbers, too many views), and what a call may be
-    /// refused for; then nothing has come of it.
+    /// Exactly what refuses its begin (a limit that the request breaks, spent numbers, too many views); and else what a
+    /// call may be refused for. Then nothing has come of it.
     pub fn do_alone(&mut self, alloc: Global, request: &Request) -> Result<Reply, Refusal>
         requires { IsIdle self.old }
-        ensures answered { IfOk result (λ reply. AnswersPlainly self.old request.now reply.answer self.new) }
+        ensures answered { IfOk result (λ reply. AnswersPlainly self.old request.now reply self.new) }
         ensures refused { IfErr result (λ refusal. RefusesPlainly self.old self.new) }
+        ensures fault { MatchOption (fault_of self.old request.now) (Unit {0}) (λ refusal. result ≡ Err refusal) }
         ensures idle { IsIdle self.new }
         ensures bounds { HasBounds self.old.log.feed self.old.log.keep self.new.log }
     {

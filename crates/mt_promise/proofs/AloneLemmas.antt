@@ -26,6 +26,7 @@ use Rattle.mt_promise.specs.RightAnswers.{RightAnswer, RightRange, Shows, Lacks,
 use Rattle.mt_promise.specs.Legal.{Legal, MayHappen, MayStep, MayStepAt, RightReply}
 use Rattle.mt_promise.specs.Alone.{ShowsRow, IsRangeOfMap, IsPlain, GoesOnBy, AreStepsOf, RunsAlone, EndsPlainly, EndsRefused, LoneCallsArePlain, LoneRefusalsDoNothing}
 use Rattle.mt_promise.proofs.HistoryLemmas.{happened_is}
+use Rattle.mt_promise.proofs.CallLemmas.{began_so}
 
 -- ---- moments since a begin
 throughout_none : (began : ℕ) (P : Moment → Type 0) (h : History) → length h < began → Throughout began P h
@@ -94,7 +95,7 @@ module _ (C : ℕ) (request : Request) (number : CallNo) (before h : History) (s
   abbrev call : OpenCall
   call = s.call
 
-  found : call_of number.0 (moment h).calls ≡ Some call
+  pub found : call_of number.0 (moment h).calls ≡ Some call
   found = found_alone (moment h).calls call number.0 s.is_open.calls s.is_open.numbered
 
   pub after_it : (x : Happening) → x.event ≡ Step number → after_event (moment h) x.event x.outcome x.opens ≡ after_step (moment h) call x.outcome x.opens
@@ -312,7 +313,13 @@ lone_calls_are_plain C request number reply end before past run legal =
     let right = may_step C request number before past s x refl legal.1 in
     let answer = subst (λ (q : Request). RightAnswer C past s.call q reply.answer end) s.is_open.asks right.answer in
     let (made, plain, commits, views) = did C before past s.call end s.is_open.began s.is_open.from request reply.answer answer s.done in
+    let so = began_so C run.steps before run.pass request number run.note (subst (λ (h : History). Legal C h) run.is_past legal.0) s.call
+    (subst (λ (h : History). call_of number.0 (moment h).calls ≡ Some s.call) run.is_past (found C request number before past s)) in
     record {
+      same_pass = right.pass ∙ so.pass_is;
+      same_call = right.number ∙ s.is_open.numbered;
+      from = right.from ∙ s.is_open.from;
+      to = right.to ∙ sym (ap (λ (m : Moment). length m.commits) same);
       made = made;
       plain = plain;
       commits = ap (λ (m : Moment). m.commits) same ∙ commits;

@@ -65,14 +65,20 @@ pub record RunsAlone (request : Request) (number : CallNo) (before past : Histor
   pub are_steps : AreStepsOf number steps
   pub is_past : past ≡ steps ++ happening (Begin pass request) (Call number) note ∷ before
 
--- the call alone has done as a plain map: by its answer, and by the commits that there are since; no call is open
-pub record EndsPlainly (C : ℕ) (before : History) (request : Request) (answer : Answer) (after : Moment) : Type 0 where
+-- the call alone, of this pass and number, has done as a plain map: by its answer, and by the commits that there are
+-- since; its reply carries its pass and number, and how many commits there were and are; no call is open
+pub record EndsPlainly (C : ℕ) (before : History) (pass : PassNo) (number : CallNo) (request : Request) (reply : Reply)
+    (after : Moment) : Type 0 where
+  pub same_pass : reply.pass.0 ≡ pass.0
+  pub same_call : reply.call.0 ≡ number.0
+  pub from : reply.from ≡ length (moment before).commits
+  pub to : reply.to ≡ length after.commits
   pub made : List Change
-  pub plain : IsPlain (rows C (moment before)) (length (moment before).commits) request answer made
+  pub plain : IsPlain (rows C (moment before)) (length (moment before).commits) request reply.answer made
   pub commits : after.commits ≡ (moment before).commits ++ made
   -- a build's view stands at the number of all commits; other calls change no view
   pub views : after.views ≡ (moment before).views
-      ++ view_built request answer (length (moment before).commits)
+      ++ view_built request reply.answer (length (moment before).commits)
   pub closed : after.calls ≡ []
 
 -- the call alone was refused, and nothing has come of it
@@ -85,8 +91,8 @@ pub record EndsRefused (before : History) (after : Moment) : Type 0 where
 abbrev pub LoneCallsArePlain : Type 0
 LoneCallsArePlain =
     (C : ℕ) (request : Request) (number : CallNo) (reply : Reply) (end : ℕ) (before past : History)
-    → RunsAlone request number before past → Legal C (happening (Step number) (Done reply) end ∷ past)
-    → EndsPlainly C before request reply.answer (moment (happening (Step number) (Done reply) end ∷ past))
+    → (run : RunsAlone request number before past) → Legal C (happening (Step number) (Done reply) end ∷ past)
+    → EndsPlainly C before run.pass number request reply (moment (happening (Step number) (Done reply) end ∷ past))
 
 abbrev pub LoneRefusalsDoNothing : Type 0
 LoneRefusalsDoNothing =

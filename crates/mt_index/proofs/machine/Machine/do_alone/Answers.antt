@@ -1,4 +1,4 @@
-use Rattle.std.proofs.Common.{◌≡◌, ◌∙◌, ℕ, subst, sym}
+use Rattle.std.proofs.Common.{◌≡◌, ◌∙◌, ℕ, subst, sym, refl}
 use Rattle.mt_types.specs.declared.event.Outcome.{Outcome}
 use Rattle.mt_types.specs.declared.event.Outcome.TheVariants.{Moved, Commit, Done, Refused}
 use Rattle.mt_promise.specs.Alone.{GoesOnBy}
@@ -10,7 +10,7 @@ use Rattle.mt_index.proofs.machine.Machine.do_alone.Goals as goal
 pub loop-reply-init : goal.loop-reply-init
 loop-reply-init c =
     let (h, st) = c.is_idle-stands.ensures.stands in (
-      runs_from_begin lone_laws c.args.self.now c.begin.new.self (record { 0 = 0 }) c.args.request.now c.in-Call.call c.requires h st
+      runs_from_begin lone_laws c.args.self.now c.begin.new.self (record { 0 = 0 }) c.args.request.now c.in-Call.call refl c.requires h st
           (subst (λ (o : Outcome). Begins c.args.self.now (record { 0 = 0 }) c.args.request.now o c.begin.new.self) c.in-Call.is c.begin.ensures.begins),
       c.begin.ensures.bounds,
     )
