@@ -1,30 +1,27 @@
 -- The laws of a call alone: what is known of it while it is open, and of its end.
-use Rattle.std.proofs.Common.{◌≡◌, ◌≤◌, ◌<◌, ◌==◌, ℕ, Bool, true, List, [], ◌∷◌, ◌++◌, length, Option, Some, None, IsSome, ◌∙◌, ap, sym, subst, refl, inl, inr, ◌⊎◌, arith, All}
+use Rattle.std.proofs.Common.{◌≡◌, ◌<◌, ◌==◌, ℕ, Bool, List, [], ◌∷◌, ◌++◌, length, Option, Some, None, IsSome, ◌∙◌, ap, sym, subst, refl, inl, inr, ◌⊎◌, arith}
 use Rattle.std.specs.Prelude.{if◌then◌else◌, not, ◌+◌}
 use Rattle.std.specs.FinMap.{get}
 use Rattle.std.proofs.lemmas.Bool.{eq-eqb}
 use Rattle.std.proofs.lemmas.List.{append-nil}
 use Rattle.std.proofs.lemmas.List.Elements.{All-weaker}
-use Rattle.mt_types.specs.Rows.{Rows, after, shown}
-use Rattle.mt_types.specs.Ranges.{IsRangeAnswer}
+use Rattle.mt_types.specs.Rows.{Rows, after}
 use Rattle.mt_types.specs.declared.numbers.PassNo.{PassNo}
 use Rattle.mt_types.specs.declared.numbers.CallNo.{CallNo}
 use Rattle.mt_types.specs.declared.row.Row.{Row}
 use Rattle.mt_types.specs.declared.row.Change.{Change}
-use Rattle.mt_types.specs.declared.refusal.Refusal.{Refusal}
 use Rattle.mt_types.specs.declared.event.Event.{Event}
 use Rattle.mt_types.specs.declared.event.Event.TheVariants.{Begin, Step}
 use Rattle.mt_types.specs.declared.event.Outcome.{Outcome}
 use Rattle.mt_types.specs.declared.event.Outcome.TheVariants.{Call, Moved, Again, Commit, Done, Refused}
-use Rattle.mt_types.specs.declared.event.Reply.{Reply}
 use Rattle.mt_types.specs.declared.event.Request.{Request}
 use Rattle.mt_types.specs.declared.event.Request.TheVariants.{Get, Put, Remove, Range, Tidy, Build}
 use Rattle.mt_types.specs.declared.event.Answer.{Answer}
 use Rattle.mt_types.specs.declared.event.Answer.TheVariants.{Absent, Found, Stored, Removed, Rows as RowsAnswer, Tidied, Built}
 use Rattle.mt_promise.specs.History.{History, Happening, happening, Moment, OpenCall, StandingView, without_call, moment, rows, Sometime, Throughout, call_of, new_call, replace_call, after_event, after_call_step, after_step, change_of, view_built}
 use Rattle.mt_promise.specs.RightAnswers.{RightAnswer, RightRange, Shows, Lacks, Stands}
-use Rattle.mt_promise.specs.Legal.{Legal, MayHappen, MayStep, MayStepAt, RightReply}
-use Rattle.mt_promise.specs.Alone.{ShowsRow, IsRangeOfMap, IsPlain, GoesOnBy, AreStepsOf, RunsAlone, EndsPlainly, EndsRefused, LoneCallsArePlain, LoneRefusalsDoNothing}
+use Rattle.mt_promise.specs.Legal.{Legal, MayHappen, MayStep, MayStepAt}
+use Rattle.mt_promise.specs.Alone.{ShowsRow, IsRangeOfMap, IsPlain, GoesOnBy, AreStepsOf, RunsAlone, LoneCallsArePlain, LoneRefusalsDoNothing}
 use Rattle.mt_promise.proofs.HistoryLemmas.{happened_is}
 use Rattle.mt_promise.proofs.CallLemmas.{began_so}
 

@@ -1,9 +1,10 @@
--- A call alone: it begins where no call is open, and nothing else happens until it has ended. It answers as a plain map does.
+-- A call alone: it begins where no call is open, and nothing else happens until it has ended. It answers as a plain
+-- map does.
 use Rattle.std.specs.Prelude.{ℕ, ◌+◌, ◌≡◌, List, [], ◌∷◌, ◌++◌, length, Some, None, IsSome}
 use Rattle.std.specs.FinMap.{get}
 use Rattle.mt_types.specs.Ranges.{IsRangeAnswer}
 use Rattle.mt_types.specs.Rows.{Rows, shown}
-use Rattle.mt_promise.specs.History.{History, Happening, happening, Moment, moment, rows, view_built}
+use Rattle.mt_promise.specs.History.{History, happening, Moment, moment, rows, view_built}
 use Rattle.mt_promise.specs.Legal.{Legal}
 use Rattle.mt_types.specs.declared.numbers.PassNo.{PassNo}
 use Rattle.mt_types.specs.declared.numbers.CallNo.{CallNo}
@@ -64,6 +65,19 @@ pub record RunsAlone (request : Request) (number : CallNo) (before past : Histor
   pub steps : History
   pub are_steps : AreStepsOf number steps
   pub is_past : past ≡ steps ++ happening (Begin pass request) (Call number) note ∷ before
+
+-- a call alone of this pass and number began after this, ran, and ended by a step of this outcome
+pub record RunsThrough (pass : PassNo) (number : CallNo) (request : Request) (before : History) (outcome : Outcome)
+    (after : History) : Type 0 where
+  pub past : History
+  pub run : RunsAlone request number before past
+  pub same_pass : run.pass ≡ pass
+  pub note : ℕ
+  pub is_after : after ≡ happening (Step number) outcome note ∷ past
+
+-- or its begin was refused
+abbrev pub IsTurnedAway : PassNo → Request → History → Refusal → History → Type 0
+IsTurnedAway pass request before refusal after = after ≡ happening (Begin pass request) (Refused refusal) 0 ∷ before
 
 -- the call alone, of this pass and number, has done as a plain map: by its answer, and by the commits that there are
 -- since; its reply carries its pass and number, and how many commits there were and are; no call is open

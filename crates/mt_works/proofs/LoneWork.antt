@@ -7,8 +7,8 @@ use Rattle.mt_chart.specs.Tree.{Arena, Among}
 use Rattle.mt_chart.specs.Chart.{Evolves}
 use Rattle.mt_tree.specs.Seen.{arena_seen}
 use Rattle.mt_calls.specs.declared.progress.Progress.{Progress}
-use Rattle.mt_calls.specs.declared.progress.Progress.TheVariants.{Moved, Waits, Committed, Answered, Refused}
-use Rattle.mt_calls.specs.World.{World, IsWorld, IsTaken, NotAmong, Goes}
+use Rattle.mt_calls.specs.declared.progress.Progress.TheVariants.{Moved, Waits, Committed}
+use Rattle.mt_calls.specs.World.{World, IsWorld, IsTaken, NotAmong}
 use Rattle.mt_calls.specs.Step.{Held, Stepped, StepLawIn, Does, left_with}
 use Rattle.mt_types.specs.declared.numbers.NodeNo.{NodeNo}
 use Rattle.mt_calls.specs.declared.way.Way.{Way}
@@ -22,11 +22,13 @@ use Rattle.mt_remove.proofs.LoneTidy.{tidy_stands, tidy_left, tidy_begins, lone_
 use Rattle.mt_write.proofs.LoneWrite.{request_key}
 use Rattle.mt_write.proofs.LoneWrites.{lone_stands as write_stands, lone_left as write_left, begins as write_begins, waits_not as write_waits_not, nearer as write_nearer}
 use Rattle.mt_works.specs.Works.{IsKey}
+use Rattle.mt_arena.specs.Node.{occupied}
+use Rattle.mt_works.proofs.LoneGet.{get_steps}
 use Rattle.mt_works.proofs.LoneBuild.{StandsBy, build_left}
 use Rattle.mt_works.proofs.LoneKinds.{lone_build_stands, StandsWithin, get_waits_not, get_nearer, range_nearer, build_waits_not, build_nearer}
 use Rattle.mt_works.specs.declared.work.Work.{Work}
 use Rattle.mt_works.specs.declared.work.Work.TheVariants.{Get, Write, Range, Tidy, Build}
-use Rattle.mt_works.specs.Works.{request_of, held, IsTrue, AsksForKey, IsAtStart, IsNew, IsBuiltWork, WorkBuilds}
+use Rattle.mt_works.specs.Works.{request_of, held, IsTrue, AsksForKey, IsNew, IsBuiltWork, WorkBuilds}
 use Rattle.mt_works.specs.Causes.{WorkWaits}
 use Rattle.mt_works.specs.Follows.{WorkFollows, WorkReads, WorkPosts}
 
@@ -64,14 +66,20 @@ pub record IsLone (C now begun moves : ℕ) (past : List Arena) (a : ArenaView) 
   pub owns : OwnsAll a w (held work).owns
   pub stands : work_stands a commits w work
 
--- the same in some world, and what it asks for is a key
-pub record RunsLone (C now : ℕ) (a : ArenaView) (commits : ℕ) (work : Work) : Type 0 where
+-- it is a get
+abbrev pub IsGet : Work → Type 0
+IsGet (Get get) = Unit {0}
+IsGet _ = ⊥
+
+-- the same in some world, after so many steps, and what it asks for is a key; a get has come by as many moves
+pub record RunsLone (C now made : ℕ) (a : ArenaView) (commits : ℕ) (work : Work) : Type 0 where
   pub begun : ℕ
   pub moves : ℕ
   pub past : List Arena
   pub w : World
   pub lone : IsLone C now begun moves past a commits w work
   pub key : AsksForKey (request_of work)
+  pub counted : IsGet work → moves ≡ made
 
 -- what its step says, where it goes on, and the next world
 pub record StepsOn (C now begun moves : ℕ) (before : List Arena) (a after : ArenaView) (log left : LogView) (w next : World) (work : Work) (p : Progress) (new : Work) : Type 0 where
@@ -106,17 +114,39 @@ then_owned owned owns a after w next takes all number taken = elim (takes number
   | inr other ↦ absurd (other.1 (all number other.0))
 ]
 
-module _ (laws : LoneLaws) (C now : ℕ) (a after : ArenaView) (log left : LogView) (work : Work) (lone : RunsLone C now a (newest log) work) (unbuilt : IsBuiltWork work → ⊥) where
+-- it was a get before
+was_get : (a : ArenaView) (work new : Work) (p : Progress) → WorkFollows a work p new → IsGet new → IsGet work
+was_get a (Get get) new p follows is = tt
+was_get a (Write write) (Get new) p follows is = absurd follows
+was_get a (Range range) (Get new) p follows is = absurd follows
+was_get a (Tidy tidy) (Get new) p follows is = absurd follows
+was_get a (Build building) (Get new) p follows is = absurd follows
+was_get a work (Write new) p follows is = absurd is
+was_get a work (Range new) p follows is = absurd is
+was_get a work (Tidy new) p follows is = absurd is
+was_get a work (Build new) p follows is = absurd is
+
+-- a get makes no commit
+get_commits_not : (C : ℕ) (past : List Arena) (a after : ArenaView) (log left : LogView) (work : Work) (number : ℕ) (then : Option ℕ) → IsGet work
+    → Does C past a after log left (request_of work) (held work).committed (Committed number) then → ⊥
+get_commits_not C past a after log left (Get get) number then is does = does.0
+get_commits_not C past a after log left (Write write) number then is does = is
+get_commits_not C past a after log left (Range range) number then is does = is
+get_commits_not C past a after log left (Tidy tidy) number then is does = is
+get_commits_not C past a after log left (Build building) number then is does = is
+
+module _ (laws : LoneLaws) (C now made : ℕ) (a after : ArenaView) (log left : LogView) (work : Work) (lone : RunsLone C now made a (newest log) work) (unbuilt : IsBuiltWork work → ⊥) where
   abbrev Law : Progress → Work → Type 0
   Law p new = StepLawIn now C a after log left (request_of work) (held work) p (held new) (IsTrue C work) (IsTrue C new)
 
   abbrev Goes_on : ArenaView → ℕ → Work → Type 0
-  Goes_on then commits new = RunsLone C now then commits new × (work_left then commits new < work_left a (newest log) work)
+  Goes_on then commits new = RunsLone C now (made + 1) then commits new × (work_left then commits new < work_left a (newest log) work)
 
   ends_so : (new : Work) (p : Progress) (moves : ℕ) (s : Stepped C now lone.moves lone.past a after log left lone.w (request_of work) (held work) p (held new) (λ m next. IsTrue C new lone.begun m (arena_seen a ∷ lone.past) after next))
       → GoesOn p → left_with p (held new) ≡ held new → IsTrue C new lone.begun moves (arena_seen a ∷ lone.past) after s.goes.next → (p ≡ Moved → newest left ≡ newest log)
+      → (IsGet new → moves ≡ made + 1)
       → request_of new ≡ request_of work → WorkFollows a work p new → WorkBuilds a log work p new → WorkReads a after work → WorkPosts a after work p new → Goes_on after (newest left) new
-  ends_so new p moves s goes kept true quiet request follows builds read posts =
+  ends_so new p moves s goes kept true quiet counted request follows builds read posts =
       let next = s.goes.next in
       let owns = then_owned (held work).owns (held new).owns a after lone.w next (subst (λ (h : Held). (number : ℕ) → IsTaken after next number → Among number h.owns ⊎ (IsTaken a lone.w number × NotAmong number (held work).owns)) kept s.goes.takes) lone.lone.owns in
       let steps : StepsOn C now lone.begun lone.moves lone.past a after log left lone.w next work p new = record {
@@ -144,6 +174,7 @@ module _ (laws : LoneLaws) (C now : ℕ) (a after : ArenaView) (log left : LogVi
           w = next;
           lone = record { world = s.goes.world; before = lone.lone.before; true = true; owns = owns; stands = stands };
           key = subst AsksForKey (sym request) lone.key;
+          counted = counted;
         },
         falls,
       )
@@ -151,18 +182,20 @@ module _ (laws : LoneLaws) (C now : ℕ) (a after : ArenaView) (log left : LogVi
   pub lone_moves : (new : Work) → Law Moved new → request_of new ≡ request_of work → WorkFollows a work Moved new → WorkBuilds a log work Moved new → WorkReads a after work → WorkPosts a after work Moved new → Goes_on after (newest left) new
   lone_moves new law request follows builds read posts =
       let s = law.steps lone.begun lone.moves lone.past lone.w lone.lone.world lone.lone.before lone.lone.true in
-      ends_so new Moved (lone.moves + 1) s tt refl s.goes.true (λ moved. ap (λ (n : ℕ). n + length left.deltas) s.does.0.trimmed ∙ ap (λ (l : List Delta). log.held_after + length l) s.does.0.deltas) request follows builds read posts
+      ends_so new Moved (lone.moves + 1) s tt refl s.goes.true (λ moved. ap (λ (n : ℕ). n + length left.deltas) s.does.0.trimmed ∙ ap (λ (l : List Delta). log.held_after + length l) s.does.0.deltas)
+      (λ is. ap (λ (n : ℕ). n + 1) (lone.counted (was_get a work new Moved follows is))) request follows builds read posts
 
   pub lone_commits : (new : Work) (number : ℕ) → Law (Committed number) new → request_of new ≡ request_of work → WorkFollows a work (Committed number) new → WorkBuilds a log work (Committed number) new → WorkReads a after work → WorkPosts a after work (Committed number) new → Goes_on after (newest left) new
   lone_commits new number law request follows builds read posts =
       let s = law.steps lone.begun lone.moves lone.past lone.w lone.lone.world lone.lone.before lone.lone.true in
-      ends_so new (Committed number) 0 s tt refl s.goes.true (λ moved. absurd (let clash : Committed number ≡ Moved = moved in cc)) request follows builds read posts
+      ends_so new (Committed number) 0 s tt refl s.goes.true (λ moved. absurd (let clash : Committed number ≡ Moved = moved in cc))
+      (λ is. absurd (get_commits_not C lone.past a after log left work number (held new).committed (was_get a work new (Committed number) follows is) s.does)) request follows builds read posts
 
   pub lone_waits_not : WorkWaits a work Waits → ⊥
   lone_waits_not waits = laws.waits_not C now lone.begun lone.moves lone.past a (newest log) lone.w work lone.lone unbuilt lone.key waits
 
 -- from its begin on, where nothing is taken
-pub lone_begins : (laws : LoneLaws) (C now number : ℕ) (a : ArenaView) (w : World) → IsWorld a now w → ((n : ℕ) → IsTaken a w n → ⊥) → (work : Work) → IsNew C number work → RunsLone C now a number work
+pub lone_begins : (laws : LoneLaws) (C now number : ℕ) (a : ArenaView) (w : World) → IsWorld a now w → ((n : ℕ) → IsTaken a w n → ⊥) → (work : Work) → IsNew C number work → RunsLone C now 0 a number work
 lone_begins laws C now number a w world free work new = record {
   begun = now;
   moves = 0;
@@ -176,7 +209,17 @@ lone_begins laws C now number a w world free work new = record {
     stands = laws.begins C number a now w world free work new;
   };
   key = new.key;
+  counted = λ is. refl;
 }
+
+-- a get has made fewer steps than there are nodes
+pub lone_get_steps : (C now made : ℕ) (a : ArenaView) (commits : ℕ) (work : Work) → RunsLone C now made a commits work → IsGet work → made < occupied a.nodes
+lone_get_steps C now made a commits (Get get) runs is =
+    subst (λ (n : ℕ). n < occupied a.nodes) (runs.counted is) (get_steps a now runs.w runs.lone.world get runs.begun runs.moves runs.past runs.lone.true)
+lone_get_steps C now made a commits (Write write) runs is = absurd is
+lone_get_steps C now made a commits (Range range) runs is = absurd is
+lone_get_steps C now made a commits (Tidy tidy) runs is = absurd is
+lone_get_steps C now made a commits (Build building) runs is = absurd is
 
 -- the key of a put or remove
 edit_key : (key : List ℕ) (edit : Edit) → AsksForKey (edit_request key edit) → IsKey key

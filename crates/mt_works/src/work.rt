@@ -101,12 +101,12 @@ impl Work {
     }
 }
 
-// The key of these bytes, which are few enough: the begin of a call tests that. Shares them.
-fn key_of(alloc: Global, bytes: &Bytes) -> Result<Key, NoMemory>
-    ensures value { IfOk result (λ key. key ≡ bytes.now) }
+// The key of these bytes, which are few enough: the begin of a call tests that.
+fn key_of(bytes: Bytes) -> Result<Key, NoMemory>
+    ensures value { IfOk result (λ key. key ≡ bytes) }
     ensures key { IfOk result IsKey }
 {
-    let Ok(key) = Key::new(bytes.copy(alloc)?) else {
+    let Ok(key) = Key::new(bytes) else {
         return Err(NoMemory);
     };
     let _key = rest_of(&key, 0);
@@ -134,9 +134,9 @@ fn new_range(
     alloc: Global,
     start: Key,
     limit: u16,
-    columns: &ColumnNumbers,
+    columns: ColumnNumbers,
 ) -> Result<Range, NoMemory>
-    ensures request { IfOk result (λ range. range_request range ≡ RangeRequest start limit columns.now) }
+    ensures request { IfOk result (λ range. range_request range ≡ RangeRequest start limit columns) }
     ensures new { IfOk result (λ range. (C number : ℕ) → IsNew C number (Work.Range range)) }
 {
     let _key = rest_of(&start, 0);
@@ -144,7 +144,7 @@ fn new_range(
     Ok(Range {
         start,
         limit,
-        columns: columns.copy(alloc)?,
+        columns,
         scan,
         node: TOP,
     })
@@ -155,12 +155,12 @@ fn new_building(
     alloc: Global,
     columns: u8,
     number: u64,
-    spec: &ViewSpec,
+    spec: ViewSpec,
 ) -> Result<Building, NoMemory>
-    ensures request { IfOk result (λ building. building_request building ≡ BuildRequest spec.now) }
+    ensures request { IfOk result (λ building. building_request building ≡ BuildRequest spec) }
     ensures new { IfOk result (λ building. IsNew columns number (Work.Build building)) }
 {
-    let Ok(build) = Build::new(alloc, columns, spec.copy(alloc)?, number) else {
+    let Ok(build) = Build::new(alloc, columns, spec, number) else {
         return Err(NoMemory);
     };
     Ok(Building {
@@ -171,32 +171,29 @@ fn new_building(
 }
 
 /// The work of a call that asks for this, and whose keys are not too long; it begins when there are so many commits.
-/// Shares the bytes.
+/// Takes over what the request has: for a get, put, remove or tidy it takes no memory.
 ///
 /// # Errors
 ///
 /// `NoMemory` for want of it, or where a key is too long: the begin of a call tests that.
-pub fn work_of(alloc: Global, columns: u8, number: u64, request: &Request) -> Result<Work, NoMemory>
-    ensures request { IfOk result (λ work. request_of work ≡ request.now) }
+pub fn work_of(alloc: Global, columns: u8, number: u64, request: Request) -> Result<Work, NoMemory>
+    ensures request { IfOk result (λ work. request_of work ≡ request) }
     ensures new { IfOk result (IsNew columns number) }
 {
     match request {
         Request::Get { key, columns } => Ok(Work::Get(Get {
-            key: key_of(alloc, key)?,
-            columns: columns.copy(alloc)?,
+            key: key_of(key)?,
+            columns,
             way: START,
         })),
-        Request::Put { key, sets } => Ok(Work::Write(new_write(
-            key_of(alloc, key)?,
-            Edit::Put(sets.copy(alloc)?),
-        ))),
-        Request::Remove { key } => Ok(Work::Write(new_write(key_of(alloc, key)?, Edit::Remove))),
+        Request::Put { key, sets } => Ok(Work::Write(new_write(key_of(key)?, Edit::Put(sets)))),
+        Request::Remove { key } => Ok(Work::Write(new_write(key_of(key)?, Edit::Remove))),
         Request::Range {
             start,
             limit,
             columns,
-        } => Ok(Work::Range(new_range(alloc, key_of(alloc, start)?, *limit, columns)?)),
-        Request::Tidy { key } => Ok(Work::Tidy(Tidy::new(key_of(alloc, key)?))),
+        } => Ok(Work::Range(new_range(alloc, key_of(start)?, limit, columns)?)),
+        Request::Tidy { key } => Ok(Work::Tidy(Tidy::new(key_of(key)?))),
         Request::Build { spec } => Ok(Work::Build(new_building(alloc, columns, number, spec)?)),
     }
 }

@@ -1,11 +1,11 @@
 use Rattle.mt_works.proofs.NewWorks.{new_get, new_tidy}
 use Rattle.mt_works.proofs.work.work_of.Goals as goal
 
-pub returns-in_ok-copy-in-Get-clause-new : goal.returns-in_ok-copy-in-Get-clause-new
-returns-in_ok-copy-in-Get-clause-new c = new_get c.args.columns c.args.number c.in_ok-key_of-in-Get.field-0 c.in_ok-copy-in-Get.field-0 c.in_ok-key_of-in-Get.ensures.key
+pub returns-in_ok-key_of-in-Get-clause-new : goal.returns-in_ok-key_of-in-Get-clause-new
+returns-in_ok-key_of-in-Get-clause-new c = new_get c.args.columns c.args.number c.in_ok-key_of-in-Get.field-0 c.in-Get.columns c.in_ok-key_of-in-Get.ensures.key
 
-pub returns-in_ok-copy-in-Put-clause-new : goal.returns-in_ok-copy-in-Put-clause-new
-returns-in_ok-copy-in-Put-clause-new c = c.new_write-in-Put.ensures.new c.args.columns c.args.number
+pub returns-in_ok-key_of-in-Put-clause-new : goal.returns-in_ok-key_of-in-Put-clause-new
+returns-in_ok-key_of-in-Put-clause-new c = c.new_write.ensures.new c.args.columns c.args.number
 
 pub returns-in_ok-key_of-in-Remove-clause-new : goal.returns-in_ok-key_of-in-Remove-clause-new
 returns-in_ok-key_of-in-Remove-clause-new c = c.new_write-in-Remove.ensures.new c.args.columns c.args.number

@@ -1,4 +1,4 @@
-use Rattle.mt_works.proofs.WorkLemmas.{step_get, step_write, step_range, step_tidy, step_build, may_get, may_write, may_range, may_tidy, may_build}
+use Rattle.mt_works.proofs.WorkLemmas.{step_get, step_write, step_range, step_tidy, step_build, may_get, may_range, may_tidy}
 use Rattle.mt_works.proofs.work.Work.step.Goals as goal
 
 pub returns-in-Get-clause-steps : goal.returns-in-Get-clause-steps
