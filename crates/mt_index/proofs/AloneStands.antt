@@ -1,5 +1,5 @@
 -- A machine on which one call runs alone: from its begin on, at each step, and once it has ended.
-use Rattle.std.proofs.Common.{ℕ, ◌≡◌, ◌<◌, ◌==◌, ◌⊎◌, Bool, true, false, inl, inr, List, [], ◌∷◌, ◌++◌, length, Option, Some, None, refl, sym, ap, subst, ◌∙◌, arith}
+use Rattle.std.proofs.Common.{ℕ, ◌≡◌, ◌<◌, ◌≤◌, ◌==◌, ◌⊎◌, Bool, true, false, inl, inr, List, [], ◌∷◌, ◌++◌, length, Option, Some, None, refl, sym, ap, subst, ◌∙◌, arith}
 use Rattle.std.specs.Prelude.{if◌then◌else◌, min, ◌-◌, ◌+◌, drop}
 use Rattle.std.proofs.lemmas.Bool.{eq-eqb}
 use Rattle.mt_types.specs.declared.numbers.PassNo.{PassNo}
@@ -13,7 +13,7 @@ use Rattle.std.proofs.lemmas.List.Elements.{All-nil, All-cons, All-head, All-tai
 use Rattle.mt_types.specs.Rows.{Rows, shown}
 use Rattle.mt_types.specs.declared.row.Row.{Row}
 use Rattle.mt_types.specs.declared.event.Answer.TheVariants.{Absent, Found, Rows as RowsAnswer}
-use Rattle.mt_types.specs.declared.event.Request.TheVariants.{Get as GetRequest, Range as RangeRequest}
+use Rattle.mt_types.specs.declared.event.Request.TheVariants.{Get as GetRequest, Put as PutRequest, Remove as RemoveRequest, Range as RangeRequest, Tidy as TidyRequest, Build as BuildRequest}
 use Rattle.mt_slice.specs.Place.{AreBytes, place_of}
 use Rattle.mt_chart.specs.ScanRun.{Stood, AllHave}
 use Rattle.mt_chart.specs.KeyAnswer.{KeysAreBytes}
@@ -25,7 +25,7 @@ use Rattle.mt_types.specs.declared.event.Outcome.TheVariants.{Call as Called, Mo
 use Rattle.mt_types.specs.declared.refusal.Refusal.{Refusal}
 use Rattle.mt_promise.specs.History.{History, happening, moment, rows, Happening, OpenCall}
 use Rattle.mt_promise.specs.Legal.{reads_log}
-use Rattle.mt_promise.specs.Alone.{ShowsRow, IsRangeOfMap, GoesOnBy, RunsAlone, EndsPlainly}
+use Rattle.mt_promise.specs.Alone.{ShowsRow, IsRangeOfMap, GoesOnBy, RunsAlone, RunsThrough, EndsPlainly}
 use Rattle.mt_promise.proofs.AloneLemmas.{lone_calls_are_plain, lone_refusals_do_nothing}
 use Rattle.mt_commit.specs.Log.{LogView, newest, trimmed, IsLog}
 use Rattle.mt_commit.proofs.LogLemmas.{newest-trimmed}
@@ -35,25 +35,30 @@ use Rattle.mt_calls.specs.declared.progress.Progress.{Progress}
 use Rattle.mt_calls.specs.declared.progress.Progress.TheVariants.{Moved as WentOn, Waits, Committed, Answered, Refused as EndsProgress}
 use Rattle.mt_calls.specs.World.{IsTaken}
 use Rattle.mt_works.specs.declared.work.Work.{Work}
+use Rattle.mt_works.specs.declared.work.Work.TheVariants.{Get, Write, Range, Tidy, Build}
+use Rattle.mt_write.specs.declared.writing.Edit.{Edit}
+use Rattle.mt_write.specs.declared.writing.Edit.TheVariants.{Put, Remove}
+use Rattle.mt_write.specs.Writing.{edit_request}
+use Rattle.mt_arena.specs.Node.{occupied}
 use Rattle.mt_works.specs.Works.{request_of, held, IsTrue, IsBuiltWork, WorkBuilds}
 use Rattle.mt_works.specs.Causes.{WorkWaits}
-use Rattle.mt_works.specs.Follows.{WorkFollows, WorkPosts}
+use Rattle.mt_works.specs.Follows.{WorkFollows, WorkPosts, WorkReads}
 use Rattle.mt_calls.specs.Step.{StepLawIn}
-use Rattle.mt_works.proofs.LoneWork.{LoneLaws, RunsLone, work_left, lone_begins, lone_moves, lone_commits, lone_waits_not}
+use Rattle.mt_works.proofs.LoneWork.{LoneLaws, RunsLone, IsGet, lone_get_steps, work_left, lone_begins, lone_moves, lone_commits, lone_waits_not}
 use Rattle.mt_index.specs.declared.calls.Call.{Call}
 use Rattle.mt_index.specs.Calls.{CallsView, call_at, with_changed, with_work, without, StepsCall, IsBuiltCall}
 use Rattle.mt_index.specs.Paired.{Paired}
 use Rattle.mt_index.specs.Stands.{MachineView, Stands, CallStands, Begins, Steps, StepsOpen, EndsBuild, with_call, outcome_of, calls_after, log_after, views_after, pinned, fault_of}
-use Rattle.mt_index.specs.Alone.{IsIdle, AnswersPlainly, RefusesPlainly}
+use Rattle.mt_index.specs.Alone.{IsIdle, pass_0, next_call, IsShort, AnswersFrom, AnswersPlainly, RefusesPlainly}
 use Rattle.mt_index.proofs.EventStands.{begins-stands, begins-columns}
 use Rattle.mt_index.proofs.ViewEvents.{steps-stand, steps-columns}
 
 -- ---- the machine
--- the call of this number alone is open
-pub record IsRunning (s : MachineView) (number : ℕ) : Type 0 where
+-- the call of this number alone is open, after so many steps
+pub record IsRunning (s : MachineView) (number made : ℕ) : Type 0 where
   pub call : Call
   pub only : s.calls.calls ≡ (number, call) ∷ []
-  pub lone : RunsLone s.columns s.epoch s.tree (newest s.log) call.work
+  pub lone : RunsLone s.columns s.epoch made s.tree (newest s.log) call.work
 
 -- what is left of the first open call
 abbrev pub calls_left : ArenaView → ℕ → List (ℕ × Call) → ℕ
@@ -85,14 +90,18 @@ pinned_newest true log = refl
 pinned_newest false log = refl
 
 -- ---- its begin
-pub begins_running : LoneLaws → (s t : MachineView) (h : History) (pass : PassNo) (request : Request) (number : CallNo) → IsIdle s → Stands s h → Begins s pass request (Called number) t → IsRunning t number.0
+pub begins_running : LoneLaws → (s t : MachineView) (h : History) (pass : PassNo) (request : Request) (number : CallNo) → IsIdle s → Stands s h → Begins s pass request (Called number) t → (runs : IsRunning t number.0 0) × (request_of runs.call.work ≡ request) × (t.tree ≡ s.tree)
 begins_running laws s t h pass request number idle st (none, numbered, work, asks, new, next) =
-    subst (λ (m : MachineView). IsRunning m number.0) (sym next) (record {
-      call = record { pass = pass; from = newest s.log; epoch = s.epoch; work = work };
-      only = ap (λ (l : List (ℕ × Call)). l ++ (s.calls.begun + 1, record { pass = pass; from = newest s.log; epoch = s.epoch; work = work }) ∷ []) idle
-          ∙ ap (λ (n : ℕ). (n, record { pass = pass; from = newest s.log; epoch = s.epoch; work = work }) ∷ []) (sym (ap (λ (c : CallNo). c.0) numbered));
-      lone = subst (λ (n : ℕ). RunsLone s.columns s.epoch s.tree n work) (sym (pinned_newest (reads_log (request_of work)) s.log)) (lone_begins laws s.columns s.epoch (newest s.log) s.tree st.w st.world free work new);
-    })
+    subst (λ (m : MachineView). (runs : IsRunning m number.0 0) × (request_of runs.call.work ≡ request) × (m.tree ≡ s.tree)) (sym next) (
+      record {
+        call = record { pass = pass; from = newest s.log; epoch = s.epoch; work = work };
+        only = ap (λ (l : List (ℕ × Call)). l ++ (s.calls.begun + 1, record { pass = pass; from = newest s.log; epoch = s.epoch; work = work }) ∷ []) idle
+            ∙ ap (λ (n : ℕ). (n, record { pass = pass; from = newest s.log; epoch = s.epoch; work = work }) ∷ []) (sym (ap (λ (c : CallNo). c.0) numbered));
+        lone = subst (λ (n : ℕ). RunsLone s.columns s.epoch 0 s.tree n work) (sym (pinned_newest (reads_log (request_of work)) s.log)) (lone_begins laws s.columns s.epoch (newest s.log) s.tree st.w st.world free work new);
+      },
+      asks,
+      refl,
+    )
   where
     none_among : (k : ℕ × Call) → Among k [] → ⊥
     none_among k i = elim i [ ]
@@ -101,15 +110,30 @@ begins_running laws s t h pass request number idle st (none, numbered, work, ask
     free n taken = let (k, i, owned) = st.owned n taken in none_among k (subst (λ (l : List (ℕ × Call)). Among k l) idle i)
 
 -- ---- its steps
--- what a step comes to
-abbrev pub ComesTo : MachineView → ℕ → Outcome → MachineView → Type 0
-ComesTo s number Moved t = IsRunning t number × (machine_left t < machine_left s)
-ComesTo s number (Commit commit) t = IsRunning t number × (machine_left t < machine_left s)
-ComesTo s number (Done reply) t = IsIdle t
-ComesTo s number (Refused refusal) t = IsIdle t
-ComesTo s number _ t = ⊥
+-- it goes on by a step: of a get, in the same tree
+pub record GoesFurther (s : MachineView) (work : Work) (number made : ℕ) (t : MachineView) : Type 0 where
+  pub runs : IsRunning t number (made + 1)
+  pub falls : machine_left t < machine_left s
+  pub asks : request_of runs.call.work ≡ request_of work
+  pub reads : IsGet work → t.tree ≡ s.tree
 
-module _ (laws : LoneLaws) (s t : MachineView) (number : ℕ) (runs : IsRunning s number) where
+-- what a step comes to
+abbrev pub ComesTo : MachineView → Work → ℕ → ℕ → Outcome → MachineView → Type 0
+ComesTo s work number made Moved t = GoesFurther s work number made t
+ComesTo s work number made (Commit commit) t = GoesFurther s work number made t
+ComesTo s work number made (Done reply) t = IsIdle t
+ComesTo s work number made (Refused refusal) t = IsIdle t
+ComesTo s work number made _ t = ⊥
+
+-- a get leaves the tree as it is
+read_only : (a after : ArenaView) (work : Work) → WorkReads a after work → IsGet work → after ≡ a
+read_only a after (Get own) reads is = reads
+read_only a after (Write write) reads is = absurd is
+read_only a after (Range range) reads is = absurd is
+read_only a after (Tidy tidy) reads is = absurd is
+read_only a after (Build building) reads is = absurd is
+
+module _ (laws : LoneLaws) (s t : MachineView) (number made : ℕ) (runs : IsRunning s number made) where
   there : call_at number s.calls.calls ≡ Some runs.call
   there = ap (call_at number) runs.only ∙ one_at number runs.call
 
@@ -121,8 +145,8 @@ module _ (laws : LoneLaws) (s t : MachineView) (number : ℕ) (runs : IsRunning 
     same : o.steps.call ≡ runs.call
     same = same_call o.steps.call runs.call (sym o.steps.is_open ∙ there)
 
-    lone : RunsLone s.columns s.epoch s.tree (newest s.log) o.steps.call.work
-    lone = subst (λ (c : Call). RunsLone s.columns s.epoch s.tree (newest s.log) c.work) (sym same) runs.lone
+    lone : RunsLone s.columns s.epoch made s.tree (newest s.log) o.steps.call.work
+    lone = subst (λ (c : Call). RunsLone s.columns s.epoch made s.tree (newest s.log) c.work) (sym same) runs.lone
 
     unbuilt : IsBuiltWork o.steps.call.work → ⊥
     unbuilt built = o.unbuilt (subst (λ (c : Option Call). IsBuiltCall c) (sym o.steps.is_open) built)
@@ -138,56 +162,58 @@ module _ (laws : LoneLaws) (s t : MachineView) (number : ℕ) (runs : IsRunning 
     }
 
     -- the call has come so far
-    calls_now : o.calls.calls ≡ (number, with_work o.steps.work runs.call) ∷ []
-    calls_now = ap (λ (c : CallsView). c.calls) o.steps.changed ∙ ap (with_changed (with_work o.steps.work) number) runs.only ∙ one_changed number runs.call o.steps.work
+    calls_now : o.calls.calls ≡ (number, with_work o.steps.next.work runs.call) ∷ []
+    calls_now = ap (λ (c : CallsView). c.calls) o.steps.changed ∙ ap (with_changed (with_work o.steps.next.work) number) runs.only ∙ one_changed number runs.call o.steps.next.work
 
     goes_on : (p : Progress) → calls_after number p o.calls ≡ o.calls → log_after o.reads o.from p o.log ≡ o.log → IsLog o.log
-        → RunsLone s.columns s.epoch o.tree (newest o.log) o.steps.work × (work_left o.tree (newest o.log) o.steps.work < work_left s.tree (newest s.log) o.steps.call.work)
-        → IsRunning (next p) number × (machine_left (next p) < machine_left s)
-    goes_on p calls log sound (further, falls) = (
-      record {
-        call = with_work o.steps.work runs.call;
+        → RunsLone s.columns s.epoch (made + 1) o.tree (newest o.log) o.steps.next.work × (work_left o.tree (newest o.log) o.steps.next.work < work_left s.tree (newest s.log) o.steps.call.work)
+        → GoesFurther s runs.call.work number made (next p)
+    goes_on p calls log sound (further, falls) = record {
+      runs = record {
+        call = with_work o.steps.next.work runs.call;
         only = ap (λ (c : CallsView). c.calls) calls ∙ calls_now;
-        lone = subst (λ (n : ℕ). RunsLone s.columns s.epoch o.tree n o.steps.work) (sym (ap (λ (l : LogView). newest (trimmed l)) log ∙ trimmed_newest o.log sound)) further;
-      },
-      subst (λ (n : ℕ). n < machine_left s) (sym left_now) (subst (λ (n : ℕ). work_left o.tree (newest o.log) o.steps.work < n) (ap (λ (c : Call). work_left s.tree (newest s.log) c.work) same ∙ sym left_before) falls),
-    )
+        lone = subst (λ (n : ℕ). RunsLone s.columns s.epoch (made + 1) o.tree n o.steps.next.work) (sym (ap (λ (l : LogView). newest (trimmed l)) log ∙ trimmed_newest o.log sound)) further;
+      };
+      falls = subst (λ (n : ℕ). n < machine_left s) (sym left_now) (subst (λ (n : ℕ). work_left o.tree (newest o.log) o.steps.next.work < n) (ap (λ (c : Call). work_left s.tree (newest s.log) c.work) same ∙ sym left_before) falls);
+      asks = o.steps.made.same_request ∙ ap (λ (c : Call). request_of c.work) same;
+      reads = λ is. read_only s.tree o.tree o.steps.call.work o.steps.made.read (subst (λ (c : Call). IsGet c.work) (sym same) is);
+    }
       where
-        left_now : machine_left (next p) ≡ work_left o.tree (newest o.log) o.steps.work
+        left_now : machine_left (next p) ≡ work_left o.tree (newest o.log) o.steps.next.work
         left_now = ap (calls_left o.tree (newest (trimmed (log_after o.reads o.from p o.log)))) (ap (λ (c : CallsView). c.calls) calls ∙ calls_now)
-            ∙ ap (λ (n : ℕ). work_left o.tree n o.steps.work) (ap (λ (l : LogView). newest (trimmed l)) log ∙ trimmed_newest o.log sound)
+            ∙ ap (λ (n : ℕ). work_left o.tree n o.steps.next.work) (ap (λ (l : LogView). newest (trimmed l)) log ∙ trimmed_newest o.log sound)
 
     ended : without number o.calls.calls ≡ []
-    ended = ap (without number) calls_now ∙ one_without number (with_work o.steps.work runs.call)
+    ended = ap (without number) calls_now ∙ one_without number (with_work o.steps.next.work runs.call)
 
-    comes_by : (p : Progress) → o.p ≡ p → ComesTo s number (outcome_of number o.pass o.from (newest o.log) p) (next p)
+    comes_by : (p : Progress) → o.p ≡ p → ComesTo s runs.call.work number made (outcome_of number o.pass o.from (newest o.log) p) (next p)
     comes_by WentOn e = goes_on WentOn refl refl (subst (λ (p : Progress). IsLog (log_after o.reads o.from p o.log)) e o.sound)
-        (lone_moves laws s.columns s.epoch s.tree o.tree s.log o.log o.steps.call.work lone unbuilt o.steps.work
-        (subst (λ (p : Progress). StepLawIn s.epoch s.columns s.tree o.tree s.log o.log (request_of o.steps.call.work) (held o.steps.call.work) p (held o.steps.work) (IsTrue s.columns o.steps.call.work) (IsTrue s.columns o.steps.work)) e o.steps.law)
-        o.steps.same_request (subst (λ (p : Progress). WorkFollows s.tree o.steps.call.work p o.steps.work) e o.steps.follows) (subst (λ (p : Progress). WorkBuilds s.tree s.log o.steps.call.work p o.steps.work) e o.steps.goes_on) o.steps.read (subst (λ (p : Progress). WorkPosts s.tree o.tree o.steps.call.work p o.steps.work) e o.steps.posts))
-    comes_by Waits e = lone_waits_not laws s.columns s.epoch s.tree o.tree s.log o.log o.steps.call.work lone unbuilt (subst (λ (p : Progress). WorkWaits s.tree o.steps.call.work p) e o.steps.waits)
+        (lone_moves laws s.columns s.epoch made s.tree o.tree s.log o.log o.steps.call.work lone unbuilt o.steps.next.work
+        (subst (λ (p : Progress). StepLawIn s.epoch s.columns s.tree o.tree s.log o.log (request_of o.steps.call.work) (held o.steps.call.work) p (held o.steps.next.work) (IsTrue s.columns o.steps.call.work) (IsTrue s.columns o.steps.next.work)) e o.steps.made.law)
+        o.steps.made.same_request (subst (λ (p : Progress). WorkFollows s.tree o.steps.call.work p o.steps.next.work) e o.steps.made.follows) (subst (λ (p : Progress). WorkBuilds s.tree s.log o.steps.call.work p o.steps.next.work) e o.steps.made.goes_on) o.steps.made.read (subst (λ (p : Progress). WorkPosts s.tree o.tree o.steps.call.work p o.steps.next.work) e o.steps.made.posts))
+    comes_by Waits e = lone_waits_not laws s.columns s.epoch made s.tree o.tree s.log o.log o.steps.call.work lone unbuilt (subst (λ (p : Progress). WorkWaits s.tree o.steps.call.work p) e o.steps.made.waits)
     comes_by (Committed n) e = goes_on (Committed n) refl refl (subst (λ (p : Progress). IsLog (log_after o.reads o.from p o.log)) e o.sound)
-        (lone_commits laws s.columns s.epoch s.tree o.tree s.log o.log o.steps.call.work lone unbuilt o.steps.work n
-        (subst (λ (p : Progress). StepLawIn s.epoch s.columns s.tree o.tree s.log o.log (request_of o.steps.call.work) (held o.steps.call.work) p (held o.steps.work) (IsTrue s.columns o.steps.call.work) (IsTrue s.columns o.steps.work)) e o.steps.law)
-        o.steps.same_request (subst (λ (p : Progress). WorkFollows s.tree o.steps.call.work p o.steps.work) e o.steps.follows) (subst (λ (p : Progress). WorkBuilds s.tree s.log o.steps.call.work p o.steps.work) e o.steps.goes_on) o.steps.read (subst (λ (p : Progress). WorkPosts s.tree o.tree o.steps.call.work p o.steps.work) e o.steps.posts))
+        (lone_commits laws s.columns s.epoch made s.tree o.tree s.log o.log o.steps.call.work lone unbuilt o.steps.next.work n
+        (subst (λ (p : Progress). StepLawIn s.epoch s.columns s.tree o.tree s.log o.log (request_of o.steps.call.work) (held o.steps.call.work) p (held o.steps.next.work) (IsTrue s.columns o.steps.call.work) (IsTrue s.columns o.steps.next.work)) e o.steps.made.law)
+        o.steps.made.same_request (subst (λ (p : Progress). WorkFollows s.tree o.steps.call.work p o.steps.next.work) e o.steps.made.follows) (subst (λ (p : Progress). WorkBuilds s.tree s.log o.steps.call.work p o.steps.next.work) e o.steps.made.goes_on) o.steps.made.read (subst (λ (p : Progress). WorkPosts s.tree o.tree o.steps.call.work p o.steps.next.work) e o.steps.made.posts))
     comes_by (Answered answer) e = ended
     comes_by (EndsProgress refusal) e = ended
 
-    comes_open : ComesTo s number outcome t
+    comes_open : ComesTo s runs.call.work number made outcome t
     comes_open =
-        subst (λ (out : Outcome). ComesTo s number out t) (sym (o.is_outcome))
-        (subst (λ (m : MachineView). ComesTo s number (outcome_of number o.pass o.from (newest o.log) o.p) m) (sym o.is_next) (comes_by o.p refl))
+        subst (λ (out : Outcome). ComesTo s runs.call.work number made out t) (sym (o.is_outcome))
+        (subst (λ (m : MachineView). ComesTo s runs.call.work number made (outcome_of number o.pass o.from (newest o.log) o.p) m) (sym o.is_next) (comes_by o.p refl))
 
-  comes_built : (outcome : Outcome) → EndsBuild s number outcome t → ComesTo s number outcome t
+  comes_built : (outcome : Outcome) → EndsBuild s number outcome t → ComesTo s runs.call.work number made outcome t
   comes_built outcome ends = elim ends.comes [
-    | inl opens ↦ subst (λ (out : Outcome). ComesTo s number out t) (sym opens.is_outcome) (subst (λ (m : MachineView). IsIdle m) (sym opens.is_next) left_none)
-    | inr not_ ↦ subst (λ (out : Outcome). ComesTo s number out t) (sym not_.is_outcome) (subst (λ (m : MachineView). IsIdle m) (sym not_.is_next) left_none)
+    | inl opens ↦ subst (λ (out : Outcome). ComesTo s runs.call.work number made out t) (sym opens.is_outcome) (subst (λ (m : MachineView). IsIdle m) (sym opens.is_next) left_none)
+    | inr not_ ↦ subst (λ (out : Outcome). ComesTo s runs.call.work number made out t) (sym not_.is_outcome) (subst (λ (m : MachineView). IsIdle m) (sym not_.is_next) left_none)
   ]
     where
       left_none : without number s.calls.calls ≡ []
       left_none = ap (without number) runs.only ∙ one_without number runs.call
 
-  pub comes : (outcome : Outcome) → Steps s number outcome t → ComesTo s number outcome t
+  pub comes : (outcome : Outcome) → Steps s number outcome t → ComesTo s runs.call.work number made outcome t
   comes outcome (inl none) = absurd (let clash : ◌≡◌ {A = Option Call} (Some runs.call) None = sym there ∙ none.0 in cc)
   comes outcome (inr (inl o)) = comes_open outcome o
   comes outcome (inr (inr ends)) = comes_built outcome ends
@@ -202,36 +228,68 @@ none_open : (s : MachineView) → IsIdle s → (h : History) → Stands s h → 
 none_open s idle h stands = nothing_paired (CallStands s.columns s.epoch s.tree stands.w h) 0 s.calls.begun (moment h).calls
     (subst (λ (l : List (ℕ × Call)). Paired (CallStands s.columns s.epoch s.tree stands.w h) 0 s.calls.begun l (moment h).calls) idle stands.calls)
 
+-- it is a get that asks for a get
+asks_get : (work : Work) (key asked : List ℕ) → request_of work ≡ GetRequest key asked → IsGet work
+asks_get (Get own) key asked is = tt
+asks_get (Write write) key asked is = edit_asks write.key write.edit key asked is
+  where
+    edit_asks : (own : List ℕ) (edit : Edit) (key asked : List ℕ) → edit_request own edit ≡ GetRequest key asked → ⊥
+    edit_asks own (Put sets) key asked is = let clash : PutRequest own sets ≡ GetRequest key asked = is in cc
+    edit_asks own Remove key asked is = let clash : RemoveRequest own ≡ GetRequest key asked = is in cc
+asks_get (Range range) key asked is = absurd (let clash : RangeRequest range.start range.limit range.columns ≡ GetRequest key asked = is in cc)
+asks_get (Tidy tidy) key asked is = absurd (let clash : TidyRequest tidy.key ≡ GetRequest key asked = is in cc)
+asks_get (Build building) key asked is = absurd (let clash : BuildRequest building.build.state.spec ≡ GetRequest key asked = is in cc)
+
 -- a call of this request runs alone on a machine since it was this one
 pub record RunsFrom (begun s : MachineView) (request : Request) (number : CallNo) : Type 0 where
-  pub runs : IsRunning s number.0
+  pub made : ℕ
+  pub runs : IsRunning s number.0 made
+  pub asks : request_of runs.call.work ≡ request
+  pub reads : IsGet runs.call.work → s.tree ≡ begun.tree
   pub columns : s.columns ≡ begun.columns
   pub unfaulted : fault_of begun request ≡ None
   pub numbered : number ≡ record { 0 = begun.calls.begun + 1 }
-  pub since : (h : History) → Stands begun h → (past : History) × Stands s past × (run : RunsAlone request number h past) × (run.pass ≡ record { 0 = 0 })
+  pub since : (h : History) → Stands begun h → (past : History) × Stands s past × (run : RunsAlone request number h past) × (run.pass ≡ pass_0) × (length run.steps ≡ made)
 
-pub runs_from_begin : LoneLaws → (s t : MachineView) (pass : PassNo) (request : Request) (number : CallNo) → pass ≡ record { 0 = 0 } → IsIdle s → (h : History) → Stands s h → Begins s pass request (Called number) t → RunsFrom s t request number
-runs_from_begin laws s t pass request number zero idle h st begins = record {
-  unfaulted = begins.0;
-  numbered = begins.1;
-  runs = begins_running laws s t h pass request number idle st begins;
-  columns = begins-columns s t pass request (Called number) begins;
-  since = λ past stands. (
-    happening (Begin pass request) (Called number) 0 ∷ past,
-    begins-stands s t pass request (Called number) past begins stands,
-    record { nothing_open = none_open s idle past stands; pass = pass; note = 0; steps = []; are_steps = tt; is_past = refl },
-    zero,
-  );
-}
+pub runs_from_begin : LoneLaws → (s t : MachineView) (request : Request) (number : CallNo) → IsIdle s → (h : History) → Stands s h → Begins s pass_0 request (Called number) t → RunsFrom s t request number
+runs_from_begin laws s t request number idle h st begins =
+    let (runs, asks, same) = begins_running laws s t h pass_0 request number idle st begins in
+    record {
+      made = 0;
+      runs = runs;
+      asks = asks;
+      reads = λ is. same;
+      unfaulted = begins.0;
+      numbered = begins.1;
+      columns = begins-columns s t pass_0 request (Called number) begins;
+      since = λ past stands. (
+        happening (Begin pass_0 request) (Called number) 0 ∷ past,
+        begins-stands s t pass_0 request (Called number) past begins stands,
+        record { nothing_open = none_open s idle past stands; pass = pass_0; note = 0; steps = []; are_steps = tt; is_past = refl },
+        refl,
+        refl,
+      );
+    }
 
-pub runs_on : LoneLaws → (begun s t : MachineView) (request : Request) (number : CallNo) (outcome : Outcome) → RunsFrom begun s request number → Steps s number.0 outcome t → GoesOnBy outcome → IsRunning t number.0 → RunsFrom begun t request number
-runs_on laws begun s t request number outcome from steps goes runs = record {
-  runs = runs;
+get_before : (work new : Work) → request_of new ≡ request_of work → IsGet new → IsGet work
+get_before work (Get own) equal is = asks_get work own.key own.columns (sym equal)
+get_before work (Write write) equal is = absurd is
+get_before work (Range range) equal is = absurd is
+get_before work (Tidy tidy) equal is = absurd is
+get_before work (Build building) equal is = absurd is
+
+runs_on : (begun s t : MachineView) (request : Request) (number : CallNo) (outcome : Outcome) → (from : RunsFrom begun s request number) → Steps s number.0 outcome t → GoesOnBy outcome
+    → GoesFurther s from.runs.call.work number.0 from.made t → RunsFrom begun t request number
+runs_on begun s t request number outcome from steps goes further = record {
+  made = from.made + 1;
+  runs = further.runs;
+  asks = further.asks ∙ from.asks;
+  reads = λ is. let before = get_before from.runs.call.work further.runs.call.work further.asks is in further.reads before ∙ from.reads before;
   columns = steps-columns s t number.0 outcome steps ∙ from.columns;
   unfaulted = from.unfaulted;
   numbered = from.numbered;
   since = λ h stands.
-      let (past, there, alone, zero) = from.since h stands in
+      let (past, there, alone, zero, many) = from.since h stands in
       let (opens, stood) = steps-stand s t number.0 outcome past steps there in (
         happening (Step number) outcome opens ∷ past,
         stood,
@@ -244,63 +302,82 @@ runs_on laws begun s t request number outcome from steps goes runs = record {
           is_past = ap (λ (l : History). happening (Step number) outcome opens ∷ l) alone.is_past;
         },
         zero,
+        (let one : length (happening (Step number) outcome opens ∷ alone.steps) ≡ length alone.steps + 1 = omega arith in one ∙ ap (λ (n : ℕ). n + 1) many),
       );
 }
 
+-- a get has made no more steps than there were nodes at its begin
+is_short : (begun s : MachineView) (request : Request) (number : CallNo) → (from : RunsFrom begun s request number) → IsShort request (occupied begun.tree.nodes) (from.made + 1)
+is_short begun s (GetRequest key asked) number from =
+    let get = asks_get from.runs.call.work key asked from.asks in
+    let few = lone_get_steps s.columns s.epoch from.made s.tree (newest s.log) from.runs.call.work from.runs.lone get in
+    subst (λ (a : ArenaView). from.made + 1 ≤ occupied a.nodes) (from.reads get) (omega (arith, few))
+is_short begun s _ number from = tt
+
 pub answers_plainly : (begun s t : MachineView) (request : Request) (number : CallNo) (reply : Reply) → RunsFrom begun s request number → Steps s number.0 (Done reply) t → AnswersPlainly begun request reply t
 answers_plainly begun s t request number reply from steps h stands =
-    let (past, there, alone, zero) = from.since h stands in
+    let (past, there, alone, zero, many) = from.since h stands in
     let (opens, stood) = steps-stand s t number.0 (Done reply) past steps there in
-    let columns = steps-columns s t number.0 (Done reply) steps ∙ from.columns in
-    let after = moment (happening (Step number) (Done reply) opens ∷ past) in (
-      happening (Step number) (Done reply) opens ∷ past,
-      stood,
-      subst (λ (n : CallNo). EndsPlainly begun.columns h (record { 0 = 0 }) n request reply after) from.numbered
-          (subst (λ (p : PassNo). EndsPlainly begun.columns h p number request reply after) zero
-          (subst (λ (C : ℕ). EndsPlainly C h alone.pass number request reply after) columns
-          (lone_calls_are_plain t.columns request number reply opens h past alone stood.legal))),
-    )
+    let after = happening (Step number) (Done reply) opens ∷ past in
+    numbered_so number from.numbered after stood
+    (record { past = past; run = alone; same_pass = zero; note = opens; is_after = refl })
+    (subst (λ (p : PassNo). EndsPlainly begun.columns h p number request reply (moment after)) zero
+    (subst (λ (C : ℕ). EndsPlainly C h alone.pass number request reply (moment after)) (steps-columns s t number.0 (Done reply) steps ∙ from.columns)
+    (lone_calls_are_plain t.columns request number reply opens h past alone stood.legal)))
+    (subst (λ (n : ℕ). IsShort request (occupied begun.tree.nodes) (n + 1)) (sym many) (is_short begun s request number from))
+  where
+    numbered_so : (own : CallNo) → own ≡ next_call begun → (later : History) → Stands t later → (ran : RunsThrough pass_0 own request h (Done reply) later) → EndsPlainly begun.columns h pass_0 own request reply (moment later)
+        → IsShort request (occupied begun.tree.nodes) (length ran.run.steps + 1) → AnswersFrom begun h request reply t
+    numbered_so own is = subst (λ (n : CallNo). (later : History) → Stands t later → (ran : RunsThrough pass_0 n request h (Done reply) later) → EndsPlainly begun.columns h pass_0 n request reply (moment later)
+        → IsShort request (occupied begun.tree.nodes) (length ran.run.steps + 1) → AnswersFrom begun h request reply t) (sym is)
+        (λ later stood ran plain short. record { then = later; stands = stood; ran = ran; plain = plain; short = short })
 
-pub refuses_plainly : (begun s t : MachineView) (request : Request) (number : CallNo) (refusal : Refusal) → RunsFrom begun s request number → Steps s number.0 (Refused refusal) t → RefusesPlainly begun t
+pub refuses_plainly : (begun s t : MachineView) (request : Request) (number : CallNo) (refusal : Refusal) → RunsFrom begun s request number → Steps s number.0 (Refused refusal) t → RefusesPlainly begun request refusal t
 refuses_plainly begun s t request number refusal from steps h stands =
-    let (past, there, alone, zero) = from.since h stands in
-    let (opens, stood) = steps-stand s t number.0 (Refused refusal) past steps there in (
-      happening (Step number) (Refused refusal) opens ∷ past,
-      stood,
-      lone_refusals_do_nothing t.columns request number refusal opens h past alone stood.legal,
-    )
+    let (past, there, alone, zero, many) = from.since h stands in
+    let (opens, stood) = steps-stand s t number.0 (Refused refusal) past steps there in
+    record {
+      then = happening (Step number) (Refused refusal) opens ∷ past;
+      stands = stood;
+      ran = inr (subst (λ (n : CallNo). RunsThrough pass_0 n request h (Refused refusal) (happening (Step number) (Refused refusal) opens ∷ past)) from.numbered (record { past = past; run = alone; same_pass = zero; note = opens; is_after = refl }));
+      nothing = lone_refusals_do_nothing t.columns request number refusal opens h past alone stood.legal;
+    }
 
 -- or its begin is refused
-pub begin_refuses_plainly : (s t : MachineView) (pass : PassNo) (request : Request) (refusal : Refusal) → IsIdle s → Begins s pass request (Refused refusal) t → RefusesPlainly s t
-begin_refuses_plainly s t pass request refusal idle begins h stands = (
-  happening (Begin pass request) (Refused refusal) 0 ∷ h,
-  begins-stands s t pass request (Refused refusal) h begins stands,
-  record { commits = refl; views = refl; closed = none_open s idle h stands },
-)
+pub begin_refuses_plainly : (s : MachineView) (request : Request) (refusal : Refusal) → IsIdle s → Begins s pass_0 request (Refused refusal) s → RefusesPlainly s request refusal s
+begin_refuses_plainly s request refusal idle begins h stands = record {
+  then = happening (Begin pass_0 request) (Refused refusal) 0 ∷ h;
+  stands = begins-stands s s pass_0 request (Refused refusal) h begins stands;
+  ran = inl refl;
+  nothing = record { commits = refl; views = refl; closed = none_open s idle h stands };
+}
 
 -- a step comes to nothing else
-pub never_else : (s t : MachineView) (number : ℕ) (outcome : Outcome) → ComesTo s number outcome t → (outcome ≡ Moved → ⊥) → ((commit : ℕ) → outcome ≡ Commit commit → ⊥) → ((reply : Reply) → outcome ≡ Done reply → ⊥)
+pub never_else : (s t : MachineView) (work : Work) (number made : ℕ) (outcome : Outcome) → ComesTo s work number made outcome t → (outcome ≡ Moved → ⊥) → ((commit : ℕ) → outcome ≡ Commit commit → ⊥) → ((reply : Reply) → outcome ≡ Done reply → ⊥)
     → ((refusal : Refusal) → outcome ≡ Refused refusal → ⊥) → ⊥
-never_else s t number Moved came moved commit done refused = moved refl
-never_else s t number (Commit n) came moved commit done refused = commit n refl
-never_else s t number (Done reply) came moved commit done refused = done reply refl
-never_else s t number (Refused refusal) came moved commit done refused = refused refusal refl
-never_else s t number _ came moved commit done refused = absurd came
+never_else s t work number made Moved came moved commit done refused = moved refl
+never_else s t work number made (Commit n) came moved commit done refused = commit n refl
+never_else s t work number made (Done reply) came moved commit done refused = done reply refl
+never_else s t work number made (Refused refusal) came moved commit done refused = refused refusal refl
+never_else s t work number made _ came moved commit done refused = absurd came
 
 -- by which the call has gone on
 abbrev pub HasMoved : Outcome → Type 0
 HasMoved outcome = (outcome ≡ Moved) ⊎ ((commit : ℕ) × (outcome ≡ Commit commit))
 
+pub came : LoneLaws → (begun s t : MachineView) (request : Request) (number : CallNo) (outcome : Outcome) → (from : RunsFrom begun s request number) → Steps s number.0 outcome t → ComesTo s from.runs.call.work number.0 from.made outcome t
+came laws begun s t request number outcome from steps = comes laws s t number.0 from.made from.runs outcome steps
+
 pub went_on : LoneLaws → (begun s t : MachineView) (request : Request) (number : CallNo) (outcome : Outcome) → HasMoved outcome → RunsFrom begun s request number → Steps s number.0 outcome t
     → RunsFrom begun t request number × (machine_left t < machine_left s)
 went_on laws begun s t request number outcome (inl moved) from steps =
     let made = subst (λ (o : Outcome). Steps s number.0 o t) moved steps in
-    let (runs, falls) = comes laws s t number.0 from.runs Moved made in
-    (runs_on laws begun s t request number Moved from made tt runs, falls)
+    let further = came laws begun s t request number Moved from made in
+    (runs_on begun s t request number Moved from made tt further, further.falls)
 went_on laws begun s t request number outcome (inr (commit, committed)) from steps =
     let made = subst (λ (o : Outcome). Steps s number.0 o t) committed steps in
-    let (runs, falls) = comes laws s t number.0 from.runs (Commit commit) made in
-    (runs_on laws begun s t request number (Commit commit) from made tt runs, falls)
+    let further = came laws begun s t request number (Commit commit) from made in
+    (runs_on begun s t request number (Commit commit) from made tt further, further.falls)
 
 -- ---- reads of an idle machine
 -- nothing in its tree is taken

@@ -43,7 +43,7 @@ steps-caused s t number outcome (inl (none, refused, same)) = subst (λ (o : Out
 steps-caused s t number outcome (inr (inl went)) =
     subst (λ (o : Outcome). IsCaused s (Step number) o t) (sym went.is_outcome)
     (subst (λ (m : MachineView). IsCaused s (Step number) (outcome_of number.0 went.pass went.from (newest went.log) went.p) m) (sym went.is_next)
-    (by_progress s number went.steps.call went.steps.is_open went.pass went.from (newest went.log) went.tree (trimmed (log_after went.reads went.from went.p went.log)) (views_after went.builds went.p s.views) went.steps.work went.calls went.steps.changed went.p went.steps.waits went.steps.fails))
+    (by_progress s number went.steps.call went.steps.is_open went.pass went.from (newest went.log) went.tree (trimmed (log_after went.reads went.from went.p went.log)) (views_after went.builds went.p s.views) went.steps.next.work went.calls went.steps.changed went.p went.steps.made.waits went.steps.made.fails))
 steps-caused s t number outcome (inr (inr ends)) = elim ends.comes [
   | inl opens ↦ subst (λ (o : Outcome). IsCaused s (Step number) o t) (sym opens.is_outcome) tt
   | inr not_ ↦ subst (λ (o : Outcome). IsCaused s (Step number) o t) (sym not_.is_outcome) (subst (λ (call : Option Call). RefusedFor s call not_.refusal) (sym ends.is_open) (why not_.why))

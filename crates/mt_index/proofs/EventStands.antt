@@ -270,19 +270,19 @@ pub step_open : (s t : MachineView) (n : ℕ) (outcome : Outcome) (h : History) 
 step_open s t n outcome h o st =
     let so = o.steps in
     let f = paired-some (CallStands s.columns s.epoch s.tree st.w h) 0 s.calls.begun n s.calls.calls (moment h).calls so.call st.calls so.is_open in
-    let l = so.law.steps so.call.epoch f.call.moves f.related.past st.w st.world f.related.epoch f.related.true in
+    let l = so.made.law.steps so.call.epoch f.call.moves f.related.past st.w st.world f.related.epoch f.related.true in
     let log_is = log_after_is o.reads o.from o.p o.log in
     let next : LogView → CallsView → ViewsView → MachineView = λ g c v. record { columns = s.columns; epoch = s.epoch; tree = o.tree; log = trimmed g; calls = c; views = v } in
     let log : LogView = record o.log { holders = holders_after o.reads o.from o.p o.log.holders } in
-    let calls : CallsView = calls_after n o.p (record s.calls { calls = with_changed (with_work so.work) n s.calls.calls }) in
+    let calls : CallsView = calls_after n o.p (record s.calls { calls = with_changed (with_work so.next.work) n s.calls.calls }) in
     let views : ViewsView = with_building (building_after o.builds o.p s.views.building) s.views in
     subst (λ (u : MachineView). Stands u (happening (step_event n) outcome 0 ∷ h))
     (sym (o.is_next ∙ ap (λ (c : CallsView). next (log_after o.reads o.from o.p o.log) (calls_after n o.p c) (views_after o.builds o.p s.views)) so.changed
     ∙ ap (λ (g : LogView). next g calls (views_after o.builds o.p s.views)) log_is
     ∙ ap (next log calls) (views_after_is o.builds o.p s.views)))
     (subst (λ (z : Outcome). Stands (next log calls views) (happening (step_event n) z 0 ∷ h)) (sym o.is_outcome)
-    (leads s h n st so.call so.is_open f o.tree o.log so.work so.same_request o.pass so.pass_is o.reads o.builds so.reads_is so.builds_is o.from so.from_is
-    (λ built. o.unbuilt (subst IsBuiltCall (sym so.is_open) built)) o.p l so.goes_on (subst IsLog log_is o.sound)))
+    (leads s h n st so.call so.is_open f o.tree o.log so.next.work so.made.same_request o.pass so.made.pass_is o.reads o.builds so.made.reads_is so.made.builds_is o.from so.made.from_is
+    (λ built. o.unbuilt (subst IsBuiltCall (sym so.is_open) built)) o.p l so.made.goes_on (subst IsLog log_is o.sound)))
 
 -- ---- a step of a call that is not open
 pub unknown : (s : MachineView) (n : ℕ) (h : History) → call_at n s.calls.calls ≡ None → Stands s h → Stands s (happening (step_event n) (RefusedOutcome NoSuchCall) 0 ∷ h)
@@ -491,22 +491,22 @@ few_hold s h st =
 pub step_bounds : (s : MachineView) (h : History) (n : ℕ) (calls : CallsView) (then_tree : ArenaView) (left : LogView) (pass : PassNo) (reads builds : Bool) (from : ℕ) (p : Progress) → StepsCall s.epoch s.columns n s.calls calls s.tree then_tree s.log left pass reads builds from p → Stands s h → bounds left ≡ bounds s.log
 step_bounds s h n calls then_tree left pass reads builds from p steps st =
     let f = paired-some (CallStands s.columns s.epoch s.tree st.w h) 0 s.calls.begun n s.calls.calls (moment h).calls steps.call st.calls steps.is_open in
-    (steps.law.steps steps.call.epoch f.call.moves f.related.past st.w st.world f.related.epoch f.related.true).bounds
+    (steps.made.law.steps steps.call.epoch f.call.moves f.related.past st.w st.world f.related.epoch f.related.true).bounds
 
 -- a call that reads the log is one of its holders
 pub may_settle : (s : MachineView) (h : History) (n : ℕ) (calls : CallsView) (then_tree : ArenaView) (left : LogView) (pass : PassNo) (reads builds : Bool) (from : ℕ) (p : Progress) → StepsCall s.epoch s.columns n s.calls calls s.tree then_tree s.log left pass reads builds from p → Stands s h → IsTrueBool reads → Contains left.holders from
 may_settle s h n calls then_tree left pass reads builds from p steps st is =
     let same = step_bounds s h n calls then_tree left pass reads builds from p steps st in
     subst (λ (b : List ℕ × ℕ × ℕ). Contains b.0 from) (sym same)
-    (subst (λ (m : ℕ). Contains s.log.holders m) (sym steps.from_is)
-    (reader_holds n _ steps.call s.calls.calls s.log.holders steps.is_open (held_before s h st steps.call.from) (sym steps.reads_is ∙ is)))
+    (subst (λ (m : ℕ). Contains s.log.holders m) (sym steps.made.from_is)
+    (reader_holds n _ steps.call s.calls.calls s.log.holders steps.is_open (held_before s h st steps.call.from) (sym steps.made.reads_is ∙ is)))
 
 -- and a build keeps a place
 pub may_vacate : (s : MachineView) (h : History) (n : ℕ) (calls : CallsView) (then_tree : ArenaView) (left : LogView) (pass : PassNo) (reads builds : Bool) (from : ℕ) (p : Progress) → StepsCall s.epoch s.columns n s.calls calls s.tree then_tree s.log left pass reads builds from p → Stands s h → IsTrueBool builds → 0 < s.views.building
 may_vacate s h n calls then_tree left pass reads builds from p steps st is =
     let all = builds_before s h st in
     let rest = total_without n steps.call builds_of s.calls.calls steps.is_open in
-    let one : builds_of steps.call ≡ 1 = ap (λ (b : Bool). cond b 1 0) (sym steps.builds_is ∙ is) in
+    let one : builds_of steps.call ≡ 1 = ap (λ (b : Bool). cond b 1 0) (sym steps.made.builds_is ∙ is) in
     omega (arith, all, rest, one)
 
 pub settled_bounds : (reads : Bool) (from : ℕ) (p : Progress) (left : LogView) (feed keep : ℕ) → (left.feed ≡ feed) × (left.keep ≡ keep) → HasBounds feed keep (trimmed (log_after reads from p left))

@@ -1,3 +1,4 @@
+pub mod FirstLemmas
 pub mod NumberLemmas
 pub mod ListLemmas
 pub mod PairedLemmas

@@ -202,8 +202,5 @@ no_fault_of s request begun opened taken begun_is opened_is taken_is none =
     ∙ ap (λ (n : ℕ). begin_fault s.columns begun n (places s.views) request) (sym opened_is)
     ∙ ap (λ (n : ℕ). begin_fault s.columns begun opened n request) (sym taken_is) ∙ none
 
-pub not_built : (call : Option Call) (b : Bool) → IsTrue b ↔ IsBuiltCall call → b ≡ false → IsBuiltCall call → ⊥
-not_built call b tells is built = let clash : false ≡ true = sym is ∙ tells.1 built in cc
-
 pub is_built_of : (o : Option Call) (call : Call) (building : Building) → o ≡ Some call → call.work ≡ BuildWork building → IsBuiltCall o → IsUpTo building.upto building.build.state.at
 is_built_of o call building is work built = subst IsBuiltWork work (subst IsBuiltCall is built)

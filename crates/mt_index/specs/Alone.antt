@@ -1,21 +1,55 @@
 -- What a call that runs alone leaves, at each history at which the machine stands.
-use Rattle.std.specs.Prelude.{◌≡◌, ◌+◌, []}
+use Rattle.std.specs.Prelude.{ℕ, ◌≡◌, ◌≤◌, ◌+◌, ◌⊎◌, [], length}
+use Rattle.mt_types.specs.declared.numbers.PassNo.{PassNo}
+use Rattle.mt_types.specs.declared.numbers.CallNo.{CallNo}
+use Rattle.mt_types.specs.declared.refusal.Refusal.{Refusal}
 use Rattle.mt_types.specs.declared.event.Request.{Request}
+use Rattle.mt_types.specs.declared.event.Request.TheVariants.{Get}
 use Rattle.mt_types.specs.declared.event.Reply.{Reply}
+use Rattle.mt_types.specs.declared.event.Outcome.TheVariants.{Done, Refused}
 use Rattle.mt_promise.specs.History.{History, moment}
-use Rattle.mt_promise.specs.Alone.{EndsPlainly, EndsRefused}
+use Rattle.mt_promise.specs.Alone.{RunsThrough, IsTurnedAway, EndsPlainly, EndsRefused}
+use Rattle.mt_arena.specs.Node.{occupied}
 use Rattle.mt_index.specs.Stands.{MachineView, Stands}
 
 -- no call is open
 abbrev pub IsIdle : MachineView → Type 0
 IsIdle s = s.calls.calls ≡ []
 
--- Wherever the machine stood, it then stands where the call, of pass 0 and the next number, has answered as a plain map
--- of the rows there, and has made the commit that this asks for, or none.
-abbrev pub AnswersPlainly : MachineView → Request → Reply → MachineView → Type 0
-AnswersPlainly s request reply t = (h : History) → Stands s h → (then : History) × Stands t then
-    × EndsPlainly s.columns h (record { 0 = 0 }) (record { 0 = s.calls.begun + 1 }) request reply (moment then)
+-- a call alone is of pass 0, and has the next number
+abbrev pub pass_0 : PassNo
+pass_0 = record { 0 = 0 }
 
--- or where it was refused, and nothing has come of it
-abbrev pub RefusesPlainly : MachineView → MachineView → Type 0
-RefusesPlainly s t = (h : History) → Stands s h → (then : History) × Stands t then × EndsRefused h (moment then)
+abbrev pub next_call : MachineView → CallNo
+next_call s = record { 0 = s.calls.begun + 1 }
+
+-- a get makes no more steps than so many nodes
+abbrev pub IsShort : Request → ℕ → ℕ → Type 0
+IsShort (Get key asked) nodes steps = steps ≤ nodes
+IsShort _ nodes steps = Unit {0}
+
+-- The call ran from its begin to its end, and nothing else happened; it has answered as a plain map of the rows that
+-- there were, and has made the commit that this asks for, or none; a get has visited no more nodes than there are.
+pub record AnswersFrom (s : MachineView) (h : History) (request : Request) (reply : Reply)
+    (t : MachineView) : Type 0 where
+  pub then : History
+  pub stands : Stands t then
+  pub ran : RunsThrough pass_0 (next_call s) request h (Done reply) then
+  pub plain : EndsPlainly s.columns h pass_0 (next_call s) request reply (moment then)
+  pub short : IsShort request (occupied s.tree.nodes) (length ran.run.steps + 1)
+
+-- Its begin was refused, or it ran till it was refused; nothing has come of it.
+pub record RefusesFrom (s : MachineView) (h : History) (request : Request) (refusal : Refusal)
+    (t : MachineView) : Type 0 where
+  pub then : History
+  pub stands : Stands t then
+  pub ran : IsTurnedAway pass_0 request h refusal then
+      ⊎ RunsThrough pass_0 (next_call s) request h (Refused refusal) then
+  pub nothing : EndsRefused h (moment then)
+
+-- wherever the machine stood
+abbrev pub AnswersPlainly : MachineView → Request → Reply → MachineView → Type 0
+AnswersPlainly s request reply t = (h : History) → Stands s h → AnswersFrom s h request reply t
+
+abbrev pub RefusesPlainly : MachineView → Request → Refusal → MachineView → Type 0
+RefusesPlainly s request refusal t = (h : History) → Stands s h → RefusesFrom s h request refusal t

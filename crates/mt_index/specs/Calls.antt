@@ -1,5 +1,5 @@
 -- The calls that are open, as contracts see them.
-use Rattle.std.specs.Prelude.{ℕ, ◌≡◌, ◌≢◌, ◌≤◌, ◌+◌, ◌==◌, if◌then◌else◌, Bool, List, [], ◌∷◌, Option, Some, None}
+use Rattle.std.specs.Prelude.{ℕ, ◌≡◌, ◌≢◌, ◌≤◌, ◌+◌, ◌==◌, if◌then◌else◌, Bool, false, List, [], ◌∷◌, Option, Some, None}
 use Rattle.std.specs.Option.{option_map}
 use Rattle.mt_types.specs.declared.numbers.PassNo.{PassNo}
 use Rattle.mt_promise.specs.Legal.{reads_log, is_build}
@@ -7,6 +7,8 @@ use Rattle.mt_commit.specs.Log.{LogView}
 use Rattle.mt_arena.specs.Arena.{ArenaView}
 use Rattle.mt_chart.specs.Tree.{Among}
 use Rattle.mt_index.specs.declared.calls.Call.{Call}
+use Rattle.mt_index.specs.declared.calls.Found.{Found}
+use Rattle.mt_index.specs.declared.calls.Found.TheVariants.{Missing, Built, Stepped}
 use Rattle.mt_works.specs.declared.work.Work.{Work}
 use Rattle.mt_calls.specs.declared.progress.Progress.{Progress}
 use Rattle.mt_calls.specs.World.{NotAmong}
@@ -18,6 +20,16 @@ use Rattle.mt_works.specs.Works.{request_of, held, IsTrue, MayWork, HasNext, IsB
 pub record CallsView : Type 0 where
   pub begun : ℕ  -- how many calls have begun
   pub calls : List (ℕ × Call)  -- those that are open with their numbers, in the order of their begins
+
+-- the call that stands by itself, if there is one, and then the others
+abbrev pub with_first : Option (ℕ × Call) → List (ℕ × Call) → List (ℕ × Call)
+with_first None others = others
+with_first (Some first) others = first ∷ others
+
+-- it is the call of this number
+abbrev pub is_of : ℕ → Option (ℕ × Call) → Bool
+is_of number None = false
+is_of number (Some first) = first.0 == number
 
 -- the open call of this number
 abbrev pub call_at : ℕ → List (ℕ × Call) → Option Call
@@ -77,28 +89,52 @@ abbrev pub MayStepOf : ℕ → ℕ → ArenaView → LogView → Option Call →
 MayStepOf now C a log None = Unit {0}
 MayStepOf now C a log (Some call) = MayWork now C a log call.work × HasNext log call.work
 
--- a step of the call of this number, in this epoch: it comes so far
-pub record StepsCall (now C number : ℕ) (old new : CallsView) (a after : ArenaView) (log left : LogView) (pass : PassNo)
+-- a step of a call, in this epoch: it comes so far
+pub record StepsOneCall (now C : ℕ) (call new : Call) (a after : ArenaView) (log left : LogView) (pass : PassNo)
     (reads builds : Bool) (from : ℕ) (p : Progress) : Type 0 where
-  pub call : Call
-  pub is_open : call_at number old.calls ≡ Some call
-  pub work : Work
-  pub same_request : request_of work ≡ request_of call.work
-  pub law : StepLawIn now C a after log left (request_of call.work) (held call.work) p (held work) (IsTrue C call.work)
-      (IsTrue C work)
-  pub goes_on : WorkBuilds a log call.work p work
+  pub same_request : request_of new.work ≡ request_of call.work
+  pub law : StepLawIn now C a after log left (request_of call.work) (held call.work) p (held new.work)
+      (IsTrue C call.work) (IsTrue C new.work)
+  pub goes_on : WorkBuilds a log call.work p new.work
   pub waits : WorkWaits a call.work p
-  pub fails : WorkFails a log call.work p work
-  pub follows : WorkFollows a call.work p work
+  pub fails : WorkFails a log call.work p new.work
+  pub follows : WorkFollows a call.work p new.work
   pub read : WorkReads a after call.work
-  pub posts : WorkPosts a after call.work p work
-  pub changed : new ≡ record old { calls = with_changed (with_work work) number old.calls }
+  pub posts : WorkPosts a after call.work p new.work
+  pub same_call : new ≡ with_work new.work call
   pub pass_is : pass ≡ call.pass
   pub reads_is : reads ≡ reads_log (request_of call.work)
   pub builds_is : builds ≡ is_build (request_of call.work)
   pub from_is : from ≡ call.from
 
+-- a step of the call of this number, in this epoch: it comes so far
+pub record StepsCall (now C number : ℕ) (old new : CallsView) (a after : ArenaView) (log left : LogView) (pass : PassNo)
+    (reads builds : Bool) (from : ℕ) (p : Progress) : Type 0 where
+  pub call : Call
+  pub is_open : call_at number old.calls ≡ Some call
+  pub next : Call
+  pub made : StepsOneCall now C call next a after log left pass reads builds from p
+  pub changed : new ≡ record old { calls = with_changed (with_work next.work) number old.calls }
+
 -- the open call of this number is a build that has taken all, whose view is to be opened
 abbrev pub IsBuiltCall : Option Call → Type 0
 IsBuiltCall None = ⊥
 IsBuiltCall (Some call) = IsBuiltWork call.work
+
+-- what was found of a call, and what it has done
+abbrev pub FindsCall : ℕ → ℕ → Call → Call → ArenaView → ArenaView → LogView → LogView → Found → Type 0
+FindsCall now C call new a after log left Missing = ⊥
+FindsCall now C call new a after log left Built = IsBuiltWork call.work × (new ≡ call) × (after ≡ a) × (left ≡ log)
+FindsCall now C call new a after log left (Stepped stepped) = (IsBuiltWork call.work → ⊥)
+    × StepsOneCall now C call new a after log left stepped.pass stepped.reads stepped.builds stepped.from
+    stepped.progress
+
+-- the same of the open call of this number
+abbrev pub Finds : ℕ → ℕ → ℕ → CallsView → CallsView → ArenaView → ArenaView → LogView → LogView → Found → Type 0
+Finds now C number old new a after log left Missing =
+    (call_at number old.calls ≡ None) × (new ≡ old) × (after ≡ a) × (left ≡ log)
+Finds now C number old new a after log left Built =
+    IsBuiltCall (call_at number old.calls) × (new ≡ old) × (after ≡ a) × (left ≡ log)
+Finds now C number old new a after log left (Stepped stepped) = (IsBuiltCall (call_at number old.calls) → ⊥)
+    × StepsCall now C number old new a after log left stepped.pass stepped.reads stepped.builds stepped.from
+    stepped.progress

@@ -26,9 +26,9 @@ use mt_types::row::{ColumnNumbers, Pairs, Row};
 use std::alloc::Global;
 
 impl Machine {
-    /// The row of a key with some of its columns, or with all where none is named, while no call is open: what a plain map
-    /// has. Begins no call, and changes nothing. Costs the visit of each node on the way to the key, and memory for the
-    /// row alone; shares the bytes.
+    /// The row of a key with some of its columns, or with all where none is named, while no call is open: what a plain
+    /// map has. Begins no call, and changes nothing. Costs the visit of each node on the way to the key, and memory for
+    /// the row alone; shares the bytes.
     ///
     /// # Errors
     ///
@@ -60,14 +60,15 @@ impl Machine {
         }
     }
 
-    /// The first pairs from a key on, up to a limit, with some columns of each row, or with all where none is named, while
-    /// no call is open: those of a plain map. Begins no call, and changes nothing. Costs the visit of each border that it
-    /// reads and of the nodes on the way there, and for each pair the memory of its key and row; shares the columns' bytes.
+    /// The first pairs from a key on, up to a limit, with some columns of each row, or with all where none is named,
+    /// while no call is open: those of a plain map. Begins no call, and changes nothing. Costs the visit of each border
+    /// that it reads and of the nodes on the way there, and for each pair the memory of its key and row; shares the
+    /// columns' bytes.
     ///
     /// # Errors
     ///
-    /// `BadColumn` for columns that aren't there or stand twice; `BadLimit` for a limit of 0 or of more than `MAX_RANGE`;
-    /// `NoMemory` where an allocation is refused.
+    /// `BadColumn` for columns that aren't there or stand twice; `BadLimit` for a limit of 0 or of more than
+    /// `MAX_RANGE`; `NoMemory` where an allocation is refused.
     pub fn range(
         &self,
         alloc: Global,
@@ -98,29 +99,33 @@ impl Machine {
         Ok(call.run_alone(alloc, &self.tree)?)
     }
 
-    /// Does what is asked for as a call of pass 0, from its begin to its end, while no other call is open: its answer is
-    /// that of a plain map, and a put or remove has made its one commit. It ends: each of its steps brings it nearer.
+    /// Does what is asked for as a call of pass 0, from its begin to its end, while no other call is open: its answer
+    /// is that of a plain map, and a put or remove has made its one commit. It ends: each of its steps brings it nearer.
     ///
-    /// A get, put, remove or tidy costs the visit of each node on its way, and a put the steps of its splits; a range and
-    /// a build besides each border that they read. It takes memory for the call, its answer and what it stores.
+    /// A get, put, remove or tidy costs the visit of each node on its way, a get at most as many as `nodes` tells, and
+    /// a put the steps of its splits; a range and a build besides each border that they read. It takes memory for its
+    /// answer and what it stores, and a range and a build for what they read: what the request has is taken over, and
+    /// no entry is made in the map of open calls.
     ///
     /// # Errors
     ///
     /// Exactly what refuses its begin (a limit that the request breaks, spent numbers, too many views); and else what a
     /// call may be refused for. Then nothing has come of it.
-    pub fn do_alone(&mut self, alloc: Global, request: &Request) -> Result<Reply, Refusal>
+    pub fn do_alone(&mut self, alloc: Global, request: Request) -> Result<Reply, Refusal>
         requires { IsIdle self.old }
-        ensures answered { IfOk result (λ reply. AnswersPlainly self.old request.now reply self.new) }
-        ensures refused { IfErr result (λ refusal. RefusesPlainly self.old self.new) }
-        ensures fault { MatchOption (fault_of self.old request.now) (Unit {0}) (λ refusal. result ≡ Err refusal) }
+        ensures answered { IfOk result (λ reply. AnswersPlainly self.old request reply self.new) }
+        ensures refused { IfErr result (λ refusal. RefusesPlainly self.old request refusal self.new) }
+        ensures fault { MatchOption (fault_of self.old request) (Unit {0}) (λ refusal. result ≡ Err refusal) }
         ensures idle { IsIdle self.new }
+        ensures options { self.new.columns ≡ self.old.columns }
         ensures bounds { HasBounds self.old.log.feed self.old.log.keep self.new.log }
     {
         let _stands = self.is_idle();
-        let call = match self.begin(alloc, PassNo(0), request) {
-            Outcome::Call(call) => call,
-            Outcome::Refused(refusal) => return Err(refusal),
-            _ => unreachable!(),
+        if let Some(refusal) = self.fault_of(&request) {
+            return Err(refusal);
+        }
+        let Ok(call) = self.admit(alloc, PassNo(0), request) else {
+            return Err(Refusal::NoMemory);
         };
         loop {
             match self.step(alloc, call.0) {

@@ -1,8 +1,10 @@
 //! The calls that are open, by their numbers.
 
-ghost use Rattle.std.specs.Prelude.{◌≡◌, ◌+◌, ◌-◌, ◌^◌, ◌<◌, ◌++◌, [], ◌∷◌, length, IfOk, OnOk, OnErr, None, MatchOption};
-ghost use Rattle.std.specs.Prelude.{◌↔◌, IsTrue};
-ghost use Rattle.mt_index.specs.Calls.{call_at, pass_at, without, MayStepOf, StepsCall, IsBuiltCall, oldest_epoch};
+ghost use Rattle.std.specs.Prelude.{◌≡◌, ◌+◌, ◌-◌, ◌^◌, ◌<◌, ◌++◌, [], ◌∷◌, length, IfOk, OnOk, OnErr, None, Some};
+ghost use Rattle.std.specs.Option.{option_copied};
+ghost use Rattle.mt_types.specs.declared.limits.TheConstants.{MAX_OPEN_CALLS};
+ghost use Rattle.mt_index.specs.Calls.{is_of, call_at, pass_at, without, MayStepOf, FindsCall, Finds, IsBuiltCall, oldest_epoch};
+ghost use Rattle.mt_works.specs.Works.{IsBuiltWork};
 
 use mt_calls::progress::Progress;
 use mt_commit::log::Log;
@@ -37,17 +39,32 @@ pub(crate) struct Stepped {
     pub(crate) progress: Progress,
 }
 
-/// The open calls, and how many calls have begun: a B-tree by their numbers.
+/// What was found of a call that is to take a step.
+#[derive(Drop)]
+pub(crate) enum Found {
+    /// It isn't open.
+    Missing,
+    /// It is a build that has taken all, whose view is to be opened. Nothing has changed.
+    Built,
+    /// It was taken one step on.
+    Stepped(Stepped),
+}
+
+/// The open calls, and how many calls have begun. A call that begins while no other is open stands by itself, before
+/// all others; those that begin beside others stand in a B-tree by their numbers.
 #[derive(Drop)]
 pub(crate) struct Calls {
     begun: u64,
-    calls: BTreeMap<u64, Call>,
+    first: Box<Option<(u64, Call)>>,
+    others: BTreeMap<u64, Call>,
 }
 
 impl Model for Calls {
     ghost use Rattle.std.specs.Ordering.{nat_cmp};
     ghost use Rattle.std.specs.BTreeMap.{IsOrdered};
-    ghost use Rattle.mt_index.specs.Calls.{CallsView, AreBegun};
+    ghost use Rattle.std.specs.Prelude.{length, ◌≤◌};
+    ghost use Rattle.mt_types.specs.declared.limits.TheConstants.{MAX_OPEN_CALLS};
+    ghost use Rattle.mt_index.specs.Calls.{CallsView, AreBegun, with_first};
     ghost use Rattle.std.specs.Coded.{codes};
     ghost use Rattle.mt_scan.specs.CursorCode.{place_code};
 
@@ -57,20 +74,62 @@ impl Model for Calls {
 
     ghost coded = { Prim.hlevel (codes, place_code, state_code) };
 
-    ghost view = { λ c. record { begun = c.begun; calls = c.calls.entries } };
+    ghost view = { λ c. record { begun = c.begun; calls = with_first c.first.value c.others.entries } };
 
-    ghost invariant = { λ c. AreBegun c.begun c.calls.entries };
+    ghost invariant = { λ c. AreBegun c.begun (with_first c.first.value c.others.entries)
+        × (length (with_first c.first.value c.others.entries) ≤ MAX_OPEN_CALLS) };
+}
+
+// Whether this is the call of the number.
+fn is_of(call: &Option<(u64, Call)>, number: u64) -> bool
+    ensures { result ≡ is_of number call.now }
+{
+    match call {
+        Some((own, _)) => *own == number,
+        None => false,
+    }
+}
+
+impl Call {
+    // Takes it one step on, in this epoch, the present one, unless it is a build that has taken all.
+    fn step(
+        &mut self,
+        alloc: Global,
+        columns: u8,
+        epoch: u64,
+        tree: &mut Tree,
+        log: &mut Log,
+    ) -> Found
+        requires { (IsBuiltWork self.old.work → ⊥) → MayStepOf epoch columns tree.old log.old (Some self.old) }
+        ensures { FindsCall epoch columns self.old self.new tree.old tree.new log.old log.new result }
+    {
+        if self.work.is_built() {
+            return Found::Built;
+        }
+        let progress = self.work.step(alloc, columns, epoch, tree, log);
+        Found::Stepped(Stepped {
+            pass: self.pass,
+            from: self.from,
+            reads: self.work.reads_log(),
+            builds: self.work.is_build(),
+            progress,
+        })
+    }
 }
 
 impl Calls {
-    /// No call has begun. Takes no memory.
-    pub(crate) fn new(alloc: Global) -> Calls
-        ensures { result ≡ record { begun = 0; calls = [] } }
+    /// No call has begun. Takes the memory of one call, in which each stands that begins while no other is open.
+    pub(crate) fn new(alloc: Global) -> Result<Calls, NoMemory>
+        ensures { IfOk result (λ calls. calls ≡ record { begun = 0; calls = [] }) }
     {
-        Calls {
+        let Ok(first) = Box::new(alloc, None) else {
+            return Err(NoMemory);
+        };
+        Ok(Calls {
             begun: 0,
-            calls: BTreeMap::new(alloc),
-        }
+            first,
+            others: BTreeMap::new(alloc),
+        })
     }
 
     /// How many calls have begun.
@@ -84,39 +143,65 @@ impl Calls {
     pub(crate) fn len(&self) -> usize
         ensures { result ≡ length self.now.calls }
     {
-        self.calls.len()
+        match &*self.first {
+            Some(_) => self.others.len() + 1,
+            None => self.others.len(),
+        }
     }
 
     /// The epoch in which the call began that has been open longest, if one is open.
     pub(crate) fn oldest(&self) -> Option<u64>
         ensures { result ≡ oldest_epoch self.now.calls }
     {
-        let (_, call) = self.calls.first_key_value()?;
+        if let Some((_, call)) = &*self.first {
+            return Some(call.epoch);
+        }
+        let (_, call) = self.others.first_key_value()?;
         Some(call.epoch)
+    }
+
+    // The call of this number, if it is open.
+    fn call(&self, number: u64) -> Option<&Call>
+        ensures { option_copied result ≡ call_at number self.now.calls }
+    {
+        if is_of(&self.first, number) {
+            let (_, call) = (*self.first).as_ref()?;
+            return Some(call);
+        }
+        self.others.get(&number)
     }
 
     /// The pass of the call of this number, if it is open.
     pub(crate) fn pass_of(&self, number: u64) -> Option<PassNo>
         ensures { result ≡ pass_at number self.now.calls }
     {
-        Some(self.calls.get(&number)?.pass)
+        Some(self.call(number)?.pass)
     }
 
-    /// A call begins, and its number is given. On an error nothing changes.
+    /// A call begins, and its number is given. Takes memory only where others are open. On an error nothing changes.
     pub(crate) fn begin(&mut self, call: Call) -> Result<u64, NoMemory>
-        requires { self.old.begun < 2 ^ 64 - 1 }
+        requires unspent { self.old.begun < 2 ^ 64 - 1 }
+        requires few { length self.old.calls < MAX_OPEN_CALLS }
         ensures number { IfOk result (λ number. number ≡ self.old.begun + 1) }
         ensures ok { OnOk result (self.new
             ≡ record { begun = self.old.begun + 1; calls = self.old.calls ++ (self.old.begun + 1, call) ∷ [] }) }
         ensures err { OnErr result (self.new ≡ self.old) }
     {
         let number = self.begun + 1;
-        self.calls.insert(number, call)?;
+        if self.len() == 0 {
+            let None = self.first.replace((number, call)) else {
+                unreachable!()
+            };
+            self.begun = number;
+            return Ok(number);
+        }
+        self.others.insert(number, call)?;
         self.begun = number;
         Ok(number)
     }
 
-    /// Takes the call of this number one step on, if it is open, in this epoch, the present one.
+    /// Takes the call of this number one step on, if it is open, in this epoch, the present one; a build that has taken
+    /// all is only told. Finds the call once.
     pub(crate) fn step(
         &mut self,
         alloc: Global,
@@ -125,35 +210,21 @@ impl Calls {
         number: u64,
         tree: &mut Tree,
         log: &mut Log,
-    ) -> Option<Stepped>
-        requires { MayStepOf epoch columns tree.old log.old (call_at number self.old.calls) }
-        ensures none { result ≡ None → (call_at number self.old.calls ≡ None) × (self.new ≡ self.old)
-            × (tree.new ≡ tree.old) × (log.new ≡ log.old) }
-        ensures steps { MatchOption result (Unit {0})
-            (λ stepped. StepsCall epoch columns number self.old self.new tree.old tree.new log.old log.new stepped.pass
-            stepped.reads stepped.builds stepped.from stepped.progress) }
+    ) -> Found
+        requires { (IsBuiltCall (call_at number self.old.calls) → ⊥)
+            → MayStepOf epoch columns tree.old log.old (call_at number self.old.calls) }
+        ensures { Finds epoch columns number self.old self.new tree.old tree.new log.old log.new result }
     {
-        let Some(call) = self.calls.get_mut(&number) else {
-            return None;
-        };
-        let progress = call.work.step(alloc, columns, epoch, tree, log);
-        Some(Stepped {
-            pass: call.pass,
-            from: call.from,
-            reads: call.work.reads_log(),
-            builds: call.work.is_build(),
-            progress,
-        })
-    }
-
-    /// Whether the call of this number is a build that has taken all, whose view is to be opened.
-    pub(crate) fn is_built(&self, number: u64) -> bool
-        ensures { IsTrue result ↔ IsBuiltCall (call_at number self.now.calls) }
-    {
-        match self.calls.get(&number) {
-            Some(call) => call.work.is_built(),
-            None => false,
+        if is_of(&self.first, number) {
+            let Some((_, call)) = &mut *self.first else {
+                return Found::Missing;
+            };
+            return call.step(alloc, columns, epoch, tree, log);
         }
+        let Some(call) = self.others.get_mut(&number) else {
+            return Found::Missing;
+        };
+        call.step(alloc, columns, epoch, tree, log)
     }
 
     /// The call of this number ends, and is given back if it was open.
@@ -161,7 +232,11 @@ impl Calls {
         ensures value { result ≡ call_at number self.old.calls }
         ensures left { self.new ≡ record self.old { calls = without number self.old.calls } }
     {
-        self.calls.remove(&number)
+        if is_of(&self.first, number) {
+            let (_, call) = self.first.take()?;
+            return Some(call);
+        }
+        self.others.remove(&number)
     }
 
     /// The call of this number ends.

@@ -10,6 +10,7 @@ ghost use Rattle.mt_index.specs.Viewing.{CopiesView};
 ghost use Rattle.mt_types.specs.declared.limits.TheConstants.{MAX_VIEWS};
 ghost use Rattle.mt_arena.specs.Node.{occupied};
 ghost use Rattle.mt_types.specs.declared.event.Event.TheVariants.{Collect};
+ghost use Rattle.mt_types.specs.declared.event.Outcome.TheVariants.{Call as Called};
 ghost use Rattle.mt_index.specs.Alone.{IsIdle};
 ghost use Rattle.mt_index.specs.Causes.{IsCaused};
 ghost use Rattle.mt_commit.specs.Logged.{deltas_of};
@@ -17,9 +18,9 @@ ghost use Rattle.mt_index.specs.Feed.{feed_fault};
 ghost use Rattle.mt_commit.specs.Log.{newest};
 ghost use Rattle.mt_commit.specs.declared.log.TheConstants.{MAX_HOLDERS};
 ghost use Rattle.mt_index.specs.Calls.{call_at, pass_at, IsBuiltCall};
-ghost use Rattle.mt_index.specs.Stands.{Stands, Begins, Steps, EndsBuild, Applies, ReadsView, Drops, Advances, Collects, IsOldest, IsRun, HasBounds, pinned, released, outcome_of, built_outcome, calls_after, log_after, views_after, placed, vacated};
+ghost use Rattle.mt_index.specs.Stands.{Stands, Begins, Steps, EndsBuild, Applies, ReadsView, Drops, Advances, Collects, IsOldest, IsRun, HasBounds, pinned, released, fault_of, outcome_of, built_outcome, calls_after, log_after, views_after, placed, vacated};
 
-use crate::calls::{Call, Calls, Stepped};
+use crate::calls::{Call, Calls, Found, Stepped};
 use crate::feed::deltas_after;
 use crate::options::Options;
 use crate::viewing::{close_build, page, take_on};
@@ -28,6 +29,7 @@ use mt_calls::collecting::collect;
 use mt_calls::progress::Progress;
 use mt_commit::log::Log;
 use mt_tree::Tree;
+use mt_types::copying::TryCopy;
 use mt_types::event::{Answer, Event, Outcome, Reply, Request};
 use mt_types::limits::{
     MAX_NODES, MAX_OPEN_CALLS, MAX_VIEWS, open_fault, page_fault, request_fault,
@@ -254,14 +256,15 @@ impl Machine {
             epoch: 0,
             tree: Tree::open(alloc)?,
             log: Log::open(alloc, options.feed, options.keep),
-            calls: Calls::new(alloc),
+            calls: Calls::new(alloc)?,
             views: Views::new(alloc),
         })
     }
 
     /// How many calls are open.
     pub fn open_calls(&self) -> usize
-        ensures { (h : History) → Stands self.now h → result ≡ length (moment h).calls }
+        ensures idle { result ≡ 0 → IsIdle self.now }
+        ensures told { (h : History) → Stands self.now h → result ≡ length (moment h).calls }
     {
         self.calls.len()
     }
@@ -345,22 +348,30 @@ impl Machine {
         self.calls.len() == 0
     }
 
-    pub(crate) fn begin(&mut self, alloc: Global, pass: PassNo, request: &Request) -> Outcome
-        ensures begins { Begins self.old pass request.now result self.new }
-        ensures bounds { HasBounds self.old.log.feed self.old.log.keep self.new.log }
+    // Why no call can begin that asks for this, if something refuses it.
+    pub(crate) fn fault_of(&self, request: &Request) -> Option<Refusal>
+        ensures { result ≡ fault_of self.now request.now }
     {
         let (begun, opened, places) = (self.calls.begun(), self.calls.len(), self.views.places());
-        if let Some(refusal) = begin_fault(self.columns, begun, opened, places, request) {
-            return Outcome::Refused(refusal);
-        }
+        begin_fault(self.columns, begun, opened, places, request)
+    }
+
+    // A call begins that nothing refuses, and its number is given. On an error nothing changes.
+    pub(crate) fn admit(
+        &mut self,
+        alloc: Global,
+        pass: PassNo,
+        request: Request,
+    ) -> Result<CallNo, NoMemory>
+        requires { fault_of self.old request ≡ None }
+        ensures begins { IfOk result (λ number. Begins self.old pass request (Called number) self.new) }
+        ensures err { OnErr result (self.new ≡ self.old) }
+        ensures bounds { HasBounds self.old.log.feed self.old.log.keep self.new.log }
+    {
         let from = self.log.number();
-        let Ok(work) = work_of(alloc, self.columns, from, request) else {
-            return Outcome::Refused(Refusal::NoMemory);
-        };
+        let work = work_of(alloc, self.columns, from, request)?;
         let (reads, builds) = (work.reads_log(), work.is_build());
-        let Ok(()) = hold(&mut self.log, reads) else {
-            return Outcome::Refused(Refusal::NoMemory);
-        };
+        hold(&mut self.log, reads)?;
         let call = Call {
             pass,
             from,
@@ -369,29 +380,43 @@ impl Machine {
         };
         let Ok(number) = self.calls.begin(call) else {
             release(&mut self.log, reads, from);
-            return Outcome::Refused(Refusal::NoMemory);
+            return Err(NoMemory);
         };
         occupy(&mut self.views, builds);
-        Outcome::Call(CallNo(number))
+        Ok(CallNo(number))
+    }
+
+    fn begin(&mut self, alloc: Global, pass: PassNo, request: &Request) -> Outcome
+        ensures begins { Begins self.old pass request.now result self.new }
+        ensures bounds { HasBounds self.old.log.feed self.old.log.keep self.new.log }
+    {
+        if let Some(refusal) = self.fault_of(request) {
+            return Outcome::Refused(refusal);
+        }
+        let Ok(request) = request.copy(alloc) else {
+            return Outcome::Refused(Refusal::NoMemory);
+        };
+        match self.admit(alloc, pass, request) {
+            Ok(number) => Outcome::Call(number),
+            Err(_) => Outcome::Refused(Refusal::NoMemory),
+        }
     }
 
     pub(crate) fn step(&mut self, alloc: Global, number: u64) -> Outcome
         ensures steps { Steps self.old number result self.new }
         ensures bounds { HasBounds self.old.log.feed self.old.log.keep self.new.log }
     {
-        if self.calls.is_built(number) {
-            return self.end_build(number);
-        }
-        let Some(stepped) = self.calls.step(
+        let stepped = match self.calls.step(
             alloc,
             self.columns,
             self.epoch,
             number,
             &mut self.tree,
             &mut self.log,
-        )
-        else {
-            return Outcome::Refused(Refusal::NoSuchCall);
+        ) {
+            Found::Missing => return Outcome::Refused(Refusal::NoSuchCall),
+            Found::Built => return self.end_build(number),
+            Found::Stepped(stepped) => stepped,
         };
         let outcome = settle(
             &mut self.calls,
@@ -510,9 +535,9 @@ impl Machine {
     /// that is legal: `stands` says so of each history. Why a call waits, fails or is refused, and which
     /// nodes a collection frees, which a history doesn't show, is the clause `caused`.
     ///
-    /// A begin costs some allocations, and a step the visit of one node and at most some allocations; each of them
-    /// finds its call at the cost of a way down the tree of open calls. A collection is O(n) in the nodes that it
-    /// frees.
+    /// A begin costs some allocations, and a step the visit of one node and at most some allocations. A step finds its
+    /// call once, and the last one once more: at the cost of a way down the tree of open calls, or of none for a call
+    /// that began while no other was open. A collection is O(n) in the nodes that it frees.
     pub fn event(&mut self, alloc: Global, event: &Event) -> Outcome
         ensures stands { (h : History) → Stands self.old h → (opens : ℕ)
             × Stands self.new (happening event.now result opens ∷ h) }

@@ -1,6 +1,8 @@
 //! Each public call of the machine once: a put of a long key that commits, with its delta, and a run of a get. Whole
 //! scripts are run one crate up.
 
+ghost use Rattle.mt_index.specs.Alone.{IsIdle};
+
 use crate::machine::Machine;
 use crate::options::Options;
 use bytes::Bytes;
@@ -81,35 +83,48 @@ fn empty_index_empty_key(rt: HostRuntime) -> Result<(), Fail> {
     Ok(())
 }
 
-// A put, gets and a range that read its row, a remove and a get that finds none, each by itself.
+// What a call alone answers.
+fn answer(machine: &mut Machine, alloc: Global, request: Request) -> Result<Answer, Fail>
+    requires { IsIdle machine.old }
+    ensures { IsIdle machine.new }
+{
+    Ok(machine.do_alone(alloc, request)?.answer)
+}
+
+// A put, a remove and a get that finds none, each by itself.
 #[test]
 fn calls_alone(rt: HostRuntime) -> Result<(), Fail> {
     let alloc = rt.alloc();
     let mut machine = Machine::open(alloc, OPTIONS)?;
-    let reply = machine.do_alone(alloc, &put(alloc, b"a", &[0x76])?)?;
+    let stored = answer(&mut machine, alloc, put(alloc, b"a", &[0x76])?)? == Answer::Stored(1);
+    assert!(rt; stored);
+    let remove = Request::Remove {
+        key: Bytes::from_static(b"a"),
+    };
+    let removed = answer(&mut machine, alloc, remove)? == Answer::Removed(2);
+    assert!(rt; removed);
+    let absent = answer(&mut machine, alloc, get(alloc, b"a"))? == Answer::Absent;
+    assert!(rt; absent);
+    assert!(rt; machine.is_idle());
+    Ok(())
+}
+
+// A get by a call, a get and a range without one: each reads the row of a put.
+#[test]
+fn reads_alone(rt: HostRuntime) -> Result<(), Fail> {
+    let alloc = rt.alloc();
+    let mut machine = Machine::open(alloc, OPTIONS)?;
+    let reply = machine.do_alone(alloc, put(alloc, b"a", &[0x76])?)?;
     assert_eq!(rt; reply.from, 0);
     assert_eq!(rt; reply.to, 1);
-    let stored = reply.answer == Answer::Stored(1);
-    assert!(rt; stored);
-    let reply = machine.do_alone(alloc, &get(alloc, b"a"))?;
-    let version = match &reply.answer {
-        Answer::Found(row) => row.version,
-        _ => 0,
-    };
-    assert_eq!(rt; version, 1);
+    let found =
+        matches!(answer(&mut machine, alloc, get(alloc, b"a"))?, Answer::Found(row) if row.version == 1);
+    assert!(rt; found);
     let key = Key::new(Bytes::from_static(b"a"))?;
     let read = machine.get(alloc, key, Items::new(alloc))?;
     assert_eq!(rt; read.map(|row| row.version), Some(1));
     let first = Key::new(Bytes::new())?;
     let pairs = machine.range(alloc, first, 10, Items::new(alloc))?;
     assert_eq!(rt; pairs.as_slice().len(), 1);
-    let remove = Request::Remove {
-        key: Bytes::from_static(b"a"),
-    };
-    let removed = machine.do_alone(alloc, &remove)?.answer == Answer::Removed(2);
-    assert!(rt; removed);
-    let absent = machine.do_alone(alloc, &get(alloc, b"a"))?.answer == Answer::Absent;
-    assert!(rt; absent);
-    assert!(rt; machine.is_idle());
     Ok(())
 }

@@ -1,56 +1,50 @@
-use Rattle.std.proofs.Common.{◌∙◌, ap, sym, subst, refl, Option}
+use Rattle.std.proofs.Common.{◌∙◌, ◌≤◌, ap, sym, subst, refl, length, Option, arith}
 use Rattle.std.specs.BTreeMap as tree
-use Rattle.mt_promise.specs.Legal.{reads_log, is_build}
-use Rattle.mt_index.specs.Calls.{CallsView, AreBegun, call_at, with_changed, with_work, MayStepOf}
+use Rattle.mt_types.specs.declared.limits.TheConstants.{MAX_OPEN_CALLS}
+use Rattle.mt_works.specs.Works.{IsBuiltWork}
+use Rattle.mt_index.specs.Calls.{is_of, CallsView, AreBegun, call_at, with_changed, with_work, with_first, MayStepOf, IsBuiltCall}
 use Rattle.mt_index.specs.declared.calls.Call.{Call}
-use Rattle.mt_index.proofs.NumberLemmas.{Entries, lookup-call_at, set-changed, begun-changed}
+use Rattle.mt_index.proofs.NumberLemmas.{Entries, lookup-call_at, begun-changed}
+use Rattle.mt_index.proofs.FirstLemmas.{call_other, stepped_other, many_changed, kept_call, finds_so}
 use Rattle.mt_index.proofs.calls.Calls.step.Goals as goal
 
-pub returns-in_default-clause-none : goal.returns-in_default-clause-none
-returns-in_default-clause-none c = λ none. (
-  sym (c.in_default.ensures.value ∙ lookup-call_at c.args.number c.self.inside.calls.entries ∙ ap (λ (s : CallsView). call_at c.args.number s.calls) c.self.view_is),
-  ap (λ (m : tree.BTreeMap _ _). record { begun = c.self.inside.begun; calls = m.entries }) c.get_mut.follows.holds-at-none ∙ c.self.view_is,
+pub returns-in_default-get_mut : goal.returns-in_default-get_mut
+returns-in_default-get_mut c = (
+  sym (c.in_default-get_mut.ensures.value ∙ lookup-call_at c.args.number c.self.inside.others.entries
+      ∙ sym (call_other c.args.number c.self.inside.first.value c.self.inside.others.entries (sym (c.is_of.ensures ∙ ap (is_of c.args.number) c.deref.ensures) ∙ c.if-is_of.false))
+      ∙ ap (λ (s : CallsView). call_at c.args.number s.calls) c.self.view_is),
+  ap (λ (m : tree.BTreeMap _ _). record { begun = c.self.inside.begun; calls = with_first c.self.inside.first.value m.entries }) c.get_mut.follows.holds-at-none ∙ c.self.view_is,
   refl,
   refl,
 )
 
-pub step-progress-requires : goal.step-progress-requires
-step-progress-requires c =
-    let found = sym (c.in-Some.ensures.value ∙ lookup-call_at c.args.number c.self.inside.calls.entries ∙ ap (λ (s : CallsView). call_at c.args.number s.calls) c.self.view_is) in
-    let (may, next) = subst (λ (r : Option Call). MayStepOf c.args.epoch c.args.columns c.args.tree.now c.args.log.now r) found c.requires in
-    record { may = may; next = next }
+pub step-requires-2 : goal.step-requires-2
+step-requires-2 c =
+    let found = sym (c.in-Some-get_mut.ensures.value ∙ lookup-call_at c.args.number c.self.inside.others.entries
+    ∙ sym (call_other c.args.number c.self.inside.first.value c.self.inside.others.entries (sym (c.is_of.ensures ∙ ap (is_of c.args.number) c.deref.ensures) ∙ c.if-is_of.false))
+    ∙ ap (λ (s : CallsView). call_at c.args.number s.calls) c.self.view_is) in
+    λ unbuilt. subst (λ (r : Option Call). MayStepOf c.args.epoch c.args.columns c.args.tree.now c.args.log.now r) found (c.requires (λ built. unbuilt (subst IsBuiltCall found built)))
 
 pub invariant_of-self-2 : goal.invariant_of-self-2
 invariant_of-self-2 c =
-    let found = sym (lookup-call_at c.args.number c.self.inside.calls.entries) ∙ sym c.in-Some.ensures.value in
-    let new : Call = record c.in-Some.call.now { work = c.step-progress.new.self } in
-    let written = (c.get_mut.follows.holds new).0 in
-    subst (λ (entries : Entries). AreBegun c.self.inside.begun entries)
-    (sym (written ∙ set-changed (with_work c.step-progress.new.self) c.args.number c.self.inside.calls.entries c.in-Some.call.now new found refl))
-    (begun-changed (with_work c.step-progress.new.self) c.args.number c.self.inside.begun c.self.inside.calls.entries c.self.invariant)
+    let all = with_first c.self.inside.first.value c.self.inside.others.entries in
+    let other = sym (c.is_of.ensures ∙ ap (is_of c.args.number) c.deref.ensures) ∙ c.if-is_of.false in
+    let found = sym (lookup-call_at c.args.number c.self.inside.others.entries) ∙ sym c.in-Some-get_mut.ensures.value in
+    let written = (c.get_mut.follows.holds c.step-2.new.self).0 in
+    let same = kept_call c.args.epoch c.args.columns c.in-Some-get_mut.call.now c.step-2.new.self c.args.tree.now c.step-2.new.tree c.args.log.now c.step-2.new.log c.step-2.result c.step-2.ensures in
+    let changed = stepped_other c.args.number c.self.inside.first.value c.self.inside.others.entries (c.get_mut.follows.lender c.step-2.new.self).entries c.in-Some-get_mut.call.now c.step-2.new.self other found written same in (
+      subst (λ (entries : Entries). AreBegun c.self.inside.begun entries) (sym changed) (begun-changed (with_work c.step-2.new.self.work) c.args.number c.self.inside.begun all c.self.invariant.0),
+      subst (λ (entries : Entries). length entries ≤ MAX_OPEN_CALLS) (sym changed) (let many = many_changed (with_work c.step-2.new.self.work) c.args.number all in let few = c.self.invariant.1 in omega (arith, many, few)),
+    )
 
-pub returns-clause-steps : goal.returns-clause-steps
-returns-clause-steps c =
-    let found = sym (lookup-call_at c.args.number c.self.inside.calls.entries) ∙ sym c.in-Some.ensures.value in
-    let new : Call = record c.in-Some.call.now { work = c.step-progress.new.self } in
-    let written = (c.get_mut.follows.holds new).0 in
-    record {
-      call = c.in-Some.call.now;
-      is_open = sym (ap (λ (s : CallsView). call_at c.args.number s.calls) c.self.view_is) ∙ found;
-      work = c.step-progress.new.self;
-      same_request = c.step-progress.ensures.request;
-      law = c.step-progress.ensures.steps;
-      goes_on = c.step-progress.ensures.builds;
-      waits = c.step-progress.ensures.waits;
-      fails = c.step-progress.ensures.fails;
-      follows = c.step-progress.ensures.gets_on;
-      read = c.step-progress.ensures.reads;
-      posts = c.step-progress.ensures.posts;
-      changed = ap (λ (entries : Entries). record { begun = c.self.inside.begun; calls = entries })
-          (written ∙ set-changed (with_work c.step-progress.new.self) c.args.number c.self.inside.calls.entries c.in-Some.call.now new found refl)
-          ∙ ap (λ (s : CallsView). record { begun = s.begun; calls = with_changed (with_work c.step-progress.new.self) c.args.number s.calls }) c.self.view_is;
-      pass_is = refl;
-      reads_is = c.reads_log.ensures ∙ ap reads_log c.step-progress.ensures.request;
-      builds_is = c.is_build.ensures ∙ ap is_build c.step-progress.ensures.request;
-      from_is = refl;
-    }
+pub returns : goal.returns
+returns c =
+    let other = sym (c.is_of.ensures ∙ ap (is_of c.args.number) c.deref.ensures) ∙ c.if-is_of.false in
+    let found = sym (lookup-call_at c.args.number c.self.inside.others.entries) ∙ sym c.in-Some-get_mut.ensures.value in
+    let written = (c.get_mut.follows.holds c.step-2.new.self).0 in
+    let same = kept_call c.args.epoch c.args.columns c.in-Some-get_mut.call.now c.step-2.new.self c.args.tree.now c.step-2.new.tree c.args.log.now c.step-2.new.log c.step-2.result c.step-2.ensures in
+    finds_so c.args.epoch c.args.columns c.args.number c.args.self.now _ c.in-Some-get_mut.call.now c.step-2.new.self c.args.tree.now c.step-2.new.tree c.args.log.now c.step-2.new.log c.step-2.result c.step-2.ensures
+    (sym (ap (λ (s : CallsView). call_at c.args.number s.calls) c.self.view_is) ∙ call_other c.args.number c.self.inside.first.value c.self.inside.others.entries other ∙ found)
+    (ap (λ (entries : Entries). record { begun = c.self.inside.begun; calls = entries })
+    (stepped_other c.args.number c.self.inside.first.value c.self.inside.others.entries (c.get_mut.follows.lender c.step-2.new.self).entries c.in-Some-get_mut.call.now c.step-2.new.self other found written same)
+    ∙ ap (λ (s : CallsView). record { begun = s.begun; calls = with_changed (with_work c.step-2.new.self.work) c.args.number s.calls }) c.self.view_is)
