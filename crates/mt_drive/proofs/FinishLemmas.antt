@@ -10,8 +10,7 @@ use Rattle.mt_promise.specs.History.{History, GoesOn}
 use Rattle.mt_promise.proofs.HistoryLemmas.{GoesOn-append}
 use Rattle.mt_index.specs.Stands.{MachineView}
 use Rattle.mt_drive.specs.Machine.{Leads, IsAsBefore}
-use Rattle.mt_types.specs.declared.event.Outcome.TheVariants.{Call}
-use Rattle.mt_drive.specs.Script.{EndsFrom, goes_on, AllGoOn, Happens, Steps, Finishes}
+use Rattle.mt_drive.specs.Script.{goes_on, AllGoOn, Happens, Steps, Finishes}
 
 pub as_before : (s between t : MachineView) → IsAsBefore between t → IsAsBefore s between → IsAsBefore s t
 as_before s between t late early = (late.0 ∙ early.0, late.1 ∙ early.1)
@@ -63,8 +62,3 @@ Passes-end s between t n call outcome so_far step few ended past stands =
       },
       more.2,
     )
-
--- a call whose begin is refused ends there
-pub ends_there : (begun : Outcome) (between : History) → ((call : CallNo) → begun ≡ Call call → ⊥) → EndsFrom begun between begun between
-ends_there (Call call) between not = absurd (not call refl)
-ends_there begun between not = (refl, refl)

@@ -7,13 +7,16 @@ use Rattle.mt_types.specs.declared.numbers.CallNo.{CallNo}
 use Rattle.mt_types.specs.declared.refusal.Refusal.{Refusal}
 use Rattle.mt_types.specs.declared.refusal.Refusal.TheVariants.{NoMemory as WantOfMemory, Behind}
 use Rattle.mt_types.specs.declared.event.Event.{Event}
-use Rattle.mt_types.specs.declared.event.Event.TheVariants.{Begin, Step}
+use Rattle.mt_types.specs.declared.event.Event.TheVariants.{Step}
+use Rattle.mt_types.specs.declared.event.Request.{Request}
 use Rattle.mt_types.specs.declared.event.Outcome.{Outcome}
-use Rattle.mt_types.specs.declared.event.Outcome.TheVariants.{Call, Moved, Commit}
+use Rattle.mt_types.specs.declared.event.Outcome.TheVariants.{Moved, Commit, Done, Refused}
 use Rattle.mt_types.specs.Limits.{limit_fault, refused_if}
 use Rattle.mt_promise.specs.History.{History, GoesOn, moment}
 use Rattle.mt_promise.specs.Legal.{Legal, held_from}
 use Rattle.mt_promise.specs.Headline.{KeepsPromise}
+use Rattle.mt_promise.specs.Alone.{RunsThrough, IsTurnedAway, EndsPlainly, EndsRefused}
+use Rattle.mt_index.specs.Alone.{pass_0}
 use Rattle.mt_commit.specs.Logged.{deltas_of}
 use Rattle.mt_drive.specs.declared.fault.ScriptFault.{ScriptFault}
 use Rattle.mt_drive.specs.declared.fault.ScriptFault.TheVariants.{Read, Start, NoMemory}
@@ -85,24 +88,24 @@ abbrev pub Ends : CallNo → History → Reply → History → Type 0
 Ends call past (Came outcome) h = Finishes past call outcome h
 Ends call past _ h = ⊥
 
--- what came of a call that was begun so, up to its end: of its begin where that is refused, else of its last step
-abbrev pub EndsFrom : Outcome → History → Outcome → History → Type 0
-EndsFrom (Call call) between outcome h = Finishes between call outcome h
-EndsFrom begun between outcome h = (outcome ≡ begun) × (h ≡ between)
-
--- a begin, and then the steps of its call up to its end
-abbrev pub Runs : Event → History → Outcome → History → Type 0
-Runs event past outcome h =
-    (begun : Outcome) × (between : History) × Happens past event begun between × EndsFrom begun between outcome h
-
 abbrev pub open_calls : History → ℕ
 open_calls past = length (moment past).calls
 
--- a call that is begun and runs alone: where others are open, nothing happens
-abbrev pub RunsAlone : Event → History → Reply → History → Type 0
-RunsAlone event past (Came outcome) h = (open_calls past ≡ 0) × Runs event past outcome h
-RunsAlone event past Busy h = (0 < open_calls past) × (h ≡ past)
-RunsAlone event past _ h = ⊥
+-- a call of pass 0 has run through with nothing else happening, and was refused; or its begin was
+abbrev pub IsRefusedAlone : Request → History → Refusal → History → Type 0
+IsRefusedAlone request past refusal h = IsTurnedAway pass_0 request past refusal h
+    ⊎ ((number : CallNo) × RunsThrough pass_0 number request past (Refused refusal) h)
+
+-- a call alone, of pass 0, from its begin to its end: it is answered as by a plain map, or nothing comes of it; where
+-- others are open, nothing happens
+abbrev pub DoesAlone : ℕ → Request → History → Reply → History → Type 0
+DoesAlone C request past (Came (Done answered)) h = (open_calls past ≡ 0) × ((number : CallNo)
+    × RunsThrough pass_0 number request past (Done answered) h
+    × EndsPlainly C past pass_0 number request answered (moment h))
+DoesAlone C request past (Came (Refused refusal)) h =
+    (open_calls past ≡ 0) × IsRefusedAlone request past refusal h × EndsRefused past (moment h)
+DoesAlone C request past Busy h = (0 < open_calls past) × (h ≡ past)
+DoesAlone C request past _ h = ⊥
 
 -- after so many commits the log of an index begins that keeps this many for nobody: it has all that is held, and the
 -- last ones
@@ -129,7 +132,7 @@ abbrev pub Answers : ℕ → ℕ → Option Command → History → Reply → Hi
 Answers C keep None past reply h = (reply ≡ Bad) × (h ≡ past)
 Answers C keep (Some (Once event)) past reply h = Asks event past reply h
 Answers C keep (Some (Finish call)) past reply h = Ends call past reply h
-Answers C keep (Some (Alone request)) past reply h = RunsAlone (Begin (record { 0 = 0 }) request) past reply h
+Answers C keep (Some (Alone request)) past reply h = DoesAlone C request past reply h
 Answers C keep (Some (Feed from limit)) past reply h = Feeds C keep from limit past reply × (h ≡ past)
 
 -- these lines, one after the other, were answered so, each by one reply

@@ -4,12 +4,12 @@ ghost use Rattle.std.specs.Prelude.{◌≡◌, ◌≢◌, ◌⊎◌, ◌+◌, �
 ghost use Rattle.std.specs.Io.KnownBytes.{Appends};
 ghost use Rattle.mt_types.specs.Limits.{open_fault};
 ghost use Rattle.mt_types.specs.declared.refusal.Refusal.{Refusal};
-ghost use Rattle.mt_types.specs.declared.event.Event.TheVariants.{Begin, Step};
+ghost use Rattle.mt_types.specs.declared.event.Event.TheVariants.{Step};
 ghost use Rattle.mt_promise.specs.History.{History};
 ghost use Rattle.mt_index.specs.Stands.{Stands};
 ghost use Rattle.mt_drive.specs.Commands.{command_of};
 ghost use Rattle.mt_drive.specs.Machine.{Leads, IsAsBefore};
-ghost use Rattle.mt_drive.specs.Script.{goes_on, reply_lines, bad_lines, start_fault, Happens, Finishes, Runs, RunsAlone, Asks, Feeds, Answers, Played, Broke};
+ghost use Rattle.mt_drive.specs.Script.{goes_on, reply_lines, bad_lines, start_fault, Happens, Finishes, DoesAlone, Asks, Feeds, Answers, Played, Broke};
 ghost use Rattle.mt_drive.specs.Sink.{sink_writer, write_failed};
 ghost use Rattle.mt_drive.specs.Source.{source_rest, GivesNoMore};
 ghost use Rattle.mt_drive.specs.declared.fault.ScriptFault.TheVariants.{Read as ReadFault, Write as WriteFault, Start, NoMemory};
@@ -24,7 +24,7 @@ use mt_index::machine::Machine;
 use mt_index::options::Options;
 use mt_types::event::{Event, Outcome, Request};
 use mt_types::items::Items;
-use mt_types::numbers::{CallNo, PassNo};
+use mt_types::numbers::CallNo;
 use mt_types::refusal::Refusal;
 use std::alloc::Global;
 use std::io::{Read, Write};
@@ -68,28 +68,18 @@ fn ask(machine: &mut Machine, alloc: Global, event: &Event) -> Reply
     Reply::Came(machine.event(alloc, event))
 }
 
-// A begin, and then the steps of its call up to its end.
-fn run_through(machine: &mut Machine, alloc: Global, event: &Event) -> Outcome
-    ensures stands { Leads machine.old (λ past h. Runs event.now past result h) machine.new }
-    ensures options { IsAsBefore machine.old machine.new }
-{
-    match machine.event(alloc, event) {
-        Outcome::Call(call) => finish(machine, alloc, call),
-        begun => begun,
-    }
-}
-
 // A call by pass 0, where no other is open.
 fn alone(machine: &mut Machine, alloc: Global, request: Request) -> Reply
-    ensures stands { Leads machine.old
-        (λ past h. RunsAlone (Begin (record { 0 = 0 }) request) past result h) machine.new }
+    ensures stands { Leads machine.old (λ past h. DoesAlone machine.old.columns request past result h) machine.new }
     ensures options { IsAsBefore machine.old machine.new }
 {
-    let event = Event::Begin(PassNo(0), request);
     if machine.open_calls() > 0 {
         return Reply::Busy;
     }
-    Reply::Came(run_through(machine, alloc, &event))
+    match machine.do_alone(alloc, request) {
+        Ok(reply) => Reply::Came(Outcome::Done(reply)),
+        Err(refusal) => Reply::Came(Outcome::Refused(refusal)),
+    }
 }
 
 // The deltas of the commits after a number. No event happens.
@@ -188,8 +178,8 @@ fn start_fault(refusal: Refusal) -> ScriptFault
 /// LIMIT` or
 /// `drop VIEW`, `advance`, `collect`, or `feed FROM LIMIT`, which is answered by a line for each delta. A line of other
 /// bytes is answered `bad line`. What a line says and how an outcome is written
-/// is told in `commands`, `reading` and `showing`. `finish` and `alone` make at
-/// most 1,000,000 steps.
+/// is told in `commands`, `reading` and `showing`. `finish` makes at most
+/// 1,000,000 steps.
 ///
 /// The writer is given each reply in one piece, and is not flushed. A line costs its event, its steps or its deltas,
 /// and some allocations for its words and its reply.
