@@ -1,6 +1,6 @@
 -- A machine on which one call runs alone: from its begin on, at each step, and once it has ended.
-use Rattle.std.proofs.Common.{ℕ, ◌≡◌, ◌<◌, ◌≤◌, ◌==◌, ◌⊎◌, Bool, true, false, inl, inr, List, [], ◌∷◌, ◌++◌, length, Option, Some, None, refl, sym, ap, subst, ◌∙◌, arith}
-use Rattle.std.specs.Prelude.{if◌then◌else◌, min, ◌-◌, ◌+◌, drop}
+use Rattle.std.proofs.Common.{ℕ, ◌≡◌, ◌<◌, ◌≤◌, ◌⊎◌, Bool, true, false, inl, inr, List, [], ◌∷◌, ◌++◌, length, Option, Some, None, refl, sym, ap, subst, ◌∙◌, arith}
+use Rattle.std.specs.Prelude.{if◌then◌else◌, ◌+◌}
 use Rattle.std.proofs.lemmas.Bool.{eq-eqb}
 use Rattle.mt_types.specs.declared.numbers.PassNo.{PassNo}
 use Rattle.mt_types.specs.declared.numbers.CallNo.{CallNo}
@@ -21,9 +21,9 @@ use Rattle.mt_tree.specs.Seen.{arena_seen}
 use Rattle.mt_calls.specs.Lone.{IsLoneTree, IsRightNow}
 use Rattle.mt_types.specs.declared.event.Reply.{Reply}
 use Rattle.mt_types.specs.declared.event.Outcome.{Outcome}
-use Rattle.mt_types.specs.declared.event.Outcome.TheVariants.{Call as Called, Moved, Again, Commit, Done, Refused}
+use Rattle.mt_types.specs.declared.event.Outcome.TheVariants.{Call as Called, Moved, Commit, Done, Refused}
 use Rattle.mt_types.specs.declared.refusal.Refusal.{Refusal}
-use Rattle.mt_promise.specs.History.{History, happening, moment, rows, Happening, OpenCall}
+use Rattle.mt_promise.specs.History.{History, happening, moment, rows, OpenCall}
 use Rattle.mt_promise.specs.Legal.{reads_log}
 use Rattle.mt_promise.specs.Alone.{ShowsRow, IsRangeOfMap, GoesOnBy, RunsAlone, RunsThrough, EndsPlainly}
 use Rattle.mt_promise.proofs.AloneLemmas.{lone_calls_are_plain, lone_refusals_do_nothing}
@@ -46,9 +46,9 @@ use Rattle.mt_works.specs.Follows.{WorkFollows, WorkPosts, WorkReads}
 use Rattle.mt_calls.specs.Step.{StepLawIn}
 use Rattle.mt_works.proofs.LoneWork.{LoneLaws, RunsLone, IsGet, lone_get_steps, work_left, lone_begins, lone_moves, lone_commits, lone_waits_not}
 use Rattle.mt_index.specs.declared.calls.Call.{Call}
-use Rattle.mt_index.specs.Calls.{CallsView, call_at, with_changed, with_work, without, StepsCall, IsBuiltCall}
+use Rattle.mt_index.specs.Calls.{CallsView, call_at, with_changed, with_work, without, IsBuiltCall}
 use Rattle.mt_index.specs.Paired.{Paired}
-use Rattle.mt_index.specs.Stands.{MachineView, Stands, CallStands, Begins, Steps, StepsOpen, EndsBuild, with_call, outcome_of, calls_after, log_after, views_after, pinned, fault_of}
+use Rattle.mt_index.specs.Stands.{MachineView, Stands, CallStands, Begins, Steps, StepsOpen, EndsBuild, outcome_of, calls_after, log_after, views_after, pinned, fault_of}
 use Rattle.mt_index.specs.Alone.{IsIdle, pass_0, next_call, IsShort, AnswersFrom, AnswersPlainly, RefusesPlainly}
 use Rattle.mt_index.proofs.EventStands.{begins-stands, begins-columns}
 use Rattle.mt_index.proofs.ViewEvents.{steps-stand, steps-columns}

@@ -1,5 +1,5 @@
 -- What the calls of the machine do to its fields, as its events are told.
-use Rattle.std.proofs.Common.{ℕ, ◌≡◌, ◌≤◌, ◌<◌, ◌+◌, ◌⊎◌, ◌↔◌, Bool, false, inl, inr, length, true, cond, Option, Some, None, refl, sym, ap, subst, ◌∙◌, arith}
+use Rattle.std.proofs.Common.{ℕ, ◌≡◌, ◌≤◌, ◌<◌, ◌+◌, ◌⊎◌, inl, inr, length, true, cond, Option, Some, None, refl, sym, ap, subst, ◌∙◌, arith}
 use Rattle.std.specs.Option.{option_map}
 use Rattle.mt_types.specs.Numbers.{greatest_number}
 use Rattle.mt_types.specs.declared.event.Outcome.{Outcome}
@@ -14,7 +14,7 @@ use Rattle.mt_view.specs.State.{StateView}
 use Rattle.mt_views.specs.Views.{ViewsView, places, standing, state_at, without}
 use Rattle.mt_views.proofs.StandingLemmas.{view-of-state}
 use Rattle.mt_types.specs.declared.event.Request.{Request}
-use Rattle.std.specs.Prelude.{IsTrue, Result, Ok, Err, IfOk, IfErr, OnOk, OnErr}
+use Rattle.std.specs.Prelude.{Result, Ok, Err, IfOk, IfErr, OnOk, OnErr}
 use Rattle.mt_promise.specs.Legal.{is_build as is_build_request, reads_log, begin_fault}
 use Rattle.mt_works.specs.declared.work.Work.{Work}
 use Rattle.mt_works.specs.declared.work.Work.TheVariants.{Build as BuildWork}

@@ -1,7 +1,6 @@
 use Rattle.std.proofs.Common.{◌∙◌, ◌≤◌, ap, sym, subst, refl, length, Option, arith}
 use Rattle.std.specs.BTreeMap as tree
 use Rattle.mt_types.specs.declared.limits.TheConstants.{MAX_OPEN_CALLS}
-use Rattle.mt_works.specs.Works.{IsBuiltWork}
 use Rattle.mt_index.specs.Calls.{is_of, CallsView, AreBegun, call_at, with_changed, with_work, with_first, MayStepOf, IsBuiltCall}
 use Rattle.mt_index.specs.declared.calls.Call.{Call}
 use Rattle.mt_index.proofs.NumberLemmas.{Entries, lookup-call_at, begun-changed}

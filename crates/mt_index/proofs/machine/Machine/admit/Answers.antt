@@ -1,4 +1,4 @@
-use Rattle.std.proofs.Common.{◌∙◌, ◌≡◌, ◌+◌, ◌∷◌, None, ap, sym, subst, inr, refl, arith}
+use Rattle.std.proofs.Common.{◌∙◌, ◌≡◌, ◌+◌, ◌∷◌, None, ap, sym, subst}
 use Rattle.std.specs.Prelude.{Contains}
 use Rattle.mt_types.specs.declared.event.Outcome.TheVariants.{Call as Called}
 use Rattle.mt_types.specs.declared.event.Event.TheVariants.{Begin}

@@ -1,4 +1,4 @@
-use Rattle.std.proofs.Common.{◌≡◌, ◌∙◌, subst, sym, List, ap}
+use Rattle.std.proofs.Common.{subst, ap}
 use Rattle.mt_types.specs.declared.event.Answer.{Answer}
 use Rattle.mt_types.specs.declared.event.Answer.TheVariants.{Absent, Found}
 use Rattle.mt_types.specs.declared.event.Request.TheVariants.{Get as GetRequest}

@@ -1,4 +1,4 @@
-use Rattle.std.proofs.Common.{◌≡◌, ◌∙◌, ap, sym, length}
+use Rattle.std.proofs.Common.{◌∙◌, ap, sym, length}
 use Rattle.mt_index.specs.Stands.{MachineView}
 use Rattle.mt_index.proofs.PairedLemmas.{paired-length}
 use Rattle.mt_index.proofs.FirstLemmas.{no_calls}

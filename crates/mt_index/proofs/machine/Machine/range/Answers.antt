@@ -1,4 +1,4 @@
-use Rattle.std.proofs.Common.{◌≡◌, ◌∙◌, subst, sym, List, ap}
+use Rattle.std.proofs.Common.{subst, sym, ap}
 use Rattle.mt_types.specs.declared.event.Answer.TheVariants.{Rows as RowsAnswer}
 use Rattle.mt_types.specs.declared.event.Request.TheVariants.{Range as RangeRequest}
 use Rattle.mt_arena.specs.Arena.{ArenaView}
