@@ -1,5 +1,5 @@
 -- Once the epoch goes on, and once the node that was retired first is freed, the tree is an index still, for all calls that began later.
-use Rattle.std.proofs.Common.{ℕ, suc, ◌≡◌, ◌≢◌, ◌<◌, ◌≤◌, ◌+◌, ◌↔◌, inl, inr, List, [], ◌∷◌, drop, Option, Some, None, IsSome, Bool, true, false, refl, sym, ap, subst, ◌∙◌, arith}
+use Rattle.std.proofs.Common.{ℕ, suc, ◌≡◌, ◌≢◌, ◌<◌, ◌≤◌, ◌+◌, inl, inr, List, [], ◌∷◌, drop, Option, Some, None, IsSome, Bool, true, false, refl, sym, ap, subst, ◌∙◌, arith}
 use Rattle.std.specs.Prelude.{IsSomeAnd, All, AllPairs, if◌then◌else◌}
 use Rattle.std.proofs.Common.{◌==◌, set}
 use Rattle.std.proofs.lemmas.Bool.{eq-eqb}
@@ -8,13 +8,13 @@ use Rattle.std.proofs.lemmas.List.Elements.{All-nil, All-cons, All-head, All-tai
 use Rattle.mt_border.specs.Border.{BorderView}
 use Rattle.mt_interior.specs.Head.{HeadView}
 use Rattle.mt_interior.specs.Interior.{InteriorView}
-use Rattle.mt_arena.specs.Node.{Nodes, node_at, head_at, head_of, interior_at, interior_of, border_at, border_of, Updates}
+use Rattle.mt_arena.specs.Node.{Nodes, node_at, head_of, interior_of, border_at, border_of, Updates}
 use Rattle.mt_arena.specs.Arena.{ArenaView, IsArena, nodes_left, without_first_retired}
 use Rattle.mt_arena.specs.declared.retired.Retired.{Retired}
 use Rattle.mt_arena.specs.declared.node.Node.{Node}
-use Rattle.mt_arena.proofs.NodeLemmas.{node-from_border, updates-without}
+use Rattle.mt_arena.proofs.NodeLemmas.{updates-without}
 use Rattle.mt_chart.specs.Tree.{Among, first, later, InteriorNode, border, interior, PlainNode}
-use Rattle.mt_chart.specs.Chart.{Role, top, at_level, on, gone, Spot, spot, Chart, OnHead, Evolves, Changes}
+use Rattle.mt_chart.specs.Chart.{Role, top, at_level, on, gone, Spot, spot, Chart, Evolves, Changes}
 use Rattle.mt_chart.specs.Steps.{SameContent}
 use Rattle.mt_chart.proofs.Basics.{same_number}
 use Rattle.mt_tree.specs.Seen.{arena_seen, border_seen, interior_seen}
@@ -24,7 +24,7 @@ use Rattle.mt_arena.specs.declared.node.Node.TheVariants.{Head, Interior, Border
 use Rattle.mt_chart.specs.Tree.{head}
 use Rattle.mt_tree.specs.Seen.{node_seen, head_seen}
 use Rattle.mt_tree.proofs.SeenLemmas.{seen-border}
-use Rattle.mt_calls.specs.World.{World, IsWorld, IsLockedRoot, HeadsStand, IsLockedInterior, TwinsAreLocked, IsGone, RetiredAreGone, NotRetired, IsLocked, IsTaken, IsSame, NotAmong, GoneSince}
+use Rattle.mt_calls.specs.World.{World, IsWorld, HeadsStand, IsLockedInterior, IsGone, NotRetired, IsLocked, IsTaken, IsSame, GoneSince}
 use Rattle.mt_calls.proofs.FrameLemmas.{taken_back}
 use Rattle.mt_calls.proofs.AliveLemmas.{alive_unknown, alive_beside, same_on}
 use Rattle.mt_calls.proofs.BorderLemmas.{keys_same}

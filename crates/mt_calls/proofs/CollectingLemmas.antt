@@ -1,5 +1,5 @@
 -- A collection frees one node after another.
-use Rattle.std.proofs.Common.{ℕ, zero, suc, ◌≡◌, ◌≢◌, ◌<◌, ◌≤◌, ◌+◌, ◌↔◌, inl, inr, List, [], ◌∷◌, length, take, drop, slice_get, Option, Some, None, IsSome, true, refl, sym, ap, subst, ◌∙◌, arith, add-one}
+use Rattle.std.proofs.Common.{ℕ, zero, suc, ◌≡◌, ◌<◌, ◌≤◌, ◌+◌, inl, inr, List, [], ◌∷◌, length, take, drop, slice_get, Option, Some, None, IsSome, true, refl, sym, ap, subst, ◌∙◌, arith, add-one}
 use Rattle.std.specs.Prelude.{IsSomeAnd, All, slice_index_or}
 use Rattle.std.specs.List.Sorted.{IsNonDecreasingBy}
 use Rattle.std.specs.Option.{option_and_then}
@@ -7,16 +7,15 @@ use Rattle.std.proofs.lemmas.List.Elements.{All-nil, All-cons, All-head, All-tai
 use Rattle.mt_types.specs.declared.limits.TheConstants.{MAX_NODES}
 use Rattle.mt_types.specs.declared.numbers.NodeNo.{NodeNo}
 use Rattle.mt_interior.specs.Head.{HeadView}
-use Rattle.mt_arena.specs.Node.{node_at, head_of}
+use Rattle.mt_arena.specs.Node.{head_of}
 use Rattle.mt_arena.specs.Arena.{ArenaView, IsArena, without_first_retired}
 use Rattle.mt_arena.specs.declared.retired.Retired.{Retired}
 use Rattle.mt_arena.specs.declared.node.Node.{Node}
 use Rattle.mt_arena.proofs.ArenaLemmas.{retired_among}
-use Rattle.mt_chart.specs.Chart.{at_level, gone, spot}
 use Rattle.mt_chart.proofs.HeldNodes.{evolves_same, evolves_again}
 use Rattle.mt_tree.specs.Keeping.{FreesNode}
-use Rattle.mt_calls.specs.World.{World, IsWorld, IsLocked, IsTaken, IsSame}
-use Rattle.mt_calls.specs.Collecting.{IsCollected, TakenSince, Leaves, CollectLaw, given_back}
+use Rattle.mt_calls.specs.World.{World, IsLocked, IsTaken, IsSame}
+use Rattle.mt_calls.specs.Collecting.{CollectLaw, given_back}
 use Rattle.mt_calls.proofs.LayerLemmas.{content_twice}
 use Rattle.mt_calls.proofs.CollectLemmas.{without_spot, collects}
 

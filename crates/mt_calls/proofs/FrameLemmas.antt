@@ -19,7 +19,7 @@ use Rattle.mt_chart.proofs.HeldNodes.{evolves_same}
 use Rattle.mt_chart.proofs.TreeLemmas.{nodes_there}
 use Rattle.mt_chart.proofs.Trail.{trail_bound}
 use Rattle.mt_tree.specs.Seen.{arena_seen, node_seen}
-use Rattle.mt_calls.specs.World.{World, IsWorld, NotRetired, IsLocked, IsMarkedHead, IsTaken, IsSame, NotAmong, Goes}
+use Rattle.mt_calls.specs.World.{World, IsWorld, NotRetired, IsLocked, IsTaken, IsSame, NotAmong, Goes}
 use Rattle.mt_calls.specs.Step.{IsQuiet}
 
 -- a number is one of a list, or not

@@ -255,7 +255,7 @@ pub lone_range_nearer : (a : ArenaView) (now begun moves : ℕ) (past : List Are
     → (next : World) → ((number : ℕ) → next.chart number ≡ w.chart number) → (then made : ℕ) (since : List Arena) → RangeIsTrue new then made since a next
     → range_stands next new × (range_left a new < range_left a range)
 lone_range_nearer a now begun moves past w range new world truth stands follows next same then made since true_then =
-    scan_nearer_in a now w next world same range.node.0 new.node.0 begun then (first_slice new.scan.at) (cursor_in range.scan) (cursor_in new.scan) stands truth.scans.held follows true_then.scans.held
+    scan_nearer_in a now w next world same range.node.0 new.node.0 begun then (first_slice new.scan.at) (cursor_in range.scan) (cursor_in new.scan) stands truth.scans.held follows.0 true_then.scans.held
 
 -- it begins at a node that is on
 pub range_begins : (a : ArenaView) (now : ℕ) (w : World) → IsWorld a now w → ScanStands w.chart 0 []

@@ -1,12 +1,10 @@
 -- What a step leaves that retires a node, which is gone.
-use Rattle.std.proofs.Common.{ℕ, ◌≡◌, ◌≢◌, ◌≤◌, ◌⊎◌, ◌↔◌, inl, inr, List, [], ◌∷◌, ◌++◌, Option, Some, None, IsSome, refl, sym, ap, subst, ◌∙◌, arith}
-use Rattle.std.specs.Prelude.{All}
+use Rattle.std.proofs.Common.{ℕ, ◌≡◌, ◌≢◌, ◌↔◌, inl, inr, List, [], ◌∷◌, ◌++◌, Option, Some, None, refl, sym, ap, subst, ◌∙◌, arith}
 use Rattle.std.proofs.lemmas.List.Elements.{All-push, All-pop, All-weaker}
 use Rattle.mt_types.specs.declared.numbers.NodeNo.{NodeNo}
 use Rattle.mt_arena.specs.Node.{node_at}
 use Rattle.mt_arena.specs.Arena.{ArenaView, with_retired}
 use Rattle.mt_arena.specs.declared.retired.Retired.{Retired}
-use Rattle.mt_arena.specs.declared.node.Node.{Node}
 use Rattle.mt_chart.specs.Tree.{Among, first, later}
 use Rattle.mt_chart.specs.Chart.{Role, gone, Spot, spot}
 use Rattle.mt_chart.specs.Steps.{Keeps, SameContent}

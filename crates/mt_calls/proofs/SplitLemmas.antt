@@ -20,7 +20,7 @@ use Rattle.mt_chart.proofs.Entries.{among_cases}
 use Rattle.mt_tree.specs.Seen.{arena_seen}
 use Rattle.mt_tree.specs.Keeping.{KeepsTree, KeepsUnknown, IsUnknown, IsOnIn}
 use Rattle.mt_tree.specs.BorderSteps.{LinksHalfAt}
-use Rattle.mt_calls.specs.World.{World, IsWorld, HeadsStand, FreeAreAlive, NotRetired, IsLocked, IsTaken, NotAmong, Goes}
+use Rattle.mt_calls.specs.World.{World, IsWorld, HeadsStand, FreeAreAlive, IsLocked, IsTaken, NotAmong, Goes}
 use Rattle.mt_calls.proofs.BorderLemmas.{goes_border, locked_may, alive_changed, unknown_kept, no_root, roots_kept, heads_changed, twins_changed, twins_beside, no_interior, retired_kept, keys_same, others_named}
 use Rattle.mt_calls.proofs.FrameLemmas.{is_among, taken_back, retired_same}
 use Rattle.mt_calls.proofs.AliveLemmas.{alive_node, alive_unknown, alive_there, alive_placed}

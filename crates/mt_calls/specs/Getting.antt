@@ -1,5 +1,5 @@
 -- What is true of a get.
-use Rattle.std.specs.Prelude.{ℕ, List, None}
+use Rattle.std.specs.Prelude.{ℕ, ◌≡◌, List, None}
 use Rattle.mt_types.specs.declared.event.Answer.{Answer}
 use Rattle.mt_types.specs.declared.event.Request.{Request}
 use Rattle.mt_types.specs.declared.event.Request.TheVariants.{Get as GetRequest}
@@ -9,10 +9,10 @@ use Rattle.mt_chart.specs.Walk.{Trail}
 use Rattle.mt_calls.specs.declared.way.Way.{Way}
 use Rattle.mt_calls.specs.declared.getting.Get.{Get}
 use Rattle.mt_calls.specs.World.{World, IsWorld}
-use Rattle.mt_calls.specs.declared.way.Went.TheVariants.{To}
+use Rattle.mt_calls.specs.declared.way.Went.TheVariants.{To, Here}
 use Rattle.mt_calls.specs.declared.progress.Progress.{Progress}
-use Rattle.mt_calls.specs.declared.progress.Progress.TheVariants.{Moved}
-use Rattle.mt_calls.specs.Way.{IsOnWay, IsAtPlace, Visits}
+use Rattle.mt_calls.specs.declared.progress.Progress.TheVariants.{Moved, Waits}
+use Rattle.mt_calls.specs.Way.{IsOnWay, IsAtPlace, Visits, VisitIs, start}
 use Rattle.mt_calls.specs.Step.{IsRight}
 
 abbrev pub get_request : Get → Request
@@ -27,7 +27,9 @@ pub record Reads (a : ArenaView) (key : List ℕ) (way : Way) (asked : List ℕ)
   pub reads : (now : ℕ) (w : World) → IsWorld a now w → IsAtPlace a key way w → (past : List Arena)
       → IsRight past a (GetRequest key asked) None answer
 
--- where it moves, it goes to the node to which its visit leads
+-- A STEP VISITS ONE NODE. Where it moves, it goes to the node to which that visit leads; where it waits, it begins its
+-- way again; it answers, or is refused, only where the node is its key's border.
 abbrev pub GetFollows : ArenaView → Get → Progress → Get → Type 0
 GetFollows a get Moved new = Visits a get.key get.way (To new.way)
-GetFollows a get _ new = Unit {0}
+GetFollows a get Waits new = new.way ≡ start
+GetFollows a get _ new = VisitIs a get.key get.way Here

@@ -1,9 +1,10 @@
 -- What is true of a range.
-use Rattle.std.specs.Prelude.{ℕ, ◌≡◌, ◌<◌, ◌+◌, ◌⊎◌, ◌^◌, List, ◌∷◌, length, Some, false}
+use Rattle.std.specs.Prelude.{ℕ, ◌≡◌, ◌<◌, ◌+◌, ◌⊎◌, ◌^◌, List, [], ◌∷◌, length, Some, false}
 use Rattle.mt_types.specs.Rows.{shown}
+use Rattle.mt_types.specs.declared.event.Answer.TheVariants.{Rows}
 use Rattle.mt_types.specs.declared.event.Request.{Request}
 use Rattle.mt_types.specs.declared.event.Request.TheVariants.{Range as RangeRequest}
-use Rattle.mt_slice.specs.Place.{AreBytes, place_of, first_slice}
+use Rattle.mt_slice.specs.Place.{AreBytes, place_of, first_slice, under}
 use Rattle.mt_border.specs.Border.{BorderView}
 use Rattle.mt_arena.specs.Node.{border_at}
 use Rattle.mt_arena.specs.Arena.{ArenaView, IsArena}
@@ -18,12 +19,15 @@ use Rattle.mt_tree.specs.Seen.{arena_seen, border_seen}
 use Rattle.mt_tree.specs.Keeping.{IsIndexAt}
 use Rattle.mt_scan.specs.Cursor.{CursorView}
 use Rattle.mt_scan.specs.Onward.{cursor_in, cursor_of, all_cursors, GetsOn}
-use Rattle.mt_scan.specs.declared.scan.ScanMove.TheVariants.{To as VisitedTo}
+use Rattle.mt_scan.specs.declared.scan.ScanMove.{ScanMove}
+use Rattle.mt_scan.specs.declared.scan.ScanMove.TheVariants.{To as VisitedTo, Top as VisitedTop, Done as VisitDone}
+use Rattle.mt_scan.specs.Scan.{ScanView, VisitsBorder}
 use Rattle.mt_calls.specs.declared.progress.Progress.{Progress}
-use Rattle.mt_calls.specs.declared.progress.Progress.TheVariants.{Moved}
+use Rattle.mt_calls.specs.declared.progress.Progress.TheVariants.{Moved, Waits, Answered}
 use Rattle.mt_calls.specs.declared.ranging.Range.{Range}
 use Rattle.mt_calls.specs.declared.ranging.Sought.{Sought}
 use Rattle.mt_calls.specs.declared.ranging.Sought.TheVariants.{Again, To, Here}
+use Rattle.mt_calls.specs.Way.{start}
 use Rattle.mt_calls.specs.World.{World, IsWorld}
 
 abbrev pub range_request : Range → Request
@@ -84,9 +88,35 @@ pub record ScansOn (a : ArenaView) (number next : ℕ) (c d : CursorView) : Type
 abbrev pub ScanGoes : ArenaView → ℕ → ℕ → CursorView → CursorView → Type 0
 ScanGoes a number next c d = (SeeksOn a number next c × (d ≡ c)) ⊎ ScansOn a number next c d
 
--- where it moves, its scan gets on
+-- a scan is taken back to the head of layer 0, with its cursor and its pairs as they were
+abbrev pub restarted : ScanView → ScanView
+restarted scan = record scan { prefix = []; at = under scan.prefix scan.at }
+
+-- the visit of the one border where it stands leads its scan on so
+pub record ScansBorder (a : ArenaView) (range : Range) (visited : ScanMove) (scan : ScanView) : Type 0 where
+  pub border : BorderView
+  pub stands : border_at a.nodes range.node.0 ≡ Some border
+  pub visits : VisitsBorder range.scan border visited scan
+
+-- a scan that goes on is then at the node of this number
+abbrev pub IsThen : ScanMove → ℕ → Type 0
+IsThen (VisitedTo next) number = number ≡ next.0
+IsThen VisitedTop number = number ≡ start.node.0
+IsThen VisitDone number = ⊥
+
+-- on its way its scan is as it was; and else it visits the border where it stands
+abbrev pub Scans : ArenaView → Range → Range → Type 0
+Scans a range new = (new.scan ≡ range.scan)
+    ⊎ ((visited : ScanMove) × ScansBorder a range visited new.scan × IsThen visited new.node.0)
+
+-- A STEP VISITS ONE NODE. Where it moves, its scan gets on; where it waits, it begins its way again; it answers where
+-- that node is the border at which its scan ends, with all that this has taken.
 abbrev pub RangeFollows : ArenaView → Range → Progress → Range → Type 0
-RangeFollows a range Moved new = ScanGoes a range.node.0 new.node.0 (cursor_in range.scan) (cursor_in new.scan)
+RangeFollows a range Moved new =
+    ScanGoes a range.node.0 new.node.0 (cursor_in range.scan) (cursor_in new.scan) × Scans a range new
+RangeFollows a range Waits new = (new.node ≡ start.node) × (new.scan ≡ restarted range.scan)
+RangeFollows a range (Answered answer) new =
+    (scan : ScanView) × ScansBorder a range VisitDone scan × (answer ≡ Rows scan.taken)
 RangeFollows a range _ new = Unit {0}
 
 -- where it moves, and nothing else happens meanwhile, what was true of it is true again

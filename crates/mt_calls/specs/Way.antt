@@ -1,17 +1,22 @@
 -- A call on its way to the border of its key.
-use Rattle.std.specs.Prelude.{ℕ, ◌≡◌, ◌≤◌, ◌+◌, ◌*◌, ◌⊎◌, List, length, false}
+use Rattle.std.specs.Prelude.{ℕ, ◌≡◌, ◌≤◌, ◌+◌, ◌*◌, ◌⊎◌, List, length, false, IsSomeAnd}
 use Rattle.mt_slice.specs.Place.{place_of, under, slices_above, rest_at, slice_number}
 use Rattle.mt_arena.specs.Arena.{ArenaView}
+use Rattle.mt_arena.specs.Node.{node_at}
 use Rattle.mt_chart.specs.Chart.{Holds, top}
 use Rattle.mt_chart.specs.Walk.{Known, Moves}
 use Rattle.mt_tree.specs.Seen.{arena_seen}
 use Rattle.mt_tree.specs.declared.visit.Visit.{Visit}
 use Rattle.mt_tree.specs.declared.visit.Visit.TheVariants.{Again as VisitAgain, To as VisitTo, Below, Here as VisitHere}
-use Rattle.mt_tree.specs.Descent.{IsHere, IsLast, MayVisit, found_for}
+use Rattle.mt_tree.specs.Descent.{IsHere, IsLast, MayVisit, found_for, node_visit}
 use Rattle.mt_calls.specs.declared.way.Way.{Way}
 use Rattle.mt_calls.specs.declared.way.Went.{Went}
 use Rattle.mt_calls.specs.declared.way.Went.TheVariants.{Again, To, Here}
 use Rattle.mt_calls.specs.World.{World, IsWorld}
+
+-- every way begins at the head of layer 0
+abbrev pub start : Way
+start = record { node = record { 0 = 0 }; layer = 0 }
 
 -- the slices of the layers above the layer where a call stands, and what they have left of the key
 abbrev pub prefix_of : List ℕ → Way → List ℕ
@@ -60,6 +65,11 @@ went_by way VisitAgain = Again
 went_by way (VisitTo next) = To (record { node = next; layer = way.layer })
 went_by way (Below below) = To (record { node = below; layer = way.layer + 1 })
 went_by way VisitHere = Here
+
+-- a visit of the one node where a call stands comes to this
+abbrev pub VisitIs : ArenaView → List ℕ → Way → Went → Type 0
+VisitIs a key way went =
+    IsSomeAnd (node_at a.nodes way.node.0) (λ node. went ≡ went_by way (node_visit (rest_of key way) node))
 
 -- what a call must know before it visits the node where it stands
 pub record MayGo (a : ArenaView) (key : List ℕ) (way : Way) : Type 0 where

@@ -2,6 +2,7 @@
 
 ghost use Rattle.std.specs.Prelude.{◌≡◌, IfOk};
 ghost use Rattle.mt_calls.specs.Getting.{get_request};
+ghost use Rattle.mt_calls.specs.Way.{start};
 ghost use Rattle.mt_types.specs.declared.event.Answer.TheVariants.{Rows};
 ghost use Rattle.mt_calls.specs.Ranging.{range_request};
 ghost use Rattle.mt_calls.specs.Lone.{IsLoneTree, IsRightNow, IsAtBegin, HasRows};
@@ -25,7 +26,7 @@ impl Get {
     /// `NoMemory` where an allocation is refused.
     pub fn run_alone(self, alloc: Global, tree: &Tree) -> Result<Answer, NoMemory>
         requires lone { IsLoneTree tree.now }
-        requires begins { self.way ≡ record { node = record { 0 = 0 }; layer = 0 } }
+        requires begins { self.way ≡ start }
         ensures { IfOk result (λ answer. IsRightNow tree.now (get_request self) answer) }
     {
         let _bytes = rest_of(&self.key, 0);

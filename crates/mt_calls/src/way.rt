@@ -1,12 +1,10 @@
 //! The way of a call down the tree, to the border of its key.
 
-ghost use Rattle.std.specs.Prelude.{◌≡◌, ◌*◌, ◌≤◌, length, IsSomeAnd};
+ghost use Rattle.std.specs.Prelude.{◌≡◌, ◌*◌, ◌≤◌, length};
 ghost use Rattle.mt_types.specs.declared.limits.TheConstants.{MAX_KEY_BYTES};
 ghost use Rattle.mt_slice.specs.Place.{rest_at, AreBytes};
 ghost use Rattle.mt_arena.specs.Arena.{IsArena};
-ghost use Rattle.mt_arena.specs.Node.{node_at};
-ghost use Rattle.mt_tree.specs.Descent.{node_visit};
-ghost use Rattle.mt_calls.specs.Way.{MayGo, Visits, went_by};
+ghost use Rattle.mt_calls.specs.Way.{MayGo, Visits, VisitIs};
 ghost use Rattle.mt_calls.specs.Causes.{IsMarkedAt};
 
 use mt_slice::{SLICE_BYTES, key_bytes};
@@ -54,8 +52,7 @@ impl Way {
     pub fn visit(&self, tree: &Tree, key: &Key) -> Went
         requires { MayGo tree.now key.now self.now }
         ensures visits { Visits tree.now key.now self.now result }
-        ensures value { IsSomeAnd (node_at tree.now.nodes self.now.node.0)
-            (λ node. result ≡ went_by self.now (node_visit (rest_at self.now.layer key.now) node)) }
+        ensures value { VisitIs tree.now key.now self.now result }
         ensures again { result ≡ Went.Again → IsMarkedAt tree.now self.now.node.0 }
         ensures sound { IsArena tree.now }
         ensures bytes { AreBytes key.now }

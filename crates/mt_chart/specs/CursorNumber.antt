@@ -22,7 +22,7 @@ AreDigits base (digit ∷ digits) = (digit < base) × AreDigits base digits
 abbrev pub digit_base : ℕ
 digit_base = 36893488147419103232
 
--- the digits of a cursor that stands at a place
+-- the digits of a cursor that stands at a place, of its slices alone: none is the one more
 abbrev pub place_digits : Place → List ℕ
 place_digits (last slice bytes) = (2 * slice) ∷ []
 place_digits (deeper slice rest) = (2 * slice) ∷ place_digits rest

@@ -15,6 +15,7 @@ pub mod ApplyStands
 pub mod EpochStands
 pub mod MachineLemmas
 pub mod CauseLemmas
+pub mod OneStepLemmas
 pub mod AloneStands
 pub mod LawLemmas
 pub mod FeedLemmas

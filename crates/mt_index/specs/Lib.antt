@@ -4,5 +4,6 @@ pub mod Viewing
 pub mod Stands
 pub mod Alone
 pub mod Causes
+pub mod OneStep
 pub mod Laws
 pub mod Feed

@@ -13,6 +13,7 @@ ghost use Rattle.mt_types.specs.declared.event.Event.TheVariants.{Collect};
 ghost use Rattle.mt_types.specs.declared.event.Outcome.TheVariants.{Call as Called};
 ghost use Rattle.mt_index.specs.Alone.{IsIdle};
 ghost use Rattle.mt_index.specs.Causes.{IsCaused};
+ghost use Rattle.mt_index.specs.OneStep.{IsOneStep};
 ghost use Rattle.mt_commit.specs.Logged.{deltas_of};
 ghost use Rattle.mt_index.specs.Feed.{feed_fault};
 ghost use Rattle.mt_commit.specs.Log.{newest};
@@ -532,8 +533,9 @@ impl Machine {
     }
 
     /// One event, and what came of it. Wherever the machine stands, it then stands where this has happened too, and
-    /// that is legal: `stands` says so of each history. Why a call waits, fails or is refused, and which
-    /// nodes a collection frees, which a history doesn't show, is the clause `caused`.
+    /// that is legal: `stands` says so of each history. Two clauses tell what a history doesn't show: `caused`, why a
+    /// call waits, fails or is refused, and which nodes a collection frees; and `one_step`, that a step of a call is
+    /// one step of its kind, by the tree before it: it visits one node, or takes one delta.
     ///
     /// A begin costs some allocations, and a step the visit of one node and at most some allocations. A step finds its
     /// call once, and the last one once more: at the cost of a way down the tree of open calls, or of none for a call
@@ -542,6 +544,7 @@ impl Machine {
         ensures stands { (h : History) → Stands self.old h → (opens : ℕ)
             × Stands self.new (happening event.now result opens ∷ h) }
         ensures caused { IsCaused self.old event.now result self.new }
+        ensures one_step { IsOneStep self.old event.now result self.new }
         ensures columns { self.new.columns ≡ self.old.columns }
         ensures bounds { HasBounds self.old.log.feed self.old.log.keep self.new.log }
     {

@@ -11,7 +11,7 @@ use Rattle.mt_interior.specs.Interior.{InteriorView, IsInterior, StartsAt, with_
 use Rattle.mt_interior.specs.declared.child.Child.{Child}
 use Rattle.mt_interior.specs.declared.interior.TheConstants.{MAX_CHILDREN, KEPT_CHILDREN}
 use Rattle.mt_post.specs.declared.waiting.TheConstants.{MAX_WAITING}
-use Rattle.mt_arena.specs.Node.{node_at, interior_at, interior_of, Updates, border_at, border_of}
+use Rattle.mt_arena.specs.Node.{node_at, interior_at, interior_of, Updates, border_of}
 use Rattle.mt_arena.specs.Arena.{ArenaView, with_interior_changed, without_node}
 use Rattle.mt_arena.specs.declared.node.Node.{Node}
 use Rattle.mt_arena.specs.declared.node.Node.TheVariants.{Interior}

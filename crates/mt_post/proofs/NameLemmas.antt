@@ -6,7 +6,7 @@ use Rattle.mt_types.specs.declared.numbers.NodeNo.{NodeNo}
 use Rattle.mt_interior.specs.Head.{HeadView, with_root}
 use Rattle.mt_interior.specs.Interior.{InteriorView, StartsAt}
 use Rattle.mt_interior.specs.declared.interior.TheConstants.{KEPT_CHILDREN}
-use Rattle.mt_arena.specs.Node.{head_at, head_of, interior_at, interior_of, Updates, border_at, border_of}
+use Rattle.mt_arena.specs.Node.{head_at, head_of, interior_at, interior_of, Updates, border_of}
 use Rattle.mt_arena.specs.Arena.{ArenaView, IsArena, with_head_changed}
 use Rattle.mt_arena.specs.declared.node.Node.{Node}
 use Rattle.mt_arena.specs.declared.node.Node.TheVariants.{Head, Interior}

@@ -2,7 +2,7 @@
 use Rattle.std.proofs.Common.{ℕ, ◌≡◌, ◌≢◌, ◌≤◌, ◌<◌, ◌+◌, ◌⊎◌, inl, inr, List, [], ◌∷◌, slice_get, Option, Some, None, IsSome, true, false, refl, sym, ap, subst, ◌∙◌, arith}
 use Rattle.std.specs.Prelude.{IsSomeAnd, All}
 use Rattle.std.specs.Option.{option_and_then}
-use Rattle.std.proofs.lemmas.List.Elements.{All-weaker, All-nil, All-cons}
+use Rattle.std.proofs.lemmas.List.Elements.{All-nil, All-cons}
 use Rattle.std.proofs.lemmas.List.Sorted.{IsNonDecreasingBy-push, IsNonDecreasingBy-short}
 use Rattle.mt_types.specs.declared.limits.TheConstants.{MAX_LEVEL}
 use Rattle.mt_post.specs.declared.split.Split.{Split}
@@ -13,12 +13,11 @@ use Rattle.mt_interior.specs.Interior.{InteriorView, IsInterior, with_children, 
 use Rattle.mt_interior.specs.declared.child.Child.{Child}
 use Rattle.mt_arena.specs.Node.{node_at, head_at, head_of, interior_at, interior_of, border_of, Updates, border_at}
 use Rattle.mt_arena.specs.Arena.{ArenaView, with_head_changed, with_interior_changed, without_node}
-use Rattle.mt_arena.specs.declared.retired.Retired.{Retired}
 use Rattle.mt_arena.specs.declared.node.Node.{Node}
 use Rattle.mt_arena.specs.declared.node.Node.TheVariants.{Head, Interior, Border}
 use Rattle.mt_arena.proofs.NodeLemmas.{updates-with_node, updates-without, node-from_head, node-from_interior, node-from_border}
-use Rattle.mt_chart.specs.Tree.{first, later, Among, HeadNode, head}
-use Rattle.mt_chart.specs.Chart.{top, at_level, Standing, on, gone, Spot, spot, Chart, OnHead}
+use Rattle.mt_chart.specs.Tree.{first, later, Among}
+use Rattle.mt_chart.specs.Chart.{at_level, on, gone, Spot, spot, Chart, OnHead}
 use Rattle.mt_chart.specs.Steps.{Keeps, SameContent}
 use Rattle.mt_chart.proofs.Basics.{same_number}
 use Rattle.mt_chart.proofs.Entries.{among_cases}
@@ -27,7 +26,7 @@ use Rattle.mt_tree.specs.Seen.{arena_seen}
 use Rattle.mt_tree.specs.Keeping.{KeepsTree, KeepsUnknown, KeepsWhere, KeepsAlong, IsUnknown}
 use Rattle.mt_tree.specs.InteriorSteps.{IsNotGone}
 use Rattle.mt_tree.specs.HeadSteps.{IsRootOver, NamesRootAt}
-use Rattle.mt_tree.proofs.SeenLemmas.{changed-head, head-seen}
+use Rattle.mt_tree.proofs.SeenLemmas.{changed-head}
 use Rattle.mt_calls.specs.World.{World, IsWorld, HeadsStand, IsLocked, IsTaken, IsSame, Goes}
 use Rattle.mt_calls.proofs.BorderLemmas.{known_stays, no_interior, unknown_kept, on_kept, no_root, roots_kept}
 use Rattle.mt_calls.proofs.AliveLemmas.{alive_node, alive_unknown, alive_there, alive_placed}

@@ -1,5 +1,5 @@
 -- The steps of a posting on its way: at a head, and at an interior, which comes to name the border.
-use Rattle.std.proofs.Common.{ℕ, zero, suc, ◌≡◌, ◌≤◌, ◌<◌, ◌+◌, ◌⊎◌, inl, inr, List, [], ◌∷◌, length, slice_get, Option, Some, None, IsSome, true, false, refl, sym, ap, subst, ◌∙◌, arith}
+use Rattle.std.proofs.Common.{ℕ, zero, suc, ◌≡◌, ◌≤◌, ◌<◌, ◌+◌, ◌⊎◌, inl, inr, List, [], ◌∷◌, length, slice_get, Option, Some, None, true, false, refl, sym, ap, subst, ◌∙◌, arith}
 use Rattle.std.specs.Prelude.{IsSomeAnd}
 use Rattle.std.specs.Option.{option_map}
 use Rattle.mt_types.specs.declared.numbers.NodeNo.{NodeNo}
@@ -12,16 +12,15 @@ use Rattle.mt_arena.specs.Node.{node_at, head_at, interior_at, border_at}
 use Rattle.mt_arena.specs.Arena.{ArenaView, with_interior_changed}
 use Rattle.mt_arena.specs.declared.node.Node.TheVariants.{Border}
 use Rattle.mt_arena.proofs.NodeLemmas.{node-from_border}
-use Rattle.mt_chart.specs.Tree.{head, border as plain_border, first, Among}
-use Rattle.mt_chart.specs.Chart.{Role, top, at_level, Standing, on, gone, Spot, spot, Chart, Holds, IsTree, OnHead, AreChildren, Changes}
+use Rattle.mt_chart.specs.Tree.{border as plain_border, first, Among}
+use Rattle.mt_chart.specs.Chart.{Role, top, at_level, Standing, on, gone, Spot, spot, Chart, Holds, IsTree, AreChildren}
 use Rattle.mt_chart.specs.Steps.{SameContent}
 use Rattle.mt_chart.proofs.TreeLemmas.{children_held, free_interiors_on}
-use Rattle.mt_chart.proofs.Basics.{same_number}
-use Rattle.mt_tree.specs.Seen.{arena_seen, node_seen, head_seen, interior_seen, border_seen, child_seen, children_seen}
+use Rattle.mt_tree.specs.Seen.{arena_seen, node_seen, interior_seen, border_seen, child_seen, children_seen}
 use Rattle.mt_tree.specs.Descent.{MayVisit}
 use Rattle.mt_tree.specs.Keeping.{KeepsAlong}
 use Rattle.mt_tree.specs.InteriorSteps.{PostsAt, IsInLayer, HasRoomFrom}
-use Rattle.mt_tree.proofs.SeenLemmas.{seen-head, seen-interior}
+use Rattle.mt_tree.proofs.SeenLemmas.{seen-interior}
 use Rattle.mt_tree.proofs.HeldLemmas.{held_may_visit}
 use Rattle.mt_tree.proofs.InteriorPlaces.{stands_as}
 use Rattle.mt_tree.proofs.ChildLists.{among_read}

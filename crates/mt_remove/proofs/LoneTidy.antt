@@ -24,7 +24,7 @@ use Rattle.mt_calls.specs.declared.way.Went.TheVariants.{Again, To, Here}
 use Rattle.mt_calls.specs.declared.progress.Progress.TheVariants.{Moved, Waits, Answered}
 use Rattle.mt_calls.specs.World.{World, IsWorld, IsTaken, IsLocked, NotAmong}
 use Rattle.mt_calls.specs.Causes.{IsLockedAlready}
-use Rattle.mt_calls.specs.Way.{prefix_of, rest_of, went_by, IsOnWay, IsHeadOf, Visits}
+use Rattle.mt_calls.specs.Way.{start, prefix_of, rest_of, went_by, IsOnWay, IsHeadOf, Visits}
 use Rattle.mt_calls.proofs.LoneWay.{way_left, StandsIn, on_height, MovesOn, moves_on, layers_above, IsOnThere, way_moves, not_marked, starts_on}
 use Rattle.mt_remove.specs.declared.noted.Namer.{Namer}
 use Rattle.mt_remove.specs.declared.noted.Namer.TheVariants.{Head as NamedByHead, Interior as NamedByInterior}
@@ -39,7 +39,7 @@ use Rattle.mt_remove.specs.declared.stage.Stage.TheVariants.{Seeks, Locked, Drop
 use Rattle.mt_remove.specs.Noted.{noted_below, noted_at, noted_from, sign_of}
 use Rattle.mt_remove.specs.Seen.{is_lone, place_in, later_place, link_place}
 use Rattle.mt_remove.specs.Tidy.{stage_owns, tidy_held, StageIsTrue, TidyIsTrue, IsUnlinking}
-use Rattle.mt_remove.specs.Follows.{Did, GoesTo, start, not_noted, BeginsBy, FollowsVisit, DropsBy, LocksBy, BypassesBy, FollowsNamer, LocksAbove, rest_above, Follows, TidyFollows, StageWaits, TidyWaits}
+use Rattle.mt_remove.specs.Follows.{Did, GoesTo, not_noted, BeginsBy, FollowsVisit, DropsBy, LocksBy, BypassesBy, FollowsNamer, LocksAbove, rest_above, Follows, TidyFollows, StageWaits, TidyWaits}
 
 -- ---- what else is true of it
 -- the head of the layer where it is is on, and the layer is one of the key's

@@ -27,7 +27,7 @@ use Rattle.mt_calls.specs.declared.progress.Progress.{Progress}
 use Rattle.mt_calls.specs.declared.progress.Progress.TheVariants.{Moved, Waits, Answered}
 use Rattle.mt_calls.specs.World.{World, Goes}
 use Rattle.mt_calls.specs.Causes.{IsMarkedAt}
-use Rattle.mt_calls.specs.Way.{prefix_of, rest_of, went_by, IsOnWay, IsAtPlace, IsHeadOf, LeadsToHead, GoesTo, MayGo, Visits}
+use Rattle.mt_calls.specs.Way.{start, prefix_of, rest_of, went_by, IsOnWay, IsAtPlace, IsHeadOf, LeadsToHead, GoesTo, MayGo, Visits}
 use Rattle.mt_calls.proofs.GetLemmas.{may_go}
 use Rattle.mt_calls.proofs.WayLemmas.{starts, starts_at_head}
 use Rattle.mt_calls.proofs.BorderLemmas.{alive_changed, now_named, goes_border, keys_same, unlocked_free, unlocked_root, on_kept, among_one}
@@ -43,7 +43,7 @@ use Rattle.mt_remove.specs.declared.tidy.Tidy.{Tidy}
 use Rattle.mt_remove.specs.declared.stage.Stage.TheVariants.{Seeks, Locked, Lonely, RootLocked}
 use Rattle.mt_remove.specs.Noted.{namer, namer_of, noted_below, noted_at, noted_from, is_empty, last_sign, layer_sign, lone_sign, border_sign, sign_of}
 use Rattle.mt_remove.specs.Tidy.{StageIsTrue, NotedIsTrue, NamerIsKnown, CameIsKnown, IfLone, IfAbove, LoneIsKnown, IsKnownIn, MayTidy, IsHereBy}
-use Rattle.mt_remove.specs.Follows.{start, not_noted, Begins, BeginsBy, FollowsVisit, TidyStep}
+use Rattle.mt_remove.specs.Follows.{not_noted, Begins, BeginsBy, FollowsVisit, TidyStep}
 use Rattle.mt_remove.proofs.StageLemmas.{at_stage, true_at, law_same, some_by}
 
 -- ---- what is noted

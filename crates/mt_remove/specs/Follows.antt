@@ -14,13 +14,12 @@ use Rattle.mt_arena.specs.declared.retired.Retired.{Retired}
 use Rattle.mt_chart.specs.Walk.{Moves}
 use Rattle.mt_tree.specs.Seen.{arena_seen}
 use Rattle.mt_tree.specs.Descent.{node_visit}
-use Rattle.mt_calls.specs.declared.way.Way.{Way}
 use Rattle.mt_calls.specs.declared.way.Went.{Went}
 use Rattle.mt_calls.specs.declared.way.Went.TheVariants.{Again, To, Here}
 use Rattle.mt_calls.specs.declared.progress.Progress.{Progress}
 use Rattle.mt_calls.specs.declared.progress.Progress.TheVariants.{Moved, Waits, Answered}
 use Rattle.mt_calls.specs.Causes.{IsMarkedAt, IsLockedAlready}
-use Rattle.mt_calls.specs.Way.{rest_of, went_by, Visits}
+use Rattle.mt_calls.specs.Way.{rest_of, went_by, start, Visits}
 use Rattle.mt_remove.specs.declared.noted.Came.TheVariants.{Head as FromHead}
 use Rattle.mt_remove.specs.declared.noted.Namer.{Namer}
 use Rattle.mt_remove.specs.declared.noted.Namer.TheVariants.{Head as NamedByHead, Interior as NamedByInterior}
@@ -45,10 +44,7 @@ abbrev pub GoesTo : Tidy → Progress → Tidy → Stage → Type 0
 GoesTo tidy p then stage = (p ≡ Moved) × (then ≡ record tidy { stage = stage })
 
 -- ---- on its way
--- the way begins at the head of layer 0, where nothing is noted yet
-abbrev pub start : Way
-start = record { node = record { 0 = 0 }; layer = 0 }
-
+-- at the head of layer 0 nothing is noted yet
 abbrev pub not_noted : Noted
 not_noted = record { head = record { 0 = 0 }; above = None; came = FromHead; lone = None }
 

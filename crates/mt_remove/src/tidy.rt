@@ -5,8 +5,9 @@ ghost use Rattle.mt_commit.specs.Log.{LogView};
 ghost use Rattle.mt_arena.specs.Node.{border_at};
 ghost use Rattle.mt_types.specs.declared.event.Request.TheVariants.{Tidy as TidyRequest};
 ghost use Rattle.mt_calls.specs.Step.{StepLawIn, MayStepIn, nothing as nothing_held};
+ghost use Rattle.mt_calls.specs.Way.{start};
 ghost use Rattle.mt_remove.specs.Tidy.{tidy_request, tidy_held, TidyTruth, NewTidyIsTrue, MayTidy, IsHereBy, IsTidied};
-ghost use Rattle.mt_remove.specs.Follows.{start, not_noted, TidyStep, TidyFollows, TidyWaits, TidyRetires};
+ghost use Rattle.mt_remove.specs.Follows.{not_noted, TidyStep, TidyFollows, TidyWaits, TidyRetires};
 
 use crate::noted::{NOTHING, Noted};
 use crate::sign::{Sign, sign_of};

@@ -1,5 +1,5 @@
 -- The steps of a build as a call: each is a quiet one of the law.
-use Rattle.std.proofs.Common.{ℕ, ◌≡◌, ◌≤◌, ◌<◌, ◌+◌, inl, List, [], ◌∷◌, Option, Some, None, IsSome, true, false, refl, sym, ap, subst, ◌∙◌}
+use Rattle.std.proofs.Common.{IsSomeAnd, ℕ, ◌≡◌, ◌≤◌, ◌<◌, ◌+◌, inl, List, [], ◌∷◌, Option, Some, None, IsSome, true, false, refl, sym, ap, subst, ◌∙◌}
 use Rattle.mt_types.specs.declared.numbers.NodeNo.{NodeNo}
 use Rattle.mt_types.specs.declared.refusal.Refusal.TheVariants.{NoMemory}
 use Rattle.mt_slice.specs.Place.{first_slice, under}
@@ -27,7 +27,7 @@ use Rattle.mt_calls.proofs.FrameLemmas.{goes_same, quiet_same}
 use Rattle.mt_calls.proofs.RangeLemmas.{IsAliveFor, holds_keys}
 use Rattle.mt_works.specs.declared.building.Building.{Building}
 use Rattle.mt_calls.specs.Causes.{ReadFails}
-use Rattle.mt_works.specs.Building.{BuildingIsTrue, BuildingLaw, ScansOn, ScansAll, KeepsView, TakesNext, GoesOn, BuildMoves, FailsAt, OnlyForMemory, IsInLog}
+use Rattle.mt_works.specs.Building.{BuildingIsTrue, BuildingLaw, ScansOn, ScansAll, KeepsView, TakesNext, GoesOn, BuildMoves, FailsAt, OnlyForMemory, IsInLog, BuildScans, BuildVisits}
 
 -- one moment more, in which nothing changes
 later : (w : World) (begun number : ℕ) (arena : Arena) (past : List Arena) (build : BuildView) → IsScanning w.chart begun (arena ∷ past) number build
@@ -167,14 +167,19 @@ module _ (a : ArenaView) (log : LogView) (old : Building) (scanning : old.upto �
   has_scanned upto new is keeps all = subst (λ (u : Option ℕ). GoesOn a log u old.build old.node.0 (Some upto) new) (sym scanning) (is, keeps, all)
 
   -- its scan gets on, or has ended
-  pub scan_follows : (new : BuildView) (node : NodeNo) → ScanGoes a old.node.0 node.0 (build_cursor old.build) (build_cursor new) → BuildMoves a old.upto old.upto old.node.0 old.build node.0 new
-  scan_follows new node goes = subst (λ (u : Option ℕ). BuildMoves a u u old.node.0 old.build node.0 new) (sym scanning) goes
+  pub scan_follows : (new : BuildView) (node : NodeNo) → ScanGoes a old.node.0 node.0 (build_cursor old.build) (build_cursor new) → BuildScans a old.node.0 old.build node.0 new
+      → BuildMoves a old.upto old.upto old.node.0 old.build node.0 new
+  scan_follows new node goes scans = subst (λ (u : Option ℕ). BuildMoves a u u old.node.0 old.build node.0 new) (sym scanning) (goes, scans)
 
-  pub scan_ended : (upto : ℕ) (new : BuildView) → BuildMoves a old.upto (Some upto) old.node.0 old.build old.node.0 new
-  scan_ended upto new = subst (λ (u : Option ℕ). BuildMoves a u (Some upto) old.node.0 old.build old.node.0 new) (sym scanning) tt
+  pub scan_ended : (upto : ℕ) (new : BuildView) → BuildVisits a old.node.0 old.build Done new → BuildMoves a old.upto (Some upto) old.node.0 old.build old.node.0 new
+  scan_ended upto new ends = subst (λ (u : Option ℕ). BuildMoves a u (Some upto) old.node.0 old.build old.node.0 new) (sym scanning) ends
 
   pub scan_fails : (p : Progress) → ReadFails a old.node.0 p → FailsAt a old.node.0 old.upto p
   scan_fails p fails = subst (λ (u : Option ℕ). FailsAt a old.node.0 u p) (sym scanning) fails
+
+-- the visit of the border that the number names
+pub scans_border : (a : ArenaView) (number : ℕ) (old : BuildView) (b : BorderView) (visited : ScanMove) (new : BuildView) → border_at a.nodes number ≡ Some b → VisitsOn old b visited new → BuildVisits a number old visited new
+scans_border a number old b visited new named visits = subst (λ (o : Option BorderView). IsSomeAnd o (λ x. VisitsOn old x visited new)) (sym named) visits
 
 -- ---- while it takes deltas
 module _ (a : ArenaView) (log : LogView) (old : Building) (upto : ℕ) (scanned : old.upto ≡ Some upto) where

@@ -46,7 +46,7 @@ module _ (a : ArenaView) (log : LogView) (now begun then : ℕ) (past since : Li
   nearer : (upto later : Option ℕ) → ScansOn upto old number begun past a w → StandsBy upto w number old → GoesOn a log upto old number later new → BuildMoves a upto later number old next new → HasToTake upto old.state.at
       → ScansOn later new next then since a next_world → StandsBy later next_world next new × (left_by later a (newest log) next new < left_by upto a (newest log) number old)
   nearer None None truth stands keeps moves has true_then =
-      let (there, falls) = scan_nearer_in a now w next_world world same number next begun then (first_slice new.at) (build_cursor old) (build_cursor new) stands truth.held moves true_then.held in
+      let (there, falls) = scan_nearer_in a now w next_world world same number next begun then (first_slice new.at) (build_cursor old) (build_cursor new) stands truth.held moves.0 true_then.held in
       let at : new.state.at ≡ old.state.at = ap (λ (s : StateView). s.at) keeps in
       (there, omega (arith, falls, at))
   nearer None (Some upto) truth stands (is, keeps, all) moves has true_then =

@@ -267,9 +267,9 @@ nearer_so C now begun moves past a after log left w next (Get get) (Committed nu
 nearer_so C now begun moves past a after log left w next (Get get) p (Get new) lone unbuilt key s = absurd s.goes
 nearer_so C now begun moves past a after log left w next (Get get) p _ lone unbuilt key s = absurd s.follows
 nearer_so C now begun moves past a after log left w next (Write write) Moved (Write new) lone unbuilt key s =
-    write_nearer C now begun a after w next write new Moved lone.world lone.before lone.true.0 lone.stands (write_key write key).0 (write_key write key).1 lone.owns s.posts.2 s.posts.3 s.follows s.posts.0 s.posts.1 tt tt s.world s.spots (s.evolves 0 (omega arith)) s.true.0 s.owns (same_key write new s.request)
+    write_nearer C now begun a after w next write new Moved lone.world lone.before lone.true.0 lone.stands (write_key write key).0 (write_key write key).1 lone.owns s.posts.2 s.posts.3 s.follows s.posts.0 s.posts.1 tt s.world s.spots (s.evolves 0 (omega arith)) s.true.0 s.owns (same_key write new s.request)
 nearer_so C now begun moves past a after log left w next (Write write) (Committed number) (Write new) lone unbuilt key s =
-    write_nearer C now begun a after w next write new (Committed number) lone.world lone.before lone.true.0 lone.stands (write_key write key).0 (write_key write key).1 lone.owns s.posts.2 s.posts.3 s.follows s.posts.0 s.posts.1 tt s.does.1 s.world s.spots (s.evolves 0 (omega arith)) s.true.0 s.owns (same_key write new s.request)
+    write_nearer C now begun a after w next write new (Committed number) lone.world lone.before lone.true.0 lone.stands (write_key write key).0 (write_key write key).1 lone.owns s.posts.2 s.posts.3 s.follows s.posts.0 s.posts.1 tt s.world s.spots (s.evolves 0 (omega arith)) s.true.0 s.owns (same_key write new s.request)
 nearer_so C now begun moves past a after log left w next (Write write) p (Write new) lone unbuilt key s = absurd s.goes
 nearer_so C now begun moves past a after log left w next (Write write) p _ lone unbuilt key s = absurd s.follows
 nearer_so C now begun moves past a after log left w next (Range range) Moved (Range new) lone unbuilt key s =

@@ -1,19 +1,24 @@
 -- A build as a call: what it asks for, what is true of it while it scans the tree, and what its steps do.
-use Rattle.std.specs.Prelude.{ℕ, ◌≡◌, ◌≤◌, ◌<◌, ◌+◌, List, ◌∷◌, Option, Some, None}
+use Rattle.std.specs.Prelude.{ℕ, ◌≡◌, ◌≤◌, ◌<◌, ◌+◌, ◌⊎◌, List, [], ◌∷◌, Option, Some, None, IsSomeAnd}
 use Rattle.mt_types.specs.declared.row.Delta.{Delta}
 use Rattle.mt_types.specs.declared.refusal.Refusal.TheVariants.{NoMemory}
 use Rattle.mt_types.specs.declared.event.Request.{Request}
 use Rattle.mt_types.specs.declared.event.Request.TheVariants.{Build as BuildRequest}
 use Rattle.mt_commit.specs.Log.{LogView, newest, delta_of}
+use Rattle.mt_slice.specs.Place.{under}
+use Rattle.mt_arena.specs.Node.{border_at}
 use Rattle.mt_arena.specs.Arena.{ArenaView}
 use Rattle.mt_chart.specs.Tree.{Arena}
 use Rattle.mt_tree.specs.Seen.{arena_seen}
 use Rattle.mt_view.specs.State.{StateView, applied}
-use Rattle.mt_build.specs.Build.{BuildView, build_cursor, IsScanning, HasScanned}
+use Rattle.mt_scan.specs.declared.scan.ScanMove.{ScanMove}
+use Rattle.mt_scan.specs.declared.scan.ScanMove.TheVariants.{Done as VisitDone}
+use Rattle.mt_build.specs.Build.{BuildView, build_cursor, IsScanning, HasScanned, VisitsOn}
 use Rattle.mt_calls.specs.declared.progress.Progress.{Progress}
 use Rattle.mt_calls.specs.declared.progress.Progress.TheVariants.{Moved, Waits, Refused}
 use Rattle.mt_calls.specs.World.{World, IsWorld}
-use Rattle.mt_calls.specs.Ranging.{ScanGoes}
+use Rattle.mt_calls.specs.Way.{start}
+use Rattle.mt_calls.specs.Ranging.{ScanGoes, IsThen}
 use Rattle.mt_calls.specs.Causes.{ReadWaits, ReadFails}
 use Rattle.mt_calls.specs.Step.{StepLaw, nothing}
 use Rattle.mt_works.specs.declared.building.Building.{Building}
@@ -72,14 +77,31 @@ abbrev pub BuildsOn : ArenaView → LogView → Building → Progress → Buildi
 BuildsOn a log old (Refused refusal) new = Unit {0}
 BuildsOn a log old p new = GoesOn a log old.upto old.build old.node.0 new.upto new.build
 
--- where it scans and moves, its scan gets on, or has ended; where it takes a delta, its view stands one commit later
+-- its scan is taken back to the head of layer 0, with its cursor as it was
+abbrev pub resumed : BuildView → BuildView
+resumed build = record build { prefix = []; at = under build.prefix build.at }
+
+-- the visit of the one border where it stands leads its scan on so
+abbrev pub BuildVisits : ArenaView → ℕ → BuildView → ScanMove → BuildView → Type 0
+BuildVisits a number old visited new = IsSomeAnd (border_at a.nodes number) (λ b. VisitsOn old b visited new)
+
+-- on its way it is as it was; and else it visits the border where it stands
+abbrev pub BuildScans : ArenaView → ℕ → BuildView → ℕ → BuildView → Type 0
+BuildScans a number old next new = (new ≡ old)
+    ⊎ ((visited : ScanMove) × BuildVisits a number old visited new × IsThen visited next)
+
+-- A STEP VISITS ONE NODE: where it scans and moves, its scan gets on, or has ended there. Or it takes a delta: its view
+-- then stands one commit later.
 abbrev pub BuildMoves : ArenaView → Option ℕ → Option ℕ → ℕ → BuildView → ℕ → BuildView → Type 0
-BuildMoves a None None number old next new = ScanGoes a number next (build_cursor old) (build_cursor new)
-BuildMoves a None (Some upto) number old next new = Unit {0}
+BuildMoves a None None number old next new =
+    ScanGoes a number next (build_cursor old) (build_cursor new) × BuildScans a number old next new
+BuildMoves a None (Some upto) number old next new = BuildVisits a number old VisitDone new
 BuildMoves a (Some upto) then number old next new = (then ≡ Some upto) × (new.state.at ≡ old.state.at + 1)
 
+-- where it waits, it begins its way again, its cursor as it was
 abbrev pub BuildFollows : ArenaView → Building → Progress → Building → Type 0
 BuildFollows a old Moved new = BuildMoves a old.upto new.upto old.node.0 old.build new.node.0 new.build
+BuildFollows a old Waits new = new ≡ record { build = resumed old.build; node = start.node; upto = old.upto }
 BuildFollows a old _ new = Unit {0}
 
 -- its step is the law's, whatever the tree has: it changes neither the tree nor the log

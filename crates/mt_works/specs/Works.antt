@@ -10,12 +10,13 @@ use Rattle.mt_chart.specs.Tree.{Arena}
 use Rattle.mt_calls.specs.declared.progress.Progress.{Progress}
 use Rattle.mt_calls.specs.World.{World, IsWorld}
 use Rattle.mt_calls.specs.Step.{Held, nothing}
+use Rattle.mt_calls.specs.Way.{start}
 use Rattle.mt_calls.specs.Getting.{get_request, GetIsTrue}
 use Rattle.mt_calls.specs.Ranging.{range_request, RangeIsTrue}
 use Rattle.mt_write.specs.Writing.{write_request, write_held, WriteIsTrue}
 use Rattle.mt_write.specs.declared.writing.Stage.TheVariants.{Seeks as WriteSeeks}
 use Rattle.mt_remove.specs.declared.stage.Stage.TheVariants.{Seeks as TidySeeks}
-use Rattle.mt_remove.specs.Follows.{start, not_noted}
+use Rattle.mt_remove.specs.Follows.{not_noted}
 use Rattle.mt_remove.specs.Tidy.{tidy_request, tidy_held, TidyTruth}
 use Rattle.mt_works.specs.Building.{building_request, BuildingIsTrue, IsInLog, IsBuilt, BuildsOn}
 use Rattle.mt_works.specs.declared.work.Work.{Work}

@@ -39,7 +39,7 @@ use Rattle.mt_write.specs.declared.writing.Stage.TheVariants.{Seeks, Locked, Spa
 use Rattle.mt_write.specs.Writing.{edit_request, write_request, StageIsTrue, WriteIsTrue, stage_held, write_held, way_below, ending_stage}
 use Rattle.mt_write.specs.Causes.{StageWaits, WriteWaits, IsPosting}
 use Rattle.mt_write.proofs.LinkLemmas.{linked_head_is_on}
-use Rattle.mt_write.specs.Follows.{IsMadeReady, IsReadyIn, PostsOn, StaysAt, halves_of, StageFollows, Follows, WriteFollows}
+use Rattle.mt_write.specs.Follows.{IsMadeReady, IsReadyIn, IsReady, PostsOn, StaysAt, halves_of, StageFollows, Follows, WriteFollows}
 
 -- ---- what is left
 -- what is left of a way, at most, at the head of the layer below
@@ -106,9 +106,6 @@ locks_times most less left h = omega (arith, falls_times most less left h)
 
 moves_times : (most less left : ℕ) → less < left → times most less < times most left
 moves_times most less left h = omega (arith, falls_times most less left h)
-
-some_times : (most less left : ℕ) → less < left → 1 < times most left
-some_times most less left h = omega (arith, falls_times most less left h)
 
 ends_times : (most here there : ℕ) → here ≡ there → times most here < times most there + 2
 ends_times most here there same = let both : times most here ≡ times most there = ap (times most) same in omega (arith, both)
@@ -187,11 +184,6 @@ GetsOn Moved = Unit {0}
 GetsOn (Committed number) = Unit {0}
 GetsOn _ = ⊥
 
--- it commits only where it has not committed
-abbrev pub CommitsOnce : Progress → Option ℕ → Type 0
-CommitsOnce (Committed number) committed = committed ≡ None
-CommitsOnce _ committed = Unit {0}
-
 -- what is told of its posting after a step: where a write that was to end begins to post, and while it posts
 abbrev pub PostingGoesOn : (ArenaView → World → Posting → Type 0) → (ArenaView → Posting → ℕ) → ℕ → ArenaView → ArenaView → World → Stage → Stage → Type 0
 PostingGoesOn post_stands posting_left most a after w (Stored commit split) (Posts posting ending) = post_stands after w posting × (posting_left after posting ≤ most)
@@ -212,7 +204,6 @@ pub record IsLoneWrite (post_stands : ArenaView → World → Posting → Type 0
 pub record IsLoneStep (post_stands : ArenaView → World → Posting → Type 0) (posting_left : ArenaView → Posting → ℕ) (most C now begun : ℕ) (a after : ArenaView) (w next : World) (write : Write) (p : Progress) (new : Write) : Type 0 where
   pub follows : WriteFollows a write p new
   pub gets_on : GetsOn p
-  pub once : CommitsOnce p (write_held write).committed
   pub same_key : new.key ≡ write.key
   pub world : IsWorld after now next
   pub spots : (number : ℕ) → NotAmong number (write_held write).owns → NotAmong number (write_held new).owns → next.chart number ≡ w.chart number
@@ -263,25 +254,12 @@ module _ (post_stands : ArenaView → World → Posting → Type 0) (posting_lef
   posted a after next key way posting (EndFailed refusal) = (tt, omega arith)
 
   -- a commit
-  committed : (a after : ArenaView) (next : World) (key : List ℕ) (way : Way) (number : ℕ) (stage : Stage) → (stage ≡ Seeks → 1 < times most (way_left a way.layer way.node.0))
-      → (stage_held way.node.0 stage).committed ≡ None → Nearer a after next key way stage way (Stored number (halves_of stage))
-  committed a after next key way number Seeks some once = (tt, some refl)
-  committed a after next key way number Locked some once = (tt, above _ _ _ (omega arith))
-  committed a after next key way number (LayerSpared layer entries) some once = (tt, above _ _ _ (omega arith))
-  committed a after next key way number (LayerFilled layer) some once = (tt, above _ _ _ (omega arith))
-  committed a after next key way number (LayerReady layer) some once = (tt, above _ _ _ (omega arith))
-  committed a after next key way number (Layered below) some once = (tt, above _ _ _ (omega arith))
-  committed a after next key way number (Spared half cut entries) some once = (tt, omega arith)
-  committed a after next key way number (HalfFilled half cut) some once = (tt, omega arith)
-  committed a after next key way number (Halved split) some once = (tt, omega arith)
-  committed a after next key way number (Filled place stored logged None) some once = (tt, omega arith)
-  committed a after next key way number (Filled place stored logged (Some split)) some once = (tt, omega arith)
-  committed a after next key way number (Made place stored columns logged) some once = (tt, omega arith)
-  committed a after next key way number (Taken place stored before) some once = (tt, omega arith)
-  committed a after next key way number (Stored commit split) some once = absurd (let clash : ◌≡◌ {A = Option ℕ} (Some commit) None = once in cc)
-  committed a after next key way number (Failed refusal None) some once = (tt, omega arith)
-  committed a after next key way number (Failed refusal (Some split)) some once = (tt, omega arith)
-  committed a after next key way number (Posts posting ending) some once = (tt, omega arith)
+  committed : (a after : ArenaView) (next : World) (key : List ℕ) (way : Way) (number : ℕ) (stage : Stage) → IsReady stage → Nearer a after next key way stage way (Stored number (halves_of stage))
+  committed a after next key way number (Filled place stored logged None) ready = (tt, omega arith)
+  committed a after next key way number (Filled place stored logged (Some split)) ready = (tt, omega arith)
+  committed a after next key way number (Made place stored columns logged) ready = (tt, omega arith)
+  committed a after next key way number (Taken place stored before) ready = (tt, omega arith)
+  committed a after next key way number _ ready = absurd ready
 
   -- the right half of a border that it has split is to be posted
   ended : (a after : ArenaView) (next : World) (key : List ℕ) (way goal : Way) (stage new : Stage) (ending : Ending) → IsPosting ending new → stage_left posting_left most a way stage ≡ most + 4
@@ -355,20 +333,12 @@ module _ (post_stands : ArenaView → World → Posting → Type 0) (posting_lef
     -- where it moves or commits
     got_on : (stage new : Stage) (p : Progress) → StageIsTrue C key edit way stage begun a w
         → stage_stands post_stands a w key way stage → KeepsSpots w next (stage_held way.node.0 stage).owns (stage_held goal.node.0 new).owns
-        → PostingGoesOn post_stands posting_left most a after next stage new → GetsOn p → CommitsOnce p (stage_held way.node.0 stage).committed
-        → Follows a key way stage p goal new → Nearer a after next key way stage goal new
-    got_on stage new Moved truth stands spots goes gets once follows = moved stage new truth stands spots goes follows
-    got_on stage new (Committed number) truth stands spots goes gets once follows =
-        stays_at a after next key way goal stage new (Stored number (halves_of stage)) follows (committed a after next key way number stage some once)
-      where
-        some : stage ≡ Seeks → 1 < times most (way_left a way.layer way.node.0)
-        some is =
-            let held : IsOnWay begun key way w = subst (λ (s : Stage). StageIsTrue C key edit way s begun a w) is truth in
-            let there : IsOnThere w key way = subst (λ (s : Stage). stage_stands post_stands a w key way s) is stands in
-            some_times most _ _ (more_left a now begun w key way world bytes fits held there)
-    got_on stage new Waits truth stands spots goes gets once follows = absurd gets
-    got_on stage new (Answered answer) truth stands spots goes gets once follows = absurd gets
-    got_on stage new (Refused refusal) truth stands spots goes gets once follows = absurd gets
+        → PostingGoesOn post_stands posting_left most a after next stage new → GetsOn p → Follows a key way stage p goal new → Nearer a after next key way stage goal new
+    got_on stage new Moved truth stands spots goes gets follows = moved stage new truth stands spots goes follows
+    got_on stage new (Committed number) truth stands spots goes gets (ready, at) = stays_at a after next key way goal stage new (Stored number (halves_of stage)) at (committed a after next key way number stage ready)
+    got_on stage new Waits truth stands spots goes gets follows = absurd gets
+    got_on stage new (Answered answer) truth stands spots goes gets follows = absurd gets
+    got_on stage new (Refused refusal) truth stands spots goes gets follows = absurd gets
 
   -- WITH EACH STEP THAT GETS ON less is left
   pub lone_write_nearer : (C now begun : ℕ) (a after : ArenaView) (w next : World) (write new : Write) (p : Progress)
@@ -376,7 +346,7 @@ module _ (post_stands : ArenaView → World → Posting → Type 0) (posting_lef
       → write_stands post_stands after next new × (write_left posting_left most after new < write_left posting_left most a write)
   lone_write_nearer C now begun a after w next write new p lone step =
       let (stands, falls) = got_on C now begun a after w next write.key write.edit write.way new.way lone.world step.world lone.bytes lone.fits
-      write.stage new.stage p lone.true lone.stands step.spots step.posts step.gets_on step.once step.follows in
+      write.stage new.stage p lone.true lone.stands step.spots step.posts step.gets_on step.follows in
       (subst (λ (k : List ℕ). stage_stands post_stands after next k new.way new.stage) (sym step.same_key) stands, falls)
 
 -- it begins at a node that is on
@@ -415,7 +385,6 @@ pub lone_step : (post_stands : ArenaView → World → Posting → Type 0) (post
 lone_step post_stands posting_left most C now begun moves past a after log left w write new Moved follows gets request s spots posts = record {
   follows = follows;
   gets_on = tt;
-  once = tt;
   same_key = request_key new.key write.key new.edit write.edit request;
   world = s.goes.world;
   spots = spots;
@@ -425,7 +394,6 @@ lone_step post_stands posting_left most C now begun moves past a after log left 
 lone_step post_stands posting_left most C now begun moves past a after log left w write new (Committed number) follows gets request s spots posts = record {
   follows = follows;
   gets_on = tt;
-  once = s.does.1;
   same_key = request_key new.key write.key new.edit write.edit request;
   world = s.goes.world;
   spots = spots;

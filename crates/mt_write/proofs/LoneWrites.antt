@@ -48,7 +48,7 @@ use Rattle.mt_write.specs.Writing.{StageIsTrue, HasLocked, stage_held, write_hel
 use Rattle.mt_write.specs.Causes.{WriteWaits}
 use Rattle.mt_write.specs.Follows.{Follows, WriteFollows, HeadGoes, HeadFollows, IsNewPosting, PostingSteps, PostsGo, PostsFollow}
 use Rattle.mt_write.proofs.LinkLemmas.{linked_head_stands}
-use Rattle.mt_write.proofs.LoneWrite.{OnlyOwn, KeepsSpots, GetsOn, CommitsOnce, PostingGoesOn, stage_stands, write_stands, write_left, head_place, write_begins, lone_write_waits_not, lone_write_nearer, IsLoneWrite, IsLoneStep}
+use Rattle.mt_write.proofs.LoneWrite.{OnlyOwn, KeepsSpots, GetsOn, PostingGoesOn, stage_stands, write_stands, write_left, head_place, write_begins, lone_write_waits_not, lone_write_nearer, IsLoneWrite, IsLoneStep}
 
 -- ---- a head that the chart knows is never the write's own
 -- the number names no head, or the chart doesn't know it
@@ -222,17 +222,13 @@ module _ (C now begun : ℕ) (a after : ArenaView) (w next : World) (key : List 
                 subst (λ (n : NodeNo). HeadIsOn next.chart n.0) (sym leaves.1) (head_kept goal.node.0 (record { prefix = prefix_of key goal; low = 0; posted = on_there.posted; place = place }))
           ]
 
-      committed : (number : ℕ) → ((goal.layer ≡ way.layer) × (then ≡ head)) ⊎ ((goal.layer ≢ way.layer) × (then ≡ goal.node)) → Follows a key way Seeks (Committed number) goal new → HeadIsOn next.chart then.0
-      committed number (inl stays) follows = same stays.1
-      committed number (inr leaves) follows = absurd (leaves.0 (ap (λ (x : Way). x.layer) follows.1))
-
       below_on : (below : NodeNo) → StageIsTrue C key edit way (Layered below) begun a w → then ≡ below → HeadIsOn next.chart then.0
       below_on below truth is = subst (λ (n : NodeNo). HeadIsOn next.chart n.0) (sym is)
           (head_kept below.0 (record { prefix = truth.0.slice ∷ prefix_of key way; low = 0; posted = true; place = linked_head_stands (prefix_of key way) a now w way.node.0 below world truth.0 }))
 
       go : (stage : Stage) (p : Progress) → StageIsTrue C key edit way stage begun a w → stage_stands post_stands a w key way stage → GetsOn p → HeadGoes head way stage p goal then → Follows a key way stage p goal new → HeadIsOn next.chart then.0
       go Seeks Moved truth stands gets goes follows = moved truth stands goes follows
-      go Seeks (Committed number) truth stands gets goes follows = committed number goes follows
+      go Seeks (Committed number) truth stands gets goes follows = absurd follows.0
       go Seeks Waits truth stands gets goes follows = absurd gets
       go Seeks (Answered answer) truth stands gets goes follows = absurd gets
       go Seeks (Refused refusal) truth stands gets goes follows = absurd gets
@@ -251,10 +247,6 @@ module _ (C now begun : ℕ) (a after : ArenaView) (w next : World) (key : List 
       go (Stored commit split) p truth stands gets goes follows = same goes
       go (Failed refusal split) p truth stands gets goes follows = same goes
 
--- a step that commits leads to no posting
-commits_apart : (number : ℕ) (split : Option Halves) (posting : Posting) (ending : Ending) → Posts posting ending ≡ Stored number split → ⊥
-commits_apart number split posting ending is = let clash : Posts posting ending ≡ Stored number split = is in cc
-
 -- what is told of its posting after the step
 module _ (now begun : ℕ) (a after : ArenaView) (w next : World) (key : List ℕ) (way goal : Way) (head : NodeNo) (world : IsWorld a now w) (then_world : IsWorld after now next) (before : begun ≤ now)
     (evolves : Evolves 0 w.chart next.chart) (sound : IsArena a) (sound_after : IsArena after) (head_on : HeadIsOn next.chart head.0) (C : ℕ) (edit new_edit : Edit) where
@@ -268,12 +260,12 @@ module _ (now begun : ℕ) (a after : ArenaView) (w next : World) (key : List �
   posts_go (Stored commit (Some split)) (Posts posting ending) p truth stands only new_truth new_only gets follows posts = begins_posting split.half posting ending new_truth new_only posts
   posts_go (Failed refusal (Some split)) (Posts posting ending) p truth stands only new_truth new_only gets follows posts = begins_posting split.half posting ending new_truth new_only posts
   posts_go (Stored commit None) (Posts posting ending) Moved truth stands only new_truth new_only gets follows posts = absurd (follows.1 refl)
-  posts_go (Stored commit None) (Posts posting ending) (Committed number) truth stands only new_truth new_only gets follows posts = absurd (commits_apart number None posting ending follows.0)
+  posts_go (Stored commit None) (Posts posting ending) (Committed number) truth stands only new_truth new_only gets follows posts = absurd follows.0
   posts_go (Failed refusal None) (Posts posting ending) Moved truth stands only new_truth new_only gets follows posts = absurd (follows.1 refl)
-  posts_go (Failed refusal None) (Posts posting ending) (Committed number) truth stands only new_truth new_only gets follows posts = absurd (commits_apart number None posting ending follows.0)
+  posts_go (Failed refusal None) (Posts posting ending) (Committed number) truth stands only new_truth new_only gets follows posts = absurd follows.0
   posts_go (Posts posting ending) (Posts then other) Moved truth stands only new_truth new_only gets follows posts =
       posting_moves a now begun w posting world truth.0 only before stands after next then evolves posts sound sound_after
-  posts_go (Posts posting ending) (Posts then other) (Committed number) truth stands only new_truth new_only gets follows posts = absurd (commits_apart number None then other follows.0)
+  posts_go (Posts posting ending) (Posts then other) (Committed number) truth stands only new_truth new_only gets follows posts = absurd follows.0
   posts_go stage new Waits truth stands only new_truth new_only gets follows posts = absurd gets
   posts_go stage new (Answered answer) truth stands only new_truth new_only gets follows posts = absurd gets
   posts_go stage new (Refused refusal) truth stands only new_truth new_only gets follows posts = absurd gets
@@ -304,16 +296,16 @@ waits_not C now begun a w write world before truth stands bytes fits only waits 
 -- WITH EACH STEP THAT GETS ON less is left, and it runs on alone
 pub nearer : (C now begun : ℕ) (a after : ArenaView) (w next : World) (write new : Write) (p : Progress) → IsWorld a now w → begun ≤ now → StageIsTrue C write.key write.edit write.way write.stage begun a w → lone_stands a w write
     → AreBytes write.key → length write.key ≤ MAX_KEY_BYTES → OnlyOwn a w (write_held write).owns → IsArena a → IsArena after
-    → WriteFollows a write p new → HeadFollows write p new → PostsFollow a after write p new → GetsOn p → CommitsOnce p (write_held write).committed → IsWorld after now next
+    → WriteFollows a write p new → HeadFollows write p new → PostsFollow a after write p new → GetsOn p → IsWorld after now next
     → KeepsSpots w next (write_held write).owns (write_held new).owns → Evolves 0 w.chart next.chart → StageIsTrue C new.key new.edit new.way new.stage begun after next
     → OnlyOwn after next (write_held new).owns → new.key ≡ write.key
     → lone_stands after next new × (lone_left after new < lone_left a write)
-nearer C now begun a after w next write new p world before truth stands bytes fits only sound sound_after follows heads posts gets once then_world spots evolves new_truth new_only same_key =
+nearer C now begun a after w next write new p world before truth stands bytes fits only sound sound_after follows heads posts gets then_world spots evolves new_truth new_only same_key =
     let then_true = subst (λ (k : List ℕ). StageIsTrue C k new.edit new.way new.stage begun after next) same_key new_truth in
     let head_on = head_kept C now begun a after w next write.key write.edit new.edit write.way new.way world then_world evolves bytes fits write.stage new.stage truth then_true spots write.head.0 stands.0 in
     let then_head = head_follows C now begun a after w next write.key write.edit new.edit write.way new.way world then_world evolves bytes fits write.stage new.stage truth then_true spots p write.head new.head stands.0 stands.1 gets heads follows in
     let goes = posts_go now begun a after w next write.key write.way new.way write.head world then_world before evolves sound sound_after head_on C write.edit new.edit write.stage new.stage p truth stands.1 only then_true new_only gets follows posts in
     let lone : IsLoneWrite post_stands C now begun a w write = record { world = world; true = truth; stands = stands.1; bytes = bytes; fits = fits; only_own = only } in
-    let step : IsLoneStep post_stands steps_left most_steps C now begun a after w next write p new = record { follows = follows; gets_on = gets; once = once; same_key = same_key; world = then_world; spots = spots; true = new_truth; posts = goes } in
+    let step : IsLoneStep post_stands steps_left most_steps C now begun a after w next write p new = record { follows = follows; gets_on = gets; same_key = same_key; world = then_world; spots = spots; true = new_truth; posts = goes } in
     let (still, less) = lone_write_nearer post_stands steps_left most_steps C now begun a after w next write new p lone step in
     ((then_head, still), less)

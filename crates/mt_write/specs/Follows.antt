@@ -3,10 +3,11 @@ use Rattle.std.specs.Prelude.{ℕ, ◌≡◌, ◌≢◌, ◌⊎◌, ◌+◌, Lis
 use Rattle.mt_arena.specs.Arena.{ArenaView}
 use Rattle.mt_types.specs.declared.numbers.NodeNo.{NodeNo}
 use Rattle.mt_calls.specs.declared.progress.Progress.{Progress}
-use Rattle.mt_calls.specs.declared.progress.Progress.TheVariants.{Moved, Waits, Committed}
+use Rattle.mt_calls.specs.declared.progress.Progress.TheVariants.{Moved, Waits, Committed, Answered, Refused}
 use Rattle.mt_calls.specs.declared.way.Way.{Way}
 use Rattle.mt_calls.specs.declared.way.Went.TheVariants.{To}
-use Rattle.mt_calls.specs.Way.{Visits}
+use Rattle.mt_calls.specs.Way.{Visits, start}
+use Rattle.mt_calls.specs.Causes.{IsMarkedAt, IsLockedAlready}
 use Rattle.mt_post.specs.declared.posting.Posting.{Posting}
 use Rattle.mt_post.specs.declared.posting.Progressed.{Progressed}
 use Rattle.mt_post.specs.declared.posting.Progressed.TheVariants.{Moved as PostMoved, Waits as PostAgain}
@@ -70,11 +71,37 @@ abbrev pub halves_of : Stage → Option Halves
 halves_of (Filled place stored logged split) = split
 halves_of _ = None
 
--- and where it commits, it is to unlock
+-- where it waits: on its way it begins again where the node is marked deleted, and stays where the border is locked; or
+-- its posting waits
+abbrev pub StageRests : ArenaView → Way → Stage → Way → Stage → Type 0
+StageRests a way Seeks next new = (new ≡ Seeks)
+    × ((IsMarkedAt a way.node.0 × (next ≡ start)) ⊎ (IsLockedAlready a way.node.0 × (next ≡ way)))
+StageRests a way (Posts posting ending) next new = IsPosting ending new × (next ≡ way)
+StageRests a way _ next new = ⊥
+
+-- it commits only where all is ready
+abbrev pub IsReady : Stage → Type 0
+IsReady (Filled place stored logged split) = Unit {0}
+IsReady (Made place stored columns logged) = Unit {0}
+IsReady (Taken place stored before) = Unit {0}
+IsReady _ = ⊥
+
+-- it answers where it has locked its border, and there is no row to remove; or when it has stored, and nothing is to be
+-- posted
+abbrev pub MayAnswer : Stage → Type 0
+MayAnswer Locked = Unit {0}
+MayAnswer (Stored commit split) = split ≡ None
+MayAnswer _ = ⊥
+
+-- A STEP VISITS ONE NODE, and leads from stage to stage: where it commits, it is then to unlock; it is refused only where
+-- it had failed
 abbrev pub Follows : ArenaView → List ℕ → Way → Stage → Progress → Way → Stage → Type 0
 Follows a key way stage Moved next new = StageFollows a key way stage next new
-Follows a key way stage (Committed number) next new = StaysAt way next new (Stored number (halves_of stage))
-Follows a key way stage _ next new = Unit {0}
+Follows a key way stage Waits next new = StageRests a way stage next new
+Follows a key way stage (Committed number) next new = IsReady stage
+    × StaysAt way next new (Stored number (halves_of stage))
+Follows a key way stage (Answered answer) next new = MayAnswer stage
+Follows a key way stage (Refused refusal) next new = stage ≡ Failed refusal None
 
 abbrev pub WriteFollows : ArenaView → WriteView → Progress → WriteView → Type 0
 WriteFollows a write p new = Follows a write.key write.way write.stage p new.way new.stage

@@ -3,8 +3,6 @@ use Rattle.std.specs.Prelude.{All}
 use Rattle.std.proofs.lemmas.List.Elements.{All-nil}
 use Rattle.mt_arena.specs.Arena.{ArenaView, without_first_retired}
 use Rattle.mt_arena.specs.declared.retired.Retired.{Retired}
-use Rattle.mt_tree.specs.Keeping.{FreesNode}
-use Rattle.mt_types.specs.declared.numbers.NodeNo.{NodeNo}
 use Rattle.mt_calls.specs.Collecting.{given_back, CollectLaw}
 use Rattle.mt_calls.proofs.CollectingLemmas.{given_one_more, law_none, law_more, first_is, frees_first, frees_more, none_left, all_late, all_freed}
 use Rattle.mt_calls.proofs.collecting.collect.Goals as goal

@@ -1,7 +1,4 @@
-use Rattle.std.proofs.Common.{◌≡◌, subst}
-use Rattle.mt_types.specs.declared.numbers.NodeNo.{NodeNo}
-use Rattle.mt_chart.specs.Walk.{Moves}
-use Rattle.mt_tree.specs.Seen.{arena_seen}
+use Rattle.std.proofs.Common.{subst}
 use Rattle.mt_tree.specs.Descent.{LeadsOn, TellsVisit}
 use Rattle.mt_tree.specs.declared.visit.Visit.{Visit}
 use Rattle.mt_calls.proofs.RangeLemmas.{slice_back, seeks-may, seeks-to, seeks-here, seeks-moves}

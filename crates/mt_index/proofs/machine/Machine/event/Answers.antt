@@ -3,7 +3,9 @@ use Rattle.mt_types.specs.declared.event.Event.{Event}
 use Rattle.mt_promise.specs.History.{happening}
 use Rattle.mt_index.specs.Stands.{Stands}
 use Rattle.mt_index.specs.Causes.{IsCaused}
+use Rattle.mt_index.specs.OneStep.{IsOneStep}
 use Rattle.mt_index.proofs.CauseLemmas.{steps-caused}
+use Rattle.mt_index.proofs.OneStepLemmas.{steps-once}
 use Rattle.mt_index.proofs.EventStands.{begins-stands, begins-columns}
 use Rattle.mt_index.proofs.ViewEvents.{steps-stand, steps-columns}
 use Rattle.mt_index.proofs.ApplyStands.{applies-stand, reads-stand, drops-stand}
@@ -18,6 +20,7 @@ returns-in-Begin c = record {
         (begins-stands c.args.self.now c.begin.new.self c.in-Begin.pass c.in-Begin.request c.begin.result h c.begin.ensures.begins st),
   );
   caused = subst (λ (e : Event). IsCaused c.args.self.now e c.begin.result c.begin.new.self) (sym c.in-Begin.is) tt;
+  one_step = subst (λ (e : Event). IsOneStep c.args.self.now e c.begin.result c.begin.new.self) (sym c.in-Begin.is) tt;
   columns = begins-columns c.args.self.now c.begin.new.self c.in-Begin.pass c.in-Begin.request c.begin.result c.begin.ensures.begins;
   bounds = c.begin.ensures.bounds;
 }
@@ -29,6 +32,8 @@ returns-in-Step c = record {
       (opens, subst (λ (e : Event). Stands c.step.new.self (happening e c.step.result opens ∷ h)) (sym c.in-Step.is) then);
   caused = subst (λ (e : Event). IsCaused c.args.self.now e c.step.result c.step.new.self) (sym c.in-Step.is)
       (steps-caused c.args.self.now c.step.new.self c.in-Step.call c.step.result c.step.ensures.steps);
+  one_step = subst (λ (e : Event). IsOneStep c.args.self.now e c.step.result c.step.new.self) (sym c.in-Step.is)
+      (steps-once c.args.self.now c.step.new.self c.in-Step.call c.step.result c.step.ensures.steps);
   columns = steps-columns c.args.self.now c.step.new.self c.in-Step.call.0 c.step.result c.step.ensures.steps;
   bounds = c.step.ensures.bounds;
 }

@@ -1,8 +1,11 @@
-use Rattle.std.proofs.Common.{ℕ, Some, inl, inr, refl, subst, arith}
-use Rattle.mt_build.specs.Build.{build_cursor}
+use Rattle.std.proofs.Common.{ℕ, Some, inl, inr, refl, sym, ap, subst, arith}
+use Rattle.mt_scan.specs.declared.scan.ScanMove.{ScanMove}
+use Rattle.mt_scan.specs.declared.scan.ScanMove.TheVariants.{Done}
+use Rattle.mt_calls.specs.Way.{start}
+use Rattle.mt_build.specs.Build.{BuildView, VisitsOn, build_cursor}
 use Rattle.mt_calls.proofs.RangeLemmas.{scans_on, scans_top}
-use Rattle.mt_calls.specs.Ranging.{Seeks}
-use Rattle.mt_works.proofs.BuildingLemmas.{scan_may, scan_again, scan_moves, scan_border, scan_keys, scan_goes, scan_tops, scan_ends, scans_all, as_scanning, as_ended, as_truth, has_scanned, build_fails, scan_alive, scan_follows, scan_ended}
+use Rattle.mt_calls.specs.Ranging.{Seeks, IsThen}
+use Rattle.mt_works.proofs.BuildingLemmas.{scan_may, scan_again, scan_moves, scan_border, scan_keys, scan_goes, scan_tops, scan_ends, scans_all, as_scanning, as_ended, as_truth, has_scanned, build_fails, scan_alive, scan_follows, scan_ended, scans_border}
 use Rattle.mt_works.proofs.building.Building.scan.Goals as goal
 
 pub seek-requires : goal.seek-requires
@@ -63,7 +66,7 @@ returns-in-Err-clause-steps c = λ C. build_fails c.args.tree.now c.args.log.now
 pub returns-in-To-clause-gets_on : goal.returns-in-To-clause-gets_on
 returns-in-To-clause-gets_on c =
     scan_follows c.args.tree.now c.args.log.now c.args.self.now c.requires.scans c.args.self.now.build c.in-To.next
-    (inl (record { fits = omega (arith, c.slice.ensures, c.slice.type_inv); moves = c.seek.ensures.moves c.in-To.next c.in-To.is }, refl))
+    (inl (record { fits = omega (arith, c.slice.ensures, c.slice.type_inv); moves = c.seek.ensures.moves c.in-To.next c.in-To.is }, refl)) (inl refl)
 
 pub returns-in-Ok-To-clause-gets_on : goal.returns-in-Ok-To-clause-gets_on
 returns-in-Ok-To-clause-gets_on c =
@@ -72,6 +75,7 @@ returns-in-Ok-To-clause-gets_on c =
     scan_follows c.args.tree.now c.args.log.now c.args.self.now c.requires.scans c.visit.new.self _
     (inr (scans_on c.args.tree.now c.args.self.now.node.0 c.border.result.now (build_cursor c.args.self.now.build) (build_cursor c.visit.new.self) c.in-Ok-To.field-0 c.border.ensures.value c.border.ensures.sound alive
     c.in-Ok-To.ensures.leads c.in-Ok-To.ensures.onward c.in-Ok-To.ensures.within c.border.ensures.arena c.in-Ok-To.next c.in-Ok-To.field-0-is))
+    (inr (c.in-Ok-To.field-0, scans_border c.args.tree.now c.args.self.now.node.0 c.args.self.now.build c.border.result.now c.in-Ok-To.field-0 c.visit.new.self c.border.ensures.value c.in-Ok-To.ensures.visited, subst (λ (move : ScanMove). IsThen move c.in-Ok-To.next.0) (sym c.in-Ok-To.field-0-is) refl))
 
 pub returns-in-Ok-Top-clause-gets_on : goal.returns-in-Ok-Top-clause-gets_on
 returns-in-Ok-Top-clause-gets_on c =
@@ -80,6 +84,13 @@ returns-in-Ok-Top-clause-gets_on c =
     scan_follows c.args.tree.now c.args.log.now c.args.self.now c.requires.scans c.visit.new.self _
     (inr (scans_top c.args.tree.now c.args.self.now.node.0 c.border.result.now (build_cursor c.args.self.now.build) (build_cursor c.visit.new.self) c.in-Ok-Top.field-0 c.border.ensures.value c.border.ensures.sound alive
     c.in-Ok-Top.ensures.leads c.in-Ok-Top.ensures.onward c.in-Ok-Top.ensures.within c.border.ensures.arena c.in-Ok-Top.field-0-is))
+    (inr (c.in-Ok-Top.field-0, scans_border c.args.tree.now c.args.self.now.node.0 c.args.self.now.build c.border.result.now c.in-Ok-Top.field-0 c.visit.new.self c.border.ensures.value c.in-Ok-Top.ensures.visited, subst (λ (move : ScanMove). IsThen move start.node.0) (sym c.in-Ok-Top.field-0-is) refl))
 
 pub returns-in-Ok-Done-clause-gets_on : goal.returns-in-Ok-Done-clause-gets_on
-returns-in-Ok-Done-clause-gets_on c = scan_ended c.args.tree.now c.args.log.now c.args.self.now c.requires.scans c.number.result c.visit.new.self
+returns-in-Ok-Done-clause-gets_on c =
+    scan_ended c.args.tree.now c.args.log.now c.args.self.now c.requires.scans c.number.result c.visit.new.self
+    (scans_border c.args.tree.now c.args.self.now.node.0 c.args.self.now.build c.border.result.now Done c.visit.new.self c.border.ensures.value
+    (subst (λ (move : ScanMove). VisitsOn c.args.self.now.build c.border.result.now move c.visit.new.self) c.in-Ok-Done.field-0-is c.in-Ok-Done.ensures.visited))
+
+pub returns-in-Again-clause-gets_on : goal.returns-in-Again-clause-gets_on
+returns-in-Again-clause-gets_on c = ap (λ (build : BuildView). record { build = build; node = start.node; upto = c.args.self.now.upto }) c.restart.ensures

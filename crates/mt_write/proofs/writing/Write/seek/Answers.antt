@@ -1,4 +1,6 @@
-use Rattle.std.proofs.Common.{◌∙◌, refl, sym, subst}
+use Rattle.std.proofs.Common.{◌≡◌, ◌∙◌, inl, inr, Option, true, refl, sym, subst}
+use Rattle.std.specs.Prelude.{IsSomeAnd}
+use Rattle.mt_border.specs.Border.{BorderView}
 use Rattle.mt_arena.specs.Arena.{ArenaView}
 use Rattle.mt_tree.specs.Keeping.{KeepsTree}
 use Rattle.mt_calls.specs.Step.{StepLaw}
@@ -40,3 +42,15 @@ returns-else-is_locked-clause-steps c = λ C log.
     (subst (λ (x : ArenaView). StepLaw C c.args.tree.now x log log (write_request c.args.self.now) (write_held c.args.self.now) Moved (stage_held c.args.self.now.way.node.0 Locked) (λ begun moves past y w. StageIsTrue C c.args.self.now.key c.args.self.now.edit c.args.self.now.way c.args.self.now.stage begun y w) (λ begun moves past y w. StageIsTrue C c.args.self.now.key c.args.self.now.edit c.args.self.now.way Locked begun y w)) (sym after)
     (seek_locks C c.args.tree.now c.args.self.now.key c.args.self.now.edit c.args.self.now.way c.visit.result c.visit.ensures.visits c.border.result.now c.border.ensures.value (sym c.is_locked.ensures.value ∙ c.if-is_locked.false) c.in-Here.is
     (subst (λ (x : ArenaView). KeepsTree c.args.tree.now x) after c.lock_border.ensures.keeps) c.args.self.now.stage c.requires.seeks log))
+
+pub returns-in-Again-clause-gets_on : goal.returns-in-Again-clause-gets_on
+returns-in-Again-clause-gets_on c = (c.requires.seeks, inl (c.visit.ensures.again c.in-Again.is, refl))
+
+pub returns-then-is_locked-clause-gets_on : goal.returns-then-is_locked-clause-gets_on
+returns-then-is_locked-clause-gets_on c = (
+  c.requires.seeks,
+  inr (
+    subst (λ (o : Option BorderView). IsSomeAnd o (λ b. b.version.locked ≡ true)) (sym c.border.ensures.value) (sym c.is_locked.ensures.value ∙ c.if-is_locked.true),
+    refl,
+  ),
+)
