@@ -18,7 +18,7 @@ use Rattle.mt_slice.specs.Place.{AreBytes, place_of}
 use Rattle.mt_chart.specs.ScanRun.{Stood, AllHave}
 use Rattle.mt_chart.specs.KeyAnswer.{KeysAreBytes}
 use Rattle.mt_tree.specs.Seen.{arena_seen}
-use Rattle.mt_calls.specs.Lone.{IsLoneTree, IsRightNow}
+use Rattle.mt_steps.specs.Lone.{IsLoneTree, IsRightNow}
 use Rattle.mt_types.specs.declared.event.Reply.{Reply}
 use Rattle.mt_types.specs.declared.event.Outcome.{Outcome}
 use Rattle.mt_types.specs.declared.event.Outcome.TheVariants.{Call as Called, Moved, Commit, Done, Refused}
@@ -31,9 +31,9 @@ use Rattle.mt_commit.specs.Log.{LogView, newest, trimmed, IsLog}
 use Rattle.mt_commit.proofs.LogLemmas.{newest-trimmed}
 use Rattle.mt_arena.specs.Arena.{ArenaView}
 use Rattle.mt_chart.specs.Tree.{Among}
-use Rattle.mt_calls.specs.declared.progress.Progress.{Progress}
-use Rattle.mt_calls.specs.declared.progress.Progress.TheVariants.{Moved as WentOn, Waits, Committed, Answered, Refused as EndsProgress}
-use Rattle.mt_calls.specs.World.{IsTaken}
+use Rattle.mt_steps.specs.declared.progress.Progress.{Progress}
+use Rattle.mt_steps.specs.declared.progress.Progress.TheVariants.{Moved as WentOn, Waits, Committed, Answered, Refused as EndsProgress}
+use Rattle.mt_steps.specs.World.{IsTaken}
 use Rattle.mt_works.specs.declared.work.Work.{Work}
 use Rattle.mt_works.specs.declared.work.Work.TheVariants.{Get, Write, Range, Tidy, Build}
 use Rattle.mt_write.specs.declared.writing.Edit.{Edit}
@@ -43,7 +43,7 @@ use Rattle.mt_arena.specs.Node.{occupied}
 use Rattle.mt_works.specs.Works.{request_of, held, IsTrue, IsBuiltWork, WorkBuilds}
 use Rattle.mt_works.specs.Causes.{WorkWaits}
 use Rattle.mt_works.specs.Follows.{WorkFollows, WorkPosts, WorkReads}
-use Rattle.mt_calls.specs.Step.{StepLawIn}
+use Rattle.mt_steps.specs.Step.{StepLawIn}
 use Rattle.mt_works.proofs.LoneWork.{LoneLaws, RunsLone, IsGet, lone_get_steps, work_left, lone_begins, lone_moves, lone_commits, lone_waits_not}
 use Rattle.mt_index.specs.declared.calls.Call.{Call}
 use Rattle.mt_index.specs.Calls.{CallsView, call_at, with_changed, with_work, without, IsBuiltCall}

@@ -9,8 +9,8 @@ use Rattle.mt_types.specs.declared.event.Outcome.{Outcome}
 use Rattle.mt_types.specs.declared.refusal.Refusal.TheVariants.{NoSuchCall, NoMemory, Spent}
 use Rattle.mt_commit.specs.Log.{LogView, newest, trimmed}
 use Rattle.mt_arena.specs.Arena.{ArenaView}
-use Rattle.mt_calls.specs.declared.progress.Progress.{Progress}
-use Rattle.mt_calls.specs.declared.progress.Progress.TheVariants.{Moved, Waits, Committed, Answered, Refused}
+use Rattle.mt_steps.specs.declared.progress.Progress.{Progress}
+use Rattle.mt_steps.specs.declared.progress.Progress.TheVariants.{Moved, Waits, Committed, Answered, Refused}
 use Rattle.mt_works.specs.declared.work.Work.{Work}
 use Rattle.mt_works.specs.Causes.{WorkWaits, WorkFails, WorkRefuses}
 use Rattle.mt_works.specs.Works.{IsBuiltWork}

@@ -13,10 +13,10 @@ use Rattle.mt_arena.specs.Arena.{ArenaView}
 use Rattle.mt_arena.specs.declared.retired.Retired.{Retired}
 use Rattle.mt_chart.specs.Tree.{Among, first}
 use Rattle.mt_tree.specs.Seen.{arena_seen}
-use Rattle.mt_calls.specs.World.{World, IsGone}
-use Rattle.mt_calls.specs.Collecting.{IsCollected, TakenSince, CollectLaw, Leaves}
-use Rattle.mt_calls.proofs.CollectLemmas.{advances}
-use Rattle.mt_calls.proofs.CollectingLemmas.{law_none}
+use Rattle.mt_steps.specs.World.{World, IsGone}
+use Rattle.mt_steps.specs.Collecting.{IsCollected, TakenSince, CollectLaw, Leaves}
+use Rattle.mt_steps.proofs.CollectLemmas.{advances}
+use Rattle.mt_steps.proofs.CollectingLemmas.{law_none}
 use Rattle.mt_works.specs.Works.{held}
 use Rattle.mt_works.proofs.WorkLemmas.{stays, owned_taken, owned_since}
 use Rattle.mt_index.specs.declared.calls.Call.{Call}

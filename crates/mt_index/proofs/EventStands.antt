@@ -43,8 +43,8 @@ use Rattle.mt_index.specs.declared.calls.Call.{Call}
 use Rattle.mt_works.specs.declared.work.Work.{Work}
 use Rattle.mt_works.specs.declared.work.Work.TheVariants.{Get as GetWork, Write as WriteWork, Range as RangeWork, Tidy as TidyWork, Build as BuildWork}
 use Rattle.mt_slice.specs.Place.{Place}
-use Rattle.mt_calls.specs.declared.progress.Progress.{Progress}
-use Rattle.mt_calls.specs.declared.progress.Progress.TheVariants.{Moved, Waits, Committed, Answered, Refused}
+use Rattle.mt_steps.specs.declared.progress.Progress.{Progress}
+use Rattle.mt_steps.specs.declared.progress.Progress.TheVariants.{Moved, Waits, Committed, Answered, Refused}
 use Rattle.std.proofs.lemmas.List.Elements.{All-nil}
 use Rattle.mt_arena.specs.declared.retired.Retired.{Retired}
 use Rattle.mt_arena.specs.declared.node.Node.{Node}
@@ -52,15 +52,15 @@ use Rattle.mt_arena.specs.declared.node.Node.TheVariants.{Head as HeadIn, Border
 use Rattle.mt_border.specs.Border.{new_border}
 use Rattle.mt_tree.specs.Keeping.{IsIndexAt}
 use Rattle.mt_tree.specs.Descent.{is_marked}
-use Rattle.mt_calls.proofs.AliveLemmas.{alive_node}
+use Rattle.mt_steps.proofs.AliveLemmas.{alive_node}
 use Rattle.std.specs.Prelude.{IsSomeAnd, All, ◌⊎◌}
 use Rattle.std.specs.Option.{option_and_then}
 use Rattle.mt_arena.specs.Node.{node_at, head_at, head_of}
 use Rattle.mt_arena.proofs.NodeLemmas.{node-from_head, node-from_border}
 use Rattle.mt_chart.proofs.Basics.{same_number}
 use Rattle.mt_tree.specs.NewTree.{IsNewTree}
-use Rattle.mt_calls.specs.World.{IsLocked, IsTaken, World, IsWorld, RowsAreOfKeys, HeadsStand, is_locked, IsAliveIfFree, FreeAreAlive, TwinsAreLocked, IsGone, RetiredAreGone, Goes}
-use Rattle.mt_calls.specs.Step.{Held, IsQuiet, IsRight, Stepped, Commits, bounds, put_row}
+use Rattle.mt_steps.specs.World.{IsLocked, IsTaken, World, IsWorld, RowsAreOfKeys, HeadsStand, is_locked, IsAliveIfFree, FreeAreAlive, TwinsAreLocked, IsGone, RetiredAreGone, Goes}
+use Rattle.mt_steps.specs.Step.{Held, IsQuiet, IsRight, Stepped, Commits, bounds, put_row}
 use Rattle.mt_chart.specs.Tree.{Arena}
 use Rattle.mt_types.specs.declared.row.Change.TheVariants.{Put as PutChange, Drop}
 use Rattle.mt_write.specs.declared.writing.Write.{Write}

@@ -17,8 +17,8 @@ use Rattle.mt_commit.specs.Laws.{times_held}
 use Rattle.mt_commit.specs.Holders.{with_holder, without_holder}
 use Rattle.mt_commit.proofs.CountLemmas.{pinning_counts, unpinning_counts, counted_is_held, least_is_by_counts}
 use Rattle.mt_commit.proofs.LogLemmas.{trim_rises, newest-trimmed}
-use Rattle.mt_calls.specs.declared.progress.Progress.{Progress}
-use Rattle.mt_calls.specs.declared.progress.Progress.TheVariants.{Moved, Waits, Committed, Answered, Refused}
+use Rattle.mt_steps.specs.declared.progress.Progress.{Progress}
+use Rattle.mt_steps.specs.declared.progress.Progress.TheVariants.{Moved, Waits, Committed, Answered, Refused}
 use Rattle.mt_index.specs.declared.calls.Call.{Call}
 use Rattle.mt_works.specs.Works.{request_of}
 use Rattle.mt_commit.specs.Logged.{deltas_of}

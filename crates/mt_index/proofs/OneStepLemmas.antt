@@ -6,8 +6,8 @@ use Rattle.mt_types.specs.declared.event.Event.TheVariants.{Step}
 use Rattle.mt_types.specs.declared.event.Outcome.{Outcome}
 use Rattle.mt_commit.specs.Log.{LogView, newest, trimmed}
 use Rattle.mt_arena.specs.Arena.{ArenaView}
-use Rattle.mt_calls.specs.declared.progress.Progress.{Progress}
-use Rattle.mt_calls.specs.declared.progress.Progress.TheVariants.{Moved, Waits, Committed, Answered, Refused}
+use Rattle.mt_steps.specs.declared.progress.Progress.{Progress}
+use Rattle.mt_steps.specs.declared.progress.Progress.TheVariants.{Moved, Waits, Committed, Answered, Refused}
 use Rattle.mt_works.specs.declared.work.Work.{Work}
 use Rattle.mt_works.specs.Works.{IsBuiltWork}
 use Rattle.mt_works.specs.Follows.{WorkFollows}

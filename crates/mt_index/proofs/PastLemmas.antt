@@ -23,7 +23,7 @@ use Rattle.mt_chart.specs.Tree.{Arena}
 use Rattle.mt_chart.specs.ScanRun.{Stood}
 use Rattle.mt_chart.specs.KeyAnswer.{KeysAreBytes}
 use Rattle.mt_tree.specs.Seen.{arena_seen}
-use Rattle.mt_calls.specs.Step.{IsRangeOf}
+use Rattle.mt_steps.specs.Step.{IsRangeOf}
 use Rattle.mt_index.specs.Stands.{HasRowsOf, IsPast}
 
 -- ---- the commits of a moment and of a later one

@@ -19,8 +19,8 @@ use Rattle.mt_build.specs.Build.{BuildView}
 use Rattle.mt_build.specs.History.{LeadsTo}
 use Rattle.mt_build.proofs.HistoryLemmas.{deltas_lead}
 use Rattle.mt_build.proofs.ReadLemmas.{builds_exact}
-use Rattle.mt_calls.specs.declared.progress.Progress.{Progress}
-use Rattle.mt_calls.specs.declared.progress.Progress.TheVariants.{Moved, Waits, Committed, Answered, Refused}
+use Rattle.mt_steps.specs.declared.progress.Progress.{Progress}
+use Rattle.mt_steps.specs.declared.progress.Progress.TheVariants.{Moved, Waits, Committed, Answered, Refused}
 use Rattle.mt_write.specs.declared.writing.Edit.{Edit}
 use Rattle.mt_write.specs.declared.writing.Edit.TheVariants.{Put as PutEdit, Remove as RemoveEdit}
 use Rattle.mt_write.specs.Writing.{edit_request}

@@ -39,8 +39,8 @@ use Rattle.mt_tree.specs.Seen.{arena_seen, HasRow}
 use Rattle.mt_index.specs.declared.calls.Call.{Call}
 use Rattle.mt_works.specs.declared.work.Work.{Work}
 use Rattle.mt_works.specs.declared.work.Work.TheVariants.{Get as GetWork, Write as WriteWork, Range as RangeWork, Tidy as TidyWork, Build as BuildWork}
-use Rattle.mt_calls.specs.World.{IsTaken, World, IsSame, Goes, NotAmong}
-use Rattle.mt_calls.specs.Step.{RowIs, IsQuiet, Changes, IsRight, MayRefuse, blocked_by, bounds}
+use Rattle.mt_steps.specs.World.{IsTaken, World, IsSame, Goes, NotAmong}
+use Rattle.mt_steps.specs.Step.{RowIs, IsQuiet, Changes, IsRight, MayRefuse, blocked_by, bounds}
 use Rattle.mt_write.specs.declared.writing.Edit.{Edit}
 use Rattle.mt_write.specs.declared.writing.Edit.TheVariants.{Put as PutEdit, Remove as RemoveEdit}
 use Rattle.mt_write.specs.Writing.{edit_request}

@@ -10,9 +10,9 @@ use Rattle.mt_index.specs.declared.calls.Call.{Call}
 use Rattle.mt_index.specs.declared.calls.Found.{Found}
 use Rattle.mt_index.specs.declared.calls.Found.TheVariants.{Missing, Built, Stepped}
 use Rattle.mt_works.specs.declared.work.Work.{Work}
-use Rattle.mt_calls.specs.declared.progress.Progress.{Progress}
-use Rattle.mt_calls.specs.World.{NotAmong}
-use Rattle.mt_calls.specs.Step.{StepLawIn}
+use Rattle.mt_steps.specs.declared.progress.Progress.{Progress}
+use Rattle.mt_steps.specs.World.{NotAmong}
+use Rattle.mt_steps.specs.Step.{StepLawIn}
 use Rattle.mt_works.specs.Causes.{WorkWaits, WorkFails}
 use Rattle.mt_works.specs.Follows.{WorkFollows, WorkReads, WorkPosts}
 use Rattle.mt_works.specs.Works.{request_of, held, IsTrue, MayWork, HasNext, IsBuiltWork, WorkBuilds}

@@ -6,8 +6,8 @@ use Rattle.mt_types.specs.declared.event.Event.{Event}
 use Rattle.mt_types.specs.declared.event.Event.TheVariants.{Step, Collect}
 use Rattle.mt_types.specs.declared.event.Outcome.{Outcome}
 use Rattle.mt_types.specs.declared.event.Outcome.TheVariants.{Again, Moved, Freed, Refused}
-use Rattle.mt_calls.specs.declared.progress.Progress.TheVariants.{Moved as WentOn, Waits}
-use Rattle.mt_calls.specs.Collecting.{given_back}
+use Rattle.mt_steps.specs.declared.progress.Progress.TheVariants.{Moved as WentOn, Waits}
+use Rattle.mt_steps.specs.Collecting.{given_back}
 use Rattle.mt_works.specs.Causes.{WorkWaits, WorkFails, WorkRefuses}
 use Rattle.mt_types.specs.Numbers.{greatest_number}
 use Rattle.mt_works.specs.Works.{IsBuiltWork}

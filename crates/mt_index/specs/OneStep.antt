@@ -4,8 +4,8 @@ use Rattle.mt_types.specs.declared.event.Event.{Event}
 use Rattle.mt_types.specs.declared.event.Event.TheVariants.{Step}
 use Rattle.mt_types.specs.declared.event.Outcome.{Outcome}
 use Rattle.mt_types.specs.declared.event.Outcome.TheVariants.{Again, Moved, Commit, Done, Refused}
-use Rattle.mt_calls.specs.declared.progress.Progress.{Progress}
-use Rattle.mt_calls.specs.declared.progress.Progress.TheVariants.{Moved as WentOn, Waits, Committed, Answered, Refused as EndsRefused}
+use Rattle.mt_steps.specs.declared.progress.Progress.{Progress}
+use Rattle.mt_steps.specs.declared.progress.Progress.TheVariants.{Moved as WentOn, Waits, Committed, Answered, Refused as EndsRefused}
 use Rattle.mt_works.specs.declared.work.Work.{Work}
 use Rattle.mt_works.specs.Works.{IsBuiltWork}
 use Rattle.mt_works.specs.Follows.{WorkFollows}

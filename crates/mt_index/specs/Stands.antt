@@ -32,10 +32,10 @@ use Rattle.mt_works.specs.declared.work.Work.{Work}
 use Rattle.mt_works.specs.declared.work.Work.TheVariants.{Build as BuildWork}
 use Rattle.mt_works.specs.declared.building.Building.{Building}
 use Rattle.mt_works.specs.Building.{IsBuilt}
-use Rattle.mt_calls.specs.declared.progress.Progress.{Progress}
-use Rattle.mt_calls.specs.declared.progress.Progress.TheVariants.{Moved as WentOn, Waits, Committed, Answered, Refused as EndsRefused}
-use Rattle.mt_calls.specs.World.{World, IsWorld, IsTaken}
-use Rattle.mt_calls.specs.Collecting.{IsCollected, CollectLaw}
+use Rattle.mt_steps.specs.declared.progress.Progress.{Progress}
+use Rattle.mt_steps.specs.declared.progress.Progress.TheVariants.{Moved as WentOn, Waits, Committed, Answered, Refused as EndsRefused}
+use Rattle.mt_steps.specs.World.{World, IsWorld, IsTaken}
+use Rattle.mt_steps.specs.Collecting.{IsCollected, CollectLaw}
 use Rattle.mt_works.specs.Works.{request_of, held, IsTrue, IsNew}
 use Rattle.mt_build.specs.History.{GoesBy}
 use Rattle.mt_build.specs.Build.{HadRows}

@@ -11,9 +11,9 @@ ghost use Rattle.mt_index.specs.Alone.{IsIdle, AnswersPlainly, RefusesPlainly};
 ghost use Rattle.mt_index.specs.Stands.{Stands, HasBounds, fault_of};
 
 use crate::machine::Machine;
-use mt_calls::getting::Get;
-use mt_calls::ranging::Range;
-use mt_calls::way::START;
+use mt_steps::getting::Get;
+use mt_steps::ranging::Range;
+use mt_steps::way::START;
 use mt_scan::Scan;
 use mt_tree::TOP;
 use mt_types::copying::TryCopy;

@@ -14,8 +14,8 @@ use Rattle.mt_tree.specs.Seen.{arena_seen, interior_seen, child_seen, children_s
 use Rattle.mt_tree.proofs.SeenLemmas.{seen-interior}
 use Rattle.mt_tree.proofs.InteriorPlaces.{stands_as}
 use Rattle.mt_tree.proofs.ChildLists.{among_read}
-use Rattle.mt_calls.specs.World.{World, IsWorld, is_locked, IsLocked, IsTaken, Goes}
-use Rattle.mt_calls.proofs.NodeLemmas.{root_place}
+use Rattle.mt_steps.specs.World.{World, IsWorld, is_locked, IsLocked, IsTaken, Goes}
+use Rattle.mt_steps.proofs.NodeLemmas.{root_place}
 use Rattle.mt_post.specs.declared.posting.Posting.{Posting}
 use Rattle.mt_post.specs.declared.posting.Progressed.{Progressed}
 use Rattle.mt_post.specs.declared.posting.Progressed.TheVariants.{Moved, Waits, Ended}

@@ -19,17 +19,17 @@ use Rattle.mt_tree.specs.Keeping.{KeepsWhere}
 use Rattle.mt_tree.specs.InteriorSteps.{IsNotGone, CutsAt}
 use Rattle.mt_tree.proofs.SeenLemmas.{seen-interior}
 use Rattle.mt_tree.proofs.InteriorPlaces.{is_on_as}
-use Rattle.mt_calls.specs.World.{World, IsWorld, IsTaken, HasSameTwins, Goes}
-use Rattle.mt_calls.proofs.BorderLemmas.{keys_same, interior_kept, retired_kept, on_kept}
-use Rattle.mt_calls.proofs.AliveLemmas.{alive_there}
-use Rattle.mt_calls.proofs.FoundLemmas.{some_at}
+use Rattle.mt_steps.specs.World.{World, IsWorld, IsTaken, HasSameTwins, Goes}
+use Rattle.mt_steps.proofs.BorderLemmas.{keys_same, interior_kept, retired_kept, on_kept}
+use Rattle.mt_steps.proofs.AliveLemmas.{alive_there}
+use Rattle.mt_steps.proofs.FoundLemmas.{some_at}
 use Rattle.mt_post.specs.declared.posting.Posting.{Posting}
 use Rattle.mt_post.specs.declared.posting.Progressed.TheVariants.{Moved}
 use Rattle.mt_post.specs.declared.split.Split.{Split}
 use Rattle.mt_post.specs.declared.posting.PostStage.TheVariants.{HalfPosted, HalfCut}
 use Rattle.mt_post.specs.Posting.{goal_level, split_owns, AreWaiting, IsToPost, IsHeadOf, IsPostedHalf, PostingIsTrue, MayPost}
 use Rattle.mt_post.specs.Follows.{PostStep}
-use Rattle.mt_calls.proofs.NodeLemmas.{goes_with, heads_beside, interior_now, interior_others, interior_no_head, interior_no_border, interior_alive, interior_taken, not_both, known_some}
+use Rattle.mt_steps.proofs.NodeLemmas.{goes_with, heads_beside, interior_now, interior_others, interior_no_head, interior_no_border, interior_alive, interior_taken, not_both, known_some}
 use Rattle.mt_post.proofs.WalkLemmas.{at_stage, true_at}
 use Rattle.mt_post.proofs.KeptLemmas.{all_stay, owns_below}
 use Rattle.mt_post.proofs.NumberLemmas.{interior_leaves_twice}

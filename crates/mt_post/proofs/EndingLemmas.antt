@@ -22,8 +22,8 @@ use Rattle.mt_tree.specs.Seen.{arena_seen, node_seen, interior_seen, child_seen,
 use Rattle.mt_tree.proofs.SeenLemmas.{seen-interior}
 use Rattle.mt_tree.proofs.InteriorPlaces.{stands_as}
 use Rattle.mt_tree.proofs.ChildLists.{among_read}
-use Rattle.mt_calls.specs.World.{World, IsWorld}
-use Rattle.mt_calls.proofs.NodeLemmas.{head_there, root_place}
+use Rattle.mt_steps.specs.World.{World, IsWorld}
+use Rattle.mt_steps.proofs.NodeLemmas.{head_there, root_place}
 use Rattle.mt_post.specs.declared.posting.Posting.{Posting}
 use Rattle.mt_post.specs.declared.posting.Progressed.{Progressed}
 use Rattle.mt_post.specs.declared.posting.Progressed.TheVariants.{Moved, Waits, Ended}

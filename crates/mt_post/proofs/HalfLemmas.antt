@@ -24,10 +24,10 @@ use Rattle.mt_chart.proofs.HeldNodes.{evolves_same}
 use Rattle.mt_tree.specs.Seen.{arena_seen}
 use Rattle.mt_tree.specs.Keeping.{KeepsTree, KeepsUnknown, KeepsWhere, IsUnknown}
 use Rattle.mt_tree.specs.InteriorSteps.{IsNotGone}
-use Rattle.mt_calls.specs.World.{World, IsWorld, IsLockedInterior, IsTaken, Goes}
-use Rattle.mt_calls.proofs.AliveLemmas.{alive_unknown, alive_there}
-use Rattle.mt_calls.proofs.FoundLemmas.{some_at}
-use Rattle.mt_calls.proofs.SplitLemmas.{goes_occupied}
+use Rattle.mt_steps.specs.World.{World, IsWorld, IsLockedInterior, IsTaken, Goes}
+use Rattle.mt_steps.proofs.AliveLemmas.{alive_unknown, alive_there}
+use Rattle.mt_steps.proofs.FoundLemmas.{some_at}
+use Rattle.mt_steps.proofs.SplitLemmas.{goes_occupied}
 use Rattle.mt_post.specs.declared.posting.Posting.{Posting}
 use Rattle.mt_post.specs.declared.posting.Progressed.TheVariants.{Moved, Ended}
 use Rattle.mt_post.specs.declared.split.Split.{Split}
@@ -35,9 +35,9 @@ use Rattle.mt_post.specs.declared.posting.PostStage.TheVariants.{Walks, HalfWant
 use Rattle.mt_post.specs.Causes.{IsFullAt}
 use Rattle.mt_post.specs.Posting.{goal, goal_level, split_owns, AreWaiting, IsToPost, IsHeadOf, IsWalking, IsSpareInterior, IsSplitting, IsHalved, StartsUpper, empty_half, upper_half, IsLetGo, PostingIsTrue, MayPost}
 use Rattle.mt_post.specs.Follows.{FollowsInterior, PostStep}
-use Rattle.mt_calls.specs.World.{IsLockedBorder}
-use Rattle.mt_calls.proofs.BorderLemmas.{unknown_kept, on_kept}
-use Rattle.mt_calls.proofs.NodeLemmas.{goes_at, goes_kept, twins_lone, heads_beside, interior_now, interior_others, interior_no_head, interior_no_border, interior_alive, interior_taken, interior_is_taken, not_both, known_some}
+use Rattle.mt_steps.specs.World.{IsLockedBorder}
+use Rattle.mt_steps.proofs.BorderLemmas.{unknown_kept, on_kept}
+use Rattle.mt_steps.proofs.NodeLemmas.{goes_at, goes_kept, twins_lone, heads_beside, interior_now, interior_others, interior_no_head, interior_no_border, interior_alive, interior_taken, interior_is_taken, not_both, known_some}
 use Rattle.mt_post.proofs.WalkLemmas.{at_stage, true_at, still_locked, from_head, goes_on, in_layer, is_above}
 use Rattle.mt_post.proofs.KeptLemmas.{all_stay, same_beside, splitting_stays, apart_known, owns_below, owns_beside, goal_has_level, few_wait}
 use Rattle.mt_post.proofs.RootLemmas.{not_retired, gives_number, vacant_free}

@@ -13,8 +13,8 @@ use Rattle.mt_chart.specs.Tree.{Among, first, later}
 use Rattle.mt_chart.specs.Chart.{Spot}
 use Rattle.mt_chart.specs.Steps.{NoTwin}
 use Rattle.mt_tree.specs.InteriorSteps.{IsInLayer}
-use Rattle.mt_calls.specs.World.{World, IsLocked, IsTaken, IsSame}
-use Rattle.mt_calls.proofs.FrameLemmas.{retired_same}
+use Rattle.mt_steps.specs.World.{World, IsLocked, IsTaken, IsSame}
+use Rattle.mt_steps.proofs.FrameLemmas.{retired_same}
 use Rattle.mt_post.specs.declared.split.Split.{Split}
 use Rattle.mt_post.specs.Posting.{IsToPost, IsSpareInterior, IsSplitting, IsHalved, AreWaiting, IsLetGo, IsPostedHalf, goal, goal_level, split_owns, upper_half}
 

@@ -21,11 +21,11 @@ use Rattle.mt_tree.specs.Seen.{arena_seen}
 use Rattle.mt_tree.specs.HeadSteps.{IsRootOverHalf, KeepsRootOverHalf}
 use Rattle.mt_tree.proofs.SeenLemmas.{changed-head}
 use Rattle.mt_tree.proofs.RootLemmas.{root_of_split}
-use Rattle.mt_calls.specs.World.{World, IsWorld, HeadsStand, IsTaken, Goes}
-use Rattle.mt_calls.proofs.BorderLemmas.{keys_same, known_stays, no_interior, twins_beside, retired_kept, on_kept, no_root, roots_kept}
-use Rattle.mt_calls.proofs.AliveLemmas.{alive_node, alive_there, alive_placed}
-use Rattle.mt_calls.proofs.FoundLemmas.{some_at}
-use Rattle.mt_calls.proofs.SplitLemmas.{with_spot, spot_changes}
+use Rattle.mt_steps.specs.World.{World, IsWorld, HeadsStand, IsTaken, Goes}
+use Rattle.mt_steps.proofs.BorderLemmas.{keys_same, known_stays, no_interior, twins_beside, retired_kept, on_kept, no_root, roots_kept}
+use Rattle.mt_steps.proofs.AliveLemmas.{alive_node, alive_there, alive_placed}
+use Rattle.mt_steps.proofs.FoundLemmas.{some_at}
+use Rattle.mt_steps.proofs.SplitLemmas.{with_spot, spot_changes}
 use Rattle.mt_post.specs.declared.posting.Posting.{Posting}
 use Rattle.mt_post.specs.declared.posting.Progressed.TheVariants.{Moved}
 use Rattle.mt_post.specs.declared.posting.Root.{Root}
@@ -34,7 +34,7 @@ use Rattle.mt_post.specs.declared.posting.PostStage.TheVariants.{RootFilled, Hal
 use Rattle.mt_post.specs.Causes.{IsRootStill}
 use Rattle.mt_post.specs.Posting.{split_owns, AreWaiting, PostStageIsTrue, IsToPost, IsHeadOf, IsSpareInterior, IsHalved, upper_half, root_over, PostingIsTrue, MayPost}
 use Rattle.mt_post.specs.Follows.{PostStep}
-use Rattle.mt_calls.proofs.NodeLemmas.{at_chart, goes_with, interior_is_taken, alive_free, not_both, known_some, root_place, heads_were}
+use Rattle.mt_steps.proofs.NodeLemmas.{at_chart, goes_with, interior_is_taken, alive_free, not_both, known_some, root_place, heads_were}
 use Rattle.mt_post.proofs.WalkLemmas.{at_stage, true_at, from_head}
 use Rattle.mt_post.proofs.KeptLemmas.{all_stay, apart_known, interior_apart_head, owns_below, owns_beside, beside_half}
 use Rattle.mt_post.proofs.HalfLemmas.{from_place}

@@ -9,8 +9,8 @@ use Rattle.mt_chart.specs.Tree.{Among, first, later}
 use Rattle.mt_chart.specs.Chart.{Role, top, Spot, spot, Evolves}
 use Rattle.mt_chart.proofs.Walk.{known_kept}
 use Rattle.mt_tree.specs.InteriorSteps.{IsInLayer}
-use Rattle.mt_calls.specs.World.{World, IsWorld, IsTaken, IsSame, GoneSince}
-use Rattle.mt_calls.proofs.CollectLemmas.{only_since, on_no, unknown_no}
+use Rattle.mt_steps.specs.World.{World, IsWorld, IsTaken, IsSame, GoneSince}
+use Rattle.mt_steps.proofs.CollectLemmas.{only_since, on_no, unknown_no}
 use Rattle.mt_post.specs.declared.posting.Posting.{Posting}
 use Rattle.mt_post.specs.declared.split.Split.{Split}
 use Rattle.mt_post.specs.declared.posting.PostStage.{PostStage}

@@ -27,11 +27,11 @@ use Rattle.mt_tree.specs.Keeping.{KeepsTree, KeepsUnknown, KeepsWhere, KeepsAlon
 use Rattle.mt_tree.specs.InteriorSteps.{IsNotGone}
 use Rattle.mt_tree.specs.HeadSteps.{IsRootOver, NamesRootAt}
 use Rattle.mt_tree.proofs.SeenLemmas.{changed-head}
-use Rattle.mt_calls.specs.World.{World, IsWorld, HeadsStand, IsLocked, IsTaken, IsSame, Goes}
-use Rattle.mt_calls.proofs.BorderLemmas.{known_stays, no_interior, unknown_kept, on_kept, no_root, roots_kept}
-use Rattle.mt_calls.proofs.AliveLemmas.{alive_node, alive_unknown, alive_there, alive_placed}
-use Rattle.mt_calls.proofs.FoundLemmas.{some_at}
-use Rattle.mt_calls.proofs.SplitLemmas.{goes_occupied, with_spot, spot_changes}
+use Rattle.mt_steps.specs.World.{World, IsWorld, HeadsStand, IsLocked, IsTaken, IsSame, Goes}
+use Rattle.mt_steps.proofs.BorderLemmas.{known_stays, no_interior, unknown_kept, on_kept, no_root, roots_kept}
+use Rattle.mt_steps.proofs.AliveLemmas.{alive_node, alive_unknown, alive_there, alive_placed}
+use Rattle.mt_steps.proofs.FoundLemmas.{some_at}
+use Rattle.mt_steps.proofs.SplitLemmas.{goes_occupied, with_spot, spot_changes}
 use Rattle.mt_post.specs.declared.posting.Posting.{Posting}
 use Rattle.mt_post.specs.declared.posting.Progressed.TheVariants.{Moved, Ended}
 use Rattle.mt_post.specs.declared.posting.Root.{Root}
@@ -39,7 +39,7 @@ use Rattle.mt_post.specs.declared.posting.PostStage.TheVariants.{Walks, RootWant
 use Rattle.mt_post.specs.Posting.{goal, goal_level, split_owns, AreWaiting, IsToPost, IsHeadOf, IsSpareInterior, root_children, new_root, root_over, PostingIsTrue, ThenPosts, MayPost}
 use Rattle.mt_post.specs.Causes.{IsRootStill}
 use Rattle.mt_post.specs.Follows.{PostStep}
-use Rattle.mt_calls.proofs.NodeLemmas.{at_chart, goes_at, heads_beside, interior_now, interior_others, interior_no_head, interior_no_border, interior_is_taken, alive_free, not_both, known_some, root_place, heads_were, head_there}
+use Rattle.mt_steps.proofs.NodeLemmas.{at_chart, goes_at, heads_beside, interior_now, interior_others, interior_no_head, interior_no_border, interior_is_taken, alive_free, not_both, known_some, root_place, heads_were, head_there}
 use Rattle.mt_post.proofs.WalkLemmas.{at_stage, true_at, from_head, goes_on}
 use Rattle.mt_post.specs.Follows.{OccupiesOne, GivesOneBack, SameHeads, MarksNone}
 use Rattle.mt_post.proofs.NumberLemmas.{interior_leaves_twice, head_leaves_by, occupied_heads, occupied_marks, given_back}

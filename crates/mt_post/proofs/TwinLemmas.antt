@@ -17,11 +17,11 @@ use Rattle.mt_chart.proofs.Entries.{among_cases}
 use Rattle.mt_chart.proofs.Walk.{known_kept}
 use Rattle.mt_tree.specs.Seen.{arena_seen}
 use Rattle.mt_tree.specs.InteriorSteps.{HasUpperChildren, HasRoomFrom, KeepsHalf}
-use Rattle.mt_calls.specs.World.{World, IsWorld, IsLockedInterior, TwinsAreLocked, HasSameTwins, IsTaken, Goes}
-use Rattle.mt_calls.proofs.BorderLemmas.{keys_same, known_stays, twins_beside, retired_kept, on_kept}
-use Rattle.mt_calls.proofs.AliveLemmas.{alive_node, alive_there, alive_placed}
-use Rattle.mt_calls.proofs.FoundLemmas.{some_at}
-use Rattle.mt_calls.proofs.SplitLemmas.{with_spot, spot_changes}
+use Rattle.mt_steps.specs.World.{World, IsWorld, IsLockedInterior, TwinsAreLocked, HasSameTwins, IsTaken, Goes}
+use Rattle.mt_steps.proofs.BorderLemmas.{keys_same, known_stays, twins_beside, retired_kept, on_kept}
+use Rattle.mt_steps.proofs.AliveLemmas.{alive_node, alive_there, alive_placed}
+use Rattle.mt_steps.proofs.FoundLemmas.{some_at}
+use Rattle.mt_steps.proofs.SplitLemmas.{with_spot, spot_changes}
 use Rattle.mt_post.specs.declared.posting.Posting.{Posting}
 use Rattle.mt_post.specs.declared.posting.Progressed.TheVariants.{Moved}
 use Rattle.mt_post.specs.declared.split.Split.{Split}
@@ -29,7 +29,7 @@ use Rattle.mt_post.specs.declared.posting.PostStage.TheVariants.{Walks, HalfPost
 use Rattle.mt_post.specs.Causes.{HasRoomAt}
 use Rattle.mt_post.specs.Posting.{goal, split_owns, AreWaiting, IsToPost, IsHeadOf, IsWalking, IsHalved, IsPostedHalf, upper_half, PostingIsTrue, MayPost}
 use Rattle.mt_post.specs.Follows.{FollowsInterior, PostStep}
-use Rattle.mt_calls.proofs.NodeLemmas.{goes_with, heads_beside, interior_others, interior_no_head, interior_no_border, interior_alive, interior_taken, interior_is_taken, not_both, known_some, heads_were}
+use Rattle.mt_steps.proofs.NodeLemmas.{goes_with, heads_beside, interior_others, interior_no_head, interior_no_border, interior_alive, interior_taken, interior_is_taken, not_both, known_some, heads_were}
 use Rattle.mt_post.proofs.WalkLemmas.{at_stage, true_at, in_layer, is_above, room_for}
 use Rattle.mt_post.proofs.KeptLemmas.{all_stay, apart_known, owns_beside, beside_half}
 use Rattle.mt_post.proofs.NumberLemmas.{interior_leaves_by}

@@ -24,11 +24,11 @@ use Rattle.mt_tree.proofs.SeenLemmas.{seen-interior}
 use Rattle.mt_tree.proofs.HeldLemmas.{held_may_visit}
 use Rattle.mt_tree.proofs.InteriorPlaces.{stands_as}
 use Rattle.mt_tree.proofs.ChildLists.{among_read}
-use Rattle.mt_calls.specs.World.{World, IsWorld, Goes}
-use Rattle.mt_calls.proofs.FrameLemmas.{goes_same}
-use Rattle.mt_calls.proofs.BorderLemmas.{known_stays, on_kept}
-use Rattle.mt_calls.proofs.FoundLemmas.{some_at}
-use Rattle.mt_calls.proofs.SplitLemmas.{with_spot, spot_changes}
+use Rattle.mt_steps.specs.World.{World, IsWorld, Goes}
+use Rattle.mt_steps.proofs.FrameLemmas.{goes_same}
+use Rattle.mt_steps.proofs.BorderLemmas.{known_stays, on_kept}
+use Rattle.mt_steps.proofs.FoundLemmas.{some_at}
+use Rattle.mt_steps.proofs.SplitLemmas.{with_spot, spot_changes}
 use Rattle.mt_post.specs.declared.posting.Posting.{Posting}
 use Rattle.mt_post.specs.declared.posting.Progressed.{Progressed}
 use Rattle.mt_post.specs.declared.posting.Progressed.TheVariants.{Moved, Waits, Ended}
@@ -39,9 +39,9 @@ use Rattle.mt_post.specs.declared.posting.PostStage.TheVariants.{Walks, RootWant
 use Rattle.mt_post.specs.Posting.{stage_owns, owned_after, IsToPost, IsHeadOf, IsAbove, goal, split_owns, IsWalking, PostStageIsTrue, AreWaiting, PostingIsTrue, ThenPosts, NewPostingIsTrue, MayPost}
 use Rattle.mt_post.specs.Causes.{IsHeldBack, CanLeaveOut, PostStageWaits, PostStageEnds}
 use Rattle.mt_post.specs.Follows.{FollowsHead, FollowsInterior, LeavesOut, StageFollows, Follows, PostStep}
-use Rattle.mt_calls.specs.World.{IsLockedBorder}
-use Rattle.mt_calls.proofs.AliveLemmas.{alive_node, alive_there, alive_placed}
-use Rattle.mt_calls.proofs.NodeLemmas.{at_chart, goes_at, heads_beside, interior_others, interior_no_head, interior_no_border, interior_alive, interior_border, interior_taken, interior_is_taken, not_both, known_some, heads_were, root_place}
+use Rattle.mt_steps.specs.World.{IsLockedBorder}
+use Rattle.mt_steps.proofs.AliveLemmas.{alive_node, alive_there, alive_placed}
+use Rattle.mt_steps.proofs.NodeLemmas.{at_chart, goes_at, heads_beside, interior_others, interior_no_head, interior_no_border, interior_alive, interior_border, interior_taken, interior_is_taken, not_both, known_some, heads_were, root_place}
 use Rattle.mt_types.specs.declared.limits.TheConstants.{MAX_LEVEL}
 use Rattle.mt_post.specs.declared.posting.PostStage.TheVariants.{RootSpared, RootFilled, RootLate, HalfWanted, HalfSpared, LetGo, HalfPosted, HalfCut}
 use Rattle.mt_post.specs.Posting.{WalksFrom}

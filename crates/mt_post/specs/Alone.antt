@@ -5,7 +5,7 @@ use Rattle.mt_arena.specs.Arena.{ArenaView, IsArena}
 use Rattle.mt_chart.specs.Tree.{Among}
 use Rattle.mt_chart.specs.Chart.{Role, gone, spot, Chart}
 use Rattle.mt_chart.specs.Walk.{IsOn}
-use Rattle.mt_calls.specs.World.{World, IsWorld, IsLocked, IsTaken}
+use Rattle.mt_steps.specs.World.{World, IsWorld, IsLocked, IsTaken}
 use Rattle.mt_post.specs.declared.posting.Posting.{Posting}
 use Rattle.mt_post.specs.declared.posting.Progressed.{Progressed}
 use Rattle.mt_post.specs.declared.posting.Progressed.TheVariants.{Moved, Waits, Ended}

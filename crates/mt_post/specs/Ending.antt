@@ -8,7 +8,7 @@ use Rattle.mt_arena.specs.declared.node.Node.TheVariants.{Head, Interior, Border
 use Rattle.mt_arena.specs.Node.{node_at, head_at, occupied}
 use Rattle.mt_arena.specs.Arena.{ArenaView, IsArena}
 use Rattle.mt_chart.specs.Posting.{Frame, walks, makes_root, late_spare, late_fill, late_name, late_back, wants_spare, fills, waits, gives_back, unlocks, cuts, goes_again, posting_measure}
-use Rattle.mt_calls.specs.World.{World, IsWorld}
+use Rattle.mt_steps.specs.World.{World, IsWorld}
 use Rattle.mt_post.specs.declared.posting.Posting.{Posting}
 use Rattle.mt_post.specs.declared.posting.Progressed.{Progressed}
 use Rattle.mt_post.specs.declared.posting.Progressed.TheVariants.{Moved, Waits, Ended}

@@ -13,7 +13,7 @@ use Rattle.mt_chart.specs.Steps.{NoTwin, AreTwins, SameContent}
 use Rattle.mt_interior.specs.declared.interior.TheConstants.{MAX_CHILDREN, KEPT_CHILDREN}
 use Rattle.mt_tree.specs.Seen.{arena_seen}
 use Rattle.mt_tree.specs.InteriorSteps.{IsInLayer}
-use Rattle.mt_calls.specs.World.{World, IsLockedBorder, IsWorld, NotAmong, Goes}
+use Rattle.mt_steps.specs.World.{World, IsLockedBorder, IsWorld, NotAmong, Goes}
 use Rattle.mt_post.specs.declared.posting.Posting.{Posting}
 use Rattle.mt_post.specs.declared.posting.Progressed.{Progressed}
 use Rattle.mt_post.specs.declared.posting.Progressed.TheVariants.{Moved, Waits, Ended}

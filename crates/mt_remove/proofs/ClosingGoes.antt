@@ -19,11 +19,11 @@ use Rattle.mt_chart.proofs.HeldNodes.{evolves_same}
 use Rattle.mt_tree.specs.Seen.{arena_seen}
 use Rattle.mt_tree.specs.Keeping.{KeepsTree}
 use Rattle.mt_tree.proofs.SeenLemmas.{changed-head}
-use Rattle.mt_calls.specs.World.{World, IsWorld, IsLockedRoot, HeadsStand, IsTaken, IsSame, NotAmong, Goes}
-use Rattle.mt_calls.proofs.FrameLemmas.{is_among, taken_back}
-use Rattle.mt_calls.proofs.BorderLemmas.{keys_same, no_interior, twins_beside, retired_kept, on_kept, no_root, roots_kept}
-use Rattle.mt_calls.proofs.AliveLemmas.{alive_head, alive_there}
-use Rattle.mt_calls.proofs.NodeLemmas.{alive_free, known_some}
+use Rattle.mt_steps.specs.World.{World, IsWorld, IsLockedRoot, HeadsStand, IsTaken, IsSame, NotAmong, Goes}
+use Rattle.mt_steps.proofs.FrameLemmas.{is_among, taken_back}
+use Rattle.mt_steps.proofs.BorderLemmas.{keys_same, no_interior, twins_beside, retired_kept, on_kept, no_root, roots_kept}
+use Rattle.mt_steps.proofs.AliveLemmas.{alive_head, alive_there}
+use Rattle.mt_steps.proofs.NodeLemmas.{alive_free, known_some}
 
 -- ---- the closing borders without one
 abbrev pub without : ℕ → List ℕ → List ℕ

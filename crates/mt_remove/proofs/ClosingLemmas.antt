@@ -24,13 +24,13 @@ use Rattle.mt_chart.proofs.HeldNodes.{border_is_on, evolves_same}
 use Rattle.mt_tree.specs.Seen.{arena_seen, border_seen}
 use Rattle.mt_tree.specs.Keeping.{KeepsTree, IsOnIn}
 use Rattle.mt_tree.proofs.SeenLemmas.{seen-border}
-use Rattle.mt_calls.specs.declared.progress.Progress.TheVariants.{Moved, Answered}
-use Rattle.mt_calls.specs.World.{World, IsWorld, IsLocked, NotAmong, Goes}
-use Rattle.mt_calls.specs.Way.{prefix_of}
-use Rattle.mt_calls.proofs.LayerLemmas.{head_apart}
-use Rattle.mt_calls.proofs.BorderLemmas.{alive_changed, keys_same, now_named, others_named, goes_border, heads_changed, twins_changed, unlocked_free, unlocked_root, mine_free, locked_may, locked_kept, on_kept, among_one}
-use Rattle.mt_calls.proofs.NodeLemmas.{known_some, root_place, head_there}
-use Rattle.mt_calls.proofs.RetireLemmas.{goes_retired}
+use Rattle.mt_steps.specs.declared.progress.Progress.TheVariants.{Moved, Answered}
+use Rattle.mt_steps.specs.World.{World, IsWorld, IsLocked, NotAmong, Goes}
+use Rattle.mt_steps.specs.Way.{prefix_of}
+use Rattle.mt_steps.proofs.LayerLemmas.{head_apart}
+use Rattle.mt_steps.proofs.BorderLemmas.{alive_changed, keys_same, now_named, others_named, goes_border, heads_changed, twins_changed, unlocked_free, unlocked_root, mine_free, locked_may, locked_kept, on_kept, among_one}
+use Rattle.mt_steps.proofs.NodeLemmas.{known_some, root_place, head_there}
+use Rattle.mt_steps.proofs.RetireLemmas.{goes_retired}
 use Rattle.mt_remove.specs.declared.tidy.Tidy.{Tidy}
 use Rattle.mt_remove.specs.declared.stage.Layer.{Layer}
 use Rattle.mt_remove.specs.declared.stage.Stage.TheVariants.{RootLocked, AboveLocked, HeadMarked, RootMarked, LinkHidden, LayerGone, RootRetired, KeepsLayer, KeepsBorder}

@@ -21,13 +21,13 @@ use Rattle.mt_tree.specs.Keeping.{KeepsTree, KeepsAlong}
 use Rattle.mt_tree.specs.InteriorSteps.{child_at, IsInLayer, DropsAt}
 use Rattle.mt_tree.proofs.InteriorPlaces.{is_on_as}
 use Rattle.mt_tree.proofs.ChildLists.{among_read}
-use Rattle.mt_calls.specs.declared.progress.Progress.TheVariants.{Moved, Answered}
-use Rattle.mt_calls.specs.World.{World, IsWorld, IsLockedBorder, Goes}
-use Rattle.mt_calls.specs.Way.{prefix_of}
-use Rattle.mt_calls.proofs.SplitLemmas.{with_spot, spot_changes}
-use Rattle.mt_calls.proofs.AliveLemmas.{alive_node, alive_there, alive_placed}
-use Rattle.mt_calls.proofs.BorderLemmas.{now_named, keys_same, known_stays, goes_border, locked_may, mine_free, on_kept}
-use Rattle.mt_calls.proofs.NodeLemmas.{at_chart, goes_beside, heads_beside, heads_were, interior_others, interior_no_head, interior_no_border, interior_alive, interior_border, interior_taken, interior_is_taken, not_both, known_some, seen_on, free_no_twin, unlocked_no}
+use Rattle.mt_steps.specs.declared.progress.Progress.TheVariants.{Moved, Answered}
+use Rattle.mt_steps.specs.World.{World, IsWorld, IsLockedBorder, Goes}
+use Rattle.mt_steps.specs.Way.{prefix_of}
+use Rattle.mt_steps.proofs.SplitLemmas.{with_spot, spot_changes}
+use Rattle.mt_steps.proofs.AliveLemmas.{alive_node, alive_there, alive_placed}
+use Rattle.mt_steps.proofs.BorderLemmas.{now_named, keys_same, known_stays, goes_border, locked_may, mine_free, on_kept}
+use Rattle.mt_steps.proofs.NodeLemmas.{at_chart, goes_beside, heads_beside, heads_were, interior_others, interior_no_head, interior_no_border, interior_alive, interior_border, interior_taken, interior_is_taken, not_both, known_some, seen_on, free_no_twin, unlocked_no}
 use Rattle.mt_remove.specs.declared.tidy.Tidy.{Tidy}
 use Rattle.mt_remove.specs.declared.stage.Stage.TheVariants.{Locked, Dropped, Marked, KeepsBorder}
 use Rattle.mt_remove.specs.Seen.{later_place}

@@ -15,13 +15,13 @@ use Rattle.mt_chart.proofs.Basics.{same_number}
 use Rattle.mt_tree.specs.Seen.{arena_seen}
 use Rattle.mt_tree.specs.BorderSteps.{DropsLayerAt}
 use Rattle.mt_tree.proofs.SeenLemmas.{seen-head}
-use Rattle.mt_calls.specs.declared.progress.Progress.TheVariants.{Moved}
-use Rattle.mt_calls.specs.World.{World, IsWorld, HeadsStand, FreeAreAlive, IsLocked, IsSame, NotAmong, Goes}
-use Rattle.mt_calls.proofs.FrameLemmas.{is_among, taken_back}
-use Rattle.mt_calls.proofs.BorderLemmas.{alive_changed, keys_same, no_interior, twins_changed, retired_kept, locked_kept, on_kept, roots_kept, now_named, others_named}
-use Rattle.mt_calls.proofs.LayerLemmas.{head_apart}
-use Rattle.mt_calls.proofs.SplitLemmas.{with_spot, spot_changes}
-use Rattle.mt_calls.proofs.AliveLemmas.{alive_gone, alive_there, alive_placed}
+use Rattle.mt_steps.specs.declared.progress.Progress.TheVariants.{Moved}
+use Rattle.mt_steps.specs.World.{World, IsWorld, HeadsStand, FreeAreAlive, IsLocked, IsSame, NotAmong, Goes}
+use Rattle.mt_steps.proofs.FrameLemmas.{is_among, taken_back}
+use Rattle.mt_steps.proofs.BorderLemmas.{alive_changed, keys_same, no_interior, twins_changed, retired_kept, locked_kept, on_kept, roots_kept, now_named, others_named}
+use Rattle.mt_steps.proofs.LayerLemmas.{head_apart}
+use Rattle.mt_steps.proofs.SplitLemmas.{with_spot, spot_changes}
+use Rattle.mt_steps.proofs.AliveLemmas.{alive_gone, alive_there, alive_placed}
 use Rattle.mt_remove.specs.declared.tidy.Tidy.{Tidy}
 use Rattle.mt_remove.specs.declared.stage.Layer.{Layer}
 use Rattle.mt_remove.specs.declared.stage.Stage.TheVariants.{RootMarked, LinkHidden}

@@ -5,10 +5,10 @@ use Rattle.mt_commit.specs.Log.{LogView}
 use Rattle.mt_arena.specs.Arena.{ArenaView}
 use Rattle.mt_chart.specs.Steps.{SameContent}
 use Rattle.mt_tree.specs.Seen.{arena_seen}
-use Rattle.mt_calls.specs.declared.progress.Progress.{Progress}
-use Rattle.mt_calls.specs.declared.progress.Progress.TheVariants.{Moved, Waits, Committed, Answered, Refused}
-use Rattle.mt_calls.specs.Step.{StepLawIn, MayStepIn, IsQuiet}
-use Rattle.mt_calls.proofs.WayLemmas.{starts, starts_at_head}
+use Rattle.mt_steps.specs.declared.progress.Progress.{Progress}
+use Rattle.mt_steps.specs.declared.progress.Progress.TheVariants.{Moved, Waits, Committed, Answered, Refused}
+use Rattle.mt_steps.specs.Step.{StepLawIn, MayStepIn, IsQuiet}
+use Rattle.mt_steps.proofs.WayLemmas.{starts, starts_at_head}
 use Rattle.mt_remove.specs.declared.noted.Came.TheVariants.{Head as FromHead}
 use Rattle.mt_remove.specs.declared.stage.Stage.TheVariants.{Seeks}
 use Rattle.mt_remove.specs.declared.tidy.Tidy.{Tidy}

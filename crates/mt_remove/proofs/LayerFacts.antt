@@ -6,10 +6,10 @@ use Rattle.mt_border.specs.declared.entry.Entry.{Entry}
 use Rattle.mt_arena.specs.Node.{head_of, border_at, border_of}
 use Rattle.mt_arena.specs.Arena.{ArenaView, with_border_changed}
 use Rattle.mt_chart.specs.Chart.{Spot}
-use Rattle.mt_calls.specs.World.{World, IsLockedBorder, NotAmong}
-use Rattle.mt_calls.proofs.BorderLemmas.{others_named}
-use Rattle.mt_calls.proofs.LayerLemmas.{head_apart}
-use Rattle.mt_calls.proofs.NodeLemmas.{known_some}
+use Rattle.mt_steps.specs.World.{World, IsLockedBorder, NotAmong}
+use Rattle.mt_steps.proofs.BorderLemmas.{others_named}
+use Rattle.mt_steps.proofs.LayerLemmas.{head_apart}
+use Rattle.mt_steps.proofs.NodeLemmas.{known_some}
 use Rattle.mt_remove.specs.declared.stage.Layer.{Layer}
 use Rattle.mt_remove.specs.Tidy.{IsEmptyRoot, IsAbove, HasLayer, IsOwnHead, IsGoneBorder, IsGoneHead}
 

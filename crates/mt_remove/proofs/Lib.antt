@@ -2,7 +2,7 @@ pub mod StageLemmas
 pub mod SeekLemmas
 pub mod DropLemmas
 pub mod UnlinkLemmas
-pub mod LoneLemmas
+pub mod OneChildLemmas
 pub mod LayerFacts
 pub mod ClosingGoes
 pub mod HidingLemmas

@@ -18,17 +18,17 @@ use Rattle.mt_chart.specs.Chart.{Role, top, at_level, Standing, on, Spot, spot, 
 use Rattle.mt_chart.specs.Walk.{all_heights, Moves, IsOn}
 use Rattle.mt_tree.specs.Seen.{arena_seen}
 use Rattle.mt_tree.specs.Descent.{node_visit}
-use Rattle.mt_calls.specs.declared.way.Way.{Way}
-use Rattle.mt_calls.specs.declared.way.Went.{Went}
-use Rattle.mt_calls.specs.declared.way.Went.TheVariants.{Again, To, Here}
-use Rattle.mt_calls.specs.declared.progress.Progress.TheVariants.{Moved, Waits, Answered}
-use Rattle.mt_calls.specs.World.{World, IsWorld, IsTaken, IsLocked, NotAmong}
-use Rattle.mt_calls.specs.Causes.{IsLockedAlready}
-use Rattle.mt_calls.specs.Way.{start, prefix_of, rest_of, went_by, IsOnWay, IsHeadOf, Visits}
-use Rattle.mt_calls.proofs.LoneWay.{way_left, StandsIn, on_height, MovesOn, moves_on, layers_above, IsOnThere, way_moves, not_marked, starts_on}
+use Rattle.mt_steps.specs.declared.way.Way.{Way}
+use Rattle.mt_steps.specs.declared.way.Went.{Went}
+use Rattle.mt_steps.specs.declared.way.Went.TheVariants.{Again, To, Here}
+use Rattle.mt_steps.specs.declared.progress.Progress.TheVariants.{Moved, Waits, Answered}
+use Rattle.mt_steps.specs.World.{World, IsWorld, IsTaken, IsLocked, NotAmong}
+use Rattle.mt_steps.specs.Causes.{IsLockedAlready}
+use Rattle.mt_steps.specs.Way.{start, prefix_of, rest_of, went_by, IsOnWay, IsHeadOf, Visits}
+use Rattle.mt_steps.proofs.LoneWay.{way_left, StandsIn, on_height, MovesOn, moves_on, layers_above, IsOnThere, way_moves, not_marked, starts_on}
 use Rattle.mt_remove.specs.declared.noted.Namer.{Namer}
 use Rattle.mt_remove.specs.declared.noted.Namer.TheVariants.{Head as NamedByHead, Interior as NamedByInterior}
-use Rattle.mt_remove.specs.declared.noted.Lone.{Lone}
+use Rattle.mt_remove.specs.declared.noted.OneChild.{OneChild}
 use Rattle.mt_remove.specs.declared.noted.Noted.{Noted}
 use Rattle.mt_remove.specs.declared.sign.Sign.{Sign}
 use Rattle.mt_remove.specs.declared.sign.Sign.TheVariants.{Nothing, EmptyBorder, LoneChild, EmptyLayer}
@@ -279,7 +279,7 @@ module _ (a after : ArenaView) (now begun : ℕ) (w next : World) (world : IsWor
       marked_nearer (inr (inr (inr follows))) = goes (Marked border head node slice) (Unlinked border) new follows (λ spots then_true. (tt, omega arith))
 
   -- ---- the other stages
-  by_namer : (lone : Lone) (new : Tidy) (namer : Namer) → FollowsNamer a tidy lone.interior namer Moved new → Comes (LoneLocked lone) new
+  by_namer : (lone : OneChild) (new : Tidy) (namer : Namer) → FollowsNamer a tidy lone.interior namer Moved new → Comes (LoneLocked lone) new
   by_namer lone new (NamedByInterior parent) follows = some_gives (node_at a.nodes parent.0) _ (Comes (LoneLocked lone) new) (λ node h. by_place_in (place_in node lone.interior) h) follows
     where
       by_place_in : (place : Option ℕ) → BypassesBy tidy lone.interior place Moved new → Comes (LoneLocked lone) new
@@ -291,7 +291,7 @@ module _ (a after : ArenaView) (now begun : ℕ) (w next : World) (world : IsWor
         | inr other ↦ goes (LoneLocked lone) _ new other.1 (λ spots then_true. (tt, omega arith))
       ]) follows
 
-  by_lone : (lone : Lone) (new : Tidy) (one : Bool) → LocksBy tidy lone one Moved new → Comes (Lonely lone) new
+  by_lone : (lone : OneChild) (new : Tidy) (one : Bool) → LocksBy tidy lone one Moved new → Comes (Lonely lone) new
   by_lone lone new true follows = goes (Lonely lone) (LoneLocked lone) new follows (λ spots then_true. (tt, omega arith))
   by_lone lone new false done = absurd (not_done NoRule done)
 

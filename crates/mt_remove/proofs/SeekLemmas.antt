@@ -20,22 +20,22 @@ use Rattle.mt_chart.specs.Steps.{SameContent}
 use Rattle.mt_tree.specs.Seen.{arena_seen, border_seen}
 use Rattle.mt_tree.specs.Keeping.{KeepsTree}
 use Rattle.mt_tree.specs.Descent.{node_visit}
-use Rattle.mt_calls.specs.declared.way.Way.{Way}
-use Rattle.mt_calls.specs.declared.way.Went.{Went}
-use Rattle.mt_calls.specs.declared.way.Went.TheVariants.{Again, To}
-use Rattle.mt_calls.specs.declared.progress.Progress.{Progress}
-use Rattle.mt_calls.specs.declared.progress.Progress.TheVariants.{Moved, Waits, Answered}
-use Rattle.mt_calls.specs.World.{World, Goes}
-use Rattle.mt_calls.specs.Causes.{IsMarkedAt}
-use Rattle.mt_calls.specs.Way.{start, prefix_of, rest_of, went_by, IsOnWay, IsAtPlace, IsHeadOf, LeadsToHead, GoesTo, MayGo, Visits}
-use Rattle.mt_calls.proofs.GetLemmas.{may_go}
-use Rattle.mt_calls.proofs.WayLemmas.{starts, starts_at_head}
-use Rattle.mt_calls.proofs.BorderLemmas.{alive_changed, now_named, goes_border, keys_same, unlocked_free, unlocked_root, on_kept, among_one}
-use Rattle.mt_calls.proofs.SplitLemmas.{eqb-ne}
-use Rattle.mt_calls.proofs.NodeLemmas.{known_some}
+use Rattle.mt_steps.specs.declared.way.Way.{Way}
+use Rattle.mt_steps.specs.declared.way.Went.{Went}
+use Rattle.mt_steps.specs.declared.way.Went.TheVariants.{Again, To}
+use Rattle.mt_steps.specs.declared.progress.Progress.{Progress}
+use Rattle.mt_steps.specs.declared.progress.Progress.TheVariants.{Moved, Waits, Answered}
+use Rattle.mt_steps.specs.World.{World, Goes}
+use Rattle.mt_steps.specs.Causes.{IsMarkedAt}
+use Rattle.mt_steps.specs.Way.{start, prefix_of, rest_of, went_by, IsOnWay, IsAtPlace, IsHeadOf, LeadsToHead, GoesTo, MayGo, Visits}
+use Rattle.mt_steps.proofs.GetLemmas.{may_go}
+use Rattle.mt_steps.proofs.WayLemmas.{starts, starts_at_head}
+use Rattle.mt_steps.proofs.BorderLemmas.{alive_changed, now_named, goes_border, keys_same, unlocked_free, unlocked_root, on_kept, among_one}
+use Rattle.mt_steps.proofs.SplitLemmas.{eqb-ne}
+use Rattle.mt_steps.proofs.NodeLemmas.{known_some}
 use Rattle.mt_remove.specs.declared.noted.Came.{Came}
 use Rattle.mt_remove.specs.declared.noted.Came.TheVariants.{Head as FromHead, Child as AsChild, Left as FromLeft}
-use Rattle.mt_remove.specs.declared.noted.Lone.{Lone}
+use Rattle.mt_remove.specs.declared.noted.OneChild.{OneChild}
 use Rattle.mt_remove.specs.declared.noted.Noted.{Noted}
 use Rattle.mt_remove.specs.declared.sign.Sign.{Sign}
 use Rattle.mt_remove.specs.declared.sign.Sign.TheVariants.{Nothing, EmptyBorder, LoneChild, EmptyLayer}
@@ -56,7 +56,7 @@ namer_known begun prefix w FromHead head known came = known
 namer_known begun prefix w FromLeft head known came = known
 namer_known begun prefix w (AsChild parent is_one) head known came = came
 
-lone_known : (begun : ℕ) (prefix : List ℕ) (w : World) (one : Bool) (lone : Lone) (otherwise : Option Lone) → LoneIsKnown begun prefix w lone → IfLone begun prefix w otherwise → IfLone begun prefix w (if one then Some lone else otherwise)
+lone_known : (begun : ℕ) (prefix : List ℕ) (w : World) (one : Bool) (lone : OneChild) (otherwise : Option OneChild) → LoneIsKnown begun prefix w lone → IfLone begun prefix w otherwise → IfLone begun prefix w (if one then Some lone else otherwise)
 lone_known begun prefix w true lone otherwise known if_lone = known
 lone_known begun prefix w false lone otherwise known if_lone = if_lone
 
@@ -170,24 +170,24 @@ module _ (epoch : ℕ) (a : ArenaView) (tidy : Tidy) (noted : Noted) (is : tidy.
         by_empty false empty = inl (ap (λ (c : Bool). if c then (if b.low == 0 then last_sign b.right upper else Nothing) else Nothing) empty)
 
     -- an interior with one child was noted
-    pub begins_lone : (lone : Lone) → b.version.locked ≡ false → sign_of b noted ≡ LoneChild lone → TidyStep epoch a a tidy Moved (record tidy { stage = Lonely lone })
+    pub begins_lone : (lone : OneChild) → b.version.locked ≡ false → sign_of b noted ≡ LoneChild lone → TidyStep epoch a a tidy Moved (record tidy { stage = Lonely lone })
     begins_lone lone unlocked sign = at_stage epoch a a tidy (Seeks noted) Moved (record tidy { stage = Lonely lone }) is refl refl
-        (law_same epoch a tidy (Seeks noted) Moved (record tidy { stage = Lonely lone }) refl (λ begun w world truth. subst (λ (o : Option Lone). IfLone begun (prefix_of tidy.key tidy.way) w o) (lone_of noted.came noted.lone (layer_sign b noted.came noted.above) (no_lone noted.came noted.above) sign) truth.1.lone)) tt tt
+        (law_same epoch a tidy (Seeks noted) Moved (record tidy { stage = Lonely lone }) refl (λ begun w world truth. subst (λ (o : Option OneChild). IfLone begun (prefix_of tidy.key tidy.way) w o) (lone_of noted.came noted.lone (layer_sign b noted.came noted.above) (no_lone noted.came noted.above) sign) truth.1.lone)) tt tt
         (follows_here Moved (record tidy { stage = Lonely lone }) (inr (unlocked, subst (λ (s : Sign). BeginsBy tidy noted s Moved (record tidy { stage = Lonely lone })) (sym sign) (refl, refl))))
       where
-        plain : (o : Option Lone) (layer : Sign) → (layer ≡ LoneChild lone → ⊥) → lone_sign o layer ≡ LoneChild lone → o ≡ Some lone
+        plain : (o : Option OneChild) (layer : Sign) → (layer ≡ LoneChild lone → ⊥) → lone_sign o layer ≡ LoneChild lone → o ≡ Some lone
         plain None layer other e = absurd (other e)
         plain (Some x) layer other e = let same : x ≡ lone = cc in ap Some same
 
-        by_low : (low : Bool) (parent : NodeNo) (o : Option Lone) (layer : Sign) → (layer ≡ LoneChild lone → ⊥) → (if low then lone_sign o layer else EmptyBorder parent) ≡ LoneChild lone → o ≡ Some lone
+        by_low : (low : Bool) (parent : NodeNo) (o : Option OneChild) (layer : Sign) → (layer ≡ LoneChild lone → ⊥) → (if low then lone_sign o layer else EmptyBorder parent) ≡ LoneChild lone → o ≡ Some lone
         by_low true parent o layer other e = plain o layer other e
         by_low false parent o layer other e = absurd (let clash : EmptyBorder parent ≡ LoneChild lone = e in cc)
 
-        by_empty : (empty low : Bool) (parent : NodeNo) (o : Option Lone) (layer : Sign) → (layer ≡ LoneChild lone → ⊥) → (if empty then (if low then lone_sign o layer else EmptyBorder parent) else lone_sign o layer) ≡ LoneChild lone → o ≡ Some lone
+        by_empty : (empty low : Bool) (parent : NodeNo) (o : Option OneChild) (layer : Sign) → (layer ≡ LoneChild lone → ⊥) → (if empty then (if low then lone_sign o layer else EmptyBorder parent) else lone_sign o layer) ≡ LoneChild lone → o ≡ Some lone
         by_empty true low parent o layer other e = by_low low parent o layer other e
         by_empty false low parent o layer other e = plain o layer other e
 
-        lone_of : (came : Came) (o : Option Lone) (layer : Sign) → (layer ≡ LoneChild lone → ⊥) → border_sign b came (lone_sign o layer) ≡ LoneChild lone → o ≡ Some lone
+        lone_of : (came : Came) (o : Option OneChild) (layer : Sign) → (layer ≡ LoneChild lone → ⊥) → border_sign b came (lone_sign o layer) ≡ LoneChild lone → o ≡ Some lone
         lone_of FromHead o layer other e = plain o layer other e
         lone_of FromLeft o layer other e = plain o layer other e
         lone_of (AsChild parent true) o layer other e = plain o layer other e
@@ -211,7 +211,7 @@ module _ (epoch : ℕ) (a : ArenaView) (tidy : Tidy) (noted : Noted) (is : tidy.
         layer : Sign
         layer = layer_sign b noted.came noted.above
 
-        no_lone : (o : Option Lone) → lone_sign o layer ≡ EmptyBorder parent → ⊥
+        no_lone : (o : Option OneChild) → lone_sign o layer ≡ EmptyBorder parent → ⊥
         no_lone None e = elim (layer_is noted.came noted.above) [
           | inl nothing ↦ (let clash : Nothing ≡ EmptyBorder parent = sym nothing ∙ e in cc)
           | inr d ↦ (let clash : EmptyLayer d.upper ≡ EmptyBorder parent = sym d.sign ∙ e in cc)
@@ -252,7 +252,7 @@ module _ (epoch : ℕ) (a : ArenaView) (tidy : Tidy) (noted : Noted) (is : tidy.
               record { above_is = d.above_is ∙ ap Some same; empty = d.empty; right = d.right }
         ]
 
-        by_lone : (o : Option Lone) (layer : Sign) → layer_sign b noted.came noted.above ≡ layer → lone_sign o layer ≡ EmptyLayer upper → IsLayerDue upper
+        by_lone : (o : Option OneChild) (layer : Sign) → layer_sign b noted.came noted.above ≡ layer → lone_sign o layer ≡ EmptyLayer upper → IsLayerDue upper
         by_lone None layer is_layer e = is_due (is_layer ∙ e)
         by_lone (Some x) layer is_layer e = absurd (let clash : LoneChild x ≡ EmptyLayer upper = e in cc)
 

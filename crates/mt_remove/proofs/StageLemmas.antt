@@ -14,10 +14,10 @@ use Rattle.mt_chart.specs.Chart.{Holds}
 use Rattle.mt_chart.specs.Steps.{SameContent}
 use Rattle.mt_tree.specs.Seen.{arena_seen}
 use Rattle.mt_tree.proofs.HeldLemmas.{held_may_visit}
-use Rattle.mt_calls.specs.declared.progress.Progress.{Progress}
-use Rattle.mt_calls.specs.World.{World, IsWorld}
-use Rattle.mt_calls.specs.Step.{left_with}
-use Rattle.mt_calls.proofs.FrameLemmas.{goes_same}
+use Rattle.mt_steps.specs.declared.progress.Progress.{Progress}
+use Rattle.mt_steps.specs.World.{World, IsWorld}
+use Rattle.mt_steps.specs.Step.{left_with}
+use Rattle.mt_steps.proofs.FrameLemmas.{goes_same}
 use Rattle.mt_remove.specs.declared.tidy.Tidy.{Tidy}
 use Rattle.mt_remove.specs.declared.stage.Stage.{Stage}
 use Rattle.mt_remove.specs.Seen.{free_interior, is_only, lone_of, is_lone, place_in, not_first, later_place, free_border, link_place}

@@ -18,15 +18,15 @@ use Rattle.mt_chart.proofs.HeldNodes.{holds_kept}
 use Rattle.mt_chart.proofs.Walk.{known_kept}
 use Rattle.mt_tree.specs.Seen.{head_seen}
 use Rattle.mt_tree.proofs.SeenLemmas.{seen-head}
-use Rattle.mt_calls.specs.World.{World, IsWorld, IsLocked, IsTaken, IsSame, IsLockedBorder, GoneSince}
-use Rattle.mt_calls.specs.Way.{prefix_of, IsHeadOf}
-use Rattle.mt_calls.specs.declared.way.Way.{Way}
-use Rattle.mt_calls.proofs.CollectLemmas.{border_no, on_no, only_since}
+use Rattle.mt_steps.specs.World.{World, IsWorld, IsLocked, IsTaken, IsSame, IsLockedBorder, GoneSince}
+use Rattle.mt_steps.specs.Way.{prefix_of, IsHeadOf}
+use Rattle.mt_steps.specs.declared.way.Way.{Way}
+use Rattle.mt_steps.proofs.CollectLemmas.{border_no, on_no, only_since}
 use Rattle.mt_remove.specs.declared.noted.Came.{Came}
 use Rattle.mt_remove.specs.declared.noted.Came.TheVariants.{Head as FromHead, Child as AsChild, Left as FromLeft}
 use Rattle.mt_remove.specs.declared.noted.Namer.{Namer}
 use Rattle.mt_remove.specs.declared.noted.Namer.TheVariants.{Head as NamedByHead, Interior as NamedByInterior}
-use Rattle.mt_remove.specs.declared.noted.Lone.{Lone}
+use Rattle.mt_remove.specs.declared.noted.OneChild.{OneChild}
 use Rattle.mt_remove.specs.declared.noted.Noted.{Noted}
 use Rattle.mt_remove.specs.declared.tidy.Tidy.{Tidy}
 use Rattle.mt_remove.specs.declared.stage.Layer.{Layer}
@@ -46,7 +46,7 @@ module _ (a after : ArenaView) (w next : World) (begun : ℕ) (evolves : Evolves
   namer_stays prefix (NamedByHead head) k = head_stays head.0 prefix k
   namer_stays prefix (NamedByInterior interior) k = known_stays interior.0 prefix k
 
-  lone_stays : (prefix : List ℕ) (lone : Option Lone) → IfLone begun prefix w lone → IfLone begun prefix next lone
+  lone_stays : (prefix : List ℕ) (lone : Option OneChild) → IfLone begun prefix w lone → IfLone begun prefix next lone
   lone_stays prefix None k = tt
   lone_stays prefix (Some lone) k = (known_stays lone.interior.0 prefix k.0, namer_stays prefix lone.namer k.1)
 

@@ -21,18 +21,18 @@ use Rattle.mt_tree.specs.Seen.{arena_seen, border_seen, right_seen}
 use Rattle.mt_tree.specs.Keeping.{KeepsTree}
 use Rattle.mt_tree.specs.BorderSteps.{IsMarkedRight, UnlinksAt}
 use Rattle.mt_tree.proofs.SeenLemmas.{seen-border}
-use Rattle.mt_calls.specs.declared.progress.Progress.TheVariants.{Moved, Waits, Answered}
-use Rattle.mt_calls.specs.declared.ranging.Sought.{Sought}
-use Rattle.mt_calls.specs.declared.ranging.Sought.TheVariants.{To, Here}
-use Rattle.mt_calls.specs.World.{World, IsWorld, IsLocked, Goes}
-use Rattle.mt_calls.specs.Way.{prefix_of}
-use Rattle.mt_calls.specs.Ranging.{IsHeldFor, IsAtSlice, KnowsOfSlice, Seeks}
-use Rattle.mt_calls.specs.Causes.{IsMarkedAt, IsLockedAlready}
-use Rattle.mt_calls.proofs.SplitLemmas.{with_spot, spot_changes}
-use Rattle.mt_calls.proofs.AliveLemmas.{alive_gone, alive_there, alive_placed}
-use Rattle.mt_calls.proofs.BorderLemmas.{alive_changed, now_named, others_named, no_interior, known_stays, heads_changed, twins_changed, unlocked_free, unlocked_root, on_kept}
-use Rattle.mt_calls.proofs.NodeLemmas.{at_chart, goes_beside, heads_were, known_some}
-use Rattle.mt_calls.proofs.RetireLemmas.{goes_retired}
+use Rattle.mt_steps.specs.declared.progress.Progress.TheVariants.{Moved, Waits, Answered}
+use Rattle.mt_steps.specs.declared.ranging.Sought.{Sought}
+use Rattle.mt_steps.specs.declared.ranging.Sought.TheVariants.{To, Here}
+use Rattle.mt_steps.specs.World.{World, IsWorld, IsLocked, Goes}
+use Rattle.mt_steps.specs.Way.{prefix_of}
+use Rattle.mt_steps.specs.Ranging.{IsHeldFor, IsAtSlice, KnowsOfSlice, Seeks}
+use Rattle.mt_steps.specs.Causes.{IsMarkedAt, IsLockedAlready}
+use Rattle.mt_steps.proofs.SplitLemmas.{with_spot, spot_changes}
+use Rattle.mt_steps.proofs.AliveLemmas.{alive_gone, alive_there, alive_placed}
+use Rattle.mt_steps.proofs.BorderLemmas.{alive_changed, now_named, others_named, no_interior, known_stays, heads_changed, twins_changed, unlocked_free, unlocked_root, on_kept}
+use Rattle.mt_steps.proofs.NodeLemmas.{at_chart, goes_beside, heads_were, known_some}
+use Rattle.mt_steps.proofs.RetireLemmas.{goes_retired}
 use Rattle.mt_remove.specs.declared.tidy.Tidy.{Tidy}
 use Rattle.mt_remove.specs.declared.stage.Stage.{Stage}
 use Rattle.mt_remove.specs.declared.stage.Stage.TheVariants.{Marked, Unlinked}

@@ -14,16 +14,16 @@ use Rattle.mt_arena.specs.declared.retired.Retired.{Retired}
 use Rattle.mt_chart.specs.Walk.{Moves}
 use Rattle.mt_tree.specs.Seen.{arena_seen}
 use Rattle.mt_tree.specs.Descent.{node_visit}
-use Rattle.mt_calls.specs.declared.way.Went.{Went}
-use Rattle.mt_calls.specs.declared.way.Went.TheVariants.{Again, To, Here}
-use Rattle.mt_calls.specs.declared.progress.Progress.{Progress}
-use Rattle.mt_calls.specs.declared.progress.Progress.TheVariants.{Moved, Waits, Answered}
-use Rattle.mt_calls.specs.Causes.{IsMarkedAt, IsLockedAlready}
-use Rattle.mt_calls.specs.Way.{rest_of, went_by, start, Visits}
+use Rattle.mt_steps.specs.declared.way.Went.{Went}
+use Rattle.mt_steps.specs.declared.way.Went.TheVariants.{Again, To, Here}
+use Rattle.mt_steps.specs.declared.progress.Progress.{Progress}
+use Rattle.mt_steps.specs.declared.progress.Progress.TheVariants.{Moved, Waits, Answered}
+use Rattle.mt_steps.specs.Causes.{IsMarkedAt, IsLockedAlready}
+use Rattle.mt_steps.specs.Way.{rest_of, went_by, start, Visits}
 use Rattle.mt_remove.specs.declared.noted.Came.TheVariants.{Head as FromHead}
 use Rattle.mt_remove.specs.declared.noted.Namer.{Namer}
 use Rattle.mt_remove.specs.declared.noted.Namer.TheVariants.{Head as NamedByHead, Interior as NamedByInterior}
-use Rattle.mt_remove.specs.declared.noted.Lone.{Lone}
+use Rattle.mt_remove.specs.declared.noted.OneChild.{OneChild}
 use Rattle.mt_remove.specs.declared.noted.Noted.{Noted}
 use Rattle.mt_remove.specs.declared.sign.Sign.{Sign}
 use Rattle.mt_remove.specs.declared.sign.Sign.TheVariants.{Nothing, EmptyBorder, LoneChild, EmptyLayer}
@@ -86,7 +86,7 @@ FollowsMarked a tidy border head node slice p then =
 
 -- ---- an interior with one child
 -- it is locked where it still has the one child that was noted; or the tidy ends
-abbrev pub LocksBy : Tidy → Lone → Bool → Progress → Tidy → Type 0
+abbrev pub LocksBy : Tidy → OneChild → Bool → Progress → Tidy → Type 0
 LocksBy tidy lone true p then = GoesTo tidy p then (LoneLocked lone)
 LocksBy tidy lone false p then = Did NoRule p
 

@@ -6,12 +6,12 @@ use Rattle.mt_border.specs.declared.entry.RightLink.{RightLink}
 use Rattle.mt_interior.specs.declared.child.Child.{Child}
 use Rattle.mt_arena.specs.declared.node.Node.{Node}
 use Rattle.mt_arena.specs.declared.node.Node.TheVariants.{Head, Interior, Border}
-use Rattle.mt_calls.specs.declared.way.Way.{Way}
+use Rattle.mt_steps.specs.declared.way.Way.{Way}
 use Rattle.mt_remove.specs.declared.noted.Came.{Came}
 use Rattle.mt_remove.specs.declared.noted.Came.TheVariants.{Head as FromHead, Child as AsChild, Left as FromLeft}
 use Rattle.mt_remove.specs.declared.noted.Namer.{Namer}
 use Rattle.mt_remove.specs.declared.noted.Namer.TheVariants.{Head as NamedByHead, Interior as NamedByInterior}
-use Rattle.mt_remove.specs.declared.noted.Lone.{Lone}
+use Rattle.mt_remove.specs.declared.noted.OneChild.{OneChild}
 use Rattle.mt_remove.specs.declared.noted.Noted.{Noted}
 use Rattle.mt_remove.specs.declared.sign.Sign.{Sign}
 use Rattle.mt_remove.specs.declared.sign.Sign.TheVariants.{Nothing, EmptyBorder, LoneChild, EmptyLayer}
@@ -74,7 +74,7 @@ layer_sign b FromLeft (Some above) = Nothing
 layer_sign b (AsChild parent first) (Some above) = Nothing
 
 -- an interior with one child, if one was noted
-abbrev pub lone_sign : Option Lone → Sign → Sign
+abbrev pub lone_sign : Option OneChild → Sign → Sign
 lone_sign None otherwise = otherwise
 lone_sign (Some lone) otherwise = LoneChild lone
 

@@ -18,19 +18,19 @@ use Rattle.mt_chart.specs.Steps.{NoTwin, SameContent}
 use Rattle.mt_tree.specs.Seen.{arena_seen}
 use Rattle.mt_tree.specs.Keeping.{IsOnIn}
 use Rattle.mt_tree.specs.InteriorSteps.{IsInLayer}
-use Rattle.mt_calls.specs.declared.way.Way.{Way}
-use Rattle.mt_calls.specs.declared.progress.Progress.{Progress}
-use Rattle.mt_calls.specs.declared.progress.Progress.TheVariants.{Moved, Waits, Committed, Answered, Refused}
-use Rattle.mt_calls.specs.World.{World, IsWorld, IsLockedBorder, NotAmong, NotRetired, Goes}
-use Rattle.mt_calls.specs.Step.{Held, left_with, ThenTrue}
+use Rattle.mt_steps.specs.declared.way.Way.{Way}
+use Rattle.mt_steps.specs.declared.progress.Progress.{Progress}
+use Rattle.mt_steps.specs.declared.progress.Progress.TheVariants.{Moved, Waits, Committed, Answered, Refused}
+use Rattle.mt_steps.specs.World.{World, IsWorld, IsLockedBorder, NotAmong, NotRetired, Goes}
+use Rattle.mt_steps.specs.Step.{Held, left_with, ThenTrue}
 use Rattle.mt_tree.specs.Descent.{node_visit}
-use Rattle.mt_calls.specs.declared.way.Went.TheVariants.{Here}
-use Rattle.mt_calls.specs.Way.{prefix_of, rest_of, went_by, IsOnWay, IsHeadOf, Visits}
+use Rattle.mt_steps.specs.declared.way.Went.TheVariants.{Here}
+use Rattle.mt_steps.specs.Way.{prefix_of, rest_of, went_by, IsOnWay, IsHeadOf, Visits}
 use Rattle.mt_remove.specs.declared.noted.Came.{Came}
 use Rattle.mt_remove.specs.declared.noted.Came.TheVariants.{Head as FromHead, Child as AsChild, Left as FromLeft}
 use Rattle.mt_remove.specs.declared.noted.Namer.{Namer}
 use Rattle.mt_remove.specs.declared.noted.Namer.TheVariants.{Head as NamedByHead, Interior as NamedByInterior}
-use Rattle.mt_remove.specs.declared.noted.Lone.{Lone}
+use Rattle.mt_remove.specs.declared.noted.OneChild.{OneChild}
 use Rattle.mt_remove.specs.declared.noted.Noted.{Noted}
 use Rattle.mt_remove.specs.declared.tidy.Tidy.{Tidy}
 use Rattle.mt_remove.specs.declared.stage.Layer.{Layer}
@@ -78,10 +78,10 @@ abbrev pub NamerIsKnown : ℕ → List ℕ → World → Namer → Type 0
 NamerIsKnown begun prefix w (NamedByHead head) = IsHeadOf w begun head.0 prefix
 NamerIsKnown begun prefix w (NamedByInterior interior) = IsKnownIn w begun interior.0 prefix
 
-abbrev pub LoneIsKnown : ℕ → List ℕ → World → Lone → Type 0
+abbrev pub LoneIsKnown : ℕ → List ℕ → World → OneChild → Type 0
 LoneIsKnown begun prefix w lone = IsKnownIn w begun lone.interior.0 prefix × NamerIsKnown begun prefix w lone.namer
 
-abbrev pub IfLone : ℕ → List ℕ → World → Option Lone → Type 0
+abbrev pub IfLone : ℕ → List ℕ → World → Option OneChild → Type 0
 IfLone begun prefix w None = Unit {0}
 IfLone begun prefix w (Some lone) = LoneIsKnown begun prefix w lone
 

@@ -4,18 +4,18 @@ ghost use Rattle.std.specs.Prelude.{◌≡◌};
 ghost use Rattle.mt_remove.specs.Tidy.{MayTidy};
 ghost use Rattle.mt_remove.specs.Follows.{TidyStep};
 
-use crate::noted::{Lone, Namer};
+use crate::noted::{OneChild, Namer};
 use crate::seen::{is_lone, place_in};
 use crate::stage::Stage;
 use crate::tidy::{Tidy, nothing};
-use mt_calls::progress::Progress;
+use mt_steps::progress::Progress;
 use mt_tree::Tree;
 use mt_types::event::{Answer, TidyRule};
 use mt_types::numbers::NodeNo;
 
 impl Tidy {
     // The interior is locked, where it still has one child, that which was noted.
-    pub(crate) fn lock_lone(&mut self, tree: &mut Tree, epoch: u64, lone: Lone) -> Progress
+    pub(crate) fn lock_lone(&mut self, tree: &mut Tree, epoch: u64, lone: OneChild) -> Progress
         requires at { self.old.stage ≡ Stage.Lonely lone }
         requires may { MayTidy epoch tree.old self.old }
         ensures { TidyStep epoch tree.old tree.new self.old result self.new }
@@ -29,7 +29,7 @@ impl Tidy {
     }
 
     // The interior above names its child, where it still names it.
-    fn bypass_below(&mut self, tree: &mut Tree, epoch: u64, lone: Lone, parent: NodeNo) -> Progress
+    fn bypass_below(&mut self, tree: &mut Tree, epoch: u64, lone: OneChild, parent: NodeNo) -> Progress
         requires at { self.old.stage ≡ Stage.LoneLocked lone }
         requires named { lone.namer ≡ Namer.Interior parent }
         requires may { MayTidy epoch tree.old self.old }
@@ -49,7 +49,7 @@ impl Tidy {
     }
 
     // The head names its child, where it is still the root.
-    fn bypass_root(&mut self, tree: &mut Tree, epoch: u64, lone: Lone, head: NodeNo) -> Progress
+    fn bypass_root(&mut self, tree: &mut Tree, epoch: u64, lone: OneChild, head: NodeNo) -> Progress
         requires at { self.old.stage ≡ Stage.LoneLocked lone }
         requires named { lone.namer ≡ Namer.Head head }
         requires may { MayTidy epoch tree.old self.old }
@@ -70,7 +70,7 @@ impl Tidy {
     }
 
     // What names the interior names its child.
-    pub(crate) fn bypass_lone(&mut self, tree: &mut Tree, epoch: u64, lone: Lone) -> Progress
+    pub(crate) fn bypass_lone(&mut self, tree: &mut Tree, epoch: u64, lone: OneChild) -> Progress
         requires at { self.old.stage ≡ Stage.LoneLocked lone }
         requires may { MayTidy epoch tree.old self.old }
         ensures { TidyStep epoch tree.old tree.new self.old result self.new }

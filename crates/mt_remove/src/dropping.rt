@@ -1,15 +1,15 @@
 //! An empty border is dropped from the interior that names it, marked deleted, unlinked and retired.
 
 ghost use Rattle.std.specs.Prelude.{◌≡◌};
-ghost use Rattle.mt_calls.specs.Ranging.{IsAtSlice};
+ghost use Rattle.mt_steps.specs.Ranging.{IsAtSlice};
 ghost use Rattle.mt_remove.specs.Tidy.{MayTidy};
 ghost use Rattle.mt_remove.specs.Follows.{TidyStep};
 
 use crate::seen::later_place;
 use crate::stage::Stage;
 use crate::tidy::{Tidy, nothing};
-use mt_calls::progress::Progress;
-use mt_calls::ranging::{Sought, seek};
+use mt_steps::progress::Progress;
+use mt_steps::ranging::{Sought, seek};
 use mt_tree::Tree;
 use mt_types::event::{Answer, TidyRule};
 use mt_types::numbers::NodeNo;

@@ -5,7 +5,7 @@ ghost use Rattle.mt_arena.specs.Node.{node_at};
 ghost use Rattle.mt_remove.specs.Noted.{is_first, namer_of, noted_from, noted_below};
 
 use mt_arena::Node;
-use mt_calls::way::Way;
+use mt_steps::way::Way;
 use mt_interior::Interior;
 use mt_tree::{TOP, Tree};
 use mt_types::numbers::NodeNo;
@@ -34,7 +34,7 @@ pub enum Namer {
 
 /// An interior with one child.
 #[derive(Clone, Copy)]
-pub struct Lone {
+pub struct OneChild {
     pub interior: NodeNo,
     pub child: NodeNo,
     pub namer: Namer,
@@ -49,7 +49,7 @@ pub struct Noted {
     pub above: Option<NodeNo>,
     pub came: Came,
     /// The lowest interior with one child, of those that it came through.
-    pub lone: Option<Lone>,
+    pub lone: Option<OneChild>,
 }
 
 /// What is noted at the begin.
@@ -109,7 +109,7 @@ impl Noted {
             Node::Interior(interior) => {
                 let first = is_first(interior, next.node);
                 let lone = if interior.len() == 1 {
-                    Some(Lone {
+                    Some(OneChild {
                         interior: way.node,
                         child: next.node,
                         namer: self.namer(),

@@ -3,7 +3,7 @@
 ghost use Rattle.std.specs.Prelude.{◌≡◌};
 ghost use Rattle.mt_remove.specs.Noted.{layer_sign, lone_sign, border_sign, sign_of};
 
-use crate::noted::{Came, Lone, Noted};
+use crate::noted::{Came, OneChild, Noted};
 use mt_border::Border;
 use mt_types::numbers::NodeNo;
 
@@ -15,7 +15,7 @@ pub enum Sign {
     /// The border is empty and not the first of its layer, and this interior names it, not as its first child.
     EmptyBorder(NodeNo),
     /// An interior on the way has one child.
-    LoneChild(Lone),
+    LoneChild(OneChild),
     /// The border is empty and the only one of its layer, to which a link of this border leads.
     EmptyLayer(NodeNo),
 }
@@ -42,7 +42,7 @@ fn layer_sign(border: &Border, noted: &Noted) -> Sign
 }
 
 // Of an interior with one child, if one was noted.
-fn lone_sign(lone: Option<Lone>, otherwise: Sign) -> Sign
+fn lone_sign(lone: Option<OneChild>, otherwise: Sign) -> Sign
     ensures { result ≡ lone_sign lone otherwise }
 {
     match lone {

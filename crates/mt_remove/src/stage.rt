@@ -1,6 +1,6 @@
 //! How far a tidy is.
 
-use crate::noted::{Lone, Noted};
+use crate::noted::{OneChild, Noted};
 use mt_types::event::TidyRule;
 use mt_types::numbers::NodeNo;
 
@@ -46,9 +46,9 @@ pub enum Stage {
     /// The border is unlinked, and is to be retired.
     Unlinked(NodeNo),
     /// An interior with one child is to be locked.
-    Lonely(Lone),
+    Lonely(OneChild),
     /// It is locked, and what names it is to name its child.
-    LoneLocked(Lone),
+    LoneLocked(OneChild),
     /// The interior is bypassed by this rule, and is to be marked deleted and retired.
     Bypassed {
         interior: NodeNo,

@@ -17,16 +17,16 @@ use Rattle.mt_scan.specs.declared.scan.ScanMove.{ScanMove}
 use Rattle.mt_scan.specs.declared.scan.ScanMove.TheVariants.{Done, To as VisitedTo, Top}
 use Rattle.mt_build.specs.Build.{BuildView, build_cursor, IsScanning, ComesTo, VisitsOn}
 use Rattle.mt_build.proofs.ReadLemmas.{others_keep, restarts_keep, ways_keep}
-use Rattle.mt_calls.specs.declared.progress.Progress.{Progress}
-use Rattle.mt_calls.specs.declared.progress.Progress.TheVariants.{Moved, Waits, Refused}
-use Rattle.mt_calls.specs.declared.ranging.Sought.{Sought}
-use Rattle.mt_calls.specs.declared.ranging.Sought.TheVariants.{To, Here}
-use Rattle.mt_calls.specs.World.{World, IsWorld}
-use Rattle.mt_calls.specs.Ranging.{IsHeldFor, IsAtSlice, KnowsOfSlice, Seeks, ScanGoes}
-use Rattle.mt_calls.proofs.FrameLemmas.{goes_same, quiet_same}
-use Rattle.mt_calls.proofs.RangeLemmas.{IsAliveFor, holds_keys}
+use Rattle.mt_steps.specs.declared.progress.Progress.{Progress}
+use Rattle.mt_steps.specs.declared.progress.Progress.TheVariants.{Moved, Waits, Refused}
+use Rattle.mt_steps.specs.declared.ranging.Sought.{Sought}
+use Rattle.mt_steps.specs.declared.ranging.Sought.TheVariants.{To, Here}
+use Rattle.mt_steps.specs.World.{World, IsWorld}
+use Rattle.mt_steps.specs.Ranging.{IsHeldFor, IsAtSlice, KnowsOfSlice, Seeks, ScanGoes}
+use Rattle.mt_steps.proofs.FrameLemmas.{goes_same, quiet_same}
+use Rattle.mt_steps.proofs.RangeLemmas.{IsAliveFor, holds_keys}
 use Rattle.mt_works.specs.declared.building.Building.{Building}
-use Rattle.mt_calls.specs.Causes.{ReadFails}
+use Rattle.mt_steps.specs.Causes.{ReadFails}
 use Rattle.mt_works.specs.Building.{BuildingIsTrue, BuildingLaw, ScansOn, ScansAll, KeepsView, TakesNext, GoesOn, BuildMoves, FailsAt, OnlyForMemory, IsInLog, BuildScans, BuildVisits}
 
 -- one moment more, in which nothing changes

@@ -6,10 +6,10 @@ use Rattle.mt_arena.specs.Arena.{ArenaView}
 use Rattle.mt_chart.specs.Tree.{Arena}
 use Rattle.mt_build.specs.Build.{BuildView, build_cursor}
 use Rattle.mt_view.specs.State.{StateView}
-use Rattle.mt_calls.specs.declared.progress.Progress.TheVariants.{Moved, Waits}
-use Rattle.mt_calls.specs.World.{World, IsWorld, IsTaken}
-use Rattle.mt_calls.specs.Causes.{ReadWaits}
-use Rattle.mt_calls.proofs.LoneRange.{ScanStands, scan_left, scan_waits_not, scan_nearer_in}
+use Rattle.mt_steps.specs.declared.progress.Progress.TheVariants.{Moved, Waits}
+use Rattle.mt_steps.specs.World.{World, IsWorld, IsTaken}
+use Rattle.mt_steps.specs.Causes.{ReadWaits}
+use Rattle.mt_steps.proofs.LoneRange.{ScanStands, scan_left, scan_waits_not, scan_nearer_in}
 use Rattle.mt_works.specs.declared.building.Building.{Building}
 use Rattle.mt_works.specs.Building.{ScansOn, BuildingIsTrue, GoesOn, BuildsOn, BuildMoves, BuildFollows}
 

@@ -11,9 +11,9 @@ use Rattle.mt_chart.specs.Chart.{Spot}
 use Rattle.mt_chart.proofs.Trail.{trail_fits}
 use Rattle.mt_tree.specs.Seen.{arena_seen, node_seen}
 use Rattle.mt_tree.proofs.SpareLemmas.{known_named}
-use Rattle.mt_calls.specs.declared.getting.Get.{Get}
-use Rattle.mt_calls.specs.Getting.{GetIsTrue}
-use Rattle.mt_calls.specs.World.{World, IsWorld}
+use Rattle.mt_steps.specs.declared.getting.Get.{Get}
+use Rattle.mt_steps.specs.Getting.{GetIsTrue}
+use Rattle.mt_steps.specs.World.{World, IsWorld}
 
 -- the numbers that name a node, of which the first is this one
 abbrev named_from : ℕ → Nodes → List ℕ

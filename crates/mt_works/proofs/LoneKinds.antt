@@ -3,17 +3,17 @@ use Rattle.std.proofs.Common.{ℕ, ◌≡◌, ◌≤◌, ◌<◌, List, Option, 
 use Rattle.mt_types.specs.declared.event.Request.TheVariants.{Get as GetRequest}
 use Rattle.mt_arena.specs.Arena.{ArenaView}
 use Rattle.mt_chart.specs.Tree.{Arena}
-use Rattle.mt_calls.specs.declared.way.Way.{Way}
-use Rattle.mt_calls.specs.declared.getting.Get.{Get}
-use Rattle.mt_calls.specs.declared.ranging.Range.{Range}
-use Rattle.mt_calls.specs.declared.progress.Progress.TheVariants.{Moved, Waits}
-use Rattle.mt_calls.specs.World.{World, IsWorld, IsTaken}
-use Rattle.mt_calls.specs.Way.{prefix_of}
-use Rattle.mt_calls.specs.Causes.{ReadWaits}
-use Rattle.mt_calls.specs.Getting.{get_request, GetIsTrue, GetFollows}
-use Rattle.mt_calls.specs.Ranging.{RangeIsTrue, RangeFollows}
-use Rattle.mt_calls.proofs.LoneWay.{way_left, IsOnThere, way_moves, not_marked}
-use Rattle.mt_calls.proofs.LoneRange.{range_stands, range_left, lone_range_nearer}
+use Rattle.mt_steps.specs.declared.way.Way.{Way}
+use Rattle.mt_steps.specs.declared.getting.Get.{Get}
+use Rattle.mt_steps.specs.declared.ranging.Range.{Range}
+use Rattle.mt_steps.specs.declared.progress.Progress.TheVariants.{Moved, Waits}
+use Rattle.mt_steps.specs.World.{World, IsWorld, IsTaken}
+use Rattle.mt_steps.specs.Way.{prefix_of}
+use Rattle.mt_steps.specs.Causes.{ReadWaits}
+use Rattle.mt_steps.specs.Getting.{get_request, GetIsTrue, GetFollows}
+use Rattle.mt_steps.specs.Ranging.{RangeIsTrue, RangeFollows}
+use Rattle.mt_steps.proofs.LoneWay.{way_left, IsOnThere, way_moves, not_marked}
+use Rattle.mt_steps.proofs.LoneRange.{range_stands, range_left, lone_range_nearer}
 use Rattle.std.proofs.lemmas.Bool.{cases_lt}
 use Rattle.mt_commit.specs.Log.{LogView, newest}
 use Rattle.mt_view.specs.State.{StateView}

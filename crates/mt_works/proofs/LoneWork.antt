@@ -6,18 +6,18 @@ use Rattle.mt_arena.specs.Arena.{ArenaView}
 use Rattle.mt_chart.specs.Tree.{Arena, Among}
 use Rattle.mt_chart.specs.Chart.{Evolves}
 use Rattle.mt_tree.specs.Seen.{arena_seen}
-use Rattle.mt_calls.specs.declared.progress.Progress.{Progress}
-use Rattle.mt_calls.specs.declared.progress.Progress.TheVariants.{Moved, Waits, Committed}
-use Rattle.mt_calls.specs.World.{World, IsWorld, IsTaken, NotAmong}
-use Rattle.mt_calls.specs.Step.{Held, Stepped, StepLawIn, Does, left_with}
+use Rattle.mt_steps.specs.declared.progress.Progress.{Progress}
+use Rattle.mt_steps.specs.declared.progress.Progress.TheVariants.{Moved, Waits, Committed}
+use Rattle.mt_steps.specs.World.{World, IsWorld, IsTaken, NotAmong}
+use Rattle.mt_steps.specs.Step.{Held, Stepped, StepLawIn, Does, left_with}
 use Rattle.mt_types.specs.declared.numbers.NodeNo.{NodeNo}
-use Rattle.mt_calls.specs.declared.way.Way.{Way}
+use Rattle.mt_steps.specs.declared.way.Way.{Way}
 use Rattle.mt_write.specs.declared.writing.Write.{Write as WriteView}
 use Rattle.mt_write.specs.declared.writing.Edit.{Edit}
 use Rattle.mt_write.specs.declared.writing.Edit.TheVariants.{Put, Remove}
 use Rattle.mt_write.specs.Writing.{write_request, edit_request}
-use Rattle.mt_calls.proofs.LoneWay.{way_left, IsOnThere, starts_on}
-use Rattle.mt_calls.proofs.LoneRange.{ScanStands, range_stands, range_left, lone_range_waits_not, range_begins}
+use Rattle.mt_steps.proofs.LoneWay.{way_left, IsOnThere, starts_on}
+use Rattle.mt_steps.proofs.LoneRange.{ScanStands, range_stands, range_left, lone_range_waits_not, range_begins}
 use Rattle.mt_remove.proofs.LoneTidy.{tidy_stands, tidy_left, tidy_begins, lone_tidy_waits_not, lone_tidy_nearer}
 use Rattle.mt_write.proofs.LoneWrite.{request_key}
 use Rattle.mt_write.proofs.LoneWrites.{lone_stands as write_stands, lone_left as write_left, begins as write_begins, waits_not as write_waits_not, nearer as write_nearer}

@@ -10,13 +10,13 @@ use Rattle.mt_slice.specs.Place.{place_of}
 use Rattle.mt_chart.specs.ScanRun.{Stood, AllHave}
 use Rattle.mt_chart.proofs.Ranges.{range_begins}
 use Rattle.mt_scan.specs.Scan.{ScanView}
-use Rattle.mt_calls.specs.Step.{nothing}
+use Rattle.mt_steps.specs.Step.{nothing}
 use Rattle.mt_remove.specs.declared.tidy.Tidy.{Tidy}
 use Rattle.mt_remove.specs.Tidy.{tidy_held, tidy_request, NewTidyIsTrue}
 use Rattle.mt_types.specs.declared.event.Request.TheVariants.{Tidy as TidyRequest}
 use Rattle.mt_works.specs.Works.{IsKey, AsksForKey, IsAtStart, IsNew}
-use Rattle.mt_calls.proofs.WayLemmas.{starts}
-use Rattle.mt_calls.proofs.FrameLemmas.{trail_begins}
+use Rattle.mt_steps.proofs.WayLemmas.{starts}
+use Rattle.mt_steps.proofs.FrameLemmas.{trail_begins}
 
 pub new_get : (C number : ℕ) (key columns : List ℕ) → IsKey key → IsNew C number (GetWork (record { key = key; columns = columns; way = record { node = record { 0 = 0 }; layer = 0 } }))
 new_get C number key columns is = record {

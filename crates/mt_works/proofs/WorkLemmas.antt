@@ -15,14 +15,14 @@ use Rattle.mt_chart.proofs.Ranges.{range_kept}
 use Rattle.mt_tree.specs.Seen.{arena_seen}
 use Rattle.mt_build.specs.Build.{BuildView}
 use Rattle.mt_build.proofs.ReadLemmas.{others_keep}
-use Rattle.mt_calls.specs.declared.getting.Get.{Get}
-use Rattle.mt_calls.specs.declared.ranging.Range.{Range}
-use Rattle.mt_calls.specs.declared.progress.Progress.{Progress}
-use Rattle.mt_calls.specs.declared.progress.Progress.TheVariants.{Refused}
-use Rattle.mt_calls.specs.World.{World, IsWorld, IsTaken, IsSame, GoneSince}
-use Rattle.mt_calls.specs.Step.{Held, Truth, StepLaw, StepLawIn, MayStep, MayStepIn, nothing}
-use Rattle.mt_calls.specs.Getting.{GetIsTrue, get_request}
-use Rattle.mt_calls.specs.Ranging.{range_request, RangeIsTrue}
+use Rattle.mt_steps.specs.declared.getting.Get.{Get}
+use Rattle.mt_steps.specs.declared.ranging.Range.{Range}
+use Rattle.mt_steps.specs.declared.progress.Progress.{Progress}
+use Rattle.mt_steps.specs.declared.progress.Progress.TheVariants.{Refused}
+use Rattle.mt_steps.specs.World.{World, IsWorld, IsTaken, IsSame, GoneSince}
+use Rattle.mt_steps.specs.Step.{Held, Truth, StepLaw, StepLawIn, MayStep, MayStepIn, nothing}
+use Rattle.mt_steps.specs.Getting.{GetIsTrue, get_request}
+use Rattle.mt_steps.specs.Ranging.{range_request, RangeIsTrue}
 use Rattle.mt_write.specs.declared.writing.Write.{Write}
 use Rattle.mt_write.specs.Writing.{WriteIsTrue, write_request, write_held}
 use Rattle.mt_write.proofs.CauseLemmas.{stage_refused}

@@ -14,13 +14,13 @@ use Rattle.mt_view.specs.State.{StateView, applied}
 use Rattle.mt_scan.specs.declared.scan.ScanMove.{ScanMove}
 use Rattle.mt_scan.specs.declared.scan.ScanMove.TheVariants.{Done as VisitDone}
 use Rattle.mt_build.specs.Build.{BuildView, build_cursor, IsScanning, HasScanned, VisitsOn}
-use Rattle.mt_calls.specs.declared.progress.Progress.{Progress}
-use Rattle.mt_calls.specs.declared.progress.Progress.TheVariants.{Moved, Waits, Refused}
-use Rattle.mt_calls.specs.World.{World, IsWorld}
-use Rattle.mt_calls.specs.Way.{start}
-use Rattle.mt_calls.specs.Ranging.{ScanGoes, IsThen}
-use Rattle.mt_calls.specs.Causes.{ReadWaits, ReadFails}
-use Rattle.mt_calls.specs.Step.{StepLaw, nothing}
+use Rattle.mt_steps.specs.declared.progress.Progress.{Progress}
+use Rattle.mt_steps.specs.declared.progress.Progress.TheVariants.{Moved, Waits, Refused}
+use Rattle.mt_steps.specs.World.{World, IsWorld}
+use Rattle.mt_steps.specs.Way.{start}
+use Rattle.mt_steps.specs.Ranging.{ScanGoes, IsThen}
+use Rattle.mt_steps.specs.Causes.{ReadWaits, ReadFails}
+use Rattle.mt_steps.specs.Step.{StepLaw, nothing}
 use Rattle.mt_works.specs.declared.building.Building.{Building}
 
 abbrev pub building_request : Building → Request

@@ -3,9 +3,9 @@ use Rattle.std.specs.Prelude.{◌≡◌, None}
 use Rattle.mt_types.specs.declared.refusal.Refusal.{Refusal}
 use Rattle.mt_commit.specs.Log.{LogView}
 use Rattle.mt_arena.specs.Arena.{ArenaView}
-use Rattle.mt_calls.specs.declared.progress.Progress.{Progress}
-use Rattle.mt_calls.specs.declared.progress.Progress.TheVariants.{Refused}
-use Rattle.mt_calls.specs.Causes.{ReadWaits, ReadFails}
+use Rattle.mt_steps.specs.declared.progress.Progress.{Progress}
+use Rattle.mt_steps.specs.declared.progress.Progress.TheVariants.{Refused}
+use Rattle.mt_steps.specs.Causes.{ReadWaits, ReadFails}
 use Rattle.mt_write.specs.declared.writing.Stage.TheVariants.{Failed}
 use Rattle.mt_write.specs.Causes.{WriteWaits, WriteFails}
 use Rattle.mt_remove.specs.Tidy.{IsTidied}

@@ -1,9 +1,9 @@
 -- That a call gets on, of each kind.
 use Rattle.std.specs.Prelude.{◌≡◌}
 use Rattle.mt_arena.specs.Arena.{ArenaView, IsArena}
-use Rattle.mt_calls.specs.declared.progress.Progress.{Progress}
-use Rattle.mt_calls.specs.Getting.{GetFollows}
-use Rattle.mt_calls.specs.Ranging.{RangeFollows}
+use Rattle.mt_steps.specs.declared.progress.Progress.{Progress}
+use Rattle.mt_steps.specs.Getting.{GetFollows}
+use Rattle.mt_steps.specs.Ranging.{RangeFollows}
 use Rattle.mt_write.specs.Follows.{WriteFollows, HeadFollows, PostsFollow}
 use Rattle.mt_remove.specs.Follows.{TidyFollows}
 use Rattle.mt_works.specs.Building.{BuildFollows}

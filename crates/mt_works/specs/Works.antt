@@ -7,12 +7,12 @@ use Rattle.mt_slice.specs.Place.{AreBytes}
 use Rattle.mt_commit.specs.Log.{LogView}
 use Rattle.mt_arena.specs.Arena.{ArenaView}
 use Rattle.mt_chart.specs.Tree.{Arena}
-use Rattle.mt_calls.specs.declared.progress.Progress.{Progress}
-use Rattle.mt_calls.specs.World.{World, IsWorld}
-use Rattle.mt_calls.specs.Step.{Held, nothing}
-use Rattle.mt_calls.specs.Way.{start}
-use Rattle.mt_calls.specs.Getting.{get_request, GetIsTrue}
-use Rattle.mt_calls.specs.Ranging.{range_request, RangeIsTrue}
+use Rattle.mt_steps.specs.declared.progress.Progress.{Progress}
+use Rattle.mt_steps.specs.World.{World, IsWorld}
+use Rattle.mt_steps.specs.Step.{Held, nothing}
+use Rattle.mt_steps.specs.Way.{start}
+use Rattle.mt_steps.specs.Getting.{get_request, GetIsTrue}
+use Rattle.mt_steps.specs.Ranging.{range_request, RangeIsTrue}
 use Rattle.mt_write.specs.Writing.{write_request, write_held, WriteIsTrue}
 use Rattle.mt_write.specs.declared.writing.Stage.TheVariants.{Seeks as WriteSeeks}
 use Rattle.mt_remove.specs.declared.stage.Stage.TheVariants.{Seeks as TidySeeks}

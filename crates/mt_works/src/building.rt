@@ -3,13 +3,13 @@
 
 ghost use Rattle.std.specs.Prelude.{◌≡◌, ◌≢◌, ◌↔◌, ℕ, IsTrue, IsSome, None};
 ghost use Rattle.mt_arena.specs.Arena.{ArenaView};
-ghost use Rattle.mt_calls.specs.Step.{MayStep, nothing};
-ghost use Rattle.mt_calls.specs.Causes.{ReadWaits, ReadFails};
+ghost use Rattle.mt_steps.specs.Step.{MayStep, nothing};
+ghost use Rattle.mt_steps.specs.Causes.{ReadWaits, ReadFails};
 ghost use Rattle.mt_works.specs.Building.{building_request, BuildingIsTrue, BuildingLaw, IsBuilt, IsInLog, BuildsOn, BuildFollows, BuildWaits, BuildFails, OnlyForMemory};
 
 use mt_build::build::Build;
-use mt_calls::progress::Progress;
-use mt_calls::ranging::{Sought, seek};
+use mt_steps::progress::Progress;
+use mt_steps::ranging::{Sought, seek};
 use mt_commit::log::Log;
 use mt_scan::ScanMove;
 use mt_tree::{TOP, Tree};

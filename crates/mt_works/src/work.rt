@@ -3,8 +3,8 @@
 ghost use Rattle.std.specs.Prelude.{◌≡◌, ◌↔◌, ℕ, IfOk, IsTrue as IsTrueBool};
 ghost use Rattle.mt_types.specs.declared.event.Request.TheVariants.{Range as RangeRequest, Build as BuildRequest};
 ghost use Rattle.mt_promise.specs.Legal.{reads_log, is_build};
-ghost use Rattle.mt_calls.specs.Step.{StepLawIn};
-ghost use Rattle.mt_calls.specs.Ranging.{range_request};
+ghost use Rattle.mt_steps.specs.Step.{StepLawIn};
+ghost use Rattle.mt_steps.specs.Ranging.{range_request};
 ghost use Rattle.mt_works.specs.Building.{building_request};
 ghost use Rattle.mt_works.specs.Causes.{WorkWaits, WorkFails};
 ghost use Rattle.mt_works.specs.Follows.{WorkFollows, WorkReads, WorkPosts};
@@ -13,10 +13,10 @@ ghost use Rattle.mt_works.specs.Works.{request_of, held, IsTrue, IsKey, IsNew, M
 use crate::building::Building;
 use bytes::Bytes;
 use mt_build::build::Build;
-use mt_calls::getting::Get;
-use mt_calls::progress::Progress;
-use mt_calls::ranging::Range;
-use mt_calls::way::{START, rest_of};
+use mt_steps::getting::Get;
+use mt_steps::progress::Progress;
+use mt_steps::ranging::Range;
+use mt_steps::way::{START, rest_of};
 use mt_commit::log::Log;
 use mt_remove::tidy::Tidy;
 use mt_scan::Scan;

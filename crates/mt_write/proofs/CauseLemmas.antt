@@ -4,7 +4,7 @@ use Rattle.mt_types.specs.declared.refusal.Refusal.{Refusal}
 use Rattle.mt_types.specs.declared.refusal.Refusal.TheVariants.{NoMemory}
 use Rattle.mt_write.specs.declared.writing.Halves.{Halves}
 use Rattle.mt_write.specs.declared.writing.Edit.{Edit}
-use Rattle.mt_calls.specs.declared.progress.Progress.TheVariants.{Refused}
+use Rattle.mt_steps.specs.declared.progress.Progress.TheVariants.{Refused}
 use Rattle.mt_write.specs.declared.writing.Stage.{Stage}
 use Rattle.mt_write.specs.declared.writing.Stage.TheVariants.{Seeks, Locked, Spared, HalfFilled, Halved, Posts, LayerSpared, LayerFilled, LayerReady, Layered, Filled, Made, Taken, Stored, Failed}
 use Rattle.std.specs.Prelude.{ℕ, List, IsSomeAnd}
@@ -14,14 +14,14 @@ use Rattle.mt_border.specs.declared.found.Found.{Found}
 use Rattle.mt_arena.specs.Node.{border_at}
 use Rattle.mt_arena.specs.Arena.{ArenaView}
 use Rattle.mt_tree.specs.Descent.{found_for}
-use Rattle.mt_calls.specs.declared.way.Way.{Way}
-use Rattle.mt_calls.specs.Way.{rest_of}
-use Rattle.mt_calls.proofs.FoundLemmas.{some_and}
+use Rattle.mt_steps.specs.declared.way.Way.{Way}
+use Rattle.mt_steps.specs.Way.{rest_of}
+use Rattle.mt_steps.proofs.FoundLemmas.{some_and}
 use Rattle.mt_write.specs.Causes.{ReadyFor, FailsBy, IsNotFailed, StageFails, put_fault, split_fault, fill_fault}
 use Rattle.std.proofs.lemmas.Bool.{eq-eqb}
 use Rattle.mt_word.specs.declared.permutation_word.TheConstants.{SLOTS}
 use Rattle.mt_border.specs.declared.found.Found.TheVariants.{Absent}
-use Rattle.mt_calls.proofs.SplitLemmas.{eqb-ne}
+use Rattle.mt_steps.proofs.SplitLemmas.{eqb-ne}
 
 -- a stage that isn't failed fails for nothing
 not_failed : (split : Option Halves) (stage : Stage) → IsNotFailed stage → FailsBy None split stage

@@ -22,20 +22,20 @@ use Rattle.mt_tree.specs.Descent.{found_for}
 use Rattle.mt_tree.specs.BorderSteps.{IsUpperHalf, LinksHalfAt}
 use Rattle.mt_tree.proofs.DescentLemmas.{slice_of_place}
 use Rattle.mt_tree.proofs.SeenLemmas.{seen-border}
-use Rattle.mt_calls.specs.declared.way.Way.{Way}
+use Rattle.mt_steps.specs.declared.way.Way.{Way}
 use Rattle.mt_write.specs.declared.writing.Edit.{Edit}
 use Rattle.mt_write.specs.declared.writing.Halves.{Halves}
 use Rattle.mt_write.specs.declared.writing.Stage.TheVariants.{Spared, HalfFilled, Halved}
-use Rattle.mt_calls.specs.declared.progress.Progress.TheVariants.{Moved}
-use Rattle.mt_calls.specs.World.{World}
-use Rattle.mt_calls.specs.Way.{rest_of, prefix_of}
-use Rattle.mt_calls.specs.Step.{StepLaw, Stepped}
+use Rattle.mt_steps.specs.declared.progress.Progress.TheVariants.{Moved}
+use Rattle.mt_steps.specs.World.{World}
+use Rattle.mt_steps.specs.Way.{rest_of, prefix_of}
+use Rattle.mt_steps.specs.Step.{StepLaw, Stepped}
 use Rattle.mt_write.specs.Writing.{edit_request, stage_held, StageIsTrue, IsLockedAt, HasLocked, IsSplit, IsSpare, IsCutAt, IsHalf, IsAbsent, IsHalfOf, empty_half, upper_half}
-use Rattle.mt_calls.specs.World.{IsLockedBorder}
-use Rattle.mt_calls.proofs.FoundLemmas.{some_at, some_and}
+use Rattle.mt_steps.specs.World.{IsLockedBorder}
+use Rattle.mt_steps.proofs.FoundLemmas.{some_at, some_and}
 use Rattle.mt_write.proofs.AbsentLemmas.{none_has, absent_part, absent_last}
-use Rattle.mt_calls.proofs.BorderLemmas.{now_named, others_named}
-use Rattle.mt_calls.proofs.SplitLemmas.{goes_filled, goes_linked, with_spot, spot_changes}
+use Rattle.mt_steps.proofs.BorderLemmas.{now_named, others_named}
+use Rattle.mt_steps.proofs.SplitLemmas.{goes_filled, goes_linked, with_spot, spot_changes}
 use Rattle.mt_write.proofs.WorkLemmas.{locked_at_stays}
 use Rattle.mt_write.proofs.WriteLemmas.{no_get}
 

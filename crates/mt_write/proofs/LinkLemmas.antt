@@ -14,9 +14,9 @@ use Rattle.mt_tree.specs.Seen.{border_seen, entry_seen}
 use Rattle.mt_tree.proofs.SeenLemmas.{among_map}
 use Rattle.mt_tree.proofs.BorderEntries.{focus}
 use Rattle.mt_tree.proofs.BorderMarks.{stands_seen}
-use Rattle.mt_calls.specs.declared.way.Way.{Way}
-use Rattle.mt_calls.specs.World.{World, IsWorld}
-use Rattle.mt_calls.specs.Way.{prefix_of}
+use Rattle.mt_steps.specs.declared.way.Way.{Way}
+use Rattle.mt_steps.specs.World.{World, IsWorld}
+use Rattle.mt_steps.specs.Way.{prefix_of}
 use Rattle.mt_write.specs.declared.writing.Edit.{Edit}
 use Rattle.mt_write.specs.declared.writing.Stage.TheVariants.{Layered}
 use Rattle.mt_write.specs.Writing.{StageIsTrue, HasLink, way_below}

@@ -17,13 +17,13 @@ use Rattle.mt_chart.specs.Chart.{Standing, Role, top, at_level, Spot, spot, on}
 use Rattle.mt_chart.specs.Walk.{all_heights, IsOn}
 use Rattle.mt_tree.specs.Seen.{arena_seen, border_seen}
 use Rattle.mt_tree.proofs.SeenLemmas.{seen-border}
-use Rattle.mt_calls.specs.declared.progress.Progress.{Progress}
-use Rattle.mt_calls.specs.declared.progress.Progress.TheVariants.{Moved, Waits, Committed, Answered, Refused}
-use Rattle.mt_calls.specs.declared.way.Way.{Way}
-use Rattle.mt_calls.specs.World.{World, IsWorld, IsTaken, IsLocked, NotAmong, Goes}
-use Rattle.mt_calls.specs.Step.{Stepped}
-use Rattle.mt_calls.specs.Way.{prefix_of, IsOnWay}
-use Rattle.mt_calls.proofs.LoneWay.{layer_height, height_in, way_left, layers_above, on_height, IsOnThere, stands_in, way_moves, not_marked, starts_on}
+use Rattle.mt_steps.specs.declared.progress.Progress.{Progress}
+use Rattle.mt_steps.specs.declared.progress.Progress.TheVariants.{Moved, Waits, Committed, Answered, Refused}
+use Rattle.mt_steps.specs.declared.way.Way.{Way}
+use Rattle.mt_steps.specs.World.{World, IsWorld, IsTaken, IsLocked, NotAmong, Goes}
+use Rattle.mt_steps.specs.Step.{Stepped}
+use Rattle.mt_steps.specs.Way.{prefix_of, IsOnWay}
+use Rattle.mt_steps.proofs.LoneWay.{layer_height, height_in, way_left, layers_above, on_height, IsOnThere, stands_in, way_moves, not_marked, starts_on}
 use Rattle.mt_post.specs.declared.posting.Posting.{Posting}
 use Rattle.mt_post.specs.declared.posting.Progressed.TheVariants.{Waits as PostAgain}
 use Rattle.mt_post.specs.Posting.{PostingIsTrue, owned as posting_owned}

@@ -18,13 +18,13 @@ use Rattle.mt_chart.specs.Walk.{IsOn}
 use Rattle.mt_tree.specs.Seen.{arena_seen}
 use Rattle.mt_tree.specs.Descent.{is_marked}
 use Rattle.mt_tree.proofs.SeenLemmas.{head-seen}
-use Rattle.mt_calls.specs.declared.progress.Progress.{Progress}
-use Rattle.mt_calls.specs.declared.progress.Progress.TheVariants.{Moved, Waits, Committed, Answered, Refused}
-use Rattle.mt_calls.specs.declared.way.Way.{Way}
-use Rattle.mt_calls.specs.World.{World, IsWorld, IsTaken}
-use Rattle.mt_calls.specs.Way.{prefix_of, IsOnWay}
-use Rattle.mt_calls.proofs.LoneLemmas.{untaken_alive}
-use Rattle.mt_calls.proofs.LoneWay.{IsOnThere, way_moves}
+use Rattle.mt_steps.specs.declared.progress.Progress.{Progress}
+use Rattle.mt_steps.specs.declared.progress.Progress.TheVariants.{Moved, Waits, Committed, Answered, Refused}
+use Rattle.mt_steps.specs.declared.way.Way.{Way}
+use Rattle.mt_steps.specs.World.{World, IsWorld, IsTaken}
+use Rattle.mt_steps.specs.Way.{prefix_of, IsOnWay}
+use Rattle.mt_steps.proofs.LoneLemmas.{untaken_alive}
+use Rattle.mt_steps.proofs.LoneWay.{IsOnThere, way_moves}
 use Rattle.mt_post.specs.declared.posting.Posting.{Posting}
 use Rattle.mt_post.specs.declared.posting.Progressed.TheVariants.{Moved as PostMoved, Waits as PostAgain}
 use Rattle.mt_post.specs.declared.split.Split.{Split}

@@ -27,15 +27,15 @@ use Rattle.mt_tree.specs.Spares.{MayFill}
 use Rattle.mt_tree.specs.Keeping.{KeepsTree, KeepsUnknown}
 use Rattle.mt_tree.specs.BorderSteps.{HasLayerFor, MakesLayerAt}
 use Rattle.mt_tree.proofs.SeenLemmas.{changed-head}
-use Rattle.mt_calls.specs.declared.way.Way.{Way}
-use Rattle.mt_calls.specs.declared.progress.Progress.TheVariants.{Moved}
-use Rattle.mt_calls.specs.World.{World}
-use Rattle.mt_calls.specs.Way.{rest_of, prefix_of, IsHeadOf}
-use Rattle.mt_calls.specs.Step.{StepLaw, Stepped}
-use Rattle.mt_calls.proofs.WayLemmas.{layer_below}
-use Rattle.mt_calls.proofs.BorderLemmas.{now_named, others_named, locked_may, unlocked_root, no_root as no_border}
-use Rattle.mt_calls.proofs.SplitLemmas.{goes_filled}
-use Rattle.mt_calls.proofs.LayerLemmas.{goes_spare_changed, goes_layered, head_apart, layered, head_placed, others_placed}
+use Rattle.mt_steps.specs.declared.way.Way.{Way}
+use Rattle.mt_steps.specs.declared.progress.Progress.TheVariants.{Moved}
+use Rattle.mt_steps.specs.World.{World}
+use Rattle.mt_steps.specs.Way.{rest_of, prefix_of, IsHeadOf}
+use Rattle.mt_steps.specs.Step.{StepLaw, Stepped}
+use Rattle.mt_steps.proofs.WayLemmas.{layer_below}
+use Rattle.mt_steps.proofs.BorderLemmas.{now_named, others_named, locked_may, unlocked_root, no_root as no_border}
+use Rattle.mt_steps.proofs.SplitLemmas.{goes_filled}
+use Rattle.mt_steps.proofs.LayerLemmas.{goes_spare_changed, goes_layered, head_apart, layered, head_placed, others_placed}
 use Rattle.mt_write.specs.declared.writing.Edit.{Edit}
 use Rattle.mt_write.specs.declared.writing.Layer.{Layer}
 use Rattle.mt_write.specs.declared.writing.Stage.{Stage}

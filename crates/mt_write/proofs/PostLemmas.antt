@@ -13,13 +13,13 @@ use Rattle.mt_chart.specs.Tree.{Among, first, later}
 use Rattle.mt_chart.specs.Chart.{Spot, spot, at_level, top, on, Evolves}
 use Rattle.mt_chart.proofs.Walk.{known_kept}
 use Rattle.mt_tree.specs.Keeping.{KeepsTree, IsIndexAt}
-use Rattle.mt_calls.specs.declared.way.Way.{Way}
-use Rattle.mt_calls.specs.declared.progress.Progress.{Progress}
-use Rattle.mt_calls.specs.declared.progress.Progress.TheVariants.{Moved, Waits, Committed, Answered, Refused}
-use Rattle.mt_calls.specs.World.{World, IsWorld, RowsAreOfKeys, NotAmong, Goes}
-use Rattle.mt_calls.specs.Way.{prefix_of, IsHeadOf}
-use Rattle.mt_calls.specs.Step.{Held, Truth, StepLaw, ThenTrue, IsQuiet}
-use Rattle.mt_calls.proofs.BorderLemmas.{others_named, goes_border, locked_may, keys_same, mine_free, among_one}
+use Rattle.mt_steps.specs.declared.way.Way.{Way}
+use Rattle.mt_steps.specs.declared.progress.Progress.{Progress}
+use Rattle.mt_steps.specs.declared.progress.Progress.TheVariants.{Moved, Waits, Committed, Answered, Refused}
+use Rattle.mt_steps.specs.World.{World, IsWorld, RowsAreOfKeys, NotAmong, Goes}
+use Rattle.mt_steps.specs.Way.{prefix_of, IsHeadOf}
+use Rattle.mt_steps.specs.Step.{Held, Truth, StepLaw, ThenTrue, IsQuiet}
+use Rattle.mt_steps.proofs.BorderLemmas.{others_named, goes_border, locked_may, keys_same, mine_free, among_one}
 use Rattle.mt_post.specs.declared.posting.Posting.{Posting}
 use Rattle.mt_post.specs.declared.posting.Progressed.TheVariants.{Moved as WentOn, Waits as Again, Ended}
 use Rattle.mt_post.specs.Posting.{PostLaw, PostingIsTrue, NewPostingIsTrue, owned as posting_owned}
@@ -30,12 +30,12 @@ use Rattle.mt_write.specs.declared.writing.Ending.TheVariants.{Stored as EndStor
 use Rattle.mt_write.specs.declared.writing.Stage.{Stage}
 use Rattle.mt_write.specs.declared.writing.Stage.TheVariants.{Posts, Stored, Failed}
 use Rattle.mt_write.specs.Writing.{edit_request, stage_held, owned, StageIsTrue, HeadedStage, HasLocked, MayEnd, ending_stage}
-use Rattle.mt_calls.specs.World.{IsLockedBorder}
-use Rattle.mt_calls.specs.declared.way.Went.{Went}
-use Rattle.mt_calls.specs.declared.way.Went.TheVariants.{To}
-use Rattle.mt_calls.specs.Way.{GoesTo, Visits}
-use Rattle.mt_calls.proofs.WayLemmas.{starts_at_head}
-use Rattle.mt_calls.proofs.FrameLemmas.{goes_same, quiet_same}
+use Rattle.mt_steps.specs.World.{IsLockedBorder}
+use Rattle.mt_steps.specs.declared.way.Went.{Went}
+use Rattle.mt_steps.specs.declared.way.Went.TheVariants.{To}
+use Rattle.mt_steps.specs.Way.{GoesTo, Visits}
+use Rattle.mt_steps.proofs.WayLemmas.{starts_at_head}
+use Rattle.mt_steps.proofs.FrameLemmas.{goes_same, quiet_same}
 use Rattle.mt_write.specs.declared.writing.Stage.TheVariants.{Seeks}
 use Rattle.mt_write.proofs.WriteLemmas.{no_get, seek_again}
 

@@ -11,10 +11,10 @@ use Rattle.mt_arena.specs.declared.node.Node.TheVariants.{Head, Border}
 use Rattle.mt_chart.specs.Steps.{SameContent}
 use Rattle.mt_chart.proofs.Basics.{same_number}
 use Rattle.mt_tree.specs.Seen.{arena_seen}
-use Rattle.mt_calls.specs.declared.way.Way.{Way}
-use Rattle.mt_calls.specs.World.{World, IsWorld, Goes}
-use Rattle.mt_calls.proofs.FrameLemmas.{retired_same}
-use Rattle.mt_calls.proofs.LayerLemmas.{goes_two, two_apart}
+use Rattle.mt_steps.specs.declared.way.Way.{Way}
+use Rattle.mt_steps.specs.World.{World, IsWorld, Goes}
+use Rattle.mt_steps.proofs.FrameLemmas.{retired_same}
+use Rattle.mt_steps.proofs.LayerLemmas.{goes_two, two_apart}
 use Rattle.mt_write.specs.declared.writing.Halves.{Halves}
 use Rattle.mt_write.specs.declared.writing.Layer.{Layer}
 use Rattle.mt_write.specs.Writing.{IsLockedAt, HasLocked, AreHalves, LayerSpares, IsToFill, layer_owned}

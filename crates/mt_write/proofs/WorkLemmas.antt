@@ -11,20 +11,20 @@ use Rattle.mt_chart.specs.Tree.{Arena, Among, first, later}
 use Rattle.mt_chart.specs.Chart.{Spot, Evolves}
 use Rattle.mt_chart.proofs.HeldNodes.{holds_kept}
 use Rattle.mt_tree.specs.Seen.{arena_seen, node_seen}
-use Rattle.mt_calls.specs.declared.way.Way.{Way}
+use Rattle.mt_steps.specs.declared.way.Way.{Way}
 use Rattle.mt_write.specs.declared.writing.Write.{Write}
 use Rattle.mt_write.specs.declared.writing.Edit.{Edit}
 use Rattle.mt_write.specs.declared.writing.Stage.{Stage}
 use Rattle.mt_write.specs.declared.writing.Stage.TheVariants.{Seeks, Locked, Spared, HalfFilled, Halved, Posts, LayerSpared, LayerFilled, LayerReady, Layered, Filled, Made, Taken, Stored, Failed}
 use Rattle.mt_write.specs.declared.writing.Halves.{Halves}
 use Rattle.mt_write.specs.declared.writing.Layer.{Layer}
-use Rattle.mt_calls.specs.World.{World, IsLocked, IsTaken, IsSame}
-use Rattle.mt_calls.specs.Way.{IsOnWay, prefix_of}
+use Rattle.mt_steps.specs.World.{World, IsLocked, IsTaken, IsSame}
+use Rattle.mt_steps.specs.Way.{IsOnWay, prefix_of}
 use Rattle.mt_chart.specs.Chart.{top}
 use Rattle.mt_chart.proofs.Walk.{known_kept}
 use Rattle.mt_post.proofs.PostingLasts.{posting_stays, posting_taken}
 use Rattle.mt_write.specs.Writing.{StageIsTrue, stage_held, IsLockedAt, HasLocked, AreHalves, HasLayer, HasLink, IsSpare, owned, layer_owned, way_below, WriteIsTrue, write_held}
-use Rattle.mt_calls.specs.World.{IsLockedBorder}
+use Rattle.mt_steps.specs.World.{IsLockedBorder}
 
 -- ---- what others' steps leave
 module _ (a after : ArenaView) (w next : World) where

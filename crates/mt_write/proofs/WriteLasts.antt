@@ -4,9 +4,9 @@ use Rattle.mt_border.specs.Border.{BorderView}
 use Rattle.mt_arena.specs.Node.{border_at}
 use Rattle.mt_arena.specs.Arena.{ArenaView}
 use Rattle.mt_chart.specs.Tree.{Arena, first, later}
-use Rattle.mt_calls.specs.World.{World, IsWorld, GoneSince}
-use Rattle.mt_calls.specs.declared.way.Way.{Way}
-use Rattle.mt_calls.proofs.CollectLemmas.{border_no, unknown_no, only_since}
+use Rattle.mt_steps.specs.World.{World, IsWorld, GoneSince}
+use Rattle.mt_steps.specs.declared.way.Way.{Way}
+use Rattle.mt_steps.proofs.CollectLemmas.{border_no, unknown_no, only_since}
 use Rattle.mt_post.proofs.PostingLasts.{posting_since}
 use Rattle.mt_write.specs.declared.writing.Write.{Write}
 use Rattle.mt_write.specs.declared.writing.Edit.{Edit}

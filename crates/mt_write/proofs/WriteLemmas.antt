@@ -34,8 +34,8 @@ use Rattle.std.specs.Option.{option_and_then}
 use Rattle.mt_arena.specs.Node.{border_at, border_of}
 use Rattle.mt_arena.specs.declared.node.Node.TheVariants.{Border}
 use Rattle.mt_chart.proofs.Basics.{same_number}
-use Rattle.mt_calls.proofs.SplitLemmas.{goes_occupied, vacant_root}
-use Rattle.mt_calls.proofs.LayerLemmas.{goes_given_back}
+use Rattle.mt_steps.proofs.SplitLemmas.{goes_occupied, vacant_root}
+use Rattle.mt_steps.proofs.LayerLemmas.{goes_given_back}
 use Rattle.mt_write.proofs.SpareLemmas.{vacant_border, has_locked_back, spares_go}
 use Rattle.mt_write.proofs.WorkLemmas.{locked_at_stays}
 use Rattle.mt_arena.specs.Arena.{ArenaView, with_border_changed}
@@ -49,28 +49,28 @@ use Rattle.mt_tree.specs.Descent.{IsLast, found_for, row_found}
 use Rattle.mt_tree.specs.BorderSteps.{ShowsNext, HidesRowAt, SetsRowAt}
 use Rattle.mt_tree.proofs.DescentLemmas.{slice_of_place}
 use Rattle.mt_tree.proofs.SeenLemmas.{seen-border}
-use Rattle.mt_calls.specs.declared.way.Way.{Way}
-use Rattle.mt_calls.specs.declared.way.Went.{Went}
-use Rattle.mt_calls.specs.declared.way.Went.TheVariants.{To, Here}
+use Rattle.mt_steps.specs.declared.way.Way.{Way}
+use Rattle.mt_steps.specs.declared.way.Went.{Went}
+use Rattle.mt_steps.specs.declared.way.Went.TheVariants.{To, Here}
 use Rattle.mt_write.specs.declared.writing.Edit.{Edit}
 use Rattle.mt_write.specs.declared.writing.Edit.TheVariants.{Put as PutEdit, Remove as RemoveEdit}
 use Rattle.mt_write.specs.declared.writing.Stage.{Stage}
 use Rattle.mt_write.specs.declared.writing.Stage.TheVariants.{Seeks, Locked, Spared, HalfFilled, Halved, Posts, LayerSpared, LayerFilled, LayerReady, Layered, Filled, Made, Taken, Stored, Failed}
 use Rattle.mt_write.specs.declared.writing.Halves.{Halves}
-use Rattle.mt_calls.specs.declared.progress.Progress.{Progress}
-use Rattle.mt_calls.specs.declared.progress.Progress.TheVariants.{Moved, Waits, Committed, Answered, Refused}
-use Rattle.mt_calls.specs.World.{World, IsWorld, RowsAreOfKeys, NotAmong, Goes}
-use Rattle.mt_calls.specs.Way.{rest_of, prefix_of, IsLayerOf, IsOnWay, IsAtPlace, GoesTo, Visits}
-use Rattle.mt_calls.specs.Step.{Held, Truth, Stepped, StepLaw, MayStep, RowIs, IsQuiet, put_row, Commits, Changes, blocked_by, bounds, IsOfLog, MayRefuse, MayFail, IsRight}
+use Rattle.mt_steps.specs.declared.progress.Progress.{Progress}
+use Rattle.mt_steps.specs.declared.progress.Progress.TheVariants.{Moved, Waits, Committed, Answered, Refused}
+use Rattle.mt_steps.specs.World.{World, IsWorld, RowsAreOfKeys, NotAmong, Goes}
+use Rattle.mt_steps.specs.Way.{rest_of, prefix_of, IsLayerOf, IsOnWay, IsAtPlace, GoesTo, Visits}
+use Rattle.mt_steps.specs.Step.{Held, Truth, Stepped, StepLaw, MayStep, RowIs, IsQuiet, put_row, Commits, Changes, blocked_by, bounds, IsOfLog, MayRefuse, MayFail, IsRight}
 use Rattle.mt_write.specs.Writing.{edit_request, written_answer, stage_held, IsLockedAt, HasLocked, AreHalves, empty_half, owned, SomeSets, IsBack, IsFilled, IsMade, IsFound, StageIsTrue, HeadedStage, new_entry, Fills, Prepares, PreparesRemove, LacksRow, put_delta, remove_delta}
-use Rattle.mt_calls.specs.World.{IsLockedBorder}
-use Rattle.mt_calls.proofs.FrameLemmas.{goes_same, quiet_same, retired_same}
+use Rattle.mt_steps.specs.World.{IsLockedBorder}
+use Rattle.mt_steps.proofs.FrameLemmas.{goes_same, quiet_same, retired_same}
 use Rattle.std.specs.Prelude.{IsSomeAnd, IsTrue}
-use Rattle.mt_calls.proofs.FoundLemmas.{some_at}
+use Rattle.mt_steps.proofs.FoundLemmas.{some_at}
 use Rattle.mt_tree.proofs.RowLemmas.{stands_at, tells_row}
-use Rattle.mt_calls.proofs.WayLemmas.{starts}
-use Rattle.mt_calls.proofs.GetLemmas.{found_is_row}
-use Rattle.mt_calls.proofs.BorderLemmas.{alive_changed, now_named, others_named, keys_same, keys_changed, goes_border, locked_may, on_kept, unlocked_root, unlocked_free, own_free, mine_free, among_one}
+use Rattle.mt_steps.proofs.WayLemmas.{starts}
+use Rattle.mt_steps.proofs.GetLemmas.{found_is_row}
+use Rattle.mt_steps.proofs.BorderLemmas.{alive_changed, now_named, others_named, keys_same, keys_changed, goes_border, locked_may, on_kept, unlocked_root, unlocked_free, own_free, mine_free, among_one}
 
 -- no write is a get
 pub no_get : (key : List ℕ) (edit : Edit) → IsTrue (is_get (edit_request key edit)) → ⊥

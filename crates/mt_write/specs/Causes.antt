@@ -14,11 +14,11 @@ use Rattle.mt_border.specs.declared.found.Found.TheVariants.{Absent, Row, OtherS
 use Rattle.mt_arena.specs.Node.{border_at, occupied}
 use Rattle.mt_tree.specs.Descent.{found_for}
 use Rattle.mt_arena.specs.Arena.{ArenaView}
-use Rattle.mt_calls.specs.declared.progress.Progress.{Progress}
-use Rattle.mt_calls.specs.declared.progress.Progress.TheVariants.{Waits, Answered, Refused}
-use Rattle.mt_calls.specs.declared.way.Way.{Way}
-use Rattle.mt_calls.specs.Way.{rest_of}
-use Rattle.mt_calls.specs.Causes.{IsMarkedAt, IsLockedAlready}
+use Rattle.mt_steps.specs.declared.progress.Progress.{Progress}
+use Rattle.mt_steps.specs.declared.progress.Progress.TheVariants.{Waits, Answered, Refused}
+use Rattle.mt_steps.specs.declared.way.Way.{Way}
+use Rattle.mt_steps.specs.Way.{rest_of}
+use Rattle.mt_steps.specs.Causes.{IsMarkedAt, IsLockedAlready}
 use Rattle.mt_write.specs.declared.writing.Write.{Write as WriteView}
 use Rattle.mt_write.specs.declared.writing.Edit.{Edit}
 use Rattle.mt_write.specs.declared.writing.Edit.TheVariants.{Put, Remove}

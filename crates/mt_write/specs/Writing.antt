@@ -33,7 +33,7 @@ use Rattle.mt_tree.specs.Seen.{arena_seen, border_seen}
 use Rattle.mt_tree.specs.Keeping.{KeepsTree, KeepsUnknown, IsUnknown, IsOnIn}
 use Rattle.mt_tree.specs.Descent.{IsLast, HasOtherSuffix, found_for, row_found}
 use Rattle.mt_tree.specs.BorderSteps.{MayShowAt}
-use Rattle.mt_calls.specs.declared.way.Way.{Way}
+use Rattle.mt_steps.specs.declared.way.Way.{Way}
 use Rattle.mt_write.specs.declared.writing.Write.{Write}
 use Rattle.mt_write.specs.declared.writing.Edit.{Edit}
 use Rattle.mt_write.specs.declared.writing.Edit.TheVariants.{Put as PutEdit, Remove as RemoveEdit}
@@ -45,10 +45,10 @@ use Rattle.mt_write.specs.declared.writing.Ending.TheVariants.{Stored as EndStor
 use Rattle.mt_post.specs.Posting.{PostingIsTrue, owned as posting_owned}
 use Rattle.mt_chart.specs.Chart.{spot, at_level, on}
 use Rattle.mt_write.specs.declared.writing.Layer.{Layer}
-use Rattle.mt_calls.specs.World.{World, IsLockedBorder, NotAmong}
-use Rattle.mt_calls.specs.Way.{prefix_of, rest_of, IsLayerOf, IsOnWay, IsHeadOf}
-use Rattle.mt_calls.specs.declared.progress.Progress.{Progress}
-use Rattle.mt_calls.specs.Step.{Held, nothing, blocked_by, MayRefuse, MayFail, StepLaw, MayStep, columns_after}
+use Rattle.mt_steps.specs.World.{World, IsLockedBorder, NotAmong}
+use Rattle.mt_steps.specs.Way.{prefix_of, rest_of, IsLayerOf, IsOnWay, IsHeadOf}
+use Rattle.mt_steps.specs.declared.progress.Progress.{Progress}
+use Rattle.mt_steps.specs.Step.{Held, nothing, blocked_by, MayRefuse, MayFail, StepLaw, MayStep, columns_after}
 
 abbrev pub edit_request : List ℕ → Edit → Request
 edit_request key (PutEdit sets) = PutRequest key sets

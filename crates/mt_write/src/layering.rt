@@ -9,15 +9,15 @@ ghost use Rattle.mt_border.specs.Entry.{IsEntry, entry_of_row};
 ghost use Rattle.mt_border.specs.declared.entry.Content.TheVariants.{Long as LongContent};
 ghost use Rattle.mt_arena.specs.Node.{border_at};
 ghost use Rattle.mt_tree.specs.Descent.{HasOtherSuffix};
-ghost use Rattle.mt_calls.specs.Way.{rest_of};
-ghost use Rattle.mt_calls.specs.Step.{MayFail};
+ghost use Rattle.mt_steps.specs.Way.{rest_of};
+ghost use Rattle.mt_steps.specs.Step.{MayFail};
 ghost use Rattle.mt_write.specs.Causes.{layer_fault, ReadyFor};
 ghost use Rattle.mt_write.specs.Writing.{Prepares, IsBack, HoldsLong, MovesLong};
 
 use crate::writing::{Layer, Stage};
 use mt_arena::Node;
 use mt_border::{Border, Content, Entry};
-use mt_calls::way::{Way, rest_of};
+use mt_steps::way::{Way, rest_of};
 use mt_interior::Head;
 use mt_tree::Tree;
 use mt_types::copying::TryCopy;

@@ -10,8 +10,8 @@ ghost use Rattle.mt_border.specs.declared.found.Found.TheVariants.{Absent as Abs
 ghost use Rattle.mt_word.specs.declared.permutation_word.TheConstants.{SLOTS};
 ghost use Rattle.mt_arena.specs.Node.{border_at};
 ghost use Rattle.mt_tree.specs.Descent.{IsLast, found_for};
-ghost use Rattle.mt_calls.specs.Way.{rest_of};
-ghost use Rattle.mt_calls.specs.Step.{MayFail, columns_after};
+ghost use Rattle.mt_steps.specs.Way.{rest_of};
+ghost use Rattle.mt_steps.specs.Step.{MayFail, columns_after};
 ghost use Rattle.mt_write.specs.Causes.{fill_fault, put_fault, remove_fault, ReadyFor, FailsBy, RemoveFailsBy};
 ghost use Rattle.mt_write.specs.Writing.{FillsNew, Prepares, PreparesRemove, IsBack};
 
@@ -20,8 +20,8 @@ use crate::layering::spare_layer;
 use crate::splitting::spare;
 use crate::writing::{Halves, Stage};
 use mt_border::{Border, Entry, Found};
-use mt_calls::getting::row_at;
-use mt_calls::way::{Way, rest_of};
+use mt_steps::getting::row_at;
+use mt_steps::way::{Way, rest_of};
 use mt_commit::log::Log;
 use mt_slice::SLICE_BYTES;
 use mt_tree::Tree;

@@ -4,15 +4,15 @@ ghost use Rattle.std.specs.Prelude.{◌≡◌, ◌≢◌, ◌⊎◌, ℕ, Some, 
 ghost use Rattle.mt_commit.specs.Log.{LogView};
 ghost use Rattle.mt_write.specs.Follows.{Follows, WriteFollows, HeadOnWay, HeadFollows, IsNewPosting, PostsGo, PostsFollow};
 ghost use Rattle.mt_write.specs.Causes.{WriteWaits, WriteFails, StageFails, IsPosting, PostingWaits, BorderWaits, NeverWaits, IsNotRefused, IsNotFailed};
-ghost use Rattle.mt_calls.specs.Step.{StepLaw, MayStep};
+ghost use Rattle.mt_steps.specs.Step.{StepLaw, MayStep};
 ghost use Rattle.mt_write.specs.Writing.{write_request, write_held, written_answer, WriteIsTrue, StageLaw, MayStage, ending_stage};
 
 use crate::commit::{hide, overwrite, show};
 use crate::ready::{prepare, prepare_remove};
 use crate::splitting::{fill_half, fill_spare, link_halves};
 use mt_border::Entry;
-use mt_calls::progress::Progress;
-use mt_calls::way::{START, Way, Went, rest_of};
+use mt_steps::progress::Progress;
+use mt_steps::way::{START, Way, Went, rest_of};
 use mt_commit::log::Log;
 use mt_post::{Posting, Progressed};
 use mt_tree::Tree;

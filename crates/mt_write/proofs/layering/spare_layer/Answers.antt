@@ -4,8 +4,8 @@ use Rattle.mt_border.specs.Border.{BorderView}
 use Rattle.mt_interior.specs.Head.{HeadView}
 use Rattle.mt_arena.specs.Node.{Updates}
 use Rattle.mt_arena.specs.declared.node.Node.TheVariants.{Border, Head}
-use Rattle.mt_calls.specs.Way.{rest_of}
-use Rattle.mt_calls.proofs.FoundLemmas.{some_at}
+use Rattle.mt_steps.specs.Way.{rest_of}
+use Rattle.mt_steps.proofs.FoundLemmas.{some_at}
 use Rattle.mt_write.proofs.layering.spare_layer.Goals as goal
 
 pub returns-in-Ok-clause-ready : goal.returns-in-Ok-clause-ready

@@ -5,7 +5,7 @@ use Rattle.mt_types.specs.declared.refusal.Refusal.{Refusal}
 use Rattle.mt_border.specs.Border.{BorderView}
 use Rattle.mt_border.specs.declared.found.Found.{Found}
 use Rattle.mt_arena.specs.Node.{border_at}
-use Rattle.mt_calls.proofs.FoundLemmas.{some_at}
+use Rattle.mt_steps.proofs.FoundLemmas.{some_at}
 use Rattle.mt_write.specs.declared.writing.Stage.{Stage}
 use Rattle.mt_write.specs.Causes.{ReadyFor, put_fault}
 use Rattle.mt_word.specs.declared.permutation_word.TheConstants.{SLOTS}

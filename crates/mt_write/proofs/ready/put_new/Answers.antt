@@ -4,9 +4,9 @@ use Rattle.mt_border.specs.Entry.{entry_of_row}
 use Rattle.mt_border.specs.declared.entry.Entry.{Entry}
 use Rattle.mt_arena.specs.Node.{border_at}
 use Rattle.mt_arena.specs.Arena.{ArenaView, with_border_changed}
-use Rattle.mt_calls.specs.Way.{rest_of}
-use Rattle.mt_calls.proofs.BorderLemmas.{now_named}
-use Rattle.mt_calls.proofs.FoundLemmas.{some_at}
+use Rattle.mt_steps.specs.Way.{rest_of}
+use Rattle.mt_steps.proofs.BorderLemmas.{now_named}
+use Rattle.mt_steps.proofs.FoundLemmas.{some_at}
 use Rattle.mt_write.specs.Writing.{new_entry}
 use Rattle.mt_write.proofs.ready.put_new.Goals as goal
 

@@ -2,7 +2,7 @@ use Rattle.std.proofs.Common.{ℕ, Some, true, refl, subst}
 use Rattle.mt_border.specs.Border.{BorderView, new_border}
 use Rattle.mt_arena.specs.Node.{Updates}
 use Rattle.mt_arena.specs.declared.node.Node.TheVariants.{Border}
-use Rattle.mt_calls.proofs.FoundLemmas.{some_at}
+use Rattle.mt_steps.proofs.FoundLemmas.{some_at}
 use Rattle.mt_write.proofs.splitting.spare.Goals as goal
 
 pub returns-clause-ready : goal.returns-clause-ready

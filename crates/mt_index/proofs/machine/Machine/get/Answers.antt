@@ -3,7 +3,7 @@ use Rattle.mt_types.specs.declared.event.Answer.{Answer}
 use Rattle.mt_types.specs.declared.event.Answer.TheVariants.{Absent, Found}
 use Rattle.mt_types.specs.declared.event.Request.TheVariants.{Get as GetRequest}
 use Rattle.mt_arena.specs.Arena.{ArenaView}
-use Rattle.mt_calls.specs.Lone.{IsRightNow}
+use Rattle.mt_steps.specs.Lone.{IsRightNow}
 use Rattle.mt_index.specs.Stands.{MachineView}
 use Rattle.mt_index.proofs.AloneStands.{read_found, read_none}
 use Rattle.mt_index.proofs.machine.Machine.get.Goals as goal

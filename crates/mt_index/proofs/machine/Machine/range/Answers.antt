@@ -2,7 +2,7 @@ use Rattle.std.proofs.Common.{subst, sym, ap}
 use Rattle.mt_types.specs.declared.event.Answer.TheVariants.{Rows as RowsAnswer}
 use Rattle.mt_types.specs.declared.event.Request.TheVariants.{Range as RangeRequest}
 use Rattle.mt_arena.specs.Arena.{ArenaView}
-use Rattle.mt_calls.specs.Lone.{IsRightNow}
+use Rattle.mt_steps.specs.Lone.{IsRightNow}
 use Rattle.mt_index.specs.Alone.{IsIdle}
 use Rattle.mt_index.specs.Stands.{MachineView}
 use Rattle.mt_index.proofs.LaterStands.{seen}

@@ -1,7 +1,7 @@
 use Rattle.std.proofs.Common.{Option, ◌≡◌, ◌⊎◌, inl, inr, true, sym, subst, ◌∙◌, refl}
 use Rattle.std.specs.Prelude.{IsSomeAnd}
 use Rattle.mt_interior.specs.Interior.{InteriorView}
-use Rattle.mt_calls.proofs.FoundLemmas.{some_at}
+use Rattle.mt_steps.proofs.FoundLemmas.{some_at}
 use Rattle.mt_post.proofs.WalkLemmas.{may_visit, held_back, child_leads}
 use Rattle.mt_post.proofs.posting.Posting.visit_interior.Goals as goal
 

@@ -1,5 +1,5 @@
 use Rattle.std.proofs.Common.{inl, inr, sym, subst, ◌∙◌}
-use Rattle.mt_calls.specs.declared.progress.Progress.{Progress}
+use Rattle.mt_steps.specs.declared.progress.Progress.{Progress}
 use Rattle.mt_remove.specs.Follows.{TidyStep}
 use Rattle.mt_remove.proofs.SeekLemmas.{ends, begins_lone, locks, locks_root}
 use Rattle.mt_remove.proofs.tidy.Tidy.begin.Goals as goal

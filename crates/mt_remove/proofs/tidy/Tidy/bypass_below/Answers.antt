@@ -1,4 +1,4 @@
-use Rattle.mt_remove.proofs.LoneLemmas.{parent_there, gives_up, may_bypass, bypasses}
+use Rattle.mt_remove.proofs.OneChildLemmas.{parent_there, gives_up, may_bypass, bypasses}
 use Rattle.mt_remove.proofs.tidy.Tidy.bypass_below.Goals as goal
 
 pub place_in-requires : goal.place_in-requires

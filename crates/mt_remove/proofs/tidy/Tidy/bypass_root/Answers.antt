@@ -1,6 +1,6 @@
 use Rattle.std.proofs.Common.{sym, ap, ◌∙◌, ◌≡◌, true, false}
 use Rattle.mt_types.specs.declared.numbers.NodeNo.{NodeNo}
-use Rattle.mt_remove.proofs.LoneLemmas.{top_there, root_lost, bypasses_root}
+use Rattle.mt_remove.proofs.OneChildLemmas.{top_there, root_lost, bypasses_root}
 use Rattle.mt_remove.proofs.tidy.Tidy.bypass_root.Goals.{then-is_deleted-via-then-is_deleted, then-is_deleted-via-else-is_deleted+then-root-interior}
 use Rattle.mt_remove.proofs.tidy.Tidy.bypass_root.Goals as goal
 

@@ -1,5 +1,5 @@
 use Rattle.std.proofs.Common.{subst, sym}
-use Rattle.mt_calls.specs.declared.progress.Progress.{Progress}
+use Rattle.mt_steps.specs.declared.progress.Progress.{Progress}
 use Rattle.mt_remove.specs.Follows.{TidyStep}
 use Rattle.mt_remove.proofs.DropLemmas.{keeps_border}
 use Rattle.mt_remove.proofs.tidy.Tidy.keep_border.Goals as goal

@@ -1,7 +1,7 @@
 use Rattle.std.proofs.Common.{subst, sym}
-use Rattle.mt_calls.specs.declared.progress.Progress.{Progress}
+use Rattle.mt_steps.specs.declared.progress.Progress.{Progress}
 use Rattle.mt_remove.specs.Follows.{TidyStep}
-use Rattle.mt_remove.proofs.LoneLemmas.{keeps_interior}
+use Rattle.mt_remove.proofs.OneChildLemmas.{keeps_interior}
 use Rattle.mt_remove.proofs.tidy.Tidy.keep_interior.Goals as goal
 
 pub returns : goal.returns

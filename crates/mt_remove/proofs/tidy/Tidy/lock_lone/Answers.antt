@@ -1,7 +1,7 @@
 use Rattle.std.proofs.Common.{subst, sym}
-use Rattle.mt_calls.specs.declared.progress.Progress.{Progress}
+use Rattle.mt_steps.specs.declared.progress.Progress.{Progress}
 use Rattle.mt_remove.specs.Follows.{TidyStep}
-use Rattle.mt_remove.proofs.LoneLemmas.{lone_there, ends, may_lock, locks}
+use Rattle.mt_remove.proofs.OneChildLemmas.{lone_there, ends, may_lock, locks}
 use Rattle.mt_remove.proofs.tidy.Tidy.lock_lone.Goals as goal
 
 pub is_lone-requires : goal.is_lone-requires

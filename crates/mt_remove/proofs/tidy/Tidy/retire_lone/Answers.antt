@@ -1,4 +1,4 @@
-use Rattle.mt_remove.proofs.LoneLemmas.{retires}
+use Rattle.mt_remove.proofs.OneChildLemmas.{retires}
 use Rattle.mt_remove.proofs.tidy.Tidy.retire_lone.Goals as goal
 
 pub returns : goal.returns

@@ -1,10 +1,10 @@
 use Rattle.std.proofs.Common.{ℕ, Some, inl, inr, refl, sym, ap, subst, arith}
 use Rattle.mt_scan.specs.declared.scan.ScanMove.{ScanMove}
 use Rattle.mt_scan.specs.declared.scan.ScanMove.TheVariants.{Done}
-use Rattle.mt_calls.specs.Way.{start}
+use Rattle.mt_steps.specs.Way.{start}
 use Rattle.mt_build.specs.Build.{BuildView, VisitsOn, build_cursor}
-use Rattle.mt_calls.proofs.RangeLemmas.{scans_on, scans_top}
-use Rattle.mt_calls.specs.Ranging.{Seeks, IsThen}
+use Rattle.mt_steps.proofs.RangeLemmas.{scans_on, scans_top}
+use Rattle.mt_steps.specs.Ranging.{Seeks, IsThen}
 use Rattle.mt_works.proofs.BuildingLemmas.{scan_may, scan_again, scan_moves, scan_border, scan_keys, scan_goes, scan_tops, scan_ends, scans_all, as_scanning, as_ended, as_truth, has_scanned, build_fails, scan_alive, scan_follows, scan_ended, scans_border}
 use Rattle.mt_works.proofs.building.Building.scan.Goals as goal
 

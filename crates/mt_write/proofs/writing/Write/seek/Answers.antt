@@ -3,9 +3,9 @@ use Rattle.std.specs.Prelude.{IsSomeAnd}
 use Rattle.mt_border.specs.Border.{BorderView}
 use Rattle.mt_arena.specs.Arena.{ArenaView}
 use Rattle.mt_tree.specs.Keeping.{KeepsTree}
-use Rattle.mt_calls.specs.Step.{StepLaw}
-use Rattle.mt_calls.specs.declared.progress.Progress.TheVariants.{Moved}
-use Rattle.mt_calls.proofs.GetLemmas.{may_go}
+use Rattle.mt_steps.specs.Step.{StepLaw}
+use Rattle.mt_steps.specs.declared.progress.Progress.TheVariants.{Moved}
+use Rattle.mt_steps.proofs.GetLemmas.{may_go}
 use Rattle.mt_write.specs.declared.writing.Stage.{Stage}
 use Rattle.mt_write.specs.declared.writing.Stage.TheVariants.{Locked}
 use Rattle.mt_write.specs.Writing.{StageIsTrue, write_request, write_held, stage_held}

@@ -1,0 +1,130 @@
+-- A collection frees one node after another.
+use Rattle.std.proofs.Common.{ℕ, zero, suc, ◌≡◌, ◌<◌, ◌≤◌, ◌+◌, inl, inr, List, [], ◌∷◌, length, take, drop, slice_get, Option, Some, None, IsSome, true, refl, sym, ap, subst, ◌∙◌, arith, add-one}
+use Rattle.std.specs.Prelude.{IsSomeAnd, All, slice_index_or}
+use Rattle.std.specs.List.Sorted.{IsNonDecreasingBy}
+use Rattle.std.specs.Option.{option_and_then}
+use Rattle.std.proofs.lemmas.List.Elements.{All-nil, All-cons, All-head, All-tail}
+use Rattle.mt_types.specs.declared.limits.TheConstants.{MAX_NODES}
+use Rattle.mt_types.specs.declared.numbers.NodeNo.{NodeNo}
+use Rattle.mt_interior.specs.Head.{HeadView}
+use Rattle.mt_arena.specs.Node.{head_of}
+use Rattle.mt_arena.specs.Arena.{ArenaView, IsArena, without_first_retired}
+use Rattle.mt_arena.specs.declared.retired.Retired.{Retired}
+use Rattle.mt_arena.specs.declared.node.Node.{Node}
+use Rattle.mt_arena.proofs.ArenaLemmas.{retired_among}
+use Rattle.mt_chart.proofs.HeldNodes.{evolves_same, evolves_again}
+use Rattle.mt_tree.specs.Keeping.{FreesNode}
+use Rattle.mt_steps.specs.World.{World, IsLocked, IsTaken, IsSame}
+use Rattle.mt_steps.specs.Collecting.{CollectLaw, given_back}
+use Rattle.mt_steps.proofs.LayerLemmas.{content_twice}
+use Rattle.mt_steps.proofs.CollectLemmas.{without_spot, collects}
+
+-- ---- what is left
+-- what is left as it was twice is left as it was
+same_twice : (a b c : ArenaView) (u v w : World) (number : ℕ) → IsSame a b u v number → IsSame b c v w number → IsSame a c u w number
+same_twice a b c u v w number one two = record {
+  node = two.node ∙ one.node;
+  spot = two.spot ∙ one.spot;
+  twins = λ x y here. ((λ h. (one.twins x y here).0 ((two.twins x y here).0 h)), (λ h. (two.twins x y here).1 ((one.twins x y here).1 h)));
+  closing = λ i. one.closing (two.closing i);
+  retired = ((λ h. one.retired.0 (two.retired.0 h)), (λ h. two.retired.1 (one.retired.1 h)));
+}
+
+-- what is taken, and left as it was, is taken still
+taken_on : (a b : ArenaView) (u v : World) (number : ℕ) → IsSame a b u v number → IsTaken a u number → IsTaken b v number
+taken_on a b u v number same (inl locked) = inl (subst (λ (x : Option Node). IsLocked x) (sym same.node) locked)
+taken_on a b u v number same (inr (inl spare)) = inr (inl (subst (λ (x : Option Node). IsSome x) (sym same.node) spare.0, same.spot ∙ spare.1))
+taken_on a b u v number same (inr (inr m)) = inr (inr (record {
+  marked = subst (λ (x : Option HeadView). IsSomeAnd x (λ h. h.version.deleted ≡ true)) (ap (option_and_then head_of) (sym same.node)) m.marked;
+  kept = same.retired.1 m.kept;
+}))
+
+-- before any is freed
+pub law_none : (a : ArenaView) (before : ℕ) → CollectLaw a a before
+law_none a before now w world since = record {
+  next = w;
+  world = world;
+  content = λ key row. ((λ h. h), (λ h. h));
+  evolves = λ begun less. evolves_same begun w.chart;
+  leaves = λ number taken. record { node = refl; spot = refl; twins = λ one other here. ((λ h. h), (λ h. h)); closing = λ i. i; retired = ((λ h. h), (λ h. h)) };
+  takes = λ number taken. taken;
+}
+
+-- once one more is
+pub law_more : (a mid : ArenaView) (before : ℕ) (node : Retired) (others : List Retired) → CollectLaw a mid before → IsArena mid → mid.retired ≡ node ∷ others → FreesNode mid (without_first_retired mid) node.node.0 → node.epoch < before → CollectLaw a (without_first_retired mid) before
+law_more a mid before node others law sound is frees early now w world since =
+    let one = law now w world since in
+    let two = collects mid now one.next node others sound one.world is frees (λ number taken below prefix low epoch place.
+    let was = one.takes number taken in
+    let from = since number was below prefix low epoch (sym (one.leaves number was).spot ∙ place) in
+    omega (arith, from, early)) in
+    record {
+      next = record { twins = one.next.twins; closing = one.next.closing; chart = without_spot one.next.chart node.node.0 };
+      world = two.world;
+      content = content_twice a mid (without_first_retired mid) one.content two.content;
+      evolves = λ begun less. evolves_again begun w.chart one.next.chart _ (one.evolves begun less) (two.evolves begun (omega (arith, less, early)));
+      leaves = λ number taken. let same = one.leaves number taken in same_twice a mid (without_first_retired mid) w one.next _ number same (two.leaves number (taken_on a mid w one.next number same taken));
+      takes = λ number taken. one.takes number (two.takes number taken);
+    }
+
+-- ---- which are freed
+pub given_one_more : (count : ℕ) (a : ArenaView) → without_first_retired (given_back count a) ≡ given_back (count + 1) a
+given_one_more count a = ap (λ (n : ℕ). given_back n a) (sym (add-one count))
+
+-- one more of a list
+more : (before : ℕ) (l : List Retired) (count : ℕ) (node : Retired) (others : List Retired) → drop count l ≡ node ∷ others → All (λ (r : Retired). r.epoch < before) (take count l) → node.epoch < before
+    → All (λ (r : Retired). r.epoch < before) (take (suc count) l) × (drop (suc count) l ≡ others)
+more before [] zero node others e all early = absurd (let clash : ◌≡◌ {A = List Retired} [] (node ∷ others) = e in cc)
+more before [] (suc count) node others e all early = absurd (let clash : ◌≡◌ {A = List Retired} [] (node ∷ others) = e in cc)
+more before (x ∷ xs) zero node others e all early =
+    let same : x ≡ node = cc in
+    let rest : xs ≡ others = cc in
+    (All-cons (λ (r : Retired). r.epoch < before) x [] (subst (λ (r : Retired). r.epoch < before) (sym same) early) (All-nil (λ (r : Retired). r.epoch < before)), rest)
+more before (x ∷ xs) (suc count) node others e all early =
+    let (rest, is) = more before xs count node others e (All-tail (λ (r : Retired). r.epoch < before) x (take count xs) all) early in
+    (All-cons (λ (r : Retired). r.epoch < before) x (take (suc count) xs) (All-head (λ (r : Retired). r.epoch < before) x (take count xs) all) rest, is)
+
+-- the first of those that are left
+pub first_is : (l : List Retired) (node : Retired) → slice_get l 0 ≡ Some node → (others : List Retired) × (l ≡ node ∷ others)
+first_is [] node e = absurd (let clash : ◌≡◌ {A = Option Retired} None (Some node) = e in cc)
+first_is (x ∷ xs) node e = let same : x ≡ node = cc in (xs, ap (λ (r : Retired). r ∷ xs) same)
+
+pub frees_more : (a mid : ArenaView) (before count : ℕ) (node : Retired) (others : List Retired) → mid.retired ≡ drop count a.retired → All (λ (r : Retired). r.epoch < before) (take count a.retired) → mid.retired ≡ node ∷ others → node.epoch < before
+    → ((without_first_retired mid).retired ≡ drop (count + 1) a.retired) × All (λ (r : Retired). r.epoch < before) (take (count + 1) a.retired)
+frees_more a mid before count node others rest all is early =
+    let (taken, left) = more before a.retired count node others (sym rest ∙ is) all early in (
+      ap (drop 1) is ∙ (sym left ∙ ap (λ (n : ℕ). drop n a.retired) (sym (add-one count))),
+      subst (λ (n : ℕ). All (λ (r : Retired). r.epoch < before) (take n a.retired)) (sym (add-one count)) taken,
+    )
+
+-- none is left
+pub none_left : (l : List Retired) → None ≡ slice_get l 0 → l ≡ []
+none_left [] e = refl
+none_left (x ∷ xs) e = absurd (let clash : ◌≡◌ {A = Option Retired} None (Some x) = e in cc)
+
+-- the first that is left was retired in the epoch or later, and so were all
+pub all_late : (l : List Retired) (before : ℕ) (node : Retired) (others : List Retired) → IsNonDecreasingBy (λ (r : Retired). r.epoch) l → l ≡ node ∷ others → before ≤ node.epoch → All (λ (r : Retired). before ≤ r.epoch) l
+all_late l before node others sorted is late k d within =
+    let least = sorted 0 k d (omega arith) within in
+    let first_one : slice_index_or l 0 d ≡ node = ap (λ (x : List Retired). slice_index_or x 0 d) is in
+    let at = ap (λ (r : Retired). r.epoch) first_one in
+    omega (arith, least, at, late)
+
+-- there are no more than all numbers
+pub all_freed : (a : ArenaView) (count : ℕ) → IsArena a → MAX_NODES ≤ count → drop count a.retired ≡ []
+all_freed a count sound most =
+    let few = retired_among a.nodes a.retired sound.retired.named sound.retired.once in
+    let within = sound.within in
+    past a.retired count (omega (arith, few, within, most))
+  where
+    past : (l : List Retired) (n : ℕ) → length l ≤ n → drop n l ≡ []
+    past [] zero less = refl
+    past [] (suc n) less = refl
+    past (x ∷ xs) zero less = absurd (omega (arith, less))
+    past (x ∷ xs) (suc n) less = past xs n (omega (arith, less))
+
+-- it is the first that is freed
+pub frees_first : (mid new : ArenaView) (node : Retired) (number : NodeNo) → Some node ≡ slice_get mid.retired 0 → IsSomeAnd (slice_get mid.retired 0) (λ one. number ≡ one.node) → new ≡ without_first_retired mid → FreesNode mid new number.0 → FreesNode mid (without_first_retired mid) node.node.0
+frees_first mid new node number is named value frees =
+    let same : number ≡ node.node = subst (λ (o : Option Retired). IsSomeAnd o (λ one. number ≡ one.node)) (sym is) named in
+    subst (λ (m : NodeNo). FreesNode mid (without_first_retired mid) m.0) same (subst (λ (x : ArenaView). FreesNode mid x number.0) value frees)

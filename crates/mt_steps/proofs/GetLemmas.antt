@@ -1,0 +1,132 @@
+-- The steps of a get.
+use Rattle.std.proofs.Common.{ℕ, suc, ◌≡◌, List, [], Option, Some, None, refl, sym, ap, subst, ◌∙◌, add-one, IsSome, inl}
+use Rattle.mt_types.specs.Rows.{shown}
+use Rattle.mt_types.specs.declared.row.Row.{Row}
+use Rattle.mt_types.specs.declared.event.Answer.{Answer}
+use Rattle.mt_types.specs.declared.event.Answer.TheVariants.{Absent as AbsentAnswer, Found as FoundAnswer}
+use Rattle.mt_types.specs.declared.refusal.Refusal.TheVariants.{NoMemory}
+use Rattle.mt_slice.specs.Place.{Place, AreBytes, place_of, under, slice_number}
+use Rattle.mt_commit.specs.Log.{LogView}
+use Rattle.mt_border.specs.Border.{BorderView}
+use Rattle.mt_border.specs.declared.found.Found.{Found}
+use Rattle.mt_arena.specs.Node.{border_at}
+use Rattle.mt_arena.specs.Arena.{ArenaView, IsArena}
+use Rattle.mt_chart.specs.Tree.{Has}
+use Rattle.mt_chart.specs.Chart.{Chart}
+use Rattle.mt_chart.specs.Walk.{Trail, moves as trail_moves}
+use Rattle.mt_tree.specs.Seen.{arena_seen, border_seen}
+use Rattle.mt_chart.specs.TreeLaws.{IsWhere}
+use Rattle.mt_tree.proofs.HeldLemmas.{held_may_visit}
+use Rattle.mt_tree.specs.Descent.{IsHere, IsLast, found_for, row_found, TellsRow}
+use Rattle.mt_steps.specs.declared.way.Way.{Way}
+use Rattle.mt_steps.specs.declared.way.Went.{Went}
+use Rattle.mt_steps.specs.declared.way.Went.TheVariants.{Again, To, Here}
+use Rattle.mt_steps.specs.declared.getting.Get.{Get}
+use Rattle.mt_steps.specs.declared.progress.Progress.TheVariants.{Moved, Waits, Answered, Refused}
+use Rattle.mt_steps.specs.World.{World, IsWorld}
+use Rattle.mt_steps.specs.Way.{rest_of, prefix_of, IsOnWay, IsAtPlace, GoesTo, MayGo, Visits}
+use Rattle.mt_steps.specs.Step.{StepLaw, nothing, RowIs}
+use Rattle.mt_steps.specs.Getting.{get_request, GetIsTrue, Reads}
+use Rattle.mt_steps.proofs.FrameLemmas.{goes_same, quiet_same, moves_bounded, trail_begins}
+use Rattle.mt_steps.proofs.WayLemmas.{starts}
+
+-- what is found at the place of a key is the row that the tree has
+pub found_is_row : (a : ArenaView) (key : List ℕ) (way : Way) (now : ℕ) (w : World) (rest : List ℕ) (found : Found) (b : BorderView) → rest ≡ rest_of key way → border_at a.nodes way.node.0 ≡ Some b → found ≡ found_for rest b.live →
+    TellsRow a way.node.0 rest found → IsWorld a now w → IsAtPlace a key way w → RowIs a key (row_found b.live found)
+found_is_row a key way now w rest found b is named searched tells world place row =
+    let same : place.here.border ≡ b = (let both : ◌≡◌ {A = Option BorderView} (Some place.here.border) (Some b) = sym place.here.named ∙ named in cc) in
+    let told = tells.tells now w.twins w.chart (prefix_of key way) world.index (at_rest w.chart rest is place.here)
+    (subst IsLast (sym (searched ∙ ap (λ (x : BorderView). found_for rest x.live) (sym same) ∙ ap (λ (r : List ℕ). found_for r place.here.border.live) is)) place.last) row in
+    let key_is : under (prefix_of key way) (place_of rest) ≡ place_of key = ap (λ (r : List ℕ). under (prefix_of key way) (place_of r)) is ∙ sym place.layer.under in (
+      (λ has. ap (λ (x : BorderView). row_found x.live found) (sym same) ∙ told.0 (subst (λ (p : Place). Has (arena_seen a) p row) (sym key_is) has)),
+      (λ e. subst (λ (p : Place). Has (arena_seen a) p row) key_is (told.1 (ap (λ (x : BorderView). row_found x.live found) same ∙ e))),
+    )
+  where
+    at_rest : (chart : Chart) (r : List ℕ) → r ≡ rest_of key way → (h : IsHere a chart way.node.0 (prefix_of key way) (rest_of key way)) → IsHere a chart way.node.0 (prefix_of key way) r
+    at_rest chart r e h = record { border = h.border; named = h.named; stands = subst (λ (x : List ℕ). IsWhere (arena_seen a) chart way.node.0 (prefix_of key way) (border_seen h.border) (place_of x)) (sym e) h.stands }
+
+-- ---- the answer of a get
+module _ (a : ArenaView) (key : List ℕ) (way : Way) (asked : List ℕ) (rest : List ℕ) (b : BorderView) (bytes : AreBytes key) (is : rest ≡ rest_of key way) (named : border_at a.nodes way.node.0 ≡ Some b) where
+  pub reads_row : (found : Found) (there : Row) → found ≡ found_for rest b.live → TellsRow a way.node.0 rest found → row_found b.live found ≡ Some there → Reads a key way asked (FoundAnswer (shown asked there))
+  reads_row found there searched tells row = record {
+    reads = λ now w world place past. (bytes, there, subst (λ (r : Option Row). RowIs a key r) row (found_is_row a key way now w rest found b is named searched tells world place), refl);
+  }
+
+  pub reads_none : (found : Found) → found ≡ found_for rest b.live → TellsRow a way.node.0 rest found → row_found b.live found ≡ None → Reads a key way asked AbsentAnswer
+  reads_none found searched tells none = record {
+    reads = λ now w world place past. (bytes, subst (λ (r : Option Row). RowIs a key r) none (found_is_row a key way now w rest found b is named searched tells world place));
+  }
+
+-- ---- the step
+module _ (a : ArenaView) (get : Get) (went : Went) (sound : IsArena a) (visits : Visits a get.key get.way went) where
+  abbrev at_way : Way → Get
+  at_way way = record { key = get.key; columns = get.columns; way = way }
+
+  pub get_again : went ≡ Again → (C : ℕ) (log : LogView) → StepLaw C a a log log (get_request get) nothing Waits nothing (GetIsTrue get) (GetIsTrue (at_way (record { node = record { 0 = 0 }; layer = 0 })))
+  get_again is C log = record {
+    steps = λ now begun moves past w world before truth.
+        let on = starts a now w begun get.key world in
+        record {
+          goes = goes_same now a w _ [] [] refl world (on, trail_begins w.chart begun 0 _ _ on.held);
+          does = (quiet_same a log, refl);
+          reserved = refl;
+          bounds = refl;
+          blocked = inl refl;
+          may = tt;
+        };
+  }
+
+  pub get_moves : (next : Way) → went ≡ To next → (C : ℕ) (log : LogView) → StepLaw C a a log log (get_request get) nothing Moved nothing (GetIsTrue get) (GetIsTrue (at_way next))
+  get_moves next is C log = record {
+    steps = λ now begun moves past w world before truth.
+        let (on, move, deeper) = subst (λ (t : Went). GoesTo a begun get.key get.way w t) is (visits.goes now w begun world truth.0) in
+        let trail : Trail begun w.chart next.node.0 (suc moves) = trail_moves (arena_seen a) world.index.tree truth.1 move in
+        record {
+          goes = goes_same now a w _ [] [] refl world (on, subst (λ (n : ℕ). Trail begun w.chart next.node.0 n) (sym (add-one moves)) trail);
+          does = (quiet_same a log, refl);
+          reserved = refl;
+          bounds = refl;
+          blocked = inl refl;
+          may = λ is_get. moves_bounded a w.chart begun get.way.node.0 moves sound world.index.tree truth.1;
+        };
+  }
+
+  pub get_answers : (answer : Answer) → went ≡ Here → Reads a get.key get.way get.columns answer → (C : ℕ) (log : LogView) → StepLaw C a a log log (get_request get) nothing (Answered answer) nothing (GetIsTrue get) (GetIsTrue get)
+  get_answers answer is reads C log = record {
+    steps = λ now begun moves past w world before truth.
+        let place = subst (λ (t : Went). GoesTo a begun get.key get.way w t) is (visits.goes now w begun world truth.0) in
+        record {
+          goes = goes_same now a w _ [] [] refl world tt;
+          does = (quiet_same a log, reads.reads now w world place past);
+          reserved = refl;
+          bounds = refl;
+          blocked = tt;
+          may = tt;
+        };
+  }
+
+  pub get_fails : (C : ℕ) (log : LogView) → StepLaw C a a log log (get_request get) nothing (Refused NoMemory) nothing (GetIsTrue get) (GetIsTrue get)
+  get_fails C log = record {
+    steps = λ now begun moves past w world before truth.
+        record {
+          goes = goes_same now a w _ [] [] refl world tt;
+          does = (quiet_same a log, refl, tt);
+          reserved = refl;
+          bounds = refl;
+          blocked = refl;
+          may = tt;
+        };
+  }
+
+  -- at its place there is a border
+  pub has_border : (now begun : ℕ) (w : World) → IsWorld a now w → IsOnWay begun get.key get.way w → went ≡ Here → IsSome (border_at a.nodes get.way.node.0)
+  has_border now begun w world on is =
+      let place = subst (λ (t : Went). GoesTo a begun get.key get.way w t) is (visits.goes now w begun world on) in
+      subst (λ (b : Option BorderView). IsSome b) (sym place.here.named) refl
+
+-- what a call holds it may visit
+pub may_go : (a : ArenaView) (key : List ℕ) (way : Way) (now begun : ℕ) (w : World) → IsWorld a now w → IsOnWay begun key way w → MayGo a key way
+may_go a key way now begun w world on = record {
+  within = on.layer.within;
+  may = held_may_visit a now w.twins w.chart begun way.node.0 (slice_number (rest_of key way)) (prefix_of key way) world.index on.held;
+}

@@ -1,0 +1,262 @@
+-- Ranges and builds that run alone: each node that their scan comes to is on, and with each move what is left falls.
+use Rattle.std.proofs.Common.{ℕ, zero, suc, ◌≡◌, ◌<◌, ◌≤◌, ◌+◌, ◌*◌, ◌-◌, ◌^◌, ◌⊎◌, inl, inr, List, [], ◌∷◌, length, Option, Some, Bool, true, refl, sym, ap, subst, ◌∙◌, arith}
+use Rattle.std.proofs.Math.Nat.{mul-le-mul_right}
+use Rattle.mt_types.specs.declared.limits.TheConstants.{MAX_LEVEL}
+use Rattle.mt_slice.specs.Place.{first_slice}
+use Rattle.mt_arena.specs.Arena.{ArenaView, IsArena}
+use Rattle.mt_chart.specs.Tree.{Arena}
+use Rattle.mt_chart.specs.Chart.{Standing, on, Role, top, at_level, Spot, spot, Chart, OnHead, IsTree, Holds}
+use Rattle.mt_chart.specs.Walk.{height, below_top, all_heights, Bounded, Run, Known, Moves, Higher, IsOn}
+use Rattle.mt_chart.proofs.Alone.{stays_on, on_known, in_range}
+use Rattle.mt_chart.proofs.Cursor.{less_than_more}
+use Rattle.mt_chart.proofs.Reach.{on_border_at, children_on, first_child_on}
+use Rattle.mt_chart.proofs.Rise.{rises, at_height}
+use Rattle.mt_chart.proofs.Walk.{run_bound}
+use Rattle.mt_tree.specs.Seen.{arena_seen}
+use Rattle.mt_scan.specs.Cursor.{CursorView}
+use Rattle.mt_scan.specs.Onward.{cursor_in, cursor_of, all_cursors, GetsOn}
+use Rattle.mt_scan.specs.declared.scan.ScanMove.TheVariants.{To}
+use Rattle.mt_steps.specs.declared.progress.Progress.TheVariants.{Moved, Waits}
+use Rattle.mt_steps.specs.declared.ranging.Range.{Range}
+use Rattle.mt_steps.specs.World.{World, IsWorld, IsTaken}
+use Rattle.mt_steps.specs.Causes.{ReadWaits}
+use Rattle.mt_steps.specs.Ranging.{RangeIsTrue, SeeksOn, ScansOn, ScanGoes, RangeFollows}
+use Rattle.mt_steps.proofs.FrameLemmas.{chart_bounded}
+use Rattle.mt_steps.proofs.LoneWay.{layer_height, way_left, height_told, still_there, not_marked}
+
+-- ---- the layers of a tree are fewer than its nodes
+module _ (arena : Arena) (chart : Chart) (tree : IsTree arena chart) where
+  -- the heads above a head, each higher than the next
+  record HeadsAbove (prefix : List ℕ) : Type 0 where
+    came : List ℕ
+    run : Run chart 0 came (height top prefix 0)
+    many : length came ≡ length prefix
+
+  head_known : (number : ℕ) (prefix : List ℕ) → OnHead chart number prefix → Known chart 0 number top prefix 0
+  head_known number prefix head = record { standing = on true; place = head; since = λ epoch is. omega arith }
+
+  heads_above : (prefix : List ℕ) (number : ℕ) → OnHead chart number prefix → HeadsAbove prefix
+  heads_above [] number head = record { came = []; run = tt; many = refl }
+  heads_above (slice ∷ prefix) number head =
+      let (above, node, stands, there) = tree.hung number (slice ∷ prefix) head in
+      let (over, over_head) = tree.in_layer above prefix node stands in
+      let rest = heads_above prefix over over_head in
+      record {
+        came = over ∷ rest.came;
+        run = (height top prefix 0, at_height chart 0 over top prefix 0 (head_known over prefix over_head), omega arith, rest.run);
+        many = ap (λ (n : ℕ). suc n) rest.many;
+      }
+
+  few_heads : (bound : ℕ) → Bounded chart bound → (number : ℕ) (prefix : List ℕ) → OnHead chart number prefix → length prefix < bound
+  few_heads bound bounded number prefix head =
+      let above = heads_above prefix number head in
+      let many = above.many in
+      let few = run_bound chart 0 bound number above.came (height top prefix 0) bounded above.run (at_height chart 0 number top prefix 0 (head_known number prefix head)) in
+      omega (arith, many, few)
+
+  -- the layer of a node that is on has a head that is on
+  has_head_at : (most level : ℕ) → level ≤ most → (number : ℕ) (prefix : List ℕ) (low : ℕ) (posted : Bool) → chart number ≡ Some (spot (at_level level) prefix low (on posted)) → (over : ℕ) × OnHead chart over prefix
+  has_head_at most zero up number prefix low posted place =
+      let (node, stands, same) = on_border_at arena chart tree number prefix low posted place in
+      tree.in_layer number prefix node stands
+  has_head_at zero (suc below) up number prefix low posted place = absurd (omega arith)
+  has_head_at (suc most) (suc below) up number prefix low posted place =
+      let u = tree.interiors number below prefix low (on posted) place in
+      let (child, others, is, lower, stands) = first_child_on chart posted prefix low (suc below) u.node.children (children_on arena chart tree number below prefix low posted u.node place u.is_node) in
+      has_head_at most child.level (omega arith) child.number prefix low true stands
+
+  has_head : (number : ℕ) (role : Role) (prefix : List ℕ) (low : ℕ) (posted : Bool) → chart number ≡ Some (spot role prefix low (on posted)) → (over : ℕ) × OnHead chart over prefix
+  has_head number top prefix low posted place =
+      let u = tree.heads number prefix low posted place in
+      (number, place ∙ (ap (λ (l : ℕ). Some (spot top prefix l (on posted))) u.low ∙ ap (λ (b : Bool). Some (spot top prefix 0 (on b))) u.posted))
+  has_head number (at_level level) prefix low posted place = has_head_at level level (omega arith) number prefix low posted place
+
+-- ---- what is left
+-- more layers than a tree has: one for each node that it may have
+pub all_layers : ℕ
+all_layers = 1048576
+
+layers_fit : (layers : ℕ) → layers < 1048576 → layers < all_layers
+unfolding all_layers
+layers_fit layers few = few
+
+-- WHAT IS LEFT of a scan that stands at a node: how far its cursor is from the end of all, then how many layers there may
+-- be below it, then what is left of its way in its layer
+abbrev pub left_of : ℕ → ℕ → ℕ → ℕ
+left_of cursors layers way = (cursors * (all_layers + 1) + layers) * (all_heights + 1) + way
+
+abbrev pub cursors_left : CursorView → ℕ
+cursors_left c = all_cursors all_layers - cursor_of all_layers c
+
+abbrev pub scan_left : ArenaView → ℕ → CursorView → ℕ
+scan_left a number c = left_of (cursors_left c) (all_layers - length c.prefix) (way_left a 0 number)
+
+-- it falls
+way_falls : (cursors layers way less : ℕ) → less < way → left_of cursors layers less < left_of cursors layers way
+way_falls cursors layers way less falls = omega arith
+
+layers_fall : (cursors layers way fewer below other : ℕ) → fewer ≤ cursors → below < layers → other ≤ all_heights → left_of fewer below other < left_of cursors layers way
+layers_fall cursors layers way fewer below other most less within =
+    let held : fewer * (all_layers + 1) ≤ cursors * (all_layers + 1) = mul-le-mul_right (all_layers + 1) most in
+    less_than_more (fewer * (all_layers + 1) + below) (cursors * (all_layers + 1) + layers) other (all_heights + 1) way (omega (arith, held)) (omega arith)
+
+cursors_fall : (cursors layers way fewer below other : ℕ) → fewer < cursors → below ≤ all_layers → other ≤ all_heights → left_of fewer below other < left_of cursors layers way
+cursors_fall cursors layers way fewer below other falls few within =
+    less_than_more (fewer * (all_layers + 1) + below) (cursors * (all_layers + 1) + layers) other (all_heights + 1) way
+    (less_than_more fewer cursors below (all_layers + 1) layers falls (omega arith)) (omega arith)
+
+left_less : (all one other : ℕ) → one < other → one < all → all - other < all - one
+left_less all one other less within = omega arith
+
+left_most : (all one other : ℕ) → one ≤ other → all - other ≤ all - one
+left_most all one other most = omega arith
+
+way_within : (a : ArenaView) (number : ℕ) → way_left a 0 number ≤ all_heights
+way_within a number = omega arith
+
+-- ---- where a scan stands
+-- its node is on, in the layer of its prefix
+pub record ScanStands (chart : Chart) (number : ℕ) (prefix : List ℕ) : Type 0 where
+  pub role : Role
+  pub low : ℕ
+  pub posted : Bool
+  pub place : chart number ≡ Some (spot role prefix low (on posted))
+
+abbrev is_on : (chart : Chart) (number : ℕ) (prefix : List ℕ) → ScanStands chart number prefix → IsOn chart number
+is_on chart number prefix s = record { role = s.role; prefix = prefix; low = s.low; posted = s.posted; place = s.place }
+
+-- one number stands in one layer, from one slice on
+same_prefix : (one other : Role) (prefix layer : List ℕ) (low least : ℕ) (standing stands : Standing) → ◌≡◌ {A = Option Spot} (Some (spot one prefix low standing)) (Some (spot other layer least stands)) → prefix ≡ layer
+same_prefix one other prefix layer low least standing stands e = cc
+
+same_low : (one other : Role) (prefix layer : List ℕ) (low least : ℕ) (standing stands : Standing) → ◌≡◌ {A = Option Spot} (Some (spot one prefix low standing)) (Some (spot other layer least stands)) → low ≡ least
+same_low one other prefix layer low least standing stands e = cc
+
+-- what is on stands in the layer in which it is held
+on_and_held : (chart : Chart) (begun number slice : ℕ) (prefix : List ℕ) → IsOn chart number → Holds chart begun number prefix slice → ScanStands chart number prefix
+on_and_held chart begun number slice prefix o held =
+    let same = same_prefix o.role held.role o.prefix prefix o.low held.low (on o.posted) held.standing (sym o.place ∙ held.place) in
+    record { role = o.role; low = o.low; posted = o.posted; place = o.place ∙ ap (λ (p : List ℕ). Some (spot o.role p o.low (on o.posted))) same }
+
+-- the higher of two nodes of a layer has less left
+higher_left : (role other : Role) (layers low least : ℕ) → (layers * (MAX_LEVEL + 2) + below_top role) * (2 ^ 64) + low < (layers * (MAX_LEVEL + 2) + below_top other) * (2 ^ 64) + least
+    → layer_height 0 role low < all_heights → all_heights - layer_height 0 other least < all_heights - layer_height 0 role low
+higher_left role other layers low least higher within = omega arith
+
+-- ---- a step
+module _ (a : ArenaView) (now : ℕ) (w : World) (world : IsWorld a now w) where
+  few_layers : IsArena a → (number : ℕ) (prefix : List ℕ) → ScanStands w.chart number prefix → length prefix < all_layers
+  few_layers sound number prefix s =
+      let (over, head) = has_head (arena_seen a) w.chart world.index.tree number s.role prefix s.low s.posted s.place in
+      layers_fit (length prefix) (few_heads (arena_seen a) w.chart world.index.tree 1048576 (chart_bounded a w.chart sound world.index.tree) over prefix head)
+
+  -- the higher of two nodes of a layer has less left of its way
+  higher_nearer : (number next : ℕ) (prefix : List ℕ) (here : ScanStands w.chart number prefix) (there : ScanStands w.chart next prefix) → here.low < 2 ^ 64
+      → height here.role prefix here.low < height there.role prefix there.low → way_left a 0 next < way_left a 0 number
+  higher_nearer number next prefix here there fits higher =
+      let at_here = height_told 0 (arena_seen a) w.chart world.index.tree number here.role prefix here.low here.posted here.place in
+      let at_there = height_told 0 (arena_seen a) w.chart world.index.tree next there.role prefix there.low there.posted there.place in
+      let less = higher_left here.role there.role (length prefix) here.low there.low higher (in_range here.role [] here.low (omega arith) fits) in
+      omega (arith, at_here, at_there, less)
+
+  -- on its way in its layer
+  seeks_nearer : (number next begun then slice : ℕ) (c : CursorView) → ScanStands w.chart number c.prefix → Holds w.chart begun number c.prefix (first_slice c.at) → SeeksOn a number next c
+      → Holds w.chart then next c.prefix slice → ScanStands w.chart next c.prefix × (way_left a 0 next < way_left a 0 number)
+  seeks_nearer number next begun then slice c s held seeks held_next =
+      after (rises (arena_seen a) w.chart world.index.tree (suc now) number next (height s.role c.prefix s.low) (on_known w.chart (suc now) number (is_on w.chart number c.prefix s)) seeks.moves)
+    where
+      fits : s.low < 2 ^ 64
+      fits =
+          let low = same_low s.role held.role c.prefix c.prefix s.low held.low (on s.posted) held.standing (sym s.place ∙ held.place) in
+          let most = held.at_most in
+          let few = seeks.fits in
+          omega (arith, low, most, few)
+
+      nearer : (x : Higher w.chart (suc now) next (height s.role c.prefix s.low)) (posted : Bool) → w.chart next ≡ Some (spot x.known.role x.known.prefix x.known.low (on posted)) → x.known.prefix ≡ c.prefix
+          → ScanStands w.chart next c.prefix × (way_left a 0 next < way_left a 0 number)
+      nearer x posted place same =
+          let there : ScanStands w.chart next c.prefix =
+          record { role = x.known.role; low = x.known.low; posted = posted; place = place ∙ ap (λ (p : List ℕ). Some (spot x.known.role p x.known.low (on posted))) same } in
+          let reached : height x.known.role c.prefix x.known.low ≡ x.height = ap (λ (p : List ℕ). height x.known.role p x.known.low) (sym same) ∙ x.known.is_height in
+          let up = x.rises in
+          (there, higher_nearer number next c.prefix s there fits (omega (arith, reached, up)))
+
+      after : Higher w.chart (suc now) next (height s.role c.prefix s.low) → ScanStands w.chart next c.prefix × (way_left a 0 next < way_left a 0 number)
+      after x =
+          let (posted, place) = still_there w.chart now next x.height world.index.dated x.known in
+          nearer x posted place (same_prefix x.known.role held_next.role x.known.prefix c.prefix x.known.low held_next.low (on posted) held_next.standing (sym place ∙ held_next.place))
+
+  -- from a border
+  scans_nearer : (number next then slice : ℕ) (c d : CursorView) → ScanStands w.chart number c.prefix → ScansOn a number next c d → Holds w.chart then next d.prefix slice
+      → ScanStands w.chart next d.prefix × (scan_left a next d < scan_left a number c)
+  scans_nearer number next then slice c d s scans held = (on_and_held w.chart then next slice d.prefix (on_next scans.leads) held, to (scans.gets_on all_layers deep))
+    where
+      on_next : Moves (arena_seen a) number next ⊎ (next ≡ 0) → IsOn w.chart next
+      on_next (inl move) = stays_on (arena_seen a) w.chart world.index.tree now number next world.index.dated (is_on w.chart number c.prefix s) move
+      on_next (inr home) = record { role = top; prefix = []; low = 0; posted = true; place = ap w.chart home ∙ world.index.tree.layer_0 }
+
+      deep : length c.prefix < all_layers
+      deep = few_layers scans.sound number c.prefix s
+
+      further : cursor_of all_layers c < cursor_of all_layers d → scan_left a next d < scan_left a number c
+      further less =
+          cursors_fall (cursors_left c) (all_layers - length c.prefix) (way_left a 0 number) (cursors_left d) (all_layers - length d.prefix) (way_left a 0 next)
+          (left_less (all_cursors all_layers) (cursor_of all_layers c) (cursor_of all_layers d) less (scans.within all_layers)) (omega arith) (way_within a next)
+
+      to : GetsOn all_layers c (To (record { 0 = next })) d → scan_left a next d < scan_left a number c
+      to (inl less) = further less
+      to (inr (most, deeper)) =
+          layers_fall (cursors_left c) (all_layers - length c.prefix) (way_left a 0 number) (cursors_left d) (all_layers - length d.prefix) (way_left a 0 next)
+          (left_most (all_cursors all_layers) (cursor_of all_layers c) (cursor_of all_layers d) most) (left_less all_layers (length c.prefix) (length d.prefix) (omega (arith, deeper)) deep) (way_within a next)
+
+  -- WITH EACH MOVE OF A SCAN its next node is on, and what is left of it falls
+  pub scan_nearer : (number next begun then slice : ℕ) (c d : CursorView) → ScanStands w.chart number c.prefix → Holds w.chart begun number c.prefix (first_slice c.at) → ScanGoes a number next c d
+      → Holds w.chart then next d.prefix slice → ScanStands w.chart next d.prefix × (scan_left a next d < scan_left a number c)
+  scan_nearer number next begun then slice c d s held (inl (seeks, same)) held_next =
+      subst (λ (e : CursorView). ScanStands w.chart next e.prefix × (scan_left a next e < scan_left a number c)) (sym same) (there.0, way_falls (cursors_left c) (all_layers - length c.prefix) (way_left a 0 number) (way_left a 0 next) there.1)
+    where
+      there : ScanStands w.chart next c.prefix × (way_left a 0 next < way_left a 0 number)
+      there = seeks_nearer number next begun then slice c s held seeks (subst (λ (e : CursorView). Holds w.chart then next e.prefix slice) same held_next)
+  scan_nearer number next begun then slice c d s held (inr scans) held_next = scans_nearer number next then slice c d s scans held_next
+
+  -- a scan that runs alone doesn't wait
+  pub scan_waits_not : (number : ℕ) (prefix : List ℕ) → ScanStands w.chart number prefix → ((other : ℕ) → IsTaken a w other → ⊥) → ReadWaits a number Waits → ⊥
+  scan_waits_not number prefix s free marked = not_marked a now w world number (free number) (is_on w.chart number prefix s) marked
+
+-- where the charts are the same, it stands in the next world as in this one
+stands_in_next : (chart new : Chart) (number : ℕ) (prefix : List ℕ) → new number ≡ chart number → ScanStands chart number prefix → ScanStands new number prefix
+stands_in_next chart new number prefix same s = record { role = s.role; low = s.low; posted = s.posted; place = same ∙ s.place }
+
+held_before : (chart new : Chart) (begun number slice : ℕ) (prefix : List ℕ) → new number ≡ chart number → Holds new begun number prefix slice → Holds chart begun number prefix slice
+held_before chart new begun number slice prefix same h = record { role = h.role; low = h.low; standing = h.standing; place = sym same ∙ h.place; at_most = h.at_most; since = h.since }
+
+-- the same, where the world is another then in which each node stands as it stood
+pub scan_nearer_in : (a : ArenaView) (now : ℕ) (w next_world : World) → IsWorld a now w → ((number : ℕ) → next_world.chart number ≡ w.chart number)
+    → (number next begun then slice : ℕ) (c d : CursorView) → ScanStands w.chart number c.prefix → Holds w.chart begun number c.prefix (first_slice c.at) → ScanGoes a number next c d
+    → Holds next_world.chart then next d.prefix slice → ScanStands next_world.chart next d.prefix × (scan_left a next d < scan_left a number c)
+scan_nearer_in a now w next_world world same number next begun then slice c d s held goes held_next =
+    let (stands, falls) = scan_nearer a now w world number next begun then slice c d s held goes (held_before w.chart next_world.chart then next slice d.prefix (same next) held_next) in
+    (stands_in_next w.chart next_world.chart next d.prefix (same next) stands, falls)
+
+-- ---- a range
+-- the node where it stands is on, in the layer of its scan
+abbrev pub range_stands : World → Range → Type 0
+range_stands w range = ScanStands w.chart range.node.0 range.scan.prefix
+
+abbrev pub range_left : ArenaView → Range → ℕ
+range_left a range = scan_left a range.node.0 (cursor_in range.scan)
+
+-- a range that runs alone doesn't wait
+pub lone_range_waits_not : (a : ArenaView) (now : ℕ) (w : World) (range : Range) → IsWorld a now w → range_stands w range → ((number : ℕ) → IsTaken a w number → ⊥) → ReadWaits a range.node.0 Waits → ⊥
+lone_range_waits_not a now w range world stands free marked = scan_waits_not a now w world range.node.0 range.scan.prefix stands free marked
+
+-- and with each of its moves what is left of it falls
+pub lone_range_nearer : (a : ArenaView) (now begun moves : ℕ) (past : List Arena) (w : World) (range new : Range) → IsWorld a now w → RangeIsTrue range begun moves past a w → range_stands w range → RangeFollows a range Moved new
+    → (next : World) → ((number : ℕ) → next.chart number ≡ w.chart number) → (then made : ℕ) (since : List Arena) → RangeIsTrue new then made since a next
+    → range_stands next new × (range_left a new < range_left a range)
+lone_range_nearer a now begun moves past w range new world truth stands follows next same then made since true_then =
+    scan_nearer_in a now w next world same range.node.0 new.node.0 begun then (first_slice new.scan.at) (cursor_in range.scan) (cursor_in new.scan) stands truth.scans.held follows.0 true_then.scans.held
+
+-- it begins at a node that is on
+pub range_begins : (a : ArenaView) (now : ℕ) (w : World) → IsWorld a now w → ScanStands w.chart 0 []
+range_begins a now w world = record { role = top; low = 0; posted = true; place = world.index.tree.layer_0 }

@@ -1,0 +1,331 @@
+-- The steps of a range.
+use Rattle.std.proofs.Common.{ℕ, zero, suc, ◌≡◌, ◌<◌, ◌+◌, ◌^◌, ◌⊎◌, inl, inr, List, [], ◌∷◌, length, Option, Some, IsSome, true, false, refl, sym, ap, subst, ◌∙◌, arith}
+use Rattle.std.specs.Prelude.{All}
+use Rattle.std.specs.Int.{w64, to_be_bytes, from_be_bytes, bytes_high_first}
+use Rattle.std.specs.Slice.Scan.{big_endian}
+use Rattle.std.proofs.lemmas.List.{take_all}
+use Rattle.std.proofs.lemmas.List.Elements.{All-nil, All-cons}
+use Rattle.std.proofs.lemmas.Nat.{from_be_bytes-to_be_bytes_8}
+use Rattle.mt_types.specs.Rows.{shown}
+use Rattle.mt_types.specs.declared.row.Row.{Row}
+use Rattle.mt_types.specs.declared.numbers.NodeNo.{NodeNo}
+use Rattle.mt_types.specs.declared.event.Answer.TheVariants.{Rows as RowsAnswer}
+use Rattle.mt_types.specs.declared.refusal.Refusal.TheVariants.{NoMemory}
+use Rattle.mt_slice.specs.Place.{AreBytes, place_of, under, first_slice, slice_number}
+use Rattle.mt_slice.proofs.Slices.{from_be_bytes-big_endian, slice_number-long}
+use Rattle.mt_commit.specs.Log.{LogView}
+use Rattle.mt_border.specs.Border.{BorderView}
+use Rattle.mt_border.specs.Entry.{entry_row, content_row}
+use Rattle.mt_border.specs.Order.{IsBorder}
+use Rattle.mt_border.specs.declared.entry.Entry.{Entry}
+use Rattle.mt_border.specs.declared.entry.Content.{Content}
+use Rattle.mt_border.specs.declared.entry.Content.TheVariants.{Short, Long, Link}
+use Rattle.mt_arena.specs.Node.{border_at}
+use Rattle.mt_arena.specs.Arena.{ArenaView, IsArena}
+use Rattle.mt_chart.specs.Tree.{Arena, Among, first, later, HoldsRow, Below}
+use Rattle.mt_chart.specs.Tree.{PlainEntry}
+use Rattle.mt_chart.specs.Chart.{Holds, OnBorder}
+use Rattle.mt_chart.specs.Walk.{Moves}
+use Rattle.mt_chart.specs.Scan.{OpenRange, Comes}
+use Rattle.mt_chart.specs.ScanRun.{Stood, AllHave, EntriesInOrder}
+use Rattle.mt_chart.specs.KeyAnswer.{as_places, KeysAreBytes}
+use Rattle.mt_chart.proofs.Entries.{InOrder}
+use Rattle.mt_chart.proofs.HeldNodes.{evolves_same, border_is_on}
+use Rattle.mt_chart.proofs.Ranges.{range_kept, range_again, range_visits}
+use Rattle.mt_chart.proofs.TreeLemmas.{rows_in_borders}
+use Rattle.mt_chart.proofs.ScanLemmas.{of_keys}
+use Rattle.mt_tree.specs.Seen.{arena_seen, border_seen, entry_seen, content_seen, content_place, entry_place}
+use Rattle.mt_tree.specs.Descent.{MayVisit, LeadsOn as VisitLeads, TellsVisit, IsHere}
+use Rattle.mt_tree.specs.declared.visit.Visit.TheVariants.{To as VisitTo, Here as VisitHere}
+use Rattle.mt_tree.proofs.DescentLemmas.{slice_of_place}
+use Rattle.mt_tree.proofs.HeldLemmas.{held_may_visit}
+use Rattle.mt_tree.proofs.IntervalLemmas.{entries_in_order}
+use Rattle.mt_tree.proofs.SeenLemmas.{seen-border, among_map}
+use Rattle.mt_chart.specs.Walk.{Moves, to_right, to_link}
+use Rattle.mt_scan.specs.Cursor.{CursorView}
+use Rattle.mt_scan.specs.Onward.{cursor_of, all_cursors, GetsOn, GoesOnward, LeadsOn, GoesFrom}
+use Rattle.mt_scan.specs.Scan.{ScanView, HoldsKey, HoldsKeys, VisitsBorder, outcome_of}
+use Rattle.mt_scan.specs.declared.scan.ScanMove.{ScanMove}
+use Rattle.mt_scan.specs.declared.scan.ScanMove.TheVariants.{Done, To as VisitedTo, Top}
+use Rattle.mt_steps.specs.declared.ranging.Range.{Range}
+use Rattle.mt_steps.specs.declared.ranging.Sought.{Sought}
+use Rattle.mt_steps.specs.declared.ranging.Sought.TheVariants.{To, Here}
+use Rattle.mt_steps.specs.declared.progress.Progress.{Progress}
+use Rattle.mt_steps.specs.declared.progress.Progress.TheVariants.{Moved, Waits, Answered, Refused}
+use Rattle.mt_steps.specs.World.{World, IsWorld}
+use Rattle.mt_steps.specs.Step.{StepLaw, nothing}
+use Rattle.mt_steps.specs.Ranging.{range_request, RangeIsTrue, RangeStays, IsHeldFor, IsAtSlice, KnowsOfSlice, Seeks, ScansOn}
+use Rattle.mt_steps.proofs.FrameLemmas.{goes_same, quiet_same}
+
+-- ---- a slice as a rest of eight bytes
+length_high : (k n : ℕ) → length (bytes_high_first k n) ≡ k
+length_high zero n = refl
+length_high (suc k) n = ap suc (length_high k n)
+
+pub slice_back : (slice : ℕ) (rest : List ℕ) → rest ≡ to_be_bytes w64 slice → slice < 2 ^ 64 → slice_number rest ≡ slice
+slice_back slice rest is below =
+    let eight : length rest ≡ 8 = ap length is ∙ length_high 8 slice in
+    slice_number-long rest (omega (arith, eight)) ∙ (ap (big_endian 0) (take_all 8 rest (omega (arith, eight))) ∙ (sym (from_be_bytes-big_endian rest eight) ∙ (ap (from_be_bytes w64) is ∙ from_be_bytes-to_be_bytes_8 slice below)))
+
+module _ (a : ArenaView) (number slice : ℕ) (rest : List ℕ) (same : slice_number rest ≡ slice) where
+  pub seeks-may : IsHeldFor a number slice → MayVisit a number (slice_number rest)
+  seeks-may h = subst (λ (s : ℕ). MayVisit a number s) (sym same) (held_may_visit a h.now h.twins h.chart h.begun number slice h.prefix h.index h.holds)
+
+  pub seeks-to : (next : NodeNo) → VisitLeads a number rest (VisitTo next) → Seeks a number slice (To next)
+  seeks-to next leads = record {
+    leads = λ now twins chart begun prefix index held.
+        subst (λ (s : ℕ). Holds chart begun next.0 prefix s) same (leads.leads now twins chart begun prefix index (subst (λ (s : ℕ). Holds chart begun number prefix s) (sym same) held));
+  }
+
+  pub seeks-here : VisitLeads a number rest VisitHere → TellsVisit a number rest VisitHere → Seeks a number slice Here
+  seeks-here leads tells = record {
+    leads = λ now twins chart begun prefix index held.
+        let here : IsHere a chart number prefix rest = leads.leads now twins chart begun prefix index (subst (λ (s : ℕ). Holds chart begun number prefix s) (sym same) held) in
+        record {
+          border = here.border;
+          named = here.named;
+          alive = (tells here.border here.named).0;
+          to_right = subst (λ (s : ℕ). Below s (border_seen here.border).right) (slice_of_place rest ∙ same) here.stands.to_right;
+        };
+  }
+
+-- the node to which a visit leads
+pub seeks-moves : (a : ArenaView) (number : ℕ) (rest : List ℕ) (to next : NodeNo) → TellsVisit a number rest (VisitTo to) → ◌≡◌ {A = Sought} (To to) (To next) → Moves (arena_seen a) number next.0
+seeks-moves a number rest to next tells same =
+    let is : to ≡ next = cc in
+    subst (λ (n : NodeNo). Moves (arena_seen a) number n.0) is tells
+
+-- ---- the rows of a border are those of keys
+all_from : {X : Type 0} (P : X → Type 0) (xs : List X) → ((x : X) → Among x xs → P x) → All P xs
+all_from P [] f = All-nil P
+all_from P (x ∷ xs) f = All-cons P x xs (f x first) (all_from P xs (λ y i. f y (later i)))
+
+holds_row : (slice : ℕ) (content : Content) → IsSome (content_row content) → (row : Row) × HoldsRow slice (content_seen content) (content_place slice content) row
+holds_row slice (Short bytes row) some = (row, (refl, refl))
+holds_row slice (Long suffix row) some = (row, (refl, refl))
+holds_row slice (Link next) some = absurd (let clash : false ≡ true = some in cc)
+
+in_order : (es : List PlainEntry) → EntriesInOrder es → InOrder es
+in_order [] o = tt
+in_order (e ∷ es) o = (o.0, in_order es o.1)
+
+-- ---- a visit of a border gets on
+-- the border is not marked deleted, and the slice stands before its right neighbour
+pub record IsAliveFor (b : BorderView) (slice : ℕ) : Type 0 where
+  pub alive : b.version.deleted ≡ false
+  pub to_right : Below slice (border_seen b).right
+
+-- where a border leads, a move leads
+border_moves : (a : ArenaView) (number : ℕ) (b : BorderView) → border_at a.nodes number ≡ Some b → IsBorder b → b.version.deleted ≡ false → (next : ℕ) → LeadsOn b next ⊎ (next ≡ 0)
+    → Moves (arena_seen a) number next ⊎ (next ≡ 0)
+border_moves a number b named sound alive next (inl (inl (right, is, same))) = inl (to_right (border_seen b) right (seen-border a number b named) alive is same)
+border_moves a number b named sound alive next (inl (inr (slice, there))) = inl (to_link (border_seen b) slice next (seen-border a number b named) alive sound.low_fits there refl)
+border_moves a number b named sound alive next (inr home) = inr home
+
+module _ (a : ArenaView) (number : ℕ) (b : BorderView) (c d : CursorView) (visited : ScanMove) (named : border_at a.nodes number ≡ Some b) (sound : IsBorder b) (alive : IsAliveFor b (first_slice c.at))
+    (leads : GoesFrom b visited) (onward : GoesOnward c b visited d) (within : (places : ℕ) → cursor_of places c < all_cursors places) (arena : IsArena a) where
+  pub scans_on : (next : NodeNo) → visited ≡ VisitedTo next → ScansOn a number next.0 c d
+  scans_on next to = record {
+    gets_on = λ places layer. subst (λ (v : ScanMove). GetsOn places c v d) to (onward places (record { layer = layer; to_right = alive.to_right }));
+    within = within;
+    leads = border_moves a number b named sound alive.alive next.0 (subst (λ (v : ScanMove). GoesFrom b v) to leads);
+    sound = arena;
+  }
+
+  pub scans_top : visited ≡ Top → ScansOn a number 0 c d
+  scans_top to = record {
+    gets_on = λ places layer. inl (subst (λ (v : ScanMove). GetsOn places c v d) to (onward places (record { layer = layer; to_right = alive.to_right })));
+    within = within;
+    leads = inr refl;
+    sound = arena;
+  }
+
+module _ (a : ArenaView) (now begun number slice : ℕ) (w : World) (prefix : List ℕ) (b : BorderView) (world : IsWorld a now w) (held : Holds w.chart begun number prefix slice) (named : border_at a.nodes number ≡ Some b) (alive : b.version.deleted ≡ false) where
+  stands : OnBorder (arena_seen a) w.chart number prefix (border_seen b)
+  stands = (border_is_on (arena_seen a) w.chart world.index.tree begun number slice prefix (border_seen b) held (seen-border a number b named) alive).0
+
+  holds_key : (entry : Entry) → Among entry b.live → IsSome (entry_row entry) → HoldsKey prefix entry
+  holds_key entry i some =
+      let (row, holds) = holds_row entry.slice entry.content some in
+      let there = (rows_in_borders (arena_seen a) w.chart world.index.tree (under prefix (entry_place entry)) row).1
+      (record { prefix = prefix; number = number; node = border_seen b; entry = entry_seen entry; place = entry_place entry; on_border = stands; live = among_map entry_seen entry b.live i; holds = holds; is_key = refl }) in
+      let k = world.keys.key_of (under prefix (entry_place entry)) row there in
+      record { key = k.key; bytes = k.bytes; fits = k.fits; place = k.is }
+
+  pub holds_keys : HoldsKeys prefix b.live
+  holds_keys = record { each = all_from (λ (entry : Entry). IsSome (entry_row entry) → HoldsKey prefix entry) b.live holds_key }
+
+-- ---- the step
+module _ (a : ArenaView) (range : Range) where
+  abbrev with_scan : ScanView → NodeNo → Range
+  with_scan scan node = record { start = range.start; limit = range.limit; columns = range.columns; scan = scan; node = node }
+
+  -- one moment more, in which nothing changes
+  later_true : (w : World) (begun moves : ℕ) (past : List Arena) (scan : ScanView) (node : NodeNo) → AreBytes range.start → scan.limit ≡ range.limit → scan.asked ≡ range.columns
+      → OpenRange w.chart begun (Stood (shown range.columns) (arena_seen a ∷ past)) (AllHave (arena_seen a ∷ past)) (place_of range.start) range.limit scan.prefix node.0 scan.at (as_places scan.taken)
+      → RangeIsTrue (with_scan scan node) begun moves (arena_seen a ∷ past) a w
+  later_true w begun moves past scan node bytes limit asked scans = record {
+    bytes = bytes;
+    limit = limit;
+    asked = asked;
+    scans = range_kept begun w.chart w.chart (Stood (shown range.columns) (arena_seen a ∷ past)) (Stood (shown range.columns) (arena_seen a ∷ (arena_seen a ∷ past))) (AllHave (arena_seen a ∷ past)) (AllHave (arena_seen a ∷ (arena_seen a ∷ past)))
+        (place_of range.start) range.limit scan.prefix node.0 scan.at (as_places scan.taken) (evolves_same begun w.chart) (λ key v h. inr h) (λ key t. t.1) scans;
+  }
+
+  abbrev RangeLaw : LogView → Progress → Range → Type 0
+  RangeLaw log p next = (C : ℕ) → StepLaw C a a log log (range_request range) nothing p nothing (RangeIsTrue range) (RangeIsTrue next)
+
+  pub range_waits : (scan : ScanView) → scan ≡ record range.scan { prefix = []; at = under range.scan.prefix range.scan.at } → (log : LogView) → RangeLaw log Waits (with_scan scan (record { 0 = 0 }))
+  range_waits scan is log C = subst (λ (s : ScanView). StepLaw C a a log log (range_request range) nothing Waits nothing (RangeIsTrue range) (RangeIsTrue (with_scan s (record { 0 = 0 })))) (sym is) (record {
+    steps = λ now begun moves past w world before truth. record {
+      goes = goes_same now a w _ [] [] refl world (later_true w begun 0 past (record range.scan { prefix = []; at = under range.scan.prefix range.scan.at }) (record { 0 = 0 }) truth.bytes truth.limit truth.asked
+          (range_again (arena_seen a) w.chart world.index.tree begun _ _ (place_of range.start) range.limit range.scan.prefix range.node.0 range.scan.at (as_places range.scan.taken) truth.scans));
+      does = (quiet_same a log, refl);
+      reserved = refl;
+      bounds = refl;
+      blocked = inl refl;
+      may = tt;
+    };
+  })
+
+  module _ (sought : Sought) (seeks : Seeks a range.node.0 (first_slice range.scan.at) sought) where
+    pub range_moves : (next : NodeNo) → sought ≡ To next → (log : LogView) → RangeLaw log Moved (with_scan range.scan next)
+    range_moves next is log C = record {
+      steps = λ now begun moves past w world before truth.
+          let held = subst (λ (s : Sought). KnowsOfSlice a w.chart begun range.node.0 range.scan.prefix (first_slice range.scan.at) s) is (seeks.leads now w.twins w.chart begun range.scan.prefix world.index truth.scans.held) in
+          record {
+            goes = goes_same now a w _ [] [] refl world (later_true w begun (moves + 1) past range.scan next truth.bytes truth.limit truth.asked (record { held = held; scanned = truth.scans.scanned }));
+            does = (quiet_same a log, refl);
+            reserved = refl;
+            bounds = refl;
+            blocked = inl refl;
+            may = λ get. absurd (let clash : false ≡ true = get in cc);
+          };
+    }
+
+    -- what is true of it stays
+    pub range_moves_stays : (next : NodeNo) → sought ≡ To next → RangeStays a range Moved (with_scan range.scan next)
+    range_moves_stays next is now begun moves past w world truth =
+        let held = subst (λ (s : Sought). KnowsOfSlice a w.chart begun range.node.0 range.scan.prefix (first_slice range.scan.at) s) is (seeks.leads now w.twins w.chart begun range.scan.prefix world.index truth.scans.held) in
+        record { bytes = truth.bytes; limit = truth.limit; asked = truth.asked; scans = record { held = held; scanned = truth.scans.scanned } }
+
+    here_is : (now begun : ℕ) (w : World) → IsWorld a now w → Holds w.chart begun range.node.0 range.scan.prefix (first_slice range.scan.at) → sought ≡ Here → IsAtSlice a range.node.0 (first_slice range.scan.at)
+    here_is now begun w world held is = subst (λ (s : Sought). KnowsOfSlice a w.chart begun range.node.0 range.scan.prefix (first_slice range.scan.at) s) is (seeks.leads now w.twins w.chart begun range.scan.prefix world.index held)
+
+    -- there is a border
+    pub range_border : (now begun moves : ℕ) (past : List Arena) (w : World) → IsWorld a now w → RangeIsTrue range begun moves past a w → sought ≡ Here → IsSome (border_at a.nodes range.node.0)
+    range_border now begun moves past w world truth is =
+        let here = here_is now begun w world truth.scans.held is in
+        subst (λ (b : Option BorderView). IsSome b) (sym here.named) refl
+
+    module _ (b : BorderView) (named : border_at a.nodes range.node.0 ≡ Some b) (is : sought ≡ Here) where
+      same_border : (here : IsAtSlice a range.node.0 (first_slice range.scan.at)) → here.border ≡ b
+      same_border here = let both : ◌≡◌ {A = Option BorderView} (Some here.border) (Some b) = sym here.named ∙ named in cc
+
+      -- whose rows are those of keys
+      pub range_keys : (now begun moves : ℕ) (past : List Arena) (w : World) → IsWorld a now w → RangeIsTrue range begun moves past a w → HoldsKeys range.scan.prefix b.live
+      range_keys now begun moves past w world truth =
+          let here = here_is now begun w world truth.scans.held is in
+          holds_keys a now begun range.node.0 (first_slice range.scan.at) w range.scan.prefix b world truth.scans.held named (ap (λ (x : BorderView). x.version.deleted) (sym (same_border here)) ∙ here.alive)
+
+      -- which is not marked deleted, and in whose interval the slice is
+      pub range_may_get_on : (now begun moves : ℕ) (past : List Arena) (w : World) → IsWorld a now w → RangeIsTrue range begun moves past a w → IsAliveFor b (first_slice range.scan.at)
+      range_may_get_on now begun moves past w world truth =
+          let here = here_is now begun w world truth.scans.held is in
+          subst (λ (x : BorderView). IsAliveFor x (first_slice range.scan.at)) (same_border here) (record { alive = here.alive; to_right = here.to_right })
+
+      module _ (sound : IsBorder b) (visited : ScanMove) (scan : ScanView) (visits : VisitsBorder range.scan b visited scan) where
+        comes : (now begun moves : ℕ) (past : List Arena) (w : World) → IsWorld a now w → RangeIsTrue range begun moves past a w
+            → Comes w.chart begun (Stood (shown range.columns) (arena_seen a ∷ past)) (AllHave (arena_seen a ∷ past)) (place_of range.start) range.limit (outcome_of visited scan)
+        comes now begun moves past w world truth =
+            let here = here_is now begun w world truth.scans.held is in
+            let same = same_border here in
+            range_visits (shown range.columns) (arena_seen a) w.chart world.index.tree begun (Stood (shown range.columns) (arena_seen a ∷ past)) (AllHave (arena_seen a ∷ past)) (λ key row h. inl (row, h, refl)) (λ key t. t.0)
+            (place_of range.start) range.limit range.scan.prefix range.node.0 range.scan.at (as_places range.scan.taken) truth.scans
+            (border_seen b) (seen-border a range.node.0 b named) (ap (λ (x : BorderView). x.version.deleted) (sym same) ∙ here.alive) (in_order (border_seen b).entries (entries_in_order b sound))
+            (subst (λ (x : BorderView). Below (first_slice range.scan.at) (border_seen x).right) same here.to_right)
+            (outcome_of visited scan) (at_own truth.limit truth.asked)
+          where
+            at_own : range.scan.limit ≡ range.limit → range.scan.asked ≡ range.columns → VisitsBorder (record range.scan { limit = range.limit; asked = range.columns }) b visited scan
+            at_own limit asked = subst (λ (s : ScanView). VisitsBorder s b visited scan) (ap (λ (l : ℕ). record range.scan { limit = l }) limit ∙ ap (λ (c : List ℕ). record range.scan { limit = range.limit; asked = c }) asked) visits
+
+        abbrev ComesIf : World → ℕ → List Arena → ScanMove → Type 0
+        ComesIf w begun past v = Comes w.chart begun (Stood (shown range.columns) (arena_seen a ∷ past)) (AllHave (arena_seen a ∷ past)) (place_of range.start) range.limit (outcome_of v scan)
+
+        pub range_goes : scan.limit ≡ range.scan.limit → scan.asked ≡ range.scan.asked → (next : NodeNo) → visited ≡ VisitedTo next → (log : LogView) → RangeLaw log Moved (with_scan scan next)
+        range_goes limit asked next to log C = record {
+          steps = λ now begun moves past w world before truth.
+              let scans = subst (λ (v : ScanMove). ComesIf w begun past v) to (comes now begun moves past w world truth) in
+              record {
+                goes = goes_same now a w _ [] [] refl world (later_true w begun (moves + 1) past scan next truth.bytes (limit ∙ truth.limit) (asked ∙ truth.asked) scans);
+                does = (quiet_same a log, refl);
+                reserved = refl;
+                bounds = refl;
+                blocked = inl refl;
+                may = λ get. absurd (let clash : false ≡ true = get in cc);
+              };
+        }
+
+        pub range_tops : scan.limit ≡ range.scan.limit → scan.asked ≡ range.scan.asked → (visited ≡ Top → scan.prefix ≡ []) → visited ≡ Top → (log : LogView) → RangeLaw log Moved (with_scan scan (record { 0 = 0 }))
+        range_tops limit asked home to log C = record {
+          steps = λ now begun moves past w world before truth.
+              let scans = subst (λ (v : ScanMove). ComesIf w begun past v) to (comes now begun moves past w world truth) in
+              record {
+                goes = goes_same now a w _ [] [] refl world (later_true w begun (moves + 1) past scan (record { 0 = 0 }) truth.bytes (limit ∙ truth.limit) (asked ∙ truth.asked)
+                    (subst (λ (p : List ℕ). OpenRange w.chart begun (Stood (shown range.columns) (arena_seen a ∷ past)) (AllHave (arena_seen a ∷ past)) (place_of range.start) range.limit p 0 scan.at (as_places scan.taken)) (sym (home to)) scans));
+                does = (quiet_same a log, refl);
+                reserved = refl;
+                bounds = refl;
+                blocked = inl refl;
+                may = λ get. absurd (let clash : false ≡ true = get in cc);
+              };
+        }
+
+        -- what is true of it stays
+        pub range_goes_stays : scan.limit ≡ range.scan.limit → scan.asked ≡ range.scan.asked → (next : NodeNo) → visited ≡ VisitedTo next → RangeStays a range Moved (with_scan scan next)
+        range_goes_stays limit asked next to now begun moves past w world truth = record {
+          bytes = truth.bytes;
+          limit = limit ∙ truth.limit;
+          asked = asked ∙ truth.asked;
+          scans = subst (λ (v : ScanMove). ComesIf w begun past v) to (comes now begun moves past w world truth);
+        }
+
+        pub range_tops_stays : scan.limit ≡ range.scan.limit → scan.asked ≡ range.scan.asked → (visited ≡ Top → scan.prefix ≡ []) → visited ≡ Top → RangeStays a range Moved (with_scan scan (record { 0 = 0 }))
+        range_tops_stays limit asked home to now begun moves past w world truth = record {
+          bytes = truth.bytes;
+          limit = limit ∙ truth.limit;
+          asked = asked ∙ truth.asked;
+          scans = subst (λ (p : List ℕ). OpenRange w.chart begun (Stood (shown range.columns) (arena_seen a ∷ past)) (AllHave (arena_seen a ∷ past)) (place_of range.start) range.limit p 0 scan.at (as_places scan.taken)) (sym (home to))
+              (subst (λ (v : ScanMove). ComesIf w begun past v) to (comes now begun moves past w world truth));
+        }
+
+        pub range_answers : visited ≡ Done → (pairs : List (List ℕ × Row)) → pairs ≡ scan.taken → KeysAreBytes scan.taken → (next : Range) (log : LogView) → RangeLaw log (Answered (RowsAnswer pairs)) next
+        range_answers to pairs are bytes next log C = subst (λ (ps : List (List ℕ × Row)). StepLaw C a a log log (range_request range) nothing (Answered (RowsAnswer ps)) nothing (RangeIsTrue range) (RangeIsTrue next)) (sym are) (record {
+          steps = λ now begun moves past w world before truth.
+              let done = subst (λ (v : ScanMove). ComesIf w begun past v) to (comes now begun moves past w world truth) in
+              record {
+                goes = goes_same now a w _ [] [] refl world tt;
+                does = (quiet_same a log, record { bytes = bytes; answers = of_keys (shown range.columns) (arena_seen a ∷ past) range.start range.limit scan.taken truth.bytes bytes done });
+                reserved = refl;
+                bounds = refl;
+                blocked = tt;
+                may = tt;
+              };
+        })
+
+  pub range_fails : (next : Range) (log : LogView) → RangeLaw log (Refused NoMemory) next
+  range_fails next log C = record {
+    steps = λ now begun moves past w world before truth. record {
+      goes = goes_same now a w _ [] [] refl world tt;
+      does = (quiet_same a log, refl, tt);
+      reserved = refl;
+      bounds = refl;
+      blocked = refl;
+      may = tt;
+    };
+  }
+
+-- what a range holds
+pub range_may : (a : ArenaView) (range : Range) (now begun moves : ℕ) (past : List Arena) (w : World) → IsWorld a now w → RangeIsTrue range begun moves past a w → (slice : ℕ) → slice ≡ first_slice range.scan.at → IsHeldFor a range.node.0 slice
+range_may a range now begun moves past w world truth slice is =
+    record { now = now; twins = w.twins; chart = w.chart; begun = begun; prefix = range.scan.prefix; index = world.index; holds = subst (λ (s : ℕ). Holds w.chart begun range.node.0 range.scan.prefix s) (sym is) truth.scans.held }

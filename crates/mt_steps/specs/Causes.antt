@@ -1,0 +1,26 @@
+-- Why a call waits, and why a get or range is refused: what a history doesn't show.
+use Rattle.std.specs.Prelude.{ℕ, ◌≡◌, IsSome, IsSomeAnd, true}
+use Rattle.mt_types.specs.declared.refusal.Refusal.TheVariants.{NoMemory}
+use Rattle.mt_arena.specs.Node.{node_at, border_at}
+use Rattle.mt_arena.specs.Arena.{ArenaView}
+use Rattle.mt_tree.specs.Descent.{is_marked}
+use Rattle.mt_steps.specs.declared.progress.Progress.{Progress}
+use Rattle.mt_steps.specs.declared.progress.Progress.TheVariants.{Waits, Refused}
+
+-- the number names a node that is marked deleted
+abbrev pub IsMarkedAt : ArenaView → ℕ → Type 0
+IsMarkedAt a number = IsSomeAnd (node_at a.nodes number) (λ node. is_marked node ≡ true)
+
+-- the number names a border that is locked
+abbrev pub IsLockedAlready : ArenaView → ℕ → Type 0
+IsLockedAlready a number = IsSomeAnd (border_at a.nodes number) (λ b. b.version.locked ≡ true)
+
+-- a get or range waits only where the node that it visits is marked deleted: never at a lock
+abbrev pub ReadWaits : ArenaView → ℕ → Progress → Type 0
+ReadWaits a number Waits = IsMarkedAt a number
+ReadWaits a number _ = Unit {0}
+
+-- a get or range is refused only for want of memory, and only at a border: a visit of a head or an interior takes none
+abbrev pub ReadFails : ArenaView → ℕ → Progress → Type 0
+ReadFails a number (Refused refusal) = (refusal ≡ NoMemory) × IsSome (border_at a.nodes number)
+ReadFails a number _ = Unit {0}

@@ -1,0 +1,39 @@
+-- What a collection frees, and what it leaves to open calls.
+use Rattle.std.specs.Prelude.{ℕ, zero, suc, ◌≡◌, ◌<◌, ◌≤◌, List, take, drop, All, Some}
+use Rattle.mt_arena.specs.Arena.{ArenaView, without_first_retired}
+use Rattle.mt_chart.specs.Chart.{at_level, spot, gone, Evolves}
+use Rattle.mt_chart.specs.Steps.{SameContent}
+use Rattle.mt_tree.specs.Seen.{arena_seen}
+use Rattle.mt_steps.specs.World.{World, IsWorld, IsTaken, IsSame}
+
+-- the arena, once so many of its retired nodes have been given back, from the first on: their numbers name nothing
+abbrev pub given_back : ℕ → ArenaView → ArenaView
+given_back zero a = a
+given_back (suc count) a = without_first_retired (given_back count a)
+
+-- EXACTLY THOSE THAT WERE RETIRED BEFORE the epoch are freed, which are the first so many, and nothing else is changed
+pub record IsCollected (a after : ArenaView) (before count : ℕ) : Type 0 where
+  pub left : after ≡ given_back count a
+  pub rest : after.retired ≡ drop count a.retired
+  pub freed : All (λ node. node.epoch < before) (take count a.retired)
+  pub kept : All (λ node. before ≤ node.epoch) after.retired
+
+-- each interior that a call has taken, and that is gone, went in the epoch or later
+abbrev pub TakenSince : ℕ → ArenaView → World → Type 0
+TakenSince before a w = (number : ℕ) → IsTaken a w number → (below : ℕ) (prefix : List ℕ) (low epoch : ℕ) →
+    w.chart number ≡ Some (spot (at_level (suc below)) prefix low (gone epoch)) → before ≤ epoch
+
+-- what is left, in a next world: each call that began in the epoch or later may go on, and each number that is taken is
+-- as it was
+pub record Leaves (now before : ℕ) (a after : ArenaView) (w : World) : Type 0 where
+  pub next : World
+  pub world : IsWorld after now next
+  pub content : SameContent (arena_seen a) (arena_seen after)
+  pub evolves : (begun : ℕ) → before ≤ begun → Evolves begun w.chart next.chart
+  pub leaves : (number : ℕ) → IsTaken a w number → IsSame a after w next number
+  pub takes : (number : ℕ) → IsTaken after next number → IsTaken a w number
+
+-- the law of a collection
+abbrev pub CollectLaw : ArenaView → ArenaView → ℕ → Type 0
+CollectLaw a after before = (now : ℕ) (w : World) → IsWorld a now w → TakenSince before a w
+    → Leaves now before a after w

@@ -1,0 +1,126 @@
+-- What is true of a range.
+use Rattle.std.specs.Prelude.{ℕ, ◌≡◌, ◌<◌, ◌+◌, ◌⊎◌, ◌^◌, List, [], ◌∷◌, length, Some, false}
+use Rattle.mt_types.specs.Rows.{shown}
+use Rattle.mt_types.specs.declared.event.Answer.TheVariants.{Rows}
+use Rattle.mt_types.specs.declared.event.Request.{Request}
+use Rattle.mt_types.specs.declared.event.Request.TheVariants.{Range as RangeRequest}
+use Rattle.mt_slice.specs.Place.{AreBytes, place_of, first_slice, under}
+use Rattle.mt_border.specs.Border.{BorderView}
+use Rattle.mt_arena.specs.Node.{border_at}
+use Rattle.mt_arena.specs.Arena.{ArenaView, IsArena}
+use Rattle.mt_chart.specs.Tree.{Arena, Below}
+use Rattle.mt_chart.specs.Chart.{Chart, Holds}
+use Rattle.mt_chart.specs.Steps.{Twin}
+use Rattle.mt_chart.specs.Scan.{OpenRange}
+use Rattle.mt_chart.specs.ScanRun.{Stood, AllHave}
+use Rattle.mt_chart.specs.KeyAnswer.{as_places}
+use Rattle.mt_chart.specs.Walk.{Moves}
+use Rattle.mt_tree.specs.Seen.{arena_seen, border_seen}
+use Rattle.mt_tree.specs.Keeping.{IsIndexAt}
+use Rattle.mt_scan.specs.Cursor.{CursorView}
+use Rattle.mt_scan.specs.Onward.{cursor_in, cursor_of, all_cursors, GetsOn}
+use Rattle.mt_scan.specs.declared.scan.ScanMove.{ScanMove}
+use Rattle.mt_scan.specs.declared.scan.ScanMove.TheVariants.{To as VisitedTo, Top as VisitedTop, Done as VisitDone}
+use Rattle.mt_scan.specs.Scan.{ScanView, VisitsBorder}
+use Rattle.mt_steps.specs.declared.progress.Progress.{Progress}
+use Rattle.mt_steps.specs.declared.progress.Progress.TheVariants.{Moved, Waits, Answered}
+use Rattle.mt_steps.specs.declared.ranging.Range.{Range}
+use Rattle.mt_steps.specs.declared.ranging.Sought.{Sought}
+use Rattle.mt_steps.specs.declared.ranging.Sought.TheVariants.{Again, To, Here}
+use Rattle.mt_steps.specs.Way.{start}
+use Rattle.mt_steps.specs.World.{World, IsWorld}
+
+abbrev pub range_request : Range → Request
+range_request range = RangeRequest range.start range.limit range.columns
+
+-- a range that began in the epoch holds the node where it stands, and all before its cursor is done, by the arenas of
+-- its moments
+pub record RangeIsTrue (range : Range) (begun moves : ℕ) (past : List Arena) (a : ArenaView) (w : World) : Type 0 where
+  pub bytes : AreBytes range.start
+  pub limit : range.scan.limit ≡ range.limit
+  pub asked : range.scan.asked ≡ range.columns
+  pub scans : OpenRange w.chart begun (Stood (shown range.columns) (arena_seen a ∷ past))
+      (AllHave (arena_seen a ∷ past)) (place_of range.start) range.limit
+      range.scan.prefix range.node.0 range.scan.at (as_places range.scan.taken)
+
+-- a call may hold the node for this slice
+pub record IsHeldFor (a : ArenaView) (number slice : ℕ) : Type 0 where
+  pub now : ℕ
+  pub twins : List Twin
+  pub chart : Chart
+  pub begun : ℕ
+  pub prefix : List ℕ
+  pub index : IsIndexAt a now twins chart
+  pub holds : Holds chart begun number prefix slice
+
+-- the border is the one in whose interval the slice is, and is not marked deleted
+pub record IsAtSlice (a : ArenaView) (number slice : ℕ) : Type 0 where
+  pub border : BorderView
+  pub named : border_at a.nodes number ≡ Some border
+  pub alive : border.version.deleted ≡ false
+  pub to_right : Below slice (border_seen border).right
+
+abbrev pub KnowsOfSlice : ArenaView → Chart → ℕ → ℕ → List ℕ → ℕ → Sought → Type 0
+KnowsOfSlice a chart begun number prefix slice Again = Unit {0}
+KnowsOfSlice a chart begun number prefix slice (To next) = Holds chart begun next.0 prefix slice
+KnowsOfSlice a chart begun number prefix slice Here = IsAtSlice a number slice
+
+-- a call that holds the node for a slice knows this after the visit
+pub record Seeks (a : ArenaView) (number slice : ℕ) (sought : Sought) : Type 0 where
+  pub leads : (now : ℕ) (twins : List Twin) (chart : Chart) (begun : ℕ) (prefix : List ℕ) → IsIndexAt a now twins chart
+      → Holds chart begun number prefix slice → KnowsOfSlice a chart begun number prefix slice sought
+
+-- a scan whose cursor is this goes on toward the border of its cursor's slice, which is of 64 bits
+pub record SeeksOn (a : ArenaView) (number next : ℕ) (c : CursorView) : Type 0 where
+  pub fits : first_slice c.at < 2 ^ 64
+  pub moves : Moves (arena_seen a) number next
+
+-- A scan has visited the border, and its cursor has got on, by its number in each number of places that are more than
+-- the layers above it. It goes where the border leads, or back to the head of layer 0. The arena is sound: so its tree
+-- has few layers.
+pub record ScansOn (a : ArenaView) (number next : ℕ) (c d : CursorView) : Type 0 where
+  pub gets_on : (places : ℕ) → length c.prefix < places → GetsOn places c (VisitedTo (record { 0 = next })) d
+  pub within : (places : ℕ) → cursor_of places c < all_cursors places
+  pub leads : Moves (arena_seen a) number next ⊎ (next ≡ 0)
+  pub sound : IsArena a
+
+-- a scan has gone from one node to the next, its cursor as it was or further on
+abbrev pub ScanGoes : ArenaView → ℕ → ℕ → CursorView → CursorView → Type 0
+ScanGoes a number next c d = (SeeksOn a number next c × (d ≡ c)) ⊎ ScansOn a number next c d
+
+-- a scan is taken back to the head of layer 0, with its cursor and its pairs as they were
+abbrev pub restarted : ScanView → ScanView
+restarted scan = record scan { prefix = []; at = under scan.prefix scan.at }
+
+-- the visit of the one border where it stands leads its scan on so
+pub record ScansBorder (a : ArenaView) (range : Range) (visited : ScanMove) (scan : ScanView) : Type 0 where
+  pub border : BorderView
+  pub stands : border_at a.nodes range.node.0 ≡ Some border
+  pub visits : VisitsBorder range.scan border visited scan
+
+-- a scan that goes on is then at the node of this number
+abbrev pub IsThen : ScanMove → ℕ → Type 0
+IsThen (VisitedTo next) number = number ≡ next.0
+IsThen VisitedTop number = number ≡ start.node.0
+IsThen VisitDone number = ⊥
+
+-- on its way its scan is as it was; and else it visits the border where it stands
+abbrev pub Scans : ArenaView → Range → Range → Type 0
+Scans a range new = (new.scan ≡ range.scan)
+    ⊎ ((visited : ScanMove) × ScansBorder a range visited new.scan × IsThen visited new.node.0)
+
+-- A STEP VISITS ONE NODE. Where it moves, its scan gets on; where it waits, it begins its way again; it answers where
+-- that node is the border at which its scan ends, with all that this has taken.
+abbrev pub RangeFollows : ArenaView → Range → Progress → Range → Type 0
+RangeFollows a range Moved new =
+    ScanGoes a range.node.0 new.node.0 (cursor_in range.scan) (cursor_in new.scan) × Scans a range new
+RangeFollows a range Waits new = (new.node ≡ start.node) × (new.scan ≡ restarted range.scan)
+RangeFollows a range (Answered answer) new =
+    (scan : ScanView) × ScansBorder a range VisitDone scan × (answer ≡ Rows scan.taken)
+RangeFollows a range _ new = Unit {0}
+
+-- where it moves, and nothing else happens meanwhile, what was true of it is true again
+abbrev pub RangeStays : ArenaView → Range → Progress → Range → Type 0
+RangeStays a range Moved new = (now begun moves : ℕ) (past : List Arena) (w : World) → IsWorld a now w
+    → RangeIsTrue range begun moves past a w → RangeIsTrue new begun (moves + 1) past a w
+RangeStays a range _ new = Unit {0}
