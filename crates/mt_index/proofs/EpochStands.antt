@@ -115,6 +115,7 @@ kept_for a now before least w (e ∷ es) left order is dead late = All-weaker (�
 pub collects-caused : (s t : MachineView) (h : History) (st : Stands s h) (outcome : Outcome) → Collects s outcome t → IsCaused s Collect outcome t
 collects-caused s t h st outcome o =
     subst (λ (z : Outcome). IsCaused s Collect z t) (sym o.is_outcome) (record {
+      few = o.exactly.few;
       left = ap (λ (m : MachineView). m.tree) o.is_next ∙ o.exactly.left;
       freed = All-weaker (λ (node : Retired). node.epoch < o.before) (AllBeganAfter s.calls.calls) (λ node less k i. let began = since s h st o.before o.oldest k i in omega (arith, less, began)) (take o.count s.tree.retired) o.exactly.freed;
       kept = kept_for s.tree s.epoch o.before 0 st.w s.calls.calls (drop o.count s.tree.retired) st.in_order o.oldest
@@ -130,7 +131,7 @@ collects_none s is = record {
   count = 0;
   after = s.tree;
   oldest = subst (IsOldest s.epoch 0) (sym is) refl;
-  exactly = record { left = refl; rest = refl; freed = All-nil (λ (node : Retired). node.epoch < 0); kept = λ k d within. omega arith };
+  exactly = record { few = omega arith; left = refl; rest = refl; freed = All-nil (λ (node : Retired). node.epoch < 0); kept = λ k d within. omega arith };
   keeps = law_none s.tree 0;
   is_outcome = refl;
   is_next = refl;

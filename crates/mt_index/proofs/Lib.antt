@@ -16,6 +16,7 @@ pub mod EpochStands
 pub mod MachineLemmas
 pub mod CauseLemmas
 pub mod OneStepLemmas
+pub mod EventLemmas
 pub mod AloneStands
 pub mod LawLemmas
 pub mod FeedLemmas

@@ -1,5 +1,5 @@
 -- Why a call waits, fails or is refused, and which nodes are freed: what a history doesn't show.
-use Rattle.std.specs.Prelude.{ℕ, ◌≡◌, ◌≤◌, ◌<◌, ◌⊎◌, List, take, drop, All, Option, Some, None}
+use Rattle.std.specs.Prelude.{ℕ, ◌≡◌, ◌≤◌, ◌<◌, ◌⊎◌, List, length, take, drop, All, Option, Some, None}
 use Rattle.mt_types.specs.declared.refusal.Refusal.{Refusal}
 use Rattle.mt_types.specs.declared.refusal.Refusal.TheVariants.{NoSuchCall, Spent}
 use Rattle.mt_types.specs.declared.event.Event.{Event}
@@ -46,8 +46,9 @@ abbrev pub OneBeganBy : List (ℕ × Call) → Retired → Type 0
 OneBeganBy calls node = (k : ℕ × Call) × Among k calls × (k.1.epoch ≤ node.epoch)
 
 -- WHAT A COLLECTION FREES: exactly the retired nodes since whose retiring each open call began, which are the first so
--- many
+-- many, of those that there are
 pub record FreesSo (s : MachineView) (count : ℕ) (t : MachineView) : Type 0 where
+  pub few : count ≤ length s.tree.retired
   pub left : t.tree ≡ given_back count s.tree
   pub freed : All (AllBeganAfter s.calls.calls) (take count s.tree.retired)
   pub kept : All (OneBeganBy s.calls.calls) (drop count s.tree.retired)

@@ -5,5 +5,6 @@ pub mod Stands
 pub mod Alone
 pub mod Causes
 pub mod OneStep
+pub mod Events
 pub mod Laws
 pub mod Feed

@@ -10,8 +10,7 @@ use Rattle.mt_types.specs.declared.event.Outcome.TheVariants.{Call as Called, Mo
 use Rattle.mt_types.specs.declared.refusal.Refusal.{Refusal}
 use Rattle.mt_types.specs.declared.refusal.Refusal.TheVariants.{NoMemory, NoSuchCall, NoSuchView, Behind, Spent}
 use Rattle.mt_types.specs.declared.row.Row.{Row}
-use Rattle.mt_promise.specs.History.{History, Moment, OpenCall, StandingView, meant_view, moment, rows, Sometime, Throughout, GoesOn}
-use Rattle.mt_promise.specs.Headline.{GetsAreRight, RangesAreRight, ViewsAreRight}
+use Rattle.mt_promise.specs.History.{History, Moment, OpenCall, StandingView, meant_view, moment, rows, Sometime, Throughout}
 use Rattle.mt_promise.specs.Legal.{Legal, begin_fault, held_from, reads_log, is_build}
 use Rattle.mt_types.specs.Limits.{page_fault}
 use Rattle.mt_types.specs.Numbers.{greatest_number}
@@ -385,15 +384,3 @@ Begins s pass request (Called number) t =
 Begins s pass request (Refused refusal) t =
     ((fault_of s request ≡ Some refusal) ⊎ ((fault_of s request ≡ None) × (refusal ≡ NoMemory))) × (t ≡ s)
 Begins s pass request _ t = ⊥
-
--- These events, with these outcomes, led from an empty index of C columns to this machine; each outcome was one that
--- its event may have; so each get, each range and each page of a view is right; and the machine can go on from there.
-pub record IsRun (C : ℕ) (events : List Event) (outcomes : List Outcome) (machine : MachineView)
-    (h : History) : Type 0 where
-  pub told : GoesOn [] events outcomes h
-  pub legal : Legal C h
-  pub gets : GetsAreRight C h
-  pub ranges : RangesAreRight C h
-  pub views : ViewsAreRight C h
-  pub columns : machine.columns ≡ C
-  pub stands : Stands machine h

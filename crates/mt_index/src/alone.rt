@@ -9,6 +9,7 @@ ghost use Rattle.mt_promise.specs.History.{History, moment, rows};
 ghost use Rattle.mt_promise.specs.Alone.{IsRangeOfMap};
 ghost use Rattle.mt_index.specs.Alone.{IsIdle, AnswersPlainly, RefusesPlainly};
 ghost use Rattle.mt_index.specs.Stands.{Stands, HasBounds, fault_of};
+ghost use Rattle.mt_index.specs.Events.{RunsAlone, last_outcome};
 
 use crate::machine::Machine;
 use mt_steps::getting::Get;
@@ -101,6 +102,7 @@ impl Machine {
 
     /// Does what is asked for as a call of pass 0, from its begin to its end, while no other call is open: its answer
     /// is that of a plain map, and a put or remove has made its one commit. It ends: each of its steps brings it nearer.
+    /// What happens is its begin and its steps, each with its cause (`happens`).
     ///
     /// A get, put, remove or tidy costs the visit of each node on its way, a get at most as many as `nodes` tells, and
     /// a put the steps of its splits; a range and a build besides each border that they read. It takes memory for its
@@ -115,6 +117,7 @@ impl Machine {
         requires { IsIdle self.old }
         ensures answered { IfOk result (λ reply. AnswersPlainly self.old request reply self.new) }
         ensures refused { IfErr result (λ refusal. RefusesPlainly self.old request refusal self.new) }
+        ensures happens { RunsAlone self.old request (last_outcome result) self.new }
         ensures fault { MatchOption (fault_of self.old request) (Unit {0}) (λ refusal. result ≡ Err refusal) }
         ensures idle { IsIdle self.new }
         ensures options { self.new.columns ≡ self.old.columns }

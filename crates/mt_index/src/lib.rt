@@ -4,10 +4,12 @@
 
 mod alone;
 mod calls;
+mod epochs;
 mod feed;
 pub mod laws;
 pub mod machine;
 pub mod options;
+mod stepping;
 #[cfg(test)]
 mod tests;
 mod viewing;

@@ -1,6 +1,7 @@
 //! Views in the machine: how one is opened, taken on and read, while it holds the log from where it stands.
 
-ghost use Rattle.std.specs.Prelude.{◌≡◌, ◌+◌, ◌<◌, ◌≤◌, ◌⊎◌, length, IfOk, IfErr, IsSome, OnOk, OnErr, Some, true};
+ghost use Rattle.std.specs.Prelude.{◌≡◌, ◌+◌, ◌<◌, ◌≤◌, ◌⊎◌, length, IfOk, IfErr, IsSome, OnOk, OnErr, MatchOption, Some, Err, true};
+ghost use Rattle.mt_promise.specs.History.{History, moment};
 ghost use Rattle.mt_commit.specs.Laws.{times_held};
 ghost use Rattle.mt_types.specs.Numbers.{greatest_number};
 ghost use Rattle.mt_types.specs.declared.row.Delta.{Delta as DeltaValue};
@@ -10,13 +11,17 @@ ghost use Rattle.mt_commit.specs.declared.log.TheConstants.{MAX_HOLDERS};
 ghost use Rattle.mt_view.specs.State.{StateView, applied, page_of_state};
 ghost use Rattle.mt_views.specs.Views.{state_at, with_state};
 ghost use Rattle.mt_commit.specs.Log.{IsLog};
-ghost use Rattle.mt_index.specs.Stands.{with_view, vacated};
-ghost use Rattle.mt_index.specs.Viewing.{TakesView};
+ghost use Rattle.mt_index.specs.Stands.{Stands, Applies, ReadsView, Drops, HasBounds, with_view, vacated};
+ghost use Rattle.mt_index.specs.Viewing.{TakesView, CopiesView};
 
+use crate::machine::Machine;
 use bytes::Bytes;
 use mt_commit::log::Log;
 use mt_types::copying::TryCopy;
+use mt_types::event::Outcome;
 use mt_types::key::Key;
+use mt_types::limits::page_fault;
+use mt_types::numbers::ViewNo;
 use mt_types::refusal::{NoMemory, Refusal};
 use mt_types::view::Page;
 use mt_view::state::ViewState;
@@ -138,4 +143,81 @@ pub(crate) fn page(
         return Err(NoMemory);
     };
     views.read(number, &start, limit)
+}
+
+impl Machine {
+    /// The number of commits at which a view stands, and a copy of its state: from there on it can be taken on by
+    /// deltas elsewhere. No event happens. O(n log n) in its rows, with an allocation for each. Shares the bytes.
+    ///
+    /// # Errors
+    ///
+    /// `NoSuchView` where no such view stands. Else `NoMemory` for want of it.
+    pub fn view_copy(&self, alloc: Global, view: ViewNo) -> Result<(u64, ViewState), Refusal>
+        ensures copies { IfOk result
+            (λ copy. (state_at view.0 self.now.views.views ≡ Some copy.1) × (copy.0 ≡ copy.1.at)) }
+        ensures exact { IfOk result (λ copy. (h : History) → Stands self.now h
+            → CopiesView self.now.columns (moment h) view.0 copy.1) }
+        ensures fault { MatchOption (state_at view.0 self.now.views.views) (result ≡ Err Refusal.NoSuchView)
+            (λ state. IfErr result (λ refusal. refusal ≡ Refusal.NoMemory)) }
+    {
+        let Some(at) = self.views.at(view.0) else {
+            return Err(Refusal::NoSuchView);
+        };
+        let state = self.views.copy_of(alloc, view.0)?;
+        Ok((at, state))
+    }
+
+    pub(crate) fn apply(&mut self, view: u64) -> Outcome
+        ensures applies { Applies self.old view result self.new }
+        ensures bounds { HasBounds self.old.log.feed self.old.log.keep self.new.log }
+    {
+        let Some(number) = self.views.meant(view) else {
+            if view == 0 {
+                return Outcome::Current;
+            }
+            return Outcome::Refused(Refusal::NoSuchView);
+        };
+        let Some(at) = self.views.at(number) else {
+            unreachable!()
+        };
+        if self.log.number() <= at {
+            return Outcome::Current;
+        }
+        let Ok(()) = take_on(&mut self.log, &mut self.views, number, at) else {
+            return Outcome::Refused(Refusal::NoMemory);
+        };
+        self.log.trim();
+        Outcome::Applied(at + 1)
+    }
+
+    pub(crate) fn view_read(&self, alloc: Global, view: u64, floor: u64, start: &Bytes, limit: u16) -> Outcome
+        ensures { ReadsView self.now view floor start.now limit result }
+    {
+        if let Some(refusal) = page_fault(start.as_slice(), limit) {
+            return Outcome::Refused(refusal);
+        }
+        let Some(at) = self.views.at(view) else {
+            return Outcome::Refused(Refusal::NoSuchView);
+        };
+        if at < floor {
+            return Outcome::Refused(Refusal::Behind(at));
+        }
+        match page(alloc, &self.views, view, start, limit) {
+            Ok(page) => Outcome::View(page),
+            Err(_) => Outcome::Refused(Refusal::NoMemory),
+        }
+    }
+
+    pub(crate) fn view_drop(&mut self, view: u64) -> Outcome
+        ensures drops { Drops self.old view result self.new }
+        ensures bounds { HasBounds self.old.log.feed self.old.log.keep self.new.log }
+    {
+        let Some(at) = self.views.at(view) else {
+            return Outcome::Refused(Refusal::NoSuchView);
+        };
+        self.views.end(view);
+        self.log.unpin(at);
+        self.log.trim();
+        Outcome::Dropped
+    }
 }

@@ -102,6 +102,13 @@ pub none_left : (l : List Retired) → None ≡ slice_get l 0 → l ≡ []
 none_left [] e = refl
 none_left (x ∷ xs) e = absurd (let clash : ◌≡◌ {A = Option Retired} None (Some x) = e in cc)
 
+-- where one is left, fewer were freed than there were
+pub some_left : (l : List Retired) (count : ℕ) (node : Retired) (others : List Retired) → drop count l ≡ node ∷ others → count + 1 ≤ length l
+some_left [] zero node others e = absurd (let clash : ◌≡◌ {A = List Retired} [] (node ∷ others) = e in cc)
+some_left [] (suc count) node others e = absurd (let clash : ◌≡◌ {A = List Retired} [] (node ∷ others) = e in cc)
+some_left (x ∷ xs) zero node others e = omega arith
+some_left (x ∷ xs) (suc count) node others e = let less = some_left xs count node others e in omega (arith, less)
+
 -- the first that is left was retired in the epoch or later, and so were all
 pub all_late : (l : List Retired) (before : ℕ) (node : Retired) (others : List Retired) → IsNonDecreasingBy (λ (r : Retired). r.epoch) l → l ≡ node ∷ others → before ≤ node.epoch → All (λ (r : Retired). before ≤ r.epoch) l
 all_late l before node others sorted is late k d within =

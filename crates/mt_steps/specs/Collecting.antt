@@ -1,5 +1,5 @@
 -- What a collection frees, and what it leaves to open calls.
-use Rattle.std.specs.Prelude.{ℕ, zero, suc, ◌≡◌, ◌<◌, ◌≤◌, List, take, drop, All, Some}
+use Rattle.std.specs.Prelude.{ℕ, zero, suc, ◌≡◌, ◌<◌, ◌≤◌, List, length, take, drop, All, Some}
 use Rattle.mt_arena.specs.Arena.{ArenaView, without_first_retired}
 use Rattle.mt_chart.specs.Chart.{at_level, spot, gone, Evolves}
 use Rattle.mt_chart.specs.Steps.{SameContent}
@@ -13,6 +13,7 @@ given_back (suc count) a = without_first_retired (given_back count a)
 
 -- EXACTLY THOSE THAT WERE RETIRED BEFORE the epoch are freed, which are the first so many, and nothing else is changed
 pub record IsCollected (a after : ArenaView) (before count : ℕ) : Type 0 where
+  pub few : count ≤ length a.retired
   pub left : after ≡ given_back count a
   pub rest : after.retired ≡ drop count a.retired
   pub freed : All (λ node. node.epoch < before) (take count a.retired)

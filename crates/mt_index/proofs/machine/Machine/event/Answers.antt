@@ -1,9 +1,10 @@
-use Rattle.std.proofs.Common.{subst, sym, ◌∷◌}
+use Rattle.std.proofs.Common.{subst, sym, refl, ◌∷◌}
 use Rattle.mt_types.specs.declared.event.Event.{Event}
 use Rattle.mt_promise.specs.History.{happening}
 use Rattle.mt_index.specs.Stands.{Stands}
 use Rattle.mt_index.specs.Causes.{IsCaused}
 use Rattle.mt_index.specs.OneStep.{IsOneStep}
+use Rattle.mt_index.specs.Events.{EventDoes}
 use Rattle.mt_index.proofs.CauseLemmas.{steps-caused}
 use Rattle.mt_index.proofs.OneStepLemmas.{steps-once}
 use Rattle.mt_index.proofs.EventStands.{begins-stands, begins-columns}
@@ -19,6 +20,7 @@ returns-in-Begin c = record {
     subst (λ (e : Event). Stands c.begin.new.self (happening e c.begin.result 0 ∷ h)) (sym c.in-Begin.is)
         (begins-stands c.args.self.now c.begin.new.self c.in-Begin.pass c.in-Begin.request c.begin.result h c.begin.ensures.begins st),
   );
+  does = subst (λ (e : Event). EventDoes c.args.self.now e c.begin.result c.begin.new.self) (sym c.in-Begin.is) c.begin.ensures.begins;
   caused = subst (λ (e : Event). IsCaused c.args.self.now e c.begin.result c.begin.new.self) (sym c.in-Begin.is) tt;
   one_step = subst (λ (e : Event). IsOneStep c.args.self.now e c.begin.result c.begin.new.self) (sym c.in-Begin.is) tt;
   columns = begins-columns c.args.self.now c.begin.new.self c.in-Begin.pass c.in-Begin.request c.begin.result c.begin.ensures.begins;
@@ -30,6 +32,7 @@ returns-in-Step c = record {
   stands = λ h st.
       let (opens, then) = steps-stand c.args.self.now c.step.new.self c.in-Step.call.0 c.step.result h c.step.ensures.steps st in
       (opens, subst (λ (e : Event). Stands c.step.new.self (happening e c.step.result opens ∷ h)) (sym c.in-Step.is) then);
+  does = subst (λ (e : Event). EventDoes c.args.self.now e c.step.result c.step.new.self) (sym c.in-Step.is) c.step.ensures.steps;
   caused = subst (λ (e : Event). IsCaused c.args.self.now e c.step.result c.step.new.self) (sym c.in-Step.is)
       (steps-caused c.args.self.now c.step.new.self c.in-Step.call c.step.result c.step.ensures.steps);
   one_step = subst (λ (e : Event). IsOneStep c.args.self.now e c.step.result c.step.new.self) (sym c.in-Step.is)
@@ -75,3 +78,18 @@ returns-in-Collect-clause-stands c = λ h st. (
 
 pub returns-in-Collect-clause-caused : goal.returns-in-Collect-clause-caused
 returns-in-Collect-clause-caused c = subst (λ (e : Event). IsCaused c.args.self.now e c.collect.result c.collect.new.self) (sym c.in-Collect.is) c.collect.ensures.caused
+
+pub returns-in-Apply-clause-does : goal.returns-in-Apply-clause-does
+returns-in-Apply-clause-does c = subst (λ (e : Event). EventDoes c.args.self.now e c.apply.result c.apply.new.self) (sym c.in-Apply.is) c.apply.ensures.applies
+
+pub returns-in-ViewRead-clause-does : goal.returns-in-ViewRead-clause-does
+returns-in-ViewRead-clause-does c = subst (λ (e : Event). EventDoes c.args.self.now e c.view_read.result c.args.self.now) (sym c.in-ViewRead.is) (c.view_read.ensures, refl)
+
+pub returns-in-ViewDrop-clause-does : goal.returns-in-ViewDrop-clause-does
+returns-in-ViewDrop-clause-does c = subst (λ (e : Event). EventDoes c.args.self.now e c.view_drop.result c.view_drop.new.self) (sym c.in-ViewDrop.is) c.view_drop.ensures.drops
+
+pub returns-in-Advance-clause-does : goal.returns-in-Advance-clause-does
+returns-in-Advance-clause-does c = subst (λ (e : Event). EventDoes c.args.self.now e c.advance.result c.advance.new.self) (sym c.in-Advance.is) c.advance.ensures.advances
+
+pub returns-in-Collect-clause-does : goal.returns-in-Collect-clause-does
+returns-in-Collect-clause-does c = subst (λ (e : Event). EventDoes c.args.self.now e c.collect.result c.collect.new.self) (sym c.in-Collect.is) c.collect.ensures.collects

@@ -7,6 +7,8 @@ use Rattle.mt_promise.specs.History.{History, GoesOn, happening}
 use Rattle.mt_promise.specs.Legal.{Legal}
 use Rattle.mt_promise.proofs.KeepLemmas.{keeps_promise}
 use Rattle.mt_promise.proofs.HistoryLemmas.{GoesOn-append, GoesOn-length}
+use Rattle.mt_index.specs.Events.{AllHappen}
+use Rattle.mt_index.proofs.EventLemmas.{all-more}
 use Rattle.mt_index.proofs.EventStands.{no_fault}
 use Rattle.mt_index.proofs.machine.Machine.run.Goals as goal
 
@@ -14,6 +16,11 @@ pub loop-event-init : goal.loop-event-init
 loop-event-init c =
     record {
       told = ([], rw c.new-outcomes.ensures.items refl, c.in_ok-machine.ensures.opened.2);
+      happen = (
+        c.in_ok-machine.machine,
+        record { columns = c.in_ok-machine.ensures.opened.0; bounds = c.in_ok-machine.ensures.opened.1; stands = c.in_ok-machine.ensures.opened.2 },
+        rw c.new-outcomes.ensures.items refl,
+      );
       columns = c.in_ok-machine.ensures.opened.0;
       bounds = c.in_ok-machine.ensures.opened.1;
       opened = no_fault _ _ c.in_ok-machine.machine (open_fault c.args.options.columns c.args.options.feed c.args.options.keep) c.in_ok-machine.ensures.fault;
@@ -28,6 +35,15 @@ loop-event-preserved c =
     take_more c.args.events.now c.loop-event.event-index c.event-item.result c.loop-event-test.true
     ∙ ap (λ (e : Event). take c.loop-event.event-index c.args.events.now ++ e ∷ []) (sym c.event-item.is) in
     record {
+      happen =
+          let (opened, is, happen) = c.loop-event.invariant.happen in (
+            opened,
+            is,
+            subst (λ (es : List Event). AllHappen opened es c.push.new.self.items c.event-outcome.new.self) (sym more)
+                (subst (λ (os : List Outcome). AllHappen opened (take c.loop-event.event-index c.args.events.now ++ c.event-item.result ∷ []) os c.event-outcome.new.self) (sym c.in-Ok.ensures.items)
+                (all-more opened c.loop-event.machine c.event-outcome.new.self _ _ c.event-item.result c.event-outcome.result happen
+                (record { does = c.event-outcome.ensures.does; caused = c.event-outcome.ensures.caused; one_step = c.event-outcome.ensures.one_step }))),
+          );
       columns = c.event-outcome.ensures.columns ∙ c.loop-event.invariant.columns;
       bounds = (c.event-outcome.ensures.bounds.0 ∙ c.loop-event.invariant.bounds.0, c.event-outcome.ensures.bounds.1 ∙ c.loop-event.invariant.bounds.1);
       opened = c.loop-event.invariant.opened;
@@ -55,6 +71,9 @@ returns-clause-legal c =
         views = promise.views;
         columns = c.loop-event.invariant.columns;
         stands = told.2;
+        first = c.loop-event.invariant.happen.0;
+        opened = c.loop-event.invariant.happen.1;
+        happen = subst (λ (es : List Event). AllHappen c.loop-event.invariant.happen.0 es c.loop-event.outcomes.items c.loop-event.machine) (take_all c.loop-event.event-index c.args.events.now c.loop-event-test.false) c.loop-event.invariant.happen.2;
       },
     )
 

@@ -1,0 +1,86 @@
+-- What an event does to the machine, by its kind, and runs as chains of events.
+use Rattle.std.specs.Prelude.{◌≡◌, ◌⊎◌, List, [], ◌∷◌, ◌++◌, Result, Ok, Err}
+use Rattle.mt_types.specs.declared.numbers.CallNo.{CallNo}
+use Rattle.mt_types.specs.declared.event.Request.{Request}
+use Rattle.mt_types.specs.declared.event.Reply.{Reply}
+use Rattle.mt_types.specs.declared.event.Event.{Event}
+use Rattle.mt_types.specs.declared.event.Event.TheVariants.{Begin, Step, Apply, ViewRead, ViewDrop, Advance, Collect}
+use Rattle.mt_types.specs.declared.event.Outcome.{Outcome}
+use Rattle.mt_types.specs.declared.event.Outcome.TheVariants.{Call as Called, Done, Refused}
+use Rattle.mt_types.specs.declared.refusal.Refusal.{Refusal}
+use Rattle.mt_promise.specs.History.{History, GoesOn}
+use Rattle.mt_promise.specs.Headline.{GetsAreRight, RangesAreRight, ViewsAreRight}
+use Rattle.mt_promise.specs.Legal.{Legal}
+use Rattle.mt_index.specs.declared.options.Options.{Options}
+use Rattle.mt_index.specs.Alone.{pass_0, next_call}
+use Rattle.mt_index.specs.Causes.{IsCaused}
+use Rattle.mt_index.specs.OneStep.{IsOneStep}
+use Rattle.mt_index.specs.Stands.{MachineView, Stands, HasBounds, Begins, Steps, Applies, ReadsView, Drops, Advances, Collects}
+
+-- WHAT AN EVENT DOES, by its kind: it leads from one machine to the next with this outcome, and changes nothing else
+abbrev pub EventDoes : MachineView → Event → Outcome → MachineView → Type 0
+EventDoes s (Begin pass request) outcome t = Begins s pass request outcome t
+EventDoes s (Step call) outcome t = Steps s call.0 outcome t
+EventDoes s (Apply view) outcome t = Applies s view.0 outcome t
+EventDoes s (ViewRead view floor start limit) outcome t = ReadsView s view.0 floor start limit outcome × (t ≡ s)
+EventDoes s (ViewDrop view) outcome t = Drops s view.0 outcome t
+EventDoes s Advance outcome t = Advances s outcome t
+EventDoes s Collect outcome t = Collects s outcome t
+
+-- AN EVENT HAPPENS SO: what it does, for what cause, and that a step of a call is one step of its kind
+pub record Happens (s : MachineView) (event : Event) (outcome : Outcome) (t : MachineView) : Type 0 where
+  pub does : EventDoes s event outcome t
+  pub caused : IsCaused s event outcome t
+  pub one_step : IsOneStep s event outcome t
+
+-- these events happen one after the other, with these outcomes, one for each
+abbrev pub AllHappen : MachineView → List Event → List Outcome → MachineView → Type 0
+AllHappen s [] [] t = t ≡ s
+AllHappen s (event ∷ events) (outcome ∷ outcomes) t =
+    (next : MachineView) × Happens s event outcome next × AllHappen next events outcomes t
+AllHappen s [] (outcome ∷ outcomes) t = ⊥
+AllHappen s (event ∷ events) [] t = ⊥
+
+-- steps of one call, with these outcomes
+abbrev pub StepsHappen : MachineView → CallNo → List Outcome → MachineView → Type 0
+StepsHappen s call [] t = t ≡ s
+StepsHappen s call (outcome ∷ outcomes) t =
+    (next : MachineView) × Happens s (Step call) outcome next × StepsHappen next call outcomes t
+
+-- what a call alone came to
+abbrev pub last_outcome : Result Reply Refusal → Outcome
+last_outcome (Ok reply) = Done reply
+last_outcome (Err refusal) = Refused refusal
+
+-- A CALL ALONE IS ITS BEGIN AND THEN ITS STEPS, of which the last has this outcome
+pub record StepsToEnd (s : MachineView) (request : Request) (last : Outcome) (t : MachineView) : Type 0 where
+  pub begun : MachineView
+  pub begins : Happens s (Begin pass_0 request) (Called (next_call s)) begun
+  pub outcomes : List Outcome
+  pub steps : StepsHappen begun (next_call s) (outcomes ++ last ∷ []) t
+
+-- or its begin, where that is refused
+abbrev pub RunsAlone : MachineView → Request → Outcome → MachineView → Type 0
+RunsAlone s request last t = Happens s (Begin pass_0 request) last t ⊎ StepsToEnd s request last t
+
+-- a machine on which nothing has happened, opened so
+pub record IsOpened (options : Options) (s : MachineView) : Type 0 where
+  pub columns : s.columns ≡ options.columns
+  pub bounds : HasBounds options.feed options.keep s.log
+  pub stands : Stands s []
+
+-- A RUN: these events, with these outcomes, happened one after the other on an empty index, and led to this machine;
+-- each outcome was one that its event may have; so each get, each range and each page of a view is right; and the
+-- machine can go on from there.
+pub record IsRun (options : Options) (events : List Event) (outcomes : List Outcome) (machine : MachineView)
+    (h : History) : Type 0 where
+  pub told : GoesOn [] events outcomes h
+  pub legal : Legal options.columns h
+  pub gets : GetsAreRight options.columns h
+  pub ranges : RangesAreRight options.columns h
+  pub views : ViewsAreRight options.columns h
+  pub columns : machine.columns ≡ options.columns
+  pub stands : Stands machine h
+  pub first : MachineView
+  pub opened : IsOpened options first
+  pub happen : AllHappen first events outcomes machine
