@@ -336,10 +336,14 @@ pub refuses_plainly : (begun s t : MachineView) (request : Request) (number : Ca
 refuses_plainly begun s t request number refusal from steps h stands =
     let (past, there, alone, zero, many) = from.since h stands in
     let (opens, stood) = steps-stand s t number.0 (Refused refusal) past steps there in
+    let after : History = happening (Step number) (Refused refusal) opens ∷ past in
     record {
-      then = happening (Step number) (Refused refusal) opens ∷ past;
+      then = after;
       stands = stood;
-      ran = inr (subst (λ (n : CallNo). RunsThrough pass_0 n request h (Refused refusal) (happening (Step number) (Refused refusal) opens ∷ past)) from.numbered (record { past = past; run = alone; same_pass = zero; note = opens; is_after = refl }));
+      ran = inr (subst (λ (n : CallNo). (ran : RunsThrough pass_0 n request h (Refused refusal) after) × IsShort request (occupied begun.tree.nodes) (length ran.run.steps + 1)) from.numbered (
+        record { past = past; run = alone; same_pass = zero; note = opens; is_after = refl },
+        subst (λ (n : ℕ). IsShort request (occupied begun.tree.nodes) (n + 1)) (sym many) (is_short begun s request number from),
+      ));
       nothing = lone_refusals_do_nothing t.columns request number refusal opens h past alone stood.legal;
     }
 

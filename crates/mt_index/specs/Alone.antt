@@ -6,6 +6,7 @@ use Rattle.mt_types.specs.declared.refusal.Refusal.{Refusal}
 use Rattle.mt_types.specs.declared.event.Request.{Request}
 use Rattle.mt_types.specs.declared.event.Request.TheVariants.{Get}
 use Rattle.mt_types.specs.declared.event.Reply.{Reply}
+use Rattle.mt_types.specs.declared.event.Outcome.{Outcome}
 use Rattle.mt_types.specs.declared.event.Outcome.TheVariants.{Done, Refused}
 use Rattle.mt_promise.specs.History.{History, moment}
 use Rattle.mt_promise.specs.Alone.{RunsThrough, IsTurnedAway, EndsPlainly, EndsRefused}
@@ -38,13 +39,18 @@ pub record AnswersFrom (s : MachineView) (h : History) (request : Request) (repl
   pub plain : EndsPlainly s.columns h pass_0 (next_call s) request reply (moment then)
   pub short : IsShort request (occupied s.tree.nodes) (length ran.run.steps + 1)
 
+-- the call ran from its begin to its end, and nothing else happened; a get has visited no more nodes than there were
+abbrev pub RunsShortly : MachineView → History → Request → Outcome → History → Type 0
+RunsShortly s h request last then = (ran : RunsThrough pass_0 (next_call s) request h last then)
+    × IsShort request (occupied s.tree.nodes) (length ran.run.steps + 1)
+
 -- Its begin was refused, or it ran till it was refused; nothing has come of it.
 pub record RefusesFrom (s : MachineView) (h : History) (request : Request) (refusal : Refusal)
     (t : MachineView) : Type 0 where
   pub then : History
   pub stands : Stands t then
   pub ran : IsTurnedAway pass_0 request h refusal then
-      ⊎ RunsThrough pass_0 (next_call s) request h (Refused refusal) then
+      ⊎ RunsShortly s h request (Refused refusal) then
   pub nothing : EndsRefused h (moment then)
 
 -- wherever the machine stood

@@ -120,7 +120,8 @@ impl Posting {
         Progressed::Moved
     }
 
-    // The same, at a node that is seen.
+    // What is to be named is left out at a node where it may be: a head that is marked deleted, or a full interior of
+    // the greatest level.
     fn leave_out(&mut self, tree: &Tree, node: NodeNo) -> Progressed
         requires walks { self.old.stage ≡ PostStage.Walks node }
         requires cause { CanLeaveOut tree.now self.old node.0 }
@@ -223,7 +224,7 @@ impl Posting {
         }
     }
 
-    // The same, where no number is had for a new root.
+    // What is to be named is left out, since no number is had for a new root.
     fn leave_out_root(&mut self, tree: &Tree, old: Root) -> Progressed
         requires wants { self.old.stage ≡ PostStage.RootWanted old }
         requires may { MayPost tree.now self.old }
@@ -404,7 +405,7 @@ impl Posting {
         Progressed::Moved
     }
 
-    // At each stage.
+    // Takes the step that its stage asks for.
     fn go(&mut self, tree: &mut Tree) -> Progressed
         requires { MayPost tree.old self.old }
         ensures { PostStep tree.old tree.new self.old result self.new }
@@ -423,6 +424,7 @@ impl Posting {
             PostStage::HalfCut(half) => self.unlock_half(tree, half),
         }
     }
+
     /// Visits one node. Constant cost, but for one search among the children of an interior.
     pub fn step(&mut self, tree: &mut Tree) -> Progressed
         requires { MayPost tree.old self.old }

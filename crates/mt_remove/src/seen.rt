@@ -55,7 +55,7 @@ pub fn place_in(tree: &Tree, number: NodeNo, child: NodeNo) -> Option<usize>
     }
 }
 
-/// The same, where the child is not the first.
+/// The place at which an interior names a child, where that isn't the first place.
 pub fn later_place(tree: &Tree, number: NodeNo, child: NodeNo) -> Option<usize>
     requires { IsSome (node_at tree.now.nodes number.0) }
     ensures value { IsSomeAnd (node_at tree.now.nodes number.0) (λ node. result ≡ later_place node child) }

@@ -109,7 +109,7 @@ impl Tidy {
         }
     }
 
-    // At each stage.
+    // Takes the step that its stage asks for.
     fn go(&mut self, tree: &mut Tree, epoch: u64) -> Progress
         requires { MayTidy epoch tree.old self.old }
         ensures { TidyStep epoch tree.old tree.new self.old result self.new }

@@ -1,0 +1,1 @@
+begin 1 get 61 all
