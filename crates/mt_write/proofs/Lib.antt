@@ -6,6 +6,7 @@ pub mod HalfLemmas
 pub mod PostLemmas
 pub mod LinkLemmas
 pub mod NewLayerLemmas
+pub mod StageSteps
 pub mod WorkLemmas
 pub mod WriteLasts
 pub mod LoneWrite

@@ -21,8 +21,9 @@ use Rattle.mt_write.specs.declared.writing.Ending.TheVariants.{Stored as EndStor
 use Rattle.mt_write.specs.declared.writing.Stage.{Stage}
 use Rattle.mt_write.specs.declared.writing.Stage.TheVariants.{Seeks, Locked, Spared, HalfFilled, Halved, Posts, LayerSpared, LayerFilled, LayerReady, Layered, Filled, Made, Taken, Stored, Failed}
 use Rattle.mt_write.specs.declared.writing.Write.{Write as WriteView}
-use Rattle.mt_write.specs.Writing.{ending_stage}
-use Rattle.mt_write.specs.Causes.{IsPosting}
+use Rattle.mt_commit.specs.Log.{LogView}
+use Rattle.mt_write.specs.Writing.{write_request, ending_stage, MayStage, StageLaw}
+use Rattle.mt_write.specs.Causes.{IsPosting, StageWaits, StageFails}
 
 -- it stands at this stage, where it stood
 abbrev pub StaysAt : Way → Way → Stage → Stage → Type 0
@@ -153,3 +154,22 @@ PostsGo a after head _ p new = Unit {0}
 
 abbrev pub PostsFollow : ArenaView → ArenaView → WriteView → Progress → WriteView → Type 0
 PostsFollow a after write p new = PostsGo a after write.head write.stage p new.stage
+
+-- WHAT A STEP DOES, all of it, of a write that is at a stage
+pub record WriteStep (C : ℕ) (a after : ArenaView) (log left : LogView) (write : WriteView) (stage : Stage) (p : Progress)
+    (then : WriteView) : Type 0 where
+  pub request : write_request then ≡ write_request write
+  pub law : StageLaw C a after log left write stage p then
+  pub waits : StageWaits a write.way.node.0 stage p
+  pub fails : StageFails a log write.key write.edit write.way stage p then.stage
+  pub follows : Follows a write.key write.way stage p then.way then.stage
+  pub head : HeadGoes write.head write.way stage p then.way then.head
+  pub posts : PostsGo a after write.head stage p then.stage
+
+-- the same of a step that leaves the log as it is, and makes no columns: whatever log and number of columns there are
+abbrev pub TreeStep : ArenaView → ArenaView → WriteView → Stage → Progress → WriteView → Type 0
+TreeStep a after write stage p then = (C : ℕ) (log : LogView) → WriteStep C a after log log write stage p then
+
+-- and what it asks: there are a log and a number of columns with which the write may be at the stage
+abbrev pub MayBeAt : ArenaView → WriteView → Stage → Type 0
+MayBeAt a write stage = (C : ℕ) × (log : LogView) × MayStage C a log write stage

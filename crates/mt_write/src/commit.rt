@@ -6,16 +6,19 @@ ghost use Rattle.mt_border.specs.Border.{row_at, with_hidden, with_shown, with_v
 ghost use Rattle.mt_arena.specs.Node.{border_at};
 ghost use Rattle.mt_arena.specs.Arena.{with_border_changed};
 ghost use Rattle.mt_tree.specs.BorderSteps.{MayShowAt, ShowsNext, HasRowAt, HidesRowAt, SetsRowAt};
-ghost use Rattle.mt_write.specs.Writing.{put_delta, remove_delta};
+ghost use Rattle.mt_write.specs.Writing.{put_delta, remove_delta, MayStage};
+ghost use Rattle.mt_write.specs.Follows.{WriteStep};
 
+use crate::writing::{Halves, Stage, Write};
 use mt_commit::log::Log;
+use mt_steps::progress::Progress;
 use mt_tree::Tree;
 use mt_types::key::Key;
 use mt_types::numbers::NodeNo;
 use mt_types::row::{Columns, Delta, Row};
 
 // The commit of a row that is in the first unused slot: it is shown, and its delta is logged.
-pub fn show(
+fn show(
     tree: &mut Tree,
     log: &mut Log,
     number: NodeNo,
@@ -45,7 +48,7 @@ pub fn show(
 }
 
 // The commit of a row that is written over another, and its delta is logged.
-pub fn overwrite(
+fn overwrite(
     tree: &mut Tree,
     log: &mut Log,
     number: NodeNo,
@@ -83,14 +86,7 @@ pub fn overwrite(
 }
 
 // The commit of a remove: the row is hidden, and its delta is logged.
-pub fn hide(
-    tree: &mut Tree,
-    log: &mut Log,
-    number: NodeNo,
-    place: usize,
-    key: Key,
-    before: Row,
-) -> u64
+fn hide(tree: &mut Tree, log: &mut Log, number: NodeNo, place: usize, key: Key, before: Row) -> u64
     requires row { IsSomeAnd (border_at tree.old.nodes number.0) (λ b. HasRowAt b place) }
     requires room { 0 < log.old.reserved }
     ensures number { result ≡ newest log.old + 1 }
@@ -107,4 +103,62 @@ pub fn hide(
         after: None,
     });
     commit
+}
+
+impl Write {
+    // Its new row is shown.
+    pub(crate) fn show_row(
+        &mut self,
+        tree: &mut Tree,
+        log: &mut Log,
+        place: usize,
+        key: Key,
+        logged: Columns,
+        split: Option<Halves>,
+    ) -> Progress
+        requires { (C : ℕ) × MayStage C tree.old log.old self.old (Stage.Filled place key logged split) }
+        ensures { (C : ℕ) → WriteStep C tree.old tree.new log.old log.new self.old (Stage.Filled place key logged split)
+            result self.new }
+    {
+        let commit = show(tree, log, self.way.node, place, key, logged);
+        self.stage = Stage::Stored(commit, split);
+        Progress::Committed(commit)
+    }
+
+    // The columns that it has made are written over the row's.
+    pub(crate) fn write_row(
+        &mut self,
+        tree: &mut Tree,
+        log: &mut Log,
+        place: usize,
+        key: Key,
+        columns: Columns,
+        logged: Columns,
+    ) -> Progress
+        requires { (C : ℕ) × MayStage C tree.old log.old self.old (Stage.Made place key columns logged) }
+        ensures { (C : ℕ) → WriteStep C tree.old tree.new log.old log.new self.old (Stage.Made place key columns logged)
+            result self.new }
+    {
+        let commit = overwrite(tree, log, self.way.node, place, key, columns, logged);
+        self.stage = Stage::Stored(commit, None);
+        Progress::Committed(commit)
+    }
+
+    // The row that it removes is hidden.
+    pub(crate) fn hide_row(
+        &mut self,
+        tree: &mut Tree,
+        log: &mut Log,
+        place: usize,
+        key: Key,
+        before: Row,
+    ) -> Progress
+        requires { (C : ℕ) × MayStage C tree.old log.old self.old (Stage.Taken place key before) }
+        ensures { (C : ℕ) → WriteStep C tree.old tree.new log.old log.new self.old (Stage.Taken place key before) result
+            self.new }
+    {
+        let commit = hide(tree, log, self.way.node, place, key, before);
+        self.stage = Stage::Stored(commit, None);
+        Progress::Committed(commit)
+    }
 }

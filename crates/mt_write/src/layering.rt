@@ -13,16 +13,19 @@ ghost use Rattle.mt_steps.specs.Way.{rest_of};
 ghost use Rattle.mt_steps.specs.Step.{MayFail};
 ghost use Rattle.mt_write.specs.Causes.{layer_fault, ReadyFor};
 ghost use Rattle.mt_write.specs.Writing.{Prepares, IsBack, HoldsLong, MovesLong};
+ghost use Rattle.mt_write.specs.Follows.{TreeStep, MayBeAt};
 
-use crate::writing::{Layer, Stage};
+use crate::writing::{Layer, Stage, Write};
 use mt_arena::Node;
 use mt_border::{Border, Content, Entry};
-use mt_steps::way::{Way, rest_of};
 use mt_interior::Head;
+use mt_steps::progress::Progress;
+use mt_steps::way::{Way, rest_of};
 use mt_tree::Tree;
 use mt_types::copying::TryCopy;
 use mt_types::items::Items;
 use mt_types::key::Key;
+use mt_types::numbers::NodeNo;
 use mt_types::refusal::{NoMemory, Refusal};
 use mt_types::row::Sets;
 use std::alloc::Global;
@@ -76,5 +79,58 @@ pub fn spare_layer(
             tree.give_back(root);
             Err(refusal)
         }
+    }
+}
+
+impl Write {
+    // The root of the new layer takes the other key's entry.
+    pub(crate) fn fill_root(
+        &mut self,
+        tree: &mut Tree,
+        layer: Layer,
+        entries: Items<Entry>,
+    ) -> Progress
+        requires { MayBeAt tree.old self.old (Stage.LayerSpared layer entries) }
+        ensures { TreeStep tree.old tree.new self.old (Stage.LayerSpared layer entries) result self.new }
+    {
+        tree.fill_border(layer.root, entries, None);
+        self.stage = Stage::LayerFilled(layer);
+        Progress::Moved
+    }
+
+    // The head of the new layer is unlocked.
+    pub(crate) fn unlock_head(&mut self, tree: &mut Tree, layer: Layer) -> Progress
+        requires { MayBeAt tree.old self.old (Stage.LayerFilled layer) }
+        ensures { TreeStep tree.old tree.new self.old (Stage.LayerFilled layer) result self.new }
+    {
+        tree.unlock_head(layer.head);
+        self.stage = Stage::LayerReady(layer);
+        Progress::Moved
+    }
+
+    // The other key's entry becomes a link to the new layer.
+    pub(crate) fn link_layer(&mut self, tree: &mut Tree, layer: Layer) -> Progress
+        requires { MayBeAt tree.old self.old (Stage.LayerReady layer) }
+        ensures { TreeStep tree.old tree.new self.old (Stage.LayerReady layer) result self.new }
+    {
+        tree.make_link(self.way.node, layer.place, layer.head);
+        self.stage = Stage::Layered(layer.head);
+        Progress::Moved
+    }
+
+    // Unlocks its border, and goes on in the new layer.
+    pub(crate) fn go_below(&mut self, tree: &mut Tree, head: NodeNo) -> Progress
+        requires { MayBeAt tree.old self.old (Stage.Layered head) }
+        ensures { TreeStep tree.old tree.new self.old (Stage.Layered head) result self.new }
+    {
+        let _bytes = rest_of(&self.key, self.way.layer);
+        tree.unlock_border(self.way.node);
+        self.way = Way {
+            node: head,
+            layer: self.way.layer + 1,
+        };
+        self.head = head;
+        self.stage = Stage::Seeks;
+        Progress::Moved
     }
 }

@@ -3,6 +3,7 @@
 
 mod columns;
 mod commit;
+mod ending;
 mod layering;
 mod ready;
 mod splitting;

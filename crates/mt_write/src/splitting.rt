@@ -14,15 +14,17 @@ ghost use Rattle.mt_tree.specs.BorderSteps.{IsUpperHalf, LinksHalfAt};
 ghost use Rattle.mt_steps.specs.Way.{rest_of};
 ghost use Rattle.mt_steps.specs.Step.{MayFail};
 ghost use Rattle.mt_write.specs.Causes.{fill_fault, split_fault, ReadyFor, FailsBy};
-ghost use Rattle.mt_write.specs.Writing.{Prepares, IsBack, IsAbsent, IsHalf, SomeSets, IsHalfOf};
+ghost use Rattle.mt_write.specs.Writing.{Prepares, IsBack, IsAbsent, IsHalf, SomeSets, IsHalfOf, MayStage};
+ghost use Rattle.mt_write.specs.Follows.{WriteStep, TreeStep, MayBeAt};
 
 use crate::ready::fill;
-use crate::writing::{Edit, Halves, Stage};
+use crate::writing::{Edit, Halves, Stage, Write};
 use mt_arena::Node;
 use mt_border::{Border, Entry, Found};
-use mt_steps::way::{Way, rest_of};
 use mt_commit::log::Log;
 use mt_slice::slice_of;
+use mt_steps::progress::Progress;
+use mt_steps::way::{Way, rest_of};
 use mt_tree::Tree;
 use mt_types::items::Items;
 use mt_types::key::Key;
@@ -62,7 +64,7 @@ pub fn spare(
 }
 
 // The half that is spared takes the entries that were copied, and the right link of the left half.
-pub fn fill_spare(tree: &mut Tree, left: NodeNo, half: NodeNo, entries: Items<Entry>)
+fn fill_spare(tree: &mut Tree, left: NodeNo, half: NodeNo, entries: Items<Entry>)
     requires fill { IsSomeAnd (border_at tree.old.nodes left.0)
         (λ b. IsSomeAnd (border_at tree.old.nodes half.0) (λ spare. MayFill spare entries b.right)) }
     ensures filled { IsSomeAnd (border_at tree.old.nodes left.0)
@@ -74,7 +76,7 @@ pub fn fill_spare(tree: &mut Tree, left: NodeNo, half: NodeNo, entries: Items<En
 }
 
 // The half is linked. Gives the half where the key belongs.
-pub fn link_halves(tree: &mut Tree, way: Way, key: &Key, half: NodeNo, cut: usize) -> Way
+fn link_halves(tree: &mut Tree, way: Way, key: &Key, half: NodeNo, cut: usize) -> Way
     requires within { 8 * way.layer ≤ length key.now }
     requires upper { IsSomeAnd (border_at tree.old.nodes way.node.0)
         (λ b. IsSomeAnd (border_at tree.old.nodes half.0) (λ upper. IsUpperHalf b upper cut)) }
@@ -97,7 +99,7 @@ pub fn link_halves(tree: &mut Tree, way: Way, key: &Key, half: NodeNo, cut: usiz
 }
 
 // Writes a new row into the first unused slot of a half.
-pub fn fill_half(
+fn fill_half(
     alloc: Global,
     columns: u8,
     tree: &mut Tree,
@@ -133,5 +135,52 @@ pub fn fill_half(
     ) {
         Ok(stage) => stage,
         Err(refusal) => Stage::Failed(refusal, Some(split)),
+    }
+}
+
+impl Write {
+    // The spared half takes the entries that were copied, and the border's right link.
+    pub(crate) fn fill_spared(
+        &mut self,
+        tree: &mut Tree,
+        half: NodeNo,
+        cut: usize,
+        entries: Items<Entry>,
+    ) -> Progress
+        requires { MayBeAt tree.old self.old (Stage.Spared half cut entries) }
+        ensures { TreeStep tree.old tree.new self.old (Stage.Spared half cut entries) result self.new }
+    {
+        fill_spare(tree, self.way.node, half, entries);
+        self.stage = Stage::HalfFilled { half, cut };
+        Progress::Moved
+    }
+
+    // The half is linked, and the call stands where its key belongs.
+    pub(crate) fn link(&mut self, tree: &mut Tree, half: NodeNo, cut: usize) -> Progress
+        requires { MayBeAt tree.old self.old (Stage.HalfFilled half cut) }
+        ensures { TreeStep tree.old tree.new self.old (Stage.HalfFilled half cut) result self.new }
+    {
+        let left = self.way.node;
+        self.way = link_halves(tree, self.way, &self.key, half, cut);
+        self.stage = Stage::Halved(Halves { left, half });
+        Progress::Moved
+    }
+
+    // The half where its key belongs takes the new row, which isn't shown yet.
+    pub(crate) fn fill_in_half(
+        &mut self,
+        alloc: Global,
+        columns: u8,
+        tree: &mut Tree,
+        log: &mut Log,
+        split: Halves,
+    ) -> Progress
+        requires { MayStage columns tree.old log.old self.old (Stage.Halved split) }
+        ensures { WriteStep columns tree.old tree.new log.old log.new self.old (Stage.Halved split) result self.new }
+    {
+        self.stage = fill_half(
+            alloc, columns, tree, log, self.way, split, &self.key, &self.edit,
+        );
+        Progress::Moved
     }
 }

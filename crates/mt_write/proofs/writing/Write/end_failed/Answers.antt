@@ -1,22 +1,12 @@
-use Rattle.std.proofs.Common.{Option, Some, None, ap}
-use Rattle.mt_write.specs.declared.writing.Halves.{Halves}
 use Rattle.mt_write.specs.declared.writing.Stage.TheVariants.{Failed}
-use Rattle.mt_write.specs.Writing.{stage_held}
-use Rattle.mt_write.proofs.WriteLemmas.{refuses, at_stage, may_at}
-use Rattle.mt_write.proofs.PostLemmas.{headed_end}
+use Rattle.mt_write.proofs.StageSteps.{ends_failed, with_halves, of_halves}
 use Rattle.mt_write.proofs.writing.Write.end_failed.Goals as goal
 
-pub returns-in_default-clause-steps : goal.returns-in_default-clause-steps
-returns-in_default-clause-steps c = λ C log.
-    at_stage C c.args.tree.now c.unlock_border.new.self log log c.args.self.now.key c.args.self.now.edit c.args.self.now.way c.args.self.now.head _ _ _ (Failed c.args.refusal None) (Failed c.args.refusal c.args.split) (ap (λ (s : Option Halves). Failed c.args.refusal s) c.in_default.is)
-    (headed_end C c.args.tree.now c.unlock_border.new.self log log _ c.args.self.now.key c.args.self.now.edit c.args.self.now.way c.args.self.now.head (Failed c.args.refusal None) (stage_held c.args.self.now.way.node.0 (Failed c.args.refusal None)) _ _ _
-    (refuses C c.args.tree.now log c.args.self.now.key c.args.self.now.edit c.args.self.now.way c.args.refusal _ _ c.unlock_border.new.self c.unlock_border.ensures.value c.unlock_border.ensures.keeps))
+pub returns-in_default : goal.returns-in_default
+returns-in_default c = ends_failed c.args.tree.now c.unlock_border.new.self c.args.self.now c.unlock_border.ensures.keeps c.args.refusal c.args.split c.in_default.is c.unlock_border.ensures.value
 
 pub unlock_left-requires : goal.unlock_left-requires
-unlock_left-requires c =
-    let (C, log, may) = c.requires.may in
-    record { may = (C, log, may_at C c.args.tree.now log c.args.self.now.key c.args.self.now.edit c.args.self.now.way c.args.self.now.head (Failed c.args.refusal (Some c.in-Some.split)) (Failed c.args.refusal c.args.split) (ap (λ (s : Option Halves). Failed c.args.refusal s) c.in-Some.is) may) }
+unlock_left-requires c = with_halves c.args.tree.now c.args.self.now (Failed c.args.refusal) c.args.split c.in-Some.split c.in-Some.is c.requires
 
-pub returns-clause-steps : goal.returns-clause-steps
-returns-clause-steps c = λ C log.
-    at_stage C c.args.tree.now c.unlock_left.new.tree log log c.args.self.now.key c.args.self.now.edit c.args.self.now.way c.args.self.now.head _ _ _ _ (Failed c.args.refusal c.args.split) (ap (λ (s : Option Halves). Failed c.args.refusal s) c.in-Some.is) (c.unlock_left.ensures.steps C log)
+pub returns : goal.returns
+returns c = of_halves c.args.tree.now c.unlock_left.new.tree c.args.self.now (Failed c.args.refusal) c.args.split c.in-Some.split c.unlock_left.result c.unlock_left.new.self c.in-Some.is c.unlock_left.ensures

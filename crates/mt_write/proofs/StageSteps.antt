@@ -1,0 +1,442 @@
+-- What a step does, whole, of a write that is at a stage: for each stage.
+use Rattle.std.proofs.Common.{ℕ, zero, suc, ◌≡◌, ◌≢◌, ◌≤◌, ◌<◌, ◌+◌, ◌⊎◌, inl, inr, List, [], ◌∷◌, length, slice_get, arith, Option, Some, None, IsSome, true, false, refl, sym, ap, subst}
+use Rattle.std.specs.Prelude.{IsSomeAnd}
+use Rattle.mt_types.specs.declared.numbers.NodeNo.{NodeNo}
+use Rattle.mt_types.specs.declared.row.Row.{Row}
+use Rattle.mt_types.specs.declared.refusal.Refusal.{Refusal}
+use Rattle.mt_types.specs.declared.event.Answer.{Answer}
+use Rattle.mt_types.specs.declared.event.Answer.TheVariants.{Absent as AbsentAnswer}
+use Rattle.mt_commit.specs.Log.{LogView, newest, with_delta}
+use Rattle.mt_border.specs.Border.{BorderView, row_at, with_entries, with_hidden, with_link_at, with_lock, with_shown, with_split, with_value}
+use Rattle.mt_border.specs.Entry.{entry_row}
+use Rattle.mt_border.specs.declared.entry.Entry.{Entry}
+use Rattle.mt_border.specs.declared.found.Found.TheVariants.{Row as RowFound}
+use Rattle.mt_interior.specs.Head.{with_lock as with_head_lock}
+use Rattle.mt_arena.specs.Node.{head_at, border_at}
+use Rattle.mt_arena.specs.Arena.{ArenaView, with_border_changed, with_head_changed}
+use Rattle.mt_tree.specs.Spares.{MayFill}
+use Rattle.mt_tree.specs.Keeping.{KeepsTree, KeepsUnknown}
+use Rattle.mt_tree.specs.Descent.{found_for}
+use Rattle.mt_tree.specs.BorderSteps.{HasLayerFor, HasRowAt, HidesRowAt, IsUpperHalf, LinksHalfAt, MakesLayerAt, MayShowAt, SetsRowAt, ShowsNext}
+use Rattle.mt_tree.proofs.RowLemmas.{stands_at}
+use Rattle.mt_steps.specs.declared.way.Way.{Way}
+use Rattle.mt_steps.specs.declared.way.Went.{Went}
+use Rattle.mt_steps.specs.declared.way.Went.TheVariants.{To, Here}
+use Rattle.mt_steps.specs.declared.progress.Progress.{Progress}
+use Rattle.mt_steps.specs.declared.progress.Progress.TheVariants.{Moved, Waits, Committed, Answered, Refused}
+use Rattle.mt_steps.specs.Causes.{IsMarkedAt, IsLockedAlready}
+use Rattle.mt_steps.specs.Way.{start, rest_of, prefix_of, MayGo, Visits}
+use Rattle.mt_steps.specs.Step.{MayStep, StepLaw}
+use Rattle.mt_steps.proofs.FoundLemmas.{some_and}
+use Rattle.mt_steps.proofs.GetLemmas.{may_go}
+use Rattle.mt_post.specs.declared.posting.Posting.{Posting}
+use Rattle.mt_post.specs.declared.posting.Progressed.{Progressed}
+use Rattle.mt_post.specs.declared.posting.Progressed.TheVariants.{Moved as PostMoved, Waits as PostAgain, Ended}
+use Rattle.mt_post.specs.Posting.{MayPost, NewPostingIsTrue, PostLaw}
+use Rattle.mt_post.specs.Causes.{PostWaits}
+use Rattle.mt_write.specs.declared.writing.Write.{Write}
+use Rattle.mt_write.specs.declared.writing.Edit.{Edit}
+use Rattle.mt_write.specs.declared.writing.Edit.TheVariants.{Put as PutEdit, Remove as RemoveEdit}
+use Rattle.mt_write.specs.declared.writing.Halves.{Halves}
+use Rattle.mt_write.specs.declared.writing.Layer.{Layer}
+use Rattle.mt_write.specs.declared.writing.Ending.{Ending}
+use Rattle.mt_write.specs.declared.writing.Ending.TheVariants.{Stored as EndStored, Failed as EndFailed}
+use Rattle.mt_write.specs.declared.writing.Stage.{Stage}
+use Rattle.mt_write.specs.declared.writing.Stage.TheVariants.{Seeks, Locked, Spared, HalfFilled, Halved, Posts, LayerSpared, LayerFilled, LayerReady, Layered, Filled, Made, Taken, Stored, Failed}
+use Rattle.mt_write.specs.Writing.{edit_request, write_held, stage_held, written_answer, ending_stage, StageIsTrue, WriteIsTrue, MayStage, IsHalfOf, SomeSets, Prepares, PreparesRemove, put_delta, remove_delta, way_below}
+use Rattle.mt_write.specs.Causes.{StageWaits, StageFails, IsNotFailed, EndsWith, FailsBy, RemoveFailsBy, edit_fault, put_fault, remove_fault, fill_fault}
+use Rattle.mt_write.specs.Follows.{WriteStep, TreeStep, MayBeAt, Follows, HeadGoes, PostsGo, PostingSteps, IsNewPosting, IsMadeReady, IsReadyIn}
+use Rattle.mt_write.proofs.WriteLemmas.{seek_waits, seek_locks, has_border_here, readies, takes, lacks, half_readies, shows, writes, hides, answers, refuses, may_at}
+use Rattle.mt_write.proofs.HalfLemmas.{spared_fill, fills_half, filled_link, links, half_prefix}
+use Rattle.mt_write.proofs.NewLayerLemmas.{spared_root, fills_root, filled_head, unlocks_head, ready_link, links_layer, layered_locked, goes_below}
+use Rattle.mt_write.proofs.PostLemmas.{headed, headed_end, restarts, moves_on, unlocks_left, halves_locked, is_locked_border, posts_on, posts_again, posts_end}
+
+-- ---- at the stage of a write, what was proved of a stage that was taken out of it
+pub at_step : (C : ℕ) (a after : ArenaView) (log left : LogView) (write : Write) (idle stage : Stage) (p : Progress) (then : Write) → write.stage ≡ stage → WriteStep C a after log left (record write { stage = idle }) stage p then → WriteStep C a after log left write write.stage p then
+at_step C a after log left write idle stage p then is s = subst (λ (t : Stage). WriteStep C a after log left write t p then) (sym is)
+    (record { request = s.request; law = s.law; waits = s.waits; fails = s.fails; follows = s.follows; head = s.head; posts = s.posts })
+
+pub may_be : (C : ℕ) (a : ArenaView) (log : LogView) (write : Write) (idle stage : Stage) → write.stage ≡ stage → MayStep a log (write_held write) (WriteIsTrue C write) → MayStage C a log (record write { stage = idle }) stage
+may_be C a log write idle stage is may = may_at C a log write.key write.edit write.way write.head stage write.stage is may
+
+-- ---- the kinds of steps
+module _ (C : ℕ) (a after : ArenaView) (log left : LogView) (write : Write) (stage : Stage) (p : Progress) where
+  -- a step that leads to a stage, in the layer of its head
+  pub leads : (new : Stage) (way : Way) → prefix_of write.key write.way ≡ prefix_of write.key way
+      → StepLaw C a after log left (edit_request write.key write.edit) (stage_held write.way.node.0 stage) p (stage_held way.node.0 new) (λ begun moves past x w. StageIsTrue C write.key write.edit write.way stage begun x w) (λ begun moves past x w. StageIsTrue C write.key write.edit way new begun x w)
+      → StageWaits a write.way.node.0 stage p → StageFails a log write.key write.edit write.way stage p new → Follows a write.key write.way stage p way new → HeadGoes write.head write.way stage p way write.head → PostsGo a after write.head stage p new
+      → WriteStep C a after log left write stage p (record write { way = way; stage = new })
+  leads new way same law waits fails follows head posts = record {
+    request = refl;
+    law = headed C a after log left (edit_request write.key write.edit) write.key write.edit write.way way write.head stage new (stage_held write.way.node.0 stage) (stage_held way.node.0 new) p same law;
+    waits = waits;
+    fails = fails;
+    follows = follows;
+    head = head;
+    posts = posts;
+  }
+
+  -- a step with which it ends, and leaves its record as it is
+  pub closes : StepLaw C a after log left (edit_request write.key write.edit) (stage_held write.way.node.0 stage) p (write_held write) (λ begun moves past x w. StageIsTrue C write.key write.edit write.way stage begun x w) (WriteIsTrue C write)
+      → StageWaits a write.way.node.0 stage p → StageFails a log write.key write.edit write.way stage p write.stage → Follows a write.key write.way stage p write.way write.stage → HeadGoes write.head write.way stage p write.way write.head → PostsGo a after write.head stage p write.stage
+      → WriteStep C a after log left write stage p write
+  closes law waits fails follows head posts = record {
+    request = refl;
+    law = headed_end C a after log left (edit_request write.key write.edit) write.key write.edit write.way write.head stage (stage_held write.way.node.0 stage) (write_held write) p (WriteIsTrue C write) law;
+    waits = waits;
+    fails = fails;
+    follows = follows;
+    head = head;
+    posts = posts;
+  }
+
+-- ---- what the calls of a stage ask for
+-- a row that is found at a place is there
+row_there : (live : List Entry) (place : ℕ) (entry : Entry) → slice_get live place ≡ Some entry → IsSome (entry_row entry) → (place < length live) × IsSome (row_at place live)
+row_there [] place entry e has = absurd (let clash : ◌≡◌ {A = Option Entry} None (Some entry) = e in cc)
+row_there (one ∷ live) zero entry e has =
+    let same : ◌≡◌ {A = Option Entry} (Some one) (Some entry) = e in
+    (omega arith, subst (λ (x : Entry). IsSome (entry_row x)) (let turned : entry ≡ one = cc in turned) has)
+row_there (one ∷ live) (suc place) entry e has = let (less, row) = row_there live place entry e has in (omega (arith, less), row)
+
+module _ (a : ArenaView) (write : Write) where
+  pub may_fill_half : (half : NodeNo) (cut : ℕ) (entries : List Entry) → MayBeAt a write (Spared half cut entries) → IsSomeAnd (border_at a.nodes write.way.node.0) (λ b. IsSomeAnd (border_at a.nodes half.0) (λ spare. MayFill spare entries b.right))
+  may_fill_half half cut entries (C, log, may) = spared_fill C may.begun a may.w write.key write.edit write.way half cut entries may.true.0
+
+  pub may_link_half : (half : NodeNo) (cut : ℕ) → MayBeAt a write (HalfFilled half cut) → IsSomeAnd (border_at a.nodes write.way.node.0) (λ b. IsSomeAnd (border_at a.nodes half.0) (λ upper. IsUpperHalf b upper cut))
+  may_link_half half cut (C, log, may) = filled_link C may.begun a may.w write.key write.edit write.way half cut may.true.0
+
+  pub may_fill_root : (layer : Layer) (entries : List Entry) → MayBeAt a write (LayerSpared layer entries) → IsSomeAnd (border_at a.nodes layer.root.0) (λ b. MayFill b entries None)
+  may_fill_root layer entries (C, log, may) = spared_root C may.begun a may.w write.key write.edit write.way layer entries may.true.0
+
+  pub head_locked : (layer : Layer) → MayBeAt a write (LayerFilled layer) → IsSomeAnd (head_at a.nodes layer.head.0) (λ head. head.version.locked ≡ true)
+  head_locked layer (C, log, may) = filled_head C may.begun a may.w write.key write.edit write.way layer may.true.0
+
+  pub may_link_layer : (layer : Layer) → MayBeAt a write (LayerReady layer) → IsSomeAnd (border_at a.nodes write.way.node.0) (λ b. HasLayerFor a.nodes b layer.place layer.head.0)
+  may_link_layer layer (C, log, may) = ready_link C may.begun a may.w write.key write.edit write.way layer may.true.0
+
+  pub border_locked : (head : NodeNo) → MayBeAt a write (Layered head) → IsSomeAnd (border_at a.nodes write.way.node.0) (λ b. b.version.locked ≡ true)
+  border_locked head (C, log, may) = layered_locked C may.begun a may.w write.key write.edit write.way head may.true.0
+
+  pub left_locked : (split : Halves) (ending : Ending) → MayBeAt a write (ending_stage ending (Some split)) → IsSomeAnd (border_at a.nodes split.left.0) (λ b. b.version.locked ≡ true)
+  left_locked split ending (C, log, may) =
+      let (left, half) = halves_locked C may.begun a may.w write.key write.edit write.way split ending may.true.0 in
+      is_locked_border a may.w split.left.0 left
+
+  pub may_post : (posting : Posting) (ending : Ending) → MayBeAt a write (Posts posting ending) → MayPost a posting
+  may_post posting ending (C, log, may) = record { now = may.now; begun = may.begun; w = may.w; world = may.world; true = may.true.0.0 }
+
+  pub may_show : (log : LogView) (place : ℕ) (stored : List ℕ) (logged : List (List ℕ)) (split : Option Halves) → (C : ℕ) × MayStage C a log write (Filled place stored logged split)
+      → IsSomeAnd (border_at a.nodes write.way.node.0) (λ b. (version : ℕ) → MayShowAt b place version)
+  may_show log place stored logged split (C, may) = let (b, at, f, has) = may.true.0 in subst (λ (o : Option BorderView). IsSomeAnd o (λ x. (version : ℕ) → MayShowAt x place version)) (sym at.named) f.shows
+
+  pub may_write : (log : LogView) (place : ℕ) (stored : List ℕ) (columns logged : List (List ℕ)) → (C : ℕ) × MayStage C a log write (Made place stored columns logged) → IsSomeAnd (border_at a.nodes write.way.node.0) (λ b. HasRowAt b place)
+  may_write log place stored columns logged (C, may) =
+      let (b, at, f) = may.true.0 in
+      let e = stands_at b f.sound (rest_of write.key write.way) (RowFound place) f.there in
+      let (less, row) = row_there b.live place e.entry e.stands e.row in
+      subst (λ (o : Option BorderView). IsSomeAnd o (λ x. HasRowAt x place)) (sym at.named) (record { within = less; row = row })
+
+  pub may_hide : (log : LogView) (place : ℕ) (stored : List ℕ) (before : Row) → (C : ℕ) × MayStage C a log write (Taken place stored before) → IsSomeAnd (border_at a.nodes write.way.node.0) (λ b. HasRowAt b place)
+  may_hide log place stored before (C, may) =
+      let (b, at, f) = may.true.0 in
+      let e = stands_at b f.sound (rest_of write.key write.way) (RowFound place) f.there in
+      let (less, row) = row_there b.live place e.entry e.stands e.row in
+      subst (λ (o : Option BorderView). IsSomeAnd o (λ x. HasRowAt x place)) (sym at.named) (record { within = less; row = row })
+
+  -- the same stage, where the halves are known
+  pub with_halves : (stage : Option Halves → Stage) (split : Option Halves) (halves : Halves) → split ≡ Some halves → MayBeAt a write (stage split) → MayBeAt a write (stage (Some halves))
+  with_halves stage split halves is may = subst (λ (s : Option Halves). MayBeAt a write (stage s)) is may
+
+-- ---- on its way
+pub may_seek : (a : ArenaView) (write : Write) → MayBeAt a write Seeks → MayGo a write.key write.way
+may_seek a write (C, log, may) = may_go a write.key write.way may.now may.begun may.w may.world may.true.0
+
+pub border_here : (a : ArenaView) (write : Write) (went : Went) → Visits a write.key write.way went → went ≡ Here → MayBeAt a write Seeks → IsSome (border_at a.nodes write.way.node.0)
+border_here a write went visits is (C, log, may) = has_border_here a write.key write.way went visits may.now may.begun may.w may.world may.true.0 is
+
+module _ (a : ArenaView) (write : Write) (went : Went) (visits : Visits a write.key write.way went) (idle : write.stage ≡ Seeks) where
+  pub seeks_again : IsMarkedAt a write.way.node.0 → TreeStep a a write Seeks Waits (record write { way = start; head = record { 0 = 0 } })
+  seeks_again marked = λ C log. subst (λ (s : Stage). WriteStep C a a log log write Seeks Waits (record { key = write.key; edit = write.edit; way = start; head = record { 0 = 0 }; stage = s })) (sym idle) (record {
+    request = refl;
+    law = restarts C a write.key write.edit write.way write.head went visits log Seeks refl;
+    waits = inl marked;
+    fails = (tt, tt);
+    follows = (refl, inl (marked, refl));
+    head = tt;
+    posts = tt;
+  })
+
+  pub seeks_on : (next : Way) (head : NodeNo) → went ≡ To next → ((next.layer ≡ write.way.layer) × (head ≡ write.head)) ⊎ ((next.layer ≢ write.way.layer) × (head ≡ next.node)) → TreeStep a a write Seeks Moved (record write { way = next; head = head })
+  seeks_on next head is either = λ C log. subst (λ (s : Stage). WriteStep C a a log log write Seeks Moved (record { key = write.key; edit = write.edit; way = next; head = head; stage = s })) (sym idle) (record {
+    request = refl;
+    law = moves_on C a write.key write.edit write.way write.head went visits log next head is either Seeks refl;
+    waits = tt;
+    fails = (tt, tt);
+    follows = inr (refl, subst (λ (w : Went). Visits a write.key write.way w) is visits);
+    head = either;
+    posts = tt;
+  })
+
+  pub seeks_still : (b : BorderView) → border_at a.nodes write.way.node.0 ≡ Some b → b.version.locked ≡ true → TreeStep a a write Seeks Waits write
+  seeks_still b named is = λ C log.
+      let locked : IsLockedAlready a write.way.node.0 = subst (λ (o : Option BorderView). IsSomeAnd o (λ b. b.version.locked ≡ true)) (sym named) is in
+      subst (λ (s : Stage). WriteStep C a a log log write Seeks Waits (record { key = write.key; edit = write.edit; way = write.way; head = write.head; stage = s })) (sym idle)
+      (leads C a a log log write Seeks Waits Seeks write.way refl (seek_waits C a write.key write.edit write.way went visits Seeks refl log) (inr locked) (tt, tt) (refl, inr (locked, refl)) tt tt)
+
+  pub seek_ends : (after : ArenaView) (b : BorderView) → border_at a.nodes write.way.node.0 ≡ Some b → b.version.locked ≡ false → went ≡ Here → after ≡ with_border_changed a write.way.node.0 (λ b. with_lock b true) → KeepsTree a after → TreeStep a after write Seeks Moved (record write { stage = Locked })
+  seek_ends after b named unlocked is value keeps = λ C log. subst (λ (x : ArenaView). WriteStep C a x log log write Seeks Moved (record write { stage = Locked })) (sym value)
+      (leads C a (with_border_changed a write.way.node.0 (λ b. with_lock b true)) log log write Seeks Moved Locked write.way refl
+      (seek_locks C a write.key write.edit write.way went visits b named unlocked is (subst (λ (x : ArenaView). KeepsTree a x) value keeps) Seeks refl log) tt (tt, tt) (inl (refl, refl)) (inl (refl, refl)) tt)
+
+-- ---- at its border
+-- what a put makes ready, which has split no border
+put_ready : (C : ℕ) (a after : ArenaView) (log left : LogView) (key : List ℕ) (sets : List (ℕ × List ℕ)) (way : Way) (stage : Stage) → Prepares C key sets way a log None stage after left → IsMadeReady stage
+put_ready C a after log left key sets way (Spared half cut entries) f = tt
+put_ready C a after log left key sets way (LayerSpared layer entries) f = tt
+put_ready C a after log left key sets way (Filled place stored logged split) f = f.0
+put_ready C a after log left key sets way (Made place stored columns logged) f = tt
+put_ready C a after log left key sets way (Failed refusal split) f = f.0
+put_ready C a after log left key sets way Seeks f = absurd f
+put_ready C a after log left key sets way Locked f = absurd f
+put_ready C a after log left key sets way (HalfFilled half cut) f = absurd f
+put_ready C a after log left key sets way (Halved split) f = absurd f
+put_ready C a after log left key sets way (Posts posting ending) f = absurd f
+put_ready C a after log left key sets way (LayerFilled layer) f = absurd f
+put_ready C a after log left key sets way (LayerReady layer) f = absurd f
+put_ready C a after log left key sets way (Layered head) f = absurd f
+put_ready C a after log left key sets way (Taken place stored before) f = absurd f
+put_ready C a after log left key sets way (Stored number split) f = absurd f
+
+-- what a remove makes ready
+remove_ready : (a : ArenaView) (log left : LogView) (key : List ℕ) (way : Way) (stage : Stage) → PreparesRemove key way a log (Some stage) left → IsMadeReady stage
+remove_ready a log left key way (Taken place stored before) f = tt
+remove_ready a log left key way (Failed refusal split) f = f.0
+remove_ready a log left key way Seeks f = absurd f
+remove_ready a log left key way Locked f = absurd f
+remove_ready a log left key way (Spared half cut entries) f = absurd f
+remove_ready a log left key way (HalfFilled half cut) f = absurd f
+remove_ready a log left key way (Halved split) f = absurd f
+remove_ready a log left key way (Posts posting ending) f = absurd f
+remove_ready a log left key way (LayerSpared layer entries) f = absurd f
+remove_ready a log left key way (LayerFilled layer) f = absurd f
+remove_ready a log left key way (LayerReady layer) f = absurd f
+remove_ready a log left key way (Layered head) f = absurd f
+remove_ready a log left key way (Filled place stored logged split) f = absurd f
+remove_ready a log left key way (Made place stored columns logged) f = absurd f
+remove_ready a log left key way (Stored number split) f = absurd f
+
+module _ (C : ℕ) (a after : ArenaView) (log left : LogView) (write : Write) where
+  -- what is found at its border for its key
+  abbrev fault_at : Edit → BorderView → Option Refusal
+  fault_at edit b = edit_fault a log edit b (found_for (rest_of write.key write.way) b.live)
+
+  pub readies_put : (sets : List (ℕ × List ℕ)) (stage : Stage) → write.edit ≡ PutEdit sets → Prepares C write.key sets write.way a log None stage after left
+      → IsSomeAnd (border_at a.nodes write.way.node.0) (λ b. FailsBy (put_fault a log b (found_for (rest_of write.key write.way) b.live)) None stage) → WriteStep C a after log left write Locked Moved (record write { stage = stage })
+  readies_put sets stage is ready fault =
+      leads C a after log left write Locked Moved stage write.way refl (readies C a log write.key sets write.way stage Locked write.edit after left refl is ready) tt
+      (tt, subst (λ (e : Edit). IsSomeAnd (border_at a.nodes write.way.node.0) (λ b. FailsBy (fault_at e b) None stage)) (sym is) fault)
+      (put_ready C a after log left write.key sets write.way stage ready, refl) refl tt
+
+  pub shows_row : (place : ℕ) (stored : List ℕ) (logged : List (List ℕ)) (split : Option Halves) (number : ℕ) → number ≡ newest log + 1 → after ≡ with_border_changed a write.way.node.0 (λ b. with_shown b place (newest log + 1)) → ShowsNext a after write.way.node.0 (newest log + 1)
+      → left ≡ with_delta log (put_delta (newest log + 1) stored None logged) → 1 ≤ log.reserved → WriteStep C a after log left write (Filled place stored logged split) (Committed number) (record write { stage = Stored number split })
+  shows_row place stored logged split number next shown keeps appended room =
+      leads C a after log left write (Filled place stored logged split) (Committed number) (Stored number split) write.way refl
+      (shows C a log write.key write.edit write.way split place stored logged number after left next shown keeps appended room) tt (tt, tt) (tt, (refl, refl)) refl tt
+
+  pub writes_row : (place : ℕ) (stored : List ℕ) (columns logged : List (List ℕ)) (number : ℕ) → number ≡ newest log + 1 → after ≡ with_border_changed a write.way.node.0 (λ b. with_value b place (record { version = newest log + 1; columns = columns }))
+      → SetsRowAt a after write.way.node.0 place (record { version = newest log + 1; columns = columns }) → IsSomeAnd (border_at a.nodes write.way.node.0) (λ b. left ≡ with_delta log (put_delta (newest log + 1) stored (row_at place b.live) logged)) → 1 ≤ log.reserved
+      → WriteStep C a after log left write (Made place stored columns logged) (Committed number) (record write { stage = Stored number None })
+  writes_row place stored columns logged number next written sets appended room =
+      leads C a after log left write (Made place stored columns logged) (Committed number) (Stored number None) write.way refl
+      (writes C a log write.key write.edit write.way place stored columns logged number after left next written sets appended room) tt (tt, tt) (tt, (refl, refl)) refl tt
+
+  pub hides_row : (place : ℕ) (stored : List ℕ) (before : Row) (number : ℕ) → number ≡ newest log + 1 → after ≡ with_border_changed a write.way.node.0 (λ b. with_hidden b place) → HidesRowAt a after write.way.node.0 place → left ≡ with_delta log (remove_delta (newest log + 1) stored before) → 1 ≤ log.reserved
+      → WriteStep C a after log left write (Taken place stored before) (Committed number) (record write { stage = Stored number None })
+  hides_row place stored before number next hidden keeps appended room =
+      leads C a after log left write (Taken place stored before) (Committed number) (Stored number None) write.way refl
+      (hides C a log write.key write.edit write.way place stored before number after left next hidden keeps appended room) tt (tt, tt) (tt, (refl, refl)) refl tt
+
+module _ (C : ℕ) (a : ArenaView) (log left : LogView) (write : Write) (is : write.edit ≡ RemoveEdit) (made : Option Stage) (ready : PreparesRemove write.key write.way a log made left)
+    (fault : IsSomeAnd (border_at a.nodes write.way.node.0) (λ b. RemoveFailsBy (remove_fault log (found_for (rest_of write.key write.way) b.live)) made)) where
+  pub readies_remove : (stage : Stage) → made ≡ Some stage → WriteStep C a a log left write Locked Moved (record write { stage = stage })
+  readies_remove stage made_is =
+      let prepared = subst (λ (s : Option Stage). PreparesRemove write.key write.way a log s left) made_is ready in
+      leads C a a log left write Locked Moved stage write.way refl (takes C a log write.key write.edit write.way stage Locked left refl is prepared) tt (
+        tt,
+        subst (λ (e : Edit). IsSomeAnd (border_at a.nodes write.way.node.0) (λ b. FailsBy (edit_fault a log e b (found_for (rest_of write.key write.way) b.live)) None stage)) (sym is)
+            (subst (λ (s : Option Stage). IsSomeAnd (border_at a.nodes write.way.node.0) (λ b. RemoveFailsBy (remove_fault log (found_for (rest_of write.key write.way) b.live)) s)) made_is fault),
+      )
+      (remove_ready a log left write.key write.way stage prepared, refl) refl tt
+
+  pub finds_none : (after : ArenaView) → made ≡ None → after ≡ with_border_changed a write.way.node.0 (λ b. with_lock b false) → KeepsTree a after → WriteStep C a after log left write Locked (Answered AbsentAnswer) write
+  finds_none after none value keeps =
+      let (lacking, same) = subst (λ (s : Option Stage). PreparesRemove write.key write.way a log s left) none ready in
+      closes C a after log left write Locked (Answered AbsentAnswer) (lacks C a log write.key write.edit write.way (write_held write) (WriteIsTrue C write) after is value keeps lacking left same) tt
+      (subst (λ (e : Edit). IsSomeAnd (border_at a.nodes write.way.node.0) (λ b. edit_fault a log e b (found_for (rest_of write.key write.way) b.live) ≡ None)) (sym is)
+      (subst (λ (s : Option Stage). IsSomeAnd (border_at a.nodes write.way.node.0) (λ b. RemoveFailsBy (remove_fault log (found_for (rest_of write.key write.way) b.live)) s)) none fault)) tt refl tt
+
+-- ---- a split
+one_or_none : {x : Halves} → ◌≡◌ {A = Option Halves} (Some x) None → ⊥
+one_or_none e = cc
+
+-- what is made ready in a half
+half_ready : (C : ℕ) (a after : ArenaView) (log left : LogView) (key : List ℕ) (sets : List (ℕ × List ℕ)) (way : Way) (split : Halves) (stage : Stage) → Prepares C key sets way a log (Some split) stage after left → IsReadyIn split stage
+half_ready C a after log left key sets way split (Filled place stored logged halves) f = f.0
+half_ready C a after log left key sets way split (Failed refusal halves) f = f.0
+half_ready C a after log left key sets way split (Spared half cut entries) f = absurd (one_or_none f.0)
+half_ready C a after log left key sets way split (LayerSpared layer entries) f = absurd (one_or_none f.0)
+half_ready C a after log left key sets way split (Made place stored columns logged) f = absurd (one_or_none f.0)
+half_ready C a after log left key sets way split Seeks f = absurd f
+half_ready C a after log left key sets way split Locked f = absurd f
+half_ready C a after log left key sets way split (HalfFilled half cut) f = absurd f
+half_ready C a after log left key sets way split (Halved halves) f = absurd f
+half_ready C a after log left key sets way split (Posts posting ending) f = absurd f
+half_ready C a after log left key sets way split (LayerFilled layer) f = absurd f
+half_ready C a after log left key sets way split (LayerReady layer) f = absurd f
+half_ready C a after log left key sets way split (Layered head) f = absurd f
+half_ready C a after log left key sets way split (Taken place stored before) f = absurd f
+half_ready C a after log left key sets way split (Stored number halves) f = absurd f
+
+edit_ready : (C : ℕ) (a after : ArenaView) (log left : LogView) (key : List ℕ) (edit : Edit) (way : Way) (split : Halves) (stage : Stage) → SomeSets edit (λ sets. Prepares C key sets way a log (Some split) stage after left) → IsReadyIn split stage
+edit_ready C a after log left key (PutEdit sets) way split stage ready = half_ready C a after log left key sets way split stage ready
+edit_ready C a after log left key RemoveEdit way split stage ready = absurd ready
+
+pub readies_half : (C : ℕ) (a after : ArenaView) (log left : LogView) (write : Write) (split : Halves) (stage : Stage) → SomeSets write.edit (λ sets. Prepares C write.key sets write.way a log (Some split) stage after left)
+    → IsSomeAnd (border_at a.nodes write.way.node.0) (λ b. FailsBy (fill_fault log b) (Some split) stage) → WriteStep C a after log left write (Halved split) Moved (record write { stage = stage })
+readies_half C a after log left write split stage ready fault =
+    leads C a after log left write (Halved split) Moved stage write.way refl (half_readies C a log write.key write.edit write.way split stage after left ready) tt (tt, fault)
+    (edit_ready C a after log left write.key write.edit write.way split stage ready, refl) refl tt
+
+same_layer : (a : ArenaView) (key : List ℕ) (way goal : Way) (half : NodeNo) → IsSomeAnd (border_at a.nodes half.0) (λ upper. IsHalfOf key way half upper.low goal) → goal.layer ≡ way.layer
+same_layer a key way goal half either =
+    let (r, read, one) = some_and _ (border_at a.nodes half.0) either in
+    elim one [ inl left ↦ ap (λ (w : Way). w.layer) left.1 | inr right ↦ ap (λ (w : Way). w.layer) right.1 ]
+
+module _ (a after : ArenaView) (write : Write) where
+  pub fills_spared : (half : NodeNo) (cut : ℕ) (entries : List Entry) → IsSomeAnd (border_at a.nodes write.way.node.0) (λ b. after ≡ with_border_changed a half.0 (λ spare. with_entries spare entries b.right)) → KeepsUnknown a after half.0
+      → TreeStep a after write (Spared half cut entries) Moved (record write { stage = HalfFilled half cut })
+  fills_spared half cut entries filled keeps = λ C log.
+      leads C a after log log write (Spared half cut entries) Moved (HalfFilled half cut) write.way refl (fills_half C a log write.key write.edit write.way half cut entries after filled keeps) tt (tt, tt) (refl, refl) refl tt
+
+  pub links_half : (half : NodeNo) (cut : ℕ) (goal : Way) → IsSomeAnd (border_at a.nodes half.0) (λ upper. after ≡ with_border_changed a write.way.node.0 (λ b. with_split b cut (record { low = upper.low; node = half }))) → LinksHalfAt a after write.way.node.0 half.0
+      → IsSomeAnd (border_at a.nodes half.0) (λ upper. IsHalfOf write.key write.way half upper.low goal) → TreeStep a after write (HalfFilled half cut) Moved (record write { way = goal; stage = Halved (record { left = write.way.node; half = half }) })
+  links_half half cut goal linked keeps either = λ C log.
+      leads C a after log log write (HalfFilled half cut) Moved (Halved (record { left = write.way.node; half = half })) goal (half_prefix a write.key write.way goal half either)
+      (links C a log write.key write.edit write.way half cut goal after linked keeps either) tt (tt, tt) (refl, same_layer a write.key write.way goal half either) refl tt
+
+  -- ---- a new layer
+  pub fills_layer : (layer : Layer) (entries : List Entry) → after ≡ with_border_changed a layer.root.0 (λ b. with_entries b entries None) → KeepsUnknown a after layer.root.0 → TreeStep a after write (LayerSpared layer entries) Moved (record write { stage = LayerFilled layer })
+  fills_layer layer entries filled keeps = λ C log.
+      leads C a after log log write (LayerSpared layer entries) Moved (LayerFilled layer) write.way refl (fills_root C a log write.key write.edit write.way layer entries after filled keeps) tt (tt, tt) (refl, refl) refl tt
+
+  pub unlocks_layer : (layer : Layer) → after ≡ with_head_changed a layer.head.0 (λ head. with_head_lock head false) → KeepsTree a after → TreeStep a after write (LayerFilled layer) Moved (record write { stage = LayerReady layer })
+  unlocks_layer layer unlocked keeps = λ C log.
+      leads C a after log log write (LayerFilled layer) Moved (LayerReady layer) write.way refl (unlocks_head C a log write.key write.edit write.way layer after unlocked keeps) tt (tt, tt) (refl, refl) refl tt
+
+  pub links_below : (layer : Layer) → after ≡ with_border_changed a write.way.node.0 (λ b. with_link_at b layer.place layer.head) → MakesLayerAt a after write.way.node.0 layer.place layer.head.0 → TreeStep a after write (LayerReady layer) Moved (record write { stage = Layered layer.head })
+  links_below layer linked makes = λ C log.
+      leads C a after log log write (LayerReady layer) Moved (Layered layer.head) write.way refl (links_layer C a log write.key write.edit write.way layer after linked makes) tt (tt, tt) (refl, refl) refl tt
+
+  module _ (keeps : KeepsTree a after) where
+    pub enters_layer : (head : NodeNo) → after ≡ with_border_changed a write.way.node.0 (λ b. with_lock b false) → TreeStep a after write (Layered head) Moved (record write { way = way_below write.way head; head = head; stage = Seeks })
+    enters_layer head unlocked = λ C log. record {
+      request = refl;
+      law = goes_below C a log write.key write.edit write.way write.head head after unlocked keeps;
+      waits = tt;
+      fails = (tt, tt);
+      follows = (refl, refl);
+      head = refl;
+      posts = tt;
+    }
+
+    -- ---- the end
+    pub ends_stored : (commit : ℕ) (split : Option Halves) (answer : Answer) → split ≡ None → write.stage ≡ Seeks → answer ≡ written_answer write.edit commit → after ≡ with_border_changed a write.way.node.0 (λ b. with_lock b false) → TreeStep a after write (Stored commit split) (Answered answer) write
+    ends_stored commit split answer none idle answer_is unlocked = λ C log. subst (λ (s : Option Halves). WriteStep C a after log log write (Stored commit s) (Answered answer) write) (sym none)
+        (closes C a after log log write (Stored commit None) (Answered answer) (answers C a log write.key write.edit write.way commit answer answer_is (write_held write) (WriteIsTrue C write) after unlocked keeps) tt
+        (tt, subst (λ (s : Stage). IsNotFailed s) (sym idle) tt) refl refl tt)
+
+    pub ends_failed : (refusal : Refusal) (split : Option Halves) → split ≡ None → after ≡ with_border_changed a write.way.node.0 (λ b. with_lock b false) → TreeStep a after write (Failed refusal split) (Refused refusal) write
+    ends_failed refusal split none unlocked = λ C log. subst (λ (s : Option Halves). WriteStep C a after log log write (Failed refusal s) (Refused refusal) write) (sym none)
+        (closes C a after log log write (Failed refusal None) (Refused refusal) (refuses C a log write.key write.edit write.way refusal (write_held write) (WriteIsTrue C write) after unlocked keeps) tt (refl, refl) refl refl tt)
+
+    -- the left half is unlocked, and the posting of the other begins
+    pub begins_posting : (split : Halves) (posting : Posting) → IsNewPosting write.head split.half posting → NewPostingIsTrue posting → (b : BorderView) → border_at a.nodes split.half.0 ≡ Some b → posting.low ≡ b.low → after ≡ with_border_changed a split.left.0 (λ b. with_lock b false)
+        → (ending : Ending) → TreeStep a after write (ending_stage ending (Some split)) Moved (record write { way = record { node = split.half; layer = write.way.layer }; stage = Posts posting ending })
+    begins_posting split posting new begins b named low unlocked (EndStored commit) = λ C log. record {
+      request = refl;
+      law = unlocks_left C a log write.key write.edit write.way split after unlocked keeps write.head posting new.same_head new.same_half b named low begins (EndStored commit);
+      waits = tt;
+      fails = (tt, tt);
+      follows = (refl, λ e. one_or_none e);
+      head = refl;
+      posts = new;
+    }
+    begins_posting split posting new begins b named low unlocked (EndFailed refusal) = λ C log. record {
+      request = refl;
+      law = unlocks_left C a log write.key write.edit write.way split after unlocked keeps write.head posting new.same_head new.same_half b named low begins (EndFailed refusal);
+      waits = tt;
+      fails = (tt, refl);
+      follows = (refl, λ e. one_or_none e);
+      head = refl;
+      posts = new;
+    }
+
+  -- the same stage, where the halves are known
+  pub of_halves : (stage : Option Halves → Stage) (split : Option Halves) (halves : Halves) (p : Progress) (then : Write) → split ≡ Some halves → TreeStep a after write (stage (Some halves)) p then → TreeStep a after write (stage split) p then
+  of_halves stage split halves p then is steps = subst (λ (s : Option Halves). TreeStep a after write (stage s) p then) (sym is) steps
+
+  -- ---- a step of its posting
+  module _ (posting then : Posting) (p : Progressed) (law : PostLaw a after posting p then) (steps : PostingSteps a after posting p then) where
+    pub posting_moves : (ending : Ending) → p ≡ PostMoved → TreeStep a after write (Posts posting ending) Moved (record write { stage = Posts then ending })
+    posting_moves ending is = λ C log. record {
+      request = refl;
+      law = posts_on C a after log write.key write.edit write.way write.head posting then ending steps.same (subst (λ (q : Progressed). PostLaw a after posting q then) is law);
+      waits = tt;
+      fails = (tt, goes_on ending);
+      follows = ((refl, (subst (λ (q : Progressed). PostingSteps a after posting q then) is steps).gets_on), refl);
+      head = refl;
+      posts = subst (λ (q : Progressed). PostingSteps a after posting q then) is steps;
+    }
+      where
+        goes_on : (ending : Ending) → EndsWith ending (Posts then ending)
+        goes_on (EndStored commit) = tt
+        goes_on (EndFailed refusal) = tt
+
+    pub posting_waits : (ending : Ending) → p ≡ PostAgain → PostWaits a posting p → TreeStep a after write (Posts posting ending) Waits (record write { stage = Posts then ending })
+    posting_waits ending is waits = λ C log. record {
+      request = refl;
+      law = posts_again C a after log write.key write.edit write.way write.head posting then ending steps.same (subst (λ (q : Progressed). PostLaw a after posting q then) is law);
+      waits = subst (λ (q : Progressed). PostWaits a posting q) is waits;
+      fails = (tt, goes_on ending);
+      follows = (refl, refl);
+      head = refl;
+      posts = subst (λ (q : Progressed). PostingSteps a after posting q then) is steps;
+    }
+      where
+        goes_on : (ending : Ending) → EndsWith ending (Posts then ending)
+        goes_on (EndStored commit) = tt
+        goes_on (EndFailed refusal) = tt
+
+    posting_done : p ≡ Ended → (ending : Ending) → TreeStep a after write (Posts posting ending) Moved (record write { stage = ending_stage ending None })
+    posting_done is (EndStored commit) = λ C log. record {
+      request = refl;
+      law = posts_end C a after log write.key write.edit write.way write.head posting then (EndStored commit) steps.same (subst (λ (q : Progressed). PostLaw a after posting q then) is law);
+      waits = tt;
+      fails = (tt, tt);
+      follows = (refl, refl);
+      head = refl;
+      posts = tt;
+    }
+    posting_done is (EndFailed refusal) = λ C log. record {
+      request = refl;
+      law = posts_end C a after log write.key write.edit write.way write.head posting then (EndFailed refusal) steps.same (subst (λ (q : Progressed). PostLaw a after posting q then) is law);
+      waits = tt;
+      fails = (tt, refl);
+      follows = (refl, refl);
+      head = refl;
+      posts = tt;
+    }
+
+    pub posting_ends : (ending : Ending) (stage : Stage) → p ≡ Ended → stage ≡ ending_stage ending None → TreeStep a after write (Posts posting ending) Moved (record write { stage = stage })
+    posting_ends ending stage is stage_is = subst (λ (s : Stage). TreeStep a after write (Posts posting ending) Moved (record write { stage = s })) (sym stage_is) (posting_done is ending)
