@@ -41,15 +41,15 @@ use Rattle.mt_write.proofs.WriteLemmas.{no_get}
 
 -- ---- before the steps
 pub half_may_fill : (key : List ℕ) (edit : Edit) (way : Way) (b : BorderView) (cut : ℕ) (c : IsCutAt key edit way b cut) → MayFill (empty_half b c.middle) (drop cut b.live) b.right
-half_may_fill key edit way b cut c = record { empty = refl; fresh = refl; sound = cut_upper b cut c.middle true c.sound c.full c.place c.is_middle }
+half_may_fill key edit way b cut c = record { empty = refl; fresh = refl; sound = cut_upper b cut c.middle true c.sound c.full c.place.lawful c.is_middle }
 
 pub half_is_upper : (key : List ℕ) (edit : Edit) (way : Way) (b : BorderView) (cut : ℕ) (c : IsCutAt key edit way b cut) → IsUpperHalf b (upper_half b cut c.middle) cut
 half_is_upper key edit way b cut c = record {
-  within = let full = c.full in let last = c.place.last in omega (arith, full, last);
+  within = let full = c.full in let last = c.place.lawful.last in omega (arith, full, last);
   upper = refl;
   right = refl;
-  above_low = cut_above_low b cut c.middle c.sound c.full c.place c.is_middle;
-  above_kept = cut_above_kept b cut c.middle c.sound c.full c.place c.is_middle;
+  above_low = cut_above_low b cut c.middle c.sound c.full c.place.lawful c.is_middle;
+  above_kept = cut_above_kept b cut c.middle c.sound c.full c.place.lawful c.is_middle;
   unspent = c.unspent;
 }
 
@@ -161,7 +161,7 @@ module _ (C : ℕ) (a : ArenaView) (log : LogView) (key : List ℕ) (edit : Edit
         free = at.free;
       },
       record {
-        room = let full = c.full in let last = c.place.last in let short = length-take-le cut b.live (omega (arith, full, last)) in omega (arith, short, last);
+        room = let full = c.full in let last = c.place.lawful.last in let short = length-take-le cut b.live (omega (arith, full, last)) in omega (arith, short, last);
         absent = left_absent;
         sets = c.sets;
         is_put = c.is_put;
@@ -186,7 +186,7 @@ module _ (C : ℕ) (a : ArenaView) (log : LogView) (key : List ℕ) (edit : Edit
         free = s.free;
       },
       record {
-        room = let full = c.full in let start = c.place.first in let rest = length-drop cut b.live in omega (arith, full, start, rest);
+        room = let full = c.full in let start = c.place.lawful.first in let rest = length-drop cut b.live in omega (arith, full, start, rest);
         absent = half_absent;
         sets = c.sets;
         is_put = c.is_put;

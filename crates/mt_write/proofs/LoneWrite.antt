@@ -232,7 +232,7 @@ module _ (post_stands : ArenaView → World → Posting → Type 0) (posting_lef
       leads a after next key way goal stage new then is (stays a after next key way goal stage then same there)
 
   -- from its lock on
-  readied : (a after : ArenaView) (next : World) (key : List ℕ) (way : Way) (new : Stage) → IsMadeReady new → Nearer a after next key way Locked way new
+  readied : (a after : ArenaView) (next : World) (key : List ℕ) (way : Way) (new : Stage) → IsMadeReady a way new → Nearer a after next key way Locked way new
   readied a after next key way (Spared half cut entries) ready = (tt, above _ _ _ (omega arith))
   readied a after next key way (LayerSpared layer entries) ready = (tt, more _ _ _ (omega arith))
   readied a after next key way (Filled place stored logged split) ready = (tt, above _ _ _ (omega arith))

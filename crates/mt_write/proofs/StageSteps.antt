@@ -7,6 +7,7 @@ use Rattle.mt_types.specs.declared.refusal.Refusal.{Refusal}
 use Rattle.mt_types.specs.declared.event.Answer.{Answer}
 use Rattle.mt_types.specs.declared.event.Answer.TheVariants.{Absent as AbsentAnswer}
 use Rattle.mt_commit.specs.Log.{LogView, newest, with_delta}
+use Rattle.mt_border.specs.Cut.{IsBestCut}
 use Rattle.mt_border.specs.Border.{BorderView, row_at, with_entries, with_hidden, with_link_at, with_lock, with_shown, with_split, with_value}
 use Rattle.mt_border.specs.Entry.{entry_row}
 use Rattle.mt_border.specs.declared.entry.Entry.{Entry}
@@ -191,8 +192,9 @@ module _ (a : ArenaView) (write : Write) (went : Went) (visits : Visits a write.
 
 -- ---- at its border
 -- what a put makes ready, which has split no border
-put_ready : (C : ℕ) (a after : ArenaView) (log left : LogView) (key : List ℕ) (sets : List (ℕ × List ℕ)) (way : Way) (stage : Stage) → Prepares C key sets way a log None stage after left → IsMadeReady stage
-put_ready C a after log left key sets way (Spared half cut entries) f = tt
+put_ready : (C : ℕ) (a after : ArenaView) (log left : LogView) (key : List ℕ) (sets : List (ℕ × List ℕ)) (way : Way) (stage : Stage) → Prepares C key sets way a log None stage after left → IsMadeReady a way stage
+put_ready C a after log left key sets way (Spared half cut entries) f =
+    subst (λ (o : Option BorderView). IsSomeAnd o (λ b. IsBestCut b.live cut)) (sym f.1.named) f.1.cut_at.place
 put_ready C a after log left key sets way (LayerSpared layer entries) f = tt
 put_ready C a after log left key sets way (Filled place stored logged split) f = f.0
 put_ready C a after log left key sets way (Made place stored columns logged) f = tt
@@ -209,7 +211,7 @@ put_ready C a after log left key sets way (Taken place stored before) f = absurd
 put_ready C a after log left key sets way (Stored number split) f = absurd f
 
 -- what a remove makes ready
-remove_ready : (a : ArenaView) (log left : LogView) (key : List ℕ) (way : Way) (stage : Stage) → PreparesRemove key way a log (Some stage) left → IsMadeReady stage
+remove_ready : (a : ArenaView) (log left : LogView) (key : List ℕ) (way : Way) (stage : Stage) → PreparesRemove key way a log (Some stage) left → IsMadeReady a way stage
 remove_ready a log left key way (Taken place stored before) f = tt
 remove_ready a log left key way (Failed refusal split) f = f.0
 remove_ready a log left key way Seeks f = absurd f
@@ -426,7 +428,7 @@ module _ (a after : ArenaView) (write : Write) where
       fails = (tt, tt);
       follows = (refl, refl);
       head = refl;
-      posts = tt;
+      posts = (then, subst (λ (q : Progressed). PostingSteps a after posting q then) is steps);
     }
     posting_done is (EndFailed refusal) = λ C log. record {
       request = refl;
@@ -435,7 +437,7 @@ module _ (a after : ArenaView) (write : Write) where
       fails = (tt, refl);
       follows = (refl, refl);
       head = refl;
-      posts = tt;
+      posts = (then, subst (λ (q : Progressed). PostingSteps a after posting q then) is steps);
     }
 
     pub posting_ends : (ending : Ending) (stage : Stage) → p ≡ Ended → stage ≡ ending_stage ending None → TreeStep a after write (Posts posting ending) Moved (record write { stage = stage })

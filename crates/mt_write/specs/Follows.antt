@@ -1,5 +1,7 @@
 -- Which stage of a put or remove follows which: said of the nodes before the step, and of the call before and after it.
-use Rattle.std.specs.Prelude.{ℕ, ◌≡◌, ◌≢◌, ◌⊎◌, ◌+◌, List, [], Option, Some, None}
+use Rattle.std.specs.Prelude.{ℕ, ◌≡◌, ◌≢◌, ◌⊎◌, ◌+◌, List, [], Option, Some, None, IsSomeAnd}
+use Rattle.mt_border.specs.Cut.{IsBestCut}
+use Rattle.mt_arena.specs.Node.{border_at}
 use Rattle.mt_arena.specs.Arena.{ArenaView}
 use Rattle.mt_types.specs.declared.numbers.NodeNo.{NodeNo}
 use Rattle.mt_steps.specs.declared.progress.Progress.{Progress}
@@ -10,8 +12,9 @@ use Rattle.mt_steps.specs.Way.{Visits, start}
 use Rattle.mt_steps.specs.Causes.{IsMarkedAt, IsLockedAlready}
 use Rattle.mt_post.specs.declared.posting.Posting.{Posting}
 use Rattle.mt_post.specs.declared.posting.Progressed.{Progressed}
-use Rattle.mt_post.specs.declared.posting.Progressed.TheVariants.{Moved as PostMoved, Waits as PostAgain}
+use Rattle.mt_post.specs.declared.posting.Progressed.TheVariants.{Moved as PostMoved, Waits as PostAgain, Ended as PostEnded}
 use Rattle.mt_post.specs.declared.posting.PostStage.TheVariants.{Walks}
+use Rattle.mt_post.specs.Causes.{PostEnds}
 use Rattle.mt_post.specs.Follows.{PostFollows, MarksNone}
 use Rattle.mt_post.specs.Ending.{GetsNearer}
 use Rattle.mt_post.specs.Alone.{LoneStep}
@@ -29,15 +32,19 @@ use Rattle.mt_write.specs.Causes.{IsPosting, StageWaits, StageFails}
 abbrev pub StaysAt : Way → Way → Stage → Stage → Type 0
 StaysAt way next new stage = (new ≡ stage) × (next ≡ way)
 
+-- a full border is to be cut before the place nearest to the middle at which it may be, the lower of two that are as near
+abbrev pub IsCutBest : ArenaView → Way → ℕ → Type 0
+IsCutBest a way cut = IsSomeAnd (border_at a.nodes way.node.0) (λ b. IsBestCut b.live cut)
+
 -- at its border, which it has locked, it has made something ready, or failed
-abbrev pub IsMadeReady : Stage → Type 0
-IsMadeReady (Spared half cut entries) = Unit {0}
-IsMadeReady (LayerSpared layer entries) = Unit {0}
-IsMadeReady (Filled place stored logged split) = split ≡ None
-IsMadeReady (Made place stored columns logged) = Unit {0}
-IsMadeReady (Taken place stored before) = Unit {0}
-IsMadeReady (Failed refusal split) = split ≡ None
-IsMadeReady _ = ⊥
+abbrev pub IsMadeReady : ArenaView → Way → Stage → Type 0
+IsMadeReady a way (Spared half cut entries) = IsCutBest a way cut
+IsMadeReady a way (LayerSpared layer entries) = Unit {0}
+IsMadeReady a way (Filled place stored logged split) = split ≡ None
+IsMadeReady a way (Made place stored columns logged) = Unit {0}
+IsMadeReady a way (Taken place stored before) = Unit {0}
+IsMadeReady a way (Failed refusal split) = split ≡ None
+IsMadeReady a way _ = ⊥
 
 -- at the half where its key belongs its row is ready to be shown, or it has failed
 abbrev pub IsReadyIn : Halves → Stage → Type 0
@@ -53,7 +60,7 @@ PostsOn a posting ending new = new ≡ ending_stage ending None
 -- where it moves: on its way it goes to the next node, or locks its border; each other stage leads to the next one
 abbrev pub StageFollows : ArenaView → List ℕ → Way → Stage → Way → Stage → Type 0
 StageFollows a key way Seeks next new = StaysAt way next new Locked ⊎ ((new ≡ Seeks) × Visits a key way (To next))
-StageFollows a key way Locked next new = IsMadeReady new × (next ≡ way)
+StageFollows a key way Locked next new = IsMadeReady a way new × (next ≡ way)
 StageFollows a key way (Spared half cut entries) next new = StaysAt way next new (HalfFilled half cut)
 StageFollows a key way (HalfFilled half cut) next new = (new ≡ Halved (record { left = way.node; half = half }))
     × (next.layer ≡ way.layer)
@@ -134,6 +141,7 @@ pub record IsNewPosting (head half : NodeNo) (posting : Posting) : Type 0 where
 -- what a step of its posting has done
 pub record PostingSteps (a after : ArenaView) (posting : Posting) (p : Progressed) (then : Posting) : Type 0 where
   pub same : then ≡ record posting { waiting = then.waiting; stage = then.stage }
+  pub ends : PostEnds a after posting p
   pub gets_on : PostFollows a posting p then
   pub nearer : GetsNearer a after posting p then
   pub alone : LoneStep a after posting p then
@@ -145,11 +153,13 @@ PostingGoes a after posting Moved then = PostingSteps a after posting PostMoved 
 PostingGoes a after posting Waits then = PostingSteps a after posting PostAgain then
 PostingGoes a after posting _ then = Unit {0}
 
--- the posting with which it goes on: a new one of its right half, or the one that it had, after a step
+-- the posting with which it goes on: a new one of its right half, or the one that it had, after a step; or this has
+-- ended in the step
 abbrev pub PostsGo : ArenaView → ArenaView → NodeNo → Stage → Progress → Stage → Type 0
 PostsGo a after head (Stored commit (Some split)) p (Posts posting ending) = IsNewPosting head split.half posting
 PostsGo a after head (Failed refusal (Some split)) p (Posts posting ending) = IsNewPosting head split.half posting
 PostsGo a after head (Posts posting ending) p (Posts then other) = PostingGoes a after posting p then
+PostsGo a after head (Posts posting ending) p new = (then : Posting) × PostingSteps a after posting PostEnded then
 PostsGo a after head _ p new = Unit {0}
 
 abbrev pub PostsFollow : ArenaView → ArenaView → WriteView → Progress → WriteView → Type 0

@@ -13,7 +13,7 @@ use Rattle.mt_word.specs.declared.permutation_word.TheConstants.{SLOTS}
 use Rattle.mt_word.specs.declared.version_word.TheConstants.{MAX_SPLITS}
 use Rattle.mt_commit.specs.Log.{LogView}
 use Rattle.mt_border.specs.Border.{BorderView, row_at, with_filled, with_entries, new_border}
-use Rattle.mt_border.specs.Cut.{IsCut}
+use Rattle.mt_border.specs.Cut.{IsBestCut}
 use Rattle.mt_border.specs.declared.found.Found.{Found}
 use Rattle.mt_arena.specs.declared.node.Node.TheVariants.{Border, Head}
 use Rattle.mt_chart.specs.Tree.{Among}
@@ -169,7 +169,7 @@ IsAbsent _ = ⊥
 pub record IsCutAt (key : List ℕ) (edit : Edit) (way : Way) (b : BorderView) (cut : ℕ) : Type 0 where
   pub sound : IsBorder b
   pub full : length b.live ≡ SLOTS
-  pub place : IsCut b.live cut
+  pub place : IsBestCut b.live cut
   pub middle : Entry
   pub is_middle : slice_get b.live cut ≡ Some middle
   pub unspent : b.version.vsplit < MAX_SPLITS
