@@ -337,13 +337,16 @@ refuses_plainly begun s t request number refusal from steps h stands =
     let (past, there, alone, zero, many) = from.since h stands in
     let (opens, stood) = steps-stand s t number.0 (Refused refusal) past steps there in
     let after : History = happening (Step number) (Refused refusal) opens ∷ past in
+    let through : (ran : RunsThrough pass_0 (next_call begun) request h (Refused refusal) after) × IsShort request (occupied begun.tree.nodes) (length ran.run.steps + 1) =
+    subst (λ (n : CallNo). (ran : RunsThrough pass_0 n request h (Refused refusal) after) × IsShort request (occupied begun.tree.nodes) (length ran.run.steps + 1)) from.numbered (
+      record { past = past; run = alone; same_pass = zero; note = opens; is_after = refl },
+      subst (λ (n : ℕ). IsShort request (occupied begun.tree.nodes) (n + 1)) (sym many) (is_short begun s request number from),
+    ) in
     record {
       then = after;
       stands = stood;
-      ran = inr (subst (λ (n : CallNo). (ran : RunsThrough pass_0 n request h (Refused refusal) after) × IsShort request (occupied begun.tree.nodes) (length ran.run.steps + 1)) from.numbered (
-        record { past = past; run = alone; same_pass = zero; note = opens; is_after = refl },
-        subst (λ (n : ℕ). IsShort request (occupied begun.tree.nodes) (n + 1)) (sym many) (is_short begun s request number from),
-      ));
+      ran = inr through.0;
+      short = through.1;
       nothing = lone_refusals_do_nothing t.columns request number refusal opens h past alone stood.legal;
     }
 
@@ -353,6 +356,7 @@ begin_refuses_plainly s request refusal idle begins h stands = record {
   then = happening (Begin pass_0 request) (Refused refusal) 0 ∷ h;
   stands = begins-stands s s pass_0 request (Refused refusal) h begins stands;
   ran = inl refl;
+  short = tt;
   nothing = record { commits = refl; views = refl; closed = none_open s idle h stands };
 }
 

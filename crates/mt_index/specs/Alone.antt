@@ -1,12 +1,12 @@
 -- What a call that runs alone leaves, at each history at which the machine stands.
 use Rattle.std.specs.Prelude.{ℕ, ◌≡◌, ◌≤◌, ◌+◌, ◌⊎◌, [], length}
+use Rattle.std.proofs.Common.{inl, inr}
 use Rattle.mt_types.specs.declared.numbers.PassNo.{PassNo}
 use Rattle.mt_types.specs.declared.numbers.CallNo.{CallNo}
 use Rattle.mt_types.specs.declared.refusal.Refusal.{Refusal}
 use Rattle.mt_types.specs.declared.event.Request.{Request}
 use Rattle.mt_types.specs.declared.event.Request.TheVariants.{Get}
 use Rattle.mt_types.specs.declared.event.Reply.{Reply}
-use Rattle.mt_types.specs.declared.event.Outcome.{Outcome}
 use Rattle.mt_types.specs.declared.event.Outcome.TheVariants.{Done, Refused}
 use Rattle.mt_promise.specs.History.{History, moment}
 use Rattle.mt_promise.specs.Alone.{RunsThrough, IsTurnedAway, EndsPlainly, EndsRefused}
@@ -39,10 +39,12 @@ pub record AnswersFrom (s : MachineView) (h : History) (request : Request) (repl
   pub plain : EndsPlainly s.columns h pass_0 (next_call s) request reply (moment then)
   pub short : IsShort request (occupied s.tree.nodes) (length ran.run.steps + 1)
 
--- the call ran from its begin to its end, and nothing else happened; a get has visited no more nodes than there were
-abbrev pub RunsShortly : MachineView → History → Request → Outcome → History → Type 0
-RunsShortly s h request last then = (ran : RunsThrough pass_0 (next_call s) request h last then)
-    × IsShort request (occupied s.tree.nodes) (length ran.run.steps + 1)
+-- a call that ran till it was refused: a get has visited no more nodes than there were
+abbrev pub RanShortly : (s : MachineView) (h : History) (request : Request) (refusal : Refusal) (then : History)
+    → IsTurnedAway pass_0 request h refusal then ⊎ RunsThrough pass_0 (next_call s) request h (Refused refusal) then
+    → Type 0
+RanShortly s h request refusal then (inl turned) = Unit {0}
+RanShortly s h request refusal then (inr ran) = IsShort request (occupied s.tree.nodes) (length ran.run.steps + 1)
 
 -- Its begin was refused, or it ran till it was refused; nothing has come of it.
 pub record RefusesFrom (s : MachineView) (h : History) (request : Request) (refusal : Refusal)
@@ -50,7 +52,8 @@ pub record RefusesFrom (s : MachineView) (h : History) (request : Request) (refu
   pub then : History
   pub stands : Stands t then
   pub ran : IsTurnedAway pass_0 request h refusal then
-      ⊎ RunsShortly s h request (Refused refusal) then
+      ⊎ RunsThrough pass_0 (next_call s) request h (Refused refusal) then
+  pub short : RanShortly s h request refusal then ran
   pub nothing : EndsRefused h (moment then)
 
 -- wherever the machine stood

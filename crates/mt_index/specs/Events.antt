@@ -18,7 +18,7 @@ use Rattle.mt_index.specs.OneStep.{IsOneStep}
 use Rattle.mt_index.specs.Stands.{MachineView, Stands, HasBounds, Begins, Steps, Applies, ReadsView, Drops, Advances, Collects}
 
 -- WHAT AN EVENT DOES, by its kind: it leads from one machine to the next with this outcome, and changes nothing else
-abbrev pub EventDoes : MachineView → Event → Outcome → MachineView → Type 0
+unfoldable pub EventDoes : MachineView → Event → Outcome → MachineView → Type 0
 EventDoes s (Begin pass request) outcome t = Begins s pass request outcome t
 EventDoes s (Step call) outcome t = Steps s call.0 outcome t
 EventDoes s (Apply view) outcome t = Applies s view.0 outcome t
@@ -60,7 +60,7 @@ pub record StepsToEnd (s : MachineView) (request : Request) (last : Outcome) (t 
   pub steps : StepsHappen begun (next_call s) (outcomes ++ last ∷ []) t
 
 -- or its begin, where that is refused
-abbrev pub RunsAlone : MachineView → Request → Outcome → MachineView → Type 0
+unfoldable pub RunsAlone : MachineView → Request → Outcome → MachineView → Type 0
 RunsAlone s request last t = Happens s (Begin pass_0 request) last t ⊎ StepsToEnd s request last t
 
 -- a machine on which nothing has happened, opened so

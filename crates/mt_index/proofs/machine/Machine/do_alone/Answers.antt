@@ -1,11 +1,12 @@
 use Rattle.std.proofs.Common.{◌∙◌, ◌∷◌, ◌++◌, [], inl, inr, subst, sym, refl}
 use Rattle.mt_types.specs.declared.event.Outcome.{Outcome}
-use Rattle.mt_types.specs.declared.event.Outcome.TheVariants.{Done, Refused}
+use Rattle.mt_types.specs.declared.event.Outcome.TheVariants.{Call as Called, Done, Refused}
 use Rattle.mt_types.specs.declared.refusal.Refusal.TheVariants.{NoMemory}
 use Rattle.mt_index.specs.Alone.{RefusesPlainly}
 use Rattle.mt_index.specs.Stands.{MachineView, Steps}
 use Rattle.mt_works.proofs.LoneWork.{lone_laws}
-use Rattle.mt_index.proofs.EventLemmas.{steps-more, step-happens, ends_alone}
+use Rattle.mt_index.specs.Alone.{pass_0}
+use Rattle.mt_index.proofs.EventLemmas.{begin-does, steps-more, step-happens, ends_alone, turned_away}
 use Rattle.mt_index.proofs.AloneStands.{runs_from_begin, came, answers_plainly, refuses_plainly, begin_refuses_plainly, never_else, went_on}
 use Rattle.mt_index.proofs.machine.Machine.do_alone.Goals as goal
 
@@ -24,7 +25,7 @@ loop-reply-init c =
       c.admit.ensures.bounds,
       (
         c.admit.new.self,
-        record { does = c.in-Ok.ensures.begins; caused = tt; one_step = tt },
+        record { does = begin-does c.args.self.now c.admit.new.self (Called c.in-Ok.call) pass_0 c.args.request c.in-Ok.ensures.begins; caused = tt; one_step = tt },
         [],
         refl,
       ),
@@ -69,11 +70,11 @@ returns-in-Refused-clause-happens c =
     (subst (λ (o : Outcome). Steps c.loop-reply.self c.in-Ok.call.0 o c.step.new.self) c.in-Refused.is c.step.ensures.steps)
 
 pub returns-in-Some-clause-happens : goal.returns-in-Some-clause-happens
-returns-in-Some-clause-happens c = inl (record { does = (inl (sym c.fault_of.ensures ∙ c.in-Some.is), refl); caused = tt; one_step = tt })
+returns-in-Some-clause-happens c = turned_away c.args.self.now c.args.self.now c.args.request c.in-Some.refusal (inl (sym c.fault_of.ensures ∙ c.in-Some.is), refl)
 
 pub returns-in_default-admit-clause-happens : goal.returns-in_default-admit-clause-happens
 returns-in_default-admit-clause-happens c =
-    inl (record { does = (inr (sym c.fault_of.ensures ∙ c.in_default.is, refl), c.in_default-admit.ensures.err); caused = tt; one_step = tt })
+    turned_away c.args.self.now c.admit.new.self c.args.request NoMemory (inr (sym c.fault_of.ensures ∙ c.in_default.is, refl), c.in_default-admit.ensures.err)
 
 pub unreachable-requires : goal.unreachable-requires
 unreachable-requires c =

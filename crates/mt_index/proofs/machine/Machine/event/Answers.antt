@@ -1,4 +1,4 @@
-use Rattle.std.proofs.Common.{subst, sym, refl, ◌∷◌}
+use Rattle.std.proofs.Common.{subst, sym, ◌∷◌}
 use Rattle.mt_types.specs.declared.event.Event.{Event}
 use Rattle.mt_promise.specs.History.{happening}
 use Rattle.mt_index.specs.Stands.{Stands}
@@ -7,6 +7,7 @@ use Rattle.mt_index.specs.OneStep.{IsOneStep}
 use Rattle.mt_index.specs.Events.{EventDoes}
 use Rattle.mt_index.proofs.CauseLemmas.{steps-caused}
 use Rattle.mt_index.proofs.OneStepLemmas.{steps-once}
+use Rattle.mt_index.proofs.EventLemmas.{begin-does, step-does, apply-does, read-does, drop-does, advance-does, collect-does}
 use Rattle.mt_index.proofs.EventStands.{begins-stands, begins-columns}
 use Rattle.mt_index.proofs.ViewEvents.{steps-stand, steps-columns}
 use Rattle.mt_index.proofs.ApplyStands.{applies-stand, reads-stand, drops-stand}
@@ -20,7 +21,8 @@ returns-in-Begin c = record {
     subst (λ (e : Event). Stands c.begin.new.self (happening e c.begin.result 0 ∷ h)) (sym c.in-Begin.is)
         (begins-stands c.args.self.now c.begin.new.self c.in-Begin.pass c.in-Begin.request c.begin.result h c.begin.ensures.begins st),
   );
-  does = subst (λ (e : Event). EventDoes c.args.self.now e c.begin.result c.begin.new.self) (sym c.in-Begin.is) c.begin.ensures.begins;
+  does = subst (λ (e : Event). EventDoes c.args.self.now e c.begin.result c.begin.new.self) (sym c.in-Begin.is)
+      (begin-does c.args.self.now c.begin.new.self c.begin.result c.in-Begin.pass c.in-Begin.request c.begin.ensures.begins);
   caused = subst (λ (e : Event). IsCaused c.args.self.now e c.begin.result c.begin.new.self) (sym c.in-Begin.is) tt;
   one_step = subst (λ (e : Event). IsOneStep c.args.self.now e c.begin.result c.begin.new.self) (sym c.in-Begin.is) tt;
   columns = begins-columns c.args.self.now c.begin.new.self c.in-Begin.pass c.in-Begin.request c.begin.result c.begin.ensures.begins;
@@ -32,7 +34,8 @@ returns-in-Step c = record {
   stands = λ h st.
       let (opens, then) = steps-stand c.args.self.now c.step.new.self c.in-Step.call.0 c.step.result h c.step.ensures.steps st in
       (opens, subst (λ (e : Event). Stands c.step.new.self (happening e c.step.result opens ∷ h)) (sym c.in-Step.is) then);
-  does = subst (λ (e : Event). EventDoes c.args.self.now e c.step.result c.step.new.self) (sym c.in-Step.is) c.step.ensures.steps;
+  does = subst (λ (e : Event). EventDoes c.args.self.now e c.step.result c.step.new.self) (sym c.in-Step.is)
+      (step-does c.args.self.now c.step.new.self c.step.result c.in-Step.call c.step.ensures.steps);
   caused = subst (λ (e : Event). IsCaused c.args.self.now e c.step.result c.step.new.self) (sym c.in-Step.is)
       (steps-caused c.args.self.now c.step.new.self c.in-Step.call c.step.result c.step.ensures.steps);
   one_step = subst (λ (e : Event). IsOneStep c.args.self.now e c.step.result c.step.new.self) (sym c.in-Step.is)
@@ -80,16 +83,21 @@ pub returns-in-Collect-clause-caused : goal.returns-in-Collect-clause-caused
 returns-in-Collect-clause-caused c = subst (λ (e : Event). IsCaused c.args.self.now e c.collect.result c.collect.new.self) (sym c.in-Collect.is) c.collect.ensures.caused
 
 pub returns-in-Apply-clause-does : goal.returns-in-Apply-clause-does
-returns-in-Apply-clause-does c = subst (λ (e : Event). EventDoes c.args.self.now e c.apply.result c.apply.new.self) (sym c.in-Apply.is) c.apply.ensures.applies
+returns-in-Apply-clause-does c = subst (λ (e : Event). EventDoes c.args.self.now e c.apply.result c.apply.new.self) (sym c.in-Apply.is)
+    (apply-does c.args.self.now c.apply.new.self c.apply.result c.in-Apply.view c.apply.ensures.applies)
 
 pub returns-in-ViewRead-clause-does : goal.returns-in-ViewRead-clause-does
-returns-in-ViewRead-clause-does c = subst (λ (e : Event). EventDoes c.args.self.now e c.view_read.result c.args.self.now) (sym c.in-ViewRead.is) (c.view_read.ensures, refl)
+returns-in-ViewRead-clause-does c = subst (λ (e : Event). EventDoes c.args.self.now e c.view_read.result c.args.self.now) (sym c.in-ViewRead.is)
+    (read-does c.args.self.now c.view_read.result c.in-ViewRead.view c.in-ViewRead.floor c.in-ViewRead.start c.in-ViewRead.limit c.view_read.ensures)
 
 pub returns-in-ViewDrop-clause-does : goal.returns-in-ViewDrop-clause-does
-returns-in-ViewDrop-clause-does c = subst (λ (e : Event). EventDoes c.args.self.now e c.view_drop.result c.view_drop.new.self) (sym c.in-ViewDrop.is) c.view_drop.ensures.drops
+returns-in-ViewDrop-clause-does c = subst (λ (e : Event). EventDoes c.args.self.now e c.view_drop.result c.view_drop.new.self) (sym c.in-ViewDrop.is)
+    (drop-does c.args.self.now c.view_drop.new.self c.view_drop.result c.in-ViewDrop.view c.view_drop.ensures.drops)
 
 pub returns-in-Advance-clause-does : goal.returns-in-Advance-clause-does
-returns-in-Advance-clause-does c = subst (λ (e : Event). EventDoes c.args.self.now e c.advance.result c.advance.new.self) (sym c.in-Advance.is) c.advance.ensures.advances
+returns-in-Advance-clause-does c = subst (λ (e : Event). EventDoes c.args.self.now e c.advance.result c.advance.new.self) (sym c.in-Advance.is)
+    (advance-does c.args.self.now c.advance.new.self c.advance.result c.advance.ensures.advances)
 
 pub returns-in-Collect-clause-does : goal.returns-in-Collect-clause-does
-returns-in-Collect-clause-does c = subst (λ (e : Event). EventDoes c.args.self.now e c.collect.result c.collect.new.self) (sym c.in-Collect.is) c.collect.ensures.collects
+returns-in-Collect-clause-does c = subst (λ (e : Event). EventDoes c.args.self.now e c.collect.result c.collect.new.self) (sym c.in-Collect.is)
+    (collect-does c.args.self.now c.collect.new.self c.collect.result c.collect.ensures.collects)
