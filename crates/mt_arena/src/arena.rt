@@ -1,4 +1,4 @@
-//! The arena itself.
+//! The arena: nodes under numbers, spares among them, and the list of retired ones.
 
 ghost use Rattle.std.specs.Prelude.{◌≡◌, ◌≢◌, ◌+◌, ◌<◌, ◌≤◌, ◌↔◌, ◌⊎◌, length, [], slice_get, All, Some, None, Err, IsSome, IfOk, IfErr, OnOk, OnErr};
 ghost use Rattle.std.specs.Borrow.{sem};

@@ -1,4 +1,4 @@
-//! The border itself.
+//! A border node: fifteen slots, their order, its low and its right link, and its split.
 
 ghost use Rattle.std.specs.Prelude.{◌≡◌, ℕ, ◌+◌, ◌-◌, ◌*◌, ◌^◌, ◌==◌, nat_lt, ◌<◌, ◌≤◌, ◌↔◌, ◌∷◌, ◌++◌, length, take, drop, slice_get, Some, None, IsSome, IsErr, IsTrue, OnOk, OnErr, IfOk, IfErr, true, false, []};
 ghost use Rattle.std.specs.List.{list_any, prefix_len};

@@ -174,12 +174,10 @@ fn start_fault(refusal: Refusal) -> ScriptFault
 
 /// Answers the lines of a script on an empty index, one after the other, and gives the number of bad lines.
 ///
-/// A line is `begin PASS REQUEST`, `step CALL`, `finish CALL` or `alone REQUEST`, `apply VIEW`, `view VIEW FLOOR START
-/// LIMIT` or
-/// `drop VIEW`, `advance`, `collect`, or `feed FROM LIMIT`, which is answered by a line for each delta. A line of other
-/// bytes is answered `bad line`. What a line says and how an outcome is written
-/// is told in `commands`, `reading` and `showing`. `finish` makes at most
-/// 1,000,000 steps.
+/// A line is `begin PASS REQUEST`, `step CALL`, `finish CALL` or `alone REQUEST`, `apply VIEW`,
+/// `view VIEW FLOOR START LIMIT` or `drop VIEW`, `advance`, `collect`, or `feed FROM LIMIT`, which is answered by a line
+/// for each delta. A line of other bytes is answered `bad line`. What a line says and how an outcome is written is told
+/// in `commands`, `reading` and `showing`. `finish` makes at most 1,000,000 steps.
 ///
 /// The writer is given each reply in one piece, and is not flushed. A line costs its event, its steps or its deltas,
 /// and some allocations for its words and its reply.

@@ -55,7 +55,8 @@ pub record FreesSo (s : MachineView) (count : ℕ) (t : MachineView) : Type 0 wh
 
 -- WHY A CALL WAITS, FAILS OR IS REFUSED, by the machine before the step and after it. It waits only where the node that
 -- its step visits is marked deleted; or, for a put or remove, is a border that is locked or, while it posts, an
--- interior that is. So a get or range never waits at a lock.
+-- interior that is; or, for a tidy, is the locked border before the one that it unlinks. So a get or range never waits
+-- at a lock.
 abbrev pub IsCaused : MachineView → Event → Outcome → MachineView → Type 0
 IsCaused s (Step call) Again t = WaitsFor s (call_at call.0 s.calls.calls)
 IsCaused s (Step call) Moved t = FailsFor s call.0 t

@@ -12,10 +12,10 @@ ghost use Rattle.mt_index.specs.Stands.{Stands, HasBounds, fault_of};
 ghost use Rattle.mt_index.specs.Events.{RunsAlone, last_outcome};
 
 use crate::machine::Machine;
+use mt_scan::Scan;
 use mt_steps::getting::Get;
 use mt_steps::ranging::Range;
 use mt_steps::way::START;
-use mt_scan::Scan;
 use mt_tree::TOP;
 use mt_types::copying::TryCopy;
 use mt_types::event::{Answer, Outcome, Reply, Request};

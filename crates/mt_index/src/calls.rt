@@ -6,8 +6,8 @@ ghost use Rattle.mt_types.specs.declared.limits.TheConstants.{MAX_OPEN_CALLS};
 ghost use Rattle.mt_index.specs.Calls.{is_of, call_at, pass_at, without, MayStepOf, FindsCall, Finds, IsBuiltCall, oldest_epoch};
 ghost use Rattle.mt_works.specs.Works.{IsBuiltWork};
 
-use mt_steps::progress::Progress;
 use mt_commit::log::Log;
+use mt_steps::progress::Progress;
 use mt_tree::Tree;
 use mt_types::numbers::PassNo;
 use mt_types::refusal::NoMemory;

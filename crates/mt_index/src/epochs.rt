@@ -22,6 +22,7 @@ fn last_before(oldest: Option<u64>, now: u64) -> Option<u64>
 }
 
 impl Machine {
+    // The next epoch begins.
     pub(crate) fn advance(&mut self) -> Outcome
         ensures advances { Advances self.old result self.new }
         ensures bounds { HasBounds self.old.log.feed self.old.log.keep self.new.log }
@@ -33,6 +34,7 @@ impl Machine {
         Outcome::Epoch(next)
     }
 
+    // Frees what was retired before each open call began.
     pub(crate) fn collect(&mut self) -> Outcome
         ensures collects { Collects self.old result self.new }
         ensures caused { IsCaused self.old Collect result self.new }

@@ -10,11 +10,11 @@ ghost use Rattle.mt_commit.specs.declared.log.TheConstants.{MAX_HOLDERS};
 ghost use Rattle.mt_index.specs.Calls.{call_at, IsBuiltCall};
 ghost use Rattle.mt_index.specs.Stands.{Begins, Steps, EndsBuild, HasBounds, pinned, released, fault_of, outcome_of, built_outcome, calls_after, log_after, views_after, placed, vacated};
 
-use crate::machine::Machine;
 use crate::calls::{Call, Calls, Found, Stepped};
+use crate::machine::Machine;
 use crate::viewing::close_build;
-use mt_steps::progress::Progress;
 use mt_commit::log::Log;
+use mt_steps::progress::Progress;
 use mt_types::copying::TryCopy;
 use mt_types::event::{Answer, Outcome, Reply, Request};
 use mt_types::limits::{MAX_OPEN_CALLS, MAX_VIEWS, request_fault};
@@ -199,6 +199,7 @@ impl Machine {
         Ok(CallNo(number))
     }
 
+    // A call begins, unless something refuses it.
     pub(crate) fn begin(&mut self, alloc: Global, pass: PassNo, request: &Request) -> Outcome
         ensures begins { Begins self.old pass request.now result self.new }
         ensures bounds { HasBounds self.old.log.feed self.old.log.keep self.new.log }
@@ -215,6 +216,7 @@ impl Machine {
         }
     }
 
+    // A step of the call of this number, by which it goes on, waits or ends.
     pub(crate) fn step(&mut self, alloc: Global, number: u64) -> Outcome
         ensures steps { Steps self.old number result self.new }
         ensures bounds { HasBounds self.old.log.feed self.old.log.keep self.new.log }

@@ -167,6 +167,7 @@ impl Machine {
         Ok((at, state))
     }
 
+    // A view is taken on by the delta of the next commit, where it is behind.
     pub(crate) fn apply(&mut self, view: u64) -> Outcome
         ensures applies { Applies self.old view result self.new }
         ensures bounds { HasBounds self.old.log.feed self.old.log.keep self.new.log }
@@ -190,7 +191,15 @@ impl Machine {
         Outcome::Applied(at + 1)
     }
 
-    pub(crate) fn view_read(&self, alloc: Global, view: u64, floor: u64, start: &Bytes, limit: u16) -> Outcome
+    // A page of a view, where it stands at the floor or later.
+    pub(crate) fn view_read(
+        &self,
+        alloc: Global,
+        view: u64,
+        floor: u64,
+        start: &Bytes,
+        limit: u16,
+    ) -> Outcome
         ensures { ReadsView self.now view floor start.now limit result }
     {
         if let Some(refusal) = page_fault(start.as_slice(), limit) {
@@ -208,6 +217,7 @@ impl Machine {
         }
     }
 
+    // A view ends, and holds the log no longer.
     pub(crate) fn view_drop(&mut self, view: u64) -> Outcome
         ensures drops { Drops self.old view result self.new }
         ensures bounds { HasBounds self.old.log.feed self.old.log.keep self.new.log }

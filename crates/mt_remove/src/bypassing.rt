@@ -4,7 +4,7 @@ ghost use Rattle.std.specs.Prelude.{◌≡◌};
 ghost use Rattle.mt_remove.specs.Tidy.{MayTidy};
 ghost use Rattle.mt_remove.specs.Follows.{TidyStep};
 
-use crate::noted::{OneChild, Namer};
+use crate::noted::{Namer, OneChild};
 use crate::seen::{is_lone, place_in};
 use crate::stage::Stage;
 use crate::tidy::{Tidy, nothing};
@@ -29,7 +29,13 @@ impl Tidy {
     }
 
     // The interior above names its child, where it still names it.
-    fn bypass_below(&mut self, tree: &mut Tree, epoch: u64, lone: OneChild, parent: NodeNo) -> Progress
+    fn bypass_below(
+        &mut self,
+        tree: &mut Tree,
+        epoch: u64,
+        lone: OneChild,
+        parent: NodeNo,
+    ) -> Progress
         requires at { self.old.stage ≡ Stage.LoneLocked lone }
         requires named { lone.namer ≡ Namer.Interior parent }
         requires may { MayTidy epoch tree.old self.old }

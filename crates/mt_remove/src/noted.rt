@@ -5,8 +5,8 @@ ghost use Rattle.mt_arena.specs.Node.{node_at};
 ghost use Rattle.mt_remove.specs.Noted.{is_first, namer_of, noted_from, noted_below};
 
 use mt_arena::Node;
-use mt_steps::way::Way;
 use mt_interior::Interior;
+use mt_steps::way::Way;
 use mt_tree::{TOP, Tree};
 use mt_types::numbers::NodeNo;
 

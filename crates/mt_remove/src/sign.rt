@@ -3,7 +3,7 @@
 ghost use Rattle.std.specs.Prelude.{◌≡◌};
 ghost use Rattle.mt_remove.specs.Noted.{layer_sign, lone_sign, border_sign, sign_of};
 
-use crate::noted::{Came, OneChild, Noted};
+use crate::noted::{Came, Noted, OneChild};
 use mt_border::Border;
 use mt_types::numbers::NodeNo;
 

@@ -1,6 +1,6 @@
 //! How far a tidy is.
 
-use crate::noted::{OneChild, Noted};
+use crate::noted::{Noted, OneChild};
 use mt_types::event::TidyRule;
 use mt_types::numbers::NodeNo;
 
@@ -79,6 +79,6 @@ pub enum Stage {
     KeepsLayer(Layer),
     /// It gives up, and is to unlock the border as it was.
     KeepsBorder(NodeNo),
-    /// The same of an interior.
+    /// It gives up, and is to unlock the interior as it was.
     KeepsInterior(NodeNo),
 }

@@ -1,4 +1,4 @@
-//! The calls of the index over the whole tree: the law of a step, the way down the tree, gets and ranges.
+//! What the steps of calls are to the tree: the law of a step, the way down, gets and ranges, and the freeing of nodes.
 #![tactic(auto)]
 
 pub mod alone;

@@ -44,7 +44,7 @@ pub enum Request {
     },
 }
 
-/// One event. Calls go on by steps, each of which visits one node.
+/// One event. Calls go on by steps, each of which visits one node, or takes one delta of the log.
 #[derive(Debug, PartialEq, Eq, Drop)]
 pub enum Event {
     /// A pass begins a call.

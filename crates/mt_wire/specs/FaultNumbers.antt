@@ -1,4 +1,4 @@
--- The numbers of faults, as sessions give them.
+-- The numbers of faults.
 use Rattle.std.specs.Prelude.{ℕ}
 use Rattle.mt_wire.specs.declared.fault.WireFault.{WireFault}
 use Rattle.mt_wire.specs.declared.fault.WireFault.TheVariants as faults

@@ -25,7 +25,7 @@ pub enum WireFault {
 }
 
 impl WireFault {
-    /// The number of the fault, as sessions give it.
+    /// The number of the fault.
     pub fn number(&self) -> u8
         ensures { result ≡ fault_number self.now }
     {

@@ -1,4 +1,4 @@
-//! The two words of a border node: which slots hold its keys in which order, and its version.
+//! The two words of nodes: which slots of a border hold its keys in which order, and the version of each node.
 //!
 //! A call costs O(1) unless it says otherwise.
 #![tactic(auto)]

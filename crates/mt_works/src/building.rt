@@ -8,10 +8,10 @@ ghost use Rattle.mt_steps.specs.Causes.{ReadWaits, ReadFails};
 ghost use Rattle.mt_works.specs.Building.{building_request, BuildingIsTrue, BuildingLaw, IsBuilt, IsInLog, BuildsOn, BuildFollows, BuildWaits, BuildFails, OnlyForMemory};
 
 use mt_build::build::Build;
-use mt_steps::progress::Progress;
-use mt_steps::ranging::{Sought, seek};
 use mt_commit::log::Log;
 use mt_scan::ScanMove;
+use mt_steps::progress::Progress;
+use mt_steps::ranging::{Sought, seek};
 use mt_tree::{TOP, Tree};
 use mt_types::numbers::NodeNo;
 use mt_types::refusal::Refusal;

@@ -13,13 +13,13 @@ ghost use Rattle.mt_works.specs.Works.{request_of, held, IsTrue, IsKey, IsNew, M
 use crate::building::Building;
 use bytes::Bytes;
 use mt_build::build::Build;
+use mt_commit::log::Log;
+use mt_remove::tidy::Tidy;
+use mt_scan::Scan;
 use mt_steps::getting::Get;
 use mt_steps::progress::Progress;
 use mt_steps::ranging::Range;
 use mt_steps::way::{START, rest_of};
-use mt_commit::log::Log;
-use mt_remove::tidy::Tidy;
-use mt_scan::Scan;
 use mt_tree::{TOP, Tree};
 use mt_types::copying::TryCopy;
 use mt_types::event::Request;
