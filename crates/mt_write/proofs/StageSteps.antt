@@ -59,6 +59,13 @@ at_step C a after log left write idle stage p then is s = subst (λ (t : Stage).
 pub may_be : (C : ℕ) (a : ArenaView) (log : LogView) (write : Write) (idle stage : Stage) → write.stage ≡ stage → MayStep a log (write_held write) (WriteIsTrue C write) → MayStage C a log (record write { stage = idle }) stage
 may_be C a log write idle stage is may = may_at C a log write.key write.edit write.way write.head stage write.stage is may
 
+-- ---- once it has turned to the next stage
+pub turned : (C : ℕ) (a after : ArenaView) (log left : LogView) (write : Write) (stage : Stage) (p : Progress) (next then : Write) → then ≡ next → WriteStep C a after log left write stage p next → WriteStep C a after log left write stage p then
+turned C a after log left write stage p next then is s = subst (λ (w : Write). WriteStep C a after log left write stage p w) (sym is) s
+
+pub turned_tree : (a after : ArenaView) (write : Write) (stage : Stage) (p : Progress) (next then : Write) → then ≡ next → TreeStep a after write stage p next → TreeStep a after write stage p then
+turned_tree a after write stage p next then is s = subst (λ (w : Write). TreeStep a after write stage p w) (sym is) s
+
 -- ---- the kinds of steps
 module _ (C : ℕ) (a after : ArenaView) (log left : LogView) (write : Write) (stage : Stage) (p : Progress) where
   -- a step that leads to a stage, in the layer of its head
