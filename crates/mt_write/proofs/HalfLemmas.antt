@@ -259,10 +259,3 @@ module _ (C begun : ℕ) (a : ArenaView) (w : World) (key : List ℕ) (edit : Ed
       let (b, at, c, s) = truth in
       subst (λ (o : Option BorderView). IsSomeAnd o (λ x. IsSomeAnd (border_at a.nodes half.0) (λ upper. IsUpperHalf x upper cut))) (sym at.named)
       (subst (λ (o : Option BorderView). IsSomeAnd o (λ upper. IsUpperHalf b upper cut)) (sym s.named) (half_is_upper key edit way b cut c))
-
--- the left half is locked
-pub left_is_locked : (prefix : List ℕ) (a : ArenaView) (w : World) (number : ℕ) (split : Option Halves) (halves : Halves) → split ≡ Some halves → HasLocked prefix a w number split → IsSomeAnd (border_at a.nodes halves.left.0) (λ b. b.version.locked ≡ true)
-left_is_locked prefix a w number split halves is has =
-    let both : HasLocked prefix a w number (Some halves) = subst (λ (s : Option Halves). HasLocked prefix a w number s) is has in
-    let left = both.locked halves.left.0 (later first) in
-    subst (λ (o : Option BorderView). IsSomeAnd o (λ b. b.version.locked ≡ true)) (sym left.named) left.locked

@@ -68,20 +68,20 @@ module _ (C : ℕ) (a after : ArenaView) (log left : LogView) (request : Request
         };
   }
 
--- the same where the call ends: nothing is to be true of it
+-- where the call ends nothing is to be true of it then
 pub headed_end : (C : ℕ) (a after : ArenaView) (log left : LogView) (request : Request) (key : List ℕ) (edit : Edit) (way : Way) (head : NodeNo) (stage : Stage) (held then : Held) (p : Progress) (Then : Truth)
     → StepLaw C a after log left request held p then (λ begun moves past x w. StageIsTrue C key edit way stage begun x w) Then → StepLaw C a after log left request held p then (λ begun moves past x w. HeadedStage C key edit way head stage begun x w) Then
 headed_end C a after log left request key edit way head stage held then p Then law = record { steps = λ now begun moves past w world before truth. law.steps now begun moves past w world before truth.0 }
 
 -- on its way again from the head of layer 0
-module _ (C : ℕ) (a : ArenaView) (key : List ℕ) (edit : Edit) (way : Way) (head : NodeNo) (went : Went) (visits : Visits a key way went) (log : LogView) where
+module _ (C : ℕ) (a : ArenaView) (key : List ℕ) (edit : Edit) (way : Way) (head : NodeNo) (log : LogView) where
   abbrev start : Way
   start = record { node = record { 0 = 0 }; layer = 0 }
 
-  pub restarts : (stage : Stage) → stage ≡ Seeks → StepLaw C a a log log (edit_request key edit) (stage_held way.node.0 stage) Waits (stage_held 0 stage) (λ begun moves past x w. HeadedStage C key edit way head stage begun x w) (λ begun moves past x w. HeadedStage C key edit start start.node stage begun x w)
-  restarts stage seeks = record {
+  pub restarts : StepLaw C a a log log (edit_request key edit) (stage_held way.node.0 Seeks) Waits (stage_held 0 Seeks) (λ begun moves past x w. HeadedStage C key edit way head Seeks begun x w) (λ begun moves past x w. HeadedStage C key edit start start.node Seeks begun x w)
+  restarts = record {
     steps = λ now begun moves past w world before truth.
-        let s = (seek_again C a key edit way went visits stage seeks log).steps now begun moves past w world before truth.0 in
+        let s = (seek_again C a key edit way log).steps now begun moves past w world before truth.0 in
         record {
           goes = record { next = s.goes.next; world = s.goes.world; evolves = s.goes.evolves; leaves = s.goes.leaves; takes = s.goes.takes; spots = s.goes.spots; true = (s.goes.true, starts_at_head a now s.goes.next begun s.goes.world) };
           does = s.does;
@@ -93,9 +93,9 @@ module _ (C : ℕ) (a : ArenaView) (key : List ℕ) (edit : Edit) (way : Way) (h
   }
 
   -- it moves on, in its layer or to the head of the next
-  pub moves_on : (next : Way) (new_head : NodeNo) → went ≡ To next → ((next.layer ≡ way.layer) × (new_head ≡ head)) ⊎ ((next.layer ≢ way.layer) × (new_head ≡ next.node)) → (stage : Stage) → stage ≡ Seeks
-      → StepLaw C a a log log (edit_request key edit) (stage_held way.node.0 stage) Moved (stage_held next.node.0 stage) (λ begun moves past x w. HeadedStage C key edit way head stage begun x w) (λ begun moves past x w. HeadedStage C key edit next new_head stage begun x w)
-  moves_on next new_head is either stage seeks = subst (λ (s : Stage). StepLaw C a a log log (edit_request key edit) (stage_held way.node.0 s) Moved (stage_held next.node.0 s) (λ begun moves past x w. HeadedStage C key edit way head s begun x w) (λ begun moves past x w. HeadedStage C key edit next new_head s begun x w)) (sym seeks) (record {
+  pub moves_on : (went : Went) → Visits a key way went → (next : Way) (new_head : NodeNo) → went ≡ To next → ((next.layer ≡ way.layer) × (new_head ≡ head)) ⊎ ((next.layer ≢ way.layer) × (new_head ≡ next.node))
+      → StepLaw C a a log log (edit_request key edit) (stage_held way.node.0 Seeks) Moved (stage_held next.node.0 Seeks) (λ begun moves past x w. HeadedStage C key edit way head Seeks begun x w) (λ begun moves past x w. HeadedStage C key edit next new_head Seeks begun x w)
+  moves_on went visits next new_head is either = record {
     steps = λ now begun moves past w world before truth.
         let (way_on, move, deeper) = subst (λ (t : Went). GoesTo a begun key way w t) is (visits.goes now w begun world truth.0) in
         record {
@@ -112,7 +112,7 @@ module _ (C : ℕ) (a : ArenaView) (key : List ℕ) (edit : Edit) (way : Way) (h
           blocked = inl refl;
           may = λ get. absurd (no_get key edit get);
         };
-  })
+  }
 
 -- ---- the left half is unlocked
 module _ (C : ℕ) (a : ArenaView) (log : LogView) (key : List ℕ) (edit : Edit) (way : Way) (split : Halves) (after : ArenaView) (is : after ≡ with_border_changed a split.left.0 (λ b. with_lock b false)) (keeps : KeepsTree a after) where

@@ -60,6 +60,13 @@ at_step C a after log left write idle stage p then is s = subst (λ (t : Stage).
 pub may_be : (C : ℕ) (a : ArenaView) (log : LogView) (write : Write) (idle stage : Stage) → write.stage ≡ stage → MayStep a log (write_held write) (WriteIsTrue C write) → MayStage C a log (record write { stage = idle }) stage
 may_be C a log write idle stage is may = may_at C a log write.key write.edit write.way write.head stage write.stage is may
 
+-- ---- once it has turned to the next stage
+pub turned : (C : ℕ) (a after : ArenaView) (log left : LogView) (write : Write) (stage : Stage) (p : Progress) (next then : Write) → then ≡ next → WriteStep C a after log left write stage p next → WriteStep C a after log left write stage p then
+turned C a after log left write stage p next then is s = subst (λ (w : Write). WriteStep C a after log left write stage p w) (sym is) s
+
+pub turned_tree : (a after : ArenaView) (write : Write) (stage : Stage) (p : Progress) (next then : Write) → then ≡ next → TreeStep a after write stage p next → TreeStep a after write stage p then
+turned_tree a after write stage p next then is s = subst (λ (w : Write). TreeStep a after write stage p w) (sym is) s
+
 -- ---- the kinds of steps
 module _ (C : ℕ) (a after : ArenaView) (log left : LogView) (write : Write) (stage : Stage) (p : Progress) where
   -- a step that leads to a stage, in the layer of its head
@@ -160,7 +167,7 @@ module _ (a : ArenaView) (write : Write) (went : Went) (visits : Visits a write.
   pub seeks_again : IsMarkedAt a write.way.node.0 → TreeStep a a write Seeks Waits (record write { way = start; head = record { 0 = 0 } })
   seeks_again marked = λ C log. subst (λ (s : Stage). WriteStep C a a log log write Seeks Waits (record { key = write.key; edit = write.edit; way = start; head = record { 0 = 0 }; stage = s })) (sym idle) (record {
     request = refl;
-    law = restarts C a write.key write.edit write.way write.head went visits log Seeks refl;
+    law = restarts C a write.key write.edit write.way write.head log;
     waits = inl marked;
     fails = (tt, tt);
     follows = (refl, inl (marked, refl));
@@ -171,7 +178,7 @@ module _ (a : ArenaView) (write : Write) (went : Went) (visits : Visits a write.
   pub seeks_on : (next : Way) (head : NodeNo) → went ≡ To next → ((next.layer ≡ write.way.layer) × (head ≡ write.head)) ⊎ ((next.layer ≢ write.way.layer) × (head ≡ next.node)) → TreeStep a a write Seeks Moved (record write { way = next; head = head })
   seeks_on next head is either = λ C log. subst (λ (s : Stage). WriteStep C a a log log write Seeks Moved (record { key = write.key; edit = write.edit; way = next; head = head; stage = s })) (sym idle) (record {
     request = refl;
-    law = moves_on C a write.key write.edit write.way write.head went visits log next head is either Seeks refl;
+    law = moves_on C a write.key write.edit write.way write.head log went visits next head is either;
     waits = tt;
     fails = (tt, tt);
     follows = inr (refl, subst (λ (w : Went). Visits a write.key write.way w) is visits);
@@ -183,12 +190,12 @@ module _ (a : ArenaView) (write : Write) (went : Went) (visits : Visits a write.
   seeks_still b named is = λ C log.
       let locked : IsLockedAlready a write.way.node.0 = subst (λ (o : Option BorderView). IsSomeAnd o (λ b. b.version.locked ≡ true)) (sym named) is in
       subst (λ (s : Stage). WriteStep C a a log log write Seeks Waits (record { key = write.key; edit = write.edit; way = write.way; head = write.head; stage = s })) (sym idle)
-      (leads C a a log log write Seeks Waits Seeks write.way refl (seek_waits C a write.key write.edit write.way went visits Seeks refl log) (inr locked) (tt, tt) (refl, inr (locked, refl)) tt tt)
+      (leads C a a log log write Seeks Waits Seeks write.way refl (seek_waits C a write.key write.edit write.way log) (inr locked) (tt, tt) (refl, inr (locked, refl)) tt tt)
 
   pub seek_ends : (after : ArenaView) (b : BorderView) → border_at a.nodes write.way.node.0 ≡ Some b → b.version.locked ≡ false → went ≡ Here → after ≡ with_border_changed a write.way.node.0 (λ b. with_lock b true) → KeepsTree a after → TreeStep a after write Seeks Moved (record write { stage = Locked })
   seek_ends after b named unlocked is value keeps = λ C log. subst (λ (x : ArenaView). WriteStep C a x log log write Seeks Moved (record write { stage = Locked })) (sym value)
       (leads C a (with_border_changed a write.way.node.0 (λ b. with_lock b true)) log log write Seeks Moved Locked write.way refl
-      (seek_locks C a write.key write.edit write.way went visits b named unlocked is (subst (λ (x : ArenaView). KeepsTree a x) value keeps) Seeks refl log) tt (tt, tt) (inl (refl, refl)) (inl (refl, refl)) tt)
+      (seek_locks C a write.key write.edit write.way went visits b named unlocked is (subst (λ (x : ArenaView). KeepsTree a x) value keeps) log) tt (tt, tt) (inl (refl, refl)) (inl (refl, refl)) tt)
 
 -- ---- at its border
 -- what a put makes ready, which has split no border
@@ -236,7 +243,7 @@ module _ (C : ℕ) (a after : ArenaView) (log left : LogView) (write : Write) wh
   pub readies_put : (sets : List (ℕ × List ℕ)) (stage : Stage) → write.edit ≡ PutEdit sets → Prepares C write.key sets write.way a log None stage after left
       → IsSomeAnd (border_at a.nodes write.way.node.0) (λ b. FailsBy (put_fault a log b (found_for (rest_of write.key write.way) b.live)) None stage) → WriteStep C a after log left write Locked Moved (record write { stage = stage })
   readies_put sets stage is ready fault =
-      leads C a after log left write Locked Moved stage write.way refl (readies C a log write.key sets write.way stage Locked write.edit after left refl is ready) tt
+      leads C a after log left write Locked Moved stage write.way refl (readies C a log write.key sets write.way stage write.edit after left is ready) tt
       (tt, subst (λ (e : Edit). IsSomeAnd (border_at a.nodes write.way.node.0) (λ b. FailsBy (fault_at e b) None stage)) (sym is) fault)
       (put_ready C a after log left write.key sets write.way stage ready, refl) refl tt
 
@@ -264,7 +271,7 @@ module _ (C : ℕ) (a : ArenaView) (log left : LogView) (write : Write) (is : wr
   pub readies_remove : (stage : Stage) → made ≡ Some stage → WriteStep C a a log left write Locked Moved (record write { stage = stage })
   readies_remove stage made_is =
       let prepared = subst (λ (s : Option Stage). PreparesRemove write.key write.way a log s left) made_is ready in
-      leads C a a log left write Locked Moved stage write.way refl (takes C a log write.key write.edit write.way stage Locked left refl is prepared) tt (
+      leads C a a log left write Locked Moved stage write.way refl (takes C a log write.key write.edit write.way stage left is prepared) tt (
         tt,
         subst (λ (e : Edit). IsSomeAnd (border_at a.nodes write.way.node.0) (λ b. FailsBy (edit_fault a log e b (found_for (rest_of write.key write.way) b.live)) None stage)) (sym is)
             (subst (λ (s : Option Stage). IsSomeAnd (border_at a.nodes write.way.node.0) (λ b. RemoveFailsBy (remove_fault log (found_for (rest_of write.key write.way) b.live)) s)) made_is fault),

@@ -51,7 +51,7 @@ use Rattle.mt_tree.proofs.DescentLemmas.{slice_of_place}
 use Rattle.mt_tree.proofs.SeenLemmas.{seen-border}
 use Rattle.mt_steps.specs.declared.way.Way.{Way}
 use Rattle.mt_steps.specs.declared.way.Went.{Went}
-use Rattle.mt_steps.specs.declared.way.Went.TheVariants.{To, Here}
+use Rattle.mt_steps.specs.declared.way.Went.TheVariants.{Here}
 use Rattle.mt_write.specs.declared.writing.Edit.{Edit}
 use Rattle.mt_write.specs.declared.writing.Edit.TheVariants.{Put as PutEdit, Remove as RemoveEdit}
 use Rattle.mt_write.specs.declared.writing.Stage.{Stage}
@@ -83,17 +83,13 @@ fails_at log (FeedFull number) is = inr (ap (λ (m : ℕ). Some m) is)
 fails_at log _ is = inl refl
 
 -- ---- on its way
-module _ (C : ℕ) (a : ArenaView) (key : List ℕ) (edit : Edit) (way : Way) (went : Went) (visits : Visits a key way went) where
-  -- the law from one stage to another, on its way
-  abbrev SeekLaw : ArenaView → LogView → Progress → Way → Stage → Stage → Type 0
-  SeekLaw after log p next old new = StepLaw C a after log log (edit_request key edit) (stage_held way.node.0 old) p (stage_held next.node.0 new) (λ begun moves past x w. StageIsTrue C key edit way old begun x w) (λ begun moves past x w. StageIsTrue C key edit next new begun x w)
+module _ (C : ℕ) (a : ArenaView) (key : List ℕ) (edit : Edit) (way : Way) (log : LogView) where
+  -- the law of a step that stays on its way, where it waits
+  abbrev SeekLaw : Way → Type 0
+  SeekLaw next = StepLaw C a a log log (edit_request key edit) (stage_held way.node.0 Seeks) Waits (stage_held next.node.0 Seeks) (λ begun moves past x w. StageIsTrue C key edit way Seeks begun x w) (λ begun moves past x w. StageIsTrue C key edit next Seeks begun x w)
 
-  -- the stage is that of a call on its way
-  both_seek : (after : ArenaView) (log : LogView) (p : Progress) (next : Way) (stage : Stage) → stage ≡ Seeks → SeekLaw after log p next Seeks Seeks → SeekLaw after log p next stage stage
-  both_seek after log p next stage seeks law = subst (λ (s : Stage). SeekLaw after log p next s s) (sym seeks) law
-
-  pub seek_again : (stage : Stage) → stage ≡ Seeks → (log : LogView) → SeekLaw a log Waits (record { node = record { 0 = 0 }; layer = 0 }) stage stage
-  seek_again stage seeks log = both_seek a log Waits _ stage seeks (record {
+  pub seek_again : SeekLaw (record { node = record { 0 = 0 }; layer = 0 })
+  seek_again = record {
     steps = λ now begun moves past w world before truth. record {
       goes = goes_same now a w _ [] [] refl world (starts a now w begun key world);
       does = (quiet_same a log, refl);
@@ -102,22 +98,10 @@ module _ (C : ℕ) (a : ArenaView) (key : List ℕ) (edit : Edit) (way : Way) (w
       blocked = inl refl;
       may = tt;
     };
-  })
+  }
 
-  pub seek_moves : (next : Way) → went ≡ To next → (stage : Stage) → stage ≡ Seeks → (log : LogView) → SeekLaw a log Moved next stage stage
-  seek_moves next is stage seeks log = both_seek a log Moved next stage seeks (record {
-    steps = λ now begun moves past w world before truth. record {
-      goes = goes_same now a w _ [] [] refl world (subst (λ (t : Went). GoesTo a begun key way w t) is (visits.goes now w begun world truth)).0;
-      does = (quiet_same a log, refl);
-      reserved = refl;
-      bounds = refl;
-      blocked = inl refl;
-      may = λ get. absurd (no_get key edit get);
-    };
-  })
-
-  pub seek_waits : (stage : Stage) → stage ≡ Seeks → (log : LogView) → SeekLaw a log Waits way stage stage
-  seek_waits stage seeks log = both_seek a log Waits way stage seeks (record {
+  pub seek_waits : SeekLaw way
+  seek_waits = record {
     steps = λ now begun moves past w world before truth. record {
       goes = goes_same now a w _ [] [] refl world truth;
       does = (quiet_same a log, refl);
@@ -126,7 +110,7 @@ module _ (C : ℕ) (a : ArenaView) (key : List ℕ) (edit : Edit) (way : Way) (w
       blocked = inl refl;
       may = tt;
     };
-  })
+  }
 
 -- ---- the border of the key, once it is changed but for what stands in it
 locked_at-changed : (a : ArenaView) (key : List ℕ) (way : Way) (b : BorderView) (w : World) (change : BorderView → BorderView) → border_at a.nodes way.node.0 ≡ Some b → IsLayerOf key way
@@ -166,30 +150,29 @@ module _ (C : ℕ) (a : ArenaView) (key : List ℕ) (edit : Edit) (way : Way) (w
   abbrev lock : BorderView → BorderView
   lock b = with_lock b true
 
-  pub seek_locks : (b : BorderView) → border_at a.nodes way.node.0 ≡ Some b → b.version.locked ≡ false → went ≡ Here → KeepsTree a (with_border_changed a way.node.0 lock) → (stage : Stage) → stage ≡ Seeks → (log : LogView)
-      → StepLaw C a (with_border_changed a way.node.0 lock) log log (edit_request key edit) (stage_held way.node.0 stage) Moved (stage_held way.node.0 Locked) (λ begun moves past x w. StageIsTrue C key edit way stage begun x w) (λ begun moves past x w. StageIsTrue C key edit way Locked begun x w)
-  seek_locks b named unlocked is keeps stage seeks log =
-      subst (λ (s : Stage). StepLaw C a (with_border_changed a way.node.0 lock) log log (edit_request key edit) (stage_held way.node.0 s) Moved (stage_held way.node.0 Locked) (λ begun moves past x w. StageIsTrue C key edit way s begun x w) (λ begun moves past x w. StageIsTrue C key edit way Locked begun x w)) (sym seeks) (record {
-        steps = λ now begun moves past w world before truth.
-            let at : IsAtPlace a key way w = subst (λ (t : Went). GoesTo a begun key way w t) is (visits.goes now w begun world truth) in
-            let same : at.here.border ≡ b = (let both : ◌≡◌ {A = Option BorderView} (Some at.here.border) (Some b) = sym at.here.named ∙ named in cc) in
-            let stands = subst (λ (x : BorderView). IsWhere (arena_seen a) w.chart way.node.0 (prefix_of key way) (border_seen x) (place_of (rest_of key way))) same at.here.stands in
-            let kept = keeps.keeps now w.twins w.chart world.index in
-            record {
-              goes = goes_border a way.node.0 b lock named now w [] (way.node.0 ∷ []) _ world kept.index (keys_same a (with_border_changed a way.node.0 lock) kept.content world.keys)
-                  (unlocked_free a way.node.0 b lock named w [] unlocked (known_on (arena_seen a) w.chart way.node.0 (prefix_of key way) (border_seen b) stands.stands))
-                  (λ other i. inr (among_one other way.node.0 i)) (λ other ne i. elim i [ ]) (λ locked. first) (on_kept a now w.chart way.node.0 _ _ _ _ stands.stands.place world.retired, λ i. refl, alive_changed a way.node.0 b lock named w.chart (inl refl)) (
-                    lock b,
-                    locked_at-changed a key way b w lock named at.layer stands (subst (λ (x : BorderView). IsLast (found_for (rest_of key way) x.live)) same at.last) refl refl refl
-                        (ap (λ (x : BorderView). x.version.deleted) (sym same) ∙ at.alive) refl (unlocked_root a w.closing w.chart way.node.0 b named unlocked world.heads),
-                  );
-              does = (record { content = kept.content; trimmed = refl; deltas = refl }, refl);
-              reserved = refl;
-              bounds = refl;
-              blocked = inl refl;
-              may = λ get. absurd (no_get key edit get);
-            };
-      })
+  pub seek_locks : (b : BorderView) → border_at a.nodes way.node.0 ≡ Some b → b.version.locked ≡ false → went ≡ Here → KeepsTree a (with_border_changed a way.node.0 lock) → (log : LogView)
+      → StepLaw C a (with_border_changed a way.node.0 lock) log log (edit_request key edit) (stage_held way.node.0 Seeks) Moved (stage_held way.node.0 Locked) (λ begun moves past x w. StageIsTrue C key edit way Seeks begun x w) (λ begun moves past x w. StageIsTrue C key edit way Locked begun x w)
+  seek_locks b named unlocked is keeps log = record {
+    steps = λ now begun moves past w world before truth.
+        let at : IsAtPlace a key way w = subst (λ (t : Went). GoesTo a begun key way w t) is (visits.goes now w begun world truth) in
+        let same : at.here.border ≡ b = (let both : ◌≡◌ {A = Option BorderView} (Some at.here.border) (Some b) = sym at.here.named ∙ named in cc) in
+        let stands = subst (λ (x : BorderView). IsWhere (arena_seen a) w.chart way.node.0 (prefix_of key way) (border_seen x) (place_of (rest_of key way))) same at.here.stands in
+        let kept = keeps.keeps now w.twins w.chart world.index in
+        record {
+          goes = goes_border a way.node.0 b lock named now w [] (way.node.0 ∷ []) _ world kept.index (keys_same a (with_border_changed a way.node.0 lock) kept.content world.keys)
+              (unlocked_free a way.node.0 b lock named w [] unlocked (known_on (arena_seen a) w.chart way.node.0 (prefix_of key way) (border_seen b) stands.stands))
+              (λ other i. inr (among_one other way.node.0 i)) (λ other ne i. elim i [ ]) (λ locked. first) (on_kept a now w.chart way.node.0 (at_level 0) (prefix_of key way) b.low stands.stands.posted stands.stands.place world.retired, λ i. refl, alive_changed a way.node.0 b lock named w.chart (inl refl)) (
+                lock b,
+                locked_at-changed a key way b w lock named at.layer stands (subst (λ (x : BorderView). IsLast (found_for (rest_of key way) x.live)) same at.last) refl refl refl
+                    (ap (λ (x : BorderView). x.version.deleted) (sym same) ∙ at.alive) refl (unlocked_root a w.closing w.chart way.node.0 b named unlocked world.heads),
+              );
+          does = (record { content = kept.content; trimmed = refl; deltas = refl }, refl);
+          reserved = refl;
+          bounds = refl;
+          blocked = inl refl;
+          may = λ get. absurd (no_get key edit get);
+        };
+  }
 
 -- what a write answers is right
 answer_right : (past : List Arena) (a : ArenaView) (key : List ℕ) (edit : Edit) (number : ℕ) → IsRight past a (edit_request key edit) (Some number) (written_answer edit number)
@@ -425,12 +408,11 @@ module _ (C : ℕ) (a : ArenaView) (log : LogView) (key : List ℕ) (sets : List
   ready (Taken place stored before) after left f = absurd f
   ready (Stored number split) after left f = absurd f
 
-  pub readies : (stage old : Stage) (edit : Edit) (after : ArenaView) (left : LogView) → old ≡ Locked → edit ≡ PutEdit sets → Prepares C key sets way a log None stage after left
-      → StepLaw C a after log left (edit_request key edit) (stage_held way.node.0 old) Moved (stage_held way.node.0 stage) (λ begun moves past x w. StageIsTrue C key edit way old begun x w) (λ begun moves past x w. StageIsTrue C key edit way stage begun x w)
-  readies stage old edit after left is is_put p =
-      subst (λ (e : Edit). StepLaw C a after log left (edit_request key e) (stage_held way.node.0 old) Moved (stage_held way.node.0 stage) (λ begun moves past x w. StageIsTrue C key e way old begun x w) (λ begun moves past x w. StageIsTrue C key e way stage begun x w)) (sym is_put)
-      (subst (λ (s : Stage). StepLaw C a after log left (PutRequest key sets) (stage_held way.node.0 s) Moved (stage_held way.node.0 stage) (λ begun moves past x w. StageIsTrue C key (PutEdit sets) way s begun x w) (λ begun moves past x w. StageIsTrue C key (PutEdit sets) way stage begun x w)) (sym is)
-      (ready stage after left p))
+  pub readies : (stage : Stage) (edit : Edit) (after : ArenaView) (left : LogView) → edit ≡ PutEdit sets → Prepares C key sets way a log None stage after left
+      → StepLaw C a after log left (edit_request key edit) (stage_held way.node.0 Locked) Moved (stage_held way.node.0 stage) (λ begun moves past x w. StageIsTrue C key edit way Locked begun x w) (λ begun moves past x w. StageIsTrue C key edit way stage begun x w)
+  readies stage edit after left is_put p =
+      subst (λ (e : Edit). StepLaw C a after log left (edit_request key e) (stage_held way.node.0 Locked) Moved (stage_held way.node.0 stage) (λ begun moves past x w. StageIsTrue C key e way Locked begun x w) (λ begun moves past x w. StageIsTrue C key e way stage begun x w)) (sym is_put)
+      (ready stage after left p)
 
 -- ---- ready in a half
 one_or_none : {x : Halves} → ◌≡◌ {A = Option Halves} (Some x) None → ⊥
@@ -662,9 +644,9 @@ module _ (C : ℕ) (a : ArenaView) (log : LogView) (key : List ℕ) (edit : Edit
   unlock b = with_lock b false
 
   -- a remove is ready, or it fails
-  take : (stage : Stage) (left : LogView) → edit ≡ RemoveEdit → PreparesRemove key way a log (Some stage) left
+  pub takes : (stage : Stage) (left : LogView) → edit ≡ RemoveEdit → PreparesRemove key way a log (Some stage) left
       → StepLaw C a a log left (edit_request key edit) (stage_held way.node.0 Locked) Moved (stage_held way.node.0 stage) (λ begun moves past x w. StageIsTrue C key edit way Locked begun x w) (λ begun moves past x w. StageIsTrue C key edit way stage begun x w)
-  take (Taken place stored before) left is_remove f = record {
+  takes (Taken place stored before) left is_remove f = record {
     steps = λ now begun moves past w world early truth.
         let (b, at) = truth in
         let same : f.b ≡ b = (let both : ◌≡◌ {A = Option BorderView} (Some f.b) (Some b) = sym f.named ∙ at.named in cc) in
@@ -677,7 +659,7 @@ module _ (C : ℕ) (a : ArenaView) (log : LogView) (key : List ℕ) (edit : Edit
           may = λ get. absurd (no_get key edit get);
         };
   }
-  take (Failed refusal split) left is_remove (none, may, same_log) =
+  takes (Failed refusal split) left is_remove (none, may, same_log) =
       subst (λ (s : Option Halves). StepLaw C a a log left (edit_request key edit) (stage_held way.node.0 Locked) Moved (stage_held way.node.0 (Failed refusal s)) (λ begun moves past x w. StageIsTrue C key edit way Locked begun x w) (λ begun moves past x w. StageIsTrue C key edit way (Failed refusal s) begun x w)) (sym none)
       (subst (λ (l : LogView). StepLaw C a a log l (edit_request key edit) (stage_held way.node.0 Locked) Moved (stage_held way.node.0 (Failed refusal None)) (λ begun moves past x w. StageIsTrue C key edit way Locked begun x w) (λ begun moves past x w. StageIsTrue C key edit way (Failed refusal None) begun x w)) (sym same_log) (record {
         steps = λ now begun moves past w world before truth.
@@ -694,25 +676,19 @@ module _ (C : ℕ) (a : ArenaView) (log : LogView) (key : List ℕ) (edit : Edit
               may = λ get. absurd (no_get key edit get);
             };
       }))
-  take Seeks left is_remove f = absurd f
-  take Locked left is_remove f = absurd f
-  take (Spared half cut entries) left is_remove f = absurd f
-  take (HalfFilled half cut) left is_remove f = absurd f
-  take (Posts posting ending) left is_remove f = absurd f
-  take (LayerSpared layer entries) left is_remove f = absurd f
-  take (LayerFilled layer) left is_remove f = absurd f
-  take (LayerReady layer) left is_remove f = absurd f
-  take (Layered head) left is_remove f = absurd f
-  take (Halved split) left is_remove f = absurd f
-  take (Filled place stored logged split) left is_remove f = absurd f
-  take (Made place stored columns logged) left is_remove f = absurd f
-  take (Stored number split) left is_remove f = absurd f
-
-  pub takes : (stage old : Stage) (left : LogView) → old ≡ Locked → edit ≡ RemoveEdit → PreparesRemove key way a log (Some stage) left
-      → StepLaw C a a log left (edit_request key edit) (stage_held way.node.0 old) Moved (stage_held way.node.0 stage) (λ begun moves past x w. StageIsTrue C key edit way old begun x w) (λ begun moves past x w. StageIsTrue C key edit way stage begun x w)
-  takes stage old left is is_remove p =
-      subst (λ (s : Stage). StepLaw C a a log left (edit_request key edit) (stage_held way.node.0 s) Moved (stage_held way.node.0 stage) (λ begun moves past x w. StageIsTrue C key edit way s begun x w) (λ begun moves past x w. StageIsTrue C key edit way stage begun x w)) (sym is)
-      (take stage left is_remove p)
+  takes Seeks left is_remove f = absurd f
+  takes Locked left is_remove f = absurd f
+  takes (Spared half cut entries) left is_remove f = absurd f
+  takes (HalfFilled half cut) left is_remove f = absurd f
+  takes (Posts posting ending) left is_remove f = absurd f
+  takes (LayerSpared layer entries) left is_remove f = absurd f
+  takes (LayerFilled layer) left is_remove f = absurd f
+  takes (LayerReady layer) left is_remove f = absurd f
+  takes (Layered head) left is_remove f = absurd f
+  takes (Halved split) left is_remove f = absurd f
+  takes (Filled place stored logged split) left is_remove f = absurd f
+  takes (Made place stored columns logged) left is_remove f = absurd f
+  takes (Stored number split) left is_remove f = absurd f
 
   -- ---- the end
   pub ends : (Then : World → Type 0) (now : ℕ) (w : World) (after : ArenaView) → after ≡ with_border_changed a way.node.0 unlock → KeepsTree a after → IsWorld a now w → IsLockedBorder a w way.node.0 → Then w
@@ -765,17 +741,6 @@ pub has_border_here : (a : ArenaView) (key : List ℕ) (way : Way) (went : Went)
 has_border_here a key way went visits now begun w world way_on is =
     let place = subst (λ (t : Went). GoesTo a begun key way w t) is (visits.goes now w begun world way_on) in
     subst (λ (b : Option BorderView). IsSome b) (sym place.here.named) refl
-
--- a law of one stage is one of the stage that is the same
-pub at_stage : (C : ℕ) (a after : ArenaView) (log left : LogView) (key : List ℕ) (edit : Edit) (way : Way) (head : NodeNo) (p : Progress) (then : Held) (Then : Truth) (stage old : Stage) → old ≡ stage
-    → StepLaw C a after log left (edit_request key edit) (stage_held way.node.0 stage) p then (λ begun moves past x w. HeadedStage C key edit way head stage begun x w) Then
-    → StepLaw C a after log left (edit_request key edit) (stage_held way.node.0 old) p then (λ begun moves past x w. HeadedStage C key edit way head old begun x w) Then
-at_stage C a after log left key edit way head p then Then stage old is law =
-    subst (λ (s : Stage). StepLaw C a after log left (edit_request key edit) (stage_held way.node.0 s) p then (λ begun moves past x w. HeadedStage C key edit way head s begun x w) Then) (sym is) law
-
--- the room that a stage has reserved is there
-pub room_at : (number : ℕ) (log : LogView) (stage old : Stage) → old ≡ stage → (stage_held number old).reserves ≤ log.reserved → (stage_held number stage).reserves ≤ log.reserved
-room_at number log stage old is room = subst (λ (s : Stage). (stage_held number s).reserves ≤ log.reserved) is room
 
 -- what a step asks at one stage it asks at the stage that is the same
 pub may_at : (C : ℕ) (a : ArenaView) (log : LogView) (key : List ℕ) (edit : Edit) (way : Way) (head : NodeNo) (stage old : Stage) → old ≡ stage

@@ -176,7 +176,7 @@ pub record WriteStep (C : ℕ) (a after : ArenaView) (log left : LogView) (write
   pub head : HeadGoes write.head write.way stage p then.way then.head
   pub posts : PostsGo a after write.head stage p then.stage
 
--- the same of a step that leaves the log as it is, and makes no columns: whatever log and number of columns there are
+-- a step that leaves the log as it is and makes no columns does so much whatever log and number of columns there are
 abbrev pub TreeStep : ArenaView → ArenaView → WriteView → Stage → Progress → WriteView → Type 0
 TreeStep a after write stage p then = (C : ℕ) (log : LogView) → WriteStep C a after log log write stage p then
 

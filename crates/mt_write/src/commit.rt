@@ -121,7 +121,7 @@ impl Write {
             result self.new }
     {
         let commit = show(tree, log, self.way.node, place, key, logged);
-        self.stage = Stage::Stored(commit, split);
+        self.turn_to(Stage::Stored(commit, split));
         Progress::Committed(commit)
     }
 
@@ -140,7 +140,7 @@ impl Write {
             result self.new }
     {
         let commit = overwrite(tree, log, self.way.node, place, key, columns, logged);
-        self.stage = Stage::Stored(commit, None);
+        self.turn_to(Stage::Stored(commit, None));
         Progress::Committed(commit)
     }
 
@@ -158,7 +158,7 @@ impl Write {
             self.new }
     {
         let commit = hide(tree, log, self.way.node, place, key, before);
-        self.stage = Stage::Stored(commit, None);
+        self.turn_to(Stage::Stored(commit, None));
         Progress::Committed(commit)
     }
 }

@@ -41,7 +41,8 @@ impl Write {
         let low = tree.border(split.half).low();
         tree.unlock_border(split.left);
         self.way.node = split.half;
-        self.stage = Stage::Posts(Posting::new(self.head, split.half, low), ending);
+        let begun = Posting::new(self.head, split.half, low);
+        self.turn_to(Stage::Posts(begun, ending));
         Progress::Moved
     }
 
@@ -53,15 +54,15 @@ impl Write {
         let mut posting = posting;
         match posting.step(tree) {
             Progressed::Moved => {
-                self.stage = Stage::Posts(posting, ending);
+                self.turn_to(Stage::Posts(posting, ending));
                 Progress::Moved
             }
             Progressed::Waits => {
-                self.stage = Stage::Posts(posting, ending);
+                self.turn_to(Stage::Posts(posting, ending));
                 Progress::Waits
             }
             Progressed::Ended => {
-                self.stage = ended(ending);
+                self.turn_to(ended(ending));
                 Progress::Moved
             }
         }

@@ -94,7 +94,7 @@ impl Write {
         ensures { TreeStep tree.old tree.new self.old (Stage.LayerSpared layer entries) result self.new }
     {
         tree.fill_border(layer.root, entries, None);
-        self.stage = Stage::LayerFilled(layer);
+        self.turn_to(Stage::LayerFilled(layer));
         Progress::Moved
     }
 
@@ -104,7 +104,7 @@ impl Write {
         ensures { TreeStep tree.old tree.new self.old (Stage.LayerFilled layer) result self.new }
     {
         tree.unlock_head(layer.head);
-        self.stage = Stage::LayerReady(layer);
+        self.turn_to(Stage::LayerReady(layer));
         Progress::Moved
     }
 
@@ -114,7 +114,7 @@ impl Write {
         ensures { TreeStep tree.old tree.new self.old (Stage.LayerReady layer) result self.new }
     {
         tree.make_link(self.way.node, layer.place, layer.head);
-        self.stage = Stage::Layered(layer.head);
+        self.turn_to(Stage::Layered(layer.head));
         Progress::Moved
     }
 
@@ -130,7 +130,7 @@ impl Write {
             layer: self.way.layer + 1,
         };
         self.head = head;
-        self.stage = Stage::Seeks;
+        self.turn_to(Stage::Seeks);
         Progress::Moved
     }
 }

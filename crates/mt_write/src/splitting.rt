@@ -151,7 +151,7 @@ impl Write {
         ensures { TreeStep tree.old tree.new self.old (Stage.Spared half cut entries) result self.new }
     {
         fill_spare(tree, self.way.node, half, entries);
-        self.stage = Stage::HalfFilled { half, cut };
+        self.turn_to(Stage::HalfFilled { half, cut });
         Progress::Moved
     }
 
@@ -162,7 +162,7 @@ impl Write {
     {
         let left = self.way.node;
         self.way = link_halves(tree, self.way, &self.key, half, cut);
-        self.stage = Stage::Halved(Halves { left, half });
+        self.turn_to(Stage::Halved(Halves { left, half }));
         Progress::Moved
     }
 
@@ -178,9 +178,10 @@ impl Write {
         requires { MayStage columns tree.old log.old self.old (Stage.Halved split) }
         ensures { WriteStep columns tree.old tree.new log.old log.new self.old (Stage.Halved split) result self.new }
     {
-        self.stage = fill_half(
+        let stage = fill_half(
             alloc, columns, tree, log, self.way, split, &self.key, &self.edit,
         );
+        self.turn_to(stage);
         Progress::Moved
     }
 }

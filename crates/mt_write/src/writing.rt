@@ -141,6 +141,13 @@ fn head_after(head: NodeNo, way: Way, next: Way) -> NodeNo
 }
 
 impl Write {
+    // Goes to a stage, and drops the one where it was: here alone, as a proof of a drop is long.
+    pub(crate) fn turn_to(&mut self, stage: Stage)
+        ensures { self.new ≡ record self.old { stage = stage } }
+    {
+        self.stage = stage;
+    }
+
     // On its way to the border, and its lock there.
     fn seek(&mut self, tree: &mut Tree) -> Progress
         requires may { MayBeAt tree.old self.old Stage.Seeks }
@@ -163,7 +170,7 @@ impl Write {
                     return Progress::Waits;
                 }
                 tree.lock_border(self.way.node);
-                self.stage = Stage::Locked;
+                self.turn_to(Stage::Locked);
                 Progress::Moved
             }
         }
@@ -177,7 +184,8 @@ impl Write {
         let number = self.way.node;
         match &self.edit {
             Edit::Put(sets) => {
-                self.stage = prepare(alloc, columns, tree, log, self.way, &self.key, sets);
+                let stage = prepare(alloc, columns, tree, log, self.way, &self.key, sets);
+                self.turn_to(stage);
                 Progress::Moved
             }
             Edit::Remove => {
@@ -185,7 +193,7 @@ impl Write {
                     tree.unlock_border(number);
                     return Progress::Answered(Answer::Absent);
                 };
-                self.stage = stage;
+                self.turn_to(stage);
                 Progress::Moved
             }
         }

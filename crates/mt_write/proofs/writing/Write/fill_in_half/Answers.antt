@@ -1,5 +1,6 @@
-use Rattle.mt_write.proofs.StageSteps.{readies_half}
+use Rattle.mt_write.proofs.StageSteps.{turned, readies_half}
 use Rattle.mt_write.proofs.writing.Write.fill_in_half.Goals as goal
 
 pub returns : goal.returns
-returns c = readies_half c.args.columns c.args.tree.now c.fill_half.new.tree c.args.log.now c.fill_half.new.log c.args.self.now c.args.split c.fill_half.result c.fill_half.ensures.ready c.fill_half.ensures.fault
+returns c = turned c.args.columns c.args.tree.now c.fill_half-stage.new.tree c.args.log.now c.fill_half-stage.new.log c.args.self.now _ _ _ _ c.turn_to.ensures
+    (readies_half c.args.columns c.args.tree.now c.fill_half-stage.new.tree c.args.log.now c.fill_half-stage.new.log c.args.self.now c.args.split c.fill_half-stage.result c.fill_half-stage.ensures.ready c.fill_half-stage.ensures.fault)

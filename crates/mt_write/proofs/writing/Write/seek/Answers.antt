@@ -1,5 +1,5 @@
 use Rattle.std.proofs.Common.{◌∙◌, sym}
-use Rattle.mt_write.proofs.StageSteps.{may_seek, border_here, seeks_again, seeks_on, seeks_still, seek_ends}
+use Rattle.mt_write.proofs.StageSteps.{turned_tree, may_seek, border_here, seeks_again, seeks_on, seeks_still, seek_ends}
 use Rattle.mt_write.proofs.writing.Write.seek.Goals as goal
 
 pub visit-requires : goal.visit-requires
@@ -18,4 +18,5 @@ pub returns-then-is_locked : goal.returns-then-is_locked
 returns-then-is_locked c = seeks_still c.args.tree.now c.args.self.now c.visit.result c.visit.ensures.visits c.requires.idle c.border.result.now c.border.ensures.value (sym c.is_locked.ensures.value ∙ c.if-is_locked.true)
 
 pub returns-else-is_locked : goal.returns-else-is_locked
-returns-else-is_locked c = seek_ends c.args.tree.now c.args.self.now c.visit.result c.visit.ensures.visits c.requires.idle c.lock_border.new.self c.border.result.now c.border.ensures.value (sym c.is_locked.ensures.value ∙ c.if-is_locked.false) c.in-Here.is c.lock_border.ensures.value c.lock_border.ensures.keeps
+returns-else-is_locked c = turned_tree c.args.tree.now c.lock_border.new.self c.args.self.now _ _ _ _ c.turn_to.ensures
+    (seek_ends c.args.tree.now c.args.self.now c.visit.result c.visit.ensures.visits c.requires.idle c.lock_border.new.self c.border.result.now c.border.ensures.value (sym c.is_locked.ensures.value ∙ c.if-is_locked.false) c.in-Here.is c.lock_border.ensures.value c.lock_border.ensures.keeps)
