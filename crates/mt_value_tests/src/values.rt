@@ -1,15 +1,15 @@
-//! Copies of every kind of value, the columns of a row, and the messages of refusals.
+//! Values: copies of every kind, the columns of a row that are shown, and the message of a refusal.
 
-use crate::columns::shown;
-use crate::copying::TryCopy;
-use crate::event::{Answer, Event, Outcome, Reply, Request, TidyRule};
-use crate::items::Items;
-use crate::key::Key;
-use crate::numbers::{CallNo, PassNo, ViewNo};
-use crate::refusal::{NoMemory, Refusal};
-use crate::row::{Change, Delta, Row};
-use crate::view::{Page, RowTest, ViewSpec};
 use bytes::Bytes;
+use mt_types::columns::shown;
+use mt_types::copying::TryCopy;
+use mt_types::event::{Answer, Event, Outcome, Reply, Request, TidyRule};
+use mt_types::items::Items;
+use mt_types::key::Key;
+use mt_types::numbers::{CallNo, PassNo, ViewNo};
+use mt_types::refusal::{NoMemory, Refusal};
+use mt_types::row::{Change, Delta, Row};
+use mt_types::view::{Page, RowTest, ViewSpec};
 use std::alloc::Global;
 use std::test::Fail;
 

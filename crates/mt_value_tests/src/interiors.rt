@@ -1,10 +1,8 @@
-//! Heads and interior nodes by example: a full node split, a child dropped, one bypassed, and a new root named.
+//! Interior nodes by example: a search that is led, a full node split, a child dropped and one bypassed.
 
 ghost use Rattle.std.specs.Prelude.{◌≡◌};
 
-use crate::child::Child;
-use crate::head::Head;
-use crate::interior::{Interior, KEPT_CHILDREN};
+use mt_interior::{Child, Interior, KEPT_CHILDREN};
 use mt_types::numbers::NodeNo;
 use std::test::Fail;
 
@@ -86,15 +84,4 @@ fn child_dropped_and_bypassed(rt: HostRuntime) -> Result<(), Fail> {
     root.drop_child(place);
     assert_eq!(rt; led_to(&root, 10), Some(1));
     Ok(())
-}
-
-#[test]
-fn new_root_is_named(rt: HostRuntime) {
-    let mut head = Head::new(NodeNo(1), 0);
-    head.set_root(NodeNo(3), 1);
-    assert_eq!(rt; head.root(), NodeNo(3));
-    assert_eq!(rt; head.level(), 1);
-    assert!(rt; !head.is_deleted());
-    head.mark_deleted();
-    assert!(rt; head.is_deleted());
 }

@@ -1,5 +1,6 @@
-//! Words that were worked out by hand.
-use super::*;
+//! The words of nodes that were worked out by hand.
+
+use mt_word::{Permutation, SpentCounter, Version};
 
 #[test]
 fn permutation_words(rt: HostRuntime) {

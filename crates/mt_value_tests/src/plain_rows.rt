@@ -1,20 +1,15 @@
-//! Rows by example: what changes make of them, and each public call once.
+//! The rows as one sorted map: a row that is put, set, read and removed. What lists of changes make is shown by `mtrows`.
 
-use crate::rows::{Rows, after};
 use bytes::Bytes;
-use mt_types::items::Items;
+use mt_rows::rows::Rows;
 use mt_types::key::Key;
-use mt_types::row::{Change, Column, Columns, Pairs, Row, Sets};
+use mt_types::row::{Change, Column, Columns, Row, Sets};
 use std::alloc::Global;
 use std::test::Fail;
 
 // The key of one byte, 61.
 fn key_61() -> Result<Key, Fail> {
     Ok(Key::new(Bytes::from_static(&[0x61]))?)
-}
-
-fn empty_key() -> Result<Key, Fail> {
-    Ok(Key::new(Bytes::new())?)
 }
 
 fn column(alloc: Global, byte: u8) -> Result<Column, Fail> {
@@ -40,47 +35,6 @@ fn row_of(alloc: Global, version: u64, bytes: &[u8]) -> Result<Row, Fail> {
         version,
         columns: Columns::from_vec(columns),
     })
-}
-
-fn only_61(alloc: Global, row: Row) -> Result<Pairs, Fail> {
-    Ok(Items::from_vec(Vec::from_array(alloc, [(key_61()?, row)])?))
-}
-
-#[test]
-fn columns(rt: HostRuntime) -> Result<(), Fail> {
-    let alloc = rt.alloc();
-    let changes = Vec::from_array(
-        alloc,
-        [
-            put_61(alloc, &[(0, 0x01), (2, 0x03)])?,
-            put_61(alloc, &[(1, 0x02)])?,
-        ],
-    )?;
-    let rows = after(alloc, 3, &changes)?;
-    let wanted = row_of(alloc, 2, &[0x01, 0x02, 0x03])?;
-    assert_eq!(rt; rows.get(&key_61()?), Some(&wanted));
-    Ok(())
-}
-
-#[test]
-fn put_range_remove(rt: HostRuntime) -> Result<(), Fail> {
-    let alloc = rt.alloc();
-    let mut changes = Vec::from_array(
-        alloc,
-        [put_61(alloc, &[(0, 0x01)])?, put_61(alloc, &[(1, 0x02)])?],
-    )?;
-    let rows = after(alloc, 2, &changes)?;
-    let wanted = only_61(alloc, row_of(alloc, 2, &[0x01, 0x02])?)?;
-    assert_eq!(rt; rows.page(alloc, &empty_key()?, 1000)?, wanted);
-
-    changes.push(Change::Drop(key_61()?))?;
-    let mut rows = after(alloc, 2, &changes)?;
-    assert_eq!(rt; rows.get(&key_61()?), None);
-    assert!(rt; rows.is_empty());
-
-    rows.apply(alloc, 2, 4, &Change::Drop(key_61()?))?;
-    assert_eq!(rt; rows.page(alloc, &empty_key()?, 1000)?, Pairs::new(alloc));
-    Ok(())
 }
 
 #[test]

@@ -1,13 +1,18 @@
-//! Borders by example: insertion orders, a cut, a split, a hidden slot, and each allocating call once.
+//! Borders by example: insertion orders, cuts, a split, and each allocating call once.
 
 ghost use Rattle.std.specs.Prelude.{◌≡◌, ◌<◌, ◌-◌, ◌^◌, ◌↔◌, length, IsTrue, IsSome};
 ghost use Rattle.mt_word.specs.declared.permutation_word.TheConstants.{SLOTS};
 ghost use Rattle.mt_word.specs.declared.version_word.TheConstants.{MAX_SPLITS};
 ghost use Rattle.mt_border.specs.Entry.{entry_suffix};
 
-use super::*;
 use bytes::Bytes;
-use mt_slice::{Length, rest_of};
+use mt_border::{Border, Content, Entry, Found, RightLink};
+use mt_slice::{Class, Length, rest_of};
+use mt_types::copying::TryCopy;
+use mt_types::items::Items;
+use mt_types::numbers::NodeNo;
+use mt_types::row::Row;
+use std::alloc::Global;
 use std::test::Fail;
 
 // A row with no columns.
@@ -53,7 +58,6 @@ fn equal_padded_slices(rt: HostRuntime) -> Result<(), Fail> {
         border.find(0x6100_0000_0000_0000, length, &[]),
         Found::Row(1)
     );
-    assert_eq!(rt; border.table.word(), 0xedcb_a987_6543_0123);
     Ok(())
 }
 
@@ -118,9 +122,8 @@ fn split_of_ten_entries_of_one_slice(rt: HostRuntime) -> Result<(), Fail> {
     let upper = split(alloc, &mut lower, NodeNo(2))?;
     assert_eq!(rt; upper.low(), 0x0100_0000_0000_0000);
     assert_eq!(rt; upper.right(), None);
-    assert_eq!(rt; upper.table.word(), 0xedcb_a987_6543_2105);
-    assert_eq!(rt; lower.table.word(), 0xedcb_a987_6543_210a);
-    assert_eq!(rt; lower.version.vsplit(), 1);
+    assert_eq!(rt; upper.len(), 5);
+    assert_eq!(rt; lower.len(), 10);
     assert_eq!(rt; lower.right_for(0x00ff_ffff_ffff_ffff), None);
     assert_eq!(rt; lower.right_for(0x0100_0000_0000_0000), Some(NodeNo(2)));
     lower.set_right(None);
@@ -136,7 +139,7 @@ fn sixteenth_key_after_a_split(rt: HostRuntime) -> Result<(), Fail> {
     assert!(rt; !lower.is_split_spent());
     let mut upper = split(alloc, &mut lower, NodeNo(2))?;
     put(alloc, &mut upper, &[6])?;
-    assert_eq!(rt; upper.table.word(), 0xedcb_a987_6543_2106);
+    assert_eq!(rt; upper.len(), 6);
     let slices: [u64; 6] = [1 << 56, 2 << 56, 3 << 56, 4 << 56, 5 << 56, 6 << 56];
     for (place, slice) in slices.iter().enumerate() {
         let found = upper.find(*slice, Class::Len(Length::new(1)), &[]);
@@ -171,19 +174,6 @@ fn fifteen_slices(rt: HostRuntime) -> Result<(), Fail> {
     }
     assert!(rt; border.is_full());
     assert_eq!(rt; border.cut_place(), 8);
-    Ok(())
-}
-
-#[test]
-fn hidden_slot_is_filled_again(rt: HostRuntime) -> Result<(), Fail> {
-    let alloc = rt.alloc();
-    let mut border = Border::new(alloc, 0, 0);
-    put(alloc, &mut border, &[1])?;
-    assert_eq!(rt; border.version.vinsert(), 0);
-    assert_eq!(rt; border.len(), 1);
-    border.hide(0);
-    put(alloc, &mut border, &[2])?;
-    assert_eq!(rt; border.version.vinsert(), 1);
     Ok(())
 }
 

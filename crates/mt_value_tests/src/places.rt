@@ -1,9 +1,9 @@
-//! Keys whose slices were worked out by hand.
+//! Keys whose slices and order were worked out by hand.
 
 ghost use Rattle.std.specs.Prelude.{◌≡◌, IfOk};
 
-use super::*;
 use bytes::Bytes;
+use mt_slice::{Class, Length, SLICE_BYTES, compare, rest_after, slice_at};
 use mt_types::key::Key;
 use mt_types::refusal::Refusal;
 use std::cmp::Ordering;

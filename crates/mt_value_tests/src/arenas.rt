@@ -1,8 +1,6 @@
 //! The arena by example: every number taken, and numbers freed and given again.
 
-use crate::arena::Arena;
-use crate::node::Node;
-use crate::retired::Retired;
+use mt_arena::{Arena, Node, Retired};
 use mt_border::Border;
 use mt_interior::{Head, Interior};
 use mt_types::limits::MAX_NODES;

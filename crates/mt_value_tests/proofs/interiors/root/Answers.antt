@@ -1,6 +1,6 @@
 use Rattle.std.proofs.Common.{refl, lit<, lit≤}
 use Rattle.mt_interior.proofs.InteriorLemmas.{interior-root}
-use Rattle.mt_interior.proofs.tests.root.Goals as goal
+use Rattle.mt_value_tests.proofs.interiors.root.Goals as goal
 
 pub fill-requires-clause-sound : goal.fill-requires-clause-sound
 fill-requires-clause-sound c =

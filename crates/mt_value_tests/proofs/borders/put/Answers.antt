@@ -2,7 +2,7 @@ use Rattle.std.proofs.Common.{◌≤◌, ◌<◌, ◌∙◌, sym, subst, length,
 use Rattle.mt_border.specs.Order.{IsBorder}
 use Rattle.mt_border.specs.declared.entry.RightLink.{RightLink}
 use Rattle.mt_border.proofs.ShowLemmas.{IsBeforeRight, filled_shown}
-use Rattle.mt_border.proofs.border.tests.put.Goals as goal
+use Rattle.mt_value_tests.proofs.borders.put.Goals as goal
 
 pub show-requires-clause-sound : goal.show-requires-clause-sound
 show-requires-clause-sound c =

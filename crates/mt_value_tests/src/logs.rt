@@ -1,10 +1,9 @@
-//! The log by example, and each public call once.
+//! The log of commits by example: deltas that are held, trimmed and kept, and room that is reserved.
 
 ghost use Rattle.std.specs.Prelude.{◌≡◌, ◌+◌, ◌∷◌, ◌++◌, [], IfOk, OnOk};
 ghost use Rattle.mt_commit.specs.Log.{LogView, newest, with_delta};
 
-use crate::laws;
-use crate::log::Log;
+use mt_commit::log::Log;
 use mt_types::key::Key;
 use mt_types::refusal::Refusal;
 use mt_types::row::{Column, Delta};
@@ -73,33 +72,4 @@ fn room_for_one(rt: HostRuntime) -> Result<(), Fail> {
     log.unreserve();
     assert_eq!(rt; log.reserve(), Ok(()));
     Ok(())
-}
-
-// No memory is asked for before these are tested: the answers are the same where the first allocation fails, by
-// `rt try --test --fail-alloc 1`.
-#[test]
-fn memory_comes_last(rt: HostRuntime) -> Result<(), Fail> {
-    let mut spent = Log::after(rt.alloc(), u64::MAX, 1);
-    assert_eq!(rt; spent.reserve(), Err(Refusal::Spent));
-    let mut full = Log::after(rt.alloc(), u64::MAX - 1, 0);
-    assert_eq!(rt; full.reserve(), Err(Refusal::FeedFull(u64::MAX - 1)));
-    Ok(())
-}
-
-#[test]
-fn last_number(rt: HostRuntime) -> Result<(), Fail> {
-    let mut log = Log::after(rt.alloc(), u64::MAX - 1, 9);
-    log.reserve()?;
-    assert_eq!(rt; log.reserve(), Err(Refusal::Spent));
-    Ok(())
-}
-
-#[test]
-fn laws_are_there() {
-    laws::deltas_are_undone();
-    laws::newest_is_present();
-    laws::appending_keeps_the_past();
-    laws::trimming_keeps_the_past();
-    laws::each_delta_makes_rows();
-    laws::holders_are_counted();
 }

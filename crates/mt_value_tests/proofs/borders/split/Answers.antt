@@ -1,6 +1,6 @@
 use Rattle.std.proofs.Common.{true}
 use Rattle.mt_border.proofs.SplitLemmas.{cut_upper, cut_above_low, cut_above_kept}
-use Rattle.mt_border.proofs.border.tests.split.Goals as goal
+use Rattle.mt_value_tests.proofs.borders.split.Goals as goal
 
 pub fill-requires-clause-sound : goal.fill-requires-clause-sound
 fill-requires-clause-sound c =

@@ -1,13 +1,5 @@
-//! The worked session, each kind of message both ways, and each fault.
+//! The frames of the wire: the worked session, each kind of message both ways, and each fault.
 
-use crate::decoder::Decoder;
-use crate::encode::{encode_replies, encode_requests, replies_fit, requests_fit};
-use crate::fault::WireFault;
-use crate::laws;
-use crate::query::Query;
-use crate::replies::decode_replies;
-use crate::response::{End, Response};
-use crate::stream::decode_requests;
 use bytes::Bytes;
 use mt_types::event::{Answer, Reply, Request, TidyRule};
 use mt_types::items::Items;
@@ -16,6 +8,13 @@ use mt_types::numbers::{CallNo, PassNo, ViewNo};
 use mt_types::refusal::Refusal;
 use mt_types::row::Row;
 use mt_types::view::{Page, RowTest, ViewSpec};
+use mt_wire::decoder::Decoder;
+use mt_wire::encode::{encode_replies, encode_requests, replies_fit, requests_fit};
+use mt_wire::fault::WireFault;
+use mt_wire::query::Query;
+use mt_wire::replies::decode_replies;
+use mt_wire::response::{End, Response};
+use mt_wire::stream::decode_requests;
 use std::alloc::Global;
 use std::test::Fail;
 
@@ -262,15 +261,4 @@ fn reply_is_told(rt: HostRuntime) {
         answer: Answer::Removed(2),
     };
     assert_eq!(rt; Response::from(reply), done(End::Committed(2)));
-}
-
-#[test]
-fn laws_stand() {
-    laws::queries_are_read_one_way();
-    laws::responses_are_read_one_way();
-    laws::request_frames_are_read_one_way();
-    laws::reply_frames_are_read_one_way();
-    laws::a_frame_stands_alone();
-    laws::a_begun_frame_has_no_fault();
-    laws::a_fault_stays();
 }
