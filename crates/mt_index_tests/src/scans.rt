@@ -1,9 +1,9 @@
-//! Each public call once: a scan over borders with no entries. What a scan takes of entries is said by its contract in
-//! full.
+//! A scan over borders with no entries, by each public call once. What a scan takes of entries is said by its contract
+//! in full.
 
-use super::*;
 use bytes::Bytes;
 use mt_border::{Border, RightLink};
+use mt_scan::{Scan, ScanMove};
 use mt_types::items::Items;
 use mt_types::key::Key;
 use mt_types::numbers::NodeNo;

@@ -1,15 +1,19 @@
-//! Each public call of the machine once: a put of a long key that commits, with its delta, and a run of a get. Whole
-//! scripts are run one crate up.
+//! The machine by its own calls: a put of a long key that commits, a run of a get, reads without a call, and a copy of a
+//! view. Whole scripts are those of `mtdrive`.
 
+ghost use Rattle.std.specs.Prelude.{IfOk};
 ghost use Rattle.mt_index.specs.Alone.{IsIdle};
 
-use crate::machine::Machine;
-use crate::options::Options;
+use crate::commits::all_that;
 use bytes::Bytes;
+use mt_index::machine::Machine;
+use mt_index::options::Options;
 use mt_types::event::{Answer, Event, Outcome, Request};
 use mt_types::items::Items;
 use mt_types::key::Key;
-use mt_types::numbers::{CallNo, PassNo};
+use mt_types::numbers::{CallNo, PassNo, ViewNo};
+use mt_types::refusal::Refusal;
+use mt_types::view::RowTest;
 use std::alloc::Global;
 use std::test::Fail;
 
@@ -28,7 +32,7 @@ fn get(alloc: Global, key: &'static [u8]) -> Request {
 }
 
 // A put of column 0.
-fn put(alloc: Global, key: &'static [u8], value: &'static [u8]) -> Result<Request, Fail> {
+fn put(alloc: Global, key: &'static [u8], value: &'static [u8]) -> Result<Request, Refusal> {
     let mut sets = Vec::new(alloc);
     sets.push((0, Bytes::from_static(value)))?;
     Ok(Request::Put {
@@ -61,9 +65,6 @@ fn put_commits(rt: HostRuntime) -> Result<(), Fail> {
     assert_eq!(rt; commit_of(step(&mut machine, alloc, 1)), Some(1));
     assert_eq!(rt; machine.open_calls(), 1);
     assert_eq!(rt; machine.nodes(), 2);
-    let deltas = machine.feed(alloc, 0, 10)?;
-    assert_eq!(rt; deltas.len(), 1);
-    assert_eq!(rt; deltas[0].number, 1);
     Ok(())
 }
 
@@ -83,48 +84,38 @@ fn empty_index_empty_key(rt: HostRuntime) -> Result<(), Fail> {
     Ok(())
 }
 
-// What a call alone answers.
-fn answer(machine: &mut Machine, alloc: Global, request: Request) -> Result<Answer, Fail>
-    requires { IsIdle machine.old }
-    ensures { IsIdle machine.new }
+// An index in which a call alone has put a row at key a.
+fn with_row(alloc: Global) -> Result<Machine, Refusal>
+    ensures { IfOk result IsIdle }
 {
-    Ok(machine.do_alone(alloc, request)?.answer)
-}
-
-// A put, a remove and a get that finds none, each by itself.
-#[test]
-fn calls_alone(rt: HostRuntime) -> Result<(), Fail> {
-    let alloc = rt.alloc();
     let mut machine = Machine::open(alloc, OPTIONS)?;
-    let stored = answer(&mut machine, alloc, put(alloc, b"a", &[0x76])?)? == Answer::Stored(1);
-    assert!(rt; stored);
-    let remove = Request::Remove {
-        key: Bytes::from_static(b"a"),
-    };
-    let removed = answer(&mut machine, alloc, remove)? == Answer::Removed(2);
-    assert!(rt; removed);
-    let absent = answer(&mut machine, alloc, get(alloc, b"a"))? == Answer::Absent;
-    assert!(rt; absent);
-    assert!(rt; machine.is_idle());
-    Ok(())
+    let _ = machine.do_alone(alloc, put(alloc, b"a", &[0x76])?)?;
+    Ok(machine)
 }
 
-// A get by a call, a get and a range without one: each reads the row of a put.
+// A get and a range without a call: each reads the row of the put.
 #[test]
 fn reads_alone(rt: HostRuntime) -> Result<(), Fail> {
     let alloc = rt.alloc();
-    let mut machine = Machine::open(alloc, OPTIONS)?;
-    let reply = machine.do_alone(alloc, put(alloc, b"a", &[0x76])?)?;
-    assert_eq!(rt; reply.from, 0);
-    assert_eq!(rt; reply.to, 1);
-    let found =
-        matches!(answer(&mut machine, alloc, get(alloc, b"a"))?, Answer::Found(row) if row.version == 1);
-    assert!(rt; found);
+    let machine = with_row(alloc)?;
     let key = Key::new(Bytes::from_static(b"a"))?;
     let read = machine.get(alloc, key, Items::new(alloc))?;
     assert_eq!(rt; read.map(|row| row.version), Some(1));
     let first = Key::new(Bytes::new())?;
     let pairs = machine.range(alloc, first, 10, Items::new(alloc))?;
     assert_eq!(rt; pairs.as_slice().len(), 1);
+    Ok(())
+}
+
+// A view of all rows, built by a call alone, stands at commit 1.
+#[test]
+fn view_is_copied(rt: HostRuntime) -> Result<(), Fail> {
+    let alloc = rt.alloc();
+    let mut machine = with_row(alloc)?;
+    let spec = all_that(RowTest::Any);
+    let built = machine.do_alone(alloc, Request::Build { spec })?.answer;
+    assert!(rt; built == Answer::Built(ViewNo(1)));
+    let (at, state) = machine.view_copy(alloc, ViewNo(1))?;
+    assert_eq!(rt; (at, state.count()), (1, 1));
     Ok(())
 }

@@ -1,9 +1,8 @@
 //! The tree by example: a descent in a new one, and a number that is taken and given back.
 
-use crate::tree::{TOP, Tree};
-use crate::visit::Visit;
 use mt_arena::Node;
 use mt_border::{Border, Found};
+use mt_tree::{TOP, Tree, Visit};
 use std::test::Fail;
 
 #[test]

@@ -1,22 +1,18 @@
 //! Builds by example, over a border without entries: rows that come into a view and leave it, and a scan that
 //! ends with its view's keys. What a build reads of entries is said by its contract in full.
 
-use crate::build::Build;
+use crate::commits::{Step, all_that, delta, shows};
 use bytes::Bytes;
 use mt_border::{Border, RightLink};
+use mt_build::build::Build;
 use mt_scan::ScanMove;
 use mt_types::key::Key;
 use mt_types::numbers::NodeNo;
 use mt_types::refusal::Refusal;
-use mt_types::row::{Columns, Delta, Row};
 use mt_types::view::{RowTest, ViewSpec};
 use mt_view::state::ViewState;
 use std::alloc::Global;
 use std::test::Fail;
-
-// A commit that leaves a row with this one column at a key, or no row where it has no bytes; and what the view then
-// shows: how many rows, and the sum of their amounts.
-type Step = (&'static [u8], &'static [u8], u64, u128);
 
 // Of rows whose column is at least 5.
 const COME_AND_GO: [Step; 4] = [
@@ -26,37 +22,10 @@ const COME_AND_GO: [Step; 4] = [
     (b"a", b"", 0, 0),
 ];
 
-fn row(alloc: Global, version: u64, column: Bytes) -> Result<Row, Refusal> {
-    let columns = Columns::from_vec(Vec::from_array(alloc, [column])?);
-    Ok(Row { version, columns })
-}
-
-// A state doesn't look at what a delta says of the row before.
-fn delta(alloc: Global, number: u64, step: &Step) -> Result<Delta, Refusal> {
-    let (key, column, _, _) = *step;
-    let after = if column.is_empty() {
-        None
-    } else {
-        Some(row(alloc, number, Bytes::from_static(column))?)
-    };
-    Ok(Delta {
-        number,
-        key: Key::new(Bytes::from_static(key))?,
-        before: None,
-        after,
-    })
-}
-
-fn all_that(test: RowTest) -> ViewSpec {
-    let lo = Bytes::new();
-    ViewSpec::Range { lo, hi: None, test }
-}
-
 // Refused `Behind` where the state shows something else at this number.
 fn expect(state: &ViewState, number: u64, step: &Step) -> Result<(), Refusal> {
-    let (_, _, count, sum) = *step;
     let page = state.read(&Key::new(Bytes::new())?, 10)?;
-    if page.at == number && page.count == count && page.sums.as_slice() == [sum].as_slice() {
+    if shows(&page, number, step) {
         Ok(())
     } else {
         Err(Refusal::Behind(page.at))

@@ -1,18 +1,15 @@
 //! States of views by example: rows that come and go, large sums, a prefix, a page from a key, and copies.
 
-use crate::state::ViewState;
+use crate::commits::{Step, all_that, delta, row, shows};
 use bytes::Bytes;
 use mt_types::copying::TryCopy;
 use mt_types::key::Key;
 use mt_types::refusal::Refusal;
-use mt_types::row::{Columns, Delta, Pairs, Row};
-use mt_types::view::{Page, RowTest, ViewSpec};
+use mt_types::row::Pairs;
+use mt_types::view::{RowTest, ViewSpec};
+use mt_view::state::ViewState;
 use std::alloc::Global;
 use std::test::Fail;
-
-// A commit that leaves a row with this one column at a key, or no row where it has no bytes; and what the view then
-// shows: how many rows, and the sum of their amounts.
-type Step = (&'static [u8], &'static [u8], u64, u128);
 
 // Of rows whose column is at least 5.
 const COME_AND_GO: [Step; 6] = [
@@ -56,32 +53,6 @@ const THREE_KEYS: [Step; 3] = [
     (b"e", b"\x03", 3, 6),
 ];
 
-fn row(alloc: Global, version: u64, column: &'static [u8]) -> Result<Row, Refusal> {
-    let columns = Columns::from_vec(Vec::from_array(alloc, [Bytes::from_static(column)])?);
-    Ok(Row { version, columns })
-}
-
-// A state doesn't look at what a delta says of the row before.
-fn delta(alloc: Global, number: u64, step: &Step) -> Result<Delta, Refusal> {
-    let (key, column, _, _) = *step;
-    let after = if column.is_empty() {
-        None
-    } else {
-        Some(row(alloc, number, column)?)
-    };
-    Ok(Delta {
-        number,
-        key: Key::new(Bytes::from_static(key))?,
-        before: None,
-        after,
-    })
-}
-
-fn shows(page: &Page, number: u64, step: &Step) -> bool {
-    let (_, _, count, sum) = *step;
-    page.at == number && page.count == count && page.sums.as_slice() == [sum].as_slice()
-}
-
 // Takes the state on by a commit. Refused `Behind` where it then shows something else.
 fn take_on(alloc: Global, state: &mut ViewState, number: u64, step: &Step) -> Result<(), Refusal> {
     state.apply(&delta(alloc, number, step)?)?;
@@ -102,15 +73,10 @@ fn walked(alloc: Global, spec: ViewSpec, steps: &[Step]) -> Result<ViewState, Re
     Ok(state)
 }
 
-fn range(test: RowTest) -> ViewSpec {
-    let lo = Bytes::new();
-    ViewSpec::Range { lo, hi: None, test }
-}
-
 #[test]
 fn states_follow_commits(rt: HostRuntime) -> Result<(), Fail> {
-    let _ = walked(rt.alloc(), range(RowTest::AtLeast(0, 5)), &COME_AND_GO)?;
-    let _ = walked(rt.alloc(), range(RowTest::Any), &LARGE)?;
+    let _ = walked(rt.alloc(), all_that(RowTest::AtLeast(0, 5)), &COME_AND_GO)?;
+    let _ = walked(rt.alloc(), all_that(RowTest::Any), &LARGE)?;
     let key = Bytes::from_static(b"ab");
     let test = RowTest::Any;
     let _ = walked(rt.alloc(), ViewSpec::Prefix { key, test }, &BEGIN_WITH_AB)?;
@@ -126,7 +92,7 @@ fn first_from_b(state: &ViewState) -> Result<(usize, u64), Refusal> {
 
 #[test]
 fn page_from_a_key(rt: HostRuntime) -> Result<(), Fail> {
-    let state = walked(rt.alloc(), range(RowTest::Any), &THREE_KEYS)?;
+    let state = walked(rt.alloc(), all_that(RowTest::Any), &THREE_KEYS)?;
     assert_eq!(rt; first_from_b(&state)?, (1, 2));
     Ok(())
 }
@@ -159,7 +125,7 @@ fn state_over_rows(rt: HostRuntime) -> Result<(), Fail> {
 
 #[test]
 fn copies_go_on(rt: HostRuntime) -> Result<(), Fail> {
-    let state = walked(rt.alloc(), range(RowTest::Any), &THREE_KEYS)?;
+    let state = walked(rt.alloc(), all_that(RowTest::Any), &THREE_KEYS)?;
     let mut copied = state.copy(rt.alloc())?;
     take_on(rt.alloc(), &mut copied, 4, &(b"c", b"", 2, 4))?;
     assert_eq!(rt; (state.at(), state.count()), (3, 3));
