@@ -1,14 +1,13 @@
-//! Passes and their refusals, one caller, and a view that is kept up. What threads alone can show is in
-//! `mt_shared_tests`.
+//! Passes and their refusals, one caller, and a view that is kept up: all in one thread.
 
-use crate::calls::{get, put, view_add};
-use crate::driving::Shared;
-use crate::index::{Door, Index, close};
-use crate::lone::Lone;
-use crate::pass::Pass;
-use crate::views::{keep_views, view_read};
 use bytes::Bytes;
 use mt_index::options::Options;
+use mt_shared::calls::{get, put, view_add};
+use mt_shared::driving::Shared;
+use mt_shared::index::{Door, Index, close};
+use mt_shared::lone::Lone;
+use mt_shared::pass::Pass;
+use mt_shared::views::{keep_views, view_read};
 use mt_types::event::{Answer, Event, Outcome, Reply, Request};
 use mt_types::items::Items;
 use mt_types::numbers::{CallNo, PassNo, ViewNo};
