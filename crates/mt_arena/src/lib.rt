@@ -4,8 +4,6 @@
 mod arena;
 mod node;
 mod retired;
-#[cfg(test)]
-mod tests;
 
 pub use arena::Arena;
 pub use node::Node;

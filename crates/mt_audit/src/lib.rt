@@ -6,6 +6,4 @@ pub mod audit;
 mod book;
 mod line;
 mod receipts;
-#[cfg(test)]
-mod tests;
 pub mod verdict;

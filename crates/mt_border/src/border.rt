@@ -457,6 +457,3 @@ impl Border {
         unreachable!()
     }
 }
-
-#[cfg(test)]
-mod tests;

@@ -149,12 +149,6 @@ impl SlotTable {
         }
     }
 
-    /// The permutation's word.
-    #[cfg(test)]
-    pub fn word(&self) -> u64 {
-        self.permutation.to_u64()
-    }
-
     /// How many slots are live.
     #[inline]
     pub fn len(&self) -> usize

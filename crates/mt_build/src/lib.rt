@@ -4,5 +4,3 @@
 pub mod build;
 mod end;
 pub mod laws;
-#[cfg(test)]
-mod tests;

@@ -10,7 +10,5 @@ mod log;
 mod pages;
 mod ranges;
 pub mod receipt;
-#[cfg(test)]
-mod tests;
 mod versions;
 mod writes;

@@ -6,5 +6,3 @@
 mod holders;
 pub mod laws;
 pub mod log;
-#[cfg(test)]
-mod tests;

@@ -213,28 +213,3 @@ impl Log {
         self.held_after = bound;
     }
 }
-
-#[cfg(test)]
-impl Log {
-    /// The log after `number` commits of which nothing is left. It is to hold at most `feed` deltas for the slowest.
-    pub(crate) fn after(alloc: Global, number: u64, feed: u64) -> Log
-        ensures { result ≡ record {
-          held_after = number;
-          deltas = [];
-          reserved = 0;
-          holders = [];
-          feed = feed;
-          keep = 0;
-        } }
-    {
-        Log {
-            deltas: VecDeque::new(alloc),
-            holders: Holders::new(alloc),
-            holder_count: 0,
-            held_after: number,
-            reserved: 0,
-            feed,
-            keep: 0,
-        }
-    }
-}

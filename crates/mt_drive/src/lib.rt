@@ -12,7 +12,5 @@ pub mod script;
 pub mod showing;
 pub mod sink;
 pub mod source;
-#[cfg(test)]
-mod tests;
 pub mod values;
 pub mod words;

@@ -10,6 +10,4 @@ pub mod laws;
 pub mod machine;
 pub mod options;
 mod stepping;
-#[cfg(test)]
-mod tests;
 mod viewing;

@@ -4,8 +4,6 @@
 mod child;
 mod head;
 mod interior;
-#[cfg(test)]
-mod tests;
 
 pub use child::Child;
 pub use head::Head;

@@ -5,5 +5,3 @@
 
 pub mod columns;
 pub mod rows;
-#[cfg(test)]
-mod tests;

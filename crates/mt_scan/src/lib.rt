@@ -6,6 +6,3 @@ mod pair;
 mod scan;
 
 pub use scan::{Scan, ScanMove};
-
-#[cfg(test)]
-mod tests;

@@ -10,7 +10,5 @@ pub mod kept;
 pub mod lone;
 pub mod pass;
 pub mod settling;
-#[cfg(test)]
-mod tests;
 pub mod trace;
 pub mod views;

@@ -9,6 +9,3 @@ mod slicing;
 
 pub use slice_class::{Class, Length, SLICE_BYTES};
 pub use slicing::{compare, key_bytes, rest_after, rest_of, slice_at, slice_of};
-
-#[cfg(test)]
-mod tests;

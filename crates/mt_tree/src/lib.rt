@@ -13,6 +13,3 @@ mod visit;
 pub use descent::visit_node;
 pub use tree::{TOP, Tree};
 pub use visit::Visit;
-
-#[cfg(test)]
-mod tests;

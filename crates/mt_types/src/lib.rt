@@ -12,6 +12,4 @@ pub mod limits;
 pub mod numbers;
 pub mod refusal;
 pub mod row;
-#[cfg(test)]
-mod tests;
 pub mod view;

@@ -7,5 +7,3 @@ mod amounts;
 pub mod laws;
 mod members;
 pub mod state;
-#[cfg(test)]
-mod tests;

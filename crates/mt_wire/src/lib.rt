@@ -18,6 +18,4 @@ pub mod response;
 mod response_reading;
 mod response_writing;
 pub mod stream;
-#[cfg(test)]
-mod tests;
 mod writing;

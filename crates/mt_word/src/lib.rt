@@ -8,6 +8,3 @@ mod version_word;
 
 pub use permutation_word::{Permutation, SLOTS};
 pub use version_word::{MAX_INSERTS, MAX_SPLITS, SpentCounter, Version};
-
-#[cfg(test)]
-mod tests;

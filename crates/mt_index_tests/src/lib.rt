@@ -1,0 +1,20 @@
+//! Tests of the tree, scans, views, builds, the checker, the index and its scripts by the public surface of their crates.
+//! There is nothing else here: a crate of its own, so that the crates below are proved once.
+#![tactic(auto)]
+
+#[cfg(test)]
+mod builds;
+#[cfg(test)]
+mod commits;
+#[cfg(test)]
+mod machines;
+#[cfg(test)]
+mod receipts;
+#[cfg(test)]
+mod scans;
+#[cfg(test)]
+mod scripts;
+#[cfg(test)]
+mod trees;
+#[cfg(test)]
+mod views;

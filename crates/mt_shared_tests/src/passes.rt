@@ -1,0 +1,140 @@
+//! Passes and their refusals, one caller, and a view that is kept up: all in one thread.
+
+use bytes::Bytes;
+use mt_index::options::Options;
+use mt_shared::calls::{get, put, view_add};
+use mt_shared::driving::Shared;
+use mt_shared::index::{Door, Index, close};
+use mt_shared::lone::Lone;
+use mt_shared::pass::Pass;
+use mt_shared::views::{keep_views, view_read};
+use mt_types::event::{Answer, Event, Outcome, Reply, Request};
+use mt_types::items::Items;
+use mt_types::numbers::{CallNo, PassNo, ViewNo};
+use mt_types::refusal::Refusal;
+use mt_types::row::Sets;
+use mt_types::view::{RowTest, ViewSpec};
+use std::alloc::Global;
+use std::test::Fail;
+
+const OPTIONS: Options = Options {
+    columns: 1,
+    feed: 4096,
+    keep: 0,
+};
+
+const KEY: &[u8] = b"a";
+
+// Column 0 is to become this.
+fn sets(alloc: Global, value: &'static [u8]) -> Result<Sets, Refusal> {
+    let mut sets = Vec::new(alloc);
+    sets.push((0, Bytes::from_static(value)))?;
+    Ok(Items::from_vec(sets))
+}
+
+fn put_key<S: Shared>(alloc: Global, shared: &mut S, pass: &mut Pass) -> Result<Reply, Refusal> {
+    let sets = sets(alloc, b"v")?;
+    put(alloc, shared, pass, Bytes::from_static(KEY), sets)
+}
+
+fn get_key<S: Shared>(alloc: Global, shared: &mut S, pass: &mut Pass) -> Result<Reply, Refusal> {
+    get(
+        alloc,
+        shared,
+        pass,
+        Bytes::from_static(KEY),
+        Items::new(alloc),
+    )
+}
+
+#[test]
+fn passes_are_1_to_255(rt: HostRuntime) -> Result<(), Fail> {
+    let alloc = rt.alloc();
+    assert!(rt; matches!(Index::start(alloc, OPTIONS, 0), Err(Refusal::BadLimit)));
+    assert!(rt; matches!(Index::start(alloc, OPTIONS, 256), Err(Refusal::BadLimit)));
+    Ok(())
+}
+
+#[test]
+fn passes(rt: HostRuntime) -> Result<(), Fail> {
+    let alloc = rt.alloc();
+    let (index, mut passes) = Index::start(alloc, OPTIONS, 2)?;
+    let mut door = Door::new(&index, &rt);
+    let _ = put_key(alloc, &mut door, &mut passes[0])?;
+    let got = get_key(alloc, &mut door, &mut passes[1])?;
+    assert!(rt; matches!(&got.answer, Answer::Found(row) if row.version == 1));
+    assert_eq!(rt; passes[1].seen(), 1);
+    let totals = close(index, passes)?;
+    assert_eq!(rt; (totals.events, totals.commits), (9, 1));
+    Ok(())
+}
+
+#[test]
+fn other_passes(rt: HostRuntime) -> Result<(), Fail> {
+    let alloc = rt.alloc();
+    let (index, mut passes) = Index::start(alloc, OPTIONS, 2)?;
+    let mut door = Door::new(&index, &rt);
+    let begin = Event::Begin(
+        PassNo(2),
+        Request::Remove {
+            key: Bytes::from_static(KEY),
+        },
+    );
+    let named = door.event(alloc, &mut passes[0], &begin);
+    assert!(rt; matches!(named, Outcome::Refused(Refusal::WrongPass)));
+    let begun = door.event(alloc, &mut passes[1], &begin);
+    assert!(rt; matches!(begun, Outcome::Call(CallNo(1))));
+    let stepped = door.event(alloc, &mut passes[0], &Event::Step(CallNo(1)));
+    assert!(rt; matches!(stepped, Outcome::Refused(Refusal::WrongPass)));
+    assert_eq!(rt; (passes[0].events(), passes[1].events()), (0, 1));
+    let _ = passes.pop();
+    assert!(rt; matches!(close(index, passes), Err(Refusal::WrongPass)));
+    Ok(())
+}
+
+#[test]
+fn passes_of_another_index(rt: HostRuntime) -> Result<(), Fail> {
+    let alloc = rt.alloc();
+    let (other, mut strangers) = Index::start(alloc, OPTIONS, 2)?;
+    let _ = put_key(alloc, &mut Door::new(&other, &rt), &mut strangers[0])?;
+    let (index, _passes) = Index::start(alloc, OPTIONS, 1)?;
+    let mut door = Door::new(&index, &rt);
+    let second = get_key(alloc, &mut door, &mut strangers[1]);
+    assert!(rt; matches!(second, Err(Refusal::WrongPass)));
+    let first = get_key(alloc, &mut door, &mut strangers[0]);
+    assert!(rt; matches!(first, Err(Refusal::WrongPass)));
+    Ok(())
+}
+
+#[test]
+fn one_caller(rt: HostRuntime) -> Result<(), Fail> {
+    let alloc = rt.alloc();
+    let (mut lone, mut pass) = Lone::start(alloc, OPTIONS)?;
+    let _ = put_key(alloc, &mut lone, &mut pass)?;
+    let got = get_key(alloc, &mut lone, &mut pass)?;
+    assert!(rt; matches!(&got.answer, Answer::Found(row) if row.version == 1));
+    assert_eq!(rt; pass.commits(), 1);
+    Ok(())
+}
+
+#[test]
+fn kept_view(rt: HostRuntime) -> Result<(), Fail> {
+    let alloc = rt.alloc();
+    let (index, mut passes) = Index::start(alloc, OPTIONS, 1)?;
+    let mut door = Door::new(&index, &rt);
+    let pass = &mut passes[0];
+    let spec = ViewSpec::Prefix {
+        key: Bytes::from_static(KEY),
+        test: RowTest::Any,
+    };
+    let built = view_add(alloc, &mut door, pass, spec)?;
+    assert!(rt; matches!(&built.answer, Answer::Built(view) if view.0 == 1));
+    let _ = put_key(alloc, &mut door, pass)?;
+    let early = view_read(alloc, &mut door, pass, ViewNo(1), 1, Bytes::new(), 10);
+    assert!(rt; matches!(early, Err(Refusal::Behind(0))));
+    assert_eq!(rt; keep_views(alloc, &mut door, pass, 10)?, 1);
+    assert_eq!(rt; keep_views(alloc, &mut door, pass, 10)?, 0);
+    let page = view_read(alloc, &mut door, pass, ViewNo(1), 1, Bytes::new(), 10)?;
+    assert_eq!(rt; (page.at, page.count), (1, 1));
+    Ok(())
+}

@@ -1,0 +1,87 @@
+//! Interior nodes by example: a search that is led, a full node split, a child dropped and one bypassed.
+
+ghost use Rattle.std.specs.Prelude.{◌≡◌};
+
+use mt_interior::{Child, Interior, KEPT_CHILDREN};
+use mt_types::numbers::NodeNo;
+use std::test::Fail;
+
+fn border(low: u64, node: u32) -> Child
+    ensures { result ≡ record { low = low; node = record { 0 = node }; level = 0 } }
+{
+    Child {
+        low,
+        node: NodeNo(node),
+        level: 0,
+    }
+}
+
+// A root over two borders, from the slices 0 and 10 on.
+fn root() -> Interior {
+    let mut root = Interior::new_locked(1, 0);
+    root.fill(&[border(0, 1), border(10, 2)]);
+    root.unlock();
+    root
+}
+
+// Posts a border, where there is room.
+fn post(interior: &mut Interior, low: u64, node: u32) {
+    if 0 < interior.len() && !interior.is_full() && interior.low() <= low {
+        let _levels = interior.level();
+        interior.insert(border(low, node));
+    }
+}
+
+// The node that the search for a slice is led to.
+fn led_to(interior: &Interior, slice: u64) -> Option<u32> {
+    if 0 < interior.len() && interior.low() <= slice {
+        Some(interior.child(interior.child_for(slice)).node.0)
+    } else {
+        None
+    }
+}
+
+#[test]
+fn leads_to_the_last_low(rt: HostRuntime) -> Result<(), Fail> {
+    let mut root = root();
+    post(&mut root, 5, 3);
+    post(&mut root, 20, 4);
+    assert_eq!(rt; root.len(), 4);
+    assert_eq!(rt; led_to(&root, 0), Some(1));
+    assert_eq!(rt; led_to(&root, 5), Some(3));
+    assert_eq!(rt; led_to(&root, 9), Some(3));
+    assert_eq!(rt; led_to(&root, 19), Some(2));
+    assert_eq!(rt; led_to(&root, u64::MAX), Some(4));
+    Ok(())
+}
+
+#[test]
+fn upper_half_is_copied(rt: HostRuntime) -> Result<(), Fail> {
+    let mut root = root();
+    for k in 0..14u32 {
+        post(&mut root, 11 + u64::from(k), 3 + k);
+    }
+    assert!(rt; root.is_full());
+    let upper = root.copy_upper(rt.alloc(), KEPT_CHILDREN)?;
+    assert_eq!(rt; upper.as_slice().len(), 8);
+    assert_eq!(rt; upper.as_slice()[0], border(17, 9));
+    root.keep_first(KEPT_CHILDREN);
+    assert_eq!(rt; root.len(), 8);
+    assert_eq!(rt; led_to(&root, 100), Some(8));
+    Ok(())
+}
+
+#[test]
+fn child_dropped_and_bypassed(rt: HostRuntime) -> Result<(), Fail> {
+    let mut root = root();
+    let place = root.place_of(NodeNo(2)).ok_or("no child")?;
+    assert_eq!(rt; place, 1);
+    assert!(rt; place < root.len());
+    root.bypass(place, NodeNo(7), 0);
+    assert_eq!(rt; root.place_of(NodeNo(2)), None);
+    assert_eq!(rt; led_to(&root, 10), Some(7));
+    assert!(rt; place < root.len());
+    root.drop_child(place);
+    assert_eq!(rt; led_to(&root, 10), Some(1));
+    Ok(())
+}
