@@ -106,7 +106,7 @@ fn hide(tree: &mut Tree, log: &mut Log, number: NodeNo, place: usize, key: Key, 
 }
 
 impl Write {
-    // Its new row is shown.
+    // A put that found no row shows the one that it has filled in.
     pub(crate) fn show_row(
         &mut self,
         tree: &mut Tree,
@@ -125,7 +125,7 @@ impl Write {
         Progress::Committed(commit)
     }
 
-    // The columns that it has made are written over the row's.
+    // A put that found a row writes the columns that it has made over the row's.
     pub(crate) fn write_row(
         &mut self,
         tree: &mut Tree,
@@ -144,7 +144,7 @@ impl Write {
         Progress::Committed(commit)
     }
 
-    // The row that it removes is hidden.
+    // A remove hides the row that it found.
     pub(crate) fn hide_row(
         &mut self,
         tree: &mut Tree,

@@ -46,7 +46,7 @@ impl Write {
         Progress::Moved
     }
 
-    // A step of the posting of the right half.
+    // A step of the posting of the right half. When that has ended, its border alone is left to unlock.
     pub(crate) fn post(&mut self, tree: &mut Tree, posting: Posting, ending: Ending) -> Progress
         requires { MayBeAt tree.old self.old (Stage.Posts posting ending) }
         ensures { TreeStep tree.old tree.new self.old (Stage.Posts posting ending) result self.new }

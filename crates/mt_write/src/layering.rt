@@ -1,5 +1,5 @@
 //! A new layer, for a key that goes on after a slice that another key has: a head and a border are spared, the border
-//! takes the other key's row, one layer deeper.
+//! takes the other key's row, one layer deeper, the head is linked, and the put goes on there.
 
 ghost use Rattle.std.specs.Prelude.{◌≡◌, ℕ, ◌≤◌, ◌*◌, List, [], ◌∷◌, length, slice_get, MatchResult, IfOk, IsSomeAnd, Some, None};
 ghost use Rattle.mt_types.specs.declared.event.Request.TheVariants.{Put as PutRequest};
@@ -98,7 +98,7 @@ impl Write {
         Progress::Moved
     }
 
-    // The head of the new layer is unlocked.
+    // The head of the new layer is unlocked, before anything names it.
     pub(crate) fn unlock_head(&mut self, tree: &mut Tree, layer: Layer) -> Progress
         requires { MayBeAt tree.old self.old (Stage.LayerFilled layer) }
         ensures { TreeStep tree.old tree.new self.old (Stage.LayerFilled layer) result self.new }
@@ -118,7 +118,7 @@ impl Write {
         Progress::Moved
     }
 
-    // Unlocks its border, and goes on in the new layer.
+    // Unlocks its border, and goes on in the new layer, at its head.
     pub(crate) fn go_below(&mut self, tree: &mut Tree, head: NodeNo) -> Progress
         requires { MayBeAt tree.old self.old (Stage.Layered head) }
         ensures { TreeStep tree.old tree.new self.old (Stage.Layered head) result self.new }

@@ -233,7 +233,7 @@ impl Write {
         }
     }
 
-    /// Visits one node.
+    /// Visits one node, as the stage where it is asks, and goes to the next stage.
     pub fn step(&mut self, alloc: Global, columns: u8, tree: &mut Tree, log: &mut Log) -> Progress
         requires { MayStep tree.old log.old (write_held self.old) (WriteIsTrue columns self.old) }
         ensures request { write_request self.new ≡ write_request self.old }
