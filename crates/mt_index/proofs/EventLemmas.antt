@@ -11,7 +11,7 @@ use Rattle.mt_types.specs.declared.event.Outcome.TheVariants.{Call as Called, Re
 use Rattle.mt_types.specs.declared.refusal.Refusal.{Refusal}
 use Rattle.mt_index.specs.Stands.{MachineView, Begins, Steps, Applies, ReadsView, Drops, Advances, Collects}
 use Rattle.mt_index.specs.Alone.{pass_0, next_call}
-use Rattle.mt_index.specs.Events.{EventDoes, Happens, AllHappen, StepsHappen, RunsAlone}
+use Rattle.mt_index.specs.Events.{EventDoes, Happens, AllHappen, StepsHappen, HappensAlone}
 use Rattle.mt_index.proofs.CauseLemmas.{steps-caused}
 use Rattle.mt_index.proofs.OneStepLemmas.{steps-once}
 
@@ -68,8 +68,8 @@ abbrev Ran : MachineView → Request → CallNo → MachineView → Type 0
 Ran s request call m = (begun : MachineView) × Happens s (Begin pass_0 request) (Called call) begun × (outcomes : List Outcome)
     × StepsHappen begun call outcomes m
 
-pub ends_alone : (s m t : MachineView) (request : Request) (call : CallNo) (last : Outcome) {begun : MachineView} → Begins s pass_0 request (Called call) begun → Ran s request call m → Steps m call.0 last t → RunsAlone s request last t
-unfolding RunsAlone
+pub ends_alone : (s m t : MachineView) (request : Request) (call : CallNo) (last : Outcome) {begun : MachineView} → Begins s pass_0 request (Called call) begun → Ran s request call m → Steps m call.0 last t → HappensAlone s request last t
+unfolding HappensAlone
 ends_alone s m t request call last begins (begun, happens, outcomes, steps) ends =
     let is : call ≡ next_call s = begins.1 in
     inr (record {
@@ -81,6 +81,6 @@ ends_alone s m t request call last begins (begun, happens, outcomes, steps) ends
     })
 
 -- its begin is refused
-pub turned_away : (s t : MachineView) (request : Request) (refusal : Refusal) → Begins s pass_0 request (Refused refusal) t → RunsAlone s request (Refused refusal) t
-unfolding RunsAlone
+pub turned_away : (s t : MachineView) (request : Request) (refusal : Refusal) → Begins s pass_0 request (Refused refusal) t → HappensAlone s request (Refused refusal) t
+unfolding HappensAlone
 turned_away s t request refusal begins = inl (record { does = begin-does s t (Refused refusal) pass_0 request begins; caused = tt; one_step = tt })

@@ -60,8 +60,8 @@ pub record StepsToEnd (s : MachineView) (request : Request) (last : Outcome) (t 
   pub steps : StepsHappen begun (next_call s) (outcomes ++ last ∷ []) t
 
 -- or its begin, where that is refused
-unfoldable pub RunsAlone : MachineView → Request → Outcome → MachineView → Type 0
-RunsAlone s request last t = Happens s (Begin pass_0 request) last t ⊎ StepsToEnd s request last t
+unfoldable pub HappensAlone : MachineView → Request → Outcome → MachineView → Type 0
+HappensAlone s request last t = Happens s (Begin pass_0 request) last t ⊎ StepsToEnd s request last t
 
 -- a machine on which nothing has happened, opened so
 pub record IsOpened (options : Options) (s : MachineView) : Type 0 where

@@ -9,7 +9,7 @@ ghost use Rattle.mt_promise.specs.History.{History, moment, rows};
 ghost use Rattle.mt_promise.specs.Alone.{IsRangeOfMap};
 ghost use Rattle.mt_index.specs.Alone.{IsIdle, AnswersPlainly, RefusesPlainly};
 ghost use Rattle.mt_index.specs.Stands.{Stands, HasBounds, fault_of};
-ghost use Rattle.mt_index.specs.Events.{RunsAlone, last_outcome};
+ghost use Rattle.mt_index.specs.Events.{HappensAlone, last_outcome};
 
 use crate::machine::Machine;
 use mt_scan::Scan;
@@ -117,7 +117,7 @@ impl Machine {
         requires { IsIdle self.old }
         ensures answered { IfOk result (λ reply. AnswersPlainly self.old request reply self.new) }
         ensures refused { IfErr result (λ refusal. RefusesPlainly self.old request refusal self.new) }
-        ensures happens { RunsAlone self.old request (last_outcome result) self.new }
+        ensures happens { HappensAlone self.old request (last_outcome result) self.new }
         ensures fault { MatchOption (fault_of self.old request) (Unit {0}) (λ refusal. result ≡ Err refusal) }
         ensures idle { IsIdle self.new }
         ensures options { self.new.columns ≡ self.old.columns }
