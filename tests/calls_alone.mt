@@ -1,21 +1,15 @@
 alone put 01 0=-
 alone put 02 0=-
 alone put 03 0=-
-alone put 04 0=-
-alone put 05 0=-
-alone range - 2 all
-alone range - 0 all
-alone range - 1001 all
-alone range 06 1000 all
 begin 1 get 03 all
 alone get 03 all
 alone put 03 0=00
 begin 2 put 06 0=06
 alone range - 10 all
-finish 8
-step 9
+finish 4
+step 5
 alone remove 01
-finish 9
+finish 5
 alone remove 01
 alone remove 01
 alone get 02 0
@@ -24,7 +18,7 @@ alone
 alone get
 alone get 02
 alone 1 get 02 all
-finish 12
+finish 8
 begin 1 get - all
-finish 12
-finish 13
+finish 8
+finish 9

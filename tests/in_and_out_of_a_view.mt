@@ -1,19 +1,14 @@
-begin 1 build range - none atleast 0 5
-finish 1
-begin 1 put 61 0=04
-finish 2
+alone build range - none atleast 0 5
+alone put 61 0=04
 apply 1
 view 1 0 - 10
-begin 1 put 61 0=05
-finish 3
+alone put 61 0=05
 apply 1
 view 1 0 - 10
-begin 1 put 61 0=04
-finish 4
+alone put 61 0=04
 apply 1
 view 1 0 - 10
-begin 1 remove 61
-finish 5
+alone remove 61
 apply 1
 view 1 0 - 10
 apply 1

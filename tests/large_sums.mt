@@ -1,11 +1,7 @@
-begin 1 build range - none any
-finish 1
-begin 1 put 01 0=ffffffffffffffff
-finish 2
-begin 1 put 02 0=ffffffffffffffff
-finish 3
-begin 1 put 03 0=010203040506070809
-finish 4
+alone build range - none any
+alone put 01 0=ffffffffffffffff
+alone put 02 0=ffffffffffffffff
+alone put 03 0=010203040506070809
 apply 1
 apply 1
 apply 1

@@ -5,7 +5,7 @@ ghost use Rattle.std.specs.Io.KnownBytes.{Appends};
 ghost use Rattle.mt_types.specs.declared.refusal.Refusal.{Refusal};
 ghost use Rattle.mt_check.specs.Receipts.{IsAsked};
 ghost use Rattle.mt_drive.specs.Lines.{line_text};
-ghost use Rattle.mt_drive.specs.Sink.{sink_writer, write_failed};
+ghost use Rattle.mt_streams.specs.Sinks.{sink_writer, write_failed};
 ghost use Rattle.mt_drive.specs.Source.{source_rest, GivesNoMore};
 ghost use Rattle.mt_drive.specs.declared.fault.ScriptFault.TheVariants.{Read as ReadFault, Write as WriteFault, Start, NoMemory};
 ghost use Rattle.mt_audit.specs.Audit.{IsVerdict, IsVerdictOn, verdict_text, Audited, Unfinished};
@@ -17,8 +17,8 @@ use crate::verdict::{Verdict, verdict_line};
 use mt_check::check::check;
 use mt_check::fault::Rule;
 use mt_drive::fault::ScriptFault;
-use mt_drive::sink::Sink;
 use mt_drive::source::Source;
+use mt_streams::sink::Sink;
 use std::alloc::Global;
 use std::io::{Read, Write};
 
@@ -90,7 +90,7 @@ fn tell<W: Write>(alloc: Global, verdict: &Verdict, writer: &mut Sink<W>) -> Res
     ensures write { IfErr result (λ fault. fault ≡ WriteFault → write_failed writer.new ≡ true) }
 {
     match verdict_line(alloc, verdict) {
-        Ok(text) => writer.send(text.as_bytes()),
+        Ok(text) => writer.send(text.as_bytes()).map_err(|_| ScriptFault::Write),
         Err(_) => Err(ScriptFault::NoMemory),
     }
 }

@@ -1,6 +1,7 @@
 -- A script that has been played so far.
-use Rattle.std.proofs.Common.{◌≡◌, ◌⊎◌, inl, inr, ℕ, ◌+◌, cond, List, [], ◌∷◌, ◌++◌, length, fold, take, drop, take_all, length-drop, take-append-drop, ◌-◌, refl, ap, subst, sym, ◌∙◌, arith, append_assoc, Option, None, Some, IfSome}
+use Rattle.std.proofs.Common.{◌≡◌, ◌⊎◌, inl, inr, ℕ, ◌+◌, cond, List, [], ◌∷◌, ◌++◌, length, fold, refl, ap, subst, sym, ◌∙◌, arith, append_assoc, Option, None, Some, IfSome}
 use Rattle.std.specs.Io.KnownBytes.{Appends}
+use Rattle.std.proofs.KnownBytes.{Appends-nil, Appends-trans}
 use Rattle.mt_promise.specs.History.{History}
 use Rattle.mt_promise.specs.Legal.{Legal}
 use Rattle.mt_promise.proofs.KeepLemmas.{keeps_promise}
@@ -17,16 +18,6 @@ pub append_none : {A : Type 0} (xs : List A) → xs ++ [] ≡ xs
 append_none [] = refl
 append_none (x ∷ xs) = ap (λ l. x ∷ l) (append_none xs)
 
-pub Appends-none : (a : Option (List ℕ)) → Appends a a []
-Appends-none None = tt
-Appends-none (Some xs) = sym (append_none xs)
-
-pub Appends-both : (a b c : Option (List ℕ)) (x y : List ℕ) → Appends a b x → Appends b c y → Appends a c (x ++ y)
-Appends-both None b c x y p q = tt
-Appends-both (Some u) None c x y p q = absurd p
-Appends-both (Some u) (Some v) None x y p q = absurd q
-Appends-both (Some u) (Some v) (Some w) x y p q = q ∙ ap (λ l. l ++ y) p ∙ append_assoc u x y
-
 output-push : (replies : List Reply) (reply : Reply) → output_of (replies ++ reply ∷ []) ≡ output_of replies ++ reply_lines reply
 output-push [] reply = append_none (reply_lines reply)
 output-push (r ∷ rs) reply = ap (λ l. reply_lines r ++ l) (output-push rs reply) ∙ sym (append_assoc (reply_lines r) (output_of rs) (reply_lines reply))
@@ -37,16 +28,6 @@ bad-push_from n (r ∷ rs) reply = bad-push_from (n + cond (is_bad r) 1 0) rs re
 
 bad-push : (replies : List Reply) (reply : Reply) → bad_lines (replies ++ reply ∷ []) ≡ bad_lines replies + bad_lines (reply ∷ [])
 bad-push replies reply = let e = bad-push_from 0 replies reply in omega (arith, e)
-
--- one write of a front of the rest
-pub sent_more : (bytes rest sent : List ℕ) (n : ℕ) (a b c : Option (List ℕ)) → bytes ≡ sent ++ rest → Appends a b sent → Appends b c (take n rest)
-    → (x : List ℕ) × (bytes ≡ x ++ take (length rest - n) (drop n rest)) × Appends a c x
-sent_more bytes rest sent n a b c split sent_so went = (
-  sent ++ take n rest,
-  split ∙ ap (λ l. sent ++ l) (sym (take-append-drop n rest)) ∙ sym (append_assoc sent (take n rest) (drop n rest))
-      ∙ ap (λ l. (sent ++ take n rest) ++ l) (sym (take_all (length rest - n) (drop n rest) (omega (arith, length-drop n rest)))),
-  Appends-both a b c sent (take n rest) sent_so went,
-)
 
 pub went_whole : (line sent unsent : List ℕ) (a b : Option (List ℕ)) → line ≡ sent ++ unsent → Appends a b sent → unsent ≡ [] → Appends a b line
 went_whole line sent unsent a b split went none = subst (Appends a b) (sym (split ∙ ap (λ l. sent ++ l) none ∙ append_none sent)) went
@@ -115,7 +96,7 @@ Playing-none s input old stands = record {
   stands = stands;
   columns = refl;
   keeps = refl;
-  written = Appends-none old;
+  written = Appends-nil old;
   counted = refl;
 }
 
@@ -142,7 +123,7 @@ Playing-more {C} {keep} {input} {old} {bad} {s} {now} {new} t next out more line
       stands = one.2;
       columns = as_before.0 ∙ p.columns;
       keeps = as_before.1 ∙ p.keeps;
-      written = subst (Appends old out) (sym (output-push p.replies reply)) (Appends-both old new out (output_of p.replies) (reply_lines reply) p.written sent);
+      written = subst (Appends old out) (sym (output-push p.replies reply)) (Appends-trans old new out (output_of p.replies) (reply_lines reply) p.written sent);
       counted = counted ∙ ap (λ n. n + bad_lines (reply ∷ [])) p.counted ∙ sym (bad-push p.replies reply);
     }
 
@@ -195,7 +176,7 @@ Broke-sending fault {C} {keep} {input} {old} {bad} {s} {now} {new} t next out li
       promise = keeps_promise C one.0 one.3;
       sent = output_of p.replies ++ sent;
       unsent = unsent;
-      written = Appends-both old new out (output_of p.replies) sent p.written went;
+      written = Appends-trans old new out (output_of p.replies) sent p.written went;
       front = output-push p.replies reply ∙ ap (λ l. output_of p.replies ++ l) split ∙ sym (append_assoc (output_of p.replies) sent unsent);
       whole = λ read. absurd (no_read fault cause read);
     }
@@ -214,7 +195,7 @@ Broke-none fault C keep input old =
       promise = keeps_promise C [] tt;
       sent = [];
       unsent = [];
-      written = Appends-none old;
+      written = Appends-nil old;
       front = refl;
       whole = λ read. refl;
     }

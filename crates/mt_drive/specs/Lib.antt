@@ -4,7 +4,6 @@ pub mod Machine
 pub mod Reading
 pub mod Script
 pub mod Showing
-pub mod Sink
 pub mod Source
 pub mod Values
 pub mod Words

@@ -4,13 +4,11 @@
 pub mod asking;
 pub mod command;
 pub mod commands;
-mod counted;
 pub mod fault;
 pub mod reading;
 mod replies;
 pub mod script;
 pub mod showing;
-pub mod sink;
 pub mod source;
 pub mod values;
 pub mod words;

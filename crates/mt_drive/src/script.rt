@@ -10,7 +10,7 @@ ghost use Rattle.mt_index.specs.Stands.{Stands};
 ghost use Rattle.mt_drive.specs.Commands.{command_of};
 ghost use Rattle.mt_drive.specs.Machine.{Leads, IsAsBefore};
 ghost use Rattle.mt_drive.specs.Script.{goes_on, reply_lines, bad_lines, start_fault, Happens, Finishes, DoesAlone, Asks, Feeds, Answers, Played, Broke};
-ghost use Rattle.mt_drive.specs.Sink.{sink_writer, write_failed};
+ghost use Rattle.mt_streams.specs.Sinks.{sink_writer, write_failed};
 ghost use Rattle.mt_drive.specs.Source.{source_rest, GivesNoMore};
 ghost use Rattle.mt_drive.specs.declared.fault.ScriptFault.TheVariants.{Read as ReadFault, Write as WriteFault, Start, NoMemory};
 
@@ -18,10 +18,10 @@ use crate::command::{Command, Reply};
 use crate::commands::read_command;
 use crate::fault::{LineError, ScriptFault};
 use crate::replies::reply_text;
-use crate::sink::Sink;
 use crate::source::Source;
 use mt_index::machine::Machine;
 use mt_index::options::Options;
+use mt_streams::sink::Sink;
 use mt_types::event::{Event, Outcome, Request};
 use mt_types::items::Items;
 use mt_types::numbers::CallNo;
@@ -131,7 +131,7 @@ fn send<W: Write>(writer: &mut Sink<W>, alloc: Global, reply: &Reply) -> Result<
     ensures write { IfErr result (λ fault. fault ≡ WriteFault → write_failed writer.new ≡ true) }
 {
     match reply_text(alloc, reply) {
-        Ok(text) => writer.send(text.as_bytes()),
+        Ok(text) => writer.send(text.as_bytes()).map_err(|_| ScriptFault::Write),
         Err(_) => Err(ScriptFault::NoMemory),
     }
 }

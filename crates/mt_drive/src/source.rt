@@ -8,8 +8,8 @@ ghost use Rattle.mt_drive.specs.Lines.{LosesLine};
 ghost use Rattle.mt_drive.specs.Source.{source_rest, reads_left, lines_left, read_failed, GivesNoMore};
 ghost use Rattle.mt_drive.specs.declared.fault.ScriptFault.TheVariants.{Read as ReadFault, NoMemory};
 
-use crate::counted::Counted;
 use crate::fault::ScriptFault;
+use mt_streams::counted::Counted;
 use std::alloc::{AllocError, Global};
 use std::io;
 use std::io::{BufRead, BufReader, ErrorKind, Read};

@@ -20,12 +20,12 @@ fn empty_borders(rt: HostRuntime) -> Result<(), Fail> {
         low: 0x6300_0000_0000_0000,
         node: NodeNo(3),
     }));
-    assert_eq!(rt; scan.visit(alloc, &border)?, ScanMove::To(NodeNo(3)));
+    assert!(rt; scan.visit(alloc, &border) == Ok(ScanMove::To(NodeNo(3))));
     assert_eq!(rt; scan.slice(), 0x6300_0000_0000_0000);
     scan.restart();
     assert_eq!(rt; scan.slice(), 0x6300_0000_0000_0000);
     border.set_right(None);
-    assert_eq!(rt; scan.visit(alloc, &border)?, ScanMove::Done);
+    assert!(rt; scan.visit(alloc, &border) == Ok(ScanMove::Done));
     assert_eq!(rt; scan.into_pairs().as_slice().len(), 0);
     Ok(())
 }

@@ -17,6 +17,8 @@ use Rattle.mt_tree.proofs.ChildLists.{among_read}
 use Rattle.mt_steps.specs.World.{World, IsWorld, is_locked, IsLocked, IsTaken, Goes}
 use Rattle.mt_steps.proofs.NodeLemmas.{root_place}
 use Rattle.mt_post.specs.declared.posting.Posting.{Posting}
+use Rattle.mt_post.specs.declared.posting.LeftOutCause.TheVariants.{Refused}
+use Rattle.mt_post.specs.declared.posting.PostEnd.{PostEnd}
 use Rattle.mt_post.specs.declared.posting.Progressed.{Progressed}
 use Rattle.mt_post.specs.declared.posting.Progressed.TheVariants.{Moved, Waits, Ended}
 use Rattle.mt_post.specs.declared.split.Split.{Split}
@@ -123,8 +125,8 @@ lone_posting_never_waits a posting w now begun world (prefix, t) taken marks sta
     go (RootLate root) is truth own held = held
     go (HalfWanted interior) is truth own held = held
     go (HalfSpared interior half) is truth own held = held
-    go (HalfLeftOut left) is truth own held = held
-    go (LetGo interior) is truth own held = held
+    go (HalfLeftOut left why) is truth own held = held
+    go (LetGo interior why) is truth own held = held
     go (HalfPosted posted) is truth own held = held
     go (HalfCut half) is truth own held = held
 
@@ -152,16 +154,16 @@ module _ (a after : ArenaView) (posting then : Posting) (w : World) (now begun :
   stage_unmarked (Walks node) marks truth own (inr follows) =
       from_some (interior_at a.nodes node.0) (FollowsInterior posting then node) _ (λ i named f. at_interior a posting w now begun lone.true.0 node lone.world lone.true.1.border lone.true.1.waiting truth own after then lone.marked marks i named f) follows
   stage_unmarked (RootWanted old) marks truth own (inl (root, goes)) = goes_there after posting then (RootSpared old root) goes tt
-  stage_unmarked (RootWanted old) marks truth own (inr (split, some, is)) = subst (λ (s : PostStage). WalksUnmarked after s) (sym is) tt
+  stage_unmarked (RootWanted old) marks truth own (inr (refusal, refused, (split, some, is))) = subst (λ (s : PostStage). WalksUnmarked after s) (sym is) tt
   stage_unmarked (RootSpared old root) marks truth own goes = goes_there after posting then (RootFilled old root) goes tt
   stage_unmarked (RootFilled old root) marks truth own (inl (still, (split, some, is))) = subst (λ (s : PostStage). WalksUnmarked after s) (sym is) tt
   stage_unmarked (RootFilled old root) marks truth own (inr (not_still, goes)) = goes_there after posting then (RootLate root) goes tt
   stage_unmarked (RootLate root) marks truth own goes = again marks goes
   stage_unmarked (HalfWanted interior) marks truth own (inl (half, goes)) = goes_there after posting then (HalfSpared interior half) goes tt
-  stage_unmarked (HalfWanted interior) marks truth own (inr goes) = goes_there after posting then (LetGo interior) goes tt
+  stage_unmarked (HalfWanted interior) marks truth own (inr (refusal, refused, goes)) = goes_there after posting then (LetGo interior (Refused refusal)) goes tt
   stage_unmarked (HalfSpared interior half) marks truth own (split, one, two, is) = subst (λ (t : Posting). WalksUnmarked after t.stage) (sym is) (unmarked_kept a after marks posting.head.0 lone.head)
-  stage_unmarked (HalfLeftOut left) marks truth own goes = goes_there after posting then (LetGo left.interior) goes tt
-  stage_unmarked (LetGo interior) marks truth own (split, some, is) = subst (λ (s : PostStage). WalksUnmarked after s) (sym is) tt
+  stage_unmarked (HalfLeftOut left why) marks truth own goes = goes_there after posting then (LetGo left.interior why) goes tt
+  stage_unmarked (LetGo interior why) marks truth own (split, some, is) = subst (λ (s : PostStage). WalksUnmarked after s) (sym is) tt
   stage_unmarked (HalfPosted posted) marks truth own goes = goes_there after posting then (HalfCut posted.half.node) goes tt
   stage_unmarked (HalfCut half) marks truth own goes = again marks goes
 
@@ -175,8 +177,8 @@ module _ (a after : ArenaView) (posting then : Posting) (w : World) (now begun :
   waits_marked (RootLate root) truth own held unmarked = held
   waits_marked (HalfWanted interior) truth own held unmarked = held
   waits_marked (HalfSpared interior half) truth own held unmarked = held
-  waits_marked (HalfLeftOut left) truth own held unmarked = held
-  waits_marked (LetGo interior) truth own held unmarked = held
+  waits_marked (HalfLeftOut left why) truth own held unmarked = held
+  waits_marked (LetGo interior why) truth own held unmarked = held
   waits_marked (HalfPosted posted) truth own held unmarked = held
   waits_marked (HalfCut half) truth own held unmarked = held
 
@@ -198,10 +200,10 @@ lone_step a after posting Waits then step = λ now begun w before lone.
         unmarked = again a after posting then w now begun before lone step.marks step.gets_on;
       },
     )
-lone_step a after posting Ended then step = tt
+lone_step a after posting (Ended end) then step = tt
 
 -- A LONE POSTING ENDS: so many steps more are left after each
-one_step : (now begun steps : ℕ) (a after : ArenaView) (posting : Posting) (p : Progressed) (then : Posting) (w : World) → begun ≤ now → RunsAlone now begun posting a w → WalksUnmarked a posting.stage → (p ≡ Ended → ⊥) → IsArena a → IsArena after
+one_step : (now begun steps : ℕ) (a after : ArenaView) (posting : Posting) (p : Progressed) (then : Posting) (w : World) → begun ≤ now → RunsAlone now begun posting a w → WalksUnmarked a posting.stage → ((end : PostEnd) → p ≡ Ended end → ⊥) → IsArena a → IsArena after
     → PostStep a after posting p then → ((next : World) → RunsAlone now begun then after next → WalksUnmarked after then.stage → steps ≤ steps_left after then) → suc steps ≤ steps_left a posting
 one_step now begun steps a after posting Moved then w before lone unmarked goes_on sound sound_after one more =
     let alone = lone_step a after posting Moved then one now begun w before lone in
@@ -209,7 +211,7 @@ one_step now begun steps a after posting Moved then w before lone unmarked goes_
     let nearer = posting_gets_nearer a after posting then one now begun w lone.world before lone.true sound sound_after in
     omega (arith, fewer, nearer)
 one_step now begun steps a after posting Waits then w before lone unmarked goes_on sound sound_after one more = absurd ((lone_step a after posting Waits then one now begun w before lone).0 unmarked)
-one_step now begun steps a after posting Ended then w before lone unmarked goes_on sound sound_after one more = absurd (goes_on refl)
+one_step now begun steps a after posting (Ended end) then w before lone unmarked goes_on sound sound_after one more = absurd (goes_on end refl)
 
 run_ends : {a : ArenaView} {posting : Posting} {steps : ℕ} → Run a posting steps → (now begun : ℕ) (w : World) → begun ≤ now → RunsAlone now begun posting a w → WalksUnmarked a posting.stage → steps ≤ steps_left a posting
 run_ends no_step now begun w before lone unmarked = omega arith
@@ -247,9 +249,9 @@ module _ (a : ArenaView) (w : World) (prefix : List ℕ) where
     stage_own_unmarked (HalfWanted interior) (i, above, s) = one_unmarked interior.0 _ (named_unmarked interior.0 i s.named s.alive) rest
     stage_own_unmarked (HalfSpared interior spare) (i, above, s, least, starts, sound, spared) =
         one_unmarked spare.0 _ (named_unmarked spare.0 _ spared.named spared.alive) (one_unmarked interior.0 _ (named_unmarked interior.0 i s.named s.alive) rest)
-    stage_own_unmarked (HalfLeftOut left) (above, h) =
+    stage_own_unmarked (HalfLeftOut left why) (above, h) =
         one_unmarked left.half.node.0 _ (named_unmarked left.half.node.0 _ h.spare.named h.spare.alive) (one_unmarked left.interior.0 _ (named_unmarked left.interior.0 h.interior h.splits.named h.splits.alive) rest)
-    stage_own_unmarked (LetGo interior) truth = one_unmarked interior.0 _ (named_unmarked interior.0 truth.interior truth.named truth.alive) rest
+    stage_own_unmarked (LetGo interior why) truth = one_unmarked interior.0 _ (named_unmarked interior.0 truth.interior truth.named truth.alive) rest
     stage_own_unmarked (HalfPosted posted) (above, p) =
         one_unmarked posted.half.node.0 _ (named_unmarked posted.half.node.0 p.half p.half_named p.half_alive) (one_unmarked posted.interior.0 _ (named_unmarked posted.interior.0 p.interior p.named p.alive) rest)
     stage_own_unmarked (HalfCut posted) truth = one_unmarked posted.0 _ (named_unmarked posted.0 truth.interior truth.named truth.alive) rest
@@ -291,8 +293,8 @@ module _ (now begun : ℕ) (a : ArenaView) (posting : Posting) (w : World) (worl
   walk_unmarked (RootLate root) is_on = tt
   walk_unmarked (HalfWanted interior) is_on = tt
   walk_unmarked (HalfSpared interior half) is_on = tt
-  walk_unmarked (HalfLeftOut left) is_on = tt
-  walk_unmarked (LetGo interior) is_on = tt
+  walk_unmarked (HalfLeftOut left why) is_on = tt
+  walk_unmarked (LetGo interior why) is_on = tt
   walk_unmarked (HalfPosted posted) is_on = tt
   walk_unmarked (HalfCut half) is_on = tt
 

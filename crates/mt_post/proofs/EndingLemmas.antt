@@ -25,6 +25,8 @@ use Rattle.mt_tree.proofs.ChildLists.{among_read}
 use Rattle.mt_steps.specs.World.{World, IsWorld}
 use Rattle.mt_steps.proofs.NodeLemmas.{head_there, root_place}
 use Rattle.mt_post.specs.declared.posting.Posting.{Posting}
+use Rattle.mt_post.specs.declared.posting.LeftOutCause.{LeftOutCause}
+use Rattle.mt_post.specs.declared.posting.LeftOutCause.TheVariants.{HeadDeleted, Highest, Refused}
 use Rattle.mt_post.specs.declared.posting.Progressed.{Progressed}
 use Rattle.mt_post.specs.declared.posting.Progressed.TheVariants.{Moved, Waits, Ended}
 use Rattle.mt_post.specs.declared.posting.Root.{Root}
@@ -152,8 +154,8 @@ module _ (a after : ArenaView) (posting then : Posting) (w next : World) (now be
   named_there : IsNamed posting then → frames_of after then ≡ once_posted left
   named_there (split, some, is) = ap (λ (s : PostStage). stage_frame after then.head s ∷ waiting_frames then.waiting) is ∙ ap (λ (l : List Split). once_posted (waiting_frames l)) (sym some)
 
-  left_out_there : IsLeftOut posting then → frames_of after then ≡ once_left_out left
-  left_out_there (split, some, is) = ap (λ (s : PostStage). stage_frame after then.head s ∷ waiting_frames then.waiting) is ∙ ap (λ (l : List Split). once_left_out (waiting_frames l)) (sym some)
+  left_out_there : (why : LeftOutCause) → IsLeftOut posting then why → frames_of after then ≡ once_left_out left
+  left_out_there why (split, some, is) = ap (λ (s : PostStage). stage_frame after then.head s ∷ waiting_frames then.waiting) is ∙ ap (λ (l : List Split). once_left_out (waiting_frames l)) (sym some)
 
   -- where it begins its way again
   at_head : kinds_below (node_at after.nodes posting.head.0) ≡ 16
@@ -175,7 +177,7 @@ module _ (a after : ArenaView) (posting then : Posting) (w next : World) (now be
   -- at a head
   module _ (node : NodeNo) (at : IsWalking begun prefix wanted node.0 w) (same : OccupiesAsMany a after) where
     head_falls : (h : HeadView) → head_at a.nodes node.0 ≡ Some h → WalksFrom posting.head (Walks node) w → SameHeads a after → FollowsHead posting then h → Falls (walks 16)
-    head_falls h named from heads (inr (marked, out)) = as_many (walks 16) _ same (left_out_there out) too_high
+    head_falls h named from heads (inr (marked, out)) = as_many (walks 16) _ same (left_out_there HeadDeleted out) too_high
     head_falls h named from heads (inl (alive, most, inl (less, goes))) =
         let (stands, is_root) = root_place a w.chart begun node.0 wanted.low prefix h world.index.tree at.held named alive in
         let kinds = kept_level h.root.0 h.level 0 (on true) is_root in
@@ -208,7 +210,7 @@ module _ (a after : ArenaView) (posting then : Posting) (w next : World) (now be
             | inl room ↦ as_many (walks i.level) _ same (named_there room.1) is_put
             | inr full ↦ elim full.1 [
               | inl below ↦ as_many (walks i.level) _ same (goes_there (HalfWanted node) below.1) (is_full (omega (arith, level)))
-              | inr most ↦ as_many (walks i.level) _ same (left_out_there most.1) too_high
+              | inr most ↦ as_many (walks i.level) _ same (left_out_there Highest most.1) too_high
             ]
           ]
         ]
@@ -237,8 +239,8 @@ module _ (a after : ArenaView) (posting then : Posting) (w next : World) (now be
       let b : Bool = is_root_still a posting.head old in
       one_fewer (stage_frame a posting.head (RootWanted old)) (cond b (makes_root 2) late_fill ∷ left) (subst (λ (s : PostStage). StageNumbers a (RootWanted old) after s) (ap (λ (t : Posting). t.stage) goes) numbers)
       (goes_there (RootSpared old root) goes ∙ ap (λ (x : Bool). cond x (makes_root 2) late_fill ∷ left) (same_still a after posting.head old heads)) (root_occupied b)
-  stage_falls (RootWanted old) truth from (inr out) numbers heads =
-      as_many (stage_frame a posting.head (RootWanted old)) _ (subst (λ (s : PostStage). StageNumbers a (RootWanted old) after s) out.2 numbers) (left_out_there out) (root_not_had (is_root_still a posting.head old))
+  stage_falls (RootWanted old) truth from (inr (refusal, refused, out)) numbers heads =
+      as_many (stage_frame a posting.head (RootWanted old)) _ (subst (λ (s : PostStage). StageNumbers a (RootWanted old) after s) out.2 numbers) (left_out_there (Refused refusal) out) (root_not_had (is_root_still a posting.head old))
   stage_falls (RootSpared old root) truth from goes numbers heads =
       let b : Bool = is_root_still a posting.head old in
       as_many (stage_frame a posting.head (RootSpared old root)) (cond b (makes_root 1) late_name ∷ left) numbers (goes_there (RootFilled old root) goes ∙ ap (λ (x : Bool). cond x (makes_root 1) late_name ∷ left) (same_still a after posting.head old heads)) (root_is_filled b)
@@ -249,7 +251,7 @@ module _ (a after : ArenaView) (posting then : Posting) (w next : World) (now be
   stage_falls (RootLate root) truth from goes numbers heads = one_more late_back _ numbers (walks_again goes) late_begins_again
   stage_falls (HalfWanted interior) truth from (inl (half, goes)) numbers heads =
       one_fewer wants_spare _ (subst (λ (s : PostStage). StageNumbers a (HalfWanted interior) after s) (ap (λ (t : Posting). t.stage) goes) numbers) (goes_there (HalfSpared interior half) goes) has_spare
-  stage_falls (HalfWanted interior) truth from (inr goes) numbers heads = let_go_falls (subst (λ (s : PostStage). StageNumbers a (HalfWanted interior) after s) (ap (λ (t : Posting). t.stage) goes) numbers) (goes_there (LetGo interior) goes)
+  stage_falls (HalfWanted interior) truth from (inr (refusal, refused, goes)) numbers heads = let_go_falls (subst (λ (s : PostStage). StageNumbers a (HalfWanted interior) after s) (ap (λ (t : Posting). t.stage) goes) numbers) (goes_there (LetGo interior (Refused refusal)) goes)
     where
       let_go_falls : OccupiesAsMany a after → frames_of after then ≡ unlocks ∷ left → Falls wants_spare
       let_go_falls same is =
@@ -257,8 +259,8 @@ module _ (a after : ArenaView) (posting then : Posting) (w next : World) (now be
           subst (λ (l : List Frame). posting_measure free_after l < posting_measure free (wants_spare ∷ left)) (sym is) (subst (λ (m : ℕ). posting_measure m (unlocks ∷ left) < posting_measure free (wants_spare ∷ left)) (ap (λ (o : ℕ). MAX_NODES - o) (sym same)) less)
   stage_falls (HalfSpared interior half) truth from (split, one, two, is) numbers heads =
       as_many fills _ numbers (ap (λ (t : Posting). frames_of after t) is ∙ ap (λ (k : ℕ). walks k ∷ waits ∷ left) at_head) nests
-  stage_falls (HalfLeftOut split) truth from goes numbers heads = one_more gives_back _ numbers (goes_there (LetGo split.interior) goes) is_back
-  stage_falls (LetGo interior) truth from out numbers heads = as_many unlocks _ numbers (left_out_there out) ends_so
+  stage_falls (HalfLeftOut split why) truth from goes numbers heads = one_more gives_back _ numbers (goes_there (LetGo split.interior why) goes) is_back
+  stage_falls (LetGo interior why) truth from out numbers heads = as_many unlocks _ numbers (left_out_there why out) ends_so
   stage_falls (HalfPosted split) truth from goes numbers heads = as_many cuts _ numbers (goes_there (HalfCut split.half.node) goes) has_cut
   stage_falls (HalfCut half) truth from goes numbers heads = as_many goes_again _ numbers (walks_again goes) from_head
 
@@ -272,4 +274,4 @@ posting_gets_nearer a after posting then step now begun w world before (prefix, 
 pub step_gets_nearer : (a after : ArenaView) (posting : Posting) (p : Progressed) (then : Posting) → PostStep a after posting p then → GetsNearer a after posting p then
 step_gets_nearer a after posting Moved then step = posting_gets_nearer a after posting then step
 step_gets_nearer a after posting Waits then step = tt
-step_gets_nearer a after posting Ended then step = tt
+step_gets_nearer a after posting (Ended end) then step = tt

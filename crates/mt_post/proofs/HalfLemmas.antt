@@ -29,10 +29,14 @@ use Rattle.mt_steps.proofs.AliveLemmas.{alive_unknown, alive_there}
 use Rattle.mt_steps.proofs.FoundLemmas.{some_at}
 use Rattle.mt_steps.proofs.SplitLemmas.{goes_occupied}
 use Rattle.mt_post.specs.declared.posting.Posting.{Posting}
+use Rattle.mt_types.specs.declared.refusal.Refusal.{Refusal}
+use Rattle.mt_post.specs.declared.posting.LeftOutCause.{LeftOutCause}
+use Rattle.mt_post.specs.declared.posting.LeftOutCause.TheVariants.{Refused}
+use Rattle.mt_post.specs.declared.posting.PostEnd.TheVariants.{LeftOut}
 use Rattle.mt_post.specs.declared.posting.Progressed.TheVariants.{Moved, Ended}
 use Rattle.mt_post.specs.declared.split.Split.{Split}
 use Rattle.mt_post.specs.declared.posting.PostStage.TheVariants.{Walks, HalfWanted, HalfSpared, HalfLeftOut, LetGo, HalfCut}
-use Rattle.mt_post.specs.Causes.{IsFullAt}
+use Rattle.mt_post.specs.Causes.{IsFullAt, RefusesSpare}
 use Rattle.mt_post.specs.Posting.{goal, goal_level, split_owns, AreWaiting, IsToPost, IsHeadOf, IsWalking, IsSpareInterior, IsSplitting, IsHalved, StartsUpper, empty_half, upper_half, IsLetGo, PostingIsTrue, MayPost}
 use Rattle.mt_post.specs.Follows.{FollowsInterior, PostStep}
 use Rattle.mt_steps.specs.World.{IsLockedBorder}
@@ -128,10 +132,10 @@ module _ (a : ArenaView) (posting : Posting) (interior : NodeNo) (is : posting.s
   pub is_there : (may : MayPost a posting) → (i : InteriorView) × (interior_at a.nodes interior.0 ≡ Some i) × (length i.children ≡ MAX_CHILDREN) × (i.level ≤ MAX_LEVEL) × (1 ≤ i.level)
   is_there may = let (i, above, s) = true_at may.begun a may.w posting (HalfWanted interior) is may.true in (i, s.named, s.full, s.sound.most, s.sound.least)
 
-  pub half_refused : (after : ArenaView) → after ≡ a → PostStep a after posting Moved (record posting { stage = LetGo interior })
-  half_refused after same = subst (λ (x : ArenaView). PostStep a x posting Moved (record posting { stage = LetGo interior })) (sym same)
-      (goes_on a posting posting.waiting posting.waiting (HalfWanted interior) (LetGo interior) refl refl is (λ now begun w prefix world border known all truth.
-      let (i, above, s) = truth in (all, record { interior = i; named = s.named; locked = s.locked; alive = s.alive; stands = s.stands; lone = s.lone; above = above }, tt)) tt tt (inr refl) refl)
+  pub half_refused : (after : ArenaView) (refusal : Refusal) → after ≡ a → RefusesSpare a refusal → PostStep a after posting Moved (record posting { stage = LetGo interior (Refused refusal) })
+  half_refused after refusal same refused = subst (λ (x : ArenaView). PostStep a x posting Moved (record posting { stage = LetGo interior (Refused refusal) })) (sym same)
+      (goes_on a posting posting.waiting posting.waiting (HalfWanted interior) (LetGo interior (Refused refusal)) refl refl is (λ now begun w prefix world border known all truth.
+      let (i, above, s) = truth in (all, record { interior = i; named = s.named; locked = s.locked; alive = s.alive; stands = s.stands; lone = s.lone; above = above }, tt)) tt tt (inr (refusal, refused, refl)) refl)
 
   pub half_spares : (i : InteriorView) (middle : Child) (spare : NodeNo) (after : ArenaView) → interior_at a.nodes interior.0 ≡ Some i → slice_get i.children KEPT_CHILDREN ≡ Some middle → IsInterior (empty_half i middle.low)
       → node_at a.nodes spare.0 ≡ None → Updates a.nodes after.nodes spare.0 (Some (Interior (empty_half i middle.low))) → after.retired ≡ a.retired → IsUnknown a spare.0 → KeepsTree a after → OccupiesOne a after
@@ -289,22 +293,22 @@ module _ (a : ArenaView) (posting : Posting) (interior spare : NodeNo) (is : pos
     })
 
 -- ---- the new half is given back
-module _ (a : ArenaView) (posting : Posting) (left : Split) (is : posting.stage ≡ HalfLeftOut left) where
+module _ (a : ArenaView) (posting : Posting) (left : Split) (why : LeftOutCause) (is : posting.stage ≡ HalfLeftOut left why) where
   half_named : (w : World) (prefix : List ℕ) (h : IsHalved a w prefix left) → IsSome (node_at a.nodes left.half.node.0)
   half_named w prefix h = subst (λ (x : Option Node). IsSome x) (sym (node-from_interior a.nodes left.half.node.0 _ h.spare.named)) refl
 
   pub may_give_half : (may : MayPost a posting) → IsSome (node_at a.nodes left.half.node.0) × All (λ retired. retired.node.0 ≢ left.half.node.0) a.retired
   may_give_half may =
-      let (above, h) = true_at may.begun a may.w posting (HalfLeftOut left) is may.true in
+      let (above, h) = true_at may.begun a may.w posting (HalfLeftOut left why) is may.true in
       (half_named may.w may.true.0 h, not_retired a may.w may.now left.half.node.0 may.world h.spare.unknown)
 
   given_half : (may : MayPost a posting) (after : ArenaView) → after ≡ without_node a left.half.node.0 → GivesOneBack a after × SameHeads a after × MarksNone a after
   given_half may after value =
-      let (above, h) = true_at may.begun a may.w posting (HalfLeftOut left) is may.true in
+      let (above, h) = true_at may.begun a may.w posting (HalfLeftOut left why) is may.true in
       given_back a after left.half.node.0 value (half_named may.w may.true.0 h) (ap (option_and_then head_of) (node-from_interior a.nodes left.half.node.0 _ h.spare.named))
 
-  pub gives_half_back : (after : ArenaView) → after ≡ without_node a left.half.node.0 → KeepsUnknown a after left.half.node.0 → MayPost a posting → PostStep a after posting Moved (record posting { stage = LetGo left.interior })
-  gives_half_back after value keeps may = at_stage a after posting posting.waiting (HalfLeftOut left) Moved (record posting { stage = LetGo left.interior }) refl is (record {
+  pub gives_half_back : (after : ArenaView) → after ≡ without_node a left.half.node.0 → KeepsUnknown a after left.half.node.0 → MayPost a posting → PostStep a after posting Moved (record posting { stage = LetGo left.interior why })
+  gives_half_back after value keeps may = at_stage a after posting posting.waiting (HalfLeftOut left why) Moved (record posting { stage = LetGo left.interior why }) refl is (record {
     steps = λ now begun w prefix world before border known all truth.
         let (less, h) = truth in
         let above : goal_level posting.waiting < h.interior.level = subst (λ (l : ℕ). goal_level posting.waiting < l) h.level less in
@@ -317,8 +321,8 @@ module _ (a : ArenaView) (posting : Posting) (left : Split) (is : posting.stage 
         let same = same_beside a new w refl m updates.others in
         let s = splitting_stays a new w w prefix left.interior.0 h.interior (same left.interior.0 (apart_known a w prefix left.interior.0 m _ h.splits.stands.place h.spare.unknown)) h.splits in
         let stay = all_stay a new w w prefix half posting.low posting.waiting (λ number k. same number (owns_below a w prefix half posting.low m _ posting.waiting border all h.spare.named above number k)) border all in
-        subst (λ (x : ArenaView). Goes now a x w (m ∷ left.interior.0 ∷ rest) (left.interior.0 ∷ rest) (λ next. PostingIsTrue begun (record posting { stage = LetGo left.interior }) x next) × SameContent (arena_seen a) (arena_seen x)) (sym value)
-        (gives_number now a w m (left.interior.0 ∷ rest) (λ next. PostingIsTrue begun (record posting { stage = LetGo left.interior }) new next) world (half_named w prefix h) (ap (option_and_then border_of) (node-from_interior a.nodes m _ h.spare.named)) h.spare.unknown kept (
+        subst (λ (x : ArenaView). Goes now a x w (m ∷ left.interior.0 ∷ rest) (left.interior.0 ∷ rest) (λ next. PostingIsTrue begun (record posting { stage = LetGo left.interior why }) x next) × SameContent (arena_seen a) (arena_seen x)) (sym value)
+        (gives_number now a w m (left.interior.0 ∷ rest) (λ next. PostingIsTrue begun (record posting { stage = LetGo left.interior why }) new next) world (half_named w prefix h) (ap (option_and_then border_of) (node-from_interior a.nodes m _ h.spare.named)) h.spare.unknown kept (
           prefix,
           record {
             border = stay.0;
@@ -376,14 +380,14 @@ module _ (a : ArenaView) (posting : Posting) (n : ℕ) where
 
 module _ (a : ArenaView) (posting : Posting) (interior : NodeNo) (after : ArenaView) (value : after ≡ unlocked a posting interior.0) (keeps : Keeps a posting interior.0 after) where
   -- the interior is let go, and the border left out
-  pub lets_go : (left : List Split) → posting.stage ≡ LetGo interior → posting.waiting ≡ [] → PostStep a after posting Ended (record posting { waiting = left })
-  lets_go left is none = at_stage a after posting [] (LetGo interior) Ended (record posting { waiting = left }) none is (record {
+  pub lets_go : (why : LeftOutCause) (left : List Split) → posting.stage ≡ LetGo interior why → posting.waiting ≡ [] → PostStep a after posting (Ended (LeftOut why)) (record posting { waiting = left })
+  lets_go why left is none = at_stage a after posting [] (LetGo interior why) (Ended (LeftOut why)) (record posting { waiting = left }) none is (record {
     steps = λ now begun w prefix world before border known all truth.
         unlocks_lone a posting interior.0 now after w prefix 0 (posting.half.0 ∷ []) (λ x next. IsLockedBorder x next posting.half.0) world truth value keeps
         (still_locked (unlocked a posting interior.0) w prefix posting.half.0 posting.low (rest_beside a posting interior.0 w prefix [] truth border tt).0);
     same = refl;
     waits = tt;
-    ends = value;
+    ends = (refl, value);
     gets_on = none;
     numbers = (interior_leaves a after interior.0 (unlock a posting interior.0) value (λ i. refl)).numbers;
     heads = (interior_leaves a after interior.0 (unlock a posting interior.0) value (λ i. refl)).heads;
@@ -391,11 +395,11 @@ module _ (a : ArenaView) (posting : Posting) (interior : NodeNo) (after : ArenaV
   })
 
   -- or the newest of the new halves that wait is left out
-  pub lets_next : (split : Split) (waiting : List Split) → posting.stage ≡ LetGo interior → posting.waiting ≡ split ∷ waiting → PostStep a after posting Moved (record posting { waiting = waiting; stage = HalfLeftOut split })
-  lets_next split waiting is some = at_stage a after posting (split ∷ waiting) (LetGo interior) Moved (record posting { waiting = waiting; stage = HalfLeftOut split }) some is (record {
+  pub lets_next : (why : LeftOutCause) (split : Split) (waiting : List Split) → posting.stage ≡ LetGo interior why → posting.waiting ≡ split ∷ waiting → PostStep a after posting Moved (record posting { waiting = waiting; stage = HalfLeftOut split why })
+  lets_next why split waiting is some = at_stage a after posting (split ∷ waiting) (LetGo interior why) Moved (record posting { waiting = waiting; stage = HalfLeftOut split why }) some is (record {
     steps = λ now begun w prefix world before border known all truth.
         let (t, (above, halved, more)) = rest_beside a posting interior.0 w prefix (split ∷ waiting) truth border all in
-        unlocks_lone a posting interior.0 now after w prefix split.half.level (split_owns posting.half.0 (split ∷ waiting)) (λ x next. PostingIsTrue begun (record posting { waiting = waiting; stage = HalfLeftOut split }) x next) world truth value keeps
+        unlocks_lone a posting interior.0 now after w prefix split.half.level (split_owns posting.half.0 (split ∷ waiting)) (λ x next. PostingIsTrue begun (record posting { waiting = waiting; stage = HalfLeftOut split why }) x next) world truth value keeps
         (prefix, record { border = t; head = known; waiting = more; stage = (above, halved); walks = tt });
     same = refl;
     waits = tt;
@@ -422,8 +426,8 @@ module _ (a : ArenaView) (posting : Posting) (interior : NodeNo) (after : ArenaV
     marks = (interior_leaves a after interior.0 (unlock a posting interior.0) value (λ i. refl)).marks;
   })
 
-pub may_unlock_at : (a : ArenaView) (posting : Posting) (interior : NodeNo) (may : MayPost a posting) → ((posting.stage ≡ LetGo interior) ⊎ (posting.stage ≡ HalfCut interior)) → IsSomeAnd (interior_at a.nodes interior.0) (λ i. i.version.locked ≡ true)
-may_unlock_at a posting interior may (inl is) = may_unlock_lone a posting interior.0 may.w may.true.0 _ (true_at may.begun a may.w posting (LetGo interior) is may.true)
+pub may_unlock_at : (a : ArenaView) (posting : Posting) (interior : NodeNo) (may : MayPost a posting) → (((why : LeftOutCause) × (posting.stage ≡ LetGo interior why)) ⊎ (posting.stage ≡ HalfCut interior)) → IsSomeAnd (interior_at a.nodes interior.0) (λ i. i.version.locked ≡ true)
+may_unlock_at a posting interior may (inl (why, is)) = may_unlock_lone a posting interior.0 may.w may.true.0 _ (true_at may.begun a may.w posting (LetGo interior why) is may.true)
 may_unlock_at a posting interior may (inr is) = may_unlock_lone a posting interior.0 may.w may.true.0 _ (true_at may.begun a may.w posting (HalfCut interior) is may.true)
 
 -- ---- what is read of an interior

@@ -1,8 +1,12 @@
--- How many numbers name a node after a change, that the heads are as before, and that nothing comes to be marked deleted.
-use Rattle.std.proofs.Common.{ℕ, ◌≡◌, inl, inr, set, Option, Some, None, IsSome, true, false, refl, sym, ap, subst, ◌∙◌}
-use Rattle.std.specs.Prelude.{IsSomeAnd}
+-- How many numbers name a node after a change, that the heads are as before, and that nothing comes to be marked deleted; and why no number is had.
+use Rattle.std.proofs.Common.{ℕ, ◌≡◌, ◌⊎◌, inl, inr, set, Option, Some, None, IsSome, true, false, refl, sym, ap, subst, ◌∙◌}
+use Rattle.std.specs.Prelude.{IsSomeAnd, ◌↔◌, Result, Err}
 use Rattle.std.specs.Option.{option_and_then, option_map}
 use Rattle.std.proofs.lemmas.List.{set-get_or}
+use Rattle.mt_types.specs.declared.limits.TheConstants.{MAX_NODES}
+use Rattle.mt_types.specs.declared.numbers.NodeNo.{NodeNo}
+use Rattle.mt_types.specs.declared.refusal.Refusal.{Refusal}
+use Rattle.mt_types.specs.declared.refusal.Refusal.TheVariants.{ArenaFull, NoMemory}
 use Rattle.mt_interior.specs.Head.{HeadView}
 use Rattle.mt_interior.specs.Interior.{InteriorView}
 use Rattle.mt_arena.specs.Node.{Nodes, node_at, head_at, head_of, occupied, with_node, Updates}
@@ -11,6 +15,7 @@ use Rattle.mt_arena.specs.declared.node.Node.{Node}
 use Rattle.mt_arena.specs.declared.node.Node.TheVariants.{Head, Interior, Border}
 use Rattle.mt_arena.proofs.NodeLemmas.{updates-with_node, updates-without, occupied-with_node, occupied-without}
 use Rattle.mt_chart.proofs.Basics.{same_number}
+use Rattle.mt_post.specs.Causes.{RefusesSpare}
 use Rattle.mt_post.specs.Follows.{GivesOneBack, OccupiesAsMany, SameHeads, MarksNone, mark_of}
 
 -- what a step leaves that puts a node in and takes none out, and names no new root
@@ -121,3 +126,9 @@ given_back a after n is named none = subst (λ (x : ArenaView). GivesOneBack a x
           | inl e ↦ absurd (let clash : false ≡ true = sym (ap mark_of updates.changed) ∙ (ap (λ (m : ℕ). mark_of (node_at (without_node a n).nodes m)) (sym e) ∙ marked) in cc)
           | inr apart ↦ sym (ap mark_of (updates.others number apart)) ∙ marked
         ]
+
+-- ---- none is occupied
+pub refuses_spare : (a : ArenaView) (spared : Result NodeNo Refusal) (refusal : Refusal) → spared ≡ Err refusal → ((spared ≡ Err ArenaFull) ↔ (occupied a.nodes ≡ MAX_NODES)) → (refusal ≡ ArenaFull) ⊎ (refusal ≡ NoMemory) → RefusesSpare a refusal
+refuses_spare a spared refusal is full (inl all) = subst (λ (r : Refusal). RefusesSpare a r) (sym all) (full.0 (is ∙ ap (λ (r : Refusal). Err r) all))
+refuses_spare a spared refusal is full (inr lacks) = subst (λ (r : Refusal). RefusesSpare a r) (sym lacks)
+    (λ all. (let clash : ◌≡◌ {A = Result NodeNo Refusal} (Err NoMemory) (Err ArenaFull) = sym (is ∙ ap (λ (r : Refusal). Err r) lacks) ∙ full.1 all in cc))

@@ -36,8 +36,8 @@ module _ (a after : ArenaView) (w next : World) (begun : ℕ) (evolves : Evolves
   stage_stays prefix half low waiting (HalfWanted interior) same truth = let (i, above, s) = truth in (i, above, splitting_stays a after w next prefix interior.0 i (same interior.0 first) s)
   stage_stays prefix half low waiting (HalfSpared interior spare) same truth =
       let (i, above, s, least, starts, sound, spared) = truth in (i, above, splitting_stays a after w next prefix interior.0 i (same interior.0 (later first)) s, least, starts, sound, spare_stays a after w next prefix spare.0 _ (same spare.0 first) spared)
-  stage_stays prefix half low waiting (HalfLeftOut left) same truth = (truth.0, halved_stays a after w next prefix left (same left.interior.0 (later first)) (same left.half.node.0 first) truth.1)
-  stage_stays prefix half low waiting (LetGo interior) same truth = let_go_stays a after w next prefix interior.0 _ (same interior.0 first) truth
+  stage_stays prefix half low waiting (HalfLeftOut left why) same truth = (truth.0, halved_stays a after w next prefix left (same left.interior.0 (later first)) (same left.half.node.0 first) truth.1)
+  stage_stays prefix half low waiting (LetGo interior why) same truth = let_go_stays a after w next prefix interior.0 _ (same interior.0 first) truth
   stage_stays prefix half low waiting (HalfPosted posted) same truth = (truth.0, posted_half_stays a after w next prefix posted (same posted.interior.0 (later first)) (same posted.half.node.0 first) truth.1)
   stage_stays prefix half low waiting (HalfCut posted) same truth = let_go_stays a after w next prefix posted.0 _ (same posted.0 first) truth
 
@@ -55,8 +55,8 @@ module _ (a after : ArenaView) (w next : World) (begun : ℕ) (evolves : Evolves
   walks_stay prefix head half low waiting (RootLate root) truth walks = tt
   walks_stay prefix head half low waiting (HalfWanted interior) truth walks = tt
   walks_stay prefix head half low waiting (HalfSpared interior spare) truth walks = tt
-  walks_stay prefix head half low waiting (HalfLeftOut left) truth walks = tt
-  walks_stay prefix head half low waiting (LetGo interior) truth walks = tt
+  walks_stay prefix head half low waiting (HalfLeftOut left why) truth walks = tt
+  walks_stay prefix head half low waiting (LetGo interior why) truth walks = tt
   walks_stay prefix head half low waiting (HalfPosted posted) truth walks = tt
   walks_stay prefix head half low waiting (HalfCut posted) truth walks = tt
 
@@ -69,8 +69,8 @@ module _ (a after : ArenaView) (w next : World) (begun : ℕ) (evolves : Evolves
   among_stage half waiting (RootLate root) number i = later i
   among_stage half waiting (HalfWanted interior) number i = later i
   among_stage half waiting (HalfSpared interior spare) number i = later (later i)
-  among_stage half waiting (HalfLeftOut left) number i = later (later i)
-  among_stage half waiting (LetGo interior) number i = later i
+  among_stage half waiting (HalfLeftOut left why) number i = later (later i)
+  among_stage half waiting (LetGo interior why) number i = later i
   among_stage half waiting (HalfPosted posted) number i = later (later i)
   among_stage half waiting (HalfCut posted) number i = later i
 
@@ -116,8 +116,8 @@ module _ (a : ArenaView) (w : World) (begun : ℕ) (prefix : List ℕ) (half : N
   stage_taken (RootLate root) truth number i = let (x, above, spare) = truth in one_taken root.0 number (is_spare root.0 x spare) i
   stage_taken (HalfWanted interior) truth number i = let (x, above, s) = truth in one_taken interior.0 number (is_locked interior.0 x s.named s.locked) i
   stage_taken (HalfSpared interior spare) truth number i = let (x, above, s, least, starts, sound, spared) = truth in two_taken spare.0 interior.0 number (is_spare spare.0 _ spared) (is_locked interior.0 x s.named s.locked) i
-  stage_taken (HalfLeftOut left) truth number i = let h = truth.1 in two_taken left.half.node.0 left.interior.0 number (is_spare left.half.node.0 _ h.spare) (is_locked left.interior.0 h.interior h.splits.named h.splits.locked) i
-  stage_taken (LetGo interior) truth number i = one_taken interior.0 number (is_locked interior.0 truth.interior truth.named truth.locked) i
+  stage_taken (HalfLeftOut left why) truth number i = let h = truth.1 in two_taken left.half.node.0 left.interior.0 number (is_spare left.half.node.0 _ h.spare) (is_locked left.interior.0 h.interior h.splits.named h.splits.locked) i
+  stage_taken (LetGo interior why) truth number i = one_taken interior.0 number (is_locked interior.0 truth.interior truth.named truth.locked) i
   stage_taken (HalfPosted posted) truth number i = let p = truth.1 in two_taken posted.half.node.0 posted.interior.0 number (is_locked posted.half.node.0 p.half p.half_named p.half_locked) (is_locked posted.interior.0 p.interior p.named p.locked) i
   stage_taken (HalfCut posted) truth number i = one_taken posted.0 number (is_locked posted.0 truth.interior truth.named truth.locked) i
 
@@ -149,8 +149,8 @@ module _ (a : ArenaView) (now begun : ℕ) (w : World) (world : IsWorld a now w)
   stage_since half low waiting (HalfWanted interior) t all truth = let (i, above, s) = truth in both_since interior.0 _ (layer_since interior.0 s.stands) (split_since half low waiting t all)
   stage_since half low waiting (HalfSpared interior spare) t all truth =
       let (i, above, s, least, starts, sound, spared) = truth in both_since spare.0 _ (spare_since spare.0 _ spared) (both_since interior.0 _ (layer_since interior.0 s.stands) (split_since half low waiting t all))
-  stage_since half low waiting (HalfLeftOut left) t all truth = both_since left.half.node.0 _ (spare_since left.half.node.0 _ truth.1.spare) (both_since left.interior.0 _ (layer_since left.interior.0 truth.1.splits.stands) (split_since half low waiting t all))
-  stage_since half low waiting (LetGo interior) t all truth = both_since interior.0 _ (layer_since interior.0 truth.stands) (split_since half low waiting t all)
+  stage_since half low waiting (HalfLeftOut left why) t all truth = both_since left.half.node.0 _ (spare_since left.half.node.0 _ truth.1.spare) (both_since left.interior.0 _ (layer_since left.interior.0 truth.1.splits.stands) (split_since half low waiting t all))
+  stage_since half low waiting (LetGo interior why) t all truth = both_since interior.0 _ (layer_since interior.0 truth.stands) (split_since half low waiting t all)
   stage_since half low waiting (HalfPosted posted) t all truth = both_since posted.half.node.0 _ (layer_since posted.half.node.0 truth.1.half_stands) (both_since posted.interior.0 _ (layer_since posted.interior.0 truth.1.stands) (split_since half low waiting t all))
   stage_since half low waiting (HalfCut posted) t all truth = both_since posted.0 _ (layer_since posted.0 truth.stands) (split_since half low waiting t all)
 

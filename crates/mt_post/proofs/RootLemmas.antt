@@ -33,6 +33,7 @@ use Rattle.mt_steps.proofs.AliveLemmas.{alive_node, alive_unknown, alive_there, 
 use Rattle.mt_steps.proofs.FoundLemmas.{some_at}
 use Rattle.mt_steps.proofs.SplitLemmas.{goes_occupied, with_spot, spot_changes}
 use Rattle.mt_post.specs.declared.posting.Posting.{Posting}
+use Rattle.mt_post.specs.declared.posting.PostEnd.TheVariants.{Posted}
 use Rattle.mt_post.specs.declared.posting.Progressed.TheVariants.{Moved, Ended}
 use Rattle.mt_post.specs.declared.posting.Root.{Root}
 use Rattle.mt_post.specs.declared.posting.PostStage.TheVariants.{Walks, RootWanted, RootSpared, RootFilled, RootLate}
@@ -274,7 +275,7 @@ module _ (a : ArenaView) (posting : Posting) (old : Root) (root : NodeNo) (is : 
     none_there = ap (option_and_then interior_of) (node-from_head a.nodes n h named)
 
     named_so : (now begun : ℕ) (w : World) (prefix : List ℕ) → IsWorld a now w → IsToPost a w prefix half posting.low → IsHeadOf w begun n prefix → IsSpareInterior a w root.0 top_root → KeepsAlong a new (NamesRootAt a n root.0)
-        → Goes now a new w (root.0 ∷ half ∷ []) (half ∷ []) (ThenPosts Ended begun posting new) × SameContent (arena_seen a) (arena_seen new)
+        → Goes now a new w (root.0 ∷ half ∷ []) (half ∷ []) (ThenPosts (Ended Posted) begun posting new) × SameContent (arena_seen a) (arena_seen new)
     named_so now begun w prefix world border known spare keeps =
         let (stands, is_root) = root_place a w.chart begun n posting.low prefix h world.index.tree ((from_head begun prefix posted_child n w known).held) named alive in
         let half_place : Spot = spot (at_level 0) prefix posting.low (on true) in
@@ -346,11 +347,11 @@ module _ (a : ArenaView) (posting : Posting) (old : Root) (root : NodeNo) (is : 
           roots = roots_kept a new closing n (λ i. absurd (no_root a closing chart n (ap (option_and_then border_of) (node-from_head a.nodes n h named)) heads i)) head_updated.others heads.roots;
         }
 
-    pub names : (after : ArenaView) (left : List Split) → IsSomeAnd (interior_at a.nodes root.0) (λ i. after ≡ with_head_changed a n (λ x. with_root x root i.level)) → KeepsAlong a after (NamesRootAt a n root.0) → MayPost a posting → PostStep a after posting Ended (record posting { waiting = left })
-    names after left value keeps may = at_stage a after posting [] (RootFilled old root) Ended (record posting { waiting = left }) none is (record {
+    pub names : (after : ArenaView) (left : List Split) → IsSomeAnd (interior_at a.nodes root.0) (λ i. after ≡ with_head_changed a n (λ x. with_root x root i.level)) → KeepsAlong a after (NamesRootAt a n root.0) → MayPost a posting → PostStep a after posting (Ended Posted) (record posting { waiting = left })
+    names after left value keeps may = at_stage a after posting [] (RootFilled old root) (Ended Posted) (record posting { waiting = left }) none is (record {
       steps = λ now begun w prefix world before border known all truth.
           let same : after ≡ new = some_at _ (interior_at a.nodes root.0) top_root value truth.1.named in
-          subst (λ (x : ArenaView). Goes now a x w (root.0 ∷ half ∷ []) (half ∷ []) (ThenPosts Ended begun posting x) × SameContent (arena_seen a) (arena_seen x)) (sym same)
+          subst (λ (x : ArenaView). Goes now a x w (root.0 ∷ half ∷ []) (half ∷ []) (ThenPosts (Ended Posted) begun posting x) × SameContent (arena_seen a) (arena_seen x)) (sym same)
           (named_so now begun w prefix world border known truth.1 (subst (λ (x : ArenaView). KeepsAlong a x (NamesRootAt a n root.0)) same keeps));
       same = refl;
       waits = tt;

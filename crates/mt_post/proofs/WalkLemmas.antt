@@ -30,6 +30,10 @@ use Rattle.mt_steps.proofs.BorderLemmas.{known_stays, on_kept}
 use Rattle.mt_steps.proofs.FoundLemmas.{some_at}
 use Rattle.mt_steps.proofs.SplitLemmas.{with_spot, spot_changes}
 use Rattle.mt_post.specs.declared.posting.Posting.{Posting}
+use Rattle.mt_post.specs.declared.posting.LeftOutCause.{LeftOutCause}
+use Rattle.mt_post.specs.declared.posting.LeftOutCause.TheVariants.{HeadDeleted, Highest, Refused}
+use Rattle.mt_post.specs.declared.posting.PostEnd.{PostEnd}
+use Rattle.mt_post.specs.declared.posting.PostEnd.TheVariants.{Posted, LeftOut}
 use Rattle.mt_post.specs.declared.posting.Progressed.{Progressed}
 use Rattle.mt_post.specs.declared.posting.Progressed.TheVariants.{Moved, Waits, Ended}
 use Rattle.mt_post.specs.declared.posting.Root.{Root}
@@ -124,15 +128,15 @@ module _ (a : ArenaView) (posting : Posting) where
   same_heads (RootLate root) = λ number. refl
   same_heads (HalfWanted interior) = λ number. refl
   same_heads (HalfSpared interior half) = λ number. refl
-  same_heads (HalfLeftOut left) = λ number. refl
-  same_heads (LetGo interior) = λ number. refl
+  same_heads (HalfLeftOut left why) = λ number. refl
+  same_heads (LetGo interior why) = λ number. refl
   same_heads (HalfPosted posted) = λ number. refl
   same_heads (HalfCut half) = λ number. refl
 
   -- the border is left out
-  pub left_out : (stage : PostStage) (left : List Split) → stage_owns posting.half.0 [] stage ≡ posting.half.0 ∷ [] → posting.waiting ≡ [] → posting.stage ≡ stage → PostStageWaits a stage Ended → PostStageEnds a a posting stage Ended
-      → PostStep a a posting Ended (record posting { waiting = left })
-  left_out stage left owns none is waits ends = at_stage a a posting [] stage Ended (record posting { waiting = left }) none is (record {
+  pub left_out : (end : PostEnd) (stage : PostStage) (left : List Split) → stage_owns posting.half.0 [] stage ≡ posting.half.0 ∷ [] → posting.waiting ≡ [] → posting.stage ≡ stage → PostStageWaits a stage (Ended end) → PostStageEnds a a posting stage (Ended end)
+      → PostStep a a posting (Ended end) (record posting { waiting = left })
+  left_out end stage left owns none is waits ends = at_stage a a posting [] stage (Ended end) (record posting { waiting = left }) none is (record {
     steps = λ now begun w prefix world before border known all truth. (goes_same now a w _ (stage_owns posting.half.0 [] stage) (posting.half.0 ∷ []) owns world (still_locked a w prefix posting.half.0 posting.low border), same_content);
     same = refl;
     waits = waits;
@@ -284,15 +288,15 @@ module _ (a : ArenaView) (posting : Posting) (node : NodeNo) (is : posting.stage
     abbrev names : ℕ → InteriorView → InteriorView
     names low x = with_child x (record { low = low; node = posting.half; level = 0 })
 
-    pub posts : (after : ArenaView) (left : List Split) → posting.waiting ≡ [] → IsSomeAnd (border_at a.nodes posting.half.0) (λ border. after ≡ with_interior_changed a node.0 (names border.low)) → KeepsAlong a after (PostsAt node.0 posting.half.0) → MayPost a posting → PostStep a after posting Ended (record posting { waiting = left })
-    posts after left none value keeps may = at_stage a after posting [] (Walks node) Ended (record posting { waiting = left }) none is (record {
+    pub posts : (after : ArenaView) (left : List Split) → posting.waiting ≡ [] → IsSomeAnd (border_at a.nodes posting.half.0) (λ border. after ≡ with_interior_changed a node.0 (names border.low)) → KeepsAlong a after (PostsAt node.0 posting.half.0) → MayPost a posting → PostStep a after posting (Ended Posted) (record posting { waiting = left })
+    posts after left none value keeps may = at_stage a after posting [] (Walks node) (Ended Posted) (record posting { waiting = left }) none is (record {
       steps = λ now begun w prefix world before border known all truth.
           let same : after ≡ with_interior_changed a node.0 (names border.b.low) = some_at _ (border_at a.nodes posting.half.0) border.b value border.named in
-          subst (λ (x : ArenaView). Goes now a x w (posting.half.0 ∷ []) (posting.half.0 ∷ []) (ThenPosts Ended begun posting x) × SameContent (arena_seen a) (arena_seen x)) (sym same)
+          subst (λ (x : ArenaView). Goes now a x w (posting.half.0 ∷ []) (posting.half.0 ∷ []) (ThenPosts (Ended Posted) begun posting x) × SameContent (arena_seen a) (arena_seen x)) (sym same)
           (posted now begun w prefix world border truth (subst (λ (x : ArenaView). KeepsAlong a x (PostsAt node.0 posting.half.0)) same keeps));
       same = refl;
       waits = tt;
-      ends = inl (let border = may.true.1.border in some_at _ (border_at a.nodes posting.half.0) border.b value border.named ∙ ap (λ (l : ℕ). with_interior_changed a node.0 (names l)) border.low_is);
+      ends = let border = may.true.1.border in some_at _ (border_at a.nodes posting.half.0) border.b value border.named ∙ ap (λ (l : ℕ). with_interior_changed a node.0 (names l)) border.low_is;
       gets_on = none;
       numbers = (interior_leaves_by a after node.0 (λ (b : BorderView). names b.low) (border_at a.nodes posting.half.0) value (λ x i. refl)).numbers;
       heads = (interior_leaves_by a after node.0 (λ (b : BorderView). names b.low) (border_at a.nodes posting.half.0) value (λ x i. refl)).heads;
@@ -301,7 +305,7 @@ module _ (a : ArenaView) (posting : Posting) (node : NodeNo) (is : posting.stage
       where
         posted : (now begun : ℕ) (w : World) (prefix : List ℕ) → IsWorld a now w → (border : IsToPost a w prefix posting.half.0 posting.low) → IsWalking begun prefix (goal posting.half posting.low []) node.0 w
             → KeepsAlong a (with_interior_changed a node.0 (names border.b.low)) (PostsAt node.0 posting.half.0)
-            → Goes now a (with_interior_changed a node.0 (names border.b.low)) w (posting.half.0 ∷ []) (posting.half.0 ∷ []) (ThenPosts Ended begun posting (with_interior_changed a node.0 (names border.b.low)))
+            → Goes now a (with_interior_changed a node.0 (names border.b.low)) w (posting.half.0 ∷ []) (posting.half.0 ∷ []) (ThenPosts (Ended Posted) begun posting (with_interior_changed a node.0 (names border.b.low)))
             × SameContent (arena_seen a) (arena_seen (with_interior_changed a node.0 (names border.b.low)))
         posted now begun w prefix world border truth keeps_new =
             let n : ℕ = node.0 in
@@ -342,21 +346,22 @@ is_some_weaker None P Q weaker h = h
 is_some_weaker (Some x) P Q weaker h = weaker x h
 
 module _ (a : ArenaView) (posting : Posting) (stage : PostStage) (owns : (waiting : List Split) → stage_owns posting.half.0 waiting stage ≡ split_owns posting.half.0 waiting) (is : posting.stage ≡ stage) where
-  pub half_left_out : (split : Split) (waiting : List Split) → posting.waiting ≡ split ∷ waiting → PostStageWaits a stage Moved → PostStageEnds a a posting stage Moved → Follows a posting stage Moved (record posting { waiting = waiting; stage = HalfLeftOut split }) → NumbersGo a stage Moved a (HalfLeftOut split)
-      → PostStep a a posting Moved (record posting { waiting = waiting; stage = HalfLeftOut split })
-  half_left_out split waiting some waits ends gets_on numbers = goes_on a posting (split ∷ waiting) waiting stage (HalfLeftOut split) (owns (split ∷ waiting)) some is (λ now begun w prefix world border known all truth. let (above, halved, more) = all in (more, (above, halved), tt)) waits ends gets_on numbers
+  pub half_left_out : (why : LeftOutCause) (split : Split) (waiting : List Split) → posting.waiting ≡ split ∷ waiting → PostStageWaits a stage Moved → PostStageEnds a a posting stage Moved → Follows a posting stage Moved (record posting { waiting = waiting; stage = HalfLeftOut split why }) → NumbersGo a stage Moved a (HalfLeftOut split why)
+      → PostStep a a posting Moved (record posting { waiting = waiting; stage = HalfLeftOut split why })
+  half_left_out why split waiting some waits ends gets_on numbers = goes_on a posting (split ∷ waiting) waiting stage (HalfLeftOut split why) (owns (split ∷ waiting)) some is (λ now begun w prefix world border known all truth. let (above, halved, more) = all in (more, (above, halved), tt)) waits ends gets_on numbers
 
-  pub all_left_out : (left : List Split) → posting.waiting ≡ [] → PostStageWaits a stage Ended → PostStageEnds a a posting stage Ended → PostStep a a posting Ended (record posting { waiting = left })
-  all_left_out left none waits ends = left_out a posting stage left (owns []) none is waits ends
+  pub all_left_out : (why : LeftOutCause) (left : List Split) → posting.waiting ≡ [] → PostStageWaits a stage (Ended (LeftOut why)) → PostStageEnds a a posting stage (Ended (LeftOut why)) → PostStep a a posting (Ended (LeftOut why)) (record posting { waiting = left })
+  all_left_out why left none waits ends = left_out a posting (LeftOut why) stage left (owns []) none is waits ends
 
 -- one of the two
-pub left_out_so : (posting : Posting) (P : Progressed → Posting → Type 0) (p : Progressed) (then : Posting) → LeavesOut posting p then → ((left : List Split) → posting.waiting ≡ [] → P Ended (record posting { waiting = left }))
-    → ((split : Split) (waiting : List Split) → posting.waiting ≡ split ∷ waiting → P Moved (record posting { waiting = waiting; stage = HalfLeftOut split })) → P p then
-left_out_so posting P Moved then ((split, some, at), same) border half = subst (λ (t : Posting). P Moved t) (sym (same ∙ ap (λ (s : PostStage). record posting { waiting = then.waiting; stage = s }) at)) (half split then.waiting some)
-left_out_so posting P Waits then none border half = elim none [ ]
-left_out_so posting P Ended then (none, same) border half = subst (λ (t : Posting). P Ended t) (sym same) (border then.waiting none)
+pub left_out_so : (posting : Posting) (why : LeftOutCause) (P : Progressed → Posting → Type 0) (p : Progressed) (then : Posting) → LeavesOut posting why p then → ((left : List Split) → posting.waiting ≡ [] → P (Ended (LeftOut why)) (record posting { waiting = left }))
+    → ((split : Split) (waiting : List Split) → posting.waiting ≡ split ∷ waiting → P Moved (record posting { waiting = waiting; stage = HalfLeftOut split why })) → P p then
+left_out_so posting why P Moved next ((split, some, at), same) border half = subst (λ (t : Posting). P Moved t) (sym (same ∙ ap (λ (s : PostStage). record posting { waiting = next.waiting; stage = s }) at)) (half split next.waiting some)
+left_out_so posting why P Waits next none border half = elim none [ ]
+left_out_so posting why P (Ended end) next (is, none, same) border half = subst (λ (e : PostEnd). P (Ended e) next) (sym is) (subst (λ (t : Posting). P (Ended (LeftOut why)) t) (sym same) (border next.waiting none))
 
 -- at a node where it can be
-pub follows_left_out : (a : ArenaView) (posting : Posting) (node : NodeNo) (split : Split) (waiting : List Split) → posting.waiting ≡ split ∷ waiting → CanLeaveOut a posting node.0 → StageFollows a posting (Walks node) (record posting { waiting = waiting; stage = HalfLeftOut split })
-follows_left_out a posting node split waiting some (inl marked) = inl (is_some_weaker (head_at a.nodes node.0) _ _ (λ head deleted. inr (deleted, (split, some, refl))) marked)
-follows_left_out a posting node split waiting some (inr full) = inr (is_some_weaker (interior_at a.nodes node.0) _ _ (λ i at. inr (at.0, inr (at.1, inr (at.2, (split, some, refl))))) full)
+pub follows_left_out : (a : ArenaView) (posting : Posting) (node : NodeNo) (why : LeftOutCause) (split : Split) (waiting : List Split) → posting.waiting ≡ split ∷ waiting → CanLeaveOut a posting node.0 why → StageFollows a posting (Walks node) (record posting { waiting = waiting; stage = HalfLeftOut split why })
+follows_left_out a posting node HeadDeleted split waiting some marked = inl (is_some_weaker (head_at a.nodes node.0) _ _ (λ head deleted. inr (deleted, (split, some, refl))) marked)
+follows_left_out a posting node Highest split waiting some full = inr (is_some_weaker (interior_at a.nodes node.0) _ _ (λ i at. inr (at.0, inr (at.1, inr (at.2, (split, some, refl))))) full)
+follows_left_out a posting node (Refused refusal) split waiting some none = elim none [ ]

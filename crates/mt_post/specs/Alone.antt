@@ -7,6 +7,7 @@ use Rattle.mt_chart.specs.Chart.{Role, gone, spot, Chart}
 use Rattle.mt_chart.specs.Walk.{IsOn}
 use Rattle.mt_steps.specs.World.{World, IsWorld, IsLocked, IsTaken}
 use Rattle.mt_post.specs.declared.posting.Posting.{Posting}
+use Rattle.mt_post.specs.declared.posting.PostEnd.{PostEnd}
 use Rattle.mt_post.specs.declared.posting.Progressed.{Progressed}
 use Rattle.mt_post.specs.declared.posting.Progressed.TheVariants.{Moved, Waits, Ended}
 use Rattle.mt_post.specs.declared.posting.PostStage.{PostStage}
@@ -72,14 +73,14 @@ LoneStep a after posting Moved then = (now begun : ℕ) (w : World) → begun �
     GoesOnAlone now begun after then
 LoneStep a after posting Waits then = (now begun : ℕ) (w : World) → begun ≤ now → RunsAlone now begun posting a w →
     (WalksUnmarked a posting.stage → ⊥) × GoesOnAlone now begun after then
-LoneStep a after posting Ended then = Unit {0}
+LoneStep a after posting (Ended end) then = Unit {0}
 
 -- a run of so many steps of a posting, none of them its last, with no step of another call between them
 pub data Run : ArenaView → Posting → ℕ → Type 0 where
   no_step : {a : ArenaView} {posting : Posting} → Run a posting 0
   one_more : {a after : ArenaView} {posting then : Posting} {p : Progressed} {steps : ℕ} →
-      PostStep a after posting p then → (p ≡ Ended → ⊥) → IsArena a → IsArena after → Run after then steps →
-      Run a posting (suc steps)
+      PostStep a after posting p then → ((end : PostEnd) → p ≡ Ended end → ⊥) → IsArena a → IsArena after →
+      Run after then steps → Run a posting (suc steps)
 
 -- A LONE POSTING ENDS: no run of its steps is longer than what is left tells, from where it walks at no marked node
 abbrev pub LonePostingsEnd : Type 0

@@ -1,14 +1,19 @@
 -- Why a posting waits, and why it ends: said of the nodes alone.
-use Rattle.std.specs.Prelude.{ℕ, ◌≡◌, ◌<◌, ◌≤◌, ◌+◌, ◌⊎◌, length, slice_get, Some, IsSomeAnd, true, false}
-use Rattle.mt_types.specs.declared.limits.TheConstants.{MAX_LEVEL}
+use Rattle.std.specs.Prelude.{ℕ, ◌≡◌, ◌≢◌, ◌<◌, ◌≤◌, ◌+◌, ◌⊎◌, length, slice_get, Some, IsSomeAnd, true, false}
+use Rattle.mt_types.specs.declared.limits.TheConstants.{MAX_LEVEL, MAX_NODES}
+use Rattle.mt_types.specs.declared.refusal.Refusal.{Refusal}
+use Rattle.mt_types.specs.declared.refusal.Refusal.TheVariants.{ArenaFull, NoMemory}
 use Rattle.mt_interior.specs.Interior.{InteriorView, children_up_to, with_child, with_lock}
 use Rattle.mt_interior.specs.Head.{HeadView, with_root}
 use Rattle.mt_interior.specs.declared.child.Child.{Child}
 use Rattle.mt_interior.specs.declared.interior.TheConstants.{MAX_CHILDREN}
-use Rattle.mt_arena.specs.Node.{head_at, interior_at}
+use Rattle.mt_arena.specs.Node.{head_at, interior_at, occupied}
 use Rattle.mt_arena.specs.Arena.{ArenaView, with_interior_changed, with_head_changed}
 use Rattle.mt_post.specs.declared.posting.Posting.{Posting}
 use Rattle.mt_post.specs.Posting.{goal_of}
+use Rattle.mt_post.specs.declared.posting.LeftOutCause.{LeftOutCause}
+use Rattle.mt_post.specs.declared.posting.LeftOutCause.TheVariants.{HeadDeleted, Highest, Refused}
+use Rattle.mt_post.specs.declared.posting.PostEnd.TheVariants.{Posted, LeftOut}
 use Rattle.mt_post.specs.declared.posting.Progressed.{Progressed}
 use Rattle.mt_post.specs.declared.posting.Progressed.TheVariants.{Waits, Ended}
 use Rattle.mt_post.specs.declared.posting.Root.{Root}
@@ -41,13 +46,20 @@ pub record StopsAt (posting : Posting) (interior : InteriorView) : Type 0 where
   pub is_child : slice_get interior.children place ≡ Some child
   pub below : child.level ≤ (goal_of posting).level
 
--- a node where what is to be named may be left out: a head that is marked deleted, or a full interior of the greatest
--- level
-abbrev pub CanLeaveOut : ArenaView → Posting → ℕ → Type 0
-CanLeaveOut a posting number = IsSomeAnd (head_at a.nodes number) (λ head. head.version.deleted ≡ true)
-    ⊎ IsSomeAnd (interior_at a.nodes number)
+-- where it is on its way, what is to be named may be left out for these causes alone: at a head, that it is marked
+-- deleted; at an interior, that it is full and of the greatest level
+abbrev pub CanLeaveOut : ArenaView → Posting → ℕ → LeftOutCause → Type 0
+CanLeaveOut a posting number HeadDeleted = IsSomeAnd (head_at a.nodes number) (λ head. head.version.deleted ≡ true)
+CanLeaveOut a posting number Highest = IsSomeAnd (interior_at a.nodes number)
     (λ interior. StopsAt posting interior × (length interior.children ≡ MAX_CHILDREN)
     × (interior.level ≡ MAX_LEVEL))
+CanLeaveOut a posting number (Refused refusal) = ⊥
+
+-- why no number is had for a new root or a new half: each number names a node; or, where one doesn't, want of memory
+abbrev pub RefusesSpare : ArenaView → Refusal → Type 0
+RefusesSpare a ArenaFull = occupied a.nodes ≡ MAX_NODES
+RefusesSpare a NoMemory = occupied a.nodes ≢ MAX_NODES
+RefusesSpare a _ = ⊥
 
 -- the interior is neither marked deleted nor locked, and is full where it is to be named
 pub record IsFullAt (a : ArenaView) (posting : Posting) (number : ℕ) : Type 0 where
@@ -75,17 +87,19 @@ pub record IsRootStill (a : ArenaView) (number : ℕ) (root : Root) : Type 0 whe
   pub root_is : head.root ≡ root.node
   pub level_is : head.level ≡ root.level
 
--- A posting ends where an interior that has room, or a new root, names the border; or it is left out: where it can be,
--- or where no number or no memory is had for a new root or a new half.
+-- A posting ends where an interior that has room, or a new root, names the border; or where the border is left out: on
+-- its way for a cause that is seen there, for want of a number for a new root, or where an interior is let go, for the
+-- cause for which it is.
 abbrev pub PostStageEnds : ArenaView → ArenaView → Posting → PostStage → Progressed → Type 0
-PostStageEnds a after posting (Walks node) Ended = IsPosted a after node.0 posting
-    ⊎ ((after ≡ a) × CanLeaveOut a posting node.0)
-PostStageEnds a after posting (RootWanted old) Ended = after ≡ a
-PostStageEnds a after posting (RootFilled old root) Ended =
+PostStageEnds a after posting (Walks node) (Ended Posted) = IsPosted a after node.0 posting
+PostStageEnds a after posting (Walks node) (Ended (LeftOut why)) = (after ≡ a) × CanLeaveOut a posting node.0 why
+PostStageEnds a after posting (RootWanted old) (Ended (LeftOut (Refused refusal))) = (after ≡ a)
+    × RefusesSpare a refusal
+PostStageEnds a after posting (RootFilled old root) (Ended Posted) =
     after ≡ with_head_changed a posting.head.0 (λ head. with_root head root 1)
-PostStageEnds a after posting (LetGo interior) Ended =
-    after ≡ with_interior_changed a interior.0 (λ x. with_lock x false)
-PostStageEnds a after posting _ Ended = ⊥
+PostStageEnds a after posting (LetGo interior why) (Ended end) = (end ≡ LeftOut why)
+    × (after ≡ with_interior_changed a interior.0 (λ x. with_lock x false))
+PostStageEnds a after posting _ (Ended end) = ⊥
 PostStageEnds a after posting _ _ = Unit {0}
 
 abbrev pub PostWaits : ArenaView → Posting → Progressed → Type 0

@@ -47,8 +47,8 @@ stage_frame a head (RootFilled old root) = cond (is_root_still a head old) (make
 stage_frame a head (RootLate root) = late_back
 stage_frame a head (HalfWanted interior) = wants_spare
 stage_frame a head (HalfSpared interior half) = fills
-stage_frame a head (HalfLeftOut left) = gives_back
-stage_frame a head (LetGo interior) = unlocks
+stage_frame a head (HalfLeftOut left why) = gives_back
+stage_frame a head (LetGo interior why) = unlocks
 stage_frame a head (HalfPosted posted) = cuts
 stage_frame a head (HalfCut half) = goes_again
 
@@ -70,4 +70,4 @@ abbrev pub GetsNearer : ArenaView → ArenaView → Posting → Progressed → P
 GetsNearer a after posting Moved then = (now begun : ℕ) (w : World) → IsWorld a now w → begun ≤ now →
     PostingIsTrue begun posting a w → IsArena a → IsArena after → steps_left after then < steps_left a posting
 GetsNearer a after posting Waits then = Unit {0}
-GetsNearer a after posting Ended then = Unit {0}
+GetsNearer a after posting (Ended end) then = Unit {0}

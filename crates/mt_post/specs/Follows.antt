@@ -2,6 +2,7 @@
 use Rattle.std.specs.Prelude.{ℕ, ◌≡◌, ◌⊎◌, ◌<◌, ◌≤◌, ◌+◌, Bool, true, false, [], ◌∷◌, length, slice_get, Option, Some, None, IsSomeAnd}
 use Rattle.mt_types.specs.declared.limits.TheConstants.{MAX_LEVEL}
 use Rattle.mt_types.specs.declared.numbers.NodeNo.{NodeNo}
+use Rattle.mt_types.specs.declared.refusal.Refusal.{Refusal}
 use Rattle.mt_interior.specs.Interior.{InteriorView, children_up_to}
 use Rattle.mt_interior.specs.Head.{HeadView}
 use Rattle.mt_interior.specs.declared.child.Child.{Child}
@@ -11,31 +12,41 @@ use Rattle.mt_arena.specs.declared.node.Node.TheVariants.{Head, Interior, Border
 use Rattle.mt_arena.specs.Node.{node_at, head_at, interior_at, occupied}
 use Rattle.mt_arena.specs.Arena.{ArenaView}
 use Rattle.mt_post.specs.declared.posting.Posting.{Posting}
+use Rattle.mt_post.specs.declared.posting.LeftOutCause.{LeftOutCause}
+use Rattle.mt_post.specs.declared.posting.LeftOutCause.TheVariants.{HeadDeleted, Highest, Refused}
+use Rattle.mt_post.specs.declared.posting.PostEnd.TheVariants.{LeftOut}
 use Rattle.mt_post.specs.declared.posting.Progressed.{Progressed}
 use Rattle.mt_post.specs.declared.posting.Progressed.TheVariants.{Moved, Waits, Ended}
 use Rattle.mt_post.specs.declared.split.Split.{Split}
 use Rattle.mt_post.specs.declared.posting.PostStage.{PostStage}
 use Rattle.mt_post.specs.declared.posting.PostStage.TheVariants.{Walks, RootWanted, RootSpared, RootFilled, RootLate, HalfWanted, HalfSpared, HalfLeftOut, LetGo, HalfPosted, HalfCut}
 use Rattle.mt_post.specs.Posting.{goal_of, PostLaw}
-use Rattle.mt_post.specs.Causes.{StopsAt, IsRootStill, PostWaits, PostEnds}
+use Rattle.mt_post.specs.Causes.{StopsAt, IsRootStill, RefusesSpare, PostWaits, PostEnds}
 
 -- it stands at this stage, and is as it was else
 abbrev pub GoesTo : Posting → Posting → PostStage → Type 0
 GoesTo posting then stage = then ≡ record posting { stage = stage }
 
--- what was to be named is a new half, which waits no more: it is named, or left out
+-- what was to be named is a new half, which waits no more: it is named, or left out for a cause
 abbrev pub IsNamed : Posting → Posting → Type 0
 IsNamed posting then = (split : Split) × (posting.waiting ≡ split ∷ then.waiting) × (then.stage ≡ HalfPosted split)
 
-abbrev pub IsLeftOut : Posting → Posting → Type 0
-IsLeftOut posting then = (split : Split) × (posting.waiting ≡ split ∷ then.waiting) × (then.stage ≡ HalfLeftOut split)
+abbrev pub IsLeftOut : Posting → Posting → LeftOutCause → Type 0
+IsLeftOut posting then why = (split : Split) × (posting.waiting ≡ split ∷ then.waiting)
+    × (then.stage ≡ HalfLeftOut split why)
 
--- what is to be named is left out: the newest new half; or the border, where none waits
-abbrev pub LeavesOut : Posting → Progressed → Posting → Type 0
-LeavesOut posting Moved then = IsLeftOut posting then
+-- what is to be named is left out for a cause: the newest new half; or the border, where none waits
+abbrev pub LeavesOut : Posting → LeftOutCause → Progressed → Posting → Type 0
+LeavesOut posting why Moved then = IsLeftOut posting then why
     × (then ≡ record posting { waiting = then.waiting; stage = then.stage })
-LeavesOut posting Waits then = ⊥
-LeavesOut posting Ended then = (posting.waiting ≡ []) × (then ≡ record posting { waiting = then.waiting })
+LeavesOut posting why Waits then = ⊥
+LeavesOut posting why (Ended end) then = (end ≡ LeftOut why) × (posting.waiting ≡ [])
+    × (then ≡ record posting { waiting = then.waiting })
+
+-- for want of a number for a new root
+abbrev pub IsLeftOutRefused : ArenaView → Posting → Posting → Type 0
+IsLeftOutRefused a posting then = (refusal : Refusal) × RefusesSpare a refusal
+    × IsLeftOut posting then (Refused refusal)
 
 -- at a head: it goes to the root, where that is above what is to be named; else it wants a new root
 abbrev pub FollowsRoot : Posting → Posting → HeadView → Type 0
@@ -47,7 +58,7 @@ FollowsRoot posting then head = ((goal_of posting).level < head.level × GoesTo 
 abbrev pub FollowsHead : Posting → Posting → HeadView → Type 0
 FollowsHead posting then head =
     ((head.version.deleted ≡ false) × (head.level ≤ MAX_LEVEL) × FollowsRoot posting then head)
-    ⊎ ((head.version.deleted ≡ true) × IsLeftOut posting then)
+    ⊎ ((head.version.deleted ≡ true) × IsLeftOut posting then HeadDeleted)
 
 -- at an interior: it goes to the last child whose low is at most that of what is to be named, where that child is above
 -- it
@@ -63,7 +74,7 @@ pub record LeadsOn (posting then : Posting) (interior : InteriorView) : Type 0 w
 -- a full interior is to be split, but for one of the greatest level
 abbrev pub FollowsFull : Posting → Posting → NodeNo → InteriorView → Type 0
 FollowsFull posting then node interior = (interior.level < MAX_LEVEL × GoesTo posting then (HalfWanted node))
-    ⊎ ((interior.level ≡ MAX_LEVEL) × IsLeftOut posting then)
+    ⊎ ((interior.level ≡ MAX_LEVEL) × IsLeftOut posting then Highest)
 
 -- where no child leads on, what is to be named is named there, if there is room
 abbrev pub FollowsInterior : Posting → Posting → NodeNo → InteriorView → Type 0
@@ -76,21 +87,27 @@ abbrev pub IsFilled : Posting → Posting → NodeNo → NodeNo → Type 0
 IsFilled posting then interior half = (split : Split) × (split.interior ≡ interior) × (split.half.node ≡ half)
     × (then ≡ record posting { waiting = split ∷ posting.waiting; stage = Walks posting.head })
 
--- the stage that follows where it goes on
+-- for want of a number for a new half the interior is let go
+abbrev pub IsLetGoRefused : ArenaView → Posting → Posting → NodeNo → Type 0
+IsLetGoRefused a posting then interior = (refusal : Refusal) × RefusesSpare a refusal
+    × GoesTo posting then (LetGo interior (Refused refusal))
+
+-- the stage that follows where it goes on: where a new half is left out its interior is let go, and what was to be named
+-- there left out, for the same cause
 abbrev pub StageFollows : ArenaView → Posting → PostStage → Posting → Type 0
 StageFollows a posting (Walks node) then = IsSomeAnd (head_at a.nodes node.0) (FollowsHead posting then)
     ⊎ IsSomeAnd (interior_at a.nodes node.0) (FollowsInterior posting then node)
 StageFollows a posting (RootWanted old) then = ((root : NodeNo) × GoesTo posting then (RootSpared old root))
-    ⊎ IsLeftOut posting then
+    ⊎ IsLeftOutRefused a posting then
 StageFollows a posting (RootSpared old root) then = GoesTo posting then (RootFilled old root)
 StageFollows a posting (RootFilled old root) then = (IsRootStill a posting.head.0 old × IsNamed posting then)
     ⊎ ((IsRootStill a posting.head.0 old → ⊥) × GoesTo posting then (RootLate root))
 StageFollows a posting (RootLate root) then = GoesTo posting then (Walks posting.head)
 StageFollows a posting (HalfWanted interior) then = ((half : NodeNo) × GoesTo posting then (HalfSpared interior half))
-    ⊎ GoesTo posting then (LetGo interior)
+    ⊎ IsLetGoRefused a posting then interior
 StageFollows a posting (HalfSpared interior half) then = IsFilled posting then interior half
-StageFollows a posting (HalfLeftOut left) then = GoesTo posting then (LetGo left.interior)
-StageFollows a posting (LetGo interior) then = IsLeftOut posting then
+StageFollows a posting (HalfLeftOut left why) then = GoesTo posting then (LetGo left.interior why)
+StageFollows a posting (LetGo interior why) then = IsLeftOut posting then why
 StageFollows a posting (HalfPosted posted) then = GoesTo posting then (HalfCut posted.half.node)
 StageFollows a posting (HalfCut half) then = GoesTo posting then (Walks posting.head)
 
@@ -98,7 +115,7 @@ StageFollows a posting (HalfCut half) then = GoesTo posting then (Walks posting.
 abbrev pub Follows : ArenaView → Posting → PostStage → Progressed → Posting → Type 0
 Follows a posting stage Moved then = StageFollows a posting stage then
 Follows a posting stage Waits then = GoesTo posting then (Walks posting.head)
-Follows a posting stage Ended then = posting.waiting ≡ []
+Follows a posting stage (Ended end) then = posting.waiting ≡ []
 
 abbrev pub PostFollows : ArenaView → Posting → Progressed → Posting → Type 0
 PostFollows a posting p then = Follows a posting posting.stage p then
@@ -120,14 +137,14 @@ abbrev pub StageNumbers : ArenaView → PostStage → ArenaView → PostStage �
 StageNumbers a (RootWanted old) after (RootSpared same root) = OccupiesOne a after
 StageNumbers a (HalfWanted interior) after (HalfSpared same half) = OccupiesOne a after
 StageNumbers a (RootLate root) after _ = GivesOneBack a after
-StageNumbers a (HalfLeftOut left) after _ = GivesOneBack a after
+StageNumbers a (HalfLeftOut left why) after _ = GivesOneBack a after
 StageNumbers a _ after _ = OccupiesAsMany a after
 
 -- the same of each step: as many where it waits or has ended
 abbrev pub NumbersGo : ArenaView → PostStage → Progressed → ArenaView → PostStage → Type 0
 NumbersGo a stage Moved after next = StageNumbers a stage after next
 NumbersGo a stage Waits after next = OccupiesAsMany a after
-NumbersGo a stage Ended after next = OccupiesAsMany a after
+NumbersGo a stage (Ended end) after next = OccupiesAsMany a after
 
 abbrev pub NumbersFollow : ArenaView → Posting → Progressed → ArenaView → Posting → Type 0
 NumbersFollow a posting p after then = NumbersGo a posting.stage p after then.stage

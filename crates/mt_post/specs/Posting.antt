@@ -36,8 +36,8 @@ stage_owns half waiting (RootFilled old root) = root.0 ∷ split_owns half waiti
 stage_owns half waiting (RootLate root) = root.0 ∷ split_owns half waiting
 stage_owns half waiting (HalfWanted interior) = interior.0 ∷ split_owns half waiting
 stage_owns half waiting (HalfSpared interior spare) = spare.0 ∷ interior.0 ∷ split_owns half waiting
-stage_owns half waiting (HalfLeftOut left) = left.half.node.0 ∷ left.interior.0 ∷ split_owns half waiting
-stage_owns half waiting (LetGo interior) = interior.0 ∷ split_owns half waiting
+stage_owns half waiting (HalfLeftOut left why) = left.half.node.0 ∷ left.interior.0 ∷ split_owns half waiting
+stage_owns half waiting (LetGo interior why) = interior.0 ∷ split_owns half waiting
 stage_owns half waiting (HalfPosted posted) = posted.half.node.0 ∷ posted.interior.0 ∷ split_owns half waiting
 stage_owns half waiting (HalfCut posted) = posted.0 ∷ split_owns half waiting
 
@@ -48,7 +48,7 @@ owned posting = stage_owns posting.half.0 posting.waiting posting.stage
 abbrev pub owned_after : Progressed → Posting → List ℕ
 owned_after Moved posting = owned posting
 owned_after Waits posting = owned posting
-owned_after Ended posting = posting.half.0 ∷ []
+owned_after (Ended end) posting = posting.half.0 ∷ []
 
 -- ---- what is true of it
 -- the border that is to be posted: it is locked and not marked deleted, and on in the layer from this low on, and no
@@ -191,9 +191,10 @@ PostStageIsTrue begun prefix half low waiting (HalfWanted interior) a w = (i : I
 PostStageIsTrue begun prefix half low waiting (HalfSpared interior spare) a w = (i : InteriorView)
     × (goal_level waiting < i.level) × IsSplitting a w prefix interior.0 i × (least : ℕ) × StartsUpper i least
     × IsInterior (empty_half i least) × IsSpareInterior a w spare.0 (empty_half i least)
-PostStageIsTrue begun prefix half low waiting (HalfLeftOut left) a w = (goal_level waiting < left.half.level)
+PostStageIsTrue begun prefix half low waiting (HalfLeftOut left why) a w = (goal_level waiting < left.half.level)
     × IsHalved a w prefix left
-PostStageIsTrue begun prefix half low waiting (LetGo interior) a w = IsLetGo a w prefix interior.0 (goal_level waiting)
+PostStageIsTrue begun prefix half low waiting (LetGo interior why) a w =
+    IsLetGo a w prefix interior.0 (goal_level waiting)
 PostStageIsTrue begun prefix half low waiting (HalfPosted posted) a w = (goal_level waiting < posted.half.level)
     × IsPostedHalf a w prefix posted
 PostStageIsTrue begun prefix half low waiting (HalfCut posted) a w = IsLetGo a w prefix posted.0 (goal_level waiting)
@@ -220,7 +221,7 @@ PostingIsTrue begun posting a w = (prefix : List ℕ) × PostsIn prefix begun po
 abbrev pub ThenPosts : Progressed → ℕ → Posting → ArenaView → World → Type 0
 ThenPosts Moved begun posting a w = PostingIsTrue begun posting a w
 ThenPosts Waits begun posting a w = PostingIsTrue begun posting a w
-ThenPosts Ended begun posting a w = IsLockedBorder a w posting.half.0
+ThenPosts (Ended end) begun posting a w = IsLockedBorder a w posting.half.0
 
 -- ---- its step
 -- THE LAW OF A STEP: wherever the tree is an index and the posting's record is true, the step goes, and the rows are as

@@ -6,6 +6,6 @@ mod posting;
 mod split;
 mod waiting;
 
-pub use posting::{PostStage, Posting, Progressed, Root};
+pub use posting::{LeftOutCause, PostEnd, PostStage, Posting, Progressed, Root};
 pub use split::Split;
 pub use waiting::{MAX_WAITING, Waiting};

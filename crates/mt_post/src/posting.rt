@@ -4,7 +4,7 @@ ghost use Rattle.std.specs.Prelude.{◌≡◌, ℕ, [], IsSome};
 ghost use Rattle.mt_arena.specs.Node.{head_at, interior_at};
 ghost use Rattle.mt_arena.specs.Arena.{IsArena};
 ghost use Rattle.mt_post.specs.Posting.{PostLaw, MayPost, NewPostingIsTrue, goal};
-ghost use Rattle.mt_post.specs.Causes.{PostWaits, PostEnds, CanLeaveOut, IsFullAt, HasRoomAt, IsRootStill};
+ghost use Rattle.mt_post.specs.Causes.{PostWaits, PostEnds, CanLeaveOut, RefusesSpare, IsFullAt, HasRoomAt, IsRootStill};
 ghost use Rattle.mt_post.specs.Follows.{LeavesOut, PostFollows, NumbersFollow, HeadsFollow, MarksNone, PostStep};
 ghost use Rattle.mt_post.specs.Ending.{GetsNearer};
 ghost use Rattle.mt_post.specs.Alone.{LoneStep};
@@ -16,12 +16,33 @@ use mt_interior::{Child, Interior, KEPT_CHILDREN};
 use mt_tree::Tree;
 use mt_types::limits::MAX_LEVEL;
 use mt_types::numbers::NodeNo;
+use mt_types::refusal::Refusal;
 
 /// The root of a layer's tree, and its level.
 #[derive(Clone, Copy)]
 pub struct Root {
     pub node: NodeNo,
     pub level: u8,
+}
+
+/// Why what is to be named is left out.
+#[derive(Clone, Copy)]
+pub enum LeftOutCause {
+    /// The layer's head is marked deleted.
+    HeadDeleted,
+    /// The interior that is to name it is full, and of the greatest level.
+    Highest,
+    /// No number was had for a new root or a new half.
+    Refused(Refusal),
+}
+
+/// How a posting has ended.
+#[derive(Clone, Copy)]
+pub enum PostEnd {
+    /// An interior above names the border.
+    Posted,
+    /// None does, for this cause: it is found by the right link alone.
+    LeftOut(LeftOutCause),
 }
 
 /// How far a posting is.
@@ -41,10 +62,10 @@ pub enum PostStage {
     HalfWanted(NodeNo),
     /// A number is occupied for the interior's new half.
     HalfSpared { interior: NodeNo, half: NodeNo },
-    /// The new half is left out: its number is to be given back.
-    HalfLeftOut(Split),
-    /// The interior is to be unlocked, and what was to be named in it left out.
-    LetGo(NodeNo),
+    /// The new half is left out, for this cause: its number is to be given back.
+    HalfLeftOut(Split, LeftOutCause),
+    /// The interior is to be unlocked, and what was to be named in it left out, for this cause.
+    LetGo(NodeNo, LeftOutCause),
     /// The new half is named: the interior is to keep the first of its children.
     HalfPosted(Split),
     /// The new half is to be unlocked.
@@ -58,8 +79,8 @@ pub enum Progressed {
     Moved,
     /// It begins its way again.
     Waits,
-    /// It has ended: the border is posted, or left out.
-    Ended,
+    /// It has ended.
+    Ended(PostEnd),
 }
 
 /// The posting of a border that was split off another, by the call that has locked it.
@@ -109,26 +130,26 @@ impl Posting {
         }
     }
 
-    // What is to be named is left out: the newest of the new halves that wait, or else the border.
-    fn left_out(&mut self) -> Progressed
-        ensures { LeavesOut self.old result self.new }
+    // What is to be named is left out for a cause: the newest of the new halves that wait, or else the border.
+    fn left_out(&mut self, why: LeftOutCause) -> Progressed
+        ensures { LeavesOut self.old why result self.new }
     {
         let Some(split) = self.waiting.pop() else {
-            return Progressed::Ended;
+            return Progressed::Ended(PostEnd::LeftOut(why));
         };
-        self.stage = PostStage::HalfLeftOut(split);
+        self.stage = PostStage::HalfLeftOut(split, why);
         Progressed::Moved
     }
 
     // What is to be named is left out at a node where it may be: a head that is marked deleted, or a full interior of
     // the greatest level.
-    fn leave_out(&mut self, tree: &Tree, node: NodeNo) -> Progressed
+    fn leave_out(&mut self, tree: &Tree, node: NodeNo, why: LeftOutCause) -> Progressed
         requires walks { self.old.stage ≡ PostStage.Walks node }
-        requires cause { CanLeaveOut tree.now self.old node.0 }
+        requires cause { CanLeaveOut tree.now self.old node.0 why }
         requires may { MayPost tree.now self.old }
         ensures { PostStep tree.now tree.now self.old result self.new }
     {
-        self.left_out()
+        self.left_out(why)
     }
 
     // At a head: to the root, or to a new one, where the root isn't above what is to be named.
@@ -140,7 +161,7 @@ impl Posting {
     {
         let head = tree.head(node);
         if head.is_deleted() {
-            return self.leave_out(tree, node);
+            return self.leave_out(tree, node, LeftOutCause::HeadDeleted);
         }
         let goal = self.goal();
         let (root, level) = (head.root(), head.level());
@@ -161,7 +182,7 @@ impl Posting {
     {
         let Some(split) = self.waiting.pop() else {
             tree.post_border(node, self.half);
-            return Progressed::Ended;
+            return Progressed::Ended(PostEnd::Posted);
         };
         tree.post_half(node, split.half.node);
         self.stage = PostStage::HalfPosted(split);
@@ -176,7 +197,7 @@ impl Posting {
         ensures { PostStep tree.old tree.new self.old result self.new }
     {
         if tree.interior(node).level() == MAX_LEVEL {
-            return self.leave_out(tree, node);
+            return self.leave_out(tree, node, LeftOutCause::Highest);
         }
         tree.lock_interior(node);
         self.stage = PostStage::HalfWanted(node);
@@ -225,12 +246,13 @@ impl Posting {
     }
 
     // What is to be named is left out, since no number is had for a new root.
-    fn leave_out_root(&mut self, tree: &Tree, old: Root) -> Progressed
+    fn leave_out_root(&mut self, tree: &Tree, old: Root, refusal: Refusal) -> Progressed
         requires wants { self.old.stage ≡ PostStage.RootWanted old }
+        requires refused { RefusesSpare tree.now refusal }
         requires may { MayPost tree.now self.old }
         ensures { PostStep tree.now tree.now self.old result self.new }
     {
-        self.left_out()
+        self.left_out(LeftOutCause::Refused(refusal))
     }
 
     // A number for the new root.
@@ -245,7 +267,7 @@ impl Posting {
                 self.stage = PostStage::RootSpared { old, root };
                 Progressed::Moved
             }
-            Err(_) => self.leave_out_root(tree, old),
+            Err(refusal) => self.leave_out_root(tree, old, refusal),
         }
     }
 
@@ -276,7 +298,7 @@ impl Posting {
     {
         let Some(split) = self.waiting.pop() else {
             tree.name_root(self.head, root);
-            return Progressed::Ended;
+            return Progressed::Ended(PostEnd::Posted);
         };
         tree.name_root_over_half(self.head, root);
         self.stage = PostStage::HalfPosted(split);
@@ -322,8 +344,8 @@ impl Posting {
                 self.stage = PostStage::HalfSpared { interior, half };
                 Progressed::Moved
             }
-            Err(_) => {
-                self.stage = PostStage::LetGo(interior);
+            Err(refusal) => {
+                self.stage = PostStage::LetGo(interior, LeftOutCause::Refused(refusal));
                 Progressed::Moved
             }
         }
@@ -362,24 +384,24 @@ impl Posting {
     }
 
     // The new half isn't posted: its number is given back.
-    fn give_half_back(&mut self, tree: &mut Tree, split: Split) -> Progressed
-        requires left { self.old.stage ≡ PostStage.HalfLeftOut split }
+    fn give_half_back(&mut self, tree: &mut Tree, split: Split, why: LeftOutCause) -> Progressed
+        requires left { self.old.stage ≡ PostStage.HalfLeftOut split why }
         requires may { MayPost tree.old self.old }
         ensures { PostStep tree.old tree.new self.old result self.new }
     {
         tree.give_back(split.half.node);
-        self.stage = PostStage::LetGo(split.interior);
+        self.stage = PostStage::LetGo(split.interior, why);
         Progressed::Moved
     }
 
-    // The interior is unlocked as it was, and what was to be named in it left out.
-    fn let_go(&mut self, tree: &mut Tree, interior: NodeNo) -> Progressed
-        requires lets { self.old.stage ≡ PostStage.LetGo interior }
+    // The interior is unlocked as it was, and what was to be named in it left out for the same cause.
+    fn let_go(&mut self, tree: &mut Tree, interior: NodeNo, why: LeftOutCause) -> Progressed
+        requires lets { self.old.stage ≡ PostStage.LetGo interior why }
         requires may { MayPost tree.old self.old }
         ensures { PostStep tree.old tree.new self.old result self.new }
     {
         tree.unlock_interior(interior);
-        self.left_out()
+        self.left_out(why)
     }
 
     // The interior keeps the first of its children, and is unlocked.
@@ -418,8 +440,8 @@ impl Posting {
             PostStage::RootLate(root) => self.give_back(tree, root),
             PostStage::HalfWanted(interior) => self.spare_half(tree, interior),
             PostStage::HalfSpared { interior, half } => self.fill_half(tree, interior, half),
-            PostStage::HalfLeftOut(split) => self.give_half_back(tree, split),
-            PostStage::LetGo(interior) => self.let_go(tree, interior),
+            PostStage::HalfLeftOut(split, why) => self.give_half_back(tree, split, why),
+            PostStage::LetGo(interior, why) => self.let_go(tree, interior, why),
             PostStage::HalfPosted(split) => self.cut(tree, split),
             PostStage::HalfCut(half) => self.unlock_half(tree, half),
         }

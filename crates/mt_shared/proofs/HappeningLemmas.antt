@@ -206,6 +206,10 @@ view_suits : (pass : PassNo) (view : ViewNo) (C : ℕ) (m : Moment) (v : Option 
 view_suits pass view C m None floor start limit o may = suits_as pass (ViewRead view floor start limit) (Refused NoSuchView) o tt may
 view_suits pass view C m (Some v) floor start limit o may = show_suits pass view C m v floor start limit (refused_if (nat_lt v.at floor) (Behind v.at)) refl o may
 
+pub drop_suits : (pass : PassNo) (view : ViewNo) (v : Option StandingView) (o : Outcome) → MayDrop v o → Suits pass (ViewDrop view) o
+drop_suits pass view None o may = suits_as pass (ViewDrop view) (Refused NoSuchView) o tt may
+drop_suits pass view (Some v) o may = suits_as pass (ViewDrop view) Dropped o tt may
+
 pub page_suits : (pass : PassNo) (view : ViewNo) (C : ℕ) (m : Moment) (fault : Option Refusal) (asked floor : ℕ) (start : List ℕ) (limit : ℕ) (o : Outcome) → MayReadView C m fault asked floor start limit o
     → Suits pass (ViewRead view floor start limit) o
 page_suits pass view C m (Some refusal) asked floor start limit o may = suits_as pass (ViewRead view floor start limit) (Refused refusal) o tt may

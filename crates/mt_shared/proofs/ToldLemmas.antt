@@ -8,7 +8,7 @@ use Rattle.mt_types.specs.declared.event.Event.{Event}
 use Rattle.mt_types.specs.declared.event.Event.TheVariants.{Begin, Step, Apply, ViewRead, ViewDrop, Advance, Collect}
 use Rattle.mt_types.specs.declared.event.Outcome.{Outcome}
 use Rattle.mt_types.specs.declared.refusal.Refusal.TheVariants.{WrongPass, Spent}
-use Rattle.mt_promise.specs.History.{History, OpenCall, call_of, meant_view, moment}
+use Rattle.mt_promise.specs.History.{History, OpenCall, call_of, view_of, meant_view, moment}
 use Rattle.mt_types.specs.Limits.{page_fault}
 use Rattle.mt_promise.specs.Legal.{begin_fault, view_places}
 use Rattle.mt_index.specs.Calls.{pass_at}
@@ -16,7 +16,7 @@ use Rattle.mt_index.specs.Stands.{MachineView, Stands}
 use Rattle.mt_index.proofs.PairedLemmas.{paired-pass}
 use Rattle.mt_shared.specs.Passes.{PassView, IsTold, Suits}
 use Rattle.mt_shared.specs.Kept.{KeptView, IsKept, Does, IsMade, IsUnmade, Makes, is_wrong, is_spent, is_foreign, is_other}
-use Rattle.mt_shared.proofs.HappeningLemmas.{begin_suits, step_suits, apply_suits, page_suits}
+use Rattle.mt_shared.proofs.HappeningLemmas.{begin_suits, step_suits, apply_suits, page_suits, drop_suits}
 use Rattle.mt_shared.proofs.KeptLemmas.{in_books}
 
 own_number : (p n : ℕ) → not (eqb p n) ≡ false → p ≡ n
@@ -39,7 +39,7 @@ suits m n h pass (Step call) o st makes mine =
     o opens then.legal.1
 suits m n h pass (Apply view) o st makes mine = let (opens, then) = makes.stands h st in apply_suits pass view (moment h) view.0 (meant_view view.0 (moment h).views) o then.legal.1
 suits m n h pass (ViewRead view floor start limit) o st makes mine = let (opens, then) = makes.stands h st in page_suits pass view n.columns (moment h) (page_fault start limit) view.0 floor start limit o then.legal.1
-suits m n h pass (ViewDrop view) o st makes mine = tt
+suits m n h pass (ViewDrop view) o st makes mine = let (opens, then) = makes.stands h st in drop_suits pass view (view_of view.0 (moment h).views) o then.legal.1
 suits m n h pass Advance o st makes mine = tt
 suits m n h pass Collect o st makes mine = tt
 

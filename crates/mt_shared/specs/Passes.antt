@@ -2,9 +2,9 @@
 use Rattle.std.specs.Prelude.{ℕ, ◌+◌, ◌≡◌, ◌≤◌, ◌⊎◌, Bool, List, [], ◌∷◌, length, max, sum_by}
 use Rattle.mt_types.specs.declared.numbers.PassNo.{PassNo}
 use Rattle.mt_types.specs.declared.event.Event.{Event}
-use Rattle.mt_types.specs.declared.event.Event.TheVariants.{Begin, Step, Apply, ViewRead}
+use Rattle.mt_types.specs.declared.event.Event.TheVariants.{Begin, Step, Apply, ViewRead, ViewDrop}
 use Rattle.mt_types.specs.declared.event.Outcome.{Outcome}
-use Rattle.mt_types.specs.declared.event.Outcome.TheVariants.{Call, Moved, Again, Commit, Done, Applied, Current, View, Refused}
+use Rattle.mt_types.specs.declared.event.Outcome.TheVariants.{Call, Moved, Again, Commit, Done, Applied, Current, View, Dropped, Refused}
 use Rattle.mt_types.specs.declared.refusal.Refusal.TheVariants.{Spent, WrongPass}
 use Rattle.mt_shared.specs.declared.trace.Trace.{Trace}
 use Rattle.mt_shared.specs.declared.trace.Entry.{Entry}
@@ -36,7 +36,8 @@ pub record Counts (p : PassView) (event : Event) (outcome : Outcome) (q : PassVi
   pub trace : Gains p.trace (entry p.number event outcome ∷ []) q.trace
 
 -- a begin gives a call or a refusal; a step gives no call, and a reply that it gives carries its call and its pass; an
--- apply takes a view on, or finds none to take on, or is refused; a page doesn't stand before its floor
+-- apply takes a view on, or finds none to take on, or is refused; a page doesn't stand before its floor; a view is
+-- dropped, or that is refused
 abbrev pub Suits : PassNo → Event → Outcome → Type 0
 Suits pass (Begin named request) (Call call) = Unit {0}
 Suits pass (Begin named request) (Refused refusal) = Unit {0}
@@ -54,6 +55,9 @@ Suits pass (Apply view) _ = ⊥
 Suits pass (ViewRead view floor start limit) (View page) = floor ≤ page.at
 Suits pass (ViewRead view floor start limit) (Refused refusal) = Unit {0}
 Suits pass (ViewRead view floor start limit) _ = ⊥
+Suits pass (ViewDrop view) Dropped = Unit {0}
+Suits pass (ViewDrop view) (Refused refusal) = Unit {0}
+Suits pass (ViewDrop view) _ = ⊥
 Suits pass _ outcome = Unit {0}
 
 -- What a pass is told by an event: either it was refused as one that this pass can't make, and then the pass is as it

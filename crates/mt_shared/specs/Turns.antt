@@ -1,12 +1,12 @@
 -- The events by which a pass reads views and keeps them up.
-use Rattle.std.specs.Prelude.{ℕ, ◌≡◌, ◌<◌, ◌⊎◌, List, [], ◌∷◌, ◌++◌, length, All, Result, Ok, Err}
+use Rattle.std.specs.Prelude.{ℕ, ◌≡◌, ◌<◌, ◌⊎◌, ⊤, List, [], ◌∷◌, ◌++◌, length, All, Result, Ok, Err}
 use Rattle.mt_types.specs.declared.numbers.PassNo.{PassNo}
 use Rattle.mt_types.specs.declared.refusal.Refusal.{Refusal}
 use Rattle.mt_types.specs.declared.view.Page.{Page}
 use Rattle.mt_types.specs.declared.event.Event.{Event}
 use Rattle.mt_types.specs.declared.event.Event.TheVariants.{Apply}
 use Rattle.mt_types.specs.declared.event.Outcome.{Outcome}
-use Rattle.mt_types.specs.declared.event.Outcome.TheVariants.{Applied, Current, View, Refused}
+use Rattle.mt_types.specs.declared.event.Outcome.TheVariants.{Applied, Current, View, Dropped, Refused}
 use Rattle.mt_shared.specs.declared.trace.Entry.{Entry}
 use Rattle.mt_shared.specs.Traces.{entry, Gains}
 use Rattle.mt_shared.specs.Passes.{PassView}
@@ -16,6 +16,11 @@ use Rattle.mt_shared.specs.Drives.{EventLaw, Runs}
 abbrev pub page_outcome : Result Page Refusal → Outcome
 page_outcome (Ok page) = View page
 page_outcome (Err refusal) = Refused refusal
+
+-- the outcome of the event that dropped a view, or of one that was refused
+abbrev pub drop_outcome : Result ⊤ Refusal → Outcome
+drop_outcome (Ok done) = Dropped
+drop_outcome (Err refusal) = Refused refusal
 
 -- the apply of the view that is furthest behind
 abbrev pub furthest : Event

@@ -1,9 +1,9 @@
-//! What a pass does with views that stand: a page of one, and taking them all on.
+//! What a pass does with views that stand: a page of one, the end of one, and taking them all on.
 
 ghost use Rattle.std.specs.Prelude.{◌≡◌, ◌+◌, ◌≤◌, IfOk, IfErr};
-ghost use Rattle.mt_types.specs.declared.event.Event.TheVariants.{ViewRead};
+ghost use Rattle.mt_types.specs.declared.event.Event.TheVariants.{ViewRead, ViewDrop};
 ghost use Rattle.mt_shared.specs.Passes.{IsTold};
-ghost use Rattle.mt_shared.specs.Turns.{page_outcome, furthest, KeepsUp, IsStopped};
+ghost use Rattle.mt_shared.specs.Turns.{page_outcome, drop_outcome, furthest, KeepsUp, IsStopped};
 
 use crate::driving::Shared;
 use crate::pass::Pass;
@@ -44,6 +44,27 @@ pub fn view_read<S: Shared>(
     };
     match shared.event(alloc, pass, &read) {
         Outcome::View(page) => Ok(page),
+        Outcome::Refused(refusal) => Err(refusal),
+        _ => unreachable!(),
+    }
+}
+
+/// The end of a view: it stands no more. One event.
+///
+/// # Errors
+///
+/// `NoSuchView`. `WrongPass` and `Spent` as of any event of a pass.
+pub fn view_drop<S: Shared>(
+    alloc: Global,
+    shared: &mut S,
+    pass: &mut Pass,
+    view: ViewNo,
+) -> Result<(), Refusal>
+    ensures event { S.does shared.old pass.old (ViewDrop view) (drop_outcome result) shared.new pass.new }
+    ensures told { IsTold pass.old (ViewDrop view) (drop_outcome result) pass.new }
+{
+    match shared.event(alloc, pass, &Event::ViewDrop(view)) {
+        Outcome::Dropped => Ok(()),
         Outcome::Refused(refusal) => Err(refusal),
         _ => unreachable!(),
     }

@@ -11,6 +11,7 @@ use mt_slice::{Class, Length, rest_of};
 use mt_types::copying::TryCopy;
 use mt_types::items::Items;
 use mt_types::numbers::NodeNo;
+use mt_types::refusal::NoMemory;
 use mt_types::row::Row;
 use std::alloc::Global;
 use std::test::Fail;
@@ -45,13 +46,18 @@ fn put(alloc: Global, border: &mut Border, key: &'static [u8]) -> Result<(), Fai
     Ok(())
 }
 
+// The border of these keys, in their order.
+fn border_of(alloc: Global, keys: &[&'static [u8]]) -> Result<Border, Fail> {
+    let mut border = Border::new(alloc, 0, 0);
+    for key in keys {
+        put(alloc, &mut border, *key)?;
+    }
+    Ok(border)
+}
+
 #[test]
 fn equal_padded_slices(rt: HostRuntime) -> Result<(), Fail> {
-    let alloc = rt.alloc();
-    let mut border = Border::new(alloc, 0, 0);
-    put(alloc, &mut border, &[0x61, 0, 0])?;
-    put(alloc, &mut border, &[0x61, 0])?;
-    put(alloc, &mut border, &[0x61])?;
+    let border = border_of(rt.alloc(), &[&[0x61, 0, 0], &[0x61, 0], &[0x61]])?;
     assert_eq!(rt; border.len(), 3);
     let length = Class::Len(Length::new(2));
     assert_eq!(rt;
@@ -63,7 +69,6 @@ fn equal_padded_slices(rt: HostRuntime) -> Result<(), Fail> {
 
 // The border of the keys of no to nine zero bytes, and of 01 to 05.
 fn ten_and_five(alloc: Global) -> Result<Border, Fail> {
-    let mut border = Border::new(alloc, 0, 0);
     let keys: [&'static [u8]; 15] = [
         &[],
         &[0],
@@ -81,10 +86,7 @@ fn ten_and_five(alloc: Global) -> Result<Border, Fail> {
         &[4],
         &[5],
     ];
-    for key in keys {
-        put(alloc, &mut border, key)?;
-    }
-    Ok(border)
+    border_of(alloc, &keys)
 }
 
 // Cuts a full border in two: fills a new one, of this number, with the upper entries, and links it.
@@ -150,8 +152,6 @@ fn sixteenth_key_after_a_split(rt: HostRuntime) -> Result<(), Fail> {
 
 #[test]
 fn fifteen_slices(rt: HostRuntime) -> Result<(), Fail> {
-    let alloc = rt.alloc();
-    let mut border = Border::new(alloc, 0, 0);
     let keys: [&'static [u8]; 15] = [
         &[1],
         &[2],
@@ -169,9 +169,7 @@ fn fifteen_slices(rt: HostRuntime) -> Result<(), Fail> {
         &[14],
         &[15],
     ];
-    for key in keys {
-        put(alloc, &mut border, key)?;
-    }
+    let border = border_of(rt.alloc(), &keys)?;
     assert!(rt; border.is_full());
     assert_eq!(rt; border.cut_place(), 8);
     Ok(())
@@ -214,21 +212,22 @@ fn copied_from(alloc: Global, border: &Border, place: usize) -> Result<Vec<Entry
     Ok(border.copy_upper(alloc, place)?.into_vec())
 }
 
-#[test]
-fn entries_are_copied(rt: HostRuntime) -> Result<(), Fail> {
-    let alloc = rt.alloc();
-    let entries = [
+fn entries(alloc: Global) -> Result<[Entry; 3], NoMemory> {
+    Ok([
         Entry::of_row(Bytes::from_static(b"abc"), row(alloc))?,
         Entry::of_row(Bytes::from_static(b"0123456789"), row(alloc))?,
         Entry {
             slice: 3,
             content: Content::Link(NodeNo(4)),
         },
-    ];
-    for entry in &entries {
-        let copy = entry.copy(alloc)?;
-        assert_eq!(rt; copy.slice, entry.slice);
-        assert_eq!(rt; copy.class(), entry.class());
+    ])
+}
+
+#[test]
+fn entries_are_copied(rt: HostRuntime) -> Result<(), Fail> {
+    for entry in &entries(rt.alloc())? {
+        let copy = entry.copy(rt.alloc())?;
+        assert!(rt; copy.slice == entry.slice && copy.class() == entry.class());
         assert!(rt; copy.row() == entry.row());
     }
     Ok(())

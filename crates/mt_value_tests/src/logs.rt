@@ -34,23 +34,16 @@ fn commit(log: &mut Log) -> Result<(), Refusal>
 }
 
 #[test]
-fn feed_of_one(rt: HostRuntime) -> Result<(), Fail> {
+fn feed_of_one(rt: HostRuntime) {
     let mut log = Log::open(rt.alloc(), 1, 0);
-    assert_eq!(rt; log.number(), 0);
-    commit(&mut log)?;
-    assert_eq!(rt; log.number(), 1);
-    log.trim();
-    assert_eq!(rt; log.held_after(), 1);
     assert!(rt; log.may_pin());
-    log.pin(1)?;
-    commit(&mut log)?;
-    assert_eq!(rt; log.slowest(), 1);
-    assert_eq!(rt; log.reserve(), Err(Refusal::FeedFull(1)));
-    log.unpin(1);
+    assert_eq!(rt; log.pin(0), Ok(()));
+    commit(&mut log).expect(&rt, "a commit");
+    assert_eq!(rt; log.slowest(), 0);
+    assert_eq!(rt; log.reserve(), Err(Refusal::FeedFull(0)));
+    log.unpin(0);
     log.trim();
-    assert_eq!(rt; log.slowest(), 2);
     assert_eq!(rt; log.reserve(), Ok(()));
-    Ok(())
 }
 
 #[test]

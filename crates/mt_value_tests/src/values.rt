@@ -8,7 +8,7 @@ use mt_types::items::Items;
 use mt_types::key::Key;
 use mt_types::numbers::{CallNo, PassNo, ViewNo};
 use mt_types::refusal::{NoMemory, Refusal};
-use mt_types::row::{Change, Delta, Row};
+use mt_types::row::{Change, ColumnNumbers, Delta, Row, Sets};
 use mt_types::view::{Page, RowTest, ViewSpec};
 use std::alloc::Global;
 use std::test::Fail;
@@ -57,12 +57,19 @@ fn specs() -> [ViewSpec; 3] {
 }
 
 fn requests(alloc: Global) -> Result<[Request; 6], NoMemory> {
-    let (key, start) = (bytes(), bytes());
+    let sets = list(alloc, (1, bytes()))?;
     let columns = list(alloc, 1)?;
-    let get = Request::Get { key, columns };
-    let (key, sets) = (bytes(), list(alloc, (1, bytes()))?);
+    let none = Items::new(alloc);
+    Ok(requests_of(sets, columns, none))
+}
+
+// A request of each kind.
+fn requests_of(sets: Sets, one: ColumnNumbers, columns: ColumnNumbers) -> [Request; 6] {
+    let key = bytes();
+    let get = Request::Get { key, columns: one };
+    let key = bytes();
     let put = Request::Put { key, sets };
-    let (limit, columns) = (3, list(alloc, 0)?);
+    let (start, limit) = (bytes(), 3);
     let range_of = Request::Range {
         start,
         limit,
@@ -71,7 +78,7 @@ fn requests(alloc: Global) -> Result<[Request; 6], NoMemory> {
     let remove = Request::Remove { key: bytes() };
     let tidy = Request::Tidy { key: bytes() };
     let spec = range(RowTest::Any);
-    Ok([get, put, remove, range_of, tidy, Request::Build { spec }])
+    [get, put, remove, range_of, tidy, Request::Build { spec }]
 }
 
 fn events(request: Request) -> [Event; 7] {

@@ -105,8 +105,8 @@ module _ (a : ArenaView) (w : World) where
     posting_no_head (RootLate root) (i, above, spare) = one_more root.0 _ (of_interior root.0 i spare.named) rest
     posting_no_head (HalfWanted interior) (i, above, s) = one_more interior.0 _ (of_interior interior.0 i s.named) rest
     posting_no_head (HalfSpared interior spare) (i, above, s, least, starts, sound, spared) = one_more spare.0 _ (of_interior spare.0 _ spared.named) (one_more interior.0 _ (of_interior interior.0 i s.named) rest)
-    posting_no_head (HalfLeftOut left) (above, h) = one_more left.half.node.0 _ (of_interior left.half.node.0 _ h.spare.named) (one_more left.interior.0 _ (of_interior left.interior.0 h.interior h.splits.named) rest)
-    posting_no_head (LetGo interior) truth = one_more interior.0 _ (of_interior interior.0 truth.interior truth.named) rest
+    posting_no_head (HalfLeftOut left why) (above, h) = one_more left.half.node.0 _ (of_interior left.half.node.0 _ h.spare.named) (one_more left.interior.0 _ (of_interior left.interior.0 h.interior h.splits.named) rest)
+    posting_no_head (LetGo interior why) truth = one_more interior.0 _ (of_interior interior.0 truth.interior truth.named) rest
     posting_no_head (HalfPosted posted) (above, p) = one_more posted.half.node.0 _ (of_interior posted.half.node.0 p.half p.half_named) (one_more posted.interior.0 _ (of_interior posted.interior.0 p.interior p.named) rest)
     posting_no_head (HalfCut posted) truth = one_more posted.0 _ (of_interior posted.0 truth.interior truth.named) rest
 

@@ -21,6 +21,7 @@ use Rattle.mt_steps.specs.Way.{prefix_of, IsHeadOf}
 use Rattle.mt_steps.specs.Step.{Held, Truth, StepLaw, ThenTrue, IsQuiet}
 use Rattle.mt_steps.proofs.BorderLemmas.{others_named, goes_border, locked_may, keys_same, mine_free, among_one}
 use Rattle.mt_post.specs.declared.posting.Posting.{Posting}
+use Rattle.mt_post.specs.declared.posting.PostEnd.{PostEnd}
 use Rattle.mt_post.specs.declared.posting.Progressed.TheVariants.{Moved as WentOn, Waits as Again, Ended}
 use Rattle.mt_post.specs.Posting.{PostLaw, PostingIsTrue, NewPostingIsTrue, owned as posting_owned}
 use Rattle.mt_write.specs.declared.writing.Edit.{Edit}
@@ -245,26 +246,26 @@ module _ (C : ℕ) (a after : ArenaView) (log : LogView) (key : List ℕ) (edit 
     halves = tt;
   }
 
-  ends_posting : (now begun : ℕ) (w : World) (More : World → Type 0) → IsWorld a now w → begun ≤ now → PostLaw a after posting Ended then → PostingIsTrue begun posting a w → posting.half ≡ way.node → ((next : World) → Evolves begun w.chart next.chart → HasLocked (prefix_of key way) after next way.node.0 None → More next)
+  ends_posting : (end : PostEnd) (now begun : ℕ) (w : World) (More : World → Type 0) → IsWorld a now w → begun ≤ now → PostLaw a after posting (Ended end) then → PostingIsTrue begun posting a w → posting.half ≡ way.node → ((next : World) → Evolves begun w.chart next.chart → HasLocked (prefix_of key way) after next way.node.0 None → More next)
       → Goes now a after w (posting_owned posting) (way.node.0 ∷ []) More × IsQuiet a after log log
-  ends_posting now begun w More world before law truth half_is more =
+  ends_posting end now begun w More world before law truth half_is more =
       let (goes, content) = law.steps now begun w world before truth in (
         subst (λ (h : NodeNo). Goes now a after w (posting_owned posting) (h.0 ∷ []) More) (ap (λ (q : Posting). q.half) same ∙ half_is)
             (goes_more now a after w _ _ _ More goes (λ evolves t. more goes.next (evolves begun before) (still goes.next (ap (λ (q : Posting). q.half) same ∙ half_is) t))),
         record { content = content; trimmed = refl; deltas = refl },
       )
 
-  pub posts_end : PostLaw a after posting Ended then → PostingStep Moved (ending_stage ending None)
-  posts_end law = go ending refl
+  pub posts_end : (end : PostEnd) → PostLaw a after posting (Ended end) then → PostingStep Moved (ending_stage ending None)
+  posts_end end law = go ending refl
     where
       go : (e : Ending) → ending ≡ e → StepLaw C a after log log (edit_request key edit) (stage_held way.node.0 (Posts posting e)) Moved (stage_held way.node.0 (ending_stage e None)) (λ begun moves past x w. HeadedStage C key edit way head (Posts posting e) begun x w) (λ begun moves past x w. HeadedStage C key edit way head (ending_stage e None) begun x w)
       go (EndStored commit) is = record {
         steps = λ now begun moves past w world before truth.
-            let (goes, quiet) = ends_posting now begun w (λ x. HeadedStage C key edit way head (Stored commit None) begun after x) world before law truth.0.0 truth.0.1 (λ next evolves has. (has, known_on begun w next evolves truth.1)) in
+            let (goes, quiet) = ends_posting end now begun w (λ x. HeadedStage C key edit way head (Stored commit None) begun after x) world before law truth.0.0 truth.0.1 (λ next evolves has. (has, known_on begun w next evolves truth.1)) in
             record { goes = goes; does = (quiet, refl); reserved = refl; bounds = refl; blocked = inl refl; may = λ get. absurd (no_get key edit get) };
       }
       go (EndFailed refusal) is = record {
         steps = λ now begun moves past w world before truth.
-            let (goes, quiet) = ends_posting now begun w (λ x. HeadedStage C key edit way head (Failed refusal None) begun after x) world before law truth.0.0 truth.0.1 (λ next evolves has. ((has, truth.0.2), known_on begun w next evolves truth.1)) in
+            let (goes, quiet) = ends_posting end now begun w (λ x. HeadedStage C key edit way head (Failed refusal None) begun after x) world before law truth.0.0 truth.0.1 (λ next evolves has. ((has, truth.0.2), known_on begun w next evolves truth.1)) in
             record { goes = goes; does = (quiet, refl); reserved = refl; bounds = refl; blocked = inl refl; may = λ get. absurd (no_get key edit get) };
       }

@@ -31,6 +31,7 @@ use Rattle.mt_steps.specs.Step.{MayStep, StepLaw}
 use Rattle.mt_steps.proofs.FoundLemmas.{some_and}
 use Rattle.mt_steps.proofs.GetLemmas.{may_go}
 use Rattle.mt_post.specs.declared.posting.Posting.{Posting}
+use Rattle.mt_post.specs.declared.posting.PostEnd.{PostEnd}
 use Rattle.mt_post.specs.declared.posting.Progressed.{Progressed}
 use Rattle.mt_post.specs.declared.posting.Progressed.TheVariants.{Moved as PostMoved, Waits as PostAgain, Ended}
 use Rattle.mt_post.specs.Posting.{MayPost, NewPostingIsTrue, PostLaw}
@@ -427,25 +428,25 @@ module _ (a after : ArenaView) (write : Write) where
         goes_on (EndStored commit) = tt
         goes_on (EndFailed refusal) = tt
 
-    posting_done : p ≡ Ended → (ending : Ending) → TreeStep a after write (Posts posting ending) Moved (record write { stage = ending_stage ending None })
-    posting_done is (EndStored commit) = λ C log. record {
+    posting_done : (end : PostEnd) → p ≡ Ended end → (ending : Ending) → TreeStep a after write (Posts posting ending) Moved (record write { stage = ending_stage ending None })
+    posting_done end is (EndStored commit) = λ C log. record {
       request = refl;
-      law = posts_end C a after log write.key write.edit write.way write.head posting then (EndStored commit) steps.same (subst (λ (q : Progressed). PostLaw a after posting q then) is law);
+      law = posts_end C a after log write.key write.edit write.way write.head posting then (EndStored commit) steps.same end (subst (λ (q : Progressed). PostLaw a after posting q then) is law);
       waits = tt;
       fails = (tt, tt);
       follows = (refl, refl);
       head = refl;
-      posts = (then, subst (λ (q : Progressed). PostingSteps a after posting q then) is steps);
+      posts = (then, end, subst (λ (q : Progressed). PostingSteps a after posting q then) is steps);
     }
-    posting_done is (EndFailed refusal) = λ C log. record {
+    posting_done end is (EndFailed refusal) = λ C log. record {
       request = refl;
-      law = posts_end C a after log write.key write.edit write.way write.head posting then (EndFailed refusal) steps.same (subst (λ (q : Progressed). PostLaw a after posting q then) is law);
+      law = posts_end C a after log write.key write.edit write.way write.head posting then (EndFailed refusal) steps.same end (subst (λ (q : Progressed). PostLaw a after posting q then) is law);
       waits = tt;
       fails = (tt, refl);
       follows = (refl, refl);
       head = refl;
-      posts = (then, subst (λ (q : Progressed). PostingSteps a after posting q then) is steps);
+      posts = (then, end, subst (λ (q : Progressed). PostingSteps a after posting q then) is steps);
     }
 
-    pub posting_ends : (ending : Ending) (stage : Stage) → p ≡ Ended → stage ≡ ending_stage ending None → TreeStep a after write (Posts posting ending) Moved (record write { stage = stage })
-    posting_ends ending stage is stage_is = subst (λ (s : Stage). TreeStep a after write (Posts posting ending) Moved (record write { stage = s })) (sym stage_is) (posting_done is ending)
+    pub posting_ends : (end : PostEnd) (ending : Ending) (stage : Stage) → p ≡ Ended end → stage ≡ ending_stage ending None → TreeStep a after write (Posts posting ending) Moved (record write { stage = stage })
+    posting_ends end ending stage is stage_is = subst (λ (s : Stage). TreeStep a after write (Posts posting ending) Moved (record write { stage = s })) (sym stage_is) (posting_done end is ending)

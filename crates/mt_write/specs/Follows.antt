@@ -11,6 +11,7 @@ use Rattle.mt_steps.specs.declared.way.Went.TheVariants.{To}
 use Rattle.mt_steps.specs.Way.{Visits, start}
 use Rattle.mt_steps.specs.Causes.{IsMarkedAt, IsLockedAlready}
 use Rattle.mt_post.specs.declared.posting.Posting.{Posting}
+use Rattle.mt_post.specs.declared.posting.PostEnd.{PostEnd}
 use Rattle.mt_post.specs.declared.posting.Progressed.{Progressed}
 use Rattle.mt_post.specs.declared.posting.Progressed.TheVariants.{Moved as PostMoved, Waits as PostAgain, Ended as PostEnded}
 use Rattle.mt_post.specs.declared.posting.PostStage.TheVariants.{Walks}
@@ -154,12 +155,13 @@ PostingGoes a after posting Waits then = PostingSteps a after posting PostAgain 
 PostingGoes a after posting _ then = Unit {0}
 
 -- the posting with which it goes on: a new one of its right half, or the one that it had, after a step; or this has
--- ended in the step
+-- ended in the step, posted or left out
 abbrev pub PostsGo : ArenaView → ArenaView → NodeNo → Stage → Progress → Stage → Type 0
 PostsGo a after head (Stored commit (Some split)) p (Posts posting ending) = IsNewPosting head split.half posting
 PostsGo a after head (Failed refusal (Some split)) p (Posts posting ending) = IsNewPosting head split.half posting
 PostsGo a after head (Posts posting ending) p (Posts then other) = PostingGoes a after posting p then
-PostsGo a after head (Posts posting ending) p new = (then : Posting) × PostingSteps a after posting PostEnded then
+PostsGo a after head (Posts posting ending) p new = (then : Posting) × (end : PostEnd)
+    × PostingSteps a after posting (PostEnded end) then
 PostsGo a after head _ p new = Unit {0}
 
 abbrev pub PostsFollow : ArenaView → ArenaView → WriteView → Progress → WriteView → Type 0

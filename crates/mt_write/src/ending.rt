@@ -61,7 +61,7 @@ impl Write {
                 self.turn_to(Stage::Posts(posting, ending));
                 Progress::Waits
             }
-            Progressed::Ended => {
+            Progressed::Ended(_) => {
                 self.turn_to(ended(ending));
                 Progress::Moved
             }

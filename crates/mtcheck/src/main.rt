@@ -3,7 +3,7 @@
 
 ghost use Rattle.std.specs.Prelude.{◌≡◌, false, codes, map, string_bytes, IfOk};
 ghost use Rattle.clap.specs.Words.{app_of, found_of, one_text, rule_of};
-ghost use Rattle.mt_drive.specs.Sink.{sink_writer};
+ghost use Rattle.mt_streams.specs.Sinks.{sink_writer};
 ghost use Rattle.mt_drive.specs.Source.{source_rest};
 ghost use Rattle.mtcheck.specs.CommandLine.{columns_rule, mtcheck_app, IsNumber, IsFound, IsSaid, status_of, Answered};
 
@@ -12,8 +12,8 @@ use clap::error::ErrorKind as FaultKind;
 use clap::{Arg, ArgMatches, Command, Error};
 use mt_audit::audit::audit;
 use mt_drive::fault::ScriptFault;
-use mt_drive::sink::Sink;
 use mt_drive::source::Source;
+use mt_streams::sink::Sink;
 use mt_types::limits::MAX_COLUMNS;
 use std::alloc::{AllocError, Global};
 use std::io::{ErrorKind, Read, Write};

@@ -3,7 +3,7 @@
 
 ghost use Rattle.std.specs.Prelude.{◌≡◌, false, codes, map, string_bytes, IfOk};
 ghost use Rattle.clap.specs.Words.{app_of, found_of, one_text, rule_of};
-ghost use Rattle.mt_drive.specs.Sink.{sink_writer};
+ghost use Rattle.mt_streams.specs.Sinks.{sink_writer};
 ghost use Rattle.mt_drive.specs.Source.{source_rest};
 ghost use Rattle.mtdrive.specs.CommandLine.{number_rule, mtdrive_app, IsNumber, AreFound, AreSaid, status_of, Answered};
 
@@ -12,9 +12,9 @@ use clap::error::ErrorKind as FaultKind;
 use clap::{Arg, ArgMatches, Command, Error};
 use mt_drive::fault::ScriptFault;
 use mt_drive::script::script;
-use mt_drive::sink::Sink;
 use mt_drive::source::Source;
 use mt_index::options::Options;
+use mt_streams::sink::Sink;
 use mt_types::limits::{MAX_COLUMNS, MAX_FEED, MAX_KEEP};
 use std::alloc::{AllocError, Global};
 use std::io::{ErrorKind, Read, Write};

@@ -3,7 +3,7 @@ use Rattle.mt_drive.proofs.PlayLemmas.{Playing-none, Playing-more, Played-end, B
 use Rattle.std.proofs.lemmas.Result.{err_from_is_err_and}
 use Rattle.mt_drive.specs.Script.{reply_lines}
 use Rattle.mt_drive.specs.Source.{source_rest, lines_left}
-use Rattle.mt_drive.specs.Sink.{sink_writer}
+use Rattle.mt_streams.specs.Sinks.{sink_writer}
 use Rattle.mt_drive.proofs.script.play.Goals as goal
 
 pub loop-line-init : goal.loop-line-init

@@ -1,6 +1,6 @@
 use Rattle.std.proofs.Common.{◌≤◌, ◌-◌}
 use Rattle.mt_drive.specs.Source.{source_rest, lines_left}
-use Rattle.mt_drive.specs.Sink.{sink_writer}
+use Rattle.mt_streams.specs.Sinks.{sink_writer}
 use Rattle.mt_drive.proofs.PlayLemmas.{Playing}
 use Rattle.mt_drive.proofs.script.play.Given as goal
 

@@ -1,7 +1,7 @@
 use Rattle.std.proofs.Common.{IfOk, IfErr, ℕ, subst}
 use Rattle.mt_drive.specs.Script.{Played, Broke}
 use Rattle.mt_drive.specs.Source.{source_rest}
-use Rattle.mt_drive.specs.Sink.{sink_writer}
+use Rattle.mt_streams.specs.Sinks.{sink_writer}
 use Rattle.mt_drive.proofs.PlayLemmas.{Broke-none}
 use Rattle.mt_drive.proofs.script.script.Goals as goal
 

@@ -3,6 +3,7 @@ use Rattle.mt_arena.specs.Node.{Updates}
 use Rattle.mt_arena.specs.declared.node.Node.TheVariants.{Interior}
 use Rattle.mt_interior.specs.Interior.{InteriorView, IsInterior, new_interior}
 use Rattle.mt_post.proofs.HalfLemmas.{half_spares, half_refused}
+use Rattle.mt_post.proofs.NumberLemmas.{refuses_spare}
 use Rattle.mt_post.proofs.posting.Posting.spare_half.Goals as goal
 
 pub returns-in-Ok : goal.returns-in-Ok
@@ -14,4 +15,5 @@ returns-in-Ok c =
     c.occupy.ensures.retired c.in-Ok.ensures.unknown c.in-Ok.ensures.keeps c.in-Ok.ensures.occupied
 
 pub returns-in-Err : goal.returns-in-Err
-returns-in-Err c = half_refused c.args.tree.now c.args.self.now c.args.interior c.requires.wants c.occupy.new.self c.in-Err.ensures.err
+returns-in-Err c = half_refused c.args.tree.now c.args.self.now c.args.interior c.requires.wants c.occupy.new.self c.in-Err.refusal c.in-Err.ensures.err
+    (refuses_spare c.args.tree.now c.occupy.result c.in-Err.refusal c.in-Err.is c.occupy.ensures.full c.in-Err.ensures.only)

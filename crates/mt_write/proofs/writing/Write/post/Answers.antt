@@ -14,4 +14,4 @@ returns-in-Waits c = turned_tree c.args.tree.now c.step.new.tree c.args.self.now
 
 pub returns-in-Ended : goal.returns-in-Ended
 returns-in-Ended c = turned_tree c.args.tree.now c.step.new.tree c.args.self.now _ _ _ _ c.turn_to-in-Ended.ensures
-    (posting_ends c.args.tree.now c.step.new.tree c.args.self.now c.args.posting c.step.new.self c.step.result c.step.ensures.steps (record { same = c.step.ensures.same; ends = c.step.ensures.ends; gets_on = c.step.ensures.gets_on; nearer = c.step.ensures.nearer; alone = c.step.ensures.alone; marks = c.step.ensures.marks }) c.args.ending c.ended.result c.in-Ended.is c.ended.ensures)
+    (posting_ends c.args.tree.now c.step.new.tree c.args.self.now c.args.posting c.step.new.self c.step.result c.step.ensures.steps (record { same = c.step.ensures.same; ends = c.step.ensures.ends; gets_on = c.step.ensures.gets_on; nearer = c.step.ensures.nearer; alone = c.step.ensures.alone; marks = c.step.ensures.marks }) c.in-Ended.field-0 c.args.ending c.ended.result c.in-Ended.is c.ended.ensures)

@@ -1,5 +1,5 @@
-use Rattle.mt_drive.proofs.PlayLemmas.{sent_more}
-use Rattle.mt_drive.proofs.sink.Sink.send.Goals as goal
+use Rattle.mt_streams.proofs.SendLemmas.{sent_more}
+use Rattle.mt_streams.proofs.sink.Sink.send.Goals as goal
 
 pub loop-rest-preserved : goal.loop-rest-preserved
 loop-rest-preserved g c =

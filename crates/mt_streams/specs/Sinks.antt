@@ -1,6 +1,6 @@
--- What a sink of replies shows.
+-- What a sink shows.
 use Rattle.std.specs.Prelude.{Bool}
-use Rattle.mt_drive.specs.declared.sink.Sink.{Sink}
+use Rattle.mt_streams.specs.declared.sink.Sink.{Sink}
 
 -- the writer in it
 abbrev pub sink_writer : {W : Type 0} → Sink W → W

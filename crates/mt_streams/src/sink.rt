@@ -1,15 +1,19 @@
-//! Writing text.
+//! A writer that notes whether its last write failed.
 
-ghost use Rattle.std.specs.Prelude.{◌≡◌, ◌<◌, ◌++◌, [], OnOk, IfErr, IfOk, ℕ, List, true, false, string_bytes};
+ghost use Rattle.std.specs.Prelude.{◌≡◌, ◌<◌, ◌++◌, [], OnOk, OnErr, IfOk, ℕ, List, true, false, string_bytes};
 ghost use Rattle.std.specs.Io.{WritesAtMost};
 ghost use Rattle.std.specs.Io.KnownBytes.{Appends, WriteAppends};
-ghost use Rattle.mt_drive.specs.Sink.{sink_writer, write_failed};
-ghost use Rattle.mt_drive.specs.declared.fault.ScriptFault.TheVariants.{Write as WriteFault};
+ghost use Rattle.mt_streams.specs.Sinks.{sink_writer, write_failed};
 
-use crate::fault::ScriptFault;
 use std::io::Write;
+use thiserror::Error;
 
-/// A writer of text. It notes whether its last write failed.
+/// A write failed, or took nothing.
+#[derive(Clone, Copy, Debug, PartialEq, Eq, Error)]
+#[error("nothing more could be written")]
+pub struct WriteFailed;
+
+/// A writer. It notes whether its last write failed.
 #[derive(Drop)]
 pub struct Sink<W> {
     writer: W,
@@ -36,17 +40,17 @@ impl<W: Write> Sink<W> {
     }
 
     // Writes some of the bytes, at least one.
-    fn send_some(&mut self, bytes: &[u8]) -> Result<usize, ScriptFault>
+    fn send_some(&mut self, bytes: &[u8]) -> Result<usize, WriteFailed>
         ensures bound { WritesAtMost result bytes.now }
         ensures bytes { WriteAppends (W.contents self.old.writer) (W.contents self.new.writer) result bytes.now }
         ensures some { IfOk result (λ taken. 0 < taken) }
-        ensures err { IfErr result (λ fault. (fault ≡ WriteFault) × (write_failed self.new ≡ true)) }
+        ensures err { OnErr result (write_failed self.new ≡ true) }
     {
         match self.writer.write(bytes) {
             Ok(taken) if taken > 0 => Ok(taken),
             _ => {
                 self.failed = true;
-                Err(ScriptFault::Write)
+                Err(WriteFailed)
             }
         }
     }
@@ -55,12 +59,12 @@ impl<W: Write> Sink<W> {
     ///
     /// # Errors
     ///
-    /// `Write` where a write failed or took nothing.
-    pub fn send(&mut self, bytes: &[u8]) -> Result<(), ScriptFault>
+    /// Where a write failed or took nothing.
+    pub fn send(&mut self, bytes: &[u8]) -> Result<(), WriteFailed>
         ensures sent { (sent : List ℕ) × (unsent : List ℕ) × (bytes.now ≡ sent ++ unsent)
             × Appends (W.contents (sink_writer self.old)) (W.contents (sink_writer self.new)) sent
             × OnOk result (unsent ≡ []) }
-        ensures err { IfErr result (λ fault. (fault ≡ WriteFault) × (write_failed self.new ≡ true)) }
+        ensures err { OnErr result (write_failed self.new ≡ true) }
     {
         let mut rest = bytes;
         while !rest.is_empty() {

@@ -1,0 +1,436 @@
+#!/usr/bin/env python3
+"""A stand-in of the server for tests: a plain dict behind the wire, one query at a time. It keeps nothing but the words
+of docs/WIRE.md, and takes the command line of `mtserve`, so that the tests of the server can be tried on it."""
+from __future__ import annotations
+
+import argparse
+import socket
+import struct
+import sys
+import threading
+from dataclasses import dataclass
+from types import TracebackType
+from typing import Any, Callable, Dict, List, Optional, Sequence, Tuple, Type
+
+import rowanspan as wire
+from rowanspan import (AnswerKind, AnyRow, AtLeast, Equals, Get, GetRange, Page, Pairs, Prefix, Put, Query, Range,
+                       Reader, Refused, Remove, Row, RowTest, Tidied, Tidy, ViewDrop, ViewRead, ViewSpec, set_pairs,
+                       spelled_bytes, spelled_key, spelled_number)
+
+READ_FAILED, WRITE_FAILED, CUT, BAD_LENGTH, BAD_VERSION, BAD_BODY = 1, 2, 3, 4, 5, 6
+MAX_COLUMN_BYTES = 64
+MAX_VIEWS = 64
+
+
+class SessionFault(Exception):
+    """A session ends by this number."""
+
+    def __init__(self, number: int) -> None:
+        super().__init__(number)
+        self.number = number
+
+
+# ---- queries as bytes, read
+
+def read_test(reader: Reader) -> RowTest:
+    kind = reader.number(1)
+    if kind == 0:
+        return AnyRow()
+    if kind == 1:
+        return Equals(reader.number(1), reader.short())
+    if kind == 2:
+        return AtLeast(reader.number(1), reader.number(8))
+    raise ValueError("this is no test")
+
+
+def read_end(reader: Reader) -> Optional[bytes]:
+    kind = reader.number(1)
+    if kind > 1:
+        raise ValueError("this is no end of a range")
+    return reader.key() if kind else None
+
+
+def read_spec(reader: Reader) -> ViewSpec:
+    kind = reader.number(1)
+    if kind == 0:
+        return Range(reader.key(), read_end(reader), read_test(reader))
+    if kind == 1:
+        return Prefix(reader.key(), read_test(reader))
+    raise ValueError("this is no specification")
+
+
+def read_columns(reader: Reader) -> Tuple[int, ...]:
+    return tuple(reader.short())
+
+
+def read_sets(reader: Reader) -> List[Tuple[int, bytes]]:
+    return [(reader.number(1), reader.short()) for _ in range(reader.number(1))]
+
+
+READERS: Dict[int, Callable[[Reader], Query[Any]]] = {
+    1: lambda reader: Get(reader.key(), read_columns(reader)),
+    2: lambda reader: Put(reader.key(), read_sets(reader)),
+    3: lambda reader: Remove(reader.key()),
+    4: lambda reader: GetRange(reader.key(), reader.number(2), read_columns(reader)),
+    5: lambda reader: Tidy(reader.key()),
+    6: lambda reader: wire.Build(read_spec(reader)),
+    7: lambda reader: ViewRead(reader.number(8), reader.number(8), reader.key(), reader.number(2)),
+    8: lambda reader: ViewDrop(reader.number(8)),
+}
+
+
+def read_query(reader: Reader) -> Query[Any]:
+    read = READERS.get(reader.number(1))
+    if read is None:
+        raise ValueError("this is no query")
+    return read(reader)
+
+
+def read_queries(body: bytes) -> List[Query[Any]]:
+    """The queries of a body; raises `SessionFault`."""
+    reader = Reader(body)
+    if reader.number(1) != wire.WIRE_VERSION:
+        raise SessionFault(BAD_VERSION)
+    try:
+        count = reader.number(1)
+        queries = [read_query(reader) for _ in range(count)]
+    except ValueError as fault:
+        raise SessionFault(BAD_BODY) from fault
+    if not 1 <= count <= wire.MAX_QUERIES or not reader.is_at_end():
+        raise SessionFault(BAD_BODY)
+    return queries
+
+
+# ---- answers as bytes, written
+
+def spelled_row(row: Row) -> bytes:
+    columns = b"".join(map(spelled_bytes, row.columns))
+    return spelled_number(row.version, 8) + spelled_number(len(row.columns), 1) + columns
+
+
+def spelled_pairs(pairs: Pairs) -> bytes:
+    return spelled_number(len(pairs), 2) + b"".join(spelled_key(key) + spelled_row(row) for key, row in pairs)
+
+
+def spelled_page(page: Page) -> bytes:
+    sums = b"".join(spelled_number(amount, 16) for amount in page.sums)
+    return (spelled_number(AnswerKind.VIEW, 1) + spelled_number(page.at, 8) + spelled_number(page.count, 8)
+            + spelled_number(len(page.sums), 1) + sums + spelled_pairs(page.rows))
+
+
+def spelled_refusal(refusal: Refused) -> bytes:
+    return b"\0" + spelled_number(refusal.number, 1) + spelled_number(refusal.detail or 0, 8)
+
+
+def spelled_done(kind: AnswerKind, from_: int, to: int, rest: bytes) -> bytes:
+    return spelled_number(kind, 1) + spelled_number(from_, 8) + spelled_number(to, 8) + rest
+
+
+def reply_frame(answers: Sequence[bytes]) -> bytes:
+    body = bytes((wire.WIRE_VERSION, len(answers))) + b"".join(answers)
+    return spelled_number(len(body), 4) + body
+
+
+# ---- the index
+
+def amount(column: bytes) -> int:
+    return int.from_bytes(column, "big") if len(column) <= 8 else 0
+
+
+def passes(test: RowTest, row: Row) -> bool:
+    if isinstance(test, Equals):
+        return row.columns[test.column] == test.value
+    return not isinstance(test, AtLeast) or amount(row.columns[test.column]) >= test.least
+
+
+def belongs(spec: ViewSpec, key: bytes, row: Row) -> bool:
+    if isinstance(spec, Prefix):
+        return key.startswith(spec.key) and passes(spec.test, row)
+    return spec.lo <= key and (spec.hi is None or key < spec.hi) and passes(spec.test, row)
+
+
+def shown(row: Row, columns: Sequence[int]) -> Row:
+    return Row(row.version, tuple(row.columns[column] for column in columns)) if columns else row
+
+
+class PlainIndex:
+    """The rows, and the views that stand, in one lock. Each answer is the bytes of it."""
+
+    def __init__(self, columns: int) -> None:
+        self._lock = threading.Lock()
+        self._columns = columns
+        self._rows: Dict[bytes, Row] = {}
+        self._views: Dict[int, ViewSpec] = {}
+        self._built = 0
+        self.commits = 0
+        self.events = 0
+
+    def answer(self, query: Query[Any]) -> bytes:
+        with self._lock:
+            self.events += 1
+            try:
+                return self._answer(query)
+            except Refused as refusal:
+                return spelled_refusal(refusal)
+
+    def _answer(self, query: Query[Any]) -> bytes:
+        if isinstance(query, Get):
+            return self._get(query)
+        if isinstance(query, Put):
+            return self._put(query)
+        if isinstance(query, Remove):
+            return self._remove(query)
+        if isinstance(query, GetRange):
+            return self._range(query)
+        if isinstance(query, Tidy):
+            self._check_key(query.key)
+            return self._done(AnswerKind.TIDIED, self.commits, spelled_number(Tidied.NOTHING, 1))
+        return self._answer_of_view(query)
+
+    def _answer_of_view(self, query: Query[Any]) -> bytes:
+        if isinstance(query, wire.Build):
+            return self._build(query.spec)
+        if isinstance(query, ViewRead):
+            return self._view(query)
+        assert isinstance(query, ViewDrop)
+        if self._views.pop(query.view, None) is None:
+            raise wire.NoSuchView()
+        return spelled_number(AnswerKind.DROPPED, 1)
+
+    def _done(self, kind: AnswerKind, from_: int, rest: bytes = b"") -> bytes:
+        return spelled_done(kind, from_, self.commits, rest)
+
+    def _commit(self) -> int:
+        self.commits += 1
+        return self.commits
+
+    def _check_key(self, key: bytes) -> None:
+        if len(key) > wire.MAX_KEY_BYTES:
+            raise wire.KeyTooLong()
+
+    def _check_columns(self, columns: Sequence[int]) -> None:
+        if len(set(columns)) < len(columns) or any(column >= self._columns for column in columns):
+            raise wire.BadColumn()
+
+    def _check_bytes(self, value: bytes) -> None:
+        if len(value) > MAX_COLUMN_BYTES:
+            raise wire.ColumnTooLong()
+
+    def _check_limit(self, limit: int) -> None:
+        if not 1 <= limit <= wire.MAX_LIMIT:
+            raise wire.BadLimit()
+
+    def _check_test(self, test: RowTest) -> None:
+        if not isinstance(test, AnyRow):
+            self._check_columns([test.column])
+        if isinstance(test, Equals):
+            self._check_bytes(test.value)
+
+    def _check_spec(self, spec: ViewSpec) -> None:
+        if isinstance(spec, Prefix):
+            self._check_key(spec.key)
+            return self._check_test(spec.test)
+        self._check_key(spec.lo)
+        self._check_key(spec.hi or b"")
+        self._check_test(spec.test)
+        if spec.hi is not None and spec.hi <= spec.lo:
+            raise wire.BadRange()
+
+    def _get(self, query: Get) -> bytes:
+        self._check_key(query.key)
+        self._check_columns(query.columns)
+        row = self._rows.get(query.key)
+        if row is None:
+            return self._done(AnswerKind.ABSENT, self.commits)
+        return self._done(AnswerKind.ROW, self.commits, spelled_row(shown(row, query.columns)))
+
+    def _put(self, query: Put) -> bytes:
+        sets = set_pairs(query.sets)
+        self._check_key(query.key)
+        self._check_columns([column for column, _ in sets])
+        for _, value in sets:
+            self._check_bytes(value)
+        before = self._rows.get(query.key)
+        columns = list(before.columns) if before else [b""] * self._columns
+        for column, value in sets:
+            columns[column] = value
+        commit = self._commit()
+        self._rows[query.key] = Row(commit, tuple(columns))
+        return self._done(AnswerKind.COMMITTED, commit - 1, spelled_number(commit, 8))
+
+    def _remove(self, query: Remove) -> bytes:
+        self._check_key(query.key)
+        if self._rows.pop(query.key, None) is None:
+            return self._done(AnswerKind.ABSENT, self.commits)
+        commit = self._commit()
+        return self._done(AnswerKind.COMMITTED, commit - 1, spelled_number(commit, 8))
+
+    def _range(self, query: GetRange) -> bytes:
+        self._check_key(query.start)
+        self._check_columns(query.columns)
+        self._check_limit(query.limit)
+        keys = sorted(key for key in self._rows if key >= query.start)[:query.limit]
+        pairs = [(key, shown(self._rows[key], query.columns)) for key in keys]
+        return self._done(AnswerKind.ROWS, self.commits, spelled_pairs(pairs))
+
+    def _build(self, spec: ViewSpec) -> bytes:
+        self._check_spec(spec)
+        if len(self._views) == MAX_VIEWS:
+            raise wire.TooManyViews()
+        self._built += 1
+        self._views[self._built] = spec
+        return self._done(AnswerKind.BUILT, self.commits, spelled_number(self._built, 8))
+
+    def _view(self, query: ViewRead) -> bytes:
+        self._check_key(query.start)
+        self._check_limit(query.limit)
+        spec = self._views.get(query.view)
+        if spec is None:
+            raise wire.NoSuchView()
+        if self.commits < query.floor:
+            raise wire.Behind(self.commits)
+        pairs = [(key, row) for key, row in sorted(self._rows.items()) if belongs(spec, key, row)]
+        sums = tuple(sum(amount(row.columns[place]) for _, row in pairs) for place in range(self._columns))
+        rows = [pair for pair in pairs if pair[0] >= query.start][:query.limit]
+        return spelled_page(Page(self.commits, len(pairs), sums, rows))
+
+
+# ---- sessions
+
+def receive(connection: socket.socket, count: int, is_first: bool) -> Optional[bytes]:
+    """So many bytes; none where the stream ends before the first of a frame."""
+    received = b""
+    while len(received) < count:
+        try:
+            piece = connection.recv(count - len(received))
+        except OSError as fault:
+            raise SessionFault(READ_FAILED) from fault
+        if not piece and is_first and not received:
+            return None
+        if not piece:
+            raise SessionFault(CUT)
+        received += piece
+    return received
+
+
+def next_body(connection: socket.socket) -> Optional[bytes]:
+    """The body of the next frame; none at the end of the stream."""
+    head = receive(connection, 4, True)
+    if head is None:
+        return None
+    (length,) = struct.unpack(">I", head)
+    if not 2 <= length <= wire.MAX_REQUEST_BODY:
+        raise SessionFault(BAD_LENGTH)
+    return receive(connection, length, False)
+
+
+def serve(connection: socket.socket, index: PlainIndex) -> None:
+    """Answers the frames of a connection, to its end; raises `SessionFault`."""
+    body = next_body(connection)
+    while body is not None:
+        frame = reply_frame([index.answer(query) for query in read_queries(body)])
+        try:
+            connection.sendall(frame)
+        except OSError as fault:
+            raise SessionFault(WRITE_FAILED) from fault
+        body = next_body(connection)
+
+
+@dataclass(frozen=True)
+class Options:
+    """Those of the server's command line; `sessions` is None where it serves on for ever."""
+
+    port: int = 0
+    workers: int = 1
+    sessions: Optional[int] = None
+    columns: int = 1
+
+
+class StandIn:
+    """A server in threads of this process, at `port` of this machine."""
+
+    def __init__(self, options: Options = Options(), tell: Callable[[str], None] = lambda line: None) -> None:
+        self.index = PlainIndex(options.columns)
+        self.faults: List[int] = []
+        self._tell = tell
+        self._sessions = options.sessions
+        self._listener = socket.create_server(("127.0.0.1", options.port))
+        self.port: int = self._listener.getsockname()[1]
+        self._workers = [threading.Thread(target=self._work, daemon=True) for _ in range(options.workers)]
+        for worker in self._workers:
+            worker.start()
+
+    def __enter__(self) -> StandIn:
+        return self
+
+    def __exit__(self, kind: Optional[Type[BaseException]], fault: Optional[BaseException],
+                 trace: Optional[TracebackType]) -> None:
+        self._listener.close()
+
+    def join(self) -> None:
+        """Waits till each worker has served its sessions."""
+        for worker in self._workers:
+            worker.join()
+
+    def _work(self) -> None:
+        served = 0
+        while served != self._sessions:
+            try:
+                connection, _ = self._listener.accept()
+            except OSError:
+                return
+            self._serve(connection)
+            served += 1
+
+    def _serve(self, connection: socket.socket) -> None:
+        with connection:
+            try:
+                serve(connection, self.index)
+            except SessionFault as fault:
+                self.faults.append(fault.number)
+                self._tell(f"session fault {fault.number}")
+
+
+# ---- the command line
+
+def bounded(low: int, high: int) -> Callable[[str], int]:
+    def read(word: str) -> int:
+        if not low <= int(word) <= high:
+            raise ValueError(word)
+        return int(word)
+    return read
+
+
+def parser() -> argparse.ArgumentParser:
+    made = argparse.ArgumentParser(description="A stand-in of the server, for tests of its tests.")
+    made.add_argument("--port", type=bounded(0, 65_535), default=0)
+    made.add_argument("--workers", type=bounded(1, 16), default=1)
+    made.add_argument("--sessions", type=bounded(0, 65_535), default=1)
+    made.add_argument("--forever", action="store_true")
+    made.add_argument("--columns", type=bounded(1, 16), default=1)
+    made.add_argument("--feed", type=bounded(1, 65_536), default=4096)
+    made.add_argument("--keep", type=bounded(0, 65_536), default=0)
+    return made
+
+
+def tell(line: str) -> None:
+    print(line, file=sys.stderr, flush=True)
+
+
+def main() -> int:
+    given = parser().parse_args()
+    sessions = None if given.forever else given.sessions
+    try:
+        server = StandIn(Options(given.port, given.workers, sessions, given.columns), tell)
+    except OSError as fault:
+        tell(f"stand_in: {fault}")
+        return 3
+    with server:
+        tell(f"listening {server.port}")
+        server.join()
+    print(f"events {server.index.events} commits {server.index.commits}")
+    return 0
+
+
+if __name__ == "__main__":
+    sys.exit(main())

@@ -1,0 +1,47 @@
+"""Reads the worked bytes off docs/WIRE.md for the tests, so that the page, the client and the server say the same."""
+from __future__ import annotations
+
+import re
+from dataclasses import dataclass
+from pathlib import Path
+from typing import List
+
+PAGE = Path(__file__).resolve().parents[2] / "docs" / "WIRE.md"
+
+
+@dataclass(frozen=True)
+class Exchange:
+    """A frame of queries, and the frame of replies to it."""
+
+    request: bytes
+    reply: bytes
+
+
+@dataclass(frozen=True)
+class BadFrame:
+    """Bytes that end a session, and the number of the fault."""
+
+    sent: bytes
+    fault: int
+
+
+@dataclass(frozen=True)
+class WorkedBytes:
+    """What stands under 'Worked bytes': the exchanges of one session on an empty index, and the bad frames."""
+
+    exchanges: List[Exchange]
+    bad_frames: List[BadFrame]
+
+
+def worked_bytes(page: Path = PAGE) -> WorkedBytes:
+    """The worked bytes of the page; raises ValueError where they don't stand as they are wanted."""
+    part = page.read_text(encoding="utf-8").partition("\n## Worked bytes\n")[2]
+    blocks = re.findall(r"(?:^    .*\n)+", part, re.M)
+    frames = [bytes.fromhex("".join(block.split())) for block in blocks]
+    if not frames or len(frames) % 2:
+        raise ValueError("the blocks of worked bytes are no pairs")
+    rows = re.findall(r"^\| `([0-9a-f ]+)` \| (\d+):", part, re.M)
+    if not rows:
+        raise ValueError("there are no bad frames")
+    exchanges = [Exchange(*pair) for pair in zip(frames[::2], frames[1::2])]
+    return WorkedBytes(exchanges, [BadFrame(bytes.fromhex(row.replace(" ", "")), int(fault)) for row, fault in rows])

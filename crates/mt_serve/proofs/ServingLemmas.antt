@@ -1,0 +1,170 @@
+-- Queries, frames that have been answered so far.
+use Rattle.std.proofs.Common.{◌≡◌, ◌≢◌, inl, inr, ℕ, ◌+◌, ◌*◌, ◌≤◌, List, [], ◌∷◌, ◌++◌, length, fold, refl, ap, subst, sym, ◌∙◌, arith, append_assoc, append-nil, length-append, Option, None, Some, IfSome}
+use Rattle.std.specs.Prelude.{sum_by}
+use Rattle.std.specs.List.{AllByRecursion}
+use Rattle.std.specs.Io.KnownBytes.{Appends}
+use Rattle.std.proofs.KnownBytes.{Appends-nil, Appends-trans}
+use Rattle.mt_shared.specs.Passes.{PassView}
+use Rattle.mt_shared.specs.Drives.{EventLaw}
+use Rattle.mt_wire.specs.declared.query.Query.{Query}
+use Rattle.mt_wire.specs.declared.response.Response.{Response}
+use Rattle.mt_wire.specs.Frames.{RequestsFit, request_frame, reply_frame}
+use Rattle.mt_serve.specs.declared.fault.SessionFault.{SessionFault}
+use Rattle.mt_serve.specs.declared.fault.SessionFault.TheVariants.{Write}
+use Rattle.mt_serve.specs.declared.session.Summary.{Summary}
+use Rattle.mt_serve.specs.Asking.{Answers, AnswersAll, AnswersFrames}
+use Rattle.mt_serve.specs.Sources.{FaultIsAt, LosesFrame}
+use Rattle.mt_serve.specs.Sessions.{HasServed, IsServed, IsBroken, BreaksIn, requests_of, replies_of}
+
+-- one query more
+pub AnswersAll-push : {S : Type 0} (does : EventLaw S) (s m t : S) (p r q : PassView) (queries : List Query) (responses : List Response) (query : Query) (response : Response)
+    → AnswersAll does s p queries responses m r → Answers does m r query response t q → AnswersAll does s p (queries ++ query ∷ []) (responses ++ response ∷ []) t q
+AnswersAll-push {S} does s m t p r q [] [] query response all one =
+    (t, q, subst (λ (x : S). Answers does x p query response t q) all.0 (subst (λ (y : PassView). Answers does m y query response t q) all.1 one), (refl, refl))
+AnswersAll-push does s m t p r q [] (y ∷ ys) query response all one = absurd all
+AnswersAll-push does s m t p r q (x ∷ xs) [] query response all one = absurd all
+AnswersAll-push does s m t p r q (x ∷ xs) (y ∷ ys) query response all one = (all.0, all.1, all.2, AnswersAll-push does all.0 m t all.1 r q xs ys query response all.3 one)
+
+-- one frame more
+AnswersFrames-push : {S : Type 0} (does : EventLaw S) (s m t : S) (p r q : PassView) (frames : List (List Query)) (replies : List (List Response)) (queries : List Query) (responses : List Response)
+    → AnswersFrames does s p frames replies m r → AnswersAll does m r queries responses t q → AnswersFrames does s p (frames ++ queries ∷ []) (replies ++ responses ∷ []) t q
+AnswersFrames-push {S} does s m t p r q [] [] queries responses all one =
+    (t, q, subst (λ (x : S). AnswersAll does x p queries responses t q) all.0 (subst (λ (y : PassView). AnswersAll does m y queries responses t q) all.1 one), (refl, refl))
+AnswersFrames-push does s m t p r q [] (y ∷ ys) queries responses all one = absurd all
+AnswersFrames-push does s m t p r q (x ∷ xs) [] queries responses all one = absurd all
+AnswersFrames-push does s m t p r q (x ∷ xs) (y ∷ ys) queries responses all one = (all.0, all.1, all.2, AnswersFrames-push does all.0 m t all.1 r q xs ys queries responses all.3 one)
+
+requests-push : (frames : List (List Query)) (queries : List Query) → requests_of (frames ++ queries ∷ []) ≡ requests_of frames ++ request_frame queries
+requests-push [] queries = append-nil (request_frame queries)
+requests-push (x ∷ xs) queries = ap (λ l. request_frame x ++ l) (requests-push xs queries) ∙ sym (append_assoc (request_frame x) (requests_of xs) (request_frame queries))
+
+replies-push : (replies : List (List Response)) (responses : List Response) → replies_of (replies ++ responses ∷ []) ≡ replies_of replies ++ reply_frame responses
+replies-push [] responses = append-nil (reply_frame responses)
+replies-push (x ∷ xs) responses = ap (λ l. reply_frame x ++ l) (replies-push xs responses) ∙ sym (append_assoc (reply_frame x) (replies_of xs) (reply_frame responses))
+
+fit-push : (frames : List (List Query)) (queries : List Query) → AllByRecursion RequestsFit frames → RequestsFit queries → AllByRecursion RequestsFit (frames ++ queries ∷ [])
+fit-push [] queries all one = (one, tt)
+fit-push (x ∷ xs) queries all one = (all.0, fit-push xs queries all.1 one)
+
+-- what was read are the frames, and the rest is left
+abbrev Goes : Option (List ℕ) → List (List Query) → Option (List ℕ) → Type 0
+Goes input frames rest = IfSome input (λ bytes. (more : List ℕ) × (rest ≡ Some more) × (bytes ≡ requests_of frames ++ more))
+
+Goes-start : (input : Option (List ℕ)) → Goes input [] input
+Goes-start None = tt
+Goes-start (Some xs) = (xs, refl, refl)
+
+Goes-more : (input now next : Option (List ℕ)) (frames : List (List Query)) (queries : List Query) → Goes input frames now → LosesFrame queries now next → Goes input (frames ++ queries ∷ []) next
+Goes-more None now next frames queries goes lost = tt
+Goes-more (Some xs) None next frames queries goes lost = absurd (cc goes.1)
+Goes-more (Some xs) (Some ys) next frames queries goes lost =
+    let same : ys ≡ goes.0 = cc goes.1 in
+    (lost.0, lost.1, goes.2 ∙ ap (λ (l : List ℕ). requests_of frames ++ l) (sym same ∙ lost.2) ∙ sym (append_assoc (requests_of frames) (request_frame queries) lost.0) ∙ ap (λ (l : List ℕ). l ++ lost.0) (sym (requests-push frames queries)))
+
+pub served_none : {S : Type 0} (does : EventLaw S) (s : S) (p : PassView) (input old : Option (List ℕ)) → HasServed does s p input old [] input old s p
+served_none does s p input old = record {
+  replies = [];
+  fit = tt;
+  read = Goes-start input;
+  answered = (refl, refl);
+  written = Appends-nil old;
+}
+
+pub served_more : {S : Type 0} (does : EventLaw S) (s m t : S) (p r q : PassView) (input old now new next out : Option (List ℕ)) (frames : List (List Query)) (queries : List Query) (responses : List Response)
+    → HasServed does s p input old frames now new m r → RequestsFit queries → LosesFrame queries now next → AnswersAll does m r queries responses t q → Appends new out (reply_frame responses)
+    → HasServed does s p input old (frames ++ queries ∷ []) next out t q
+served_more does s m t p r q input old now new next out frames queries responses h fits lost answered sent = record {
+  replies = h.replies ++ responses ∷ [];
+  fit = fit-push frames queries h.fit fits;
+  read = Goes-more input now next frames queries h.read lost;
+  answered = AnswersFrames-push does s m t p r q frames h.replies queries responses h.answered answered;
+  written = subst (Appends old out) (sym (replies-push h.replies responses)) (Appends-trans old new out (replies_of h.replies) (reply_frame responses) h.written sent);
+}
+
+sum-push_from : (n : ℕ) (frames : List (List Query)) (queries : List Query) → fold (λ a (x : List Query). a + length x) n (frames ++ queries ∷ []) ≡ fold (λ a (x : List Query). a + length x) n frames + length queries
+sum-push_from n [] queries = refl
+sum-push_from n (x ∷ xs) queries = sum-push_from (n + length x) xs queries
+
+sum-push : (frames : List (List Query)) (queries : List Query) → sum_by length (frames ++ queries ∷ []) ≡ sum_by length frames + length queries
+sum-push frames queries = sum-push_from 0 frames queries
+
+-- the same, with what is counted
+pub record Serving {S : Type 0} (does : EventLaw S) (s : S) (p : PassView) (input old : Option (List ℕ)) (summary : Summary) (rest new : Option (List ℕ)) (t : S) (q : PassView) : Type 0 where
+  pub frames : List (List Query)
+  pub served : HasServed does s p input old frames rest new t q
+  pub frame_count : summary.frames ≡ length frames
+  pub query_count : summary.queries ≡ sum_by length frames
+  pub few : summary.queries ≤ 64 * summary.frames
+
+pub serving_none : {S : Type 0} (does : EventLaw S) (s : S) (p : PassView) (input old : Option (List ℕ)) → Serving does s p input old (record { frames = 0; queries = 0 }) input old s p
+serving_none does s p input old = record {
+  frames = [];
+  served = served_none does s p input old;
+  frame_count = refl;
+  query_count = refl;
+  few = omega arith;
+}
+
+-- a frame more is answered
+pub serving_more : {S : Type 0} (does : EventLaw S) (s m t : S) (p r q : PassView) (input old now new next out : Option (List ℕ)) (before after : Summary) (queries : List Query) (responses : List Response)
+    → Serving does s p input old before now new m r → RequestsFit queries → LosesFrame queries now next → AnswersAll does m r queries responses t q → Appends new out (reply_frame responses)
+    → after.frames ≡ before.frames + 1 → after.queries ≡ before.queries + length queries → Serving does s p input old after next out t q
+serving_more does s m t p r q input old now new next out before after queries responses h fits lost answered sent one more = record {
+  frames = h.frames ++ queries ∷ [];
+  served = served_more does s m t p r q input old now new next out h.frames queries responses h.served fits lost answered sent;
+  frame_count = (let long = length-append h.frames (queries ∷ []) in let so_far = h.frame_count in omega (arith, long, so_far, one));
+  query_count = more ∙ ap (λ n. n + length queries) h.query_count ∙ sym (sum-push h.frames queries);
+  few = (let most = fits.0.1 in let so_far = h.few in omega (arith, most, so_far, one, more));
+}
+
+-- the input ended between frames
+pub served_all : {S : Type 0} (does : EventLaw S) (s t : S) (p q : PassView) (input old now new : Option (List ℕ)) (summary : Summary)
+    → Serving does s p input old summary now new t q → IfSome now (λ bytes. bytes ≡ []) → IsServed does s p input old summary new t q
+served_all does s t p q input old now new summary h none = record {
+  frames = h.frames;
+  rest = now;
+  served = h.served;
+  whole = none;
+  frame_count = h.frame_count;
+  query_count = h.query_count;
+}
+
+-- no frame stood there
+pub broken_before : {S : Type 0} (does : EventLaw S) (s t : S) (p q : PassView) (input old now new : Option (List ℕ)) (summary : Summary) (fault : SessionFault)
+    → Serving does s p input old summary now new t q → fault ≢ Write → IfSome now (FaultIsAt fault) → IsBroken does s p input old fault new t q
+broken_before does s t p q input old now new summary fault h other stands = record {
+  frames = h.frames;
+  rest = now;
+  between = new;
+  shared = t;
+  pass = q;
+  served = h.served;
+  breaks = inl (other, stands, refl, refl, refl);
+}
+
+front_of : (queries : List Query) (now next : Option (List ℕ)) → LosesFrame queries now next → IfSome now (λ bytes. (more : List ℕ) × (bytes ≡ request_frame queries ++ more))
+front_of queries None next lost = tt
+front_of queries (Some bytes) next lost = (lost.0, lost.2)
+
+-- it broke off in a frame
+pub broken_in : {S : Type 0} (does : EventLaw S) (s m t : S) (p r q : PassView) (input old now new next out : Option (List ℕ)) (summary : Summary) (fault : SessionFault) (queries : List Query)
+    → Serving does s p input old summary now new m r → RequestsFit queries → LosesFrame queries now next → BreaksIn does m r fault queries new out t q → IsBroken does s p input old fault out t q
+broken_in does s m t p r q input old now new next out summary fault queries h fits lost breaks = record {
+  frames = h.frames;
+  rest = now;
+  between = new;
+  shared = m;
+  pass = r;
+  served = h.served;
+  breaks = inr (queries, fits, front_of queries now next lost, breaks);
+}
+
+-- one query of a frame is answered
+pub answered_more : {S : Type 0} (does : EventLaw S) (s m t : S) (p r q : PassView) (queries rest next : List Query) (responses : List Response) (query : Query) (response : Response)
+    → (done : List Query) × (queries ≡ done ++ rest) × AnswersAll does s p done responses m r → rest ≡ query ∷ next → Answers does m r query response t q
+    → (done : List Query) × (queries ≡ done ++ next) × AnswersAll does s p done (responses ++ response ∷ []) t q
+answered_more does s m t p r q queries rest next responses query response h front one = (
+  h.0 ++ query ∷ [],
+  h.1 ∙ ap (λ (l : List Query). h.0 ++ l) front ∙ sym (append_assoc h.0 (query ∷ []) next),
+  AnswersAll-push does s m t p r q h.0 responses query response h.2 one,
+)

@@ -1,0 +1,15 @@
+use Rattle.std.proofs.Common.{◌≡◌}
+use Rattle.std.specs.Io.KnownBytes.{Keeps}
+use Rattle.mt_streams.specs.Readers.{calls_left}
+use Rattle.mt_serve.specs.Sources.{frames_rest}
+use Rattle.mt_serve.proofs.frames.Frames.find.Given as goal
+
+-- nothing is taken off so far
+abbrev pub invariant-loop-queries : goal.invariant-loop-queries
+invariant-loop-queries g l = record {
+  rest : Keeps (frames_rest g.R.Read.remaining l.fn.self) (frames_rest g.R.Read.remaining l.self);
+  left : l.self.left ≡ l.fn.self.left;
+}
+
+abbrev pub decreases-loop-queries : goal.decreases-loop-queries
+decreases-loop-queries g l = calls_left l.self.reader

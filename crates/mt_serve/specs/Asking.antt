@@ -1,0 +1,82 @@
+-- What is done for a query, and what is answered: over any events that are made on what is shared.
+use Rattle.std.specs.Prelude.{ℕ, ◌≡◌, ◌⊎◌, ⊤, Bool, true, false, List, [], ◌∷◌, Result, Ok, Err, MatchBool}
+use Rattle.mt_types.specs.declared.refusal.Refusal.{Refusal}
+use Rattle.mt_types.specs.declared.event.Event.TheVariants.{ViewRead as ReadOf, ViewDrop as DropOf}
+use Rattle.mt_types.specs.declared.event.Reply.{Reply}
+use Rattle.mt_types.specs.declared.view.Page.{Page}
+use Rattle.mt_shared.specs.Passes.{PassView}
+use Rattle.mt_shared.specs.Drives.{EventLaw, IsDrive}
+use Rattle.mt_shared.specs.Turns.{page_outcome, drop_outcome, KeepsUp, IsStopped}
+use Rattle.mt_wire.specs.declared.query.Query.{Query}
+use Rattle.mt_wire.specs.declared.query.Query.TheVariants.{Call, ViewRead, ViewDrop}
+use Rattle.mt_wire.specs.declared.response.Response.{Response}
+use Rattle.mt_wire.specs.declared.response.Response.TheVariants.{Refused, Done, View, Dropped}
+use Rattle.mt_wire.specs.declared.response.End.{End}
+use Rattle.mt_wire.specs.declared.response.End.TheVariants.{Committed, Built}
+use Rattle.mt_wire.specs.Answered.{response_of}
+
+-- ---- what the wire tells of what a query came to
+
+abbrev pub call_response : Result Reply Refusal → Response
+call_response (Ok reply) = response_of reply
+call_response (Err refusal) = Refused refusal
+
+abbrev pub page_response : Result Page Refusal → Response
+page_response (Ok page) = View page
+page_response (Err refusal) = Refused refusal
+
+abbrev pub drop_response : Result ⊤ Refusal → Response
+drop_response (Ok done) = Dropped
+drop_response (Err refusal) = Refused refusal
+
+-- ---- one query
+
+-- A call is driven from its begin to its end; a page is read, or a view dropped, by one event. This is the answer.
+abbrev pub Asks : {S : Type 0} → EventLaw S → S → PassView → Query → Response → S → PassView → Type 0
+Asks does s p (Call request) response t q =
+    (result : Result Reply Refusal) × IsDrive does s p request result t q × (response ≡ call_response result)
+Asks does s p (ViewRead view floor start limit) response t q =
+    (result : Result Page Refusal) × does s p (ReadOf view floor start limit) (page_outcome result) t q
+    × (response ≡ page_response result)
+Asks does s p (ViewDrop view) response t q =
+    (result : Result ⊤ Refusal) × does s p (DropOf view) (drop_outcome result) t q × (response ≡ drop_response result)
+
+abbrev pub end_changes : End → Bool
+end_changes (Committed number) = true
+end_changes (Built view) = true
+end_changes _ = false
+
+-- a row was changed, or a view built: then views may be behind
+abbrev pub changes : Response → Bool
+changes (Done start stop end) = end_changes end
+changes _ = false
+
+-- views are taken on, in at most 64 turns, until all stand at the newest commit or a turn is refused
+abbrev pub KeepsViews : {S : Type 0} → EventLaw S → S → PassView → S → PassView → Type 0
+KeepsViews does s p t q =
+    ((applied : ℕ) × KeepsUp does s p 64 applied t q) ⊎ ((refusal : Refusal) × IsStopped does s p 64 refusal t q)
+
+-- A QUERY IS ANSWERED: it is done, and where it changed rows or built a view, views are then kept up.
+abbrev pub Answers : {S : Type 0} → EventLaw S → S → PassView → Query → Response → S → PassView → Type 0
+Answers {S} does s p query response t q =
+    (m : S) × (r : PassView) × Asks does s p query response m r
+    × MatchBool (changes response) (KeepsViews does m r t q) ((t ≡ m) × (q ≡ r))
+
+-- ---- one frame, and frames
+
+-- these queries, one after the other, each by one answer
+abbrev pub AnswersAll : {S : Type 0} → EventLaw S → S → PassView → List Query → List Response → S → PassView → Type 0
+AnswersAll does s p [] [] t q = (t ≡ s) × (q ≡ p)
+AnswersAll {S} does s p (query ∷ queries) (response ∷ responses) t q =
+    (m : S) × (r : PassView) × Answers does s p query response m r × AnswersAll does m r queries responses t q
+AnswersAll does s p [] (response ∷ responses) t q = ⊥
+AnswersAll does s p (query ∷ queries) [] t q = ⊥
+
+-- these frames, one after the other, each by one frame of as many answers
+abbrev pub AnswersFrames :
+    {S : Type 0} → EventLaw S → S → PassView → List (List Query) → List (List Response) → S → PassView → Type 0
+AnswersFrames does s p [] [] t q = (t ≡ s) × (q ≡ p)
+AnswersFrames {S} does s p (queries ∷ frames) (responses ∷ replies) t q =
+    (m : S) × (r : PassView) × AnswersAll does s p queries responses m r × AnswersFrames does m r frames replies t q
+AnswersFrames does s p [] (responses ∷ replies) t q = ⊥
+AnswersFrames does s p (queries ∷ frames) [] t q = ⊥

@@ -1,0 +1,94 @@
+//! What is done for one query.
+
+ghost use Rattle.std.specs.Prelude.{◌≡◌};
+ghost use Rattle.mt_serve.specs.Asking.{Asks, Answers, KeepsViews, call_response, page_response, drop_response, changes};
+
+use mt_shared::driving::{NoGate, Shared, drive};
+use mt_shared::pass::Pass;
+use mt_shared::views::{keep_views, view_drop, view_read};
+use mt_types::event::Reply;
+use mt_types::refusal::Refusal;
+use mt_types::view::Page;
+use mt_wire::query::Query;
+use mt_wire::response::{End, Response};
+use std::alloc::Global;
+
+// The most turns by which views are kept up after a query.
+const TURNS: u64 = 64;
+
+fn call_response(ended: Result<Reply, Refusal>) -> Response
+    ensures { result ≡ call_response ended }
+{
+    match ended {
+        Ok(reply) => Response::from(reply),
+        Err(refusal) => Response::Refused(refusal),
+    }
+}
+
+fn page_response(read: Result<Page, Refusal>) -> Response
+    ensures { result ≡ page_response read }
+{
+    match read {
+        Ok(page) => Response::View(page),
+        Err(refusal) => Response::Refused(refusal),
+    }
+}
+
+fn drop_response(dropped: Result<(), Refusal>) -> Response
+    ensures { result ≡ drop_response dropped }
+{
+    match dropped {
+        Ok(()) => Response::Dropped,
+        Err(refusal) => Response::Refused(refusal),
+    }
+}
+
+// A query, done and answered: views are not kept up yet.
+fn ask<S: Shared>(alloc: Global, shared: &mut S, pass: &mut Pass, query: Query) -> Response
+    ensures { Asks S.does shared.old pass.old query result shared.new pass.new }
+{
+    match query {
+        Query::Call(request) => call_response(drive(alloc, shared, pass, &mut NoGate, request)),
+        Query::ViewRead {
+            view,
+            floor,
+            start,
+            limit,
+        } => page_response(view_read(alloc, shared, pass, view, floor, start, limit)),
+        Query::ViewDrop(view) => drop_response(view_drop(alloc, shared, pass, view)),
+    }
+}
+
+// Whether rows were changed, or a view was built.
+fn changes(response: &Response) -> bool
+    ensures { result ≡ changes response.now }
+{
+    matches!(
+        response,
+        Response::Done {
+            end: End::Committed(_) | End::Built(_),
+            ..
+        }
+    )
+}
+
+// Views are taken on. What stops it changes nothing: a later commit takes them on too.
+fn keep_up<S: Shared>(alloc: Global, shared: &mut S, pass: &mut Pass)
+    ensures { KeepsViews S.does shared.old pass.old shared.new pass.new }
+{
+    let _kept = keep_views(alloc, shared, pass, TURNS);
+}
+
+/// Does what a query asks, and gives its answer: a call is driven from its begin to its end, a page is read or a view
+/// dropped by one event. Where it changed rows or built a view, views are then taken on, in at most 64 turns.
+///
+/// Over a `Door` each event is one holding of the lock, so other threads' events come between them.
+pub fn answer<S: Shared>(alloc: Global, shared: &mut S, pass: &mut Pass, query: Query) -> Response
+    ensures { Answers S.does shared.old pass.old query result shared.new pass.new }
+{
+    let response = ask(alloc, shared, pass, query);
+    if changes(&response) {
+        keep_up(alloc, shared, pass);
+    }
+    response
+}

@@ -1,0 +1,138 @@
+//! A session: frames of queries are answered, one after the other, till the input ends.
+
+ghost use Rattle.std.specs.Prelude.{◌≡◌, ◌≤◌, ◌++◌, List, IfOk, IfErr, OnOk, OnErr, true};
+ghost use Rattle.std.specs.Io.KnownBytes.{Appends};
+ghost use Rattle.mt_wire.specs.declared.query.Query.{Query};
+ghost use Rattle.mt_wire.specs.declared.response.Response.{Response};
+ghost use Rattle.mt_wire.specs.Frames.{RequestsFit, reply_frame};
+ghost use Rattle.mt_streams.specs.Sinks.{sink_writer, write_failed};
+ghost use Rattle.mt_serve.specs.declared.fault.SessionFault.TheVariants.{Read as ReadFault, Write as WriteFault, NoMemory};
+ghost use Rattle.mt_serve.specs.declared.frames.TheConstants.{MOST_FRAMES};
+ghost use Rattle.mt_serve.specs.Asking.{AnswersAll};
+ghost use Rattle.mt_serve.specs.Sources.{frames_rest, frames_left, GivesNoMore};
+ghost use Rattle.mt_serve.specs.Sessions.{IsServed, IsBroken, BreaksIn};
+
+use crate::asking::answer;
+use crate::fault::SessionFault;
+use crate::frames::Frames;
+use mt_shared::driving::Shared;
+use mt_shared::pass::Pass;
+use mt_streams::sink::Sink;
+use mt_wire::encode::{encode_replies, replies_fit};
+use mt_wire::query::Query;
+use mt_wire::response::Response;
+use std::alloc::{AllocError, Global};
+use std::io::{Read, Write};
+
+/// What a session has answered.
+#[derive(Clone, Copy, Debug, PartialEq, Eq)]
+pub struct Summary {
+    /// The frames of queries.
+    pub frames: u64,
+    /// The queries in them.
+    pub queries: u64,
+}
+
+// Answers queries, one after the other. Where there is no memory for an answer, its query and those before it are done.
+fn answer_all<S: Shared>(
+    alloc: Global,
+    shared: &mut S,
+    pass: &mut Pass,
+    queries: Vec<Query>,
+) -> Result<Vec<Response>, AllocError>
+    ensures all { IfOk result (λ responses. AnswersAll S.does shared.old pass.old queries.items responses.items shared.new
+        pass.new) }
+    ensures part { OnErr result ((done : List Query) × (undone : List Query) × (responses : List Response)
+        × (queries.items ≡ done ++ undone)
+        × AnswersAll S.does shared.old pass.old done responses shared.new pass.new) }
+{
+    let mut responses = Vec::new(alloc);
+    for query in queries {
+        responses.push(answer(alloc, shared, pass, query))?;
+    }
+    Ok(responses)
+}
+
+// The frame of these answers. The limits of the index keep every frame of answers short enough to be spelled; one that
+// couldn't be is told as want of memory.
+fn frame_of(alloc: Global, responses: &[Response]) -> Result<Vec<u8>, SessionFault>
+    ensures frame { IfOk result (λ frame. frame.items ≡ reply_frame responses.now) }
+    ensures only { IfErr result (λ fault. fault ≡ NoMemory) }
+{
+    if !replies_fit(responses) {
+        return Err(SessionFault::NoMemory);
+    }
+    match encode_replies(alloc, responses) {
+        Ok(frame) => Ok(frame),
+        Err(_) => Err(SessionFault::NoMemory),
+    }
+}
+
+// Answers one frame of queries, and writes the frame of answers.
+fn answer_frame<W: Write, S: Shared>(
+    alloc: Global,
+    writer: &mut Sink<W>,
+    shared: &mut S,
+    pass: &mut Pass,
+    queries: Vec<Query>,
+) -> Result<(), SessionFault>
+    ensures answered { OnOk result ((responses : List Response)
+        × AnswersAll S.does shared.old pass.old queries.items responses shared.new pass.new
+        × Appends (W.contents (sink_writer writer.old)) (W.contents (sink_writer writer.new)) (reply_frame responses)) }
+    ensures broken { IfErr result (λ fault. BreaksIn S.does shared.old pass.old fault queries.items
+        (W.contents (sink_writer writer.old)) (W.contents (sink_writer writer.new)) shared.new pass.new) }
+    ensures write { IfErr result (λ fault. fault ≡ WriteFault → write_failed writer.new ≡ true) }
+{
+    let Ok(responses) = answer_all(alloc, shared, pass, queries) else {
+        return Err(SessionFault::NoMemory);
+    };
+    let frame = match frame_of(alloc, &responses) {
+        Ok(frame) => frame,
+        Err(fault) => return Err(fault),
+    };
+    match writer.send(&frame) {
+        Ok(()) => Ok(()),
+        Err(_) => Err(SessionFault::Write),
+    }
+}
+
+/// Answers the frames of queries that a reader gives, each by one frame of answers, till the input ends. A frame is
+/// read whole before any of its queries is done; its queries are done in order, each as `answer` says; then its answers
+/// are written in one piece.
+///
+/// Costs the calls and events of the queries, and O(n) in the bytes of the frames. A frame takes the memory of its
+/// bytes, its queries and its answers.
+///
+/// # Errors
+///
+/// What was done for queries by then stands, after each of them. `Read` where a read failed, or all the frames that the
+/// reader gives are spent; `Write` where a write failed or took nothing; `Cut` where the input ends inside a frame;
+/// `BadLength`, `BadVersion`, `BadBody` where it has a frame that is none: nothing of it is done. `NoMemory` for want of
+/// it.
+pub fn session<R: Read, W: Write, S: Shared>(
+    alloc: Global,
+    reader: &mut Frames<R>,
+    writer: &mut Sink<W>,
+    shared: &mut S,
+    pass: &mut Pass,
+) -> Result<Summary, SessionFault>
+    requires { frames_left reader.old ≤ MOST_FRAMES }
+    ensures served { IfOk result (λ summary. IsServed S.does shared.old pass.old (frames_rest R.remaining reader.old)
+        (W.contents (sink_writer writer.old)) summary (W.contents (sink_writer writer.new)) shared.new pass.new) }
+    ensures broken { IfErr result (λ fault. IsBroken S.does shared.old pass.old (frames_rest R.remaining reader.old)
+        (W.contents (sink_writer writer.old)) fault (W.contents (sink_writer writer.new)) shared.new pass.new) }
+    ensures read { IfErr result (λ fault. fault ≡ ReadFault → GivesNoMore reader.new) }
+    ensures write { IfErr result (λ fault. fault ≡ WriteFault → write_failed writer.new ≡ true) }
+{
+    let mut summary = Summary {
+        frames: 0,
+        queries: 0,
+    };
+    while let Some(queries) = reader.next()? {
+        let count = queries.len() as u64;
+        answer_frame(alloc, writer, shared, pass, queries)?;
+        summary.frames += 1;
+        summary.queries += count;
+    }
+    Ok(summary)
+}

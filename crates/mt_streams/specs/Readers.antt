@@ -1,0 +1,20 @@
+-- What readers and writers show that count their calls, or fail when they are told to.
+use Rattle.std.specs.Prelude.{ℕ, Bool}
+use Rattle.mt_streams.specs.declared.counted.Counted.{Counted}
+use Rattle.mt_streams.specs.declared.faulty.Faulty.{Faulty}
+
+-- the reader in it
+abbrev pub counted_reader : {R : Type 0} → Counted R → R
+counted_reader c = c.reader
+
+-- how often it may still be called
+abbrev pub calls_left : {R : Type 0} → Counted R → ℕ
+calls_left c = c.left
+
+-- whether its last read failed: its reader's own call, or one past the most
+abbrev pub has_failed : {R : Type 0} → Counted R → Bool
+has_failed c = c.failed
+
+-- what is in a reader or writer that is made to fail
+abbrev pub faulty_inner : {T : Type 0} → Faulty T → T
+faulty_inner f = f.inner

@@ -1,0 +1,128 @@
+//! What the command line says.
+
+ghost use Rattle.std.specs.Prelude.{◌≡◌, false, codes, map, string_bytes, IfOk};
+ghost use Rattle.clap.specs.Words.{app_of, found_of, one_text, rule_of};
+ghost use Rattle.mtserve.specs.CommandLine.{number_rule, flag_rule, with_socket_rules, with_index_rules, mtserve_app, IsNumber, AreFound, AreSaid};
+
+use clap::builder::ValueParser;
+use clap::{Arg, ArgAction, ArgMatches, Command, Error};
+use mt_index::options::Options;
+use mt_types::limits::{MAX_COLUMNS, MAX_FEED, MAX_KEEP};
+use std::alloc::{AllocError, Global};
+
+const ABOUT: &str = "Serves an empty index on 127.0.0.1, over TCP";
+
+const MORE: &str = "\
+Each connection is a session: frames of queries in, for each of them a frame of answers (docs/WIRE.md). Each worker
+serves one connection at a time. Where it listens is told on standard error, as `listening PORT`; so is a session that
+was broken off, as `session fault N`: 1 a read failed, 2 a write failed, 3 the input ended inside a frame, 4 bad length,
+5 bad version, 6 bad body, 7 no memory. When all sessions have ended, `events E commits C` is printed.
+
+The status is 0; 2 for a bad command line; 3 where listening, accepting, a thread, memory or the end failed.";
+
+/// What is to be served, and how.
+#[derive(Clone, Copy, Debug)]
+pub struct Settings {
+    pub options: Options,
+    /// The port to listen at; 0 is any.
+    pub port: u64,
+    /// How many threads serve connections.
+    pub workers: u64,
+    /// How many connections each of them serves, one after the other.
+    pub sessions: u64,
+    /// Whether they serve without end instead.
+    pub forever: bool,
+}
+
+// An option that takes a number within these bounds.
+fn number_option<'a>(alloc: Global, name: &'a str, least: u64, most: u64, help: &'a str) -> Arg<'a>
+    ensures rule { rule_of result ≡ number_rule name.entry.now least most }
+    ensures local { result.global ≡ false }
+{
+    Arg::new(alloc, name)
+        .long(name)
+        .value_name("N")
+        .value_parser(ValueParser::Unsigned(least, most))
+        .help(help)
+}
+
+// An option without a value.
+fn flag<'a>(alloc: Global, name: &'a str, help: &'a str) -> Arg<'a>
+    ensures rule { rule_of result ≡ flag_rule name.entry.now }
+    ensures local { result.global ≡ false }
+{
+    Arg::new(alloc, name)
+        .long(name)
+        .action(ArgAction::SetTrue)
+        .help(help)
+}
+
+// Where the server listens, and what it serves of connections.
+fn socket_options<'a>(command: Command<'a>, alloc: Global) -> Result<Command<'a>, AllocError>
+    ensures { IfOk result (λ r. app_of r ≡ with_socket_rules (app_of command.entry)) }
+{
+    let port = "Where to listen, up to 65535; 0 is any free port [default: 0]";
+    let workers = "How many threads serve connections, 1 to 16 [default: 1]";
+    let sessions =
+        "How many connections each of them serves, one after the other, up to 65535 [default: 1]";
+    command
+        .arg(number_option(alloc, "port", 0, 65535, port))?
+        .arg(number_option(alloc, "workers", 1, 16, workers))?
+        .arg(number_option(alloc, "sessions", 0, 65535, sessions))
+}
+
+// How the index is opened.
+fn index_options<'a>(command: Command<'a>, alloc: Global) -> Result<Command<'a>, AllocError>
+    ensures { IfOk result (λ r. app_of r ≡ with_index_rules (app_of command.entry)) }
+{
+    let columns = "How many columns a row has, 1 to 16 [default: 1]";
+    let feed = "How many commits the log holds for the slowest reader, 1 to 65536 [default: 4096]";
+    let keep = "How many of the last commits the log keeps, 0 to 65536 [default: 0]";
+    command
+        .arg(number_option(alloc, "columns", 1, MAX_COLUMNS, columns))?
+        .arg(number_option(alloc, "feed", 1, MAX_FEED, feed))?
+        .arg(number_option(alloc, "keep", 0, MAX_KEEP, keep))
+}
+
+fn command<'a>(alloc: Global) -> Result<Command<'a>, AllocError>
+    ensures { IfOk result (λ command. app_of command ≡ mtserve_app) }
+{
+    let forever = "Serves until the process is ended, in place of --sessions";
+    let named = Command::new(alloc, "mtserve").about(ABOUT).after_help(MORE);
+    let flagged = socket_options(named, alloc)?.arg(flag(alloc, "forever", forever))?;
+    index_options(flagged, alloc)
+}
+
+// The number that an option was given.
+fn number(matches: &ArgMatches<'_>, name: &str, otherwise: u64) -> u64
+    ensures { IsNumber (one_text (found_of matches.now) name.now) otherwise result }
+{
+    match matches.get_one::<u64>(name) {
+        Some(given) => given,
+        None => otherwise,
+    }
+}
+
+fn settings_of(matches: &ArgMatches<'_>) -> Settings
+    ensures { AreFound matches.now result }
+{
+    Settings {
+        options: Options {
+            columns: number(matches, "columns", 1),
+            feed: number(matches, "feed", 4096),
+            keep: number(matches, "keep", 0),
+        },
+        port: number(matches, "port", 0),
+        workers: number(matches, "workers", 1),
+        sessions: number(matches, "sessions", 1),
+        forever: matches.get_flag("forever"),
+    }
+}
+
+/// What the words of the command line say, or the text to print in place of a run.
+pub fn settings_given(alloc: Global, words: &[String]) -> Result<Settings, Error>
+    ensures { IfOk result (λ settings. AreSaid (map string_bytes words.now) settings) }
+{
+    let matches = command(alloc)?.try_get_matches_from(words)?;
+    Ok(settings_of(&matches))
+}

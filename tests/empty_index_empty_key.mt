@@ -1,0 +1,3 @@
+begin 1 get - all
+step 1
+step 1

@@ -1,0 +1,17 @@
+alone put 30313233343536374142 0=61
+begin 1 get 30313233343536374142 all
+step 2
+begin 2 put 30313233343536375859 0=62
+step 3
+step 3
+step 3
+step 3
+step 3
+step 2
+step 3
+step 3
+step 3
+step 3
+step 3
+step 3
+step 3
