@@ -6,6 +6,7 @@ pub mod GetLemmas
 pub mod HistoryLemmas
 pub mod KeepLemmas
 pub mod NumberedLemmas
+pub mod OnceLemmas
 pub mod PageExamples
 pub mod PageLemmas
 pub mod RangeLemmas

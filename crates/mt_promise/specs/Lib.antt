@@ -3,6 +3,7 @@ pub mod History
 pub mod RightAnswers
 pub mod Legal
 pub mod Headline
+pub mod Finished
 pub mod Alone
 pub mod Examples
 -- behind it: what equality in code tells

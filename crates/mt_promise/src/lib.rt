@@ -5,4 +5,5 @@
 pub mod alone;
 pub mod exact;
 pub mod examples;
+pub mod finished;
 pub mod headline;
