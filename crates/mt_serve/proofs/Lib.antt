@@ -1,2 +1,4 @@
 pub mod SourceLemmas
 pub mod ServingLemmas
+pub mod AloneLemmas
+pub mod PlainLemmas

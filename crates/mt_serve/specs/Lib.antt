@@ -3,3 +3,4 @@ pub mod Faults
 pub mod Asking
 pub mod Sources
 pub mod Sessions
+pub mod Plain

@@ -4,4 +4,5 @@
 pub mod asking;
 pub mod fault;
 pub mod frames;
+pub mod plain;
 pub mod session;
