@@ -1,4 +1,4 @@
-//! Tests of the tree, scans, views, builds, the checker, the index and its scripts by the public surface of their crates.
+//! Tests of the tree, scans, views, builds, the checker and scripts by the public surface of their crates.
 //! There is nothing else here: a crate of its own, so that the crates below are proved once.
 #![tactic(auto)]
 
@@ -6,8 +6,6 @@
 mod builds;
 #[cfg(test)]
 mod commits;
-#[cfg(test)]
-mod machines;
 #[cfg(test)]
 mod receipts;
 #[cfg(test)]

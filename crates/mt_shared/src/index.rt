@@ -26,7 +26,7 @@ use std::sync::{Mutex, Wait};
 #[derive(Drop)]
 pub struct Index {
     columns: u64,
-    kept: Mutex<Kept>,
+    pub(crate) kept: Mutex<Kept>,
 }
 
 impl Model for Index {

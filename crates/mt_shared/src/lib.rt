@@ -10,5 +10,6 @@ pub mod kept;
 pub mod lone;
 pub mod pass;
 pub mod settling;
+pub mod through;
 pub mod trace;
 pub mod views;

@@ -6,6 +6,7 @@ use mt_shared::calls::{get, getrange, put, remove, tidy, view_add};
 use mt_shared::driving::Shared;
 use mt_shared::index::{Door, Index, close_record};
 use mt_shared::pass::Pass;
+use mt_shared::through::ThroughDoor;
 use mt_shared::views::{keep_views, view_read};
 use mt_types::event::{Event, Reply};
 use mt_types::items::Items;
@@ -99,13 +100,23 @@ fn make_rounds<S: Shared>(alloc: Global, shared: &mut S, pass: &mut Pass) -> Res
     Ok(())
 }
 
+// Every second thread makes several events of a call in a holding of the lock, up to eight, or sixteen.
 fn work<R: Wait>(
     rt: &R,
     alloc: Global,
     index: &Index,
     mut pass: Pass,
 ) -> (Pass, Result<(), Refusal>) {
-    let done = make_rounds(alloc, &mut Door::new(index, rt), &mut pass);
+    let number = pass.number().0 as u32;
+    let done = if number % 2 == 0 {
+        make_rounds(
+            alloc,
+            &mut ThroughDoor::new(index, rt, 4 * number),
+            &mut pass,
+        )
+    } else {
+        make_rounds(alloc, &mut Door::new(index, rt), &mut pass)
+    };
     (pass, done)
 }
 
