@@ -1,13 +1,11 @@
-//! Borders by example: insertion orders, cuts, a split, and each allocating call once.
+//! Borders by example: ten entries of one slice and a cut, and each allocating call once. Splits are shown by the cases.
 
-ghost use Rattle.std.specs.Prelude.{◌≡◌, ◌<◌, ◌-◌, ◌^◌, ◌↔◌, length, IsTrue, IsSome};
-ghost use Rattle.mt_word.specs.declared.permutation_word.TheConstants.{SLOTS};
-ghost use Rattle.mt_word.specs.declared.version_word.TheConstants.{MAX_SPLITS};
+ghost use Rattle.std.specs.Prelude.{◌↔◌, IsTrue, IsSome};
 ghost use Rattle.mt_border.specs.Entry.{entry_suffix};
 
 use bytes::Bytes;
-use mt_border::{Border, Content, Entry, Found, RightLink};
-use mt_slice::{Class, Length, rest_of};
+use mt_border::{Border, Content, Entry, Found};
+use mt_slice::{Class, rest_of};
 use mt_types::copying::TryCopy;
 use mt_types::items::Items;
 use mt_types::numbers::NodeNo;
@@ -55,18 +53,6 @@ fn border_of(alloc: Global, keys: &[&'static [u8]]) -> Result<Border, Fail> {
     Ok(border)
 }
 
-#[test]
-fn equal_padded_slices(rt: HostRuntime) -> Result<(), Fail> {
-    let border = border_of(rt.alloc(), &[&[0x61, 0, 0], &[0x61, 0], &[0x61]])?;
-    assert_eq!(rt; border.len(), 3);
-    let length = Class::Len(Length::new(2));
-    assert_eq!(rt;
-        border.find(0x6100_0000_0000_0000, length, &[]),
-        Found::Row(1)
-    );
-    Ok(())
-}
-
 // The border of the keys of no to nine zero bytes, and of 01 to 05.
 fn ten_and_five(alloc: Global) -> Result<Border, Fail> {
     let keys: [&'static [u8]; 15] = [
@@ -89,19 +75,6 @@ fn ten_and_five(alloc: Global) -> Result<Border, Fail> {
     border_of(alloc, &keys)
 }
 
-// Cuts a full border in two: fills a new one, of this number, with the upper entries, and links it.
-fn split(alloc: Global, border: &mut Border, node: NodeNo) -> Result<Border, Fail>
-    requires full { length border.old.live ≡ SLOTS }
-    requires unspent { border.old.version.vsplit < MAX_SPLITS }
-{
-    let cut = border.cut_place();
-    let low = border.entry(cut).slice;
-    let mut upper = Border::new_locked(alloc, border.layer(), low);
-    upper.fill(border.copy_upper(alloc, cut)?, border.right());
-    border.link_right(cut, RightLink { low, node });
-    Ok(upper)
-}
-
 #[test]
 fn ten_entries_of_one_slice(rt: HostRuntime) -> Result<(), Fail> {
     let alloc = rt.alloc();
@@ -112,66 +85,6 @@ fn ten_entries_of_one_slice(rt: HostRuntime) -> Result<(), Fail> {
     assert_eq!(rt; border.find(0, Class::Long, &[1]), Found::OtherSuffix(9));
     let upper = border.copy_upper(alloc, 10)?;
     assert_eq!(rt; upper.as_slice().len(), 5);
-    Ok(())
-}
-
-#[test]
-fn split_of_ten_entries_of_one_slice(rt: HostRuntime) -> Result<(), Fail> {
-    let alloc = rt.alloc();
-    let mut lower = ten_and_five(alloc)?;
-    assert!(rt; lower.is_full());
-    assert!(rt; !lower.is_split_spent());
-    let upper = split(alloc, &mut lower, NodeNo(2))?;
-    assert_eq!(rt; upper.low(), 0x0100_0000_0000_0000);
-    assert_eq!(rt; upper.right(), None);
-    assert_eq!(rt; upper.len(), 5);
-    assert_eq!(rt; lower.len(), 10);
-    assert_eq!(rt; lower.right_for(0x00ff_ffff_ffff_ffff), None);
-    assert_eq!(rt; lower.right_for(0x0100_0000_0000_0000), Some(NodeNo(2)));
-    lower.set_right(None);
-    assert_eq!(rt; lower.right(), None);
-    Ok(())
-}
-
-#[test]
-fn sixteenth_key_after_a_split(rt: HostRuntime) -> Result<(), Fail> {
-    let alloc = rt.alloc();
-    let mut lower = ten_and_five(alloc)?;
-    assert!(rt; lower.is_full());
-    assert!(rt; !lower.is_split_spent());
-    let mut upper = split(alloc, &mut lower, NodeNo(2))?;
-    put(alloc, &mut upper, &[6])?;
-    assert_eq!(rt; upper.len(), 6);
-    let slices: [u64; 6] = [1 << 56, 2 << 56, 3 << 56, 4 << 56, 5 << 56, 6 << 56];
-    for (place, slice) in slices.iter().enumerate() {
-        let found = upper.find(*slice, Class::Len(Length::new(1)), &[]);
-        assert_eq!(rt; found, Found::Row(place));
-    }
-    Ok(())
-}
-
-#[test]
-fn fifteen_slices(rt: HostRuntime) -> Result<(), Fail> {
-    let keys: [&'static [u8]; 15] = [
-        &[1],
-        &[2],
-        &[3],
-        &[4],
-        &[5],
-        &[6],
-        &[7],
-        &[8],
-        &[9],
-        &[10],
-        &[11],
-        &[12],
-        &[13],
-        &[14],
-        &[15],
-    ];
-    let border = border_of(rt.alloc(), &keys)?;
-    assert!(rt; border.is_full());
-    assert_eq!(rt; border.cut_place(), 8);
     Ok(())
 }
 
