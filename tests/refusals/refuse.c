@@ -5,7 +5,8 @@
  *   REFUSE_ONE_IN  refuse each with odds of one in so many, by REFUSE_SEED, from number REFUSE_FROM on
  * Where it tells of that:
  *   REFUSE_TELL    a file that gets a line `NUMBER SIZE WRITTEN` for each refusal: how many bytes were asked for, and at
- *                  which byte standard output, a file, then stood; with REFUSE_TELL_ALL for each allocation
+ *                  which byte standard output, a file, then stood
+ *   REFUSE_LARGE   so it does for each allocation of at least so many bytes
  *
  * A growth (realloc) counts as one allocation. Built by `cc -std=c11 -shared -fPIC -o refuse.so refuse.c`.
  */
@@ -29,8 +30,8 @@ enum { MOST = 1 << 16 };
 static unsigned long these[MOST];
 static size_t these_count;
 static atomic_size_t these_met;
-static unsigned long one_in, seed, from;
-static int tell_to = -1, tell_all;
+static unsigned long one_in, seed, from, large;
+static int tell_to = -1;
 static atomic_ulong allocations;
 
 static unsigned long number_of(const char *name)
@@ -62,7 +63,7 @@ __attribute__((constructor)) static void begin(void)
     one_in = number_of("REFUSE_ONE_IN");
     seed = number_of("REFUSE_SEED");
     from = number_of("REFUSE_FROM");
-    tell_all = number_of("REFUSE_TELL_ALL") != 0;
+    large = number_of("REFUSE_LARGE");
     if (tell != NULL)
         tell_to = open(tell, O_WRONLY | O_CREAT | O_APPEND | O_CLOEXEC, 0600);
     if (path != NULL)
@@ -93,7 +94,7 @@ static int is_refused(size_t size)
     unsigned long number = atomic_fetch_add(&allocations, 1) + 1;
     int refused = is_listed(number)
         || (one_in > 0 && number >= from && mixed(seed * UINT64_C(0x9e3779b97f4a7c15) + number) % one_in == 0);
-    if (tell_to >= 0 && (refused || tell_all)) {
+    if (tell_to >= 0 && (refused || (large > 0 && size >= large))) {
         char line[80];
         int length = snprintf(line, sizeof line, "%lu %zu %ld\n", number, size, (long)lseek(1, 0, SEEK_CUR));
         if (write(tell_to, line, (size_t)length) < 0)
