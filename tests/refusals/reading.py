@@ -7,7 +7,7 @@ get or range at some number of commits from its begin to its end, of a page of a
 from __future__ import annotations
 
 from dataclasses import dataclass, field
-from typing import Dict, List, Optional, Sequence, Tuple
+from typing import Dict, List, Optional, Sequence, Set, Tuple
 
 from lines import (Columns, Command, Pair, Request, amount_of, changed, command_of, delta_text, number_of, pair_of,
                       pair_text, values_of)
@@ -231,6 +231,51 @@ class Rows:
         return self.states(key, number, number)[0]
 
 
+class Views:
+    """The views that stand, each with the numbers of commits at which it may stand: a build among other calls doesn't tell
+    where its view opens, but what is said of the view later does."""
+
+    def __init__(self) -> None:
+        self.may: Dict[int, Set[int]] = {}
+
+    def pin(self, view: int, at: int) -> None:
+        want(at in self.may[view], f"view {view} stands at none but {sorted(self.may[view])[:5]}")
+        self.may[view] = {at}
+
+    def newest(self, view: int, counts: Tuple[int, int]) -> None:
+        """It stands at the newest commit."""
+        self.may[view] = {at for at in self.may[view] if counts[0] <= at <= counts[1]}
+        want(bool(self.may[view]), f"view {view} doesn't stand at the newest commit")
+
+    def apply(self, view: int, answer: str, counts: Tuple[int, int]) -> None:
+        if answer == "current":
+            self.newest(view, counts)
+            return
+        want(answer.startswith("applied "), "an apply is answered otherwise")
+        at = number_of(answer[8:])
+        want(at <= counts[1], "there aren't so many commits")
+        self.pin(view, at - 1)
+        self.may[view] = {at}
+
+    def apply_any(self, answer: str, counts: Tuple[int, int]) -> None:
+        """The view that is furthest behind is taken on, of several the one of the smallest number."""
+        if answer == "current":
+            for view in self.may:
+                self.newest(view, counts)
+            return
+        want(answer.startswith("applied "), "an apply is answered otherwise")
+        at = number_of(answer[8:])
+        want(at <= counts[1], "there aren't so many commits")
+        may_be = [view for view in self.may if at - 1 in self.may[view]
+                  and all(max(self.may[other]) >= at - (other > view) for other in self.may if other != view)]
+        want(bool(may_be), f"no view stands at {at - 1} and is the furthest behind")
+        for view, stands in self.may.items():
+            least = at - 1 if len(may_be) > 1 or view >= may_be[0] else at
+            self.may[view] = {number for number in stands if number >= least} | ({at} if view in may_be else set())
+        if len(may_be) == 1:
+            self.may[may_be[0]] = {at}
+
+
 class Held:
     """The answers of a script, held against the plain map. Raises `Wrong` at the first that it doesn't give."""
 
@@ -239,8 +284,7 @@ class Held:
         self.gathered = Gathering(said)
         self.rows = Rows(columns, self.gathered.commits)
         self.counts = self.gathered.counts()
-        # each a possible number of commits at which each view stands: a build among others doesn't tell where it opens
-        self.worlds: List[Dict[int, int]] = [{}]
+        self.views = Views()
         self.specs: Dict[int, Request] = {}
         self.epoch = 0
         ends = {call.ended: call for call in self.gathered.calls if call.ended is not None}
@@ -304,14 +348,13 @@ class Held:
     def built(self, request: Request, view: int, first: int, last: int) -> None:
         want(view == len(self.specs) + 1, f"{len(self.specs)} views were built before")
         self.specs[view] = request
-        self.worlds = [{**world, view: at} for world in self.worlds for at in range(first, last + 1)]
+        self.views.may[view] = set(range(first, last + 1))
 
     # -- views, epochs and the feed
 
     def other(self, at: int, one: Said, command: Command) -> None:
         if command.word in ("apply", "view", "drop") and one.answer != "refused 1":
-            self.worlds = [after for world in self.worlds for after in self.view_event(at, one.answer, command, world)]
-            want(bool(self.worlds), "no view stands where that may be answered")
+            self.view_event(at, one.answer, command)
         elif command.word == "advance":
             self.epoch += 1
             want(one.answer == f"epoch {self.epoch}", f"the epoch is {self.epoch}")
@@ -320,33 +363,36 @@ class Held:
         elif command.word == "feed" and one.answers != ("refused 1",):
             self.fed(at, one, *command.numbers)
 
-    def view_event(self, at: int, answer: str, command: Command, world: Dict[int, int]) -> List[Dict[int, int]]:
-        """The worlds that this event may lead to, with this answer."""
-        if command.word == "view":
-            return [world] if self.page_is(answer, command, world) else []
+    def view_event(self, at: int, answer: str, command: Command) -> None:
         view = command.numbers[0]
-        if command.word == "apply" and view == 0 and world:
-            view = min(world, key=lambda number: (world[number], number))
-        if view not in world:
-            wanted = "current" if command.word == "apply" and view == 0 else "refused 11"
-            return [world] if answer == wanted else []
-        if command.word == "drop":
-            return [{number: stands for number, stands in world.items() if number != view}] if answer == "dropped" else []
-        low, high = self.counts[at]
-        if answer == "current":
-            return [world] if low <= world[view] <= high else []
-        is_next = answer == f"applied {world[view] + 1}" and world[view] < high
-        return [{**world, view: world[view] + 1}] if is_next else []
+        if command.word == "view":
+            self.read(answer, command)
+        elif command.word == "apply" and view == 0:
+            self.views.apply_any(answer, self.counts[at])
+        elif view not in self.views.may:
+            want(answer == "refused 11", "no such view stands")
+        elif command.word == "apply":
+            self.views.apply(view, answer, self.counts[at])
+        else:
+            want(answer == "dropped", "the view stands")
+            del self.views.may[view]
 
-    def page_is(self, answer: str, command: Command, world: Dict[int, int]) -> bool:
+    def read(self, answer: str, command: Command) -> None:
+        """A page: exactly that of the number of commits at which its view stands."""
         view, floor, limit = command.numbers
         if len(command.start) > 255 or not 1 <= limit <= 1000:
-            return answer == ("refused 2" if len(command.start) > 255 else "refused 5")
-        if view not in world:
-            return answer == "refused 11"
-        if world[view] < floor:
-            return answer == f"refused 12 {world[view]}"
-        return answer == self.page(view, world[view], command.start, limit)
+            want(answer == ("refused 2" if len(command.start) > 255 else "refused 5"), "it breaks a limit")
+        elif view not in self.views.may:
+            want(answer == "refused 11", "no such view stands")
+        elif answer.startswith("refused 12 "):
+            want(number_of(answer[11:]) < floor, "it stands at the floor")
+            self.views.pin(view, number_of(answer[11:]))
+        else:
+            want(answer.startswith("view "), "it is no page")
+            stands = number_of(answer.split(" ")[1])
+            self.views.pin(view, stands)
+            want(stands >= floor, "it doesn't stand at the floor")
+            want(answer == self.page(view, stands, command.start, limit), "its page is another")
 
     def page(self, view: int, at: int, start: bytes, limit: int) -> str:
         """The text of a page, afresh from the rows after so many commits."""

@@ -70,7 +70,6 @@ class Stepping:
         self.held = Held(script.columns, self.whole.said)
         want(all(one.answer != REFUSED for one in self.whole.said), "memory is wanting without refusals")
         want(self.is_ended(self.whole), "a call behind the script doesn't end")
-        self.growth = self.growth_of(self.whole)
         self.places = self.places_of_each()
 
     def play(self, lines: Sequence[str], refused: Sequence[int] = (), large: int = LARGE) -> Played:
@@ -81,11 +80,12 @@ class Stepping:
         return self.shim.run(self.script.words, given, refused, large)
 
     def add_growing(self) -> None:
-        """New keys at the end, till the memory of nodes grows by them."""
+        """New keys at the end, till the memory of nodes grows by them, and grows once more: a run with a refusal may have
+        had more nodes at once before."""
         count = 64
         while True:
             lines = self.lines[:self.grown] + growing(count)
-            if self.growth_of(self.play(lines)):
+            if len(self.growth_of(self.play(lines))) > 1:
                 self.lines = lines
                 return
             count *= 2
@@ -107,6 +107,10 @@ class Stepping:
 
     # -- one refusal
 
+    def answered(self) -> int:
+        """How many refusals didn't end the program."""
+        return sum(count for kind, count in self.counts.items() if kind != OWN)
+
     def refuse(self, number: int) -> None:
         """Refuses one allocation, and judges what came of it."""
         run = self.run(self.lines, [number], LARGE)
@@ -123,16 +127,24 @@ class Stepping:
         kind = self.judge(it, self.places[number])
         self.counts[kind] += 1
         want(self.is_ended(it), "a call behind the script doesn't end")
-        self.judge_growth(self.growth_of(it), kind)
+        # a border that was not posted is found from its left alone, so no tidy takes it out
+        self.judge_growth(it, [number], (0, 1) if kind == LEFT_OUT else (0,))
 
-    def judge_growth(self, growth: List[Tuple[int, int]], kind: str) -> None:
-        """Behind the script, the memory of nodes grows at the same new key, so no number of a node is lost. But a border
-        that was not posted is found from its left alone, and no tidy takes it out: it is one node more, so that is found
-        at the split before."""
-        at, size = self.growth[-1]
-        more = (0, KEYS_OF_A_SPLIT) if kind == LEFT_OUT else (0,)
-        want(bool(growth) and growth[-1] in [(at - less, size) for less in more],
-             f"numbers of nodes are lost: the memory of nodes grows at {growth}, not at {self.growth}")
+    def judge_growth(self, it: Played, refused: Sequence[int], nodes: Sequence[int]) -> int:
+        """Behind the script, the memory of nodes grows at the same new key as without refusals, so no number of a node is
+        lost; or there are more nodes, but as many as may be. Gives how many."""
+        whole, count = self.whole, len(self.lines) - self.grown
+        while not self.growth_of(it):
+            # there were more nodes at once than ever without refusals: then it takes more new keys
+            count *= 4
+            want(count < 200_000, "the memory of nodes doesn't grow")
+            lines = self.lines[:self.grown] + growing(count)
+            whole, it = self.play(lines), self.play(lines, refused)
+        wanted, (at, size) = self.growth_of(whole), self.growth_of(it)[-1]
+        for more in nodes:
+            if (at + more * KEYS_OF_A_SPLIT, size) in wanted:
+                return more
+        raise Wrong(f"numbers of nodes are lost: the memory of nodes grows at {(at, size)}, not at {wanted}")
 
     def judge_own(self, run: Run, written: int) -> None:
         """The program's own want: it ends there, with one line."""
