@@ -48,10 +48,17 @@ class Member:
     lost: int = 0
     refused: int = 0
 
-    def work(self) -> None:
+    def keep_keys(self) -> None:
         self.keys = [above + b"%d%d" % (self.number, last) for above in ABOVE for last in range(4)]
+
+    def work(self) -> None:
+        self.keep_keys()
         for _ in range(FRAMES):
             self.frame([*(self.read() for _ in range(self.chance.randint(0, 3))), *self.change_or_none()])
+        self.put_all()
+
+    def put_all(self) -> None:
+        """Puts each key once more: no lock is left."""
         for key in self.keys:
             while not self.frame([self.put(key)]):
                 pass
