@@ -15,7 +15,7 @@ from scripts import Script, marked
 from shim import Run, is_one_line
 from stepping import REFUSED, Stepping
 
-ODDS = 10
+ODDS = 20
 MOST_UNPOSTED = 20
 CALLS_AT_ONCE = 10
 

@@ -2,6 +2,7 @@
 from __future__ import annotations
 
 from dataclasses import dataclass
+from functools import lru_cache
 from typing import Dict, List, Optional, Tuple
 
 Columns = Tuple[bytes, ...]
@@ -146,6 +147,7 @@ class Command:
 ONE_NUMBER = ("step", "finish", "apply", "drop")
 
 
+@lru_cache(maxsize=None)
 def command_of(line: str) -> Optional[Command]:
     """What a line says; nothing where it is a bad line."""
     words = line.split(" ")

@@ -7,7 +7,7 @@ get or range at some number of commits from its begin to its end, of a page of a
 from __future__ import annotations
 
 from dataclasses import dataclass, field
-from typing import Dict, List, Optional, Sequence, Set, Tuple
+from typing import Dict, List, NamedTuple, Optional, Sequence, Set, Tuple
 
 from lines import (Columns, Command, Pair, Request, amount_of, changed, command_of, delta_text, number_of, pair_of,
                       pair_text, values_of)
@@ -27,8 +27,7 @@ def want(is_so: bool, why: str) -> None:
         raise Wrong(why)
 
 
-@dataclass(frozen=True)
-class Said:
+class Said(NamedTuple):
     """A line of a script with the lines of its answer."""
 
     line: str

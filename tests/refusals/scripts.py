@@ -11,7 +11,7 @@ from reading import MARK, Gathering
 
 TESTS = Path(__file__).resolve().parent.parent
 # a call that waits for another's lock has ended after a further round
-ROUNDS = 4
+ROUNDS = 3
 
 
 @dataclass(frozen=True)

@@ -3,7 +3,6 @@ from __future__ import annotations
 
 import os
 import subprocess
-import sys
 from dataclasses import dataclass
 from pathlib import Path
 from typing import Dict, List, Optional, Sequence, Tuple
@@ -56,21 +55,20 @@ class Shim:
     def run(self, words: Sequence[str], given: bytes, refused: Sequence[int] = (), large: Optional[int] = None) -> Run:
         """Runs the program on this standard input; the allocations of these numbers, which rise, are refused. Tells of
         those, and of all that are large."""
-        paths = {name: self.room / name for name in ("given", "these", "told", "output", "errors")}
+        paths = {name: self.room / name for name in ("given", "these", "told", "output")}
         paths["given"].write_bytes(given)
         paths["these"].write_text("".join(f"{number}\n" for number in refused))
         paths["told"].write_bytes(b"")
         environment = self.environment({"REFUSE_THESE": str(paths["these"]), "REFUSE_TELL": str(paths["told"]),
                                         **({} if large is None else {"REFUSE_LARGE": str(large)})})
-        with open(paths["given"], "rb") as source, open(paths["output"], "wb") as output, \
-                open(paths["errors"], "wb") as errors:
+        with open(paths["given"], "rb") as source, open(paths["output"], "wb") as output:
             try:
-                status = subprocess.run([str(self.program), *words], stdin=source, stdout=output, stderr=errors,
-                                        env=environment, timeout=SECONDS, check=False).returncode
+                done = subprocess.run([str(self.program), *words], stdin=source, stdout=output, stderr=subprocess.PIPE,
+                                      env=environment, timeout=SECONDS, check=False)
             except subprocess.TimeoutExpired:
                 raise Hung(f"it doesn't end in {SECONDS:.0f} seconds") from None
         told = tuple(Told(*map(int, line.split())) for line in paths["told"].read_text().splitlines())
-        return Run(status, paths["output"].read_bytes(), paths["errors"].read_bytes(), told)
+        return Run(done.returncode, paths["output"].read_bytes(), done.stderr, told)
 
 
 def is_one_line(errors: bytes, program: Path) -> bool:
@@ -78,6 +76,3 @@ def is_one_line(errors: bytes, program: Path) -> bool:
     name = program.name.split(".")[0].encode()
     return errors.count(b"\n") == 1 and errors.endswith(b"\n") and errors.startswith(name + b": ") and len(errors) < 200
 
-
-def fail(text: str) -> None:
-    print(text, file=sys.stderr)
