@@ -38,15 +38,21 @@ class Run:
         return lines[:-1] if lines[-1] == "" else lines
 
 
+def built(source: Path, room: Path) -> Path:
+    """Builds a library to preload, in this folder."""
+    library = room / f"{source.stem}.so"
+    words = [os.environ.get("CC", "cc"), "-std=c11", "-O2", "-Wall", "-Wextra", "-Werror", "-shared", "-fPIC"]
+    subprocess.run([*words, "-o", str(library), str(source)], check=True)
+    return library
+
+
 class Shim:
     """The library, built in a folder, and the program that it is preloaded to."""
 
     def __init__(self, program: Path, room: Path) -> None:
         self.program = program.resolve()
         self.room = room
-        self.library = room / "refuse.so"
-        words = [os.environ.get("CC", "cc"), "-std=c11", "-O2", "-Wall", "-Wextra", "-Werror", "-shared", "-fPIC"]
-        subprocess.run([*words, "-o", str(self.library), str(SOURCE)], check=True)
+        self.library = built(SOURCE, room)
 
     def environment(self, more: Dict[str, str]) -> Dict[str, str]:
         """The environment of a program whose allocations are counted."""

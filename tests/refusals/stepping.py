@@ -19,6 +19,7 @@ LARGE = 1500
 REFUSED = "refused 1"
 # new keys in their order split a border each so many
 KEYS_OF_A_SPLIT = 8
+KEYS_OF_NODES = 600
 
 # what a refusal came to
 OWN = "ended the program"
@@ -53,6 +54,12 @@ def played(lines: Sequence[str], run: Run) -> Played:
     return Played(tuple(lines), run, tuple(said), tuple(begins))
 
 
+def is_doubled(one: int, other: int) -> bool:
+    """Whether one is the other, doubled or halved some times."""
+    least, most = sorted((one, other))
+    return most % least == 0 and (most // least).bit_count() == 1
+
+
 class Stepping:
     """A script with its ending, the run without refusal, and the runs in each of which one allocation is refused."""
 
@@ -60,6 +67,8 @@ class Stepping:
         self.shim, self.script = shim, script
         self.others: Dict[Tuple[Tuple[int, str], ...], Played] = {}
         self.counts: Counter[str] = Counter()
+        # the memory of the nodes of an index that is put in order is its greatest piece
+        self.nodes = max(told.size for told in self.play(growing(KEYS_OF_NODES)).run.told)
         plain = self.play(script.lines)
         held = Held(script.columns, plain.said)
         self.tail = len(script.lines)
@@ -92,10 +101,9 @@ class Stepping:
             want(count < 100_000, "the memory of nodes doesn't grow")
 
     def growth_of(self, it: Played) -> List[Tuple[int, int]]:
-        """The lines of new keys at which more bytes were asked for than ever before, and how many."""
-        most = max((told.size for told in it.run.told if told.written < it.begins[self.grown]), default=0)
+        """The lines of new keys at which the memory of nodes grows, and to how many bytes."""
         return [(it.at(told.written)[0], told.size) for told in it.run.told
-                if told.written >= it.begins[self.grown] and told.size > most]
+                if told.written >= it.begins[self.grown] and is_doubled(self.nodes, told.size)]
 
     def places_of_each(self) -> Dict[int, Tuple[int, int]]:
         """For each allocation the first and the last line that may be in work there, up to the end of the script."""
