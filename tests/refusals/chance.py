@@ -1,7 +1,8 @@
 """Scripts by chance of which allocations are refused by chance, many in one run.
 
 The program ends where it wants memory itself, for a line or its answer. Such an allocation is spared and the run made
-again: the runs are the same up to there. So at last a run comes to its end in which all others that were drawn are refused.
+again: the runs are the same up to there. So at last a run comes to its end in which all others that were drawn are
+refused.
 """
 from __future__ import annotations
 
@@ -48,7 +49,7 @@ class Writer:
             return f"step {self.call()}"
         if kind < 0.90:
             return f"finish {self.call()}"
-        return self.chance.choice(("apply 0", "apply 0", "apply 0", "apply 0", "advance", "collect", self.feed(), self.view()))
+        return self.chance.choice((*["apply 0"] * 4, "advance", "collect", self.feed(), self.view()))
 
     def request(self, puts: float) -> str:
         key, kind = word_of(self.chance.choice(self.keys)), self.chance.random()
@@ -61,7 +62,7 @@ class Writer:
         if kind < 0.98:
             return f"range {key} {self.chance.choice((1, 5, 20, 1000))} all"
         self.built += 1
-        return self.chance.choice((f"build range - none any", f"build prefix {key} any", "build range - none atleast 0 300"))
+        return "build " + self.chance.choice(("range - none any", f"prefix {key} any", "range - none atleast 0 300"))
 
     def call(self) -> int:
         return max(1, self.begun - self.chance.randint(-1, CALLS_AT_ONCE))

@@ -1,8 +1,8 @@
 """Eight clients at once on a server whose allocations are refused by chance, all held by the auditor.
 
-Each client changes keys of its own, one in a frame, and reads all. So after a lost session it finds out by a get whether its
-change was done: a put by its value, which no other put has, and then by its version; a remove by the absence. The numbers
-of removes that were lost are those that no other commit has.
+Each client changes keys of its own, one in a frame, and reads all. So after a lost session it finds out by a get
+whether its change was done: a put by its value, which no other put has, and then by its version; a remove by the
+absence. The numbers of removes that were lost are those that no other commit has.
 """
 from __future__ import annotations
 
@@ -78,7 +78,8 @@ class Member:
             return Tidy(self.any_key())
         if self.builds < BUILDS and (not self.views or self.chance.random() < 0.3):
             self.builds += 1
-            return Build(self.chance.choice((Range(b"", None, AnyRow()), Prefix(b"k"), Range(b"a", None, AtLeast(1, 100)))))
+            specs = (Range(b"", None, AnyRow()), Prefix(b"k"), Range(b"a", None, AtLeast(1, 100)))
+            return Build(self.chance.choice(specs))
         if self.views:
             view = self.chance.choice(sorted(self.views))
             return ViewRead(view, self.chance.choice((0, self.seen)), b"", self.chance.choice((1, 5)))
@@ -230,7 +231,8 @@ def one_crowd(serving: ModuleType, shim: Shim, check: str, seed: int) -> Tuple[i
         lost = sum(member.lost for member in members)
         want(server.process.poll() is None, "the server has ended")
     faults = server.rest_of_lines()
-    want(faults == ["session fault 7"] * lost, f"{lost} sessions were lost, and it says {faults[:3]}, {len(faults)} lines")
+    want(faults == ["session fault 7"] * lost,
+         f"{lost} sessions were lost, and it says {faults[:3]}, {len(faults)} lines")
     return receipts, sum(member.refused for member in members), lost
 
 

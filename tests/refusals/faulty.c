@@ -1,5 +1,5 @@
-/* A library to preload before a program (LD_PRELOAD): its reads and writes fail, or move fewer bytes than they might. By the
- * environment:
+/* A library to preload before a program (LD_PRELOAD): its reads and writes fail, or move fewer bytes than they might.
+ * By the environment:
  *   FAULTY_READ, FAULTY_WRITE   the number of the read or write that fails (the first is 1)
  *   FAULTY_SHORT                how many bytes a read or write moves at most
  * Of reads those from standard input and from sockets count, of writes those to standard output and to sockets.

@@ -1,8 +1,9 @@
 """Holds the answers to a script against a plain map: each call, commit, row, range, view and delta.
 
-The answers are read twice. `Gathering` goes over them once, and finds each call's begin and end, each commit's number and
-the lines among which it was made. Then `Held` folds the commits, and asks of each answer whether a plain map gives it: of a
-get or range at some number of commits from its begin to its end, of a page of a view at the number where it stands.
+The answers are read twice. `Gathering` goes over them once, and finds each call's begin and end, each commit's number
+and the lines among which it was made. Then `Held` folds the commits, and asks of each answer whether a plain map gives
+it: of a get or range at some number of commits from its begin to its end, of a page of a view at the number where it
+stands.
 """
 from __future__ import annotations
 
@@ -122,7 +123,8 @@ class Gathering:
         words = answer.split(" ")
         want(len(words) == 2 and words[0] == "call", "a begin is answered otherwise")
         number = number_of(words[1])
-        want(self.last_call < number <= self.last_call + 1 + self.unsure, f"the call before has number {self.last_call}")
+        want(self.last_call < number <= self.last_call + 1 + self.unsure,
+             f"the call before has number {self.last_call}")
         assert command.request is not None
         self.last_call, self.unsure = number, 0
         self.open[number] = Call(command.request, at)
@@ -182,9 +184,11 @@ class Gathering:
         count = len(self.commits)
         want(sorted(self.commits) == list(range(1, count + 1)), "the commits aren't numbered without a gap")
         for number in range(2, count + 1):
-            self.move(number, max(self.commits[number].first, self.commits[number - 1].first), self.commits[number].last)
+            one, before = self.commits[number], self.commits[number - 1]
+            self.move(number, max(one.first, before.first), one.last)
         for number in range(count - 1, 0, -1):
-            self.move(number, self.commits[number].first, min(self.commits[number].last, self.commits[number + 1].last))
+            one, behind = self.commits[number], self.commits[number + 1]
+            self.move(number, one.first, min(one.last, behind.last))
 
     def move(self, number: int, first: int, last: int) -> None:
         want(first <= last, f"commit {number} is made out of the order of numbers")
@@ -231,8 +235,8 @@ class Rows:
 
 
 class Views:
-    """The views that stand, each with the numbers of commits at which it may stand: a build among other calls doesn't tell
-    where its view opens, but what is said of the view later does."""
+    """The views that stand, each with the numbers of commits at which it may stand: a build among other calls
+    doesn't tell where its view opens, but what is said of the view later does."""
 
     def __init__(self) -> None:
         self.may: Dict[int, Set[int]] = {}
@@ -317,10 +321,12 @@ class Held:
             want(first < number_of(words[1]) <= last, "its commit isn't within its span")
         elif kind == "absent":
             want(request.kind in ("get", "remove"), "another kind of call is answered")
-            want(any(row is None for _, row in self.rows.states(request.key, first, last)), "its key had a row throughout")
+            want(any(row is None for _, row in self.rows.states(request.key, first, last)),
+                 "its key had a row throughout")
         elif kind == "row":
             row = (number_of(words[1]), values_of(words[2]))
-            want(request.kind == "get" and row in self.shown(request, request.key, first, last), "its key had no such row")
+            want(request.kind == "get" and row in self.shown(request, request.key, first, last),
+                 "its key had no such row")
         elif kind == "rows":
             self.range(request, [pair_of(word) for word in words[2:]], number_of(words[1]), first, last)
         elif kind == "built":

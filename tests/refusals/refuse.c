@@ -4,8 +4,8 @@
  *   REFUSE_THESE   a file with the numbers of the allocations to refuse, one a line, rising (the first is 1)
  *   REFUSE_ONE_IN  refuse each with odds of one in so many, by REFUSE_SEED, from number REFUSE_FROM on
  * Where it tells of that:
- *   REFUSE_TELL    a file that gets a line `NUMBER SIZE WRITTEN` for each refusal: how many bytes were asked for, and at
- *                  which byte standard output, a file, then stood
+ *   REFUSE_TELL    a file that gets a line `NUMBER SIZE WRITTEN` for each refusal: how many bytes were asked for, and
+ *                  at which byte standard output, a file, then stood
  *   REFUSE_LARGE   so it does for each allocation of at least so many bytes
  *
  * A growth (realloc) counts as one allocation. Built by `cc -std=c11 -shared -fPIC -o refuse.so refuse.c`.

@@ -52,8 +52,8 @@ def put_all(count: int) -> List[str]:
 
 
 def layers(nodes: int) -> List[str]:
-    """Puts that make so many nodes below one entry of layer 0: two for each layer, and three more where the number is odd,
-    by splits in the last layer."""
+    """Puts that make so many nodes below one entry of layer 0: two for each layer, and three more where the number
+    is odd, by splits in the last layer."""
     if nodes == 0:
         return []
     depth = nodes // 2 if nodes % 2 == 0 else (nodes - 3) // 2
@@ -70,7 +70,8 @@ def full_border(name: str, nodes: int) -> Script:
     last = f"{call:04x}"
     begin = len(lines)
     lines += [f"begin 1 put {last} 0=10", *[f"step {call}"] * 7, "begin 2 get 000f all", f"finish {call + 1}"]
-    lines += [*[f"step {call}"] * 6, "alone get 000f all", f"finish {call}", f"alone get {last} all", "alone get 0001 all"]
+    lines += [*[f"step {call}"] * 6, "alone get 000f all", f"finish {call}"]
+    lines += [f"alone get {last} all", "alone get 0001 all"]
     return Script(name, (), tuple(lines), begin)
 
 
@@ -87,8 +88,8 @@ def full_interior(name: str, nodes: int) -> Script:
     return Script(name, (), tuple(lines), begin)
 
 
-# by the number of nodes below layer 0: 5 has the memory of nodes full at the new root, 6 at the half; and of an interior
-# 12 at the new root, 13 at its half, 14 at the border's half
+# by the number of nodes below layer 0: 5 has the memory of nodes full at the new root, 6 at the half; and of an
+# interior 12 at the new root, 13 at its half, 14 at the border's half
 MADE: Dict[str, Callable[[], Script]] = {
     **{f"full_border_{nodes}": partial(full_border, f"full_border_{nodes}", nodes) for nodes in (0, 5, 6)},
     **{f"full_interior_{nodes}": partial(full_interior, f"full_interior_{nodes}", nodes) for nodes in (12, 13, 14)}}
@@ -109,9 +110,9 @@ def keys_of(lines: Sequence[str]) -> List[bytes]:
 
 
 def ending(script: Script, gathered: Gathering, views: int) -> List[str]:
-    """What is done behind a script. All calls are finished, so no lock may be left. Each row is read, and each view once
-    more where it has been taken on to the end. Each key is put: its border's lock is free. Then each is removed, what is
-    empty is taken out and freed, and new keys make nodes anew."""
+    """What is done behind a script. All calls are finished, so no lock may be left. Each row is read, and each view
+    once more where it has been taken on to the end. Each key is put: its border's lock is free. Then each is
+    removed, what is empty is taken out and freed, and new keys make nodes anew."""
     keys = [word_of(key) for key in keys_of(script.lines)]
     last = gathered.last_call + gathered.unsure + 1
     lines = [f"finish {call}" for _ in range(ROUNDS) for call in range(1, last + 1)]
@@ -126,6 +127,6 @@ def ending(script: Script, gathered: Gathering, views: int) -> List[str]:
 
 
 def growing(count: int) -> List[str]:
-    """Puts of so many new keys, which make nodes anew: the memory of nodes grows at the same put wherever as many numbers
-    of nodes were free before."""
+    """Puts of so many new keys, which make nodes anew: the memory of nodes grows at the same put wherever as many
+    numbers of nodes were free before."""
     return [f"alone put ff{number:06x} -" for number in range(count)]

@@ -51,7 +51,8 @@ def preloaded(environment: Dict[str, str]) -> Iterator[None]:
 
 
 class Served(Held):
-    """As `Held`, but views are taken on by the server, from where they stand to the newest commit, and it isn't told."""
+    """As `Held`, but views are taken on by the server, from where they stand to the newest commit, and it isn't
+    told."""
 
     def view_event(self, at: int, answer: str, command: Command) -> None:
         for view, stands in self.views.may.items():

@@ -1,5 +1,5 @@
-"""Refuses the allocations of a script one at a time, and judges each run: by the run without refusal, by a run without the
-refused line, and by the plain map."""
+"""Refuses the allocations of a script one at a time, and judges each run: by the run without refusal, by a run
+without the refused line, and by the plain map."""
 from __future__ import annotations
 
 from bisect import bisect_left, bisect_right
@@ -12,7 +12,8 @@ from reading import Held, Said, Wrong, said_of, want
 from scripts import Script, ending, growing
 from shim import Run, Shim, is_one_line
 
-# a line that does nothing, in the place of one that was refused; and a call that changes nothing, where its number counts
+# a line that does nothing, in the place of one that was refused; and a call that changes nothing, where its number
+# counts
 NOTHING = "drop 18446744073709551615"
 GET = "get - all"
 LARGE = 1500
@@ -89,8 +90,8 @@ class Stepping:
         return self.shim.run(self.script.words, given, refused, large)
 
     def add_growing(self) -> None:
-        """New keys at the end, till the memory of nodes grows by them, and grows once more: a run with a refusal may have
-        had more nodes at once before."""
+        """New keys at the end, till the memory of nodes grows by them, and grows once more: a run with a refusal may
+        have had more nodes at once before."""
         count = 64
         while True:
             lines = self.lines[:self.grown] + growing(count)
@@ -139,8 +140,8 @@ class Stepping:
         self.judge_growth(it, [number], (0, 1) if kind == LEFT_OUT else (0,))
 
     def judge_growth(self, it: Played, refused: Sequence[int], nodes: Sequence[int]) -> int:
-        """Behind the script, the memory of nodes grows at the same new key as without refusals, so no number of a node is
-        lost; or there are more nodes, but as many as may be. Gives how many."""
+        """Behind the script, the memory of nodes grows at the same new key as without refusals, so no number of a
+        node is lost; or there are more nodes, but as many as may be. Gives how many."""
         whole, count = self.whole, len(self.lines) - self.grown
         while not self.growth_of(it):
             # there were more nodes at once than ever without refusals: then it takes more new keys
@@ -157,7 +158,7 @@ class Stepping:
     def judge_own(self, run: Run, written: int) -> None:
         """The program's own want: it ends there, with one line."""
         want(is_one_line(run.errors, self.shim.program), f"it wrote on standard error {run.errors[:80]!r}")
-        want(run.output == self.whole.run.output[:written], "it has written something else than the answers until there")
+        want(run.output == self.whole.run.output[:written], "it has written something else than the answers so far")
 
     def judge(self, it: Played, place: Tuple[int, int]) -> str:
         refused = [at for at, one in enumerate(it.said) if REFUSED in one.answers]

@@ -1,6 +1,6 @@
 #!/usr/bin/env python3
-"""Tests what holds answers against the plain map: it takes right answers, and of wrong ones it says so. Run by itself, its
-last line is 'N passed, M failed'."""
+"""Tests what holds answers against the plain map: it takes right answers, and of wrong ones it says so. Run by
+itself, its last line is 'N passed, M failed'."""
 from __future__ import annotations
 
 import sys
