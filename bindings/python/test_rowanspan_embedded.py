@@ -1,0 +1,247 @@
+#!/usr/bin/env python3
+"""Tests of rowanspan_embedded, over the built library. Prints 'N passed, M failed' last."""
+from __future__ import annotations
+
+import inspect
+import random
+import subprocess
+import sys
+import threading
+import traceback
+from bisect import bisect_left
+from pathlib import Path
+from typing import Callable, Dict, List, Tuple
+
+sys.path.insert(0, str(Path(__file__).resolve().parent))
+sys.path.insert(1, str(Path(__file__).resolve().parent.parent.parent / "clients" / "python"))
+
+import rowanspan  # noqa: E402
+import rowanspan_embedded as embedded  # noqa: E402
+from rowanspan_embedded import (AtLeast, BadColumn, BadLimit, BadRange, Behind, Closed, ColumnTooLong, Delta,  # noqa: E402
+                                Equals, FeedFull, Index, KeyTooLong, NoLibrary, NoSuchView, Page, Prefix, Range, Row,
+                                Tidied, TooLong, TooManyViews, WrongThread, key_after)
+
+
+def raises(kind: type, call: Callable[[], object]) -> BaseException:
+    try:
+        call()
+    except kind as fault:
+        return fault
+    raise AssertionError(f"it raised no {kind.__name__}")
+
+
+def rows() -> None:
+    with Index() as index:
+        assert index.get(b"apple") is None
+        assert index.put(b"apple", b"red") == 1
+        assert index.get(b"apple") == Row(1, (b"red",))
+        assert index.put(b"fig", {0: b""}) == 2
+        assert index.range() == [(b"apple", Row(1, (b"red",))), (b"fig", Row(2, (b"",)))]
+        assert index.range(b"b", 1) == [(b"fig", Row(2, (b"",)))]
+        assert index.remove(b"apple") == 3 and index.remove(b"apple") is None
+        assert index.commits() == 3 and index.columns() == 1 and index.nodes() == 2
+        assert index.tidy(b"apple") is Tidied.NOTHING
+        assert index.put(b"\0\0", b"\0") == 4 and index.get(b"\0\0") == Row(4, (b"\0",))
+        assert index.put(b"", b"") == 5 and index.range(limit=1) == [(b"", Row(5, (b"",)))]
+
+
+def columns() -> None:
+    with Index(columns=3) as index:
+        index.put(b"k", [(2, b"c"), (0, b"a")])
+        assert index.get(b"k") == Row(1, (b"a", b"", b"c"))
+        assert index.get(b"k", [2, 0]) == Row(1, (b"c", b"a"))
+        assert index.range(columns=[1]) == [(b"k", Row(1, (b"",)))]
+        raises(BadColumn, lambda: index.get(b"k", [3]))
+        raises(BadColumn, lambda: index.put(b"k", {3: b""}))
+        raises(ColumnTooLong, lambda: index.put(b"k", bytes(65)))
+        raises(KeyTooLong, lambda: index.put(bytes(256), b""))
+        raises(BadLimit, lambda: index.range(limit=0))
+        raises(TooLong, lambda: index.range(limit=65536))
+        raises(TooLong, lambda: index.put(b"k", {256: b""}))
+        raises(BadColumn, lambda: Index(columns=17))
+        raises(BadLimit, lambda: Index(feed=0))
+
+
+def views() -> None:
+    with Index() as index:
+        index.put(b"a1", b"\5")
+        view = index.build(Prefix(b"a"))
+        large = index.build(Range(b"a", b"c", AtLeast(0, 6)))
+        same = index.build(Range(test=Equals(0, b"\7")))
+        index.put(b"a2", b"\7")
+        index.put(b"b", b"\x09")
+        assert index.view(view) == Page(3, 2, (12,), [(b"a1", Row(1, (b"\5",))), (b"a2", Row(2, (b"\7",)))])
+        assert index.view(large, start=b"b").rows == [(b"b", Row(3, (b"\x09",)))]
+        assert index.view(large).sums == (16,) and index.view(same).count == 1
+        fault = raises(Behind, lambda: index.view(view, floor=4))
+        assert isinstance(fault, Behind) and fault.detail == 3
+        index.drop(view)
+        raises(NoSuchView, lambda: index.view(view))
+        raises(NoSuchView, lambda: index.drop(view))
+        raises(NoSuchView, lambda: index.apply(view))
+        raises(BadRange, lambda: index.build(Range(b"b", b"a")))
+        for _ in range(62):
+            index.build(Prefix(b"z"))
+        raises(TooManyViews, lambda: index.build(Prefix(b"z")))
+
+
+def views_by_hand() -> None:
+    with Index(feed=2, keep_views=False) as index:
+        view = index.build(Prefix(b""))
+        assert index.put(b"a", b"") == 1 and index.put(b"b", b"") == 2
+        fault = raises(FeedFull, lambda: index.put(b"c", b""))
+        assert isinstance(fault, FeedFull) and fault.detail == 0
+        assert index.view(view).count == 0
+        assert [index.apply(), index.apply(view), index.apply(), index.apply(view)] == [1, 2, None, None]
+        assert index.view(view).count == 2 and index.put(b"c", b"") == 3
+
+
+def feeds() -> None:
+    with Index(keep=2) as index:
+        assert index.feed() == []
+        index.put(b"k", b"one")
+        index.put(b"k", b"two")
+        index.remove(b"k")
+        one, two = Row(1, (b"one",)), Row(2, (b"two",))
+        assert index.feed(1) == [Delta(2, b"k", one, two), Delta(3, b"k", two, None)]
+        assert index.feed(2, 1) == [Delta(3, b"k", two, None)]
+        fault = raises(Behind, lambda: index.feed(0))
+        assert isinstance(fault, Behind) and fault.detail == 1
+        raises(BadLimit, lambda: index.feed(1, 1001))
+
+
+def scans_and_large_answers() -> None:
+    with Index() as index:
+        for number in range(2500):
+            index.put(b"%08d" % number, b"x" * 60)
+        assert [key for key, _ in index.scan()] == [b"%08d" % number for number in range(2500)]
+        assert len(index.range(b"00000500")) == 1000
+    assert key_after(b"\xff" * 255) is None and key_after(b"a") == b"a\0"
+
+
+def epochs() -> None:
+    with Index() as index:
+        keys = [b"k" * 40 + bytes((last,)) for last in range(20)]
+        for key in keys:
+            index.put(key, b"")
+        for key in keys:
+            index.remove(key)
+        nodes = index.nodes()
+        while any([index.tidy(key) is not Tidied.NOTHING for key in keys]):
+            pass
+        assert index.advance() == 1 and index.collect() == nodes - 2 and index.nodes() == 2
+
+
+def closed() -> None:
+    index = Index()
+    index.close()
+    index.close()
+    raises(Closed, lambda: index.put(b"a", b""))
+    raises(Closed, lambda: index.get(b"a"))
+    raises(Closed, index.commits)
+    raises(NoLibrary, lambda: Index(library="/nowhere/librowanspan.so"))
+    raises(NoLibrary, lambda: Index(library="/dev/null"))
+
+
+def other_threads() -> None:
+    index = Index()
+    index.put(b"a", b"")
+    caught: List[BaseException] = []
+
+    def other() -> None:
+        for call in (lambda: index.get(b"a"), lambda: index.put(b"a", b""), index.close):
+            caught.append(raises(WrongThread, call))
+
+    thread = threading.Thread(target=other)
+    thread.start()
+    thread.join()
+    assert len(caught) == 3 and index.get(b"a") == Row(1, (b"",))
+    index.close()
+
+
+def names_of_the_client() -> None:
+    """Each method of the client on rows and views has here the same parameters, with the same defaults."""
+    for name in ("get", "put", "remove", "range", "scan", "tidy", "build", "view", "drop", "close"):
+        client = inspect.signature(getattr(rowanspan.Index, name))
+        assert inspect.signature(getattr(Index, name)) == client, name
+    for name in ("Row", "Page", "Tidied", "AnyRow", "Equals", "AtLeast", "Range", "Prefix"):
+        client, here = getattr(rowanspan, name), getattr(embedded, name)
+        assert getattr(client, "__annotations__", None) == getattr(here, "__annotations__", None), name
+    for number, kind in embedded.REFUSALS.items():
+        assert rowanspan.REFUSALS[number].__name__ == kind.__name__
+
+
+def random_calls() -> None:
+    """20,000 calls by chance against a plain map."""
+    chance = random.Random(7)
+    plain: Dict[bytes, Row] = {}
+    commits = 0
+
+    def a_key() -> bytes:
+        front = b"a" * chance.choice((0, 0, 0, 8, 16))
+        return front + bytes(chance.choice(b"abc") for _ in range(chance.randrange(5)))
+
+    def from_key(key: bytes, limit: int) -> List[Tuple[bytes, Row]]:
+        keys = sorted(plain)
+        return [(at, plain[at]) for at in keys[bisect_left(keys, key):][:limit]]
+
+    with Index(columns=2) as index:
+        view = index.build(Prefix(b"a", AtLeast(1, 100)))
+        for _ in range(20000):
+            what, key = chance.randrange(10), a_key()
+            if what < 4:
+                sets = {column: chance.randbytes(chance.randrange(5)) for column in chance.sample((0, 1), chance.randrange(3))}
+                commits += 1
+                assert index.put(key, sets) == commits
+                old = plain[key].columns if key in plain else (b"", b"")
+                plain[key] = Row(commits, tuple(sets.get(column, old[column]) for column in (0, 1)))
+            elif what < 6:
+                commits += key in plain
+                assert index.remove(key) == (commits if plain.pop(key, None) else None)
+            elif what < 8:
+                assert index.get(key) == plain.get(key)
+            elif what < 9:
+                limit = chance.randrange(1, 30)
+                assert index.range(key, limit) == from_key(key, limit)
+            else:
+                shown = [(at, row) for at, row in from_key(b"a", 1000) if at.startswith(b"a")
+                         and int.from_bytes(row.columns[1], "big") >= 100]
+                sums = tuple(sum(int.from_bytes(row.columns[column], "big") for _, row in shown) for column in (0, 1))
+                assert index.view(view, commits) == Page(commits, len(shown), sums, shown)
+        assert index.commits() == commits
+
+
+def memory_is_flat() -> None:
+    """A thousand times opened, filled and closed, in a process of its own."""
+    code = ("import resource, sys; sys.path.insert(0, sys.argv[1]); from rowanspan_embedded import Index\n"
+            "def once():\n"
+            "    with Index() as index:\n"
+            "        for number in range(100): index.put(b'%05d' % number, b'x' * 60)\n"
+            "for _ in range(200): once()\n"
+            "before = resource.getrusage(resource.RUSAGE_SELF).ru_maxrss\n"
+            "for _ in range(1000): once()\n"
+            "print(resource.getrusage(resource.RUSAGE_SELF).ru_maxrss - before)\n")
+    grown = subprocess.run([sys.executable, "-c", code, str(Path(__file__).resolve().parent)], check=True,
+                           capture_output=True, text=True).stdout
+    assert int(grown) < 4096, f"{grown.strip()} KiB more after a thousand times"
+
+
+CASES = (rows, columns, views, views_by_hand, feeds, scans_and_large_answers, epochs, closed, other_threads,
+         names_of_the_client, random_calls, memory_is_flat)
+
+
+def main() -> int:
+    failed = 0
+    for case in CASES:
+        try:
+            case()
+            print(f"ok {case.__name__}")
+        except Exception:
+            failed += 1
+            print(f"FAILED {case.__name__}: {traceback.format_exc()}")
+    print(f"{len(CASES) - failed} passed, {failed} failed")
+    return 1 if failed else 0
+
+
+if __name__ == "__main__":
+    sys.exit(main())

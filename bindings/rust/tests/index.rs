@@ -1,0 +1,218 @@
+//! The index by example, and 20,000 calls by chance against a `BTreeMap`.
+
+use rowanspan::{Delta, Error, Index, Keys, Options, Row, RowTest, Tidied};
+use std::collections::BTreeMap;
+
+fn row(version: u64, columns: &[&[u8]]) -> Row {
+    Row {
+        version,
+        columns: columns.iter().map(|column| column.to_vec()).collect(),
+    }
+}
+
+#[test]
+fn rows() -> Result<(), Error> {
+    let mut index = Index::open(Options::default())?;
+    assert_eq!(index.get(b"apple")?, None);
+    assert_eq!(index.put(b"apple", &[(0, b"red")])?, 1);
+    assert_eq!(index.put(b"", &[])?, 2);
+    assert_eq!(index.get(b"apple")?, Some(row(1, &[b"red"])));
+    let pairs = index.range(b"").collect::<Result<Vec<_>, Error>>()?;
+    assert_eq!(
+        pairs,
+        [
+            (b"".to_vec(), row(2, &[b""])),
+            (b"apple".to_vec(), row(1, &[b"red"]))
+        ]
+    );
+    assert_eq!(index.first(b"", 1, &[])?, pairs[..1]);
+    assert_eq!(index.remove(b"apple")?, Some(3));
+    assert_eq!(index.remove(b"apple")?, None);
+    assert_eq!(
+        (index.commits()?, index.nodes()?, index.columns()?),
+        (3, 2, 1)
+    );
+    assert_eq!(index.tidy(b"apple")?, Tidied::Nothing);
+    assert_eq!((index.advance()?, index.collect()?), (1, 0));
+    Ok(())
+}
+
+#[test]
+fn refusals() -> Result<(), Error> {
+    let two = Options {
+        columns: 2,
+        feed: 2,
+        keep: 1,
+    };
+    assert_eq!(
+        Index::open(Options { columns: 17, ..two }).err(),
+        Some(Error::BadColumn)
+    );
+    assert_eq!(
+        Index::open(Options { feed: 0, ..two }).err(),
+        Some(Error::BadLimit)
+    );
+    let mut index = Index::open(two)?;
+    assert_eq!(index.put(&[0; 256], &[]), Err(Error::KeyTooLong));
+    assert_eq!(index.put(b"k", &[(2, b"")]), Err(Error::BadColumn));
+    assert_eq!(
+        index.put(b"k", &[(0, b""), (0, b"")]),
+        Err(Error::BadColumn)
+    );
+    assert_eq!(index.put(b"k", &[(0, &[0; 65])]), Err(Error::ColumnTooLong));
+    assert_eq!(index.first(b"", 0, &[]), Err(Error::BadLimit));
+    assert_eq!(index.get_columns(b"", &[2]), Err(Error::BadColumn));
+    assert_eq!(
+        index.build(Keys::Between(b"b", b"a"), RowTest::Any),
+        Err(Error::BadRange)
+    );
+    assert_eq!(index.view(1, 0, b"", 1), Err(Error::NoSuchView));
+    let view = index.build(Keys::From(b""), RowTest::Any)?;
+    assert_eq!(index.put(b"a", &[])?, 1);
+    assert_eq!(index.put(b"b", &[])?, 2);
+    assert_eq!(index.put(b"c", &[]), Err(Error::FeedFull(0)));
+    assert_eq!(index.view(view, 1, b"", 1), Err(Error::Behind(0)));
+    assert_eq!(index.apply(view)?, Some(1));
+    index.keep_views()?;
+    assert_eq!(index.apply(0)?, None);
+    assert_eq!(index.feed(0, 1), Err(Error::Behind(1)));
+    index.drop_view(view)?;
+    assert_eq!(index.drop_view(view), Err(Error::NoSuchView));
+    for _ in 0..64 {
+        index.build(Keys::Prefix(b"z"), RowTest::Any)?;
+    }
+    assert_eq!(
+        index.build(Keys::Prefix(b"z"), RowTest::Any),
+        Err(Error::TooManyViews)
+    );
+    Ok(())
+}
+
+#[test]
+fn views_and_feeds() -> Result<(), Error> {
+    let mut index = Index::open(Options {
+        keep: 9,
+        ..Options::default()
+    })?;
+    index.put(b"a1", &[(0, &[255; 8])])?;
+    let all = index.build(Keys::Prefix(b"a"), RowTest::Any)?;
+    let large = index.build(Keys::Between(b"a", b"b"), RowTest::AtLeast(0, 8))?;
+    let same = index.build(Keys::Prefix(b""), RowTest::Equals(0, b"\x07"))?;
+    index.put(b"a2", &[(0, b"\x07")])?;
+    index.keep_views()?;
+    let page = index.view(all, 2, b"a2", 9)?;
+    assert_eq!(
+        (page.at, page.count, &page.sums[..]),
+        (2, 2, &[u128::from(u64::MAX) + 7][..])
+    );
+    assert_eq!(page.rows, [(b"a2".to_vec(), row(2, &[b"\x07"]))]);
+    assert_eq!(
+        (
+            index.view(large, 2, b"", 9)?.count,
+            index.view(same, 2, b"", 9)?.count
+        ),
+        (1, 1)
+    );
+    index.remove(b"a2")?;
+    let gone = Delta {
+        number: 3,
+        key: b"a2".to_vec(),
+        before: Some(row(2, &[b"\x07"])),
+        after: None,
+    };
+    assert_eq!(index.feed(2, 9)?, [gone]);
+    Ok(())
+}
+
+#[test]
+fn ranges_of_many() -> Result<(), Error> {
+    let mut index = Index::open(Options::default())?;
+    let key = |number: u32| format!("{number:08}").into_bytes();
+    for number in 0..2000 {
+        index.put(&key(number), &[(0, &[1; 60])])?;
+    }
+    index.put(&[255; 255], &[])?;
+    let keys = index
+        .range(&key(5))
+        .map(|pair| Ok(pair?.0))
+        .collect::<Result<Vec<_>, Error>>()?;
+    let wanted: Vec<_> = (5..2000).map(key).chain([vec![255; 255]]).collect();
+    assert_eq!(keys, wanted);
+    Ok(())
+}
+
+struct Chance(u64);
+
+impl Chance {
+    fn below(&mut self, bound: u64) -> u64 {
+        self.0 ^= self.0 << 13;
+        self.0 ^= self.0 >> 7;
+        self.0 ^= self.0 << 17;
+        self.0 % bound
+    }
+
+    fn bytes(&mut self, most: u64, letters: u64) -> Vec<u8> {
+        (0..self.below(most + 1))
+            .map(|_| b'a' + self.below(letters) as u8)
+            .collect()
+    }
+
+    fn key(&mut self) -> Vec<u8> {
+        let front = [0, 0, 8, 16][self.below(4) as usize];
+        [vec![b'a'; front], self.bytes(4, 3)].concat()
+    }
+}
+
+fn put_by_chance(
+    index: &mut Index,
+    plain: &mut BTreeMap<Vec<u8>, Row>,
+    chance: &mut Chance,
+) -> Result<(), Error> {
+    let (key, bytes, column) = (chance.key(), chance.bytes(6, 26), chance.below(2) as u8);
+    let commit = index.put(&key, &[(column, &bytes)])?;
+    let row = plain.entry(key).or_insert_with(|| row(0, &[b"", b""]));
+    row.version = commit;
+    row.columns[usize::from(column)] = bytes;
+    Ok(())
+}
+
+#[test]
+fn random_calls_against_a_map() -> Result<(), Error> {
+    let mut index = Index::open(Options {
+        columns: 2,
+        ..Options::default()
+    })?;
+    let mut plain = BTreeMap::new();
+    let mut chance = Chance(88172645463325252);
+    let view = index.build(Keys::Prefix(b"aa"), RowTest::Any)?;
+    for _ in 0..20_000 {
+        match chance.below(10) {
+            0..=3 => put_by_chance(&mut index, &mut plain, &mut chance)?,
+            4..=5 => {
+                let key = chance.key();
+                assert_eq!(index.remove(&key)?.is_some(), plain.remove(&key).is_some());
+            }
+            6..=7 => {
+                let key = chance.key();
+                assert_eq!(index.get(&key)?, plain.get(&key).cloned());
+            }
+            8 => {
+                let (key, limit) = (chance.key(), 1 + chance.below(30) as usize);
+                let wanted: Vec<_> = plain
+                    .range(key.clone()..)
+                    .take(limit)
+                    .map(|(k, r)| (k.clone(), r.clone()))
+                    .collect();
+                assert_eq!(index.first(&key, limit as u16, &[])?, wanted);
+            }
+            _ => {
+                index.keep_views()?;
+                let shown = plain.iter().filter(|(key, _)| key.starts_with(b"aa"));
+                let wanted: Vec<_> = shown.map(|(key, row)| (key.clone(), row.clone())).collect();
+                let page = index.view(view, index.commits()?, b"", 1000)?;
+                assert_eq!((page.count, page.rows), (wanted.len() as u64, wanted));
+            }
+        }
+    }
+    Ok(())
+}

@@ -1,0 +1,149 @@
+-- What comes of calls on what a handle holds, case by case.
+use Rattle.std.proofs.Common.{◌≡◌, ℕ, List, [], ◌∷◌, true, refl, sym, ap, subst, inl, inr}
+use Rattle.std.specs.Prelude.{Option, Some, None, Result, Ok, Err, MatchOption}
+use Rattle.std.specs.Option.{option_or}
+use Rattle.mt_types.specs.declared.event.Event.{Event}
+use Rattle.mt_types.specs.declared.event.Event.TheVariants.{Begin, Step, Apply, ViewRead, ViewDrop, Advance, Collect}
+use Rattle.mt_types.specs.declared.event.Outcome.{Outcome}
+use Rattle.mt_types.specs.declared.event.Outcome.TheVariants.{View, Refused}
+use Rattle.mt_types.specs.declared.event.Reply.{Reply}
+use Rattle.mt_types.specs.declared.event.Request.{Request}
+use Rattle.mt_types.specs.declared.numbers.ViewNo.{ViewNo}
+use Rattle.mt_types.specs.declared.refusal.Refusal.{Refusal}
+use Rattle.mt_types.specs.declared.refusal.Refusal.TheVariants.{NoMemory, NoSuchView, Behind}
+use Rattle.mt_types.specs.declared.view.Page.{Page}
+use Rattle.mt_types.specs.Limits.{open_fault}
+use Rattle.mt_types.specs.RefusalNumbers.{refusal_number}
+use Rattle.mt_view.specs.State.{StateView}
+use Rattle.mt_index.specs.declared.options.Options.{Options}
+use Rattle.mt_index.specs.Alone.{IsIdle}
+use Rattle.mt_index.specs.Events.{EventDoes, Happens, IsOpened}
+use Rattle.mt_index.specs.Stands.{MachineView, ReadsView, ReadsPage}
+use Rattle.rowanspan_c.specs.Kept.{is_nil, is_quiet}
+use Rattle.rowanspan_c.specs.Questions.{IsCausedBy}
+use Rattle.rowanspan_c.specs.Told.{TellsEnd, TellsOutcome}
+use Rattle.rowanspan_c.specs.Calls.{Changes, EndsAlone, IsOutside, Meets, Opens, StandsNext}
+
+-- ---- quiet
+
+nil : {X : Type 0} (xs : List X) → is_nil xs ≡ true → xs ≡ []
+nil [] e = refl
+nil (x ∷ xs) e = cc
+
+-- no call is open on what a quiet handle holds
+pub quiet-idle : (held : Option MachineView) (s : MachineView) → held ≡ Some s → is_quiet held ≡ true → IsIdle s
+quiet-idle held s is quiet = nil s.calls.calls (subst (λ (h : Option MachineView). is_quiet h ≡ true) is quiet)
+
+pub idle-quiet : (s : MachineView) → IsIdle s → is_quiet (Some s) ≡ true
+idle-quiet s idle = ap is_nil idle
+
+-- ---- a request
+
+pub changes_closed : (held next : Option MachineView) (request : Request) → held ≡ None → next ≡ None
+    → Changes held request next 100 0
+changes_closed held next request is after =
+    subst (λ (h : Option MachineView). Changes h request next 100 0) (sym is) (after, (refl, refl))
+
+pub changes_done : (held next : Option MachineView) (s t : MachineView) (request : Request)
+    (ended : Result Reply Refusal) (status told : ℕ) → held ≡ Some s → next ≡ Some t → EndsAlone s request ended t
+    → TellsEnd ended status told → Changes held request next status told
+changes_done held next s t request ended status told is after ends tells =
+    subst (λ (h : Option MachineView). Changes h request next status told) (sym is) (t, after, ended, ends, tells)
+
+-- ---- an event
+
+pub meets_closed : (held next : Option MachineView) (event : Event) → held ≡ None → next ≡ None
+    → Meets held event next 100 0
+meets_closed held next event is after =
+    subst (λ (h : Option MachineView). Meets h event next 100 0) (sym is) (after, (refl, refl))
+
+pub meets_done : (held next : Option MachineView) (s t : MachineView) (event : Event) (outcome : Outcome)
+    (status told : ℕ) → held ≡ Some s → next ≡ Some t → Happens s event outcome t → StandsNext s event outcome t
+    → TellsOutcome outcome status told → Meets held event next status told
+meets_done held next s t event outcome status told is after happens stands tells =
+    subst (λ (h : Option MachineView). Meets h event next status told) (sym is) (t, after, outcome, happens, stands, tells)
+
+-- no call is open after an event that is no part of one
+pub stays_idle : (s t : MachineView) (event : Event) (outcome : Outcome) → IsOutside event
+    → EventDoes s event outcome t → IsIdle s → IsIdle t
+unfolding EventDoes
+stays_idle s t (Begin pass request) outcome outside does idle = absurd outside
+stays_idle s t (Step call) outcome outside does idle = absurd outside
+stays_idle s t (Apply view) outcome outside does idle =
+    elim does [
+      | inl none ↦ subst IsIdle (sym none.2) idle
+      | inr to ↦ elim to.comes [
+        | inl current ↦ subst IsIdle (sym current.2) idle
+        | inr later ↦ elim later [
+          | inl refused ↦ subst IsIdle (sym refused.2) idle
+          | inr takes ↦ subst IsIdle (sym takes.is_next) idle
+        ]
+      ]
+    ]
+stays_idle s t (ViewRead view floor start limit) outcome outside does idle = subst IsIdle (sym does.1) idle
+stays_idle s t (ViewDrop view) outcome outside does idle =
+    elim does [
+      | inl none ↦ subst IsIdle (sym none.2) idle
+      | inr drops ↦ subst IsIdle (sym drops.is_next) idle
+    ]
+stays_idle s t Advance outcome outside does idle =
+    elim does [
+      | inl spent ↦ subst IsIdle (sym spent.2) idle
+      | inr next ↦ subst IsIdle (sym next.2) idle
+    ]
+stays_idle s t Collect outcome outside does idle = subst IsIdle (sym does.is_next) idle
+
+-- ---- a page
+
+pub read_reads : (s t : MachineView) (view : ViewNo) (floor : ℕ) (start : List ℕ) (limit : ℕ) (outcome : Outcome)
+    → EventDoes s (ViewRead view floor start limit) outcome t → ReadsView s view.0 floor start limit outcome
+unfolding EventDoes
+read_reads s t view floor start limit outcome does = does.0
+
+pub read_keeps : (s t : MachineView) (view : ViewNo) (floor : ℕ) (start : List ℕ) (limit : ℕ) (outcome : Outcome)
+    → EventDoes s (ViewRead view floor start limit) outcome t → t ≡ s
+unfolding EventDoes
+read_keeps s t view floor start limit outcome does = does.1
+
+pub page_or_refusal : (fault : Option Refusal) (there : Option StateView) (floor : ℕ) (start : List ℕ) (limit : ℕ)
+    (outcome : Outcome) → ReadsPage fault there floor start limit outcome
+    → ((page : Page) → outcome ≡ View page → ⊥) → ((refusal : Refusal) → outcome ≡ Refused refusal → ⊥) → ⊥
+page_or_refusal (Some fault) there floor start limit outcome reads no_page no_refusal = no_refusal fault reads
+page_or_refusal None None floor start limit outcome reads no_page no_refusal = no_refusal NoSuchView reads
+page_or_refusal None (Some state) floor start limit outcome reads no_page no_refusal =
+    elim reads [
+      | inl behind ↦ no_refusal (Behind state.at) behind.1
+      | inr there ↦ elim there.1 [
+        | inl shows ↦ no_page _ shows
+        | inr wants ↦ no_refusal NoMemory wants
+      ]
+    ]
+
+-- ---- faults
+
+-- what is not refused has no fault
+pub no_fault : {A : Type 0} (fault : Option Refusal) (ended : Result A Refusal) (found : A) (P : Type 0)
+    → ended ≡ Ok found → MatchOption fault P (λ (refusal : Refusal). ended ≡ Err refusal) → fault ≡ None
+no_fault None ended found P is clash = refl
+no_fault (Some refusal) ended found P is clash = cc
+
+pub neither : (first second : Option Refusal) → first ≡ None → second ≡ None → option_or first second ≡ None
+neither first second none still = subst (λ (f : Option Refusal). option_or f second ≡ None) (sym none) still
+
+-- ---- an opening
+
+pub opens_held : (held next : Option MachineView) (s : MachineView) (options : Options) → held ≡ Some s → next ≡ Some s
+    → Opens held options next 101
+opens_held held next s options is after =
+    subst (λ (h : Option MachineView). Opens h options next 101) (sym is) (after, refl)
+
+pub opens_done : (held next : Option MachineView) (t : MachineView) (options : Options) → held ≡ None → next ≡ Some t
+    → IsOpened options t → open_fault options.columns options.feed options.keep ≡ None → Opens held options next 0
+opens_done held next t options is after opened fits =
+    subst (λ (h : Option MachineView). Opens h options next 0) (sym is) (inl (t, after, opened, refl, fits))
+
+pub opens_not : (held next : Option MachineView) (options : Options) (refusal : Refusal) (status : ℕ) → held ≡ None
+    → next ≡ None → IsCausedBy (open_fault options.columns options.feed options.keep) refusal
+    → status ≡ refusal_number refusal → Opens held options next status
+opens_not held next options refusal status is after caused told =
+    subst (λ (h : Option MachineView). Opens h options next status) (sym is) (inr (refusal, caused, after, told))

@@ -1,0 +1,4 @@
+pub mod Held
+pub mod BoxWalk
+pub mod Written
+pub mod CallLemmas

@@ -1,0 +1,11 @@
+use Rattle.std.proofs.Common.{◌∙◌, ap, sym, Some}
+use Rattle.rowanspan_c.proofs.CallLemmas.{meets_closed, meets_done}
+use Rattle.rowanspan_c.proofs.changing.meet.Goals as goal
+
+pub returns-in_default : goal.returns-in_default
+returns-in_default c = meets_closed c.args.handle.now.held c.take.new.self.held c.args.event.now c.in_default.ensures.had c.take.ensures.emptied
+
+pub returns : goal.returns
+returns c =
+    meets_done c.args.handle.now.held c.fill.new.self.held c.deref_mut.result.now c.outcome_of-outcome.new.index c.args.event.now c.outcome_of-outcome.result c.tell_outcome.result c.tell_outcome.new.told
+    (c.in-Some.ensures.had ∙ ap Some (sym c.deref_mut.ensures.value)) c.fill.ensures c.outcome_of-outcome.ensures.happens c.outcome_of-outcome.ensures.stands c.tell_outcome.ensures

@@ -1,0 +1,5 @@
+pub mod Kept
+pub mod Spelling
+pub mod Questions
+pub mod Told
+pub mod Calls

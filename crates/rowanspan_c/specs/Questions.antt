@@ -1,0 +1,73 @@
+-- What a reader asks, and which answers are right.
+use Rattle.std.specs.Prelude.{ℕ, ◌≡◌, ◌⊎◌, List, take, drop, Result, Ok, Err, Option, Some, None}
+use Rattle.std.specs.Option.{option_map}
+use Rattle.std.specs.FinMap.{get}
+use Rattle.mt_types.specs.Rows.{shown}
+use Rattle.mt_types.specs.Limits.{request_fault}
+use Rattle.mt_types.specs.declared.event.Request.TheVariants.{Get, Range}
+use Rattle.mt_types.specs.declared.event.Outcome.TheVariants.{View, Refused}
+use Rattle.mt_types.specs.declared.refusal.Refusal.{Refusal}
+use Rattle.mt_types.specs.declared.refusal.Refusal.TheVariants.{NoMemory}
+use Rattle.mt_types.specs.declared.row.Row.{Row as RowValue}
+use Rattle.mt_types.specs.declared.row.Delta.{Delta}
+use Rattle.mt_types.specs.declared.view.Page.{Page as PageValue}
+use Rattle.mt_promise.specs.History.{History, moment, rows}
+use Rattle.mt_promise.specs.Alone.{IsRangeOfMap}
+use Rattle.mt_commit.specs.Logged.{deltas_of}
+use Rattle.mt_index.specs.Stands.{MachineView, Stands, ReadsView}
+use Rattle.mt_index.specs.Feed.{feed_fault}
+use Rattle.rowanspan_c.specs.declared.reading.Question.{Question}
+use Rattle.rowanspan_c.specs.declared.reading.Question.TheVariants.{Row, Rows, Page, Deltas}
+use Rattle.rowanspan_c.specs.Spelling.{row_spelling, pairs_spelling, page_spelling, deltas_spelling}
+
+-- a reader is refused for the fault that stands, or for want of memory
+abbrev pub IsCausedBy : Option Refusal → Refusal → Type 0
+IsCausedBy fault refusal = (refusal ≡ NoMemory) ⊎ (fault ≡ Some refusal)
+
+-- ---- what is right, at each history at which the machine stands
+-- the row of a key in the plain map of the rows, as it is shown
+abbrev pub IsPlainRow : MachineView → List ℕ → List ℕ → Option RowValue → Type 0
+IsPlainRow s key asked row = (h : History) → Stands s h
+    → row ≡ option_map (shown asked) (get (rows s.columns (moment h)) key)
+
+-- the first pairs of that map from a key on
+abbrev pub ArePlainRows : MachineView → List ℕ → ℕ → List ℕ → List (List ℕ × RowValue) → Type 0
+ArePlainRows s start limit asked pairs = (h : History) → Stands s h
+    → IsRangeOfMap (rows s.columns (moment h)) asked start limit pairs
+
+-- the deltas of its commits after a number
+abbrev pub AreDeltas : MachineView → ℕ → ℕ → List Delta → Type 0
+AreDeltas s from limit deltas = (h : History) → Stands s h
+    → deltas ≡ take limit (drop from (deltas_of s.columns (moment h).commits))
+
+-- ---- the bytes of a right answer, or none where a key has no row; or why the reader is refused
+abbrev pub ReadsRow : MachineView → List ℕ → List ℕ → Result (Option (List ℕ)) Refusal → Type 0
+ReadsRow s key asked (Ok bytes) =
+    (row : Option RowValue) × IsPlainRow s key asked row × (bytes ≡ option_map row_spelling row)
+    × (request_fault s.columns (Get key asked) ≡ None)
+ReadsRow s key asked (Err refusal) = IsCausedBy (request_fault s.columns (Get key asked)) refusal
+
+abbrev pub ReadsRows : MachineView → List ℕ → ℕ → List ℕ → Result (Option (List ℕ)) Refusal → Type 0
+ReadsRows s start limit asked (Ok bytes) =
+    (pairs : List (List ℕ × RowValue)) × ArePlainRows s start limit asked pairs
+    × (bytes ≡ Some (pairs_spelling pairs)) × (request_fault s.columns (Range start limit asked) ≡ None)
+ReadsRows s start limit asked (Err refusal) = IsCausedBy (request_fault s.columns (Range start limit asked)) refusal
+
+abbrev pub ReadsPage : MachineView → ℕ → ℕ → List ℕ → ℕ → Result (Option (List ℕ)) Refusal → Type 0
+ReadsPage s view floor start limit (Ok bytes) =
+    (page : PageValue) × ReadsView s view floor start limit (View page) × (bytes ≡ Some (page_spelling page))
+ReadsPage s view floor start limit (Err refusal) =
+    (refusal ≡ NoMemory) ⊎ ReadsView s view floor start limit (Refused refusal)
+
+abbrev pub ReadsDeltas : MachineView → ℕ → ℕ → Result (Option (List ℕ)) Refusal → Type 0
+ReadsDeltas s from limit (Ok bytes) =
+    (deltas : List Delta) × AreDeltas s from limit deltas × (bytes ≡ Some (deltas_spelling deltas))
+    × (feed_fault s.log from limit ≡ None)
+ReadsDeltas s from limit (Err refusal) = IsCausedBy (feed_fault s.log from limit) refusal
+
+-- WHAT A QUESTION IS ANSWERED
+abbrev pub IsAnswer : MachineView → Question → Result (Option (List ℕ)) Refusal → Type 0
+IsAnswer s (Row key columns) read = ReadsRow s key columns read
+IsAnswer s (Rows start limit columns) read = ReadsRows s start limit columns read
+IsAnswer s (Page view floor start limit) read = ReadsPage s view.0 floor start limit read
+IsAnswer s (Deltas from limit) read = ReadsDeltas s from limit read

@@ -1,0 +1,371 @@
+//! What C calls. Each answers a status: 0, the number of a refusal, or one of `status` from 100 on.
+//!
+//! The header, `include/rowanspan.h`, says of each what it does, what it costs and when it is refused.
+
+ghost use Rattle.std.specs.Prelude.{◌≡◌, ◌<◌, ◌≤◌, MatchResult, OnOk, Some as SomeOf, None as NoneOf};
+ghost use Rattle.mt_types.specs.declared.event.Request.TheVariants.{Put, Remove, Tidy, Build};
+ghost use Rattle.mt_types.specs.declared.event.Event.TheVariants.{Apply, ViewDrop, Advance, Collect};
+ghost use Rattle.mt_types.specs.declared.view.ViewSpec.TheVariants.{Range as RangeOf, Prefix as PrefixOf};
+ghost use Rattle.mt_types.specs.Limits.{open_fault};
+ghost use Rattle.mt_commit.specs.Log.{newest};
+ghost use Rattle.mt_arena.specs.Node.{occupied};
+ghost use Rattle.rowanspan_c.specs.declared.reading.Question.TheVariants.{Row as RowOf, Rows as RowsOf, Page as PageOf, Deltas as DeltasOf};
+ghost use Rattle.mt_index.specs.Alone.{IsIdle};
+ghost use Rattle.mt_index.specs.Events.{IsOpened};
+ghost use Rattle.rowanspan_c.specs.Questions.{IsCausedBy};
+ghost use Rattle.rowanspan_c.specs.Told.{Tells};
+ghost use Rattle.rowanspan_c.specs.Calls.{Opens, Changes, Reads, Meets, Counts, close_status, greatest_kind, sets_of, test_of};
+
+use crate::asking::{
+    ColumnSet, ViewTest, between_request, from_request, page_question, prefix_request, put_request,
+    remove_request, row_question, rows_question, tidy_request,
+};
+use crate::changing::{answer, change, meet};
+use crate::handle::Handle;
+use crate::reading::Question;
+use crate::status::{CLOSED, DONE, HELD, NO_SUCH_TEST};
+use mt_index::machine::Machine;
+use mt_index::options::Options;
+use mt_types::event::Event;
+use mt_types::numbers::ViewNo;
+use mt_types::refusal::Refusal;
+use std::alloc::Global;
+
+// The kinds of tests of rows go up to this one.
+const GREATEST_KIND: u8 = 2;
+
+// ---- the handle
+
+fn opened(alloc: Global, options: Options) -> Result<Box<Machine>, Refusal>
+    ensures opened { MatchResult result (λ index. IsOpened options index.value × IsIdle index.value)
+        (λ refusal. IsCausedBy (open_fault options.columns options.feed options.keep) refusal) }
+    ensures fits { OnOk result (open_fault options.columns options.feed options.keep ≡ NoneOf) }
+{
+    let index = Machine::open(alloc, options)?;
+    Ok(Box::new(alloc, index)?)
+}
+
+/// Opens an index.
+#[unsafe(no_mangle)]
+pub extern "C" fn rowanspan_open(
+    handle: &mut Handle,
+    alloc: Global,
+    columns: u64,
+    feed: u64,
+    keep: u64,
+) -> u16
+    ensures { Opens handle.old.held (record { columns = columns; feed = feed; keep = keep }) handle.new.held result }
+{
+    if let Some(index) = handle.take(alloc) {
+        handle.fill(index);
+        return HELD;
+    }
+    let options = Options {
+        columns,
+        feed,
+        keep,
+    };
+    match opened(alloc, options) {
+        Ok(index) => {
+            handle.fill(index);
+            DONE
+        }
+        Err(refusal) => u16::from(refusal.number()),
+    }
+}
+
+/// Closes an index.
+#[unsafe(no_mangle)]
+pub extern "C" fn rowanspan_close(handle: &mut Handle, alloc: Global) -> u16
+    ensures emptied { handle.new.held ≡ NoneOf }
+    ensures told { result ≡ close_status handle.old.held }
+{
+    match handle.take(alloc) {
+        Some(_) => DONE,
+        None => CLOSED,
+    }
+}
+
+// ---- rows
+
+/// Sets columns of a key's row.
+#[unsafe(no_mangle)]
+pub extern "C" fn rowanspan_raw_put<'a>(
+    handle: &mut Handle,
+    alloc: Global,
+    key: &[u8],
+    sets: &[ColumnSet<'a>],
+    told: &mut u64,
+) -> u16
+    ensures { Changes handle.old.held (Put key.now (sets_of sets.now)) handle.new.held result told.new }
+{
+    change(handle, alloc, put_request(alloc, key, sets), told)
+}
+
+/// Ends a key's row.
+#[unsafe(no_mangle)]
+pub extern "C" fn rowanspan_raw_remove(
+    handle: &mut Handle,
+    alloc: Global,
+    key: &[u8],
+    told: &mut u64,
+) -> u16
+    ensures { Changes handle.old.held (Remove key.now) handle.new.held result told.new }
+{
+    change(handle, alloc, remove_request(alloc, key), told)
+}
+
+/// Takes out a node that is no longer wanted.
+#[unsafe(no_mangle)]
+pub extern "C" fn rowanspan_raw_tidy(
+    handle: &mut Handle,
+    alloc: Global,
+    key: &[u8],
+    told: &mut u64,
+) -> u16
+    ensures { Changes handle.old.held (Tidy key.now) handle.new.held result told.new }
+{
+    change(handle, alloc, tidy_request(alloc, key), told)
+}
+
+/// The row of a key.
+#[unsafe(no_mangle)]
+pub extern "C" fn rowanspan_raw_get(
+    handle: &mut Handle,
+    alloc: Global,
+    key: &[u8],
+    columns: &[u8],
+    into: &mut [u8],
+    told: &mut u64,
+) -> u16
+    ensures row { Reads handle.old.held (RowOf key.now columns.now) into.old into.new result told.new }
+    ensures kept { handle.new.held ≡ handle.old.held }
+{
+    answer(handle, alloc, row_question(alloc, key, columns), into, told)
+}
+
+/// The first rows from a key on.
+#[unsafe(no_mangle)]
+pub extern "C" fn rowanspan_raw_range(
+    handle: &mut Handle,
+    alloc: Global,
+    start: &[u8],
+    limit: u16,
+    columns: &[u8],
+    into: &mut [u8],
+    told: &mut u64,
+) -> u16
+    ensures rows { Reads handle.old.held (RowsOf start.now limit columns.now) into.old into.new result told.new }
+    ensures kept { handle.new.held ≡ handle.old.held }
+{
+    answer(
+        handle,
+        alloc,
+        rows_question(alloc, start, limit, columns),
+        into,
+        told,
+    )
+}
+
+// ---- views
+
+/// Builds a view of the keys that begin so.
+#[unsafe(no_mangle)]
+pub extern "C" fn rowanspan_raw_build_prefix<'a>(
+    handle: &mut Handle,
+    alloc: Global,
+    prefix: &[u8],
+    test: &ViewTest<'a>,
+    told: &mut u64,
+) -> u16
+    ensures built { test.now.kind ≤ greatest_kind
+        → Changes handle.old.held (Build (PrefixOf prefix.now (test_of test.now))) handle.new.held result told.new }
+    ensures no_test { greatest_kind < test.now.kind
+        → (handle.new.held ≡ handle.old.held) × Tells NO_SUCH_TEST 0 result told.new }
+{
+    if test.kind > GREATEST_KIND {
+        *told = 0;
+        return NO_SUCH_TEST;
+    }
+    change(handle, alloc, prefix_request(alloc, prefix, test), told)
+}
+
+/// Builds a view of the keys from `lo` on.
+#[unsafe(no_mangle)]
+pub extern "C" fn rowanspan_raw_build_from<'a>(
+    handle: &mut Handle,
+    alloc: Global,
+    lo: &[u8],
+    test: &ViewTest<'a>,
+    told: &mut u64,
+) -> u16
+    ensures built { test.now.kind ≤ greatest_kind
+        → Changes handle.old.held (Build (RangeOf lo.now NoneOf (test_of test.now))) handle.new.held result told.new }
+    ensures no_test { greatest_kind < test.now.kind
+        → (handle.new.held ≡ handle.old.held) × Tells NO_SUCH_TEST 0 result told.new }
+{
+    if test.kind > GREATEST_KIND {
+        *told = 0;
+        return NO_SUCH_TEST;
+    }
+    change(handle, alloc, from_request(alloc, lo, test), told)
+}
+
+/// Builds a view of the keys from `lo` on and before `hi`.
+#[unsafe(no_mangle)]
+pub extern "C" fn rowanspan_raw_build_between<'a>(
+    handle: &mut Handle,
+    alloc: Global,
+    lo: &[u8],
+    hi: &[u8],
+    test: &ViewTest<'a>,
+    told: &mut u64,
+) -> u16
+    ensures built { test.now.kind ≤ greatest_kind
+        → Changes handle.old.held (Build (RangeOf lo.now (SomeOf hi.now) (test_of test.now))) handle.new.held result
+        told.new }
+    ensures no_test { greatest_kind < test.now.kind
+        → (handle.new.held ≡ handle.old.held) × Tells NO_SUCH_TEST 0 result told.new }
+{
+    if test.kind > GREATEST_KIND {
+        *told = 0;
+        return NO_SUCH_TEST;
+    }
+    change(handle, alloc, between_request(alloc, lo, hi, test), told)
+}
+
+/// Takes a view on by one commit, or where `view` is 0 the one that is furthest behind.
+#[unsafe(no_mangle)]
+pub extern "C" fn rowanspan_apply(
+    handle: &mut Handle,
+    alloc: Global,
+    view: u64,
+    told: &mut u64,
+) -> u16
+    ensures { Meets handle.old.held (Apply (record { 0 = view })) handle.new.held result told.new }
+{
+    meet(handle, alloc, &Event::Apply(ViewNo(view)), told)
+}
+
+/// A page of a view.
+#[unsafe(no_mangle)]
+pub extern "C" fn rowanspan_raw_view(
+    handle: &mut Handle,
+    alloc: Global,
+    view: u64,
+    floor: u64,
+    start: &[u8],
+    limit: u16,
+    into: &mut [u8],
+    told: &mut u64,
+) -> u16
+    ensures page { Reads handle.old.held (PageOf (record { 0 = view }) floor start.now limit) into.old into.new result
+        told.new }
+    ensures kept { handle.new.held ≡ handle.old.held }
+{
+    answer(
+        handle,
+        alloc,
+        page_question(alloc, view, floor, start, limit),
+        into,
+        told,
+    )
+}
+
+/// Ends a view.
+#[unsafe(no_mangle)]
+pub extern "C" fn rowanspan_drop(
+    handle: &mut Handle,
+    alloc: Global,
+    view: u64,
+    told: &mut u64,
+) -> u16
+    ensures { Meets handle.old.held (ViewDrop (record { 0 = view })) handle.new.held result told.new }
+{
+    meet(handle, alloc, &Event::ViewDrop(ViewNo(view)), told)
+}
+
+// ---- commits and nodes
+
+/// The deltas of the commits after a number.
+#[unsafe(no_mangle)]
+pub extern "C" fn rowanspan_raw_feed(
+    handle: &mut Handle,
+    alloc: Global,
+    from: u64,
+    limit: u16,
+    into: &mut [u8],
+    told: &mut u64,
+) -> u16
+    ensures deltas { Reads handle.old.held (DeltasOf from limit) into.old into.new result told.new }
+    ensures kept { handle.new.held ≡ handle.old.held }
+{
+    answer(
+        handle,
+        alloc,
+        Ok(Question::Deltas { from, limit }),
+        into,
+        told,
+    )
+}
+
+/// Begins the next epoch.
+#[unsafe(no_mangle)]
+pub extern "C" fn rowanspan_advance(handle: &mut Handle, alloc: Global, told: &mut u64) -> u16
+    ensures { Meets handle.old.held Advance handle.new.held result told.new }
+{
+    meet(handle, alloc, &Event::Advance, told)
+}
+
+/// Frees retired nodes.
+#[unsafe(no_mangle)]
+pub extern "C" fn rowanspan_collect(handle: &mut Handle, alloc: Global, told: &mut u64) -> u16
+    ensures { Meets handle.old.held Collect handle.new.held result told.new }
+{
+    meet(handle, alloc, &Event::Collect, told)
+}
+
+/// How many commits were made.
+#[unsafe(no_mangle)]
+pub extern "C" fn rowanspan_commits(handle: &mut Handle, alloc: Global, told: &mut u64) -> u16
+    ensures number { Counts handle.old.held (λ index. newest index.log) result told.new }
+    ensures kept { handle.new.held ≡ handle.old.held }
+{
+    let Some(index) = handle.take(alloc) else {
+        *told = 0;
+        return CLOSED;
+    };
+    *told = index.commits();
+    handle.fill(index);
+    DONE
+}
+
+/// How many node numbers are occupied.
+#[unsafe(no_mangle)]
+pub extern "C" fn rowanspan_nodes(handle: &mut Handle, alloc: Global, told: &mut u64) -> u16
+    ensures number { Counts handle.old.held (λ index. occupied index.tree.nodes) result told.new }
+    ensures kept { handle.new.held ≡ handle.old.held }
+{
+    let Some(index) = handle.take(alloc) else {
+        *told = 0;
+        return CLOSED;
+    };
+    *told = index.nodes() as u64;
+    handle.fill(index);
+    DONE
+}
+
+/// How many columns a row has.
+#[unsafe(no_mangle)]
+pub extern "C" fn rowanspan_columns(handle: &mut Handle, alloc: Global, told: &mut u64) -> u16
+    ensures number { Counts handle.old.held (λ index. index.columns) result told.new }
+    ensures kept { handle.new.held ≡ handle.old.held }
+{
+    let Some(index) = handle.take(alloc) else {
+        *told = 0;
+        return CLOSED;
+    };
+    *told = u64::from(index.columns());
+    handle.fill(index);
+    DONE
+}

@@ -1,0 +1,140 @@
+//! What a caller is told: a status, a number beside it, and the bytes in its buffer.
+
+ghost use Rattle.std.specs.Prelude.{◌≡◌, ◌⊎◌};
+ghost use Rattle.rowanspan_c.specs.Told.{TellsRefusal, TellsAnswer, TellsEnd, TellsOutcome, HandsOut, TellsRead, rule_number};
+
+use crate::status::{ABSENT, CURRENT, DONE, NO_ROOM};
+use mt_types::event::{Answer, Outcome, Reply, TidyRule};
+use mt_types::items::Items;
+use mt_types::refusal::Refusal;
+
+/// Tells a refusal.
+pub(crate) fn tell_refusal(refusal: Refusal, told: &mut u64) -> u16
+    ensures { TellsRefusal refusal result told.new }
+{
+    *told = refusal.detail().unwrap_or(0);
+    u16::from(refusal.number())
+}
+
+fn rule_number(rule: TidyRule) -> u64
+    ensures { result ≡ rule_number rule }
+{
+    match rule {
+        TidyRule::Nothing => 0,
+        TidyRule::EmptyBorder => 1,
+        TidyRule::LoneChild => 2,
+        TidyRule::LoneRootChild => 3,
+        TidyRule::EmptyLayer => 4,
+    }
+}
+
+fn tell_answer(answer: &Answer, told: &mut u64) -> u16
+    ensures { TellsAnswer answer.now result told.new }
+{
+    match answer {
+        Answer::Absent => {
+            *told = 0;
+            ABSENT
+        }
+        Answer::Stored(number) => {
+            *told = *number;
+            DONE
+        }
+        Answer::Removed(number) => {
+            *told = *number;
+            DONE
+        }
+        Answer::Tidied(rule) => {
+            *told = rule_number(*rule);
+            DONE
+        }
+        Answer::Built(view) => {
+            *told = view.0;
+            DONE
+        }
+        Answer::Found(_) => {
+            *told = 0;
+            DONE
+        }
+        Answer::Rows(_) => {
+            *told = 0;
+            DONE
+        }
+    }
+}
+
+/// Tells the end of a call.
+pub(crate) fn tell_end(ended: Result<Reply, Refusal>, told: &mut u64) -> u16
+    ensures { TellsEnd ended result told.new }
+{
+    match ended {
+        Ok(reply) => tell_answer(&reply.answer, told),
+        Err(refusal) => tell_refusal(refusal, told),
+    }
+}
+
+/// Tells what came of an event.
+pub(crate) fn tell_outcome(outcome: Outcome, told: &mut u64) -> u16
+    ensures { TellsOutcome outcome result told.new }
+{
+    match outcome {
+        Outcome::Applied(number) => {
+            *told = number;
+            DONE
+        }
+        Outcome::Current => {
+            *told = 0;
+            CURRENT
+        }
+        Outcome::Epoch(number) => {
+            *told = number;
+            DONE
+        }
+        Outcome::Freed(count) => {
+            *told = u64::from(count);
+            DONE
+        }
+        Outcome::Refused(refusal) => tell_refusal(refusal, told),
+        Outcome::Call(_)
+        | Outcome::Moved
+        | Outcome::Again
+        | Outcome::Commit(_)
+        | Outcome::Done(_)
+        | Outcome::View(_)
+        | Outcome::Dropped => {
+            *told = 0;
+            DONE
+        }
+    }
+}
+
+// Hands bytes out where the buffer has room for them.
+fn hand_out(bytes: &[u8], into: &mut [u8], told: &mut u64) -> u16
+    ensures { HandsOut bytes.now into.old into.new result told.new }
+{
+    *told = bytes.len() as u64;
+    if bytes.len() > into.len() {
+        return NO_ROOM;
+    }
+    let (front, _rest) = into.split_at_mut(bytes.len());
+    front.copy_from_slice(bytes);
+    DONE
+}
+
+/// Tells what a reader was answered.
+pub(crate) fn tell_read(
+    read: Result<Option<Items<u8>>, Refusal>,
+    into: &mut [u8],
+    told: &mut u64,
+) -> u16
+    ensures { TellsRead read into.old into.new result told.new }
+{
+    match read {
+        Ok(Some(bytes)) => hand_out(bytes.as_slice(), into, told),
+        Ok(None) => {
+            *told = 0;
+            ABSENT
+        }
+        Err(refusal) => tell_refusal(refusal, told),
+    }
+}

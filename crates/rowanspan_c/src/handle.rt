@@ -1,0 +1,103 @@
+//! What C holds of an index: a word that points to it, and whether there is one.
+
+ghost use Rattle.std.specs.Prelude.{◌≡◌, true, IfSome, MatchOption};
+ghost use Rattle.std.specs.declared.option.Option.{Option};
+ghost use Rattle.std.specs.declared.option.Option.TheVariants.{None, Some};
+ghost use Rattle.std.specs.Coded.{coded_option};
+ghost use Rattle.rowanspan_c.specs.Kept.{kept, is_held, is_quiet};
+ghost use Rattle.mt_index.specs.Alone.{IsIdle};
+ghost use Rattle.mt_index.specs.Stands.{MachineView};
+ghost use Rattle.mt_index.specs.contracts.machine.Machine.{the_row};
+
+use mt_index::machine::Machine;
+use std::alloc::Global;
+use std::marker::Model;
+
+/// An index that C keeps, or none. No call is open on it.
+#[repr(C)]
+#[derive(Drop)]
+pub struct Handle {
+    at: *mut u8,
+    is_open: bool,
+    alloc: Global,
+    pub ghost held: { Option MachineView } by { coded_option the_row.coded },
+    ghost told: { is_open ≡ is_held held },
+    ghost quiet: { is_quiet held ≡ true },
+}
+
+impl Model for Handle {
+    ghost also_owns = { λ h. kept the_row h.alloc h.at h.held };
+}
+
+impl Handle {
+    // A handle that holds none.
+    fn none(alloc: Global) -> Handle
+        ensures { result.held ≡ None }
+    {
+        Handle {
+            at: std::ptr::null_mut(),
+            is_open: false,
+            alloc,
+        }
+    }
+
+    // A handle that holds what the box held.
+    fn holding(index: Box<Machine>) -> Handle
+        requires { is_quiet (Some index.value) ≡ true }
+        ensures { result.held ≡ Some index.value }
+    {
+        let (at, alloc) = Box::into_raw_with_allocator(index);
+        Handle {
+            at: at as *mut u8,
+            is_open: true,
+            alloc,
+        }
+    }
+
+    // Itself, and whether it holds an index.
+    fn tested(self) -> (Handle, bool)
+        ensures { (result.0 ≡ self) × (result.1 ≡ self.is_open) }
+    {
+        let is_open = self.is_open;
+        (self, is_open)
+    }
+
+    // The box of an open handle.
+    fn into_box(self) -> Box<Machine>
+        requires { self.is_open ≡ true }
+        ensures { self.held ≡ Some result.value }
+    {
+        let Handle {
+            at,
+            is_open: _,
+            alloc,
+        } = self;
+        unsafe { Box::from_raw(alloc, at as *mut Machine) }
+    }
+
+    /// Takes an index over.
+    pub(crate) fn fill(&mut self, index: Box<Machine>)
+        requires empty { self.old.held ≡ None }
+        requires idle { IsIdle index.value }
+        ensures { self.new.held ≡ Some index.value }
+    {
+        let full = Handle::holding(index);
+        let _none = std::mem::replace(self, full);
+    }
+
+    /// The index that it holds, if any; then it holds none.
+    pub(crate) fn take(&mut self, alloc: Global) -> Option<Box<Machine>>
+        ensures had { MatchOption result (self.old.held ≡ None) (λ index. self.old.held ≡ Some index.value) }
+        ensures idle { IfSome result (λ index. IsIdle index.value) }
+        ensures emptied { self.new.held ≡ None }
+    {
+        let none = Handle::none(alloc);
+        let (whole, is_open) = std::mem::replace(self, none).tested();
+        if is_open {
+            Some(whole.into_box())
+        } else {
+            let _none = whole;
+            None
+        }
+    }
+}

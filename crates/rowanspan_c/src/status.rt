@@ -1,0 +1,22 @@
+//! What a call answers: the number of a refusal, or one of these.
+
+/// The call was done.
+pub const DONE: u16 = 0;
+
+/// The handle holds no index.
+pub const CLOSED: u16 = 100;
+
+/// The handle holds an index already.
+pub const HELD: u16 = 101;
+
+/// The key has no row.
+pub const ABSENT: u16 = 102;
+
+/// The buffer has too little room for the answer.
+pub const NO_ROOM: u16 = 103;
+
+/// No view is behind.
+pub const CURRENT: u16 = 104;
+
+/// No test of rows is of this kind.
+pub const NO_SUCH_TEST: u16 = 105;

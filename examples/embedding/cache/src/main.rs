@@ -1,0 +1,79 @@
+//! A cache with prefix invalidation: pages under their paths, and what stands below a path is dropped by one walk over
+//! the rows there. A view counts the bytes of what is cached.
+
+use rowanspan::{Error, Index, Keys, Options, RowTest};
+
+struct Cache {
+    index: Index,
+    sizes: u64,
+}
+
+impl Cache {
+    fn new() -> Result<Cache, Error> {
+        let mut index = Index::open(Options {
+            columns: 2,
+            ..Options::default()
+        })?;
+        let sizes = index.build(Keys::Prefix(b""), RowTest::Any)?;
+        Ok(Cache { index, sizes })
+    }
+
+    fn get(&self, path: &str) -> Result<Option<String>, Error> {
+        let row = self.index.get_columns(path.as_bytes(), &[0])?;
+        Ok(row.map(|row| String::from_utf8_lossy(&row.columns[0]).into_owned()))
+    }
+
+    fn put(&mut self, path: &str, page: &str) -> Result<(), Error> {
+        let size = [page.len() as u8];
+        self.index
+            .put(path.as_bytes(), &[(0, page.as_bytes()), (1, &size)])?;
+        self.index.keep_views()
+    }
+
+    // Drops what stands below a path; gives how many pages that were.
+    fn invalidate(&mut self, path: &str) -> Result<usize, Error> {
+        let mut below = Vec::new();
+        for pair in self.index.range(path.as_bytes()) {
+            let (key, _) = pair?;
+            if !key.starts_with(path.as_bytes()) {
+                break;
+            }
+            below.push(key);
+        }
+        for key in &below {
+            self.index.remove(key)?;
+        }
+        self.index.keep_views()?;
+        Ok(below.len())
+    }
+
+    fn print(&self) -> Result<(), Error> {
+        let page = self.index.view(self.sizes, 0, b"", 1)?;
+        println!("{} pages of {} bytes", page.count, page.sums[1]);
+        Ok(())
+    }
+}
+
+fn main() -> Result<(), Error> {
+    let mut cache = Cache::new()?;
+    for shelf in ["books", "books/old", "maps"] {
+        for number in 1..=3 {
+            cache.put(
+                &format!("/{shelf}/{number}"),
+                &format!("page {number} of {shelf}"),
+            )?;
+        }
+    }
+    println!("{:?}", cache.get("/books/old/2")?);
+    cache.print()?;
+    println!(
+        "{} pages below /books/old/ are gone",
+        cache.invalidate("/books/old/")?
+    );
+    println!(
+        "{:?} {:?}",
+        cache.get("/books/old/2")?,
+        cache.get("/books/2")?
+    );
+    cache.print()
+}
