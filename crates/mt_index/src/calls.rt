@@ -228,6 +228,7 @@ impl Calls {
     }
 
     /// The call of this number ends, and is given back if it was open.
+    #[inline(never)]
     pub(crate) fn remove(&mut self, number: u64) -> Option<Call>
         ensures value { result ≡ call_at number self.old.calls }
         ensures left { self.new ≡ record self.old { calls = without number self.old.calls } }

@@ -30,7 +30,6 @@ use std::alloc::Global;
 use std::marker::Model;
 
 /// An index over the whole tree, which is driven by events.
-#[derive(Drop)]
 pub struct Machine {
     pub(crate) columns: u8,
     pub(crate) epoch: u64,
@@ -70,6 +69,20 @@ impl Model for Machine {
           calls = m.calls;
           views = m.views;
         }) h };
+}
+
+// By hand, so that it is proved here alone, and not again in each crate that drops a machine.
+impl Drop for Machine {
+    fn drop(self) {
+        let Machine {
+            columns: _,
+            epoch: _,
+            tree: _,
+            log: _,
+            calls: _,
+            views: _,
+        } = self;
+    }
 }
 
 impl Machine {

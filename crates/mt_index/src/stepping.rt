@@ -246,6 +246,7 @@ impl Machine {
     }
 
     // A build that has taken all ends, and its view is opened where it stands.
+    #[inline(never)]
     fn end_build(&mut self, number: u64) -> Outcome
         requires { IsBuiltCall (call_at number self.old.calls.calls) }
         ensures ends { EndsBuild self.old number result self.new }

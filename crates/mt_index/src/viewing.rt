@@ -94,7 +94,7 @@ pub(crate) fn close_build(
 }
 
 /// Takes a view on by the delta of the next commit; it then holds the log from there. On an error nothing changes.
-pub(crate) fn take_on(
+pub(crate) fn apply_next(
     log: &mut Log,
     views: &mut Views,
     number: u64,
@@ -115,7 +115,7 @@ pub(crate) fn take_on(
     prove!(at < log.number());
     let next = at + 1;
     log.pin(next)?;
-    match views.take(number, log.delta(next)) {
+    match views.apply(number, log.delta(next)) {
         Ok(()) => {
             log.unpin(at);
             Ok(())
@@ -184,7 +184,7 @@ impl Machine {
         if self.log.number() <= at {
             return Outcome::Current;
         }
-        let Ok(()) = take_on(&mut self.log, &mut self.views, number, at) else {
+        let Ok(()) = apply_next(&mut self.log, &mut self.views, number, at) else {
             return Outcome::Refused(Refusal::NoMemory);
         };
         self.log.trim();

@@ -1,5 +1,5 @@
-//! Tests of the tree, scans, views, builds, the checker and scripts by the public surface of their crates.
-//! There is nothing else here: a crate of its own, so that the crates below are proved once.
+//! Tests of views, builds and scripts by the public surface of their crates. There is nothing else here: a crate of its
+//! own, so that the crates below are proved once.
 #![tactic(auto)]
 
 #[cfg(test)]
@@ -7,12 +7,6 @@ mod builds;
 #[cfg(test)]
 mod commits;
 #[cfg(test)]
-mod receipts;
-#[cfg(test)]
-mod scans;
-#[cfg(test)]
 mod scripts;
-#[cfg(test)]
-mod trees;
 #[cfg(test)]
 mod views;

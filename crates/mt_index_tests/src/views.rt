@@ -1,4 +1,5 @@
-//! States of views by example: rows that come and go, large sums, a prefix, a page from a key, and copies.
+//! States of views by example: one that opens over rows, and one that is copied. What views show of commits is shown by
+//! the cases of `mtdrive`.
 
 use crate::commits::{Step, all_that, delta, row, shows};
 use bytes::Bytes;
@@ -10,41 +11,6 @@ use mt_types::view::{RowTest, ViewSpec};
 use mt_view::state::ViewState;
 use std::alloc::Global;
 use std::test::Fail;
-
-// Of rows whose column is at least 5.
-const COME_AND_GO: [Step; 6] = [
-    (b"a", b"\x04", 0, 0),
-    (b"a", b"\x05", 1, 5),
-    (b"b", b"\x07", 2, 12),
-    (b"a", b"\x04", 1, 7),
-    (b"b", b"", 0, 0),
-    (b"c", b"", 0, 0),
-];
-
-// Of each row: nine bytes count 0.
-const LARGE: [Step; 3] = [
-    (
-        b"a",
-        b"\xff\xff\xff\xff\xff\xff\xff\xff",
-        1,
-        18_446_744_073_709_551_615,
-    ),
-    (
-        b"b",
-        b"\xff\xff\xff\xff\xff\xff\xff\xff",
-        2,
-        36_893_488_147_419_103_230,
-    ),
-    (b"c", b"123456789", 3, 36_893_488_147_419_103_230),
-];
-
-// Of the keys that begin with ab.
-const BEGIN_WITH_AB: [Step; 4] = [
-    (b"a", b"\x01", 0, 0),
-    (b"ab", b"\x02", 1, 2),
-    (b"abc", b"\x03", 2, 5),
-    (b"b", b"\x04", 2, 5),
-];
 
 // Of each row.
 const THREE_KEYS: [Step; 3] = [
@@ -73,28 +39,11 @@ fn walked(alloc: Global, spec: ViewSpec, steps: &[Step]) -> Result<ViewState, Re
     Ok(state)
 }
 
-#[test]
-fn states_follow_commits(rt: HostRuntime) -> Result<(), Fail> {
-    let _ = walked(rt.alloc(), all_that(RowTest::AtLeast(0, 5)), &COME_AND_GO)?;
-    let _ = walked(rt.alloc(), all_that(RowTest::Any), &LARGE)?;
-    let key = Bytes::from_static(b"ab");
-    let test = RowTest::Any;
-    let _ = walked(rt.alloc(), ViewSpec::Prefix { key, test }, &BEGIN_WITH_AB)?;
-    Ok(())
-}
-
 // The number of rows that the state shows from key b on, one at most, and the version of the last.
 fn first_from_b(state: &ViewState) -> Result<(usize, u64), Refusal> {
     let page = state.read(&Key::new(Bytes::from_static(b"b"))?, 1)?;
     let rows = page.rows.as_slice();
     Ok((rows.len(), rows.last().map_or(0, |(_, row)| row.version)))
-}
-
-#[test]
-fn page_from_a_key(rt: HostRuntime) -> Result<(), Fail> {
-    let state = walked(rt.alloc(), all_that(RowTest::Any), &THREE_KEYS)?;
-    assert_eq!(rt; first_from_b(&state)?, (1, 2));
-    Ok(())
 }
 
 // Three rows that were read, of commits 2, 3 and 4.

@@ -17,6 +17,7 @@ use Rattle.mt_tree.proofs.ChildLists.{among_read}
 use Rattle.mt_steps.specs.World.{World, IsWorld, is_locked, IsLocked, IsTaken, Goes}
 use Rattle.mt_steps.proofs.NodeLemmas.{root_place}
 use Rattle.mt_post.specs.declared.posting.Posting.{Posting}
+use Rattle.mt_types.specs.declared.refusal.Refusal.TheVariants.{NoMemory}
 use Rattle.mt_post.specs.declared.posting.LeftOutCause.TheVariants.{Refused}
 use Rattle.mt_post.specs.declared.posting.PostEnd.{PostEnd}
 use Rattle.mt_post.specs.declared.posting.Progressed.{Progressed}
@@ -161,7 +162,8 @@ module _ (a after : ArenaView) (posting then : Posting) (w : World) (now begun :
   stage_unmarked (RootLate root) marks truth own goes = again marks goes
   stage_unmarked (HalfWanted interior) marks truth own (inl (half, goes)) = goes_there after posting then (HalfSpared interior half) goes tt
   stage_unmarked (HalfWanted interior) marks truth own (inr (refusal, refused, goes)) = goes_there after posting then (LetGo interior (Refused refusal)) goes tt
-  stage_unmarked (HalfSpared interior half) marks truth own (split, one, two, is) = subst (λ (t : Posting). WalksUnmarked after t.stage) (sym is) (unmarked_kept a after marks posting.head.0 lone.head)
+  stage_unmarked (HalfSpared interior half) marks truth own (split, one, two, inr goes) = goes_there after posting then (HalfLeftOut split (Refused NoMemory)) goes tt
+  stage_unmarked (HalfSpared interior half) marks truth own (split, one, two, inl is) = subst (λ (t : Posting). WalksUnmarked after t.stage) (sym is) (unmarked_kept a after marks posting.head.0 lone.head)
   stage_unmarked (HalfLeftOut left why) marks truth own goes = goes_there after posting then (LetGo left.interior why) goes tt
   stage_unmarked (LetGo interior why) marks truth own (split, some, is) = subst (λ (s : PostStage). WalksUnmarked after s) (sym is) tt
   stage_unmarked (HalfPosted posted) marks truth own goes = goes_there after posting then (HalfCut posted.half.node) goes tt

@@ -26,6 +26,7 @@ use Rattle.mt_steps.specs.World.{World, IsWorld}
 use Rattle.mt_steps.proofs.NodeLemmas.{head_there, root_place}
 use Rattle.mt_post.specs.declared.posting.Posting.{Posting}
 use Rattle.mt_post.specs.declared.posting.LeftOutCause.{LeftOutCause}
+use Rattle.mt_types.specs.declared.refusal.Refusal.TheVariants.{NoMemory}
 use Rattle.mt_post.specs.declared.posting.LeftOutCause.TheVariants.{HeadDeleted, Highest, Refused}
 use Rattle.mt_post.specs.declared.posting.Progressed.{Progressed}
 use Rattle.mt_post.specs.declared.posting.Progressed.TheVariants.{Moved, Waits, Ended}
@@ -257,7 +258,13 @@ module _ (a after : ArenaView) (posting then : Posting) (w next : World) (now be
       let_go_falls same is =
           let less : posting_measure free (unlocks ∷ left) < posting_measure free (wants_spare ∷ left) = posting_falls free free wants_spare left (lets_go ∷ left) (all_wait posting.waiting) is_refused in
           subst (λ (l : List Frame). posting_measure free_after l < posting_measure free (wants_spare ∷ left)) (sym is) (subst (λ (m : ℕ). posting_measure m (unlocks ∷ left) < posting_measure free (wants_spare ∷ left)) (ap (λ (o : ℕ). MAX_NODES - o) (sym same)) less)
-  stage_falls (HalfSpared interior half) truth from (split, one, two, is) numbers heads =
+  stage_falls (HalfSpared interior half) truth from (split, one, two, inr goes) numbers heads = no_room_falls numbers (goes_there (HalfLeftOut split (Refused NoMemory)) goes)
+    where
+      no_room_falls : OccupiesAsMany a after → frames_of after then ≡ gives_back ∷ left → Falls fills
+      no_room_falls same is =
+          let less : posting_measure free (gives_back ∷ left) < posting_measure free (fills ∷ left) = omega arith in
+          subst (λ (l : List Frame). posting_measure free_after l < posting_measure free (fills ∷ left)) (sym is) (subst (λ (m : ℕ). posting_measure m (gives_back ∷ left) < posting_measure free (fills ∷ left)) (ap (λ (o : ℕ). MAX_NODES - o) (sym same)) less)
+  stage_falls (HalfSpared interior half) truth from (split, one, two, inl is) numbers heads =
       as_many fills _ numbers (ap (λ (t : Posting). frames_of after t) is ∙ ap (λ (k : ℕ). walks k ∷ waits ∷ left) at_head) nests
   stage_falls (HalfLeftOut split why) truth from goes numbers heads = one_more gives_back _ numbers (goes_there (LetGo split.interior why) goes) is_back
   stage_falls (LetGo interior why) truth from out numbers heads = as_many unlocks _ numbers (left_out_there why out) ends_so

@@ -10,7 +10,6 @@ use Rattle.mt_types.specs.declared.numbers.NodeNo.{NodeNo}
 use Rattle.mt_interior.specs.Interior.{InteriorView, IsInterior, StartsAt, with_children, with_lock}
 use Rattle.mt_interior.specs.declared.child.Child.{Child}
 use Rattle.mt_interior.specs.declared.interior.TheConstants.{MAX_CHILDREN, KEPT_CHILDREN}
-use Rattle.mt_post.specs.declared.waiting.TheConstants.{MAX_WAITING}
 use Rattle.mt_arena.specs.Node.{node_at, interior_at, interior_of, Updates, border_of}
 use Rattle.mt_arena.specs.Arena.{ArenaView, with_interior_changed, without_node}
 use Rattle.mt_arena.specs.declared.node.Node.{Node}
@@ -32,18 +31,19 @@ use Rattle.mt_post.specs.declared.posting.Posting.{Posting}
 use Rattle.mt_types.specs.declared.refusal.Refusal.{Refusal}
 use Rattle.mt_post.specs.declared.posting.LeftOutCause.{LeftOutCause}
 use Rattle.mt_post.specs.declared.posting.LeftOutCause.TheVariants.{Refused}
+use Rattle.mt_types.specs.declared.refusal.Refusal.TheVariants.{NoMemory}
 use Rattle.mt_post.specs.declared.posting.PostEnd.TheVariants.{LeftOut}
 use Rattle.mt_post.specs.declared.posting.Progressed.TheVariants.{Moved, Ended}
 use Rattle.mt_post.specs.declared.split.Split.{Split}
 use Rattle.mt_post.specs.declared.posting.PostStage.TheVariants.{Walks, HalfWanted, HalfSpared, HalfLeftOut, LetGo, HalfCut}
 use Rattle.mt_post.specs.Causes.{IsFullAt, RefusesSpare}
-use Rattle.mt_post.specs.Posting.{goal, goal_level, split_owns, AreWaiting, IsToPost, IsHeadOf, IsWalking, IsSpareInterior, IsSplitting, IsHalved, StartsUpper, empty_half, upper_half, IsLetGo, PostingIsTrue, MayPost}
-use Rattle.mt_post.specs.Follows.{FollowsInterior, PostStep}
+use Rattle.mt_post.specs.Posting.{owned, PostsIn, goal, goal_level, split_owns, AreWaiting, IsToPost, IsHeadOf, IsWalking, IsSpareInterior, IsSplitting, IsHalved, StartsUpper, empty_half, upper_half, IsLetGo, PostingIsTrue, MayPost}
+use Rattle.mt_post.specs.Follows.{FollowsInterior, WaitsNext, PostStep}
 use Rattle.mt_steps.specs.World.{IsLockedBorder}
 use Rattle.mt_steps.proofs.BorderLemmas.{unknown_kept, on_kept}
 use Rattle.mt_steps.proofs.NodeLemmas.{goes_at, goes_kept, twins_lone, heads_beside, interior_now, interior_others, interior_no_head, interior_no_border, interior_alive, interior_taken, interior_is_taken, not_both, known_some}
 use Rattle.mt_post.proofs.WalkLemmas.{at_stage, true_at, still_locked, from_head, goes_on, in_layer, is_above}
-use Rattle.mt_post.proofs.KeptLemmas.{all_stay, same_beside, splitting_stays, apart_known, owns_below, owns_beside, goal_has_level, few_wait}
+use Rattle.mt_post.proofs.KeptLemmas.{all_stay, same_beside, splitting_stays, apart_known, owns_below, owns_beside, goal_has_level}
 use Rattle.mt_post.proofs.RootLemmas.{not_retired, gives_number, vacant_free}
 use Rattle.mt_arena.specs.Node.{head_of}
 use Rattle.mt_post.specs.Follows.{OccupiesOne, GivesOneBack, SameHeads, MarksNone}
@@ -203,14 +203,6 @@ module _ (a : ArenaView) (posting : Posting) (interior spare : NodeNo) (is : pos
   pub is_there_still : (may : MayPost a posting) → (i : InteriorView) × (interior_at a.nodes interior.0 ≡ Some i) × (length i.children ≡ MAX_CHILDREN)
   is_there_still may = let (i, above, s, least, starts, sound, spared) = true_at may.begun a may.w posting (HalfSpared interior spare) is may.true in (i, s.named, s.full)
 
-  -- one more split may wait
-  pub room_waits : (may : MayPost a posting) → length posting.waiting < MAX_WAITING
-  room_waits may =
-      let (i, above, s, least, starts, sound, spared) = true_at may.begun a may.w posting (HalfSpared interior spare) is may.true in
-      let few = few_wait a may.w may.true.0 posting.waiting may.true.1.waiting in
-      let below = s.below_top in
-      omega (arith, few, above, below)
-
   module _ (i : InteriorView) (middle : Child) (upper : List Child) (named : interior_at a.nodes interior.0 ≡ Some i) (read : slice_get i.children KEPT_CHILDREN ≡ Some middle) (upper_is : upper ≡ drop KEPT_CHILDREN i.children) where
     -- the record, for what is read
     seen_so : (w : World) (prefix : List ℕ) → ((j : InteriorView) × (goal_level posting.waiting < j.level) × IsSplitting a w prefix interior.0 j × (least : ℕ) × StartsUpper j least × IsInterior (empty_half j least) × IsSpareInterior a w spare.0 (empty_half j least))
@@ -244,11 +236,11 @@ module _ (a : ArenaView) (posting : Posting) (interior spare : NodeNo) (is : pos
     abbrev filled : ArenaView
     filled = with_interior_changed a spare.0 fill
 
-    abbrev then : Posting
-    then = record posting { waiting = split ∷ posting.waiting; stage = Walks posting.head }
-
-    pub fills_half : (after : ArenaView) → after ≡ filled → KeepsTree a after → PostStep a after posting Moved then
-    fills_half after value keeps = at_stage a after posting posting.waiting (HalfSpared interior spare) Moved then refl is (record {
+    -- whatever follows, where it owns the same numbers, and is true where the split is halved
+    fills_so : (after : ArenaView) → after ≡ filled → KeepsTree a after → (then : Posting) → then ≡ record posting { waiting = then.waiting; stage = then.stage } → owned then ≡ spare.0 ∷ interior.0 ∷ split_owns posting.half.0 posting.waiting
+        → ((begun : ℕ) (w : World) (prefix : List ℕ) → IsToPost filled w prefix posting.half.0 posting.low → IsHeadOf w begun posting.head.0 prefix → goal_level posting.waiting < i.level → IsHalved filled w prefix split → AreWaiting filled w prefix posting.waiting
+        → PostsIn prefix begun then filled w) → WaitsNext posting split then → PostStep a after posting Moved then
+    fills_so after value keeps then kept_else owned_is is_true next = at_stage a after posting posting.waiting (HalfSpared interior spare) Moved then refl is (record {
       steps = λ now begun w prefix world before border known all truth.
           let (above, s, sound, spared) = seen_so w prefix truth in
           let m : ℕ = spare.0 in
@@ -258,39 +250,39 @@ module _ (a : ArenaView) (posting : Posting) (interior spare : NodeNo) (is : pos
           let others = interior_others a m (empty_half i middle.low) fill spared.named in
           let same = same_beside a filled w refl m others in
           let stay = all_stay a filled w w prefix half posting.low posting.waiting (λ number k. same number (owns_below a w prefix half posting.low m (empty_half i middle.low) posting.waiting border all spared.named above number k)) border all in
-          subst (λ (x : ArenaView). Goes now a x w owns owns (λ next. PostingIsTrue begun then x next) × SameContent (arena_seen a) (arena_seen x)) (sym value)
+          subst (λ (x : ArenaView). Goes now a x w owns (owned then) (λ next. PostingIsTrue begun then x next) × SameContent (arena_seen a) (arena_seen x)) (sym value)
+          (subst (λ (o : List ℕ). Goes now a filled w owns o (λ next. PostingIsTrue begun then filled next) × SameContent (arena_seen a) (arena_seen filled)) (sym owned_is)
           (goes_at now a filled w w.chart m owns owns (λ next. PostingIsTrue begun then filled next) world kept refl (unknown_kept a now w.chart m spared.unknown world.retired) others (λ other apart. refl)
           (heads_beside a filled w.chart w.chart m (λ number p h. h) (interior_no_head a m (empty_half i middle.low) fill spared.named) (interior_no_border a m (empty_half i middle.low) fill spared.named) others world.heads)
           (alive_there a filled w.chart m (alive_unknown filled w.chart m spared.unknown) others world.alive)
           (λ locked. (let known_half = locked.known in let clash : false ≡ true = subst (λ (x : Option Spot). IsSome x) spared.unknown known_half in cc))
           (λ taken apart. absurd (apart first)) (λ other t out k. out k) (λ other k taken. k) (λ apart taken. absurd (apart first)) (
             prefix,
-            record {
-              border = stay.0;
-              head = known;
-              waiting = (
-                above,
-                record {
-                  interior = i;
-                  splits = splitting_stays a filled w w prefix interior.0 i (same interior.0 (apart_known a w prefix interior.0 m _ s.stands.place spared.unknown)) s;
-                  spare = record { named = interior_now a m (empty_half i middle.low) fill spared.named ∙ ap (λ (l : List Child). Some (with_children (empty_half i middle.low) l)) upper_is; unknown = spared.unknown; alive = refl };
-                  level = refl;
-                  starts = (middle, read, refl);
-                },
-                stay.1,
-              );
-              walks = λ layer low standing at. refl;
-              stage = from_head begun prefix split.half posting.head.0 w known;
-            },
-          ));
-      same = refl;
+            is_true begun w prefix stay.0 known above (record {
+              interior = i;
+              splits = splitting_stays a filled w w prefix interior.0 i (same interior.0 (apart_known a w prefix interior.0 m _ s.stands.place spared.unknown)) s;
+              spare = record { named = interior_now a m (empty_half i middle.low) fill spared.named ∙ ap (λ (l : List Child). Some (with_children (empty_half i middle.low) l)) upper_is; unknown = spared.unknown; alive = refl };
+              level = refl;
+              starts = (middle, read, refl);
+            }) stay.1,
+          )));
+      same = kept_else;
       waits = tt;
       ends = tt;
-      gets_on = (split, refl, refl, refl);
+      gets_on = (split, refl, refl, next);
       numbers = (interior_leaves a after spare.0 fill value (λ i. refl)).numbers;
       heads = (interior_leaves a after spare.0 fill value (λ i. refl)).heads;
       marks = (interior_leaves a after spare.0 fill value (λ i. refl)).marks;
     })
+
+    -- the split waits, and its new half is to be named; or, where no memory is had for that, it is left out
+    pub fills_half : (after : ArenaView) → after ≡ filled → KeepsTree a after → (then : Posting) → WaitsNext posting split then → PostStep a after posting Moved then
+    fills_half after value keeps then (inl goes) = subst (λ (t : Posting). PostStep a after posting Moved t) (sym goes)
+        (fills_so after value keeps (record posting { waiting = split ∷ posting.waiting; stage = Walks posting.head }) refl refl
+        (λ begun w prefix border known above halved all. record { border = border; head = known; waiting = (above, halved, all); walks = λ layer low standing at. refl; stage = from_head begun prefix split.half posting.head.0 w known }) (inl refl))
+    fills_half after value keeps then (inr goes) = subst (λ (t : Posting). PostStep a after posting Moved t) (sym goes)
+        (fills_so after value keeps (record posting { stage = HalfLeftOut split (Refused NoMemory) }) refl refl
+        (λ begun w prefix border known above halved all. record { border = border; head = known; waiting = all; walks = tt; stage = (above, halved) }) (inr refl))
 
 -- ---- the new half is given back
 module _ (a : ArenaView) (posting : Posting) (left : Split) (why : LeftOutCause) (is : posting.stage ≡ HalfLeftOut left why) where

@@ -171,10 +171,6 @@ module _ (a : ArenaView) (w : World) (prefix : List ℕ) where
   goal_below [] truth = omega arith
   goal_below (split ∷ waiting) (less, h, more) = subst (λ (l : ℕ). l + 1 ≤ MAX_LEVEL) (sym h.level) h.splits.below_top
 
-  pub few_wait : (waiting : List Split) → AreWaiting a w prefix waiting → length waiting ≤ goal_level waiting
-  few_wait [] truth = omega arith
-  few_wait (split ∷ waiting) (less, h, more) = let few = few_wait waiting more in omega (arith, few, less)
-
 -- the border is owned
 pub half_among : (half : ℕ) (waiting : List Split) → Among half (split_owns half waiting)
 half_among half [] = first

@@ -3,6 +3,7 @@ use Rattle.std.specs.Prelude.{ℕ, ◌≡◌, ◌⊎◌, ◌<◌, ◌≤◌, ◌
 use Rattle.mt_types.specs.declared.limits.TheConstants.{MAX_LEVEL}
 use Rattle.mt_types.specs.declared.numbers.NodeNo.{NodeNo}
 use Rattle.mt_types.specs.declared.refusal.Refusal.{Refusal}
+use Rattle.mt_types.specs.declared.refusal.Refusal.TheVariants.{NoMemory}
 use Rattle.mt_interior.specs.Interior.{InteriorView, children_up_to}
 use Rattle.mt_interior.specs.Head.{HeadView}
 use Rattle.mt_interior.specs.declared.child.Child.{Child}
@@ -82,10 +83,19 @@ FollowsInterior posting then node interior = LeadsOn posting then interior ⊎ (
     ((length interior.children < MAX_CHILDREN × IsNamed posting then)
     ⊎ ((length interior.children ≡ MAX_CHILDREN) × FollowsFull posting then node interior)))
 
--- the split of this interior waits from now on, as the newest, and its new half is to be named
+-- a split waits from now on, as the newest, and its new half is to be named; or that is left out, for want of memory
+abbrev pub WaitsNext : Posting → Split → Posting → Type 0
+WaitsNext posting split then =
+    (then ≡ record posting { waiting = split ∷ posting.waiting; stage = Walks posting.head })
+    ⊎ GoesTo posting then (HalfLeftOut split (Refused NoMemory))
+
+abbrev pub WaitsFor : Posting → Split → Progressed → Posting → Type 0
+WaitsFor posting split p then = (p ≡ Moved) × WaitsNext posting split then
+
+-- the new half has its children, and the split of this interior waits, or not
 abbrev pub IsFilled : Posting → Posting → NodeNo → NodeNo → Type 0
 IsFilled posting then interior half = (split : Split) × (split.interior ≡ interior) × (split.half.node ≡ half)
-    × (then ≡ record posting { waiting = split ∷ posting.waiting; stage = Walks posting.head })
+    × WaitsNext posting split then
 
 -- for want of a number for a new half the interior is let go
 abbrev pub IsLetGoRefused : ArenaView → Posting → Posting → NodeNo → Type 0

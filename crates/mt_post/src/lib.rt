@@ -8,4 +8,4 @@ mod waiting;
 
 pub use posting::{LeftOutCause, PostEnd, PostStage, Posting, Progressed, Root};
 pub use split::Split;
-pub use waiting::{MAX_WAITING, Waiting};
+pub use waiting::Waiting;

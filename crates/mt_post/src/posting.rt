@@ -5,7 +5,7 @@ ghost use Rattle.mt_arena.specs.Node.{head_at, interior_at};
 ghost use Rattle.mt_arena.specs.Arena.{IsArena};
 ghost use Rattle.mt_post.specs.Posting.{PostLaw, MayPost, NewPostingIsTrue, goal};
 ghost use Rattle.mt_post.specs.Causes.{PostWaits, PostEnds, CanLeaveOut, RefusesSpare, IsFullAt, HasRoomAt, IsRootStill};
-ghost use Rattle.mt_post.specs.Follows.{LeavesOut, PostFollows, NumbersFollow, HeadsFollow, MarksNone, PostStep};
+ghost use Rattle.mt_post.specs.Follows.{LeavesOut, WaitsFor, PostFollows, NumbersFollow, HeadsFollow, MarksNone, PostStep};
 ghost use Rattle.mt_post.specs.Ending.{GetsNearer};
 ghost use Rattle.mt_post.specs.Alone.{LoneStep};
 
@@ -17,6 +17,7 @@ use mt_tree::Tree;
 use mt_types::limits::MAX_LEVEL;
 use mt_types::numbers::NodeNo;
 use mt_types::refusal::Refusal;
+use std::alloc::Global;
 
 /// The root of a layer's tree, and its level.
 #[derive(Clone, Copy)]
@@ -98,8 +99,8 @@ pub struct Posting {
 }
 
 impl Posting {
-    /// The posting of a border, which has this low, in the layer of a head.
-    pub fn new(head: NodeNo, half: NodeNo, low: u64) -> Posting
+    /// The posting of a border, which has this low, in the layer of a head. Takes no memory.
+    pub fn new(alloc: Global, head: NodeNo, half: NodeNo, low: u64) -> Posting
         ensures head { result.head ≡ head }
         ensures half { result.half ≡ half }
         ensures low { result.low ≡ low }
@@ -111,7 +112,7 @@ impl Posting {
             head,
             half,
             low,
-            waiting: Waiting::new(),
+            waiting: Waiting::new(alloc),
             stage: PostStage::Walks(head),
         }
     }
@@ -351,6 +352,17 @@ impl Posting {
         }
     }
 
+    // The split waits from now on, and its new half is to be named; or is left out, where no memory is had for that.
+    fn wait_for(&mut self, split: Split) -> Progressed
+        ensures { WaitsFor self.old split result self.new }
+    {
+        self.stage = match self.waiting.push(split) {
+            Ok(()) => PostStage::Walks(self.head),
+            Err(_) => PostStage::HalfLeftOut(split, LeftOutCause::Refused(Refusal::NoMemory)),
+        };
+        Progressed::Moved
+    }
+
     // The new half gets the upper children, and is to be posted one level above.
     fn fill_half(&mut self, tree: &mut Tree, interior: NodeNo, half: NodeNo) -> Progressed
         requires spared { self.old.stage ≡ PostStage.HalfSpared interior half }
@@ -371,16 +383,14 @@ impl Posting {
         ];
         let level = split.level();
         tree.fill_interior(half, &upper);
-        self.waiting.push(Split {
+        self.wait_for(Split {
             interior,
             half: Child {
                 low: middle.low,
                 node: half,
                 level,
             },
-        });
-        self.stage = PostStage::Walks(self.head);
-        Progressed::Moved
+        })
     }
 
     // The new half isn't posted: its number is given back.

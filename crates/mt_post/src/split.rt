@@ -10,13 +10,3 @@ pub struct Split {
     /// Its new half, as the child of an interior above.
     pub half: Child,
 }
-
-impl Default for Split {
-    /// What an unused place of a list of splits holds.
-    fn default() -> Split {
-        Split {
-            interior: NodeNo(0),
-            half: Child::default(),
-        }
-    }
-}

@@ -1,18 +1,16 @@
 //! The splits of full interiors that wait for their new halves to be posted: the newest is posted first.
 
-ghost use Rattle.std.specs.Prelude.{◌≡◌, ◌<◌, [], ◌∷◌, length, slice_get, IfSome, IfNone};
+ghost use Rattle.std.specs.Prelude.{◌≡◌, [], ◌∷◌, slice_get, IfSome, IfNone, OnOk, OnErr};
 
 use crate::split::Split;
-use arrayvec::ArrayVec;
+use mt_types::refusal::NoMemory;
+use std::alloc::Global;
 use std::marker::Model;
 
-/// The most splits that wait. Each is of a greater level than those before it, and the levels are fifteen.
-pub const MAX_WAITING: usize = 15;
-
-/// The splits that wait, seen as the list of them, the newest first. They lie in the value itself.
+/// The splits that wait, seen as the list of them, the newest first. Takes memory only once one waits.
 #[derive(Drop)]
 pub struct Waiting {
-    splits: ArrayVec<Split, MAX_WAITING>,
+    splits: Vec<Split>,
 }
 
 impl Model for Waiting {
@@ -25,12 +23,12 @@ impl Model for Waiting {
 }
 
 impl Waiting {
-    /// None waits.
-    pub fn new() -> Waiting
+    /// None waits. Takes no memory.
+    pub fn new(alloc: Global) -> Waiting
         ensures { result ≡ [] }
     {
         Waiting {
-            splits: ArrayVec::new(),
+            splits: Vec::new(alloc),
         }
     }
 
@@ -41,12 +39,17 @@ impl Waiting {
         self.splits.as_slice().last().copied()
     }
 
-    /// One more waits. Constant cost.
-    pub fn push(&mut self, split: Split)
-        requires { length self.old < MAX_WAITING }
-        ensures { self.new ≡ split ∷ self.old }
+    /// One more waits. Constant cost, but where its memory grows.
+    ///
+    /// # Errors
+    ///
+    /// `NoMemory` where an allocation is refused: then nothing changes.
+    pub fn push(&mut self, split: Split) -> Result<(), NoMemory>
+        ensures ok { OnOk result (self.new ≡ split ∷ self.old) }
+        ensures err { OnErr result (self.new ≡ self.old) }
     {
-        self.splits.push(split);
+        self.splits.push(split)?;
+        Ok(())
     }
 
     /// The newest, if one waits, which waits no more. Constant cost.

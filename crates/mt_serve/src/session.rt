@@ -18,7 +18,7 @@ use crate::frames::Frames;
 use mt_shared::driving::Shared;
 use mt_shared::pass::Pass;
 use mt_streams::sink::Sink;
-use mt_wire::encode::{encode_replies, replies_fit};
+use mt_wire::encode::{encode_replies_into, replies_fit};
 use mt_wire::query::Query;
 use mt_wire::response::Response;
 use std::alloc::{AllocError, Global};
@@ -53,27 +53,28 @@ fn answer_all<S: Shared>(
     Ok(responses)
 }
 
-// The frame of these answers. The limits of the index keep every frame of answers short enough to be spelled; one that
-// couldn't be is told as want of memory.
-fn frame_of(alloc: Global, responses: &[Response]) -> Result<Vec<u8>, SessionFault>
-    ensures frame { IfOk result (λ frame. frame.items ≡ reply_frame responses.now) }
+// Writes the frame of these answers over what `frame` has. The limits of the index keep every frame of answers short
+// enough to be spelled; one that couldn't be is told as want of memory.
+fn encode(frame: &mut Vec<u8>, responses: &[Response]) -> Result<(), SessionFault>
+    ensures frame { OnOk result (frame.new.items ≡ reply_frame responses.now) }
     ensures only { IfErr result (λ fault. fault ≡ NoMemory) }
 {
     if !replies_fit(responses) {
         return Err(SessionFault::NoMemory);
     }
-    match encode_replies(alloc, responses) {
-        Ok(frame) => Ok(frame),
+    match encode_replies_into(frame, responses) {
+        Ok(()) => Ok(()),
         Err(_) => Err(SessionFault::NoMemory),
     }
 }
 
-// Answers one frame of queries, and writes the frame of answers.
+// Answers one frame of queries, and writes the frame of answers, which is made in `frame`.
 fn answer_frame<W: Write, S: Shared>(
     alloc: Global,
     writer: &mut Sink<W>,
     shared: &mut S,
     pass: &mut Pass,
+    frame: &mut Vec<u8>,
     queries: Vec<Query>,
 ) -> Result<(), SessionFault>
     ensures answered { OnOk result ((responses : List Response)
@@ -86,11 +87,10 @@ fn answer_frame<W: Write, S: Shared>(
     let Ok(responses) = answer_all(alloc, shared, pass, queries) else {
         return Err(SessionFault::NoMemory);
     };
-    let frame = match frame_of(alloc, &responses) {
-        Ok(frame) => frame,
-        Err(fault) => return Err(fault),
-    };
-    match writer.send(&frame) {
+    if let Err(fault) = encode(frame, &responses) {
+        return Err(fault);
+    }
+    match writer.send(frame) {
         Ok(()) => Ok(()),
         Err(_) => Err(SessionFault::Write),
     }
@@ -101,7 +101,7 @@ fn answer_frame<W: Write, S: Shared>(
 /// are written in one piece.
 ///
 /// Costs the calls and events of the queries, and O(n) in the bytes of the frames. A frame takes the memory of its
-/// bytes, its queries and its answers.
+/// bytes, its queries and its answers; the memory of a frame of answers is used again for the next.
 ///
 /// # Errors
 ///
@@ -128,9 +128,10 @@ pub fn session<R: Read, W: Write, S: Shared>(
         frames: 0,
         queries: 0,
     };
+    let mut frame = Vec::new(alloc);
     while let Some(queries) = reader.next()? {
         let count = queries.len() as u64;
-        answer_frame(alloc, writer, shared, pass, queries)?;
+        answer_frame(alloc, writer, shared, pass, &mut frame, queries)?;
         summary.frames += 1;
         summary.queries += count;
     }

@@ -23,7 +23,6 @@ use std::marker::Model;
 use std::sync::{Mutex, Wait};
 
 /// An index that many threads share. Contracts see it as the number of its columns.
-#[derive(Drop)]
 pub struct Index {
     columns: u64,
     pub(crate) kept: Mutex<Kept>,
@@ -35,6 +34,16 @@ impl Model for Index {
     ghost Value = { ℕ };
 
     ghost view = { λ i. i.columns };
+}
+
+// By hand, so that it is proved here alone, and not again in each crate above.
+impl Drop for Index {
+    fn drop(self) {
+        let Index {
+            columns: _,
+            kept: _,
+        } = self;
+    }
 }
 
 /// The way of one thread to an index. Each event waits for the lock; between two events none is held.
@@ -102,6 +111,37 @@ impl Index {
         Ok((index, passes))
     }
 
+    /// The end of an index: how many events were made on it, and how many of them were commits. O(n) in the passes.
+    ///
+    /// # Errors
+    ///
+    /// `WrongPass` where a pass is missing or comes twice, or its counts aren't its book's. The index and the passes are
+    /// dropped.
+    pub fn close(self, passes: Vec<Pass>) -> Result<Totals, Refusal>
+        ensures events { IfOk result (λ totals. totals.events ≡ events_by passes.items) }
+        ensures commits { IfOk result (λ totals. totals.commits ≡ commits_by passes.items) }
+        ensures history { IfOk result (λ totals. HaveHappened self totals.events totals.commits) }
+        ensures refused { IfErr result (λ refusal. refusal ≡ Refusal.WrongPass) }
+    {
+        self.into_kept()?.settle(&passes)
+    }
+
+    /// The end of an index from `record`: the trace of all events that were made on it, in the order in which the
+    /// lock was held. O(n) in the events, times the passes; a comparison of each event.
+    ///
+    /// # Errors
+    ///
+    /// `WrongPass` as in `close`, and where no trace was kept or a pass's own trace isn't its part of it; `NoMemory` where
+    /// memory for a copy was refused. The index and the passes are dropped.
+    pub fn close_record(self, passes: Vec<Pass>) -> Result<Vec<Entry>, Refusal>
+        ensures legal { IfOk result (λ trace. IsLegalTrace self trace.items) }
+        ensures parts { IfOk result (λ trace. All (HasItsPart trace.items) passes.items) }
+        ensures count { IfOk result (λ trace. length trace.items ≡ events_by passes.items) }
+        ensures refused { IfErr result (λ refusal. (refusal ≡ Refusal.WrongPass) ⊎ (refusal ≡ Refusal.NoMemory)) }
+    {
+        self.into_kept()?.settle_trace(&passes)
+    }
+
     // What lies under the lock, if it is of this index's columns, as it is.
     fn into_kept(self) -> Result<Kept, Refusal>
         ensures kept { IfOk result (λ kept. IsKept kept × (kept.machine.columns ≡ self)) }
@@ -133,37 +173,6 @@ fn new_passes(alloc: Global, count: u16, traced: bool) -> Result<Vec<Pass>, Refu
         passes.push(Pass::new(alloc, number + 1, traced))?;
     }
     Ok(passes)
-}
-
-/// The end of an index: how many events were made on it, and how many of them were commits. O(n) in the passes.
-///
-/// # Errors
-///
-/// `WrongPass` where a pass is missing or comes twice, or its counts aren't its book's. The index and the passes are
-/// dropped.
-pub fn close(index: Index, passes: Vec<Pass>) -> Result<Totals, Refusal>
-    ensures events { IfOk result (λ totals. totals.events ≡ events_by passes.items) }
-    ensures commits { IfOk result (λ totals. totals.commits ≡ commits_by passes.items) }
-    ensures history { IfOk result (λ totals. HaveHappened index totals.events totals.commits) }
-    ensures refused { IfErr result (λ refusal. refusal ≡ Refusal.WrongPass) }
-{
-    index.into_kept()?.settle(&passes)
-}
-
-/// The end of an index from `Index::record`: the trace of all events that were made on it, in the order in which the
-/// lock was held. O(n) in the events, times the passes; a comparison of each event.
-///
-/// # Errors
-///
-/// `WrongPass` as in `close`, and where no trace was kept or a pass's own trace isn't its part of it; `NoMemory` where
-/// memory for a copy was refused. The index and the passes are dropped.
-pub fn close_record(index: Index, passes: Vec<Pass>) -> Result<Vec<Entry>, Refusal>
-    ensures legal { IfOk result (λ trace. IsLegalTrace index trace.items) }
-    ensures parts { IfOk result (λ trace. All (HasItsPart trace.items) passes.items) }
-    ensures count { IfOk result (λ trace. length trace.items ≡ events_by passes.items) }
-    ensures refused { IfErr result (λ refusal. (refusal ≡ Refusal.WrongPass) ⊎ (refusal ≡ Refusal.NoMemory)) }
-{
-    index.into_kept()?.settle_trace(&passes)
 }
 
 impl<'a, W> Door<'a, W> {

@@ -20,7 +20,6 @@ use std::alloc::Global;
 use std::marker::Model;
 
 /// The machine of one caller. Its calls never wait for another thread.
-#[derive(Drop)]
 pub struct Lone {
     kept: Kept,
 }
@@ -36,6 +35,13 @@ impl Model for Lone {
     ghost coded = { Prim.hlevel (codes, place_code, state_code) };
 
     ghost view = { λ l. l.kept };
+}
+
+// By hand, so that it is proved here alone, and not again in each crate above.
+impl Drop for Lone {
+    fn drop(self) {
+        let Lone { kept: _ } = self;
+    }
 }
 
 impl Lone {

@@ -4,7 +4,7 @@ use crate::audit::{OPTIONS, first_fault, log_of, receipts_of};
 use bytes::Bytes;
 use mt_shared::calls::{get, getrange, put, remove, tidy, view_add};
 use mt_shared::driving::Shared;
-use mt_shared::index::{Door, Index, close_record};
+use mt_shared::index::{Door, Index};
 use mt_shared::pass::Pass;
 use mt_shared::through::ThroughDoor;
 use mt_shared::views::{keep_views, view_read};
@@ -160,7 +160,7 @@ fn four_threads(rt: HostRuntime) -> Result<(), Fail> {
     passes.push(pass)?;
     let log = log_of(alloc, &door)?;
     assert_eq!(rt; page.at, log.len() as u64);
-    let trace = close_record(index, passes)?;
+    let trace = index.close_record(passes)?;
     let receipts = receipts_of(alloc, &trace)?;
     assert!(rt; receipts.len() as u64 > 16 * ROUNDS);
     assert_eq!(rt; first_fault(alloc, &log, &receipts), (0, 0));

@@ -4,7 +4,7 @@ use bytes::Bytes;
 use mt_index::options::Options;
 use mt_shared::calls::{get, put, view_add};
 use mt_shared::driving::Shared;
-use mt_shared::index::{Door, Index, close};
+use mt_shared::index::{Door, Index};
 use mt_shared::lone::Lone;
 use mt_shared::pass::Pass;
 use mt_shared::views::{keep_views, view_read};
@@ -64,7 +64,7 @@ fn passes(rt: HostRuntime) -> Result<(), Fail> {
     let got = get_key(alloc, &mut door, &mut passes[1])?;
     assert!(rt; matches!(&got.answer, Answer::Found(row) if row.version == 1));
     assert_eq!(rt; passes[1].seen(), 1);
-    let totals = close(index, passes)?;
+    let totals = index.close(passes)?;
     assert_eq!(rt; (totals.events, totals.commits), (9, 1));
     Ok(())
 }
@@ -88,7 +88,7 @@ fn other_passes(rt: HostRuntime) -> Result<(), Fail> {
     assert!(rt; matches!(stepped, Outcome::Refused(Refusal::WrongPass)));
     assert_eq!(rt; (passes[0].events(), passes[1].events()), (0, 1));
     let _ = passes.pop();
-    assert!(rt; matches!(close(index, passes), Err(Refusal::WrongPass)));
+    assert!(rt; matches!(index.close(passes), Err(Refusal::WrongPass)));
     Ok(())
 }
 

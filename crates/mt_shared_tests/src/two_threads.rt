@@ -4,7 +4,7 @@ use crate::audit::{OPTIONS, call_receipt, first_fault, log_of, receipts_of};
 use bytes::Bytes;
 use mt_check::receipt::Receipt;
 use mt_shared::driving::{Gate, NoGate, drive};
-use mt_shared::index::{Door, Index, close, close_record};
+use mt_shared::index::{Door, Index};
 use mt_shared::pass::Pass;
 use mt_types::copying::TryCopy;
 use mt_types::event::{Answer, Outcome, Request};
@@ -12,11 +12,13 @@ use mt_types::items::Items;
 use mt_types::refusal::Refusal;
 use mt_types::row::Row;
 use std::alloc::Global;
+use std::rt::Clock;
 use std::sync::Wait;
 use std::sync::atomic::{AtomicBool, Ordering};
 use std::test::Fail;
 use std::thread;
 use std::thread::{Threads, join};
+use std::time::Duration;
 
 const KEY: &[u8] = b"a";
 
@@ -35,24 +37,30 @@ fn put_request(alloc: Global) -> Result<Request, Refusal> {
     })
 }
 
+// How often a get looks at a flag in mid-course, and the milliseconds that it pauses between two looks.
+const LOOKS: u32 = 1000;
+
+const PAUSE: u64 = 5;
+
 // After its call's first step looks at a flag, until it is set or it has looked often enough.
 #[derive(Drop)]
-struct Looks<'a> {
+struct Looks<'a, C> {
+    clock: &'a C,
     flag: &'a AtomicBool,
     seen: bool,
 }
 
-impl<'a> Gate for Looks<'a> {
+impl<'a, C: Clock> Gate for Looks<'a, C> {
     fn between(&mut self, outcome: &Outcome) {
         if self.seen || !matches!(outcome, Outcome::Moved) {
             return;
         }
-        for _ in 0..1_000_000 {
+        for _ in 0..LOOKS {
             if self.flag.load(Ordering::SeqCst) {
                 self.seen = true;
                 return;
             }
-            thread::yield_now();
+            thread::sleep(self.clock, Duration::from_millis(PAUSE));
         }
     }
 }
@@ -78,14 +86,18 @@ fn call<R: Wait, G: Gate>(
     call_receipt(alloc, &asked, &reply)
 }
 
-fn get_slowly<R: Wait>(
+fn get_slowly<R: Wait + Clock>(
     rt: &R,
     alloc: Global,
     index: &Index,
     flag: &AtomicBool,
     mut pass: Pass,
 ) -> Called {
-    let mut gate = Looks { flag, seen: false };
+    let mut gate = Looks {
+        clock: rt,
+        flag,
+        seen: false,
+    };
     let request = get_request(alloc);
     let receipt = call(rt, alloc, index, &mut pass, &mut gate, request);
     Called {
@@ -122,7 +134,7 @@ struct Done {
 }
 
 // Pass 1 gets, and waits in mid-course till pass 2 has put; then pass 2 gets.
-fn run<R: Wait + Threads + Sync>(
+fn run<R: Wait + Threads + Clock + Sync>(
     rt: &R,
     alloc: Global,
     index: &Index,
@@ -160,6 +172,18 @@ fn run<R: Wait + Threads + Sync>(
     Ok(Done { passes, receipts })
 }
 
+// The number of commits at which a get that found a row began, and the row's version.
+fn found(receipt: &Receipt) -> Option<(u64, u64)> {
+    match receipt {
+        Receipt::Call {
+            answer: Answer::Found(row),
+            from,
+            ..
+        } => Some((*from, row.version)),
+        _ => None,
+    }
+}
+
 // How many events and how many commits the passes have made.
 fn sums(passes: &[Pass]) -> (u64, u64) {
     let mut sums = (0_u64, 0_u64);
@@ -194,11 +218,12 @@ fn two_threads(rt: HostRuntime) -> Result<(), Fail> {
     } = run(&rt, alloc, &index, passes)?;
     let log = log_of(alloc, &Door::new(&index, &rt))?;
     assert_eq!(rt; first_fault(alloc, &log, &receipts), (0, 0));
-    let _ = receipts.pop();
+    let last = receipts.pop().ok_or("last")?;
+    assert_eq!(rt; found(&last), Some((1, 1)));
     receipts.push(changed(alloc)?)?;
     assert_eq!(rt; first_fault(alloc, &log, &receipts), (3, 4));
     let sums = sums(&passes);
-    let totals = close(index, passes)?;
+    let totals = index.close(passes)?;
     assert_eq!(rt; (totals.events, totals.commits), sums);
     assert_eq!(rt; totals.commits, 1);
     Ok(())
@@ -211,7 +236,7 @@ fn two_threads_recorded(rt: HostRuntime) -> Result<(), Fail> {
     let Done { passes, receipts } = run(&rt, alloc, &index, passes)?;
     let log = log_of(alloc, &Door::new(&index, &rt))?;
     let events = sums(&passes).0;
-    let trace = close_record(index, passes)?;
+    let trace = index.close_record(passes)?;
     assert_eq!(rt; trace.len() as u64, events);
     let told = receipts_of(alloc, &trace)?;
     assert!(rt; told == receipts);

@@ -1,4 +1,4 @@
-//! Interior nodes by example: a search that is led, a full node split, a child dropped and one bypassed.
+//! Interior nodes by example: the upper half of a full one is copied, and it keeps the lower one.
 
 ghost use Rattle.std.specs.Prelude.{◌≡◌};
 
@@ -42,20 +42,6 @@ fn led_to(interior: &Interior, slice: u64) -> Option<u32> {
 }
 
 #[test]
-fn leads_to_the_last_low(rt: HostRuntime) -> Result<(), Fail> {
-    let mut root = root();
-    post(&mut root, 5, 3);
-    post(&mut root, 20, 4);
-    assert_eq!(rt; root.len(), 4);
-    assert_eq!(rt; led_to(&root, 0), Some(1));
-    assert_eq!(rt; led_to(&root, 5), Some(3));
-    assert_eq!(rt; led_to(&root, 9), Some(3));
-    assert_eq!(rt; led_to(&root, 19), Some(2));
-    assert_eq!(rt; led_to(&root, u64::MAX), Some(4));
-    Ok(())
-}
-
-#[test]
 fn upper_half_is_copied(rt: HostRuntime) -> Result<(), Fail> {
     let mut root = root();
     for k in 0..14u32 {
@@ -68,20 +54,5 @@ fn upper_half_is_copied(rt: HostRuntime) -> Result<(), Fail> {
     root.keep_first(KEPT_CHILDREN);
     assert_eq!(rt; root.len(), 8);
     assert_eq!(rt; led_to(&root, 100), Some(8));
-    Ok(())
-}
-
-#[test]
-fn child_dropped_and_bypassed(rt: HostRuntime) -> Result<(), Fail> {
-    let mut root = root();
-    let place = root.place_of(NodeNo(2)).ok_or("no child")?;
-    assert_eq!(rt; place, 1);
-    assert!(rt; place < root.len());
-    root.bypass(place, NodeNo(7), 0);
-    assert_eq!(rt; root.place_of(NodeNo(2)), None);
-    assert_eq!(rt; led_to(&root, 10), Some(7));
-    assert!(rt; place < root.len());
-    root.drop_child(place);
-    assert_eq!(rt; led_to(&root, 10), Some(1));
     Ok(())
 }

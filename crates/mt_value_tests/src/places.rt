@@ -3,7 +3,7 @@
 ghost use Rattle.std.specs.Prelude.{◌≡◌, IfOk};
 
 use bytes::Bytes;
-use mt_slice::{Class, Length, SLICE_BYTES, compare, rest_after, slice_at};
+use mt_slice::{SLICE_BYTES, compare, rest_after, slice_at};
 use mt_types::key::Key;
 use mt_types::refusal::Refusal;
 use std::cmp::Ordering;
@@ -62,13 +62,4 @@ fn keys_are_ordered(rt: HostRuntime) -> Result<(), Fail> {
         assert!(rt; compare(&key(*a)?, &key(*b)?) == *order);
     }
     Ok(())
-}
-
-#[test]
-fn classes(rt: HostRuntime) {
-    let eight = Class::of_length(8);
-    assert!(rt; Class::of_length(7) < eight);
-    assert!(rt; eight < Class::Long);
-    assert_eq!(rt; Class::of_length(9).number(), 9);
-    assert_eq!(rt; Length::new(5).get(), 5);
 }

@@ -161,7 +161,7 @@ impl Views {
     /// # Errors
     ///
     /// `NoMemory` where an allocation is refused.
-    pub fn take(&mut self, number: u64, delta: &Delta) -> Result<(), NoMemory>
+    pub fn apply(&mut self, number: u64, delta: &Delta) -> Result<(), NoMemory>
         requires { IsSome (state_at number self.old.views) }
         ensures ok { OnOk result ((state : StateView) → state_at number self.old.views ≡ Some state
             → self.new ≡ record self.old { views = with_state number (applied delta.now state) self.old.views }) }

@@ -1,6 +1,7 @@
 //! Frames, written.
 
-ghost use Rattle.std.specs.Prelude.{◌≡◌, ◌<◌, ◌≤◌, ◌↔◌, ◌^◌, length, IsTrue, IfOk, OnOk, IsErrOf};
+ghost use Rattle.std.specs.Prelude.{◌≡◌, ◌<◌, ◌≤◌, ◌↔◌, ◌^◌, ◌++◌, ◌∷◌, length, drop, IsTrue, IfOk, OnOk, IsErrOf};
+ghost use Rattle.std.specs.Int.{w32, to_be_bytes};
 ghost use Rattle.mt_wire.specs.Spelling.{query_spelling, response_spelling, body_of, frame_of};
 ghost use Rattle.mt_wire.specs.Frames.{Holds, RequestsLengths, RepliesLengths, request_frame, reply_frame};
 
@@ -18,30 +19,43 @@ fn hold<T: Writable>(messages: &[T]) -> bool
     !messages.is_empty() && messages.len() <= MAX_QUERIES && all_fit(messages)
 }
 
-fn body<T: Writable>(alloc: Global, messages: &[T]) -> Result<Vec<u8>, AllocError>
-    requires { Holds T.lengths messages.now }
-    ensures { IfOk result (λ body. body.items ≡ body_of T.spelling messages.now) }
+// Writes a length over the first four bytes.
+fn put_length(out: &mut Vec<u8>, len: u32)
+    requires { 4 ≤ length out.old.items }
+    ensures { out.new.items ≡ to_be_bytes w32 len ++ drop 4 out.old.items }
 {
-    let mut body = Vec::new(alloc);
-    body.push(VERSION)?;
-    counted(&mut body, messages)?;
-    Ok(body)
+    let [first, second, third, fourth] = len.to_be_bytes();
+    out[0] = first;
+    out[1] = second;
+    out[2] = third;
+    out[3] = fourth;
 }
 
-fn frame<T: Writable>(alloc: Global, messages: &[T], most: u32) -> Result<Vec<u8>, EncodeError>
+// A body behind four bytes, over what was there.
+fn body<T: Writable>(out: &mut Vec<u8>, messages: &[T]) -> Result<(), AllocError>
     requires { Holds T.lengths messages.now }
-    ensures value { IfOk result (λ frame. frame.items ≡ frame_of T.spelling messages.now) }
+    ensures { OnOk result (out.new.items ≡ 0 ∷ 0 ∷ 0 ∷ 0 ∷ body_of T.spelling messages.now) }
+{
+    out.clear();
+    out.extend_from_slice(&[0, 0, 0, 0])?;
+    out.push(VERSION)?;
+    counted(out, messages)
+}
+
+// A frame, over what was there: its length is known when its body is written.
+fn frame<T: Writable>(out: &mut Vec<u8>, messages: &[T], most: u32) -> Result<(), EncodeError>
+    requires { Holds T.lengths messages.now }
+    ensures value { OnOk result (out.new.items ≡ frame_of T.spelling messages.now) }
     ensures fits { OnOk result (length (body_of T.spelling messages.now) ≤ most) }
     ensures long { IsErrOf result EncodeError.TooLong → most < length (body_of T.spelling messages.now) }
 {
-    let body = body(alloc, messages)?;
-    if body.len() > most as usize {
+    body(out, messages)?;
+    let len = out.len() - 4;
+    if len > most as usize {
         return Err(EncodeError::TooLong);
     }
-    let mut frame = Vec::new(alloc);
-    frame.extend_from_slice(&(body.len() as u32).to_be_bytes())?;
-    frame.extend_from_slice(&body)?;
-    Ok(frame)
+    put_length(out, len as u32);
+    Ok(())
 }
 
 /// Whether a frame may hold these queries: there are 1 to `MAX_QUERIES`, and each length fits its field.
@@ -70,7 +84,24 @@ pub fn encode_requests(alloc: Global, queries: &[Query]) -> Result<Vec<u8>, Enco
     ensures long { IsErrOf result EncodeError.TooLong
         → MAX_REQUEST_BODY < length (body_of query_spelling queries.now) }
 {
-    frame(alloc, queries, MAX_REQUEST_BODY)
+    let mut out = Vec::new(alloc);
+    frame(&mut out, queries, MAX_REQUEST_BODY)?;
+    Ok(out)
+}
+
+/// Writes the frame of these answers over what `out` has, whose memory is used again. O(n) in its bytes.
+///
+/// # Errors
+///
+/// `TooLong` exactly where its body would have more than `MAX_REPLY_BODY` bytes. What `out` has then is no frame.
+pub fn encode_replies_into(out: &mut Vec<u8>, responses: &[Response]) -> Result<(), EncodeError>
+    requires { RepliesLengths responses.now }
+    ensures value { OnOk result (out.new.items ≡ reply_frame responses.now) }
+    ensures fits { OnOk result (length (body_of response_spelling responses.now) ≤ MAX_REPLY_BODY) }
+    ensures long { IsErrOf result EncodeError.TooLong
+        → MAX_REPLY_BODY < length (body_of response_spelling responses.now) }
+{
+    frame(out, responses, MAX_REPLY_BODY)
 }
 
 /// The frame of these answers. O(n) in its bytes.
@@ -85,5 +116,7 @@ pub fn encode_replies(alloc: Global, responses: &[Response]) -> Result<Vec<u8>, 
     ensures long { IsErrOf result EncodeError.TooLong
         → MAX_REPLY_BODY < length (body_of response_spelling responses.now) }
 {
-    frame(alloc, responses, MAX_REPLY_BODY)
+    let mut out = Vec::new(alloc);
+    encode_replies_into(&mut out, responses)?;
+    Ok(out)
 }

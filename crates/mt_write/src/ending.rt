@@ -11,6 +11,7 @@ use mt_steps::progress::Progress;
 use mt_tree::Tree;
 use mt_types::event::Answer;
 use mt_types::refusal::Refusal;
+use std::alloc::Global;
 
 // What a write answers that has made its commit.
 fn written(edit: &Edit, commit: u64) -> Answer
@@ -34,19 +35,27 @@ fn ended(ending: Ending) -> Stage
 
 impl Write {
     // Unlocks the left half of the border that it has split, and is to post the other.
-    fn unlock_left(&mut self, tree: &mut Tree, split: Halves, ending: Ending) -> Progress
+    #[inline(never)]
+    fn unlock_left(
+        &mut self,
+        alloc: Global,
+        tree: &mut Tree,
+        split: Halves,
+        ending: Ending,
+    ) -> Progress
         requires { MayBeAt tree.old self.old (ending_stage ending (Some split)) }
         ensures { TreeStep tree.old tree.new self.old (ending_stage ending (Some split)) result self.new }
     {
         let low = tree.border(split.half).low();
         tree.unlock_border(split.left);
         self.way.node = split.half;
-        let begun = Posting::new(self.head, split.half, low);
+        let begun = Posting::new(alloc, self.head, split.half, low);
         self.turn_to(Stage::Posts(begun, ending));
         Progress::Moved
     }
 
     // A step of the posting of the right half. When that has ended, its border alone is left to unlock.
+    #[inline(never)]
     pub(crate) fn post(&mut self, tree: &mut Tree, posting: Posting, ending: Ending) -> Progress
         requires { MayBeAt tree.old self.old (Stage.Posts posting ending) }
         ensures { TreeStep tree.old tree.new self.old (Stage.Posts posting ending) result self.new }
@@ -71,6 +80,7 @@ impl Write {
     // Unlocks its border, and answers with its commit; or goes on to post the right half, where its border was split.
     pub(crate) fn end_stored(
         &mut self,
+        alloc: Global,
         tree: &mut Tree,
         commit: u64,
         split: Option<Halves>,
@@ -83,12 +93,14 @@ impl Write {
             tree.unlock_border(self.way.node);
             return Progress::Answered(written(&self.edit, commit));
         };
-        self.unlock_left(tree, split, Ending::Stored(commit))
+        self.unlock_left(alloc, tree, split, Ending::Stored(commit))
     }
 
     // Unlocks its border, and is refused; a border that it has split stays split, so its right half is posted first.
+    #[inline(never)]
     pub(crate) fn end_failed(
         &mut self,
+        alloc: Global,
         tree: &mut Tree,
         refusal: Refusal,
         split: Option<Halves>,
@@ -100,6 +112,6 @@ impl Write {
             tree.unlock_border(self.way.node);
             return Progress::Refused(refusal);
         };
-        self.unlock_left(tree, split, Ending::Failed(refusal))
+        self.unlock_left(alloc, tree, split, Ending::Failed(refusal))
     }
 }

@@ -84,6 +84,7 @@ pub fn spare_layer(
 
 impl Write {
     // The root of the new layer takes the other key's entry.
+    #[inline(never)]
     pub(crate) fn fill_root(
         &mut self,
         tree: &mut Tree,
@@ -99,6 +100,7 @@ impl Write {
     }
 
     // The head of the new layer is unlocked, before anything names it.
+    #[inline(never)]
     pub(crate) fn unlock_head(&mut self, tree: &mut Tree, layer: Layer) -> Progress
         requires { MayBeAt tree.old self.old (Stage.LayerFilled layer) }
         ensures { TreeStep tree.old tree.new self.old (Stage.LayerFilled layer) result self.new }
@@ -109,6 +111,7 @@ impl Write {
     }
 
     // The other key's entry becomes a link to the new layer.
+    #[inline(never)]
     pub(crate) fn link_layer(&mut self, tree: &mut Tree, layer: Layer) -> Progress
         requires { MayBeAt tree.old self.old (Stage.LayerReady layer) }
         ensures { TreeStep tree.old tree.new self.old (Stage.LayerReady layer) result self.new }
@@ -119,6 +122,7 @@ impl Write {
     }
 
     // Unlocks its border, and goes on in the new layer, at its head.
+    #[inline(never)]
     pub(crate) fn go_below(&mut self, tree: &mut Tree, head: NodeNo) -> Progress
         requires { MayBeAt tree.old self.old (Stage.Layered head) }
         ensures { TreeStep tree.old tree.new self.old (Stage.Layered head) result self.new }

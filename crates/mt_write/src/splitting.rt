@@ -140,6 +140,7 @@ fn fill_half(
 
 impl Write {
     // The spared half takes the entries that were copied, and the border's right link.
+    #[inline(never)]
     pub(crate) fn fill_spared(
         &mut self,
         tree: &mut Tree,
@@ -156,6 +157,7 @@ impl Write {
     }
 
     // The half is linked, and the call stands where its key belongs.
+    #[inline(never)]
     pub(crate) fn link(&mut self, tree: &mut Tree, half: NodeNo, cut: usize) -> Progress
         requires { MayBeAt tree.old self.old (Stage.HalfFilled half cut) }
         ensures { TreeStep tree.old tree.new self.old (Stage.HalfFilled half cut) result self.new }
@@ -167,6 +169,7 @@ impl Write {
     }
 
     // The half where its key belongs takes the new row, which isn't shown yet.
+    #[inline(never)]
     pub(crate) fn fill_in_half(
         &mut self,
         alloc: Global,

@@ -228,8 +228,8 @@ impl Write {
                 logged,
             } => self.write_row(tree, log, place, key, columns, logged),
             Stage::Taken { place, key, before } => self.hide_row(tree, log, place, key, before),
-            Stage::Stored(commit, split) => self.end_stored(tree, commit, split),
-            Stage::Failed(refusal, split) => self.end_failed(tree, refusal, split),
+            Stage::Stored(commit, split) => self.end_stored(alloc, tree, commit, split),
+            Stage::Failed(refusal, split) => self.end_failed(alloc, tree, refusal, split),
         }
     }
 

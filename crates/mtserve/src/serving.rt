@@ -4,7 +4,7 @@ use crate::command_line::Settings;
 use mt_serve::frames::Frames;
 use mt_serve::session::session;
 use mt_shared::driving::Shared;
-use mt_shared::index::{Index, close};
+use mt_shared::index::Index;
 use mt_shared::pass::Pass;
 use mt_shared::settling::Totals;
 use mt_shared::through::ThroughDoor;
@@ -125,5 +125,5 @@ where
     for pass in worked {
         passes.push(pass?)?;
     }
-    Ok(close(index, passes)?)
+    Ok(index.close(passes)?)
 }

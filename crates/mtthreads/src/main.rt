@@ -7,7 +7,7 @@ use anyhow::{Context, Result, bail};
 use bytes::Bytes;
 use mt_index::options::Options;
 use mt_shared::calls::{get, getrange, put};
-use mt_shared::index::{Door, Index, close};
+use mt_shared::index::{Door, Index};
 use mt_shared::pass::Pass;
 use mt_types::event::Answer;
 use mt_types::items::Items;
@@ -97,7 +97,7 @@ fn run<R: Threads + Wait + Sync + Print + AllocGlobal>(rt: &R) -> Result<()> {
         bail!("a range answers with rows")
     };
     println!(rt; "range: {} rows", rows.as_slice().len())?;
-    let totals = close(index, passes)?;
+    let totals = index.close(passes)?;
     println!(rt; "close: {} commits", totals.commits)?;
     Ok(())
 }

@@ -3,7 +3,7 @@ use Rattle.std.specs.Prelude.{Contains}
 use Rattle.mt_commit.specs.Log.{LogView, delta_of}
 use Rattle.mt_commit.specs.Holders.{without_holder}
 use Rattle.mt_index.proofs.LogStands.{with_holds, still_holds, without_with}
-use Rattle.mt_index.proofs.viewing.take_on.Goals as goal
+use Rattle.mt_index.proofs.viewing.apply_next.Goals as goal
 
 pub unpin-requires : goal.unpin-requires
 unpin-requires c = subst (λ (l : LogView). Contains l.holders c.args.at) (sym c.in_ok-pin.ensures.ok) (still_holds (c.args.at + 1) c.args.at c.args.log.now.holders c.requires.held)

@@ -13,7 +13,7 @@ use Rattle.mt_views.specs.ViewsFields.{AreViews, IsQueueOf, stands_at, views_of}
 use Rattle.mt_views.specs.declared.views.Views.TheInside.{Inside}
 use Rattle.mt_views.proofs.ViewLemmas.{Entries, lookup-state, never_none, same_state, set-state, rises-state, as-many-with-state, state-itself}
 use Rattle.mt_views.proofs.QueueLemmas.{Queue, queue-moved, queue-stays, queue-unchanged, queue-undone, turn-is}
-use Rattle.mt_views.proofs.views.Views.take.Goals as goal
+use Rattle.mt_views.proofs.views.Views.apply.Goals as goal
 
 -- the views with another state of the one that was lent, and their queue
 module _ (i : Inside) (number : ℕ) (state new_state : StateView) (views : BTreeMap ℕ StateView) (queue : Queue) (are : AreViews i)

@@ -1,0 +1,163 @@
+//! What is measured of a store, in phases.
+
+use crate::keys::{present_and_absent, Chance, Kind};
+use crate::stores::Store;
+use crate::Outcome;
+use std::fs;
+use std::hint::black_box;
+use std::time::{Duration, Instant};
+
+/// Nanoseconds a call, or bytes a key, each with its name.
+pub type Figures = Vec<(&'static str, f64)>;
+
+// A store of fewer keys is filled and asked again, till so many calls are measured of each kind.
+const LEAST_CALLS: usize = 100_000;
+
+const RANGES: usize = 1_000;
+const ROWS_OF_RANGE: u16 = 100;
+
+// How long calls of one kind took.
+struct Phase {
+    name: &'static str,
+    took: Duration,
+    calls: usize,
+}
+
+impl Phase {
+    fn new(name: &'static str) -> Phase {
+        Phase {
+            name,
+            took: Duration::ZERO,
+            calls: 0,
+        }
+    }
+
+    // Makes a call of each item.
+    fn measure<T>(&mut self, items: &[T], mut call: impl FnMut(&T) -> Outcome<()>) -> Outcome<()> {
+        let begun = Instant::now();
+        for item in items {
+            call(item)?;
+        }
+        self.took += begun.elapsed();
+        self.calls += items.len();
+        Ok(())
+    }
+
+    fn figure(&self) -> (&'static str, f64) {
+        (self.name, self.took.as_nanos() as f64 / self.calls as f64)
+    }
+}
+
+// Bytes of memory that the process has.
+fn resident() -> Outcome<f64> {
+    let status = fs::read_to_string("/proc/self/status")?;
+    let line = status.lines().find_map(|line| line.strip_prefix("VmRSS:"));
+    let kilobytes = line.ok_or("the system tells no VmRSS")?.trim();
+    Ok(kilobytes.trim_end_matches(" kB").parse::<f64>()? * 1024.0)
+}
+
+fn expect(holds: bool, what: &str) -> Outcome<()> {
+    if holds {
+        Ok(())
+    } else {
+        Err(format!("a wrong answer of {what}").into())
+    }
+}
+
+// A key and what is put into its row.
+type Put = (Vec<u8>, [u8; 8]);
+
+// What is asked, all made beforehand.
+struct Plan {
+    new: Vec<Put>,
+    over: Vec<Put>,
+    absent: Vec<Vec<u8>>,
+    starts: Vec<Vec<u8>>,
+}
+
+fn puts_of(keys: Vec<Vec<u8>>, chance: &mut Chance) -> Vec<Put> {
+    keys.into_iter()
+        .map(|key| (key, chance.number().to_be_bytes()))
+        .collect()
+}
+
+fn plan(kind: Kind, count: usize) -> Plan {
+    let (keys, absent) = present_and_absent(kind, count);
+    let mut chance = Chance::new(7);
+    let shuffled = chance.shuffled(&keys);
+    let starts = chance.shuffled(&keys).into_iter().take(RANGES).collect();
+    Plan {
+        new: puts_of(keys, &mut chance),
+        over: puts_of(shuffled, &mut chance),
+        absent,
+        starts,
+    }
+}
+
+/// Measures a store that is filled with so many keys.
+pub fn all_phases<S: Store>(kind: Kind, count: usize, views: usize) -> Outcome<Figures> {
+    let plan = plan(kind, count);
+    let rounds = LEAST_CALLS.div_ceil(count.max(1));
+    if views > 0 {
+        return with_views::<S>(&plan, rounds, views);
+    }
+    without_views::<S>(&plan, rounds)
+}
+
+fn without_views<S: Store>(plan: &Plan, rounds: usize) -> Outcome<Figures> {
+    let [mut new, mut over, mut get, mut absent, mut range, mut remove] = [
+        "put new",
+        "put over",
+        "get",
+        "get absent",
+        "range of 100",
+        "remove",
+    ]
+    .map(Phase::new);
+    let mut bytes = None;
+    for _ in 0..rounds {
+        let before = resident()?;
+        let store = S::open(0)?;
+        new.measure(&plan.new, |(key, value)| store.put(key, value))?;
+        bytes.get_or_insert((resident()? - before) / plan.new.len() as f64);
+        over.measure(&plan.over, |(key, value)| store.put(key, value))?;
+        get.measure(&plan.over, |(key, _)| {
+            expect(black_box(store.get(key)?).is_some(), "a get")
+        })?;
+        absent.measure(&plan.absent, |key| {
+            expect(black_box(store.get(key)?).is_none(), "a get")
+        })?;
+        range.measure(&plan.starts, |key| {
+            let rows = black_box(store.range(key, ROWS_OF_RANGE)?);
+            expect(!rows.is_empty(), "a range")
+        })?;
+        remove.measure(&plan.over, |(key, _)| {
+            expect(store.remove(key)?, "a remove")
+        })?;
+    }
+    let phases = [new, over, get, absent, range, remove];
+    let mut figures: Figures = phases.iter().map(Phase::figure).collect();
+    figures.push(("bytes a key", bytes.unwrap_or(0.0)));
+    Ok(figures)
+}
+
+// The count and the sum of all rows, after the puts over others.
+fn totals(plan: &Plan) -> (u64, u128) {
+    let amounts = plan
+        .over
+        .iter()
+        .map(|(_, value)| u64::from_be_bytes(*value));
+    (plan.over.len() as u64, amounts.map(u128::from).sum())
+}
+
+fn with_views<S: Store>(plan: &Plan, rounds: usize, views: usize) -> Outcome<Figures> {
+    let [mut new, mut over] = ["put new, views", "put over, views"].map(Phase::new);
+    for _ in 0..rounds {
+        let store = S::open(views)?;
+        new.measure(&plan.new, |(key, value)| store.put(key, value))?;
+        over.measure(&plan.over, |(key, value)| store.put(key, value))?;
+        // the first view is of all rows
+        expect(store.shown()?.first() == Some(&totals(plan)), "a view")?;
+    }
+    Ok(vec![new.figure(), over.figure()])
+}

@@ -1,0 +1,195 @@
+//! The two sides: the index behind a lock, and the map behind a lock.
+//!
+//! Each keeps, where views are asked for, some of all rows whose first column is at least a number, with their count and
+//! the sum of those numbers, up to date after each put.
+
+use crate::Outcome;
+use rowanspan::{Index, Keys, Options, RowTest};
+use std::collections::BTreeMap;
+use std::sync::{Mutex, MutexGuard, PoisonError};
+
+/// A row, as the map has it: its columns.
+pub type Columns = Vec<Vec<u8>>;
+
+/// What is measured.
+pub trait Store: Sized {
+    /// What it gives for a key.
+    type Row;
+
+    /// An empty one, with so many views of four at most.
+    fn open(views: usize) -> Outcome<Self>;
+
+    /// Gives a key a row of one column.
+    fn put(&self, key: &[u8], value: &[u8]) -> Outcome<()>;
+
+    /// A copy of the row of a key.
+    fn get(&self, key: &[u8]) -> Outcome<Option<Self::Row>>;
+
+    /// Copies of the first rows from a key on, with their keys.
+    fn range(&self, start: &[u8], limit: u16) -> Outcome<Vec<(Vec<u8>, Self::Row)>>;
+
+    /// Ends the row of a key; whether there was one.
+    fn remove(&self, key: &[u8]) -> Outcome<bool>;
+
+    /// How many rows each view has, and their sum.
+    fn shown(&self) -> Outcome<Vec<(u64, u128)>>;
+}
+
+// From what number on each view takes rows: all, three quarters, half and a quarter of them.
+fn least(view: usize) -> u64 {
+    (view as u64) << 62
+}
+
+fn locked<T>(lock: &Mutex<T>) -> MutexGuard<'_, T> {
+    lock.lock().unwrap_or_else(PoisonError::into_inner)
+}
+
+// ---- the index
+
+/// The index.
+pub struct Indexed {
+    index: Mutex<Index>,
+    views: Vec<u64>,
+}
+
+impl Store for Indexed {
+    type Row = rowanspan::Row;
+
+    fn open(views: usize) -> Outcome<Indexed> {
+        let mut index = Index::open(Options::default())?;
+        let views = (0..views)
+            .map(|view| index.build(Keys::From(b""), RowTest::AtLeast(0, least(view))))
+            .collect::<Result<_, _>>()?;
+        Ok(Indexed {
+            index: Mutex::new(index),
+            views,
+        })
+    }
+
+    fn put(&self, key: &[u8], value: &[u8]) -> Outcome<()> {
+        let mut index = locked(&self.index);
+        index.put(key, &[(0, value)])?;
+        if !self.views.is_empty() {
+            index.keep_views()?;
+        }
+        Ok(())
+    }
+
+    fn get(&self, key: &[u8]) -> Outcome<Option<rowanspan::Row>> {
+        Ok(locked(&self.index).get(key)?)
+    }
+
+    fn range(&self, start: &[u8], limit: u16) -> Outcome<Vec<(Vec<u8>, rowanspan::Row)>> {
+        Ok(locked(&self.index).first(start, limit, &[])?)
+    }
+
+    fn remove(&self, key: &[u8]) -> Outcome<bool> {
+        Ok(locked(&self.index).remove(key)?.is_some())
+    }
+
+    fn shown(&self) -> Outcome<Vec<(u64, u128)>> {
+        let index = locked(&self.index);
+        let commits = index.commits()?;
+        self.views
+            .iter()
+            .map(|view| {
+                let page = index.view(*view, commits, b"", 1)?;
+                Ok((page.count, page.sums.iter().sum()))
+            })
+            .collect()
+    }
+}
+
+// ---- the map
+
+/// A view of the map, kept up by hand.
+struct Kept {
+    least: u64,
+    rows: BTreeMap<Vec<u8>, Columns>,
+    sum: u128,
+}
+
+// The first column as a number, the highest byte first.
+fn amount(columns: &Columns) -> u64 {
+    let first = columns.first().map_or(&[][..], Vec::as_slice);
+    first.try_into().map_or(0, u64::from_be_bytes)
+}
+
+impl Kept {
+    fn put(&mut self, key: &[u8], columns: &Columns) {
+        let now = amount(columns);
+        let before = if now >= self.least {
+            self.sum += u128::from(now);
+            self.rows.insert(key.to_vec(), columns.clone())
+        } else {
+            self.rows.remove(key)
+        };
+        self.sum -= before.map_or(0, |columns| u128::from(amount(&columns)));
+    }
+}
+
+struct Map {
+    rows: BTreeMap<Vec<u8>, Columns>,
+    views: Vec<Kept>,
+}
+
+/// The map.
+pub struct Mapped {
+    map: Mutex<Map>,
+}
+
+impl Store for Mapped {
+    type Row = Columns;
+
+    fn open(views: usize) -> Outcome<Mapped> {
+        let views = (0..views).map(|view| Kept {
+            least: least(view),
+            rows: BTreeMap::new(),
+            sum: 0,
+        });
+        Ok(Mapped {
+            map: Mutex::new(Map {
+                rows: BTreeMap::new(),
+                views: views.collect(),
+            }),
+        })
+    }
+
+    fn put(&self, key: &[u8], value: &[u8]) -> Outcome<()> {
+        let mut map = locked(&self.map);
+        let columns = vec![value.to_vec()];
+        for view in &mut map.views {
+            view.put(key, &columns);
+        }
+        map.rows.insert(key.to_vec(), columns);
+        Ok(())
+    }
+
+    fn get(&self, key: &[u8]) -> Outcome<Option<Columns>> {
+        Ok(locked(&self.map).rows.get(key).cloned())
+    }
+
+    fn range(&self, start: &[u8], limit: u16) -> Outcome<Vec<(Vec<u8>, Columns)>> {
+        let map = locked(&self.map);
+        let rows = map
+            .rows
+            .range::<[u8], _>((std::ops::Bound::Included(start), std::ops::Bound::Unbounded));
+        Ok(rows
+            .take(limit.into())
+            .map(|(key, columns)| (key.clone(), columns.clone()))
+            .collect())
+    }
+
+    fn remove(&self, key: &[u8]) -> Outcome<bool> {
+        Ok(locked(&self.map).rows.remove(key).is_some())
+    }
+
+    fn shown(&self) -> Outcome<Vec<(u64, u128)>> {
+        let map = locked(&self.map);
+        Ok(map
+            .views
+            .iter()
+            .map(|view| (view.rows.len() as u64, view.sum))
+            .collect())
+    }
+}
