@@ -56,10 +56,10 @@ use Rattle.mt_index.specs.contracts.machine.Machine.{the_row as Index}
 use Rattle.mt_index.proofs.machine.Machine.TheLaws as index_laws
 use Rattle.rowanspan_c.proofs.Destruct++none.drop.Symbol as no_drop
 use Rattle.rowanspan_c.proofs.Destruct++none.drop.Code as no_drop_code
-use Rattle.rowanspan_c.proofs.mt_index++machine++Machine+Destruct.drop.Symbol as index_drop
-use Rattle.rowanspan_c.proofs.mt_index++machine++Machine+Destruct.drop.Met as index_met
-use Rattle.rowanspan_c.proofs.mt_index++machine++Machine+Destruct.drop.Kinds as kinds
-use Rattle.rowanspan_c.proofs.mt_index++machine++Machine+Destruct.drop.Reads as reads
+use Rattle.mt_index.proofs.machine.Machine.drop.Symbol as index_drop
+use Rattle.mt_index.proofs.machine.Machine.drop.Met as index_met
+use Rattle.mt_index.proofs.machine.Machine.drop.Kinds as kinds
+use Rattle.mt_index.proofs.machine.Machine.drop.Reads as reads
 
 -- the two types as a call names them: by how they lie alone
 abbrev pub IndexArg : RattleType
@@ -75,7 +75,7 @@ abbrev pub heap_arg_laws : Laws HeapArg
 heap_arg_laws = arg_laws (bare (layout Heap)) no Heap heap_laws.the_row_laws refl
 
 abbrev pub index_glue : Dict
-index_glue = impl ("rowanspan_c::mt_index++machine++Machine+Destruct::drop" ∷ []) tnil dnil
+index_glue = impl ("mt_index::machine::Machine::drop" ∷ []) tnil dnil
 
 abbrev pub heap_glue : Dict
 heap_glue = impl ("rowanspan_c::Destruct++none::drop" ∷ []) (tcons (layout HeapArg) tnil) dnil

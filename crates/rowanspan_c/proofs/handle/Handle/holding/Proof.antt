@@ -41,7 +41,7 @@ holding_spec {M} 𝓤 𝓛 𝓜 𝓡 wired =
     let stays : Stays f.ended.signature.params f.ended.kept = (stay_dropped (plain (λ _. IndexBox)) yes, tt) in
     let heap = heap_met.passed 𝓡.env (code.calls-std_heap::GlobalAllocator::allocate 𝓡.env wired) (code.calls-std_heap::GlobalAllocator::deallocate 𝓡.env wired) (code.calls-std_heap::GlobalAllocator::grow 𝓡.env wired) (code.calls-std_heap::GlobalAllocator::shrink 𝓡.env wired) M 𝓤 𝓛 𝓜 𝓡 in
     let let_go = heap_drops 𝓛 𝓜 𝓡 (code.calls-rowanspan_c::Destruct++none::drop 𝓡.env wired) in
-    let let_index_go = index_drops 𝓛 𝓜 𝓡 (code.calls-rowanspan_c::mt_index++machine++Machine+Destruct::drop 𝓡.env wired) in
+    let let_index_go = index_drops 𝓛 𝓜 𝓡 (code.calls-mt_index::machine::Machine::drop 𝓡.env wired) in
     let comes_apart = met 𝓤 𝓛 𝓜 𝓡 (code.calls-std_alloc::boxed::Box::into_raw_with_allocator 𝓡.env wired) IndexArg HeapArg index_arg_laws heap_arg_laws ghosts dict heap_glue index_glue heap let_go let_index_go in
     proved_at 𝓛 f.ended stays c 𝓜 𝓡 (Goes-dropped 𝓛 0 (plain (λ _. IndexBox)) yes (λ κs x w. refl), tt) f.Key.name code.function (code.unfolded 𝓤 𝓛.H 𝓜 𝓡 wired) (λ z are.
     let v = z.0.3.0 in let Post : Val → SProp 𝓤 = (walk_of 𝓛 f.ended stays c).post z in let Run : List Val → SProp 𝓤 = λ ws. WpFn 𝓤 𝓛.H 𝓣.C 𝓣.Λ code.function ws Post in
