@@ -12,6 +12,8 @@ from reading import MARK, Gathering
 TESTS = Path(__file__).resolve().parent.parent
 # a call that waits for another's lock has ended after a further round
 ROUNDS = 3
+# a tidy takes one layer out, and seven layers have two keys below them
+TIDIES = 4
 
 
 @dataclass(frozen=True)
@@ -122,7 +124,7 @@ def ending(script: Script, gathered: Gathering, views: int) -> List[str]:
     lines += [f"alone get {key} all" for key in keys] + ["alone range - 1000 all"]
     lines += [f"alone put {key} 0=ee" for key in keys] + ["alone range - 1000 all"]
     lines += [f"alone remove {key}" for key in keys] + ["alone range - 1000 all"]
-    lines += [f"alone tidy {key}" for _ in range(3) for key in keys] + ["advance", "collect"]
+    lines += [f"alone tidy {key}" for _ in range(TIDIES) for key in keys] + ["advance", "collect"]
     return lines
 
 
