@@ -1,5 +1,5 @@
 -- The steps keep the rule.
-use Rattle.std.proofs.Common.{◌≡◌, ◌≢◌, ℕ, List, [], ◌∷◌, ◌++◌, fold, set, refl, sym, ap, ◌∙◌, subst, ⊎_elim, Option, Some, None, IfSome, append_assoc}
+use Rattle.std.proofs.Common.{◌≡◌, ◌≢◌, ℕ, List, [], ◌∷◌, ◌++◌, fold, set, refl, sym, ap, ◌∙◌, subst, ⊎_elim, Option, Some, None, IfSome, append_assoc, Result, Ok, MatchResult}
 use Rattle.std.proofs.lemmas.List.{append-nil}
 use Rattle.std.proofs.lemmas.List.Sums.{fold-append}
 use mathlib.Core.Option.{some, some-ne-none}
@@ -103,6 +103,25 @@ publishes steps earlier seat v x y e is views h at =
     let o = h.0 in let l = h.1 in let ds = deltas_in earlier in
     let value : y ≡ shown_after o (l ++ ds) = shown_then x y steps earlier e is ∙ shown_on o x l ds h.3 in
     (v, (o, l ++ ds, h.2, value, agree_set o (l ++ ds) views seat v (λ j u f. agrees_longer o l ds u (h.4 j u f)) (agrees_longer o l ds v (h.4 seat v at))), refl)
+
+-- after them the mark has the deltas of all of them
+pub published : (x y : Shown) (steps earlier after : List Step) → AreMarked x steps earlier → (y ≡ fold took x steps) × (after ≡ [])
+    → (y.mark.source ≡ x.mark.source) × (y.mark.list ≡ x.mark.list ++ deltas_in steps) × (y.mark.list ++ deltas_in after ≡ x.mark.list ++ deltas_in steps)
+published x y steps earlier after e h =
+    let now = shown_then x y steps earlier e h.0 in
+    let ds : deltas_in steps ≡ deltas_in earlier = ap deltas_in e ∙ deltas_mark earlier _ in
+    let list : y.mark.list ≡ x.mark.list ++ deltas_in steps = ap (λ (z : Shown). z.mark.list) now ∙ ap (λ (z : List Delta). x.mark.list ++ z) (sym ds) in
+    (ap (λ (z : Shown). z.mark.source) now, list, ap (λ (z : List Step). y.mark.list ++ deltas_in z) h.1 ∙ (append-nil y.mark.list ∙ list))
+
+-- a chain that has a delta more, as what is pending has
+pub one_more : (list old new : List Delta) (steps after : List Step) (d e : Delta) → old ≡ list ++ deltas_in steps → new ≡ old ++ d ∷ []
+    → after ≡ steps ++ Takes e ∷ [] → e ≡ d → new ≡ list ++ deltas_in after
+one_more list old new steps after d e was is more same =
+    is ∙ (ap (λ (z : List Delta). z ++ d ∷ []) was ∙ (append_assoc list (deltas_in steps) (d ∷ [])
+        ∙ ap (λ (z : List Delta). list ++ z) (ap (λ (z : Delta). deltas_in steps ++ z ∷ []) (sym same) ∙ (sym (deltas_one steps e) ∙ ap deltas_in (sym more)))))
+
+pub ok_of : {A B : Type 0} (r : Result A B) (a : A) (P : A → Type 0) (Q : B → Type 0) → r ≡ Ok a → MatchResult r P Q → P a
+ok_of r a P Q is h = subst (λ z. MatchResult z P Q) is h
 
 pub forks : (seat : ℕ) (v : Known) → Forks Keeps seat v v (record { opening = v.opening; list = [] })
 forks seat v x views h at = let a = h.4 seat v at in

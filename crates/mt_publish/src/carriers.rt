@@ -41,12 +41,10 @@ impl<R: Wait + Drop> Drop for Publisher<R> {
 impl<R: Wait + Drop> Publisher<R> {
     pub(crate) fn into_parts(self) -> (Writer<Shown, Step, Known, Published>, Chain, Global, R)
         ensures writer { result.0 ≡ self.writer }
-        ensures opened { source_in (view self.writer.desk.place).opening
-            ≡ Some self.writer.desk.shown.value.mark.source }
-        ensures sourced { result.1.last.source ≡ self.writer.desk.shown.value.mark.source }
+        ensures opened { source_in (view result.0.desk.place).opening ≡ Some result.0.desk.shown.value.mark.source }
+        ensures sourced { result.1.last.source ≡ result.0.desk.shown.value.mark.source }
         ensures whole { IsTrue result.1.whole → result.1.last.list
-            ≡ self.writer.desk.shown.value.mark.list
-            ++ deltas_in (drop self.writer.behind self.writer.log.items) }
+            ≡ result.0.desk.shown.value.mark.list ++ deltas_in (drop result.0.behind result.0.log.items) }
     {
         let Self {
             alloc,

@@ -117,6 +117,7 @@ impl<R: Wait + Drop> Publisher<R> {
     }
 
     /// Copies the delta behind those that are pending. On an error nothing is appended.
+    #[tactic(auto, using(crate::proofs::Kept::deltas_one))]
     pub fn append(&mut self, delta: &Delta) -> Result<(), Refusal>
         ensures kept { PublisherKeeps self.old self.new }
         ensures pending { MatchResult result (λ _. pending_of self.new ≡ pending_of self.old ++ delta.now ∷ [])
@@ -147,6 +148,7 @@ impl<R: Wait + Drop> Publisher<R> {
     }
 
     // Appends the mark of what will then be published.
+    #[tactic(auto, using(crate::proofs::Kept::deltas_mark))]
     fn mark(&mut self) -> Result<(), Refusal>
         ensures kept { PublisherKeeps self.old self.new × (pending_of self.new ≡ pending_of self.old) }
         ensures marked { MatchResult result (λ _. IsMarked self.new) (λ e. e ≡ Refusal.NoMemory) }
