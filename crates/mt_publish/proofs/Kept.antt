@@ -13,9 +13,9 @@ use Rattle.mt_publish.specs.declared.shown.Step.{Step}
 use Rattle.mt_publish.specs.declared.shown.Step.TheVariants.{Takes, Marks}
 use Rattle.mt_publish.specs.declared.rule.Known.{Known}
 use Rattle.mt_publish.specs.Folds.{applied_all}
-use Rattle.mt_publish.specs.Marks.{MarkView, Source, StartsWith}
+use Rattle.mt_publish.specs.Marks.{MarkView}
 use Rattle.mt_publish.specs.Shown.{took, deltas_in, shown_after}
-use Rattle.mt_publish.specs.Rule.{Agrees, AllAgree, Keeps, Opened, Stays, Read, first_of, source_in, state_in}
+use Rattle.mt_publish.specs.Rule.{Agrees, AllAgree, Keeps, Opened, Stays, Read, first_of, state_in}
 
 state_took : (x : Shown) (steps : List Step) → (fold took x steps).state ≡ applied_all x.state (deltas_in steps)
 state_took x [] = refl
@@ -86,7 +86,7 @@ shown_on : (o x : Shown) (l ds : List Delta) → x ≡ shown_after o l
     → shown_as (applied_all x.state ds) (record { source = x.mark.source; list = x.mark.list ++ ds }) ≡ shown_after o (l ++ ds)
 shown_on o x l ds is =
     ap (λ (z : Shown). shown_as (applied_all z.state ds) (record { source = z.mark.source; list = z.mark.list ++ ds })) is
-        ∙ ap (λ (z : StateView). shown_as z (record { source = o.mark.source; list = l ++ ds })) (sym (fold-append (λ s d. applied d s) o.state l ds))
+    ∙ ap (λ (z : StateView). shown_as z (record { source = o.mark.source; list = l ++ ds })) (sym (fold-append (λ s d. applied d s) o.state l ds))
 
 -- steps of which the last is the mark of what they come to
 abbrev pub AreMarked : Shown → List Step → List Step → Type 0
@@ -118,7 +118,7 @@ pub one_more : (list old new : List Delta) (steps after : List Step) (d e : Delt
     → after ≡ steps ++ Takes e ∷ [] → e ≡ d → new ≡ list ++ deltas_in after
 one_more list old new steps after d e was is more same =
     is ∙ (ap (λ (z : List Delta). z ++ d ∷ []) was ∙ (append_assoc list (deltas_in steps) (d ∷ [])
-        ∙ ap (λ (z : List Delta). list ++ z) (ap (λ (z : Delta). deltas_in steps ++ z ∷ []) (sym same) ∙ (sym (deltas_one steps e) ∙ ap deltas_in (sym more)))))
+    ∙ ap (λ (z : List Delta). list ++ z) (ap (λ (z : Delta). deltas_in steps ++ z ∷ []) (sym same) ∙ (sym (deltas_one steps e) ∙ ap deltas_in (sym more)))))
 
 pub ok_of : {A B : Type 0} (r : Result A B) (a : A) (P : A → Type 0) (Q : B → Type 0) → r ≡ Ok a → MatchResult r P Q → P a
 ok_of r a P Q is h = subst (λ z. MatchResult z P Q) is h

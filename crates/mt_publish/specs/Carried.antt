@@ -41,7 +41,7 @@ IsAt p o = (opening_of p ≡ Some o) × (list_of p ≡ [])
 abbrev pub IsMarked : {R : Type 0} → Publisher R → Type 0
 IsMarked p =
     (earlier : List Step) × (drop p.writer.behind p.writer.log.items
-        ≡ earlier ++ Marks (record { source = source_of p; list = list_of p ++ deltas_in earlier }) ∷ [])
+    ≡ earlier ++ Marks (record { source = source_of p; list = list_of p ++ deltas_in earlier }) ∷ [])
 
 -- the state that its publisher began with
 abbrev pub reader_opening : ViewReader → Option StateView
@@ -75,4 +75,4 @@ IsReaderOf source o r =
 abbrev pub MayRefuse : List Delta → List Delta → Refusal → Type 0
 MayRefuse list heard refusal =
     (refusal ≡ NoMemory) ⊎ ((refusal ≡ NoSuchView)
-        ⊎ ((at : ℕ) × (refusal ≡ Behind at) × (length list < length heard)))
+    ⊎ ((at : ℕ) × (refusal ≡ Behind at) × (length list < length heard)))

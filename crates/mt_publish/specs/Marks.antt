@@ -1,6 +1,6 @@
 -- What a mark says: of which chain it is, and the deltas with which the chain begins.
 use Rattle.std.specs.Prelude.{◌≡◌, List, ◌++◌}
-use Rattle.logbook.specs.Pages.{Book, book_coded}
+use Rattle.logbook.specs.Pages.{Book}
 use Rattle.mt_types.specs.declared.row.Delta.{Delta}
 
 -- the book of a chain: no other chain has it

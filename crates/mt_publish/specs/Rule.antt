@@ -18,7 +18,7 @@ AllAgree opening list views = (seat : ℕ) (v : Known) → get_elem? views seat 
 abbrev pub Keeps : Shown → List Known → Type 0
 Keeps x views =
     (opening : Shown) × (list : List Delta) × (opening.mark.list ≡ []) × (x ≡ shown_after opening list)
-        × AllAgree opening list views
+    × AllAgree opening list views
 
 -- the publisher knows what it shows as what was shown first
 abbrev pub Opened : Known → Shown → Shown → Known → Type 0
@@ -32,7 +32,7 @@ Stays v x y w = w ≡ v
 abbrev pub Read : Known → Shown → Shown → Known → Type 0
 Read v x y w =
     (opening : Shown) × (w.opening ≡ Some opening) × IfSome v.opening (λ o. o ≡ opening)
-        × (x ≡ shown_after opening w.list) × StartsWith w.list v.list
+    × (x ≡ shown_after opening w.list) × StartsWith w.list v.list
 
 abbrev pub first_of : Option Shown → Option Shown → Option Shown
 first_of None o = o

@@ -53,10 +53,7 @@ fn open<R: Wait + Drop>(
 }
 
 // Puts the step behind those that are pending.
-fn push(
-    writer: &mut Writer<Shown, Step, Known, Published>,
-    step: Step,
-) -> Result<(), NoMemory>
+fn push(writer: &mut Writer<Shown, Step, Known, Published>, step: Step) -> Result<(), NoMemory>
     ensures desk { writer.new.desk ≡ writer.old.desk }
     ensures pending { MatchResult result
         (λ _. drop writer.new.behind writer.new.log.items ≡ drop writer.old.behind writer.old.log.items ++ step ∷ [])

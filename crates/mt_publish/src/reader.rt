@@ -8,8 +8,8 @@ ghost use Rattle.mt_publish.specs.Carried.{MayRefuse, reader_opening, reader_lis
 ghost use Rattle.mt_publish.specs.Marks.{StartsWith};
 ghost use Rattle.mt_publish.specs.Folds.{applied_all, redo_all, last_number, page_of_rows};
 
-pub use crate::carriers::ViewReader;
 use crate::carriers::Told;
+pub use crate::carriers::ViewReader;
 use crate::rule::Reads;
 use core::mem::replace_with;
 use mt_types::key::Key;
@@ -68,7 +68,11 @@ impl ViewReader {
             return Err(refusal);
         }
         let asked = (start, limit);
-        replace_with(self, asked, |reader, (start, limit)| reader.into_read(start, limit))
+        replace_with(
+            self,
+            asked,
+            |reader, (start, limit)| reader.into_read(start, limit),
+        )
     }
 
     fn into_read(self, start: &Key, limit: u16) -> (ViewReader, Result<Page, Refusal>)
