@@ -107,11 +107,12 @@ publishes steps earlier seat v x y e is views h at =
 -- after them the mark has the deltas of all of them
 pub published : (x y : Shown) (steps earlier after : List Step) → AreMarked x steps earlier → (y ≡ fold took x steps) × (after ≡ [])
     → (y.mark.source ≡ x.mark.source) × (y.mark.list ≡ x.mark.list ++ deltas_in steps) × (y.mark.list ++ deltas_in after ≡ x.mark.list ++ deltas_in steps)
+    × (y.state ≡ applied_all x.state (deltas_in steps))
 published x y steps earlier after e h =
     let now = shown_then x y steps earlier e h.0 in
     let ds : deltas_in steps ≡ deltas_in earlier = ap deltas_in e ∙ deltas_mark earlier _ in
     let list : y.mark.list ≡ x.mark.list ++ deltas_in steps = ap (λ (z : Shown). z.mark.list) now ∙ ap (λ (z : List Delta). x.mark.list ++ z) (sym ds) in
-    (ap (λ (z : Shown). z.mark.source) now, list, ap (λ (z : List Step). y.mark.list ++ deltas_in z) h.1 ∙ (append-nil y.mark.list ∙ list))
+    (ap (λ (z : Shown). z.mark.source) now, list, ap (λ (z : List Step). y.mark.list ++ deltas_in z) h.1 ∙ (append-nil y.mark.list ∙ list), ap (λ (z : Shown). z.state) now ∙ ap (λ (z : List Delta). applied_all x.state z) (sym ds))
 
 -- a chain that has a delta more, as what is pending has
 pub one_more : (list old new : List Delta) (steps after : List Step) (d e : Delta) → old ≡ list ++ deltas_in steps → new ≡ old ++ d ∷ []

@@ -26,16 +26,22 @@ list_of p = p.writer.desk.shown.value.mark.list
 abbrev pub pending_of : {R : Type 0} → Publisher R → List Delta
 pending_of p = deltas_in (drop p.writer.behind p.writer.log.items)
 
+-- the number at which what is published stands
+abbrev pub number_of : {R : Type 0} → Publisher R → ℕ
+number_of p = p.writer.desk.shown.value.state.at
+
 -- the chain of its deltas, which its readers and tolds share with it, and no other publisher
 abbrev pub source_of : {R : Type 0} → Publisher R → Source
 source_of p = p.writer.desk.shown.value.mark.source
 
 abbrev pub PublisherKeeps : {R : Type 0} → Publisher R → Publisher R → Type 0
-PublisherKeeps p q = (opening_of q ≡ opening_of p) × (list_of q ≡ list_of p) × (source_of q ≡ source_of p)
+PublisherKeeps p q =
+    (opening_of q ≡ opening_of p) × (list_of q ≡ list_of p) × (number_of q ≡ number_of p)
+    × (source_of q ≡ source_of p)
 
 -- a publisher that began with this state, and has published nothing
 abbrev pub IsAt : {R : Type 0} → Publisher R → StateView → Type 0
-IsAt p o = (opening_of p ≡ Some o) × (list_of p ≡ [])
+IsAt p o = (opening_of p ≡ Some o) × (list_of p ≡ []) × (number_of p ≡ o.at)
 
 -- the last that is pending is the mark of what is published with what is pending
 abbrev pub IsMarked : {R : Type 0} → Publisher R → Type 0

@@ -3,7 +3,8 @@
 ghost use Rattle.std.specs.Prelude.{◌≡◌, ◌<◌, ◌≤◌, ◌⊎◌, [], ◌∷◌, ◌++◌, drop, Some, Err, vec_len, All, IfOk, IfErr, MatchResult, MatchOption};
 ghost use Rattle.mt_types.specs.Limits.{passes_fault};
 ghost use Rattle.mt_view.specs.State.{StateView};
-ghost use Rattle.mt_publish.specs.Carried.{PublisherKeeps, IsAt, IsMarked, IsReaderOf, opening_of, list_of, pending_of, source_of, told_list, told_source};
+ghost use Rattle.mt_publish.specs.Folds.{last_number};
+ghost use Rattle.mt_publish.specs.Carried.{PublisherKeeps, IsAt, IsMarked, IsReaderOf, opening_of, list_of, number_of, pending_of, source_of, told_list, told_source};
 
 pub use crate::carriers::{Publisher, Told, ViewReader};
 use crate::chain::Chain;
@@ -127,7 +128,8 @@ impl<R: Wait + Drop> Publisher<R> {
     }
 
     /// What is pending becomes visible at once, or nothing changes. Waits for readers that still read what stood before
-    /// the last publish. O(log n) for each delta that is pending, on each of the two copies.
+    /// the last publish; where nothing is pending, for nobody. O(log n) for each delta that is pending, on each of the
+    /// two copies.
     ///
     /// # Errors
     ///
@@ -139,7 +141,12 @@ impl<R: Wait + Drop> Publisher<R> {
             (λ _. (list_of self.new ≡ list_of self.old ++ pending_of self.old) × (pending_of self.new ≡ []))
             (λ e. (e ≡ Refusal.NoMemory) × (list_of self.new ≡ list_of self.old)
             × (pending_of self.new ≡ pending_of self.old)) }
+        ensures number { MatchResult result (λ _. number_of self.new ≡ last_number (number_of self.old) (pending_of self.old))
+            (λ _. number_of self.new ≡ number_of self.old) }
     {
+        if !self.writer.has_pending_operations() {
+            return Ok(());
+        }
         self.mark()?;
         replace_with(self, (), |publisher, ()| publisher.into_publish())
     }
@@ -165,6 +172,8 @@ impl<R: Wait + Drop> Publisher<R> {
             (λ _. (list_of result.0 ≡ list_of self ++ pending_of self) × (pending_of result.0 ≡ []))
             (λ e. (e ≡ Refusal.NoMemory) × (list_of result.0 ≡ list_of self)
             × (pending_of result.0 ≡ pending_of self)) }
+        ensures number { MatchResult result.1 (λ _. number_of result.0 ≡ last_number (number_of self) (pending_of self))
+            (λ _. number_of result.0 ≡ number_of self) }
     {
         let (writer, chain, alloc, rt) = self.into_parts();
         let (writer, published) = writer.publish_as::<Publishes, R>(&rt);
@@ -178,6 +187,14 @@ impl<R: Wait + Drop> Publisher<R> {
             Ok(()) => (publisher, Ok(())),
             Err(_) => (publisher, Err(Refusal::NoMemory)),
         }
+    }
+
+    /// The number at which what is published stands: that of the last delta that was published, or that of the state
+    /// that it began with. O(1).
+    pub fn at(&self) -> u64
+        ensures { result ≡ number_of self.now }
+    {
+        self.writer.published().state.at()
     }
 
     /// Hands on what is published. O(1).

@@ -10,9 +10,9 @@ loop-preserved g c = let kept = c.hand_out.ensures.kept in let was = c.loop.inva
     let of : ViewReader → Type 0 = IsReaderOf (source_of c.in_ok-publisher.publisher) c.args.state in
     let one : of c.in_ok-hand_out.field-0 = subst (λ s. IsReaderOf s c.args.state c.in_ok-hand_out.field-0) was.same (c.in_ok-hand_out.ensures.reader c.args.state was.began.0) in
     record {
-      began = (kept.0.0 ∙ was.began.0, kept.0.1 ∙ was.began.1);
+      began = (kept.0.0 ∙ was.began.0, kept.0.1 ∙ was.began.1, kept.0.2 ∙ was.began.2);
       none = kept.1 ∙ was.none;
-      same = kept.0.2 ∙ was.same;
+      same = kept.0.3 ∙ was.same;
       many = search rules;
       each = subst (λ (rs : List ViewReader). All of rs) (sym items) (all_more of c.loop.handed.items c.in_ok-hand_out.field-0 was.each one);
     }
