@@ -1,0 +1,2 @@
+-- What it is to follow an index.
+pub mod Follows

@@ -1,0 +1,57 @@
+//! The loop that feeds a publisher from an index, one turn of it.
+
+ghost use Rattle.std.specs.Prelude.{◌≡◌, ◌⊎◌, ◌++◌, Err, IfOk, IfErr, MatchResult};
+ghost use Rattle.mt_shared.specs.Feeds.{FeedsSomewhere};
+ghost use Rattle.mt_publish.specs.Carried.{PublisherKeeps, list_of, number_of, pending_of, opening_of, source_of};
+ghost use Rattle.mt_publish.specs.Folds.{last_number};
+ghost use Rattle.mt_publish.specs.Marks.{StartsWith};
+ghost use Rattle.mt_follow.specs.Follows.{Follows};
+
+use mt_publish::publisher::Publisher;
+use mt_shared::index::Door;
+use mt_types::refusal::Refusal;
+use mt_types::row::Delta;
+use std::alloc::Global;
+use std::sync::Wait;
+
+// Appends the deltas, in their order.
+fn append_all<R: Wait + Drop>(publisher: &mut Publisher<R>, deltas: &[Delta]) -> Result<(), Refusal>
+    ensures kept { PublisherKeeps publisher.old publisher.new }
+    ensures pending { MatchResult result (λ _. pending_of publisher.new ≡ pending_of publisher.old ++ deltas.now)
+        (λ e. e ≡ Refusal.NoMemory) }
+{
+    for delta in deltas {
+        publisher.append(delta)?;
+    }
+    Ok(())
+}
+
+/// Publishes what the log of an index has of the commits after the number at which the publisher stands, `most` deltas
+/// at most; gives how many they were. The index's lock is held once. Call it again and again, in a thread of its own: a
+/// publisher of which nothing else is asked so follows the index. Where nothing is new, it waits for no reader.
+///
+/// # Errors
+///
+/// `Behind` where the log doesn't hold those commits any more: the publisher can't follow, and another is to be started
+/// from a copy of a view. `BadLimit` where `most` is not 1 to 1000. `NoMemory`: what was appended by then stays pending,
+/// and the next turn publishes it first.
+pub fn follow<W: Wait, R: Wait + Drop>(
+    alloc: Global,
+    door: &Door<'_, W>,
+    publisher: &mut Publisher<R>,
+    most: u16,
+) -> Result<u64, Refusal>
+    ensures kept { (opening_of publisher.new ≡ opening_of publisher.old)
+        × (source_of publisher.new ≡ source_of publisher.old) }
+    ensures follows { IfOk result (Follows (list_of publisher.old ++ pending_of publisher.old) (list_of publisher.new)
+        (last_number (number_of publisher.old) (pending_of publisher.old)) most) }
+    ensures refused { IfErr result (λ refusal. (refusal ≡ Refusal.NoMemory)
+        ⊎ FeedsSomewhere (last_number (number_of publisher.old) (pending_of publisher.old)) most (Err refusal)) }
+    ensures later { StartsWith (list_of publisher.new) (list_of publisher.old) }
+{
+    publisher.publish()?;
+    let deltas = door.feed(alloc, publisher.at(), most)?;
+    append_all(publisher, &deltas)?;
+    publisher.publish()?;
+    Ok(deltas.len() as u64)
+}

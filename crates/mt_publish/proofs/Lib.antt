@@ -1,0 +1,6 @@
+-- What the proofs share.
+pub mod Lists
+pub mod Adding
+pub mod Kept
+pub mod Pages
+pub mod Handed
