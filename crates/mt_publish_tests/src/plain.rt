@@ -1,0 +1,90 @@
+//! What a view of everything shows after numbered changes of ten keys, reckoned plainly from the number alone.
+
+use bytes::Bytes;
+use mt_types::key::Key;
+use mt_types::refusal::Refusal;
+use mt_types::row::{Columns, Delta, Row};
+use mt_types::view::{Page, RowTest, ViewSpec};
+use mt_view::state::ViewState;
+use std::alloc::Global;
+
+// How many keys there are.
+const KEYS: u64 = 10;
+
+// Each change with a number that this divides drops its key.
+const DROPS: u64 = 7;
+
+pub(crate) fn everything(alloc: Global) -> Result<ViewState, Refusal> {
+    let spec = ViewSpec::Range {
+        lo: Bytes::new(),
+        hi: None,
+        test: RowTest::Any,
+    };
+    Ok(ViewState::open(alloc, 1, spec)?)
+}
+
+pub(crate) fn first_key() -> Result<Key, Refusal> {
+    Key::new(Bytes::new())
+}
+
+fn row_of(alloc: Global, number: u64) -> Result<Row, Refusal> {
+    let column = Bytes::copy_from_slice(alloc, &number.to_be_bytes())?;
+    Ok(Row {
+        version: number,
+        columns: Columns::from_vec(Vec::from_array(alloc, [column])?),
+    })
+}
+
+/// The change of this number: its key is the number's last digit. Most put a row whose one column is the number.
+pub(crate) fn change(alloc: Global, number: u64) -> Result<Delta, Refusal> {
+    let key = Bytes::copy_from_slice(alloc, &(number % KEYS).to_be_bytes())?;
+    let after = if number % DROPS == 0 {
+        None
+    } else {
+        Some(row_of(alloc, number)?)
+    };
+    Ok(Delta {
+        number,
+        key: Key::new(key)?,
+        before: None,
+        after,
+    })
+}
+
+// The change that says what stands under this key at this number, if that is a row.
+fn standing(at: u64, key: u64) -> Option<u64> {
+    let ago = (at % KEYS + KEYS - key % KEYS) % KEYS;
+    at.checked_sub(ago)
+        .filter(|number| *number > 0 && *number % DROPS != 0)
+}
+
+// The page has at this place the row of this change.
+fn has_row(page: &Page, place: usize, number: u64) -> bool {
+    match page.rows.as_slice().get(place) {
+        Some((key, row)) => {
+            key.as_slice() == (number % KEYS).to_be_bytes().as_slice()
+                && row.version == number
+                && row.columns.as_slice().len() == 1
+                && row.columns.as_slice()[0].as_slice() == number.to_be_bytes().as_slice()
+        }
+        None => false,
+    }
+}
+
+/// Whether the page, of all rows, is what the changes up to its number come to.
+pub(crate) fn is_plain(page: &Page) -> bool {
+    let mut place: usize = 0;
+    let mut sum: u128 = 0;
+    let mut rows_are = true;
+    for key in 0..KEYS {
+        if let Some(number) = standing(page.at, key) {
+            rows_are = rows_are && has_row(page, place, number);
+            place = place.saturating_add(1);
+            sum = sum.saturating_add(u128::from(number));
+        }
+    }
+    rows_are
+        && page.rows.as_slice().len() == place
+        && page.count == place as u64
+        && page.sums.as_slice() == [sum].as_slice()
+}
