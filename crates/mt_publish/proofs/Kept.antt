@@ -104,15 +104,28 @@ publishes steps earlier seat v x y e is views h at =
     let value : y ≡ shown_after o (l ++ ds) = shown_then x y steps earlier e is ∙ shown_on o x l ds h.3 in
     (v, (o, l ++ ds, h.2, value, agree_set o (l ++ ds) views seat v (λ j u f. agrees_longer o l ds u (h.4 j u f)) (agrees_longer o l ds v (h.4 seat v at))), refl)
 
+-- what was shown, and what is shown after these steps; what is pending then
+pub record IsPublished (x y : Shown) (steps after : List Step) : Type 0 where
+  pub source : y.mark.source ≡ x.mark.source
+  pub list : y.mark.list ≡ x.mark.list ++ deltas_in steps
+  pub whole : y.mark.list ++ deltas_in after ≡ x.mark.list ++ deltas_in steps
+  pub state : y.state ≡ applied_all x.state (deltas_in steps)
+  pub none : after ≡ []
+
 -- after them the mark has the deltas of all of them
 pub published : (x y : Shown) (steps earlier after : List Step) → AreMarked x steps earlier → (y ≡ fold took x steps) × (after ≡ [])
-    → (y.mark.source ≡ x.mark.source) × (y.mark.list ≡ x.mark.list ++ deltas_in steps) × (y.mark.list ++ deltas_in after ≡ x.mark.list ++ deltas_in steps)
-    × (y.state ≡ applied_all x.state (deltas_in steps))
+    → IsPublished x y steps after
 published x y steps earlier after e h =
     let now = shown_then x y steps earlier e h.0 in
     let ds : deltas_in steps ≡ deltas_in earlier = ap deltas_in e ∙ deltas_mark earlier _ in
     let list : y.mark.list ≡ x.mark.list ++ deltas_in steps = ap (λ (z : Shown). z.mark.list) now ∙ ap (λ (z : List Delta). x.mark.list ++ z) (sym ds) in
-    (ap (λ (z : Shown). z.mark.source) now, list, ap (λ (z : List Step). y.mark.list ++ deltas_in z) h.1 ∙ (append-nil y.mark.list ∙ list), ap (λ (z : Shown). z.state) now ∙ ap (λ (z : List Delta). applied_all x.state z) (sym ds))
+    record {
+      source = ap (λ (z : Shown). z.mark.source) now;
+      list = list;
+      whole = ap (λ (z : List Step). y.mark.list ++ deltas_in z) h.1 ∙ (append-nil y.mark.list ∙ list);
+      state = ap (λ (z : Shown). z.state) now ∙ ap (λ (z : List Delta). applied_all x.state z) (sym ds);
+      none = h.1;
+    }
 
 -- a chain that has a delta more, as what is pending has
 pub one_more : (list old new : List Delta) (steps after : List Step) (d e : Delta) → old ≡ list ++ deltas_in steps → new ≡ old ++ d ∷ []

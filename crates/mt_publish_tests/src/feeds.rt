@@ -1,8 +1,9 @@
-//! Published views of an index: its feed, appended and published; and one that follows it from a copy of a view.
+//! Published views of an index: its feed, appended and published; and publishers that start from a copy of a view.
 
 ghost use Rattle.mt_index.specs.Alone.{IsIdle};
 
-use crate::plain::{everything, first_key};
+use crate::plain::{Changes, everything, first_key};
+use crate::threads::{CHANGES, Seen, read_beside};
 use bytes::Bytes;
 use mt_follow::follow::follow;
 use mt_index::machine::Machine;
@@ -26,6 +27,11 @@ const OPTIONS: Options = Options {
     feed: 4096,
     keep: 2,
 };
+
+// The keys and columns of the first two of `Changes::OfNewKeys`.
+const ONE: &[u8] = b"\0\0\0\0\0\0\0\x01";
+
+const TWO: &[u8] = b"\0\0\0\0\0\0\0\x02";
 
 fn sets_of(alloc: Global, value: &'static [u8]) -> Result<Sets, Refusal> {
     Ok(Items::from_vec(Vec::from_array(alloc, [(0, Bytes::from_static(value))])?))
@@ -117,12 +123,14 @@ fn put_one<R: Wait>(
     Ok(())
 }
 
-// Builds a view of everything, and copies its state.
-fn copy_of_view<R: Wait>(
+// Puts two rows, builds a view of everything, and copies its state.
+fn copy_of_two<R: Wait>(
     alloc: Global,
     door: &mut Door<'_, R>,
     pass: &mut Pass,
 ) -> Result<ViewState, Refusal> {
+    put_one(alloc, door, pass, ONE, ONE)?;
+    put_one(alloc, door, pass, TWO, TWO)?;
     let everything = ViewSpec::Range {
         lo: Bytes::new(),
         hi: None,
@@ -141,20 +149,30 @@ fn follows_from_a_copy(rt: HostRuntime) -> Result<(), Fail> {
     let (index, mut passes) = Index::start(alloc, OPTIONS, 1)?;
     let mut pass = passes.pop().expect(&rt, "one pass");
     let mut door = Door::new(&index, &rt);
-    put_one(alloc, &mut door, &mut pass, b"\x01", b"\x01")?;
-    put_one(alloc, &mut door, &mut pass, b"\x02", b"\x02")?;
-    let state = copy_of_view(alloc, &mut door, &mut pass)?;
+    let state = copy_of_two(alloc, &mut door, &mut pass)?;
     let (mut publisher, mut readers) = Publisher::start(alloc, &rt, state, 1)?;
     let mut reader = readers.pop().expect(&rt, "one reader");
     put_one(alloc, &mut door, &mut pass, b"\x03", b"\x05")?;
-    let _ = remove(alloc, &mut door, &mut pass, Bytes::from_static(b"\x01"))?;
+    let _ = remove(alloc, &mut door, &mut pass, Bytes::from_static(ONE))?;
     assert!(rt; comes_to(&read_all(&mut reader)?, 2, 2, 3));
     assert_eq!(rt; follow(alloc, &door, &mut publisher, 1000)?, 2);
     let page = read_all(&mut reader)?;
     assert!(rt; comes_to(&page, 4, 2, 7));
-    assert!(rt; has_row(&page, 0, b"\x02", 2, b"\x02") && has_row(&page, 1, b"\x03", 3, b"\x05"));
+    assert!(rt; has_row(&page, 0, TWO, 2, TWO) && has_row(&page, 1, b"\x03", 3, b"\x05"));
     assert_eq!(rt; follow(alloc, &door, &mut publisher, 1000)?, 0);
     assert_eq!(rt; publisher.at(), 4);
+    Ok(())
+}
+
+#[test]
+fn counts_never_fall_from_a_copy(rt: HostRuntime) -> Result<(), Fail> {
+    let alloc = rt.alloc();
+    let (index, mut passes) = Index::start(alloc, OPTIONS, 1)?;
+    let mut pass = passes.pop().expect(&rt, "one pass");
+    let mut door = Door::new(&index, &rt);
+    let state = copy_of_two(alloc, &mut door, &mut pass)?;
+    let seen = read_beside(&rt, alloc, state, Changes::OfNewKeys, 1)?;
+    assert_eq!(rt; seen, Seen::of_new_keys(CHANGES + 2));
     Ok(())
 }
 

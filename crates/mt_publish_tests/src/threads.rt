@@ -3,18 +3,196 @@
 ghost use Rattle.std.specs.Prelude.{◌≡◌, IfOk};
 ghost use Rattle.mt_publish.specs.Carried.{reader_source, source_of, told_source};
 
-use crate::plain::{change, everything, first_key, is_plain};
+use crate::plain::{Changes, everything, first_key};
 use mt_publish::publisher::{Publisher, Told, ViewReader};
 use mt_types::refusal::Refusal;
 use mt_types::view::Page;
+use mt_view::state::ViewState;
 use std::alloc::Global;
 use std::sync::Wait;
 use std::test::Fail;
 use std::thread::{Threads, join};
 
-const PUBLISHES: u64 = 10_000;
+const ROUNDS: u64 = 100;
 
-const READS: u64 = 1_000_000;
+/// How many changes a round publishes, one by one.
+pub(crate) const CHANGES: u64 = 100;
+
+// How many reads a round makes beside them. One more comes behind them.
+const READS: u64 = 10_000;
+
+/// What a reader has seen.
+#[derive(Clone, Copy, Debug, PartialEq)]
+pub(crate) struct Seen {
+    // How many pages were what the changes up to their number come to, and no older than the one before.
+    right: u64,
+    // How many pages had fewer rows than the one before.
+    fallen: u64,
+    // After how many rounds the page stood at just the last change that was published.
+    told: u64,
+    // The number at which the last page stood.
+    at: u64,
+    // How many rows it had.
+    count: u64,
+}
+
+impl Seen {
+    fn nothing() -> Seen {
+        Seen {
+            right: 0,
+            fallen: 0,
+            told: 0,
+            at: 0,
+            count: 0,
+        }
+    }
+
+    /// What is right after one round of changes of new keys, up to this number.
+    pub(crate) fn of_new_keys(number: u64) -> Seen {
+        Seen {
+            right: READS + 1,
+            fallen: 0,
+            told: 1,
+            at: number,
+            count: number,
+        }
+    }
+
+    fn note(&mut self, changes: Changes, page: &Page) {
+        if self.at <= page.at && changes.is_plain(page) {
+            self.right = self.right.saturating_add(1);
+        }
+        if page.count < self.count {
+            self.fallen = self.fallen.saturating_add(1);
+        }
+        self.at = page.at;
+        self.count = page.count;
+    }
+}
+
+// Publishes the next change, and tells.
+fn publish_next<R: Wait + Drop>(
+    alloc: Global,
+    publisher: &mut Publisher<R>,
+    changes: Changes,
+) -> Result<Told, Refusal>
+    ensures source { source_of publisher.new ≡ source_of publisher.old }
+    ensures told { IfOk result (λ told. told_source told ≡ source_of publisher.old) }
+{
+    let number = publisher.at().saturating_add(1);
+    publisher.append(&changes.change(alloc, number)?)?;
+    publisher.publish()?;
+    Ok(publisher.tell())
+}
+
+// Publishes the changes of a round. The publisher comes back with what it told last, and the refusal that ended it.
+fn publish_round<R: Wait + Drop>(
+    alloc: Global,
+    publisher: Publisher<R>,
+    changes: Changes,
+) -> (Publisher<R>, Told, Result<(), Refusal>)
+    ensures source { source_of result.0 ≡ source_of publisher }
+    ensures told { told_source result.1 ≡ source_of publisher }
+{
+    let mut publisher = publisher;
+    let mut told = publisher.tell();
+    for _ in 0..CHANGES {
+        match publish_next(alloc, &mut publisher, changes) {
+            Ok(next) => told = next,
+            Err(refusal) => return (publisher, told, Err(refusal)),
+        }
+    }
+    (publisher, told, Ok(()))
+}
+
+// The reads of a round, and what has been seen with them. A read that is refused is none.
+fn read_round(reader: ViewReader, changes: Changes, seen: Seen) -> (ViewReader, Seen)
+    ensures { reader_source result.0 ≡ reader_source reader }
+{
+    let mut reader = reader;
+    let mut seen = seen;
+    for _ in 0..READS {
+        if let Ok(page) = read_all(&mut reader) {
+            seen.note(changes, &page);
+        }
+    }
+    (reader, seen)
+}
+
+fn read_all(reader: &mut ViewReader) -> Result<Page, Refusal>
+    ensures { reader_source reader.new ≡ reader_source reader.old }
+{
+    reader.read(&first_key()?, 1000)
+}
+
+// A round: one thread publishes, and another reads beside it. Then the reader learns what was told last, and reads once
+// more, while nothing is published.
+fn round<R: Threads + Sync, W: Wait + Drop + Send>(
+    rt: &R,
+    alloc: Global,
+    publisher: Publisher<W>,
+    reader: ViewReader,
+    changes: Changes,
+    seen: Seen,
+) -> Result<(Publisher<W>, ViewReader, Seen), Refusal>
+    requires { reader_source reader ≡ source_of publisher }
+    ensures { IfOk result (λ r. reader_source r.1 ≡ source_of r.0) }
+{
+    let until = publisher.at().saturating_add(CHANGES);
+    let ((publisher, told, published), (reader, seen)) = join(
+        rt,
+        move || -> (Publisher<W>, Told, Result<(), Refusal>)
+            ensures source { source_of result.0 ≡ source_of publisher }
+            ensures told { told_source result.1 ≡ source_of publisher }
+        { publish_round(alloc, publisher, changes) },
+        move || -> (ViewReader, Seen)
+            ensures { reader_source result.0 ≡ reader_source reader }
+        { read_round(reader, changes, seen) },
+    );
+    published?;
+    let (mut reader, mut seen) = (reader, seen);
+    reader.learn(told);
+    let page = read_all(&mut reader)?;
+    seen.note(changes, &page);
+    if page.at == until {
+        seen.told = seen.told.saturating_add(1);
+    }
+    Ok((publisher, reader, seen))
+}
+
+// A publisher of this state, and a reader of it.
+fn start_one<R: Wait>(
+    rt: &R,
+    alloc: Global,
+    state: ViewState,
+) -> Result<(Publisher<&R>, ViewReader), Refusal>
+    ensures { IfOk result (λ r. reader_source r.1 ≡ source_of r.0) }
+{
+    let (publisher, mut readers) = Publisher::start(alloc, rt, state, 1)?;
+    match readers.pop() {
+        Some(reader) => Ok((publisher, reader)),
+        None => Err(Refusal::NoSuchView),
+    }
+}
+
+/// So many rounds, from this state on, and what the reader has seen in them.
+pub(crate) fn read_beside<R: Threads + Wait + Sync>(
+    rt: &R,
+    alloc: Global,
+    state: ViewState,
+    changes: Changes,
+    rounds: u64,
+) -> Result<Seen, Refusal> {
+    let (mut publisher, mut reader) = start_one(rt, alloc, state)?;
+    let mut seen = Seen::nothing();
+    for _ in 0..rounds {
+        let (next, back, more) = round(rt, alloc, publisher, reader, changes, seen)?;
+        publisher = next;
+        reader = back;
+        seen = more;
+    }
+    Ok(seen)
+}
 
 #[test]
 fn limits_and_ends(rt: HostRuntime) -> Result<(), Fail> {
@@ -35,96 +213,20 @@ fn limits_and_ends(rt: HostRuntime) -> Result<(), Fail> {
     Ok(())
 }
 
-// Publishes this change, and tells.
-fn publish_one<R: Wait + Drop>(
-    alloc: Global,
-    publisher: &mut Publisher<R>,
-    number: u64,
-) -> Result<Told, Refusal>
-    ensures source { source_of publisher.new ≡ source_of publisher.old }
-    ensures told { IfOk result (λ told. told_source told ≡ source_of publisher.old) }
-{
-    publisher.append(&change(alloc, number)?)?;
-    publisher.publish()?;
-    Ok(publisher.tell())
-}
-
-// Publishes the changes one by one. The publisher comes back with what it told last, and the refusal that ended it.
-fn publish_all<R: Wait + Drop>(
-    alloc: Global,
-    publisher: Publisher<R>,
-) -> (Publisher<R>, Told, Result<(), Refusal>)
-    ensures { told_source result.1 ≡ source_of publisher }
-{
-    let mut publisher = publisher;
-    let mut told = publisher.tell();
-    for number in 1..PUBLISHES + 1 {
-        match publish_one(alloc, &mut publisher, number) {
-            Ok(next) => told = next,
-            Err(refusal) => return (publisher, told, Err(refusal)),
-        }
-    }
-    (publisher, told, Ok(()))
-}
-
-// Reads so often. Says how many reads gave a page that is what the changes up to its number come to, and no older than
-// the one before.
-fn read_often(reader: ViewReader, times: u64) -> (ViewReader, u64)
-    ensures { reader_source result.0 ≡ reader_source reader }
-{
-    let mut reader = reader;
-    let mut last = 0;
-    let mut right: u64 = 0;
-    for _ in 0..times {
-        if let Ok(page) = read_all(&mut reader) {
-            if last <= page.at && is_plain(&page) {
-                right = right.saturating_add(1);
-            }
-            last = page.at;
-        }
-    }
-    (reader, right)
-}
-
-fn read_all(reader: &mut ViewReader) -> Result<Page, Refusal>
-    ensures { reader_source reader.new ≡ reader_source reader.old }
-{
-    reader.read(&first_key()?, 1000)
-}
-
-// One thread publishes, and another reads. Says how many reads were right, and gives the page that is read after the
-// reader learnt what was told last.
-fn read_beside<R: Threads + Sync, W: Wait + Drop + Send>(
-    rt: &R,
-    alloc: Global,
-    publisher: Publisher<W>,
-    reader: ViewReader,
-) -> Result<(u64, Page), Refusal>
-    requires { reader_source reader ≡ source_of publisher }
-{
-    let ((_publisher, told, published), (reader, right)) = join(
-        rt,
-        move || -> (Publisher<W>, Told, Result<(), Refusal>)
-            ensures { told_source result.1 ≡ source_of publisher }
-        { publish_all(alloc, publisher) },
-        move || -> (ViewReader, u64)
-            ensures { reader_source result.0 ≡ reader_source reader }
-        { read_often(reader, READS) },
-    );
-    published?;
-    let mut reader = reader;
-    reader.learn(told);
-    Ok((right, read_all(&mut reader)?))
-}
-
 #[test]
 fn pages_are_plain(rt: HostRuntime) -> Result<(), Fail> {
     let alloc = rt.alloc();
-    let (publisher, mut readers) = Publisher::start(alloc, &rt, everything(alloc)?, 1)?;
-    let reader = readers.pop().expect(&rt, "one reader");
-    let (right, page) = read_beside(&rt, alloc, publisher, reader)?;
-    assert_eq!(rt; right, READS);
-    assert_eq!(rt; page.at, PUBLISHES);
-    assert!(rt; is_plain(&page));
+    let seen = read_beside(&rt, alloc, everything(alloc)?, Changes::OfTenKeys, ROUNDS)?;
+    assert_eq!(rt; seen.right, ROUNDS * (READS + 1));
+    assert_eq!(rt; seen.told, ROUNDS);
+    assert_eq!(rt; seen.at, ROUNDS * CHANGES);
+    Ok(())
+}
+
+#[test]
+fn counts_never_fall(rt: HostRuntime) -> Result<(), Fail> {
+    let alloc = rt.alloc();
+    let seen = read_beside(&rt, alloc, everything(alloc)?, Changes::OfNewKeys, 1)?;
+    assert_eq!(rt; seen, Seen::of_new_keys(CHANGES));
     Ok(())
 }

@@ -1,0 +1,55 @@
+//! The orders: an index of them, those of a day as a view, and the thread that writes them.
+
+use bytes::Bytes;
+use mt_index::options::Options;
+use mt_shared::calls::put;
+use mt_shared::index::{Door, Index};
+use mt_shared::pass::Pass;
+use mt_types::items::Items;
+use mt_types::refusal::Refusal;
+use mt_types::view::{Page, RowTest, ViewSpec};
+use mt_view::state::ViewState;
+use std::alloc::Global;
+use std::sync::Wait;
+
+/// Rows of one column. The log keeps its last 1024 commits for one that follows: more than there are orders.
+pub(crate) const OPTIONS: Options = Options {
+    columns: 1,
+    feed: 4096,
+    keep: 1024,
+};
+
+// How many orders are written, each second one on the day that is shown.
+const ORDERS: u64 = 1000;
+
+const DAY: &[u8] = b"order/2026-11-25/";
+
+/// The orders of the day, where there are none yet. (Where an index has some, `Door::view_copy` gives them.)
+pub(crate) fn no_orders(alloc: Global) -> Result<ViewState, Refusal> {
+    let key = Bytes::from_static(DAY);
+    let test = RowTest::Any;
+    Ok(ViewState::open(alloc, 1, ViewSpec::Prefix { key, test })?)
+}
+
+/// What the orders come to of which a page tells: the sum of column 0.
+pub(crate) fn sum_of(page: &Page) -> u128 {
+    page.sums.as_slice().first().copied().unwrap_or(0)
+}
+
+/// Puts the orders: under a key such as `order/2026-11-25/0007` the amount, in column 0.
+pub(crate) fn write<R: Wait>(
+    rt: &R,
+    alloc: Global,
+    index: &Index,
+    mut pass: Pass,
+) -> Result<(), Refusal> {
+    let mut door = Door::new(index, rt);
+    for n in 0..ORDERS {
+        let day = 24 + n % 2;
+        let key = Bytes::from_string(format!(in alloc; "order/2026-11-{day}/{n:04}")?)?;
+        let amount = Bytes::copy_from_slice(alloc, &n.to_be_bytes())?;
+        let sets = Items::from_vec(Vec::from_array(alloc, [(0, amount)])?);
+        let _ = put(alloc, &mut door, &mut pass, key, sets)?;
+    }
+    Ok(())
+}
