@@ -25,7 +25,7 @@ use Rattle.std.proofs.Math.Nat.{min-le_left}
 use Rattle.std.proofs.lemmas.List.Sums.{length-filter, count_by-le-length}
 use Rattle.mt_types.specs.Limits.{refused_if, request_fault}
 use Rattle.mt_types.specs.Numbers.{greatest_number}
-use Rattle.mt_types.specs.declared.limits.TheConstants.{MAX_OPEN_CALLS, MAX_VIEWS}
+use Rattle.mt_types.specs.declared.limits.TheConstants.{MAX_COLUMNS, MAX_OPEN_CALLS, MAX_VIEWS}
 use Rattle.mt_types.specs.declared.event.Answer.{Answer}
 use Rattle.mt_types.specs.declared.event.Reply.{Reply}
 use Rattle.mt_promise.specs.Legal.{held_from, reads_log}
@@ -327,6 +327,7 @@ called s pass request work h st none is new =
         subst (λ r. MayBegin (moment h) r (Called (record { 0 = s.calls.begun + 1 }))) (sym none ∙ machine_fault s h request st)
             (inl (ap (λ (n : ℕ). Called (record { 0 = n + 1 })) st.begun)),
       );
+      few = st.few;
       commits = st.commits;
       begun = ap (λ (n : ℕ). n + 1) st.begun;
       epoch = st.epoch;
@@ -513,10 +514,11 @@ pub settled_bounds : (reads : Bool) (from : ℕ) (p : Progress) (left : LogView)
 settled_bounds reads from p left feed keep had = subst (λ (l : LogView). HasBounds feed keep (trimmed l)) (sym (log_after_is reads from p left)) had
 
 -- ---- the new machine
-pub opens-stands : (C feed keep : ℕ) (a : ArenaView) (log : LogView) (w : World) → IsWorld a 0 w → ((number : ℕ) → IsTaken a w number → ⊥) → ((key : List ℕ) (row : Row) → HasRow a key row → ⊥) → log ≡ record { held_after = 0; deltas = []; reserved = 0; holders = []; feed = feed; keep = keep }
+pub opens-stands : (C feed keep : ℕ) (a : ArenaView) (log : LogView) (w : World) → C ≤ MAX_COLUMNS → IsWorld a 0 w → ((number : ℕ) → IsTaken a w number → ⊥) → ((key : List ℕ) (row : Row) → HasRow a key row → ⊥) → log ≡ record { held_after = 0; deltas = []; reserved = 0; holders = []; feed = feed; keep = keep }
     → Stands (record { columns = C; epoch = 0; tree = a; log = log; calls = record { begun = 0; calls = [] }; views = record { built = 0; building = 0; views = [] } }) []
-opens-stands C feed keep a log w world nobody empty is = subst (λ (l : LogView). Stands (record { columns = C; epoch = 0; tree = a; log = l; calls = record { begun = 0; calls = [] }; views = record { built = 0; building = 0; views = [] } }) []) (sym is) (record {
+opens-stands C feed keep a log w few world nobody empty is = subst (λ (l : LogView). Stands (record { columns = C; epoch = 0; tree = a; log = l; calls = record { begun = 0; calls = [] }; views = record { built = 0; building = 0; views = [] } }) []) (sym is) (record {
   legal = tt;
+  few = few;
   commits = refl;
   begun = refl;
   epoch = refl;

@@ -83,6 +83,7 @@ module _ (s : MachineView) (h : History) (x : Happening) (st : Stands s h) (now 
   pub quiet_stands : IsWorld tree now w → SameContent (arena_seen s.tree) (arena_seen tree) → Paired (CallStands s.columns now tree w (x ∷ h)) 0 s.calls.begun s.calls.calls (moment h).calls → AllOwned tree w s.calls.calls → Stands (seen s.columns now tree s.log s.calls s.views) (x ∷ h)
   quiet_stands world same related owned = record {
     legal = (st.legal, may);
+    few = st.few;
     commits = st.commits ∙ ap length (sym commits);
     begun = st.begun ∙ sym begun;
     epoch = epoch;

@@ -1,5 +1,6 @@
 pub mod FirstLemmas
 pub mod NumberLemmas
+pub mod LimitedLemmas
 pub mod ListLemmas
 pub mod PairedLemmas
 pub mod OpenLemmas

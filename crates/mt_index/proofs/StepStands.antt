@@ -371,6 +371,7 @@ module _ (s : MachineView) (h : History) (n : ℕ) (kept : Call) (st : Stands s 
         }) in
         record {
           legal = (st.legal, subst (λ z. MayStepAt s.columns h z o 0) (sym f.of) may);
+          few = st.few;
           commits = log.commits;
           begun = st.begun ∙ sym (ap (λ m. m.begun) then ∙ begun);
           epoch = st.epoch ∙ sym (ap (λ m. m.epoch) then ∙ epoch);
@@ -485,6 +486,7 @@ module _ (s : MachineView) (h : History) (n : ℕ) (kept : Call) (st : Stands s 
             st.legal,
             subst (λ z. MayStepAt s.columns h z (Commit number) 0) (sym f.of) (may next_number stood),
           );
+          few = st.few;
           commits = log.commits;
           begun = st.begun ∙ sym (ap (λ m. m.begun) then);
           epoch = st.epoch ∙ sym (ap (λ m. m.epoch) then);

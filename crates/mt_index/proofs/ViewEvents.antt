@@ -67,6 +67,7 @@ module _ (s : MachineView) (h : History) (st : Stands s h) (x : Happening) (may 
       }) in
       record {
         legal = (st.legal, may);
+        few = st.few;
         commits = log.commits;
         begun = st.begun ∙ sym begun;
         epoch = st.epoch ∙ sym epoch;

@@ -3,7 +3,6 @@ use Rattle.std.specs.Option.{option_map}
 use Rattle.std.specs.Prelude.{Result, Ok, Err, ℕ, ◌+◌, ◌-◌, ◌≡◌, ◌≤◌, ◌<◌, ◌==◌, ◌⊎◌, ◌↔◌, true, if◌then◌else◌, min, Bool, List, [], ◌∷◌, ◌++◌, length, drop, map, filter, Option, Some, None}
 use Rattle.std.specs.FinMap.{get}
 use Rattle.mt_types.specs.declared.numbers.PassNo.{PassNo}
-use Rattle.mt_types.specs.declared.event.Event.{Event}
 use Rattle.mt_types.specs.declared.event.Request.{Request}
 use Rattle.mt_types.specs.declared.event.Outcome.{Outcome}
 use Rattle.mt_types.specs.declared.event.Outcome.TheVariants.{Call as Called, Moved, Again, Commit, Done, Applied, Current, View, Dropped, Epoch, Freed, Refused}
@@ -14,6 +13,7 @@ use Rattle.mt_promise.specs.History.{History, Moment, OpenCall, StandingView, me
 use Rattle.mt_promise.specs.Legal.{Legal, begin_fault, held_from, reads_log, is_build}
 use Rattle.mt_types.specs.Limits.{page_fault}
 use Rattle.mt_types.specs.Numbers.{greatest_number}
+use Rattle.mt_types.specs.declared.limits.TheConstants.{MAX_COLUMNS}
 use Rattle.mt_types.specs.declared.row.Delta.{Delta}
 use Rattle.mt_types.specs.declared.event.Answer.TheVariants.{Built}
 use Rattle.mt_types.specs.Rows.{Rows, shown}
@@ -107,6 +107,8 @@ pub record CallStands (C now : ℕ) (a : ArenaView) (w : World) (h : History) (k
 pub record Stands (s : MachineView) (h : History) : Type 0 where
   -- each outcome was one that its event may have
   pub legal : Legal s.columns h
+  -- it has no more columns than an index may have
+  pub few : s.columns ≤ MAX_COLUMNS
   pub commits : newest s.log ≡ length (moment h).commits
   pub begun : s.calls.begun ≡ (moment h).begun
   pub epoch : s.epoch ≡ (moment h).epoch

@@ -3,6 +3,7 @@
 ghost use Rattle.std.specs.Prelude.{ℕ, ◌≡◌, ◌↔◌, [], ◌∷◌, take, drop, IsTrue, length, IfOk, IfErr, MatchOption, Err};
 ghost use Rattle.std.specs.Option.{option_map};
 ghost use Rattle.mt_types.specs.Limits.{open_fault};
+ghost use Rattle.mt_types.specs.Limited.{OutcomeIsLimited};
 ghost use Rattle.mt_promise.specs.History.{History, happening, moment, call_of};
 ghost use Rattle.mt_arena.specs.Node.{occupied};
 ghost use Rattle.mt_index.specs.Alone.{IsIdle};
@@ -183,7 +184,7 @@ impl Machine {
     /// that is legal: `stands` says so of each history. Three clauses tell what a history doesn't show: `does`, what an
     /// event of each kind changes, and that it changes nothing else; `caused`, why a call waits, fails or is refused,
     /// and which nodes a collection frees; and `one_step`, that a step of a call is one step of its kind, by the tree
-    /// before it: it visits one node, or takes one delta.
+    /// before it: it visits one node, or takes one delta. What it answers keeps the limits of an index (`limited`).
     ///
     /// A begin costs some allocations, and a step the visit of one node and at most some allocations. A step finds its
     /// call once, and the last one once more: at the cost of a way down the tree of open calls, or of none for a call
@@ -194,9 +195,11 @@ impl Machine {
         ensures does { EventDoes self.old event.now result self.new }
         ensures caused { IsCaused self.old event.now result self.new }
         ensures one_step { IsOneStep self.old event.now result self.new }
+        ensures limited { OutcomeIsLimited result }
         ensures columns { self.new.columns ≡ self.old.columns }
         ensures bounds { HasBounds self.old.log.feed self.old.log.keep self.new.log }
     {
+        let _stands = self.is_idle();
         match event {
             Event::Begin(pass, request) => self.begin(alloc, *pass, request),
             Event::Step(call) => self.step(alloc, call.0),

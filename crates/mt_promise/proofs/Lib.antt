@@ -5,6 +5,7 @@ pub mod FinishedLemmas
 pub mod GetLemmas
 pub mod HistoryLemmas
 pub mod KeepLemmas
+pub mod LimitedLemmas
 pub mod NumberedLemmas
 pub mod OnceLemmas
 pub mod PageExamples

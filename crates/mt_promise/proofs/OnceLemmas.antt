@@ -1,5 +1,5 @@
 -- Finished calls: each began once and ended once, and has made its own change.
-use Rattle.std.proofs.Common.{◌≡◌, ◌<◌, ◌≤◌, ℕ, ◌==◌, ◌+◌, Bool, true, false, List, [], ◌∷◌, ◌++◌, length, Option, Some, None, ◌∙◌, ap, sym, subst, refl, inl, inr, ◌⊎◌, arith, append_assoc, length-append}
+use Rattle.std.proofs.Common.{◌≡◌, ◌<◌, ◌≤◌, ℕ, ◌==◌, ◌+◌, Bool, List, [], ◌∷◌, ◌++◌, length, Option, Some, None, ◌∙◌, ap, sym, subst, refl, inl, inr, ◌⊎◌, arith, append_assoc, length-append}
 use Rattle.std.specs.Prelude.{if◌then◌else◌, slice_get, zero, suc}
 use Rattle.std.proofs.lemmas.Bool.Decides.{eqb_tells}
 use Rattle.mt_types.specs.declared.numbers.PassNo.{PassNo}
@@ -17,10 +17,10 @@ use Rattle.mt_types.specs.declared.event.Answer.{Answer}
 use Rattle.mt_types.specs.declared.event.Answer.TheVariants.{Absent, Found, Stored, Removed, Rows as RowsAnswer, Tidied, Built}
 use Rattle.mt_types.specs.declared.event.Reply.{Reply}
 use Rattle.mt_promise.specs.History.{History, Happening, happening, Moment, OpenCall, moment, call_of, new_call, replace_call, without_call, after_event, after_step, after_call_step, change_of, view_built}
-use Rattle.mt_promise.specs.Legal.{Legal, MayHappen, MayStep, MayStepAt, RightReply}
+use Rattle.mt_promise.specs.Legal.{Legal, MayHappen, MayStep, MayStepAt}
 use Rattle.mt_promise.specs.RightAnswers.{RightAnswer}
 use Rattle.mt_promise.specs.Headline.{IsFinished}
-use Rattle.mt_promise.specs.Finished.{CarriesItsOwn, IsWithin, HasMade, FinishedCallsCarryTheirOwn, FinishedCallsHaveMade, CallsFinishOnce, ViewsAreBuiltOnce}
+use Rattle.mt_promise.specs.Finished.{IsWithin, HasMade, FinishedCallsCarryTheirOwn, FinishedCallsHaveMade, CallsFinishOnce, ViewsAreBuiltOnce}
 use Rattle.mt_promise.proofs.NumberedLemmas.{found, left_out, found_before_filter, found_before_map, found_before_append}
 use Rattle.mt_promise.proofs.CallLemmas.{begins_next, number_has_begun, begun_rises, call_before, open_has_begun, began_so}
 use Rattle.mt_promise.proofs.FinishedLemmas.{legal_before, done_call, finished}

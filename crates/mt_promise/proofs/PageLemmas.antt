@@ -22,11 +22,11 @@ use Rattle.mt_types.specs.declared.refusal.Refusal.{Refusal}
 use Rattle.mt_types.specs.declared.refusal.Refusal.TheVariants.{Behind}
 
 -- which view a page is of
-record IsPageOf (C : ℕ) (past : History) (n floor : ℕ) (start : List ℕ) (limit : ℕ) (page : Page) : Type 0 where
-  v : StandingView
-  found : view_of n (moment past).views ≡ Some v
-  floor_met : floor ≤ v.at
-  is : page ≡ page_of C (moment past) v start limit
+pub record IsPageOf (C : ℕ) (past : History) (n floor : ℕ) (start : List ℕ) (limit : ℕ) (page : Page) : Type 0 where
+  pub v : StandingView
+  pub found : view_of n (moment past).views ≡ Some v
+  pub floor_met : floor ≤ v.at
+  pub is : page ≡ page_of C (moment past) v start limit
 
 shown_page : (C : ℕ) (past : History) (n floor : ℕ) (start : List ℕ) (limit : ℕ) (page : Page) (v : StandingView) → view_of n (moment past).views ≡ Some v
     → MayShow C (moment past) v start limit (refused_if (nat_lt v.at floor) (Behind v.at)) (View page) → IsPageOf C past n floor start limit page
@@ -48,7 +48,7 @@ read_page : (C : ℕ) (past : History) (n floor : ℕ) (start : List ℕ) (limit
 read_page C past n floor start limit page None at may = cc
 read_page C past n floor start limit page (Some v) at may = shown_page C past n floor start limit page v at may
 
-asked_page : (C : ℕ) (past : History) (n floor : ℕ) (start : List ℕ) (limit : ℕ) (page : Page) (r : Option Refusal)
+pub asked_page : (C : ℕ) (past : History) (n floor : ℕ) (start : List ℕ) (limit : ℕ) (page : Page) (r : Option Refusal)
     → MayReadView C (moment past) r n floor start limit (View page) → IsPageOf C past n floor start limit page
 asked_page C past n floor start limit page None may = read_page C past n floor start limit page (view_of n (moment past).views) refl may
 asked_page C past n floor start limit page (Some refusal) may = cc

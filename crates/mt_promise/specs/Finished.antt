@@ -8,7 +8,7 @@ use Rattle.mt_types.specs.declared.row.Change.TheVariants.{Put as PutChange, Dro
 use Rattle.mt_types.specs.declared.event.Answer.TheVariants.{Absent, Stored, Removed, Built}
 use Rattle.mt_types.specs.declared.event.Reply.{Reply}
 use Rattle.mt_types.specs.declared.event.Request.{Request}
-use Rattle.mt_types.specs.declared.event.Request.TheVariants.{Put, Remove, Build}
+use Rattle.mt_types.specs.declared.event.Request.TheVariants.{Put, Remove}
 use Rattle.mt_promise.specs.History.{History, Moment, moment}
 use Rattle.mt_promise.specs.Headline.{IsFinished}
 use Rattle.mt_promise.specs.Legal.{Legal}

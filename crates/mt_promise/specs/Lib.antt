@@ -4,6 +4,7 @@ pub mod RightAnswers
 pub mod Legal
 pub mod Headline
 pub mod Finished
+pub mod Limited
 pub mod Alone
 pub mod Examples
 -- behind it: what equality in code tells

@@ -7,3 +7,4 @@ pub mod exact;
 pub mod examples;
 pub mod finished;
 pub mod headline;
+pub mod limited;

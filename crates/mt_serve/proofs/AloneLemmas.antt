@@ -1,8 +1,8 @@
 -- An index of one caller: events that its pass makes, and a call of it, alone, from its begin to its end.
-use Rattle.std.proofs.Common.{ℕ, ◌≡◌, ◌<◌, ◌≤◌, ◌⊎◌, Bool, true, false, inl, inr, List, [], ◌∷◌, ◌++◌, length, Option, Some, None, refl, sym, ap, subst, ◌∙◌, arith, append-nil, length-append}
+use Rattle.std.proofs.Common.{ℕ, ◌≡◌, ◌<◌, ◌≤◌, Bool, true, false, inl, inr, List, [], ◌∷◌, ◌++◌, length, Option, Some, None, refl, sym, ap, subst, ◌∙◌, arith, append-nil, length-append}
 use Rattle.std.specs.Prelude.{◌+◌, ◌-◌, ◌==◌, ◌&&◌, ◌||◌, nat_le, not, MatchBool, if◌then◌else◌, max, map, filter, count_by, All, Result, Ok, Err}
 use Rattle.std.specs.Option.{option_or, option_map}
-use Rattle.std.proofs.lemmas.Bool.{eq-eqb, cases_Bool}
+use Rattle.std.proofs.lemmas.Bool.{eq-eqb}
 use Rattle.std.proofs.lemmas.Bool.Decides.{eqb_tells, leb_tells}
 use Rattle.std.proofs.lemmas.List.{length-set}
 use Rattle.std.proofs.lemmas.List.Elements.{All-head, All-tail}
@@ -23,21 +23,21 @@ use Rattle.mt_types.specs.declared.event.Answer.{Answer}
 use Rattle.mt_types.specs.declared.event.Answer.TheVariants.{Built}
 use Rattle.mt_types.specs.declared.event.Reply.{Reply}
 use Rattle.mt_types.specs.declared.event.Request.{Request}
-use Rattle.mt_types.specs.declared.event.Request.TheVariants.{Get, Put, Remove, Range, Tidy, Build}
-use Rattle.mt_promise.specs.History.{History, Happening, happening, Moment, OpenCall, StandingView, moment, call_of, new_call, replace_call, after_event, after_call_step, after_step, view_built, Sometime, Throughout}
-use Rattle.mt_promise.specs.Legal.{Legal, MayHappen, MayBegin, MayStep, MayStepAt, MayEnd, IsOrLacksMemory, begin_fault, view_places, reads_log, held_from, is_build}
-use Rattle.mt_promise.specs.Alone.{GoesOnBy, AreStepsOf, RunsAlone, EndsPlainly, EndsRefused}
+use Rattle.mt_types.specs.declared.event.Request.TheVariants.{Put, Remove, Build}
+use Rattle.mt_promise.specs.History.{History, happening, Moment, OpenCall, StandingView, moment, call_of, new_call, replace_call, after_event, after_call_step, after_step, view_built, Sometime, Throughout}
+use Rattle.mt_promise.specs.Legal.{Legal, MayHappen, MayBegin, MayStepAt, MayEnd, begin_fault, view_places, reads_log, held_from, is_build}
+use Rattle.mt_promise.specs.Alone.{GoesOnBy, RunsAlone}
 use Rattle.mt_promise.proofs.AloneLemmas.{lone_calls_are_plain, lone_refusals_do_nothing}
 use Rattle.mt_promise.proofs.HistoryLemmas.{happened_is}
 use Rattle.mt_index.specs.declared.calls.Call.{Call}
-use Rattle.mt_index.specs.Calls.{pass_at, call_at}
+use Rattle.mt_index.specs.Calls.{pass_at}
 use Rattle.mt_index.specs.Paired.{Paired}
 use Rattle.mt_index.specs.Stands.{MachineView, Stands, CallStands}
 use Rattle.mt_shared.specs.declared.trace.Entry.{Entry}
 use Rattle.mt_shared.specs.Traces.{entry}
-use Rattle.mt_shared.specs.Passes.{PassView, Counts, seen_in}
-use Rattle.mt_shared.specs.Drives.{Runs, Continues, IsStep, whole, IsDriven, IsCut, IsRefused, IsDrive, EndsIn}
-use Rattle.mt_shared.specs.Kept.{KeptView, Does, IsMade, IsUnmade, Makes, has_book, is_foreign, is_other, is_wrong, is_spent}
+use Rattle.mt_shared.specs.Passes.{PassView, seen_in}
+use Rattle.mt_shared.specs.Drives.{Runs, Continues, IsStep, whole, IsCut, IsDrive, EndsIn}
+use Rattle.mt_shared.specs.Kept.{KeptView, Does, IsMade, IsUnmade, has_book, is_foreign, is_other, is_wrong, is_spent}
 use Rattle.mt_shared.proofs.HappeningLemmas.{event_grows, event_shows}
 use Rattle.mt_serve.specs.Plain.{IsAlone, CallEnds, MayRefuse, MayLack, slowest_view}
 

@@ -1,38 +1,33 @@
 -- The laws of an index of one caller: its queries are answered plainly.
-use Rattle.std.proofs.Common.{ℕ, ◌≡◌, ◌<◌, ◌≤◌, ◌⊎◌, Bool, true, false, inl, inr, List, [], ◌∷◌, ◌++◌, length, Option, Some, None, IfSome, refl, sym, ap, subst, ◌∙◌, arith, append-nil, length-append}
-use Rattle.std.specs.Prelude.{◌+◌, ◌-◌, ◌==◌, ◌&&◌, suc, not, nat_le, nat_lt, MatchBool, if◌then◌else◌, map, All, Result, Ok, Err, ⊤}
+use Rattle.std.proofs.Common.{ℕ, ◌≡◌, ◌<◌, ◌≤◌, ◌⊎◌, Bool, true, false, inl, inr, List, [], ◌∷◌, ◌++◌, length, Option, Some, None, IfSome, refl, sym, ap, subst, ◌∙◌, arith, append-nil}
+use Rattle.std.specs.Prelude.{◌+◌, ◌-◌, ◌==◌, ◌&&◌, suc, not, nat_le, nat_lt, MatchBool, if◌then◌else◌, map, All, Result, Ok, Err}
 use Rattle.std.proofs.lemmas.Bool.{eq-eqb, cases_Bool}
 use Rattle.std.proofs.lemmas.Bool.Decides.{leb_tells}
 use Rattle.std.proofs.lemmas.List.Elements.{All-head, All-tail, All-nil, All-cons}
 use Rattle.mt_types.specs.Numbers.{greatest_number}
 use Rattle.mt_types.specs.declared.limits.TheConstants.{MAX_VIEWS}
 use Rattle.mt_types.specs.declared.numbers.PassNo.{PassNo}
-use Rattle.mt_types.specs.declared.numbers.ViewNo.{ViewNo}
 use Rattle.mt_types.specs.declared.refusal.Refusal.{Refusal}
 use Rattle.mt_types.specs.declared.refusal.Refusal.TheVariants.{NoMemory}
-use Rattle.mt_types.specs.declared.event.Event.{Event}
-use Rattle.mt_types.specs.declared.event.Event.TheVariants.{Begin, Apply, ViewRead as ReadOf, ViewDrop as DropOf}
-use Rattle.mt_types.specs.declared.event.Outcome.{Outcome}
-use Rattle.mt_types.specs.declared.event.Outcome.TheVariants.{Done, Applied, Current, Dropped, View, Refused}
+use Rattle.mt_types.specs.declared.event.Event.TheVariants.{Begin, ViewRead as ReadOf, ViewDrop as DropOf}
+use Rattle.mt_types.specs.declared.event.Outcome.TheVariants.{Done, Applied, Current, Dropped, Refused}
 use Rattle.mt_types.specs.declared.event.Request.{Request}
 use Rattle.mt_types.specs.declared.event.Reply.{Reply}
-use Rattle.mt_types.specs.declared.view.Page.{Page}
-use Rattle.mt_promise.specs.History.{History, happening, Moment, OpenCall, StandingView, moment, furthest as furthest_of, meant_view, view_of, move_view, without_view}
-use Rattle.mt_promise.specs.Legal.{MayHappen, MayApply, IsOrLacksMemory}
+use Rattle.mt_promise.specs.History.{History, happening, Moment, StandingView, moment, furthest as furthest_of, move_view, without_view}
+use Rattle.mt_promise.specs.Legal.{MayApply, IsOrLacksMemory}
 use Rattle.mt_shared.specs.declared.trace.Entry.{Entry}
 use Rattle.mt_shared.specs.Passes.{PassView}
-use Rattle.mt_shared.specs.Drives.{Runs, whole, IsDrive, IsRefused}
-use Rattle.mt_shared.specs.Turns.{page_outcome, drop_outcome, furthest, turn, IsTurn, HasTurned, IsLast, KeepsUp, IsStopped}
-use Rattle.mt_shared.specs.Kept.{KeptView, Does, has_book}
+use Rattle.mt_shared.specs.Drives.{Runs, whole, IsDrive}
+use Rattle.mt_shared.specs.Turns.{page_outcome, drop_outcome, furthest, turn, IsTurn, HasTurned}
+use Rattle.mt_shared.specs.Kept.{KeptView, Does}
 use Rattle.mt_wire.specs.declared.query.Query.{Query}
 use Rattle.mt_wire.specs.declared.query.Query.TheVariants.{Call, ViewRead, ViewDrop}
 use Rattle.mt_wire.specs.declared.response.Response.{Response}
-use Rattle.mt_serve.specs.declared.session.Summary.{Summary}
 use Rattle.mt_serve.specs.Asking.{Asks, Answers, AnswersAll, AnswersFrames, KeepsViews, changes}
 use Rattle.mt_serve.specs.declared.fault.SessionFault.{SessionFault}
 use Rattle.mt_serve.specs.declared.fault.SessionFault.TheVariants.{Write, NoMemory as WantsMemory}
-use Rattle.mt_serve.specs.Sessions.{HasServed, IsServed, IsBroken, BreaksIn, BreaksAt, requests_of}
-use Rattle.mt_serve.specs.Plain.{IsAlone, OneHappens, PlainlyAsks, PlainlyAnswers, PlainlyAnswersAll, PlainlyAnswersFrames, NoneBehind, TakenOn, WantedMemory, KeptUp, ServesPlainly, FreshIsAlone, AloneAnswersPlainly, AloneAnswersFramesPlainly, AloneServesPlainly, AloneBreaksPlainly, BreaksInPlainly, BreaksAtPlainly}
+use Rattle.mt_serve.specs.Sessions.{BreaksIn, BreaksAt, requests_of}
+use Rattle.mt_serve.specs.Plain.{IsAlone, PlainlyAsks, PlainlyAnswers, PlainlyAnswersAll, PlainlyAnswersFrames, NoneBehind, TakenOn, KeptUp, FreshIsAlone, AloneAnswersPlainly, AloneAnswersFramesPlainly, AloneServesPlainly, AloneBreaksPlainly, BreaksInPlainly, BreaksAtPlainly}
 use Rattle.mt_serve.proofs.AloneLemmas.{Keeping, keeping, goes, does_rises, runs_rise, drive_ends}
 
 less_tells : (a b : ℕ) → ((nat_lt a b ≡ true) × (a < b)) ⊎ ((nat_lt a b ≡ false) × (b ≤ a))

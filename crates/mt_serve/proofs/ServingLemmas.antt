@@ -1,6 +1,6 @@
 -- Queries, frames that have been answered so far.
-use Rattle.std.proofs.Common.{◌≡◌, ◌≢◌, inl, inr, ℕ, ◌+◌, ◌*◌, ◌≤◌, List, [], ◌∷◌, ◌++◌, length, fold, refl, ap, subst, sym, ◌∙◌, arith, append_assoc, append-nil, length-append, Option, None, Some, IfSome}
-use Rattle.std.specs.Prelude.{sum_by}
+use Rattle.std.proofs.Common.{◌≡◌, ◌≢◌, inl, inr, ℕ, suc, ◌+◌, ◌*◌, ◌≤◌, List, [], ◌∷◌, ◌++◌, length, fold, refl, ap, subst, sym, ◌∙◌, arith, append_assoc, append-nil, length-append, Option, None, Some, IfSome}
+use Rattle.std.specs.Prelude.{sum_by, ⊤, Result, Ok, Err, IfOk}
 use Rattle.std.specs.List.{AllByRecursion}
 use Rattle.std.specs.Io.KnownBytes.{Appends}
 use Rattle.std.proofs.KnownBytes.{Appends-nil, Appends-trans}
@@ -8,11 +8,19 @@ use Rattle.mt_shared.specs.Passes.{PassView}
 use Rattle.mt_shared.specs.Drives.{EventLaw}
 use Rattle.mt_wire.specs.declared.query.Query.{Query}
 use Rattle.mt_wire.specs.declared.response.Response.{Response}
-use Rattle.mt_wire.specs.Frames.{RequestsFit, request_frame, reply_frame}
+use Rattle.mt_types.specs.Limited.{AnswerIsLimited, PageIsLimited}
+use Rattle.mt_types.specs.declared.refusal.Refusal.{Refusal}
+use Rattle.mt_types.specs.declared.view.Page.{Page}
+use Rattle.mt_types.specs.declared.event.Reply.{Reply}
+use Rattle.mt_types.specs.declared.event.Answer.{Answer}
+use Rattle.mt_types.specs.declared.event.Answer.TheVariants.{Absent, Found, Stored, Removed, Rows, Tidied, Built}
+use Rattle.mt_wire.specs.Answered.{end_of}
+use Rattle.mt_wire.specs.Limited.{EndIsLimited, ResponseIsLimited}
+use Rattle.mt_wire.specs.Frames.{Holds, RequestsFit, request_frame, reply_frame}
 use Rattle.mt_serve.specs.declared.fault.SessionFault.{SessionFault}
 use Rattle.mt_serve.specs.declared.fault.SessionFault.TheVariants.{Write}
 use Rattle.mt_serve.specs.declared.session.Summary.{Summary}
-use Rattle.mt_serve.specs.Asking.{Answers, AnswersAll, AnswersFrames}
+use Rattle.mt_serve.specs.Asking.{Answers, AnswersAll, AnswersFrames, call_response, page_response, drop_response}
 use Rattle.mt_serve.specs.Sources.{FaultIsAt, LosesFrame}
 use Rattle.mt_serve.specs.Sessions.{HasServed, IsServed, IsBroken, BreaksIn, requests_of, replies_of}
 
@@ -25,6 +33,48 @@ AnswersAll-push does s m t p r q [] (y ∷ ys) query response all one = absurd a
 AnswersAll-push does s m t p r q (x ∷ xs) [] query response all one = absurd all
 AnswersAll-push does s m t p r q (x ∷ xs) (y ∷ ys) query response all one = (all.0, all.1, all.2, AnswersAll-push does all.0 m t all.1 r q xs ys query response all.3 one)
 
+-- ---- the answers to a frame of queries are as many, and keep the limits: so they are a frame
+pub limited_more : (responses : List Response) (response : Response) → AllByRecursion ResponseIsLimited responses → ResponseIsLimited response → AllByRecursion ResponseIsLimited (responses ++ response ∷ [])
+limited_more [] response all one = (one, tt)
+limited_more (x ∷ xs) response all one = (all.0, limited_more xs response all.1 one)
+
+as_many : {S : Type 0} (does : EventLaw S) (s t : S) (p q : PassView) (queries : List Query) (responses : List Response) → AnswersAll does s p queries responses t q → length responses ≡ length queries
+as_many does s t p q [] [] all = refl
+as_many does s t p q [] (y ∷ ys) all = absurd all
+as_many does s t p q (x ∷ xs) [] all = absurd all
+as_many does s t p q (x ∷ xs) (y ∷ ys) all = ap suc (as_many does all.0 t all.1 q xs ys all.3)
+
+pub answers_hold : {S : Type 0} (does : EventLaw S) (s t : S) (p q : PassView) (queries : List Query) (responses : List Response) → RequestsFit queries → AnswersAll does s p queries responses t q
+    → AllByRecursion ResponseIsLimited responses → Holds ResponseIsLimited responses
+answers_hold does s t p q queries responses fits all limited =
+    let same = as_many does s t p q queries responses all in
+    let some = fits.0.0 in
+    let few = fits.0.1 in
+    (omega (arith, same, some), omega (arith, same, few), limited)
+
+-- ---- what one query is answered keeps the limits
+end_limited : (answer : Answer) → AnswerIsLimited answer → EndIsLimited (end_of answer)
+end_limited Absent limited = tt
+end_limited (Found row) limited = limited
+end_limited (Stored number) limited = tt
+end_limited (Removed number) limited = tt
+end_limited (Rows pairs) limited = limited
+end_limited (Tidied rule) limited = tt
+end_limited (Built view) limited = tt
+
+pub call_limited : (result : Result Reply Refusal) → IfOk result (λ reply. AnswerIsLimited reply.answer) → ResponseIsLimited (call_response result)
+call_limited (Ok reply) limited = end_limited reply.answer limited
+call_limited (Err refusal) limited = tt
+
+pub page_limited : (result : Result Page Refusal) → IfOk result PageIsLimited → ResponseIsLimited (page_response result)
+page_limited (Ok page) limited = limited
+page_limited (Err refusal) limited = tt
+
+pub drop_limited : (result : Result ⊤ Refusal) → ResponseIsLimited (drop_response result)
+drop_limited (Ok done) = tt
+drop_limited (Err refusal) = tt
+
+-- ---- frames
 -- one frame more
 AnswersFrames-push : {S : Type 0} (does : EventLaw S) (s m t : S) (p r q : PassView) (frames : List (List Query)) (replies : List (List Response)) (queries : List Query) (responses : List Response)
     → AnswersFrames does s p frames replies m r → AnswersAll does m r queries responses t q → AnswersFrames does s p (frames ++ queries ∷ []) (replies ++ responses ∷ []) t q

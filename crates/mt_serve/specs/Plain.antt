@@ -6,11 +6,10 @@ use Rattle.std.specs.Prelude.{Result, Ok, Err, Option, Some}
 use Rattle.std.specs.List.{AllByRecursion}
 use Rattle.std.specs.Io.KnownBytes.{Appends}
 use Rattle.mt_types.specs.Numbers.{greatest_number, least}
-use Rattle.mt_types.specs.declared.numbers.ViewNo.{ViewNo}
 use Rattle.mt_types.specs.declared.refusal.Refusal.{Refusal}
 use Rattle.mt_types.specs.declared.refusal.Refusal.TheVariants.{NoMemory, ArenaFull, FeedFull, Spent}
 use Rattle.mt_types.specs.declared.event.Event.{Event}
-use Rattle.mt_types.specs.declared.event.Event.TheVariants.{Apply, ViewRead as ReadOf, ViewDrop as DropOf}
+use Rattle.mt_types.specs.declared.event.Event.TheVariants.{ViewRead as ReadOf, ViewDrop as DropOf}
 use Rattle.mt_types.specs.declared.event.Outcome.{Outcome}
 use Rattle.mt_types.specs.declared.event.Outcome.TheVariants.{Refused as RefusedOutcome}
 use Rattle.mt_types.specs.declared.event.Request.{Request}

@@ -1,6 +1,7 @@
 //! What is done for one query.
 
 ghost use Rattle.std.specs.Prelude.{◌≡◌};
+ghost use Rattle.mt_wire.specs.Limited.{ResponseIsLimited};
 ghost use Rattle.mt_serve.specs.Asking.{Asks, Answers, KeepsViews, call_response, page_response, drop_response, changes};
 
 use mt_shared::driving::{NoGate, Shared, drive};
@@ -45,7 +46,8 @@ fn drop_response(dropped: Result<(), Refusal>) -> Response
 
 // A query, done and answered: views are not kept up yet.
 fn ask<S: Shared>(alloc: Global, shared: &mut S, pass: &mut Pass, query: Query) -> Response
-    ensures { Asks S.does shared.old pass.old query result shared.new pass.new }
+    ensures asks { Asks S.does shared.old pass.old query result shared.new pass.new }
+    ensures limited { ResponseIsLimited result }
 {
     match query {
         Query::Call(request) => call_response(drive(alloc, shared, pass, &mut NoGate, request)),
@@ -84,7 +86,8 @@ fn keep_up<S: Shared>(alloc: Global, shared: &mut S, pass: &mut Pass)
 ///
 /// Over a `Door` each event is one holding of the lock, so other threads' events come between them.
 pub fn answer<S: Shared>(alloc: Global, shared: &mut S, pass: &mut Pass, query: Query) -> Response
-    ensures { Answers S.does shared.old pass.old query result shared.new pass.new }
+    ensures answers { Answers S.does shared.old pass.old query result shared.new pass.new }
+    ensures limited { ResponseIsLimited result }
 {
     let response = ask(alloc, shared, pass, query);
     if changes(&response) {

@@ -1,10 +1,12 @@
 //! A session: frames of queries are answered, one after the other, till the input ends.
 
 ghost use Rattle.std.specs.Prelude.{◌≡◌, ◌≤◌, ◌++◌, List, IfOk, IfErr, OnOk, OnErr, true};
+ghost use Rattle.std.specs.List.{AllByRecursion};
 ghost use Rattle.std.specs.Io.KnownBytes.{Appends};
 ghost use Rattle.mt_wire.specs.declared.query.Query.{Query};
 ghost use Rattle.mt_wire.specs.declared.response.Response.{Response};
-ghost use Rattle.mt_wire.specs.Frames.{RequestsFit, reply_frame};
+ghost use Rattle.mt_wire.specs.Limited.{ResponseIsLimited};
+ghost use Rattle.mt_wire.specs.Frames.{Holds, RequestsFit, reply_frame};
 ghost use Rattle.mt_streams.specs.Sinks.{sink_writer, write_failed};
 ghost use Rattle.mt_serve.specs.declared.fault.SessionFault.TheVariants.{Read as ReadFault, Write as WriteFault, NoMemory};
 ghost use Rattle.mt_serve.specs.declared.frames.TheConstants.{MOST_FRAMES};
@@ -18,7 +20,9 @@ use crate::frames::Frames;
 use mt_shared::driving::Shared;
 use mt_shared::pass::Pass;
 use mt_streams::sink::Sink;
-use mt_wire::encode::{encode_replies_into, replies_fit};
+use mt_wire::encode::encode_replies_into;
+use mt_wire::fault::EncodeError;
+use mt_wire::laws::limited_replies_fit;
 use mt_wire::query::Query;
 use mt_wire::response::Response;
 use std::alloc::{AllocError, Global};
@@ -42,6 +46,7 @@ fn answer_all<S: Shared>(
 ) -> Result<Vec<Response>, AllocError>
     ensures all { IfOk result (λ responses. AnswersAll S.does shared.old pass.old queries.items responses.items shared.new
         pass.new) }
+    ensures limited { IfOk result (λ responses. AllByRecursion ResponseIsLimited responses.items) }
     ensures part { OnErr result ((done : List Query) × (undone : List Query) × (responses : List Response)
         × (queries.items ≡ done ++ undone)
         × AnswersAll S.does shared.old pass.old done responses shared.new pass.new) }
@@ -53,18 +58,18 @@ fn answer_all<S: Shared>(
     Ok(responses)
 }
 
-// Writes the frame of these answers over what `frame` has. The limits of the index keep every frame of answers short
-// enough to be spelled; one that couldn't be is told as want of memory.
+// Writes the frame of these answers over what `frame` has. Answers that keep the limits of an index are never too long
+// for a frame.
 fn encode(frame: &mut Vec<u8>, responses: &[Response]) -> Result<(), SessionFault>
+    requires { Holds ResponseIsLimited responses.now }
     ensures frame { OnOk result (frame.new.items ≡ reply_frame responses.now) }
     ensures only { IfErr result (λ fault. fault ≡ NoMemory) }
 {
-    if !replies_fit(responses) {
-        return Err(SessionFault::NoMemory);
-    }
+    limited_replies_fit();
     match encode_replies_into(frame, responses) {
         Ok(()) => Ok(()),
-        Err(_) => Err(SessionFault::NoMemory),
+        Err(EncodeError::NoMemory) => Err(SessionFault::NoMemory),
+        Err(EncodeError::TooLong) => unreachable!(),
     }
 }
 
@@ -77,6 +82,7 @@ fn answer_frame<W: Write, S: Shared>(
     frame: &mut Vec<u8>,
     queries: Vec<Query>,
 ) -> Result<(), SessionFault>
+    requires { RequestsFit queries.items }
     ensures answered { OnOk result ((responses : List Response)
         × AnswersAll S.does shared.old pass.old queries.items responses shared.new pass.new
         × Appends (W.contents (sink_writer writer.old)) (W.contents (sink_writer writer.new)) (reply_frame responses)) }

@@ -12,6 +12,7 @@ use Rattle.mt_types.specs.declared.event.Request.{Request}
 use Rattle.mt_types.specs.declared.event.Reply.{Reply}
 use Rattle.mt_types.specs.declared.event.Outcome.{Outcome}
 use Rattle.mt_types.specs.declared.event.Outcome.TheVariants.{Call, Moved, Again, Commit, Done, Refused}
+use Rattle.mt_types.specs.Limited.{AnswerIsLimited, OutcomeIsLimited}
 use Rattle.mt_shared.specs.declared.trace.Entry.{Entry}
 use Rattle.mt_shared.specs.declared.trace.Trace.{Trace}
 use Rattle.mt_shared.specs.declared.trace.Trace.TheVariants.{Off, On, Lost}
@@ -192,3 +193,8 @@ module _ {S : Type 0} (does : EventLaw S) (s : S) (p : PassView) (request : Requ
     driven = tt;
     refused = inr (cut does s p request call m r o t q refusal b d (subst (λ (n : ℕ). EndsIn refusal n o) same ends));
   }
+
+-- what a step that ends a call answers keeps the limits, and so does the reply
+pub ends_limited : (seen : ℕ) (outcome : Outcome) (end : Result Reply Refusal) → Ends seen outcome (Some end) → OutcomeIsLimited outcome → IfOk end (λ reply. AnswerIsLimited reply.answer)
+ends_limited seen outcome (Ok reply) ends limited = subst (λ (o : Outcome). OutcomeIsLimited o) ends.0 limited
+ends_limited seen outcome (Err refusal) ends limited = tt

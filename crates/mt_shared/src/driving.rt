@@ -3,6 +3,7 @@
 ghost use Rattle.std.specs.Prelude.{◌≡◌, ◌≤◌, IfOk, IfErr};
 ghost use Rattle.mt_types.specs.declared.event.Event.{Event};
 ghost use Rattle.mt_types.specs.declared.event.Outcome.{Outcome};
+ghost use Rattle.mt_types.specs.Limited.{AnswerIsLimited, OutcomeIsLimited};
 ghost use Rattle.mt_shared.specs.Passes.{PassView, IsTold};
 ghost use Rattle.mt_shared.specs.Drives.{IsReplyTo, IsDriven, IsRefused, Ends};
 
@@ -20,7 +21,8 @@ pub trait Shared {
     /// One event of a pass, and what came of it.
     fn event(&mut self, alloc: Global, pass: &mut Pass, event: &Event) -> Outcome
         ensures does { does self.old pass.old event.now result self.new pass.new }
-        ensures told { IsTold pass.old event.now result pass.new };
+        ensures told { IsTold pass.old event.now result pass.new }
+        ensures limited { OutcomeIsLimited result };
 }
 
 /// What is done between the events of a call.
@@ -61,6 +63,7 @@ pub fn drive<S: Shared, G: Gate>(
     ensures seen { pass.old.seen ≤ pass.new.seen }
     ensures driven { IfOk result (λ reply. IsDriven S.does shared.old pass.old request reply shared.new pass.new) }
     ensures refused { IfErr result (λ refusal. IsRefused S.does shared.old pass.old request refusal shared.new pass.new) }
+    ensures limited { IfOk result (λ reply. AnswerIsLimited reply.answer) }
 {
     let seen = pass.seen();
     let begin = Event::Begin(pass.number(), request);

@@ -1,6 +1,7 @@
 //! What lies under the lock: the machine with the books of its passes.
 
 ghost use Rattle.std.specs.Prelude.{◌≡◌, ◌≤◌, IfOk, All, length};
+ghost use Rattle.mt_types.specs.Limited.{OutcomeIsLimited};
 ghost use Rattle.mt_types.specs.Limits.{open_fault};
 ghost use Rattle.mt_shared.specs.declared.book.Book.{Book};
 ghost use Rattle.mt_shared.specs.Traces.{IsNewTrace};
@@ -88,6 +89,7 @@ impl Kept {
     /// counts as an event.
     pub fn event(&mut self, alloc: Global, pass: &mut Pass, event: &Event) -> Outcome
         ensures does { Does self.old pass.old event.now result self.new pass.new }
+        ensures limited { OutcomeIsLimited result }
         ensures kept { IsKept self.old × IsKept self.new }
     {
         let number = pass.number();

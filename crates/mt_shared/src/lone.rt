@@ -1,6 +1,7 @@
 //! A machine of one caller, without a lock.
 
 ghost use Rattle.std.specs.Prelude.{false, IfOk};
+ghost use Rattle.mt_types.specs.Limited.{OutcomeIsLimited};
 ghost use Rattle.mt_types.specs.Limits.{open_fault};
 ghost use Rattle.mt_shared.specs.Passes.{IsNewPass};
 ghost use Rattle.mt_shared.specs.Kept.{Does, IsKept, IsFresh, IsRefusedBy};
@@ -89,6 +90,7 @@ impl Shared for Lone {
     fn event(&mut self, alloc: Global, pass: &mut Pass, event: &Event) -> Outcome
         ensures does { Does self.old pass.old event.now result self.new pass.new }
         ensures told { IsTold pass.old event.now result pass.new }
+        ensures limited { OutcomeIsLimited result }
         ensures kept { IsKept self.old × IsKept self.new }
     {
         self.kept.event(alloc, pass, event)

@@ -2,6 +2,7 @@
 
 ghost use Rattle.std.specs.Prelude.{◌≡◌, ◌+◌, ◌≤◌, IfOk, IfErr};
 ghost use Rattle.mt_types.specs.declared.event.Event.TheVariants.{ViewRead, ViewDrop};
+ghost use Rattle.mt_types.specs.Limited.{PageIsLimited};
 ghost use Rattle.mt_shared.specs.Passes.{IsTold};
 ghost use Rattle.mt_shared.specs.Turns.{page_outcome, drop_outcome, furthest, KeepsUp, IsStopped};
 
@@ -35,6 +36,7 @@ pub fn view_read<S: Shared>(
         pass.new }
     ensures told { IsTold pass.old (ViewRead view floor start limit) (page_outcome result) pass.new }
     ensures floor { IfOk result (λ page. floor ≤ page.at) }
+    ensures limited { IfOk result PageIsLimited }
 {
     let read = Event::ViewRead {
         view,

@@ -4,6 +4,7 @@ pub mod Rows
 pub mod Ranges
 pub mod Views
 pub mod Limits
+pub mod Limited
 pub mod Numbers
 pub mod RefusalNumbers
 pub mod Copies

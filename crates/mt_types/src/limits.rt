@@ -12,7 +12,7 @@ use crate::view::{RowTest, ViewSpec};
 use bytes::Bytes;
 
 /// The most bytes of a key. Guarded by `KeyTooLong`.
-pub const MAX_KEY_BYTES: usize = 255;
+pub const MAX_KEY_BYTES: usize = 1024;
 
 /// The most columns of an index; the least is 1. Guarded by `BadColumn`.
 pub const MAX_COLUMNS: u64 = 16;
@@ -45,7 +45,7 @@ pub const MAX_NODES: u32 = 1_048_576;
 pub const MAX_LEVEL: u8 = 15;
 
 /// The deepest layer: a key of `MAX_KEY_BYTES` has its last slice there. Guarded by `KeyTooLong`.
-pub const MAX_LAYER: usize = 31;
+pub const MAX_LAYER: usize = 127;
 
 /// The most queries of a frame; the least is 1. A frame outside is a bad frame.
 pub const MAX_QUERIES: usize = 64;

@@ -6,3 +6,4 @@ pub mod Joined
 pub mod FrameLaws
 pub mod ReadingLaws
 pub mod StreamLaws
+pub mod Lengths

@@ -1,11 +1,14 @@
 -- Laws of the format, each of them proved as the contract of a function of src/laws.rt.
-use Rattle.std.specs.Prelude.{◌≡◌, ℕ, List, ◌++◌}
+use Rattle.std.specs.Prelude.{◌≡◌, ◌≤◌, ℕ, List, ◌++◌, length}
 use Rattle.mt_types.specs.declared.limits.TheConstants.{MAX_REQUEST_BODY}
+use Rattle.mt_wire.specs.declared.limits.TheConstants.{MAX_REPLY_BODY}
 use Rattle.mt_wire.specs.declared.query.Query.{Query}
+use Rattle.mt_wire.specs.declared.response.Response.{Response}
 use Rattle.mt_wire.specs.declared.fault.WireFault.{WireFault}
-use Rattle.mt_wire.specs.Spelling.{query_spelling, response_spelling}
+use Rattle.mt_wire.specs.Spelling.{query_spelling, response_spelling, body_of}
 use Rattle.mt_wire.specs.Fits.{QueryFits, ResponseFits}
-use Rattle.mt_wire.specs.Frames.{RequestsFit, RepliesFit, request_frame, reply_frame, IsBegun, FaultStands}
+use Rattle.mt_wire.specs.Limited.{ResponseIsLimited}
+use Rattle.mt_wire.specs.Frames.{Holds, RequestsFit, RepliesLengths, RepliesFit, request_frame, reply_frame, IsBegun, FaultStands}
 
 -- no spelling begins another, and no two messages have one spelling
 abbrev pub ReadOneWay : {A : Type 0} → (A → Type 0) → (A → List ℕ) → Type 0
@@ -41,3 +44,10 @@ BegunHasNoFault =
 abbrev pub FaultStays : Type 0
 FaultStays =
     (fault : WireFault) (bytes more : List ℕ) → FaultStands fault bytes → FaultStands fault (bytes ++ more)
+
+-- one answer to as many as a frame may hold, each within the limits of an index, are a frame: each length fits its
+-- field, and the body isn't too long
+abbrev pub LimitedRepliesFit : Type 0
+LimitedRepliesFit =
+    (responses : List Response) → Holds ResponseIsLimited responses
+    → RepliesLengths responses × (length (body_of response_spelling responses) ≤ MAX_REPLY_BODY)

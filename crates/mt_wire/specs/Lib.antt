@@ -1,6 +1,7 @@
 -- What the contracts cite, in the order in which a reader takes it. Reading and Bodies are for private calls.
 pub mod Spelling
 pub mod Fits
+pub mod Limited
 pub mod Answered
 pub mod FaultNumbers
 pub mod Frames

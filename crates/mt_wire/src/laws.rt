@@ -1,6 +1,6 @@
 //! Laws of the format, each of them the contract of a function that does nothing.
 
-ghost use Rattle.mt_wire.specs.Laws.{QueriesReadOneWay, ResponsesReadOneWay, RequestFramesReadOneWay, ReplyFramesReadOneWay, FrameStandsAlone, BegunHasNoFault, FaultStays};
+ghost use Rattle.mt_wire.specs.Laws.{QueriesReadOneWay, ResponsesReadOneWay, RequestFramesReadOneWay, ReplyFramesReadOneWay, FrameStandsAlone, BegunHasNoFault, FaultStays, LimitedRepliesFit};
 
 /// No spelling of a query begins another, and no two queries have one spelling.
 pub fn queries_are_read_one_way()
@@ -35,4 +35,10 @@ pub fn a_begun_frame_has_no_fault()
 /// A fault that stands goes on standing, whatever follows.
 pub fn a_fault_stays()
     ensures { FaultStays }
+{}
+
+/// One answer to as many as a frame may hold, each within the limits of an index, are never too long for a frame: they
+/// come to 132,817,666 bytes at most.
+pub fn limited_replies_fit()
+    ensures { LimitedRepliesFit }
 {}

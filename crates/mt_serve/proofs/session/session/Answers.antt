@@ -10,6 +10,9 @@ loop-frame-init g c = record {
   few = omega (arith, c.requires);
 }
 
+pub answer_frame-requires : goal.answer_frame-requires
+answer_frame-requires g c = let frame = rw c.in-Some.is at c.in_ok-queries.ensures.frame in frame.0
+
 pub loop-frame-preserved : goal.loop-frame-preserved
 loop-frame-preserved g c =
     let frame = rw c.in-Some.is at c.in_ok-queries.ensures.frame in

@@ -1,0 +1,118 @@
+-- How long the spelling of an answer is at most, where the answer keeps the limits of an index.
+use Rattle.std.proofs.Common.{◌≡◌, ℕ, ◌+◌, ◌*◌, ◌/◌, ◌%◌, ◌^◌, ◌<◌, ◌≤◌, List, [], ◌∷◌, ◌++◌, length, All, refl, subst, sym, arith, length-append}
+use Rattle.std.specs.List.{AllByRecursion, flat_map, sum_by}
+use Rattle.std.specs.Int.{w16, w64, to_be_bytes}
+use Rattle.std.proofs.lemmas.List.Elements.{All-nil, All-cons}
+use Rattle.std.proofs.lemmas.List.Concat.{length-flat_map}
+use Rattle.std.proofs.lemmas.List.Sums.{sum_by-le}
+use Rattle.mt_types.specs.declared.row.Row.{Row}
+use Rattle.mt_types.specs.declared.event.TidyRule.{TidyRule}
+use Rattle.mt_types.specs.declared.event.TidyRule.TheVariants.{Nothing, EmptyBorder, LoneChild, LoneRootChild, EmptyLayer}
+use Rattle.mt_types.specs.declared.limits.TheConstants.{MAX_COLUMN_BYTES}
+use Rattle.mt_wire.specs.declared.limits.TheConstants.{MAX_REPLY_BODY}
+use Rattle.mt_wire.specs.declared.response.Response.{Response}
+use Rattle.mt_wire.specs.declared.response.Response.TheVariants.{Refused, Done, View, Dropped}
+use Rattle.mt_wire.specs.declared.response.End.{End}
+use Rattle.mt_wire.specs.declared.response.End.TheVariants.{Absent, Found, Committed, Rows, Tidied, Built}
+use Rattle.mt_wire.specs.Spelling.{key_spelling, short_spelling, sum_spelling, row_spelling, pair_spelling, pairs_spelling, rule_spelling, response_spelling, body_of}
+use Rattle.mt_wire.specs.Fits.{ShortFits, RowLengths, EndLengthsOf, ResponseLengths}
+use Rattle.mt_wire.specs.Frames.{Holds, RepliesLengths}
+use Rattle.mt_types.specs.Limited.{ColumnIsLimited, RowIsLimited, PairIsLimited, PairsAreLimited}
+use Rattle.mt_wire.specs.Limited.{EndIsLimited, ResponseIsLimited}
+use Rattle.mt_wire.specs.Laws.{LimitedRepliesFit}
+
+-- ---- lists
+
+each_of : {A : Type 0} (P Q : A → Type 0) → ((x : A) → P x → Q x) → (xs : List A) → AllByRecursion P xs → AllByRecursion Q xs
+each_of P Q then [] all = tt
+each_of P Q then (x ∷ xs) all = (then x all.0, each_of P Q then xs all.1)
+
+all_of : {A : Type 0} (P : A → Type 0) (xs : List A) → AllByRecursion P xs → All P xs
+all_of P [] all = All-nil P
+all_of P (x ∷ xs) all = All-cons P x xs all.0 (all_of P xs all.1)
+
+-- what items are spelled by together
+spelled_most : {A : Type 0} (P : A → Type 0) (spell : A → List ℕ) (most : ℕ) → ((x : A) → P x → length (spell x) ≤ most)
+    → (xs : List A) → AllByRecursion P xs → length (flat_map spell xs) ≤ length xs * most
+spelled_most P spell most each xs all =
+    rw (length-flat_map spell xs) (sum_by-le (λ x. length (spell x)) most xs
+    (all_of (λ x. length (spell x) ≤ most) xs (each_of P (λ x. length (spell x) ≤ most) each xs all)))
+
+-- ---- rows: 65 bytes a column, and 1,049 a row
+
+column_most : (column : List ℕ) → length column ≤ MAX_COLUMN_BYTES → length (short_spelling column) ≤ 65
+column_most column h = omega (arith, h)
+
+row_most : (row : Row) → RowIsLimited row → length (row_spelling row) ≤ 1049
+row_most row h =
+    let columns = spelled_most ColumnIsLimited short_spelling 65 column_most row.columns h.1 in
+    omega (arith, h.0, columns)
+
+pair_most : (pair : List ℕ × Row) → PairIsLimited pair → length (pair_spelling pair) ≤ 2075
+pair_most pair h =
+    let row = row_most pair.1 h.1 in
+    let both = length-append (key_spelling pair.0) (row_spelling pair.1) in
+    omega (arith, h.0, row, both)
+
+pairs_most : (pairs : List (List ℕ × Row)) → PairsAreLimited pairs → length (pairs_spelling pairs) ≤ 2075002
+pairs_most pairs h =
+    let each = spelled_most PairIsLimited pair_spelling 2075 pair_most pairs h.1 in
+    omega (arith, h.0, each)
+
+-- ---- answers
+
+rule_is_one : (rule : TidyRule) → length (rule_spelling rule) ≡ 1
+rule_is_one Nothing = refl
+rule_is_one EmptyBorder = refl
+rule_is_one LoneChild = refl
+rule_is_one LoneRootChild = refl
+rule_is_one EmptyLayer = refl
+
+sums_most : (sums : List ℕ) → length (flat_map sum_spelling sums) ≤ length sums * 16
+sums_most sums = spelled_most (λ (sum : ℕ). Unit {0}) sum_spelling 16 (λ sum is. omega arith) sums (any sums)
+  where
+    any : (xs : List ℕ) → AllByRecursion (λ (sum : ℕ). Unit {0}) xs
+    any [] = tt
+    any (x ∷ xs) = (tt, any xs)
+
+response_most : (response : Response) → ResponseIsLimited response → length (response_spelling response) ≤ 2075276
+response_most (Refused refusal) h = omega arith
+response_most (Done start stop Absent) h = omega arith
+response_most (Done start stop (Found row)) h = let most = row_most row h in omega (arith, most)
+response_most (Done start stop (Committed number)) h = omega arith
+response_most (Done start stop (Rows pairs)) h = let most = pairs_most pairs h in omega (arith, most)
+response_most (Done start stop (Tidied rule)) h = let one = rule_is_one rule in omega (arith, one)
+response_most (Done start stop (Built view)) h = omega arith
+response_most (View page) h =
+    let rows = pairs_most page.rows h.1 in
+    let sums = sums_most page.sums in
+    let both = length-append (flat_map sum_spelling page.sums) (pairs_spelling page.rows) in
+    omega (arith, h.0, rows, sums, both)
+response_most Dropped h = omega arith
+
+-- ---- and their lengths fit their fields
+
+row_lengths : (row : Row) → RowIsLimited row → RowLengths row
+row_lengths row h = (omega (arith, h.0), each_of ColumnIsLimited ShortFits (λ column short. omega (arith, short)) row.columns h.1)
+
+pairs_lengths : (pairs : List (List ℕ × Row)) → AllByRecursion PairIsLimited pairs → AllByRecursion (λ pair. RowLengths pair.1) pairs
+pairs_lengths pairs = each_of PairIsLimited (λ pair. RowLengths pair.1) (λ pair limited. row_lengths pair.1 limited.1) pairs
+
+end_lengths : (end : End) → EndIsLimited end → EndLengthsOf end
+end_lengths Absent h = tt
+end_lengths (Found row) h = row_lengths row h
+end_lengths (Committed number) h = tt
+end_lengths (Rows pairs) h = (omega (arith, h.0), pairs_lengths pairs h.1)
+end_lengths (Tidied rule) h = tt
+end_lengths (Built view) h = tt
+
+response_lengths : (response : Response) → ResponseIsLimited response → ResponseLengths response
+response_lengths (Refused refusal) h = tt
+response_lengths (Done start stop end) h = end_lengths end h
+response_lengths (View page) h = (omega (arith, h.0), (omega (arith, h.1.0), pairs_lengths page.rows h.1.1))
+response_lengths Dropped h = tt
+
+pub limited_replies_fit : LimitedRepliesFit
+limited_replies_fit responses h =
+    let most = spelled_most ResponseIsLimited response_spelling 2075276 response_most responses h.2 in
+    ((h.0, h.1, each_of ResponseIsLimited ResponseLengths response_lengths responses h.2), omega (arith, h.1, most))
