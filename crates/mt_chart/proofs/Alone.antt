@@ -1,5 +1,6 @@
 -- A call alone: each move goes from a node that is on to one that is on, and what is left of its moves falls.
 use Rattle.std.proofs.Common.{ℕ, suc, ◌≡◌, ◌<◌, ◌≤◌, ◌+◌, List, [], length, Some, true, refl, arith}
+use Rattle.mt_types.specs.declared.limits.TheConstants.{MAX_LAYER}
 use Rattle.mt_chart.specs.Tree.{Arena, Among}
 use Rattle.mt_chart.specs.Chart.{Standing, on, gone, Role, top, at_level, Spot, spot, Chart, IsTree, Dated}
 use Rattle.mt_chart.specs.Walk.{height, all_heights, moves_left, KnownAt, Moves, Trail, begins, moves, Lone, at_top, goes_on, IsOn}
@@ -35,7 +36,7 @@ stays_on arena chart tree now n m d o v =
     let x = rises arena chart tree (suc now) n m (height o.role o.prefix o.low) (on_known chart (suc now) n o) v in
     known_on chart now m x.height d x.known
 
-pub in_range : (role : Role) (p : List ℕ) (l : ℕ) → length p ≤ 31 → l < 18446744073709551616 → height role p l < all_heights
+pub in_range : (role : Role) (p : List ℕ) (l : ℕ) → length p ≤ MAX_LAYER → l < 18446744073709551616 → height role p l < all_heights
 in_range top p l h w = omega arith
 in_range (at_level k) p l h w = omega arith
 

@@ -1,5 +1,6 @@
 -- The number of a scan's cursor: its digits, one for each layer. By it a scan that runs alone ends.
 use Rattle.std.specs.Prelude.{ℕ, zero, suc, ◌<◌, ◌+◌, ◌*◌, List, [], ◌∷◌}
+use Rattle.mt_types.specs.declared.limits.TheConstants.{MAX_LAYER}
 use Rattle.mt_slice.specs.Place.{Place, last, deeper}
 
 -- the base to the power
@@ -32,6 +33,6 @@ abbrev pub digits_above : List ℕ → List ℕ → List ℕ
 digits_above [] digits = digits
 digits_above (slice ∷ prefix) digits = digits_above prefix ((2 * slice) ∷ digits)
 
--- the number of a cursor with these digits, in a tree of at most 32 layers
+-- the number of a cursor with these digits, in a tree of `MAX_LAYER + 1` layers at most
 abbrev pub cursor_number : List ℕ → ℕ
-cursor_number digits = digits_number digit_base 32 digits
+cursor_number digits = digits_number digit_base (MAX_LAYER + 1) digits

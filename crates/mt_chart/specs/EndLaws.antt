@@ -19,7 +19,7 @@ MovesLeftFall = (arena : Arena) (chart : Chart) → IsTree arena chart → (begu
     KnownAt chart begun number reached → reached < all_heights → Moves arena number next →
     (further : ℕ) × KnownAt chart begun next further × (moves_left further < moves_left reached)
 
--- a place in at most 32 layers has a height below all heights
+-- a place in at most `MAX_LAYER + 1` layers has a height below all heights
 abbrev pub HeightsAreBounded : Type 0
 HeightsAreBounded = (role : Role) (prefix : List ℕ) (low : ℕ) → length prefix ≤ MAX_LAYER → low < 2 ^ 64 →
     height role prefix low < all_heights

@@ -19,7 +19,7 @@ below_top (at_level level) = (MAX_LEVEL + 1) - level
 abbrev pub height : Role → List ℕ → ℕ → ℕ
 height role prefix low = (length prefix * (MAX_LEVEL + 2) + below_top role) * (2 ^ 64) + low
 
--- more than any height in a tree of 32 layers
+-- more than any height in a tree of `MAX_LAYER + 1` layers
 abbrev pub all_heights : ℕ
 all_heights = (MAX_LAYER + 1) * (MAX_LEVEL + 2) * 2 ^ 64
 

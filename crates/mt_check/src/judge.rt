@@ -79,31 +79,39 @@ fn is_claimed(marks: &[bool], receipt: &Receipt) -> bool
     }
 }
 
+// A page that was shown, and what was asked for it.
+#[derive(Drop)]
+struct Shown<'a> {
+    spec: &'a ViewSpec,
+    floor: u64,
+    start: &'a Bytes,
+    limit: u16,
+    page: &'a Page,
+}
+
 fn is_right_page(
     alloc: Global,
     log: &Log<'_>,
     pages: &mut Pages,
     to: u64,
-    spec: &ViewSpec,
-    floor: u64,
-    start: &Bytes,
-    limit: u16,
-    page: &Page,
+    shown: &Shown<'_>,
 ) -> Result<bool, NoMemory>
     requires read { IsRead log.now.deltas.now log.now.versions }
     requires standing { AllStand log.now.columns log.now.deltas.now pages.old.states.items }
     requires within { to ≤ length log.now.deltas.now }
-    requires asked { page_fault start.now limit ≡ None }
+    requires asked { page_fault shown.now.start.now shown.now.limit ≡ None }
     ensures right { IfOk result (λ yes. IsTrue yes
-        ↔ IsRightPage log.now.columns log.now.deltas.now to spec.now floor start.now limit page.now) }
+        ↔ IsRightPage log.now.columns log.now.deltas.now to shown.now.spec.now shown.now.floor shown.now.start.now
+        shown.now.limit shown.now.page.now) }
     ensures standing { OnOk result (AllStand log.now.columns log.now.deltas.now pages.new.states.items) }
 {
-    if page.at < floor || page.at > to {
+    let page = shown.page;
+    if page.at < shown.floor || page.at > to {
         return Ok(false);
     }
-    let start = key_of(alloc, start)?;
-    let shown = pages.page(alloc, log.columns, log.deltas, spec, page.at, &start, limit)?;
-    Ok(page.is_same(&shown))
+    let start = key_of(alloc, shown.start)?;
+    let right = pages.page(alloc, log, shown.spec, page.at, &start, shown.limit)?;
+    Ok(page.is_same(&right))
 }
 
 fn is_right(
@@ -140,7 +148,16 @@ fn is_right(
             page,
             to,
             ..
-        } => is_right_page(alloc, log, pages, *to, spec, *floor, start, *limit, page),
+        } => {
+            let shown = Shown {
+                spec,
+                floor: *floor,
+                start,
+                limit: *limit,
+                page,
+            };
+            is_right_page(alloc, log, pages, *to, &shown)
+        }
     }
 }
 

@@ -5,6 +5,7 @@ ghost use Rattle.std.specs.List.{HoldsAt};
 ghost use Rattle.mt_check.specs.Receipts.{IsSoundLog, rows_at, page_of_rows};
 ghost use Rattle.mt_check.specs.Judging.{IsStanding, AllStand};
 
+use crate::calls::Log;
 use mt_promise::exact::Exact;
 use mt_types::copying::TryCopy;
 use mt_types::key::Key;
@@ -117,24 +118,23 @@ impl Pages {
     pub(crate) fn page(
         &mut self,
         alloc: Global,
-        columns: u8,
-        deltas: &[Delta],
+        log: &Log<'_>,
         spec: &ViewSpec,
         at: u64,
         start: &Key,
         limit: u16,
     ) -> Result<Page, NoMemory>
-        requires sound { IsSoundLog deltas.now }
-        requires standing { AllStand columns deltas.now self.old.states.items }
-        requires to { at ≤ length deltas.now }
+        requires sound { IsSoundLog log.now.deltas.now }
+        requires standing { AllStand log.now.columns log.now.deltas.now self.old.states.items }
+        requires to { at ≤ length log.now.deltas.now }
         ensures page { IfOk result (λ page.
-            page ≡ page_of_rows columns (rows_at deltas.now at) at spec.now start.now limit) }
-        ensures standing { OnOk result (AllStand columns deltas.now self.new.states.items) }
+            page ≡ page_of_rows log.now.columns (rows_at log.now.deltas.now at) at spec.now start.now limit) }
+        ensures standing { OnOk result (AllStand log.now.columns log.now.deltas.now self.new.states.items) }
     {
-        let mut state = self.take(alloc, columns, deltas, spec, at)?;
-        walk_on(&mut state, deltas, at)?;
+        let mut state = self.take(alloc, log.columns, log.deltas, spec, at)?;
+        walk_on(&mut state, log.deltas, at)?;
         let page = state.read(start, limit)?;
-        self.keep(columns, deltas, spec.copy(alloc)?, state)?;
+        self.keep(log.columns, log.deltas, spec.copy(alloc)?, state)?;
         Ok(page)
     }
 }

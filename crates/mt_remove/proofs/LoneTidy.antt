@@ -44,7 +44,7 @@ use Rattle.mt_remove.specs.Follows.{Did, GoesTo, not_noted, BeginsBy, FollowsVis
 -- ---- what else is true of it
 -- the head of the layer where it is is on, and the layer is one of the key's
 abbrev pub head_stands : World → List ℕ → Way → NodeNo → Type 0
-head_stands w key way head = IsOn w.chart head.0 × (8 * way.layer ≤ length key)
+head_stands w key way head = IsOn w.chart head.0 × (8 * way.layer ≤ length key - 1)
 
 -- the nodes through which it is yet to go are on
 abbrev pub stage_stands : World → List ℕ → Way → Stage → Type 0

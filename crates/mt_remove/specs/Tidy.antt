@@ -1,5 +1,5 @@
 -- What is true of a tidy, at each of its stages, and the law of its step.
-use Rattle.std.specs.Prelude.{ℕ, ◌≡◌, ◌≢◌, ◌<◌, ◌≤◌, ◌+◌, ◌*◌, List, [], ◌∷◌, length, slice_get, Option, Some, None, IsSome, Bool, true, false, IsSomeAnd}
+use Rattle.std.specs.Prelude.{ℕ, ◌≡◌, ◌≢◌, ◌<◌, ◌≤◌, ◌+◌, ◌-◌, ◌*◌, List, [], ◌∷◌, length, slice_get, Option, Some, None, IsSome, Bool, true, false, IsSomeAnd}
 use Rattle.mt_types.specs.declared.numbers.NodeNo.{NodeNo}
 use Rattle.mt_types.specs.declared.event.Answer.TheVariants.{Tidied}
 use Rattle.mt_types.specs.declared.event.Request.{Request}
@@ -209,7 +209,7 @@ pub record IsRootLocked (begun : ℕ) (key : List ℕ) (way : Way) (root head ab
   pub alive : border.b.version.deleted ≡ false
   pub free : NotAmong root.0 w.closing
   pub headed : IsHeadOf w begun head.0 (prefix_of key way)
-  pub within : 8 * way.layer ≤ length key
+  pub within : 8 * way.layer ≤ length key - 1
   pub known : IfAbove begun key way.layer w (Some above)
 
 -- the same, and it has locked the border above

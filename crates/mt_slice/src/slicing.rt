@@ -7,7 +7,7 @@ ghost use Rattle.mt_slice.specs.Classes.{class_of, place_at};
 
 use crate::slice_class::{Class, SLICE_BYTES};
 use mt_types::key::Key;
-use mt_types::limits::{MAX_KEY_BYTES, MAX_LAYER};
+use mt_types::limits::MAX_KEY_BYTES;
 use std::cmp::Ordering;
 
 // These bytes and zero bytes after them, eight in all.
@@ -65,7 +65,6 @@ pub fn key_bytes(key: &Key) -> &[u8]
 fn rest_at(key: &Key, layer: usize) -> &[u8]
     requires { SLICE_BYTES * layer ≤ length key.now }
     ensures value { result.now ≡ rest_at layer key.now }
-    ensures within { layer ≤ MAX_LAYER }
 {
     &key_bytes(key)[SLICE_BYTES * layer..]
 }
@@ -78,7 +77,6 @@ pub fn slice_at(key: &Key, layer: usize) -> (u64, Class)
     ensures class { result.1 ≡ class_of (length (rest_at layer key.now)) }
     ensures place { place_of (rest_at layer key.now)
         ≡ place_at result.0 result.1 (place_of (rest_at (layer + 1) key.now)) }
-    ensures within { layer ≤ MAX_LAYER }
 {
     slice_of(rest_at(key, layer))
 }

@@ -1,15 +1,18 @@
 -- The steps of a get.
-use Rattle.std.proofs.Common.{ℕ, suc, ◌≡◌, List, [], Option, Some, None, refl, sym, ap, subst, ◌∙◌, add-one, IsSome, inl}
+use Rattle.std.proofs.Common.{ℕ, suc, ◌≡◌, ◌*◌, List, [], Option, Some, None, refl, sym, ap, subst, ◌∙◌, add-one, inl}
 use Rattle.mt_types.specs.Rows.{shown}
 use Rattle.mt_types.specs.declared.row.Row.{Row}
 use Rattle.mt_types.specs.declared.event.Answer.{Answer}
 use Rattle.mt_types.specs.declared.event.Answer.TheVariants.{Absent as AbsentAnswer, Found as FoundAnswer}
 use Rattle.mt_types.specs.declared.refusal.Refusal.TheVariants.{NoMemory}
 use Rattle.mt_slice.specs.Place.{Place, AreBytes, place_of, under, slice_number}
+use Rattle.mt_slice.proofs.Slices.{bytes-drop}
 use Rattle.mt_commit.specs.Log.{LogView}
 use Rattle.mt_border.specs.Border.{BorderView}
+use Rattle.mt_border.specs.Order.{IsBorder}
 use Rattle.mt_border.specs.declared.found.Found.{Found}
 use Rattle.mt_arena.specs.Node.{border_at}
+use Rattle.mt_arena.specs.declared.node.Node.{Node}
 use Rattle.mt_arena.specs.Arena.{ArenaView, IsArena}
 use Rattle.mt_chart.specs.Tree.{Has}
 use Rattle.mt_chart.specs.Chart.{Chart}
@@ -17,6 +20,8 @@ use Rattle.mt_chart.specs.Walk.{Trail, moves as trail_moves}
 use Rattle.mt_tree.specs.Seen.{arena_seen, border_seen}
 use Rattle.mt_chart.specs.TreeLaws.{IsWhere}
 use Rattle.mt_tree.proofs.HeldLemmas.{held_may_visit}
+use Rattle.mt_tree.proofs.DescentLemmas.{may_visit}
+use Rattle.mt_tree.proofs.RowLemmas.{tells_row}
 use Rattle.mt_tree.specs.Descent.{IsHere, IsLast, found_for, row_found, TellsRow}
 use Rattle.mt_steps.specs.declared.way.Way.{Way}
 use Rattle.mt_steps.specs.declared.way.Went.{Went}
@@ -24,7 +29,7 @@ use Rattle.mt_steps.specs.declared.way.Went.TheVariants.{Again, To, Here}
 use Rattle.mt_steps.specs.declared.getting.Get.{Get}
 use Rattle.mt_steps.specs.declared.progress.Progress.TheVariants.{Moved, Waits, Answered, Refused}
 use Rattle.mt_steps.specs.World.{World, IsWorld}
-use Rattle.mt_steps.specs.Way.{rest_of, prefix_of, IsOnWay, IsAtPlace, GoesTo, MayGo, Visits}
+use Rattle.mt_steps.specs.Way.{rest_of, prefix_of, IsOnWay, IsAtPlace, GoesTo, MayGo, MayGoAt, Names, Visits}
 use Rattle.mt_steps.specs.Step.{StepLaw, nothing, RowIs}
 use Rattle.mt_steps.specs.Getting.{get_request, GetIsTrue, Reads}
 use Rattle.mt_steps.proofs.FrameLemmas.{goes_same, quiet_same, moves_bounded, trail_begins}
@@ -44,6 +49,13 @@ found_is_row a key way now w rest found b is named searched tells world place ro
   where
     at_rest : (chart : Chart) (r : List ℕ) → r ≡ rest_of key way → (h : IsHere a chart way.node.0 (prefix_of key way) (rest_of key way)) → IsHere a chart way.node.0 (prefix_of key way) r
     at_rest chart r e h = record { border = h.border; named = h.named; stands = subst (λ (x : List ℕ). IsWhere (arena_seen a) chart way.node.0 (prefix_of key way) (border_seen h.border) (place_of x)) (sym e) h.stands }
+
+-- what is found in the border at its place tells the row
+pub tells_here : (a : ArenaView) (way : Way) (rest : List ℕ) (b : BorderView) → border_at a.nodes way.node.0 ≡ Some b → IsBorder b
+    → (key : List ℕ) → AreBytes key → rest ≡ rest_of key way → (found : Found) → found ≡ found_for rest b.live → TellsRow a way.node.0 rest found
+tells_here a way rest b named sound key bytes is found searched =
+    let fits : AreBytes rest = subst AreBytes (sym is) (bytes-drop (8 * way.layer) key bytes) in
+    subst (λ (f : Found). TellsRow a way.node.0 rest f) (sym searched) (tells_row a way.node.0 rest b named sound fits)
 
 -- ---- the answer of a get
 module _ (a : ArenaView) (key : List ℕ) (way : Way) (asked : List ℕ) (rest : List ℕ) (b : BorderView) (bytes : AreBytes key) (is : rest ≡ rest_of key way) (named : border_at a.nodes way.node.0 ≡ Some b) where
@@ -118,15 +130,13 @@ module _ (a : ArenaView) (get : Get) (went : Went) (sound : IsArena a) (visits :
         };
   }
 
-  -- at its place there is a border
-  pub has_border : (now begun : ℕ) (w : World) → IsWorld a now w → IsOnWay begun get.key get.way w → went ≡ Here → IsSome (border_at a.nodes get.way.node.0)
-  has_border now begun w world on is =
-      let place = subst (λ (t : Went). GoesTo a begun get.key get.way w t) is (visits.goes now w begun world on) in
-      subst (λ (b : Option BorderView). IsSome b) (sym place.here.named) refl
-
 -- what a call holds it may visit
 pub may_go : (a : ArenaView) (key : List ℕ) (way : Way) (now begun : ℕ) (w : World) → IsWorld a now w → IsOnWay begun key way w → MayGo a key way
 may_go a key way now begun w world on = record {
   within = on.layer.within;
   may = held_may_visit a now w.twins w.chart begun way.node.0 (slice_number (rest_of key way)) (prefix_of key way) world.index on.held;
 }
+
+-- and that node, where it is lent it
+pub may_go_at : (a : ArenaView) (key : List ℕ) (way : Way) (node : Node) → Names a way.node.0 node → MayGo a key way → MayGoAt key way node
+may_go_at a key way node names may = record { within = may.within; may = may_visit a way.node.0 (rest_of key way) node names.named may.may }

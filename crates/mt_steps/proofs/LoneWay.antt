@@ -1,7 +1,7 @@
 -- A call that runs alone on its way: each node that it comes to is on, and with each move what is left of its way falls.
 use Rattle.std.proofs.Common.{ℕ, zero, suc, ◌≡◌, ◌<◌, ◌≤◌, ◌+◌, ◌*◌, ◌-◌, List, length, Option, Some, None, Bool, true, false, refl, sym, ap, subst, ◌∙◌, arith}
 use Rattle.std.specs.Prelude.{◌^◌, IsSomeAnd}
-use Rattle.mt_types.specs.declared.limits.TheConstants.{MAX_LEVEL, MAX_KEY_BYTES}
+use Rattle.mt_types.specs.declared.limits.TheConstants.{MAX_LAYER, MAX_LEVEL, MAX_KEY_BYTES}
 use Rattle.mt_slice.specs.Place.{AreBytes, slices_above}
 use Rattle.mt_slice.proofs.Slices.{slice_number-below, bytes-drop}
 use Rattle.mt_arena.specs.Node.{node_at}
@@ -80,7 +80,7 @@ pub record MovesOn (a : ArenaView) (chart : Chart) (next left : ℕ) : Type 0 wh
   pub place : chart next ≡ Some (spot role prefix low (on posted))
   pub falls : way_left a (length prefix) next < left
 
-pub moves_on : (a : ArenaView) (now : ℕ) (w : World) → IsWorld a now w → (number next : ℕ) (prefix : List ℕ) → (at : StandsIn w.chart number prefix) → length prefix ≤ 31
+pub moves_on : (a : ArenaView) (now : ℕ) (w : World) → IsWorld a now w → (number next : ℕ) (prefix : List ℕ) → (at : StandsIn w.chart number prefix) → length prefix ≤ MAX_LAYER
     → Moves (arena_seen a) number next → MovesOn a w.chart next (way_left a (length prefix) number)
 moves_on a now w world number next prefix at deep move =
     let known = at_height w.chart (suc now) number at.role prefix at.low (record { standing = on at.posted; place = at.place; since = λ epoch is. absurd (let clash : on at.posted ≡ gone epoch = is in cc) }) in
@@ -141,7 +141,7 @@ way_moves a now begun w key way next world bytes fits held there (further, move,
     let within = held.layer.within in
     let many = layers_above way.layer key in
     let many_next = layers_above next.layer key in
-    let deep : length (prefix_of key way) ≤ 31 = omega (arith, many, within, fits) in
+    let deep : length (prefix_of key way) ≤ MAX_LAYER = omega (arith, many, within, fits) in
     let on_next = moves_on a now w world way.node.0 next.node.0 (prefix_of key way) (stands_in w begun key way bytes held there) deep move in
     let same = same_prefix on_next.role further.held.role on_next.low further.held.low (on on_next.posted) further.held.standing on_next.prefix (prefix_of key next) (sym on_next.place ∙ further.held.place) in (
       record { posted = on_next.posted; role = on_next.role; low = on_next.low; place = on_next.place ∙ ap (λ (p : List ℕ). Some (spot on_next.role p on_next.low (on on_next.posted))) same },

@@ -20,7 +20,8 @@ use Rattle.mt_border.specs.Order.{IsBorder}
 use Rattle.mt_border.specs.declared.entry.Entry.{Entry}
 use Rattle.mt_border.specs.declared.entry.Content.{Content}
 use Rattle.mt_border.specs.declared.entry.Content.TheVariants.{Short, Long, Link}
-use Rattle.mt_arena.specs.Node.{border_at}
+use Rattle.mt_arena.specs.Node.{border_of, border_at, node_at, IsNode}
+use Rattle.mt_arena.specs.declared.node.Node.{Node}
 use Rattle.mt_arena.specs.Arena.{ArenaView, IsArena}
 use Rattle.mt_chart.specs.Tree.{Arena, Among, first, later, HoldsRow, Below}
 use Rattle.mt_chart.specs.Tree.{PlainEntry}
@@ -35,9 +36,10 @@ use Rattle.mt_chart.proofs.Ranges.{range_kept, range_again, range_visits}
 use Rattle.mt_chart.proofs.TreeLemmas.{rows_in_borders}
 use Rattle.mt_chart.proofs.ScanLemmas.{of_keys}
 use Rattle.mt_tree.specs.Seen.{arena_seen, border_seen, entry_seen, content_seen, content_place, entry_place}
-use Rattle.mt_tree.specs.Descent.{MayVisit, LeadsOn as VisitLeads, TellsVisit, IsHere}
-use Rattle.mt_tree.specs.declared.visit.Visit.TheVariants.{To as VisitTo, Here as VisitHere}
-use Rattle.mt_tree.proofs.DescentLemmas.{slice_of_place}
+use Rattle.mt_tree.specs.Descent.{MayVisit, MayVisitNode, LeadsOn as VisitLeads, TellsVisit, IsHere, node_visit}
+use Rattle.mt_tree.specs.declared.visit.Visit.{Visit}
+use Rattle.mt_tree.specs.declared.visit.Visit.TheVariants.{To as VisitTo, Below as VisitBelow, Here as VisitHere}
+use Rattle.mt_tree.proofs.DescentLemmas.{slice_of_place, may_visit, leads_node, tells_node}
 use Rattle.mt_tree.proofs.HeldLemmas.{held_may_visit}
 use Rattle.mt_tree.proofs.IntervalLemmas.{entries_in_order}
 use Rattle.mt_tree.proofs.SeenLemmas.{seen-border, among_map}
@@ -49,22 +51,27 @@ use Rattle.mt_scan.specs.declared.scan.ScanMove.{ScanMove}
 use Rattle.mt_scan.specs.declared.scan.ScanMove.TheVariants.{Done, To as VisitedTo, Top}
 use Rattle.mt_steps.specs.declared.ranging.Range.{Range}
 use Rattle.mt_steps.specs.declared.ranging.Sought.{Sought}
-use Rattle.mt_steps.specs.declared.ranging.Sought.TheVariants.{To, Here}
+use Rattle.mt_steps.specs.declared.ranging.Sought.TheVariants.{Again, To, Here}
 use Rattle.mt_steps.specs.declared.progress.Progress.{Progress}
 use Rattle.mt_steps.specs.declared.progress.Progress.TheVariants.{Moved, Waits, Answered, Refused}
 use Rattle.mt_steps.specs.World.{World, IsWorld}
-use Rattle.mt_steps.specs.Step.{StepLaw, nothing}
-use Rattle.mt_steps.specs.Ranging.{range_request, RangeIsTrue, RangeStays, IsHeldFor, IsAtSlice, KnowsOfSlice, Seeks, ScansOn}
+use Rattle.mt_steps.specs.Way.{Names}
+use Rattle.mt_steps.specs.Step.{StepLaw, MayStep, nothing}
+use Rattle.mt_steps.specs.Ranging.{range_request, RangeIsTrue, RangeStays, RangeMayVisit, IsHeldFor, IsHeldNode, IsAtSlice, KnowsOfSlice, Seeks, ScansOn}
 use Rattle.mt_steps.proofs.FrameLemmas.{goes_same, quiet_same}
+use Rattle.mt_steps.proofs.WayLemmas.{names_may, names_border}
 
 -- ---- a slice as a rest of eight bytes
 length_high : (k n : ℕ) → length (bytes_high_first k n) ≡ k
 length_high zero n = refl
 length_high (suc k) n = ap suc (length_high k n)
 
+pub eight_bytes : (slice : ℕ) (rest : List ℕ) → rest ≡ to_be_bytes w64 slice → length rest ≡ 8
+eight_bytes slice rest is = ap length is ∙ length_high 8 slice
+
 pub slice_back : (slice : ℕ) (rest : List ℕ) → rest ≡ to_be_bytes w64 slice → slice < 2 ^ 64 → slice_number rest ≡ slice
 slice_back slice rest is below =
-    let eight : length rest ≡ 8 = ap length is ∙ length_high 8 slice in
+    let eight = eight_bytes slice rest is in
     slice_number-long rest (omega (arith, eight)) ∙ (ap (big_endian 0) (take_all 8 rest (omega (arith, eight))) ∙ (sym (from_be_bytes-big_endian rest eight) ∙ (ap (from_be_bytes w64) is ∙ from_be_bytes-to_be_bytes_8 slice below)))
 
 module _ (a : ArenaView) (number slice : ℕ) (rest : List ℕ) (same : slice_number rest ≡ slice) where
@@ -88,6 +95,32 @@ module _ (a : ArenaView) (number slice : ℕ) (rest : List ℕ) (same : slice_nu
           to_right = subst (λ (s : ℕ). Below s (border_seen here.border).right) (slice_of_place rest ∙ same) here.stands.to_right;
         };
   }
+
+pub seeks-again : (a : ArenaView) (number slice : ℕ) → Seeks a number slice Again
+seeks-again a number slice = record { leads = λ now twins chart begun prefix index held. tt }
+
+-- ---- the visit of a node that is lent alone
+module _ (node : Node) (slice : ℕ) (rest : List ℕ) (same : slice_number rest ≡ slice) (held : IsHeldNode node slice) where
+  pub held_may : MayVisitNode node (slice_number rest)
+  held_may = may_visit held.arena held.number rest node held.names.named (seeks-may held.arena held.number slice rest same held.held)
+
+  module _ (sound : IsNode node) (visit : Visit) (value : visit ≡ node_visit rest node) where
+    pub node_leads : (a : ArenaView) (number : ℕ) → Names a number node → VisitLeads a number rest visit
+    node_leads a number names =
+        subst (λ (v : Visit). VisitLeads a number rest v) (sym value) (leads_node a number rest node names.named sound (names_may a number node (slice_number rest) names held_may))
+
+    pub node_tells : (a : ArenaView) (number : ℕ) → Names a number node → TellsVisit a number rest visit
+    node_tells a number names =
+        subst (λ (v : Visit). TellsVisit a number rest v) (sym value) (tells_node a number rest node names.named sound (names_may a number node (slice_number rest) names held_may))
+
+-- no link leads on from eight bytes
+pub no_link : (node : Node) (slice : ℕ) (rest : List ℕ) (same : slice_number rest ≡ slice) (held : IsHeldNode node slice) → IsNode node → (top : NodeNo) → VisitBelow top ≡ node_visit rest node → length rest ≡ 8 → ⊥
+no_link node slice rest same held sound top value eight =
+    let leads = node_leads node slice rest same held sound (VisitBelow top) value held.arena held.number held.names in
+    let h = held.held in
+    let below = leads.leads h.now h.twins h.chart h.begun h.prefix h.index (subst (λ (s : ℕ). Holds h.chart h.begun held.number h.prefix s) (sym same) h.holds) in
+    let long : 8 < length rest = below.0 in
+    omega (arith, long, eight)
 
 -- the node to which a visit leads
 pub seeks-moves : (a : ArenaView) (number : ℕ) (rest : List ℕ) (to next : NodeNo) → TellsVisit a number rest (VisitTo to) → ◌≡◌ {A = Sought} (To to) (To next) → Moves (arena_seen a) number next.0
@@ -212,24 +245,18 @@ module _ (a : ArenaView) (range : Range) where
     here_is : (now begun : ℕ) (w : World) → IsWorld a now w → Holds w.chart begun range.node.0 range.scan.prefix (first_slice range.scan.at) → sought ≡ Here → IsAtSlice a range.node.0 (first_slice range.scan.at)
     here_is now begun w world held is = subst (λ (s : Sought). KnowsOfSlice a w.chart begun range.node.0 range.scan.prefix (first_slice range.scan.at) s) is (seeks.leads now w.twins w.chart begun range.scan.prefix world.index held)
 
-    -- there is a border
-    pub range_border : (now begun moves : ℕ) (past : List Arena) (w : World) → IsWorld a now w → RangeIsTrue range begun moves past a w → sought ≡ Here → IsSome (border_at a.nodes range.node.0)
-    range_border now begun moves past w world truth is =
-        let here = here_is now begun w world truth.scans.held is in
-        subst (λ (b : Option BorderView). IsSome b) (sym here.named) refl
-
     module _ (b : BorderView) (named : border_at a.nodes range.node.0 ≡ Some b) (is : sought ≡ Here) where
       same_border : (here : IsAtSlice a range.node.0 (first_slice range.scan.at)) → here.border ≡ b
       same_border here = let both : ◌≡◌ {A = Option BorderView} (Some here.border) (Some b) = sym here.named ∙ named in cc
 
       -- whose rows are those of keys
-      pub range_keys : (now begun moves : ℕ) (past : List Arena) (w : World) → IsWorld a now w → RangeIsTrue range begun moves past a w → HoldsKeys range.scan.prefix b.live
+      range_keys : (now begun moves : ℕ) (past : List Arena) (w : World) → IsWorld a now w → RangeIsTrue range begun moves past a w → HoldsKeys range.scan.prefix b.live
       range_keys now begun moves past w world truth =
           let here = here_is now begun w world truth.scans.held is in
           holds_keys a now begun range.node.0 (first_slice range.scan.at) w range.scan.prefix b world truth.scans.held named (ap (λ (x : BorderView). x.version.deleted) (sym (same_border here)) ∙ here.alive)
 
       -- which is not marked deleted, and in whose interval the slice is
-      pub range_may_get_on : (now begun moves : ℕ) (past : List Arena) (w : World) → IsWorld a now w → RangeIsTrue range begun moves past a w → IsAliveFor b (first_slice range.scan.at)
+      range_may_get_on : (now begun moves : ℕ) (past : List Arena) (w : World) → IsWorld a now w → RangeIsTrue range begun moves past a w → IsAliveFor b (first_slice range.scan.at)
       range_may_get_on now begun moves past w world truth =
           let here = here_is now begun w world truth.scans.held is in
           subst (λ (x : BorderView). IsAliveFor x (first_slice range.scan.at)) (same_border here) (record { alive = here.alive; to_right = here.to_right })
@@ -326,6 +353,38 @@ module _ (a : ArenaView) (range : Range) where
   }
 
 -- what a range holds
-pub range_may : (a : ArenaView) (range : Range) (now begun moves : ℕ) (past : List Arena) (w : World) → IsWorld a now w → RangeIsTrue range begun moves past a w → (slice : ℕ) → slice ≡ first_slice range.scan.at → IsHeldFor a range.node.0 slice
+range_may : (a : ArenaView) (range : Range) (now begun moves : ℕ) (past : List Arena) (w : World) → IsWorld a now w → RangeIsTrue range begun moves past a w → (slice : ℕ) → slice ≡ first_slice range.scan.at → IsHeldFor a range.node.0 slice
 range_may a range now begun moves past w world truth slice is =
     record { now = now; twins = w.twins; chart = w.chart; begun = begun; prefix = range.scan.prefix; index = world.index; holds = subst (λ (s : ℕ). Holds w.chart begun range.node.0 range.scan.prefix s) (sym is) truth.scans.held }
+
+pub range_node : (a : ArenaView) (range : Range) (log : LogView) → MayStep a log nothing (RangeIsTrue range) → IsSome (node_at a.nodes range.node.0)
+range_node a range log may =
+    let held = range_may a range may.now may.begun may.moves may.past may.w may.world may.true (first_slice range.scan.at) refl in
+    (held_may_visit a held.now held.twins held.chart held.begun range.node.0 (first_slice range.scan.at) held.prefix held.index held.holds).named
+
+-- ---- where it is lent the node at which it stands
+module _ (range : Range) (node : Node) (may : RangeMayVisit range node) where
+  pub range_may_visit : (slice : ℕ) → slice ≡ first_slice range.scan.at → IsHeldNode node slice
+  range_may_visit slice is =
+      let at = may.may in
+      record { arena = may.arena; number = range.node.0; names = may.names; held = range_may may.arena range at.now at.begun at.moves at.past at.w at.world at.true slice is }
+
+  module _ (sought : Sought) (slice : ℕ) (seeks : (a : ArenaView) (number : ℕ) → Names a number node → Seeks a number slice sought) (slice_is : slice ≡ first_slice range.scan.at)
+      (b : BorderView) (is_border : border_of node ≡ Some b) (is : sought ≡ Here) where
+    sought_here : Seeks may.arena range.node.0 (first_slice range.scan.at) sought
+    sought_here = subst (λ (s : ℕ). Seeks may.arena range.node.0 s sought) slice_is (seeks may.arena range.node.0 may.names)
+
+    named_here : border_at may.arena.nodes range.node.0 ≡ Some b
+    named_here = names_border may.arena range.node.0 node b may.names is_border
+
+    -- the border's rows are those of keys
+    pub range_keys_of : HoldsKeys range.scan.prefix b.live
+    range_keys_of =
+        let at = may.may in
+        range_keys may.arena range sought sought_here b named_here is at.now at.begun at.moves at.past at.w at.world at.true
+
+    -- it is not marked deleted, and the slice is in its interval
+    pub alive_for : IsAliveFor b (first_slice range.scan.at)
+    alive_for =
+        let at = may.may in
+        range_may_get_on may.arena range sought sought_here b named_here is at.now at.begun at.moves at.past at.w at.world at.true

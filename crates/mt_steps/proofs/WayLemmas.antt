@@ -1,5 +1,5 @@
 -- What a visit on the way to a key tells.
-use Rattle.std.proofs.Common.{ℕ, ◌≡◌, ◌<◌, ◌+◌, ◌*◌, [], ◌∷◌, List, length, true, false, inl, inr, refl, sym, ap, subst, ◌∙◌, arith, add-one, length-drop}
+use Rattle.std.proofs.Common.{ℕ, ◌≡◌, ◌<◌, ◌+◌, ◌-◌, ◌*◌, [], ◌∷◌, List, length, slice_get, Bool, true, false, if◌then◌else◌, inl, inr, refl, sym, ap, subst, ◌∙◌, arith, add-one, length-drop}
 use Rattle.mt_types.specs.declared.numbers.NodeNo.{NodeNo}
 use Rattle.mt_slice.specs.Place.{deeper, under, place_of, rest_at, slices_above, slice_number}
 use Rattle.mt_slice.proofs.PlaceOn.{place_of-long, rest_at-next}
@@ -7,15 +7,24 @@ use Rattle.mt_arena.specs.Arena.{ArenaView}
 use Rattle.mt_chart.specs.Chart.{Holds, top, on, gone}
 use Rattle.mt_chart.specs.TreeLaws.{IsWhere}
 use Rattle.mt_tree.specs.Seen.{arena_seen, border_seen}
-use Rattle.std.specs.Prelude.{IsSomeAnd, Option, Some, None}
+use Rattle.std.specs.Prelude.{Option, Some, None, IsSome, IsSomeAnd}
+use Rattle.std.specs.Option.{option_and_then}
+use Rattle.mt_border.specs.Border.{BorderView}
+use Rattle.mt_interior.specs.Interior.{children_up_to}
+use Rattle.mt_interior.specs.declared.child.Child.{Child}
 use Rattle.mt_arena.specs.declared.node.Node.{Node}
+use Rattle.mt_arena.specs.declared.node.Node.TheVariants.{Head as HeadNode, Interior as InteriorNode, Border as BorderNode}
 use Rattle.mt_tree.specs.declared.visit.Visit.{Visit}
-use Rattle.mt_tree.specs.Descent.{IsHere, IsLast, LeadsOn, TellsVisit, found_for, node_visit}
-use Rattle.mt_tree.specs.declared.visit.Visit.TheVariants.{To as VisitTo, Below, Here as VisitHere}
+use Rattle.mt_arena.specs.Node.{interior_of, border_of, border_at, IsNode}
+use Rattle.mt_tree.specs.Descent.{IsHere, IsLast, LeadsOn, TellsVisit, MayVisit, MayVisitNode, is_marked, to_child, found_for, node_visit}
+use Rattle.mt_tree.proofs.DescentLemmas.{leads_node, tells_node}
+use Rattle.mt_tree.specs.declared.visit.Visit.TheVariants.{Again as VisitAgain, To as VisitTo, Below, Here as VisitHere}
 use Rattle.mt_steps.specs.declared.way.Way.{Way}
+use Rattle.mt_steps.specs.declared.way.Went.{Went}
 use Rattle.mt_steps.specs.declared.way.Went.TheVariants.{To, Here}
 use Rattle.mt_steps.specs.World.{World, IsWorld}
-use Rattle.mt_steps.specs.Way.{prefix_of, rest_of, IsLayerOf, IsOnWay, IsAtPlace, IsHeadOf, Visits, went_by}
+use Rattle.mt_steps.specs.Way.{prefix_of, rest_of, IsLayerOf, IsOnWay, IsAtPlace, IsHeadOf, Names, Visits, VisitIs, went_by, went_at}
+use Rattle.mt_steps.specs.Causes.{IsMarkedAt}
 
 -- one layer deeper
 pub layer_below : (key : List ℕ) (way : Way) (node : NodeNo) → 8 < length (rest_of key way) → IsLayerOf key way → IsLayerOf key (record { node = node; layer = way.layer + 1 })
@@ -63,10 +72,30 @@ module _ (a : ArenaView) (key : List ℕ) (way : Way) (rest : List ℕ) (is : re
         last = subst (λ (r : List ℕ). IsLast (found_for r here.border.live)) is last;
       }
 
--- what the visit was, by the node
-pub went_is : (way : Way) (rest whole : List ℕ) (visit : Visit) (node : Option Node) → rest ≡ whole → IsSomeAnd node (λ x. visit ≡ node_visit rest x) → IsSomeAnd node (λ x. went_by way visit ≡ went_by way (node_visit whole x))
-went_is way rest whole visit None same h = h
-went_is way rest whole visit (Some x) same h = ap (went_by way) (h ∙ ap (λ (r : List ℕ). node_visit r x) same)
+-- ---- the visit of a node that is lent alone
+pub names_may : (a : ArenaView) (number : ℕ) (node : Node) (slice : ℕ) → Names a number node → MayVisitNode node slice → MayVisit a number slice
+names_may a number node slice names may = record {
+  named = subst (λ (n : Option Node). IsSome n) (sym names.named) refl;
+  has_child = λ i of. may.has_child i (sym (ap (option_and_then interior_of) names.named) ∙ of);
+}
+
+module _ (key : List ℕ) (way : Way) (node : Node) (rest : List ℕ) (is : rest ≡ rest_of key way) (visit : Visit) (value : visit ≡ node_visit rest node) where
+  -- what it was, by the node
+  pub went_is : went_by way visit ≡ went_at key way node
+  went_is = ap (went_by way) (value ∙ ap (λ (r : List ℕ). node_visit r node) is)
+
+  tells_of : (a : ArenaView) (v : Visit) → LeadsOn a way.node.0 rest v → TellsVisit a way.node.0 rest v → Visits a key way (went_by way v)
+  tells_of a VisitAgain leads tells = record { goes = λ now w begun world on. tt }
+  tells_of a (VisitTo next) leads tells = visits-to a key way rest is next leads tells
+  tells_of a (Below below) leads tells = visits-below a key way rest is below leads tells
+  tells_of a VisitHere leads tells = visits-here a key way rest is leads tells
+
+  -- what it tells in each arena in which the number names it
+  pub went_in : IsNode node → MayVisitNode node (slice_number (rest_of key way)) → (a : ArenaView) → Names a way.node.0 node → Visits a key way (went_by way visit)
+  went_in sound may a names =
+      let may_visit = subst (λ (r : List ℕ). MayVisit a way.node.0 (slice_number r)) (sym is) (names_may a way.node.0 node (slice_number (rest_of key way)) names may) in
+      subst (λ (v : Visit). Visits a key way (went_by way v)) (sym value)
+      (tells_of a (node_visit rest node) (leads_node a way.node.0 rest node names.named sound may_visit) (tells_node a way.node.0 rest node names.named sound may_visit))
 
 -- every way begins at the head of layer 0
 pub starts : (a : ArenaView) (now : ℕ) (w : World) (begun : ℕ) (key : List ℕ) → IsWorld a now w → IsOnWay begun key (record { node = record { 0 = 0 }; layer = 0 }) w
@@ -78,3 +107,40 @@ starts a now w begun key world = record {
 -- and that is the head of layer 0
 pub starts_at_head : (a : ArenaView) (now : ℕ) (w : World) (begun : ℕ) → IsWorld a now w → IsHeadOf w begun 0 []
 starts_at_head a now w begun world = record { standing = on true; place = world.index.tree.layer_0; since = λ epoch is. absurd (let clash : on true ≡ gone epoch = is in cc) }
+
+-- ---- the border where a call comes to its place
+if_here : (visit : Visit) (way : Way) → went_by way visit ≡ Here → visit ≡ VisitHere
+if_here VisitAgain way e = cc
+if_here (VisitTo next) way e = cc
+if_here (Below below) way e = cc
+if_here VisitHere way e = refl
+
+-- a head and an interior lead on
+leads_on : (deleted : Bool) (next : Visit) → (next ≡ VisitHere → ⊥) → (if deleted then VisitAgain else next) ≡ VisitHere → ⊥
+leads_on true next other e = cc
+leads_on false next other e = other e
+
+no_child_here : (child : Option Child) → to_child child ≡ VisitHere → ⊥
+no_child_here None e = cc
+no_child_here (Some child) e = cc
+
+pub border_here : (rest : List ℕ) (node : Node) → node_visit rest node ≡ VisitHere → IsSome (border_of node)
+border_here rest (HeadNode h) e = absurd (leads_on h.version.deleted (VisitTo h.root) (λ f. cc) e)
+border_here rest (InteriorNode i) e = absurd (leads_on i.version.deleted (to_child (slice_get i.children (children_up_to (slice_number rest) i.children - 1))) (no_child_here _) e)
+border_here rest (BorderNode b) e = refl
+
+pub has_border : (key : List ℕ) (way : Way) (node : Node) → Here ≡ went_at key way node → IsSome (border_of node)
+has_border key way node is = border_here (rest_of key way) node (if_here (node_visit (rest_of key way) node) way (sym is))
+
+-- ---- what is true of a node that is lent, said of its number
+pub names_border : (a : ArenaView) (number : ℕ) (node : Node) (b : BorderView) → Names a number node → border_of node ≡ Some b → border_at a.nodes number ≡ Some b
+names_border a number node b names is = ap (option_and_then border_of) names.named ∙ is
+
+pub names_some : (a : ArenaView) (number : ℕ) (node : Node) → Names a number node → IsSome (border_of node) → IsSome (border_at a.nodes number)
+names_some a number node names some = subst (λ (b : Option BorderView). IsSome b) (sym (ap (option_and_then border_of) names.named)) some
+
+pub names_marked : (a : ArenaView) (number : ℕ) (node : Node) → Names a number node → is_marked node ≡ true → IsMarkedAt a number
+names_marked a number node names marked = subst (λ (n : Option Node). IsSomeAnd n (λ x. is_marked x ≡ true)) (sym names.named) marked
+
+pub names_visit : (a : ArenaView) (key : List ℕ) (way : Way) (node : Node) (went : Went) → Names a way.node.0 node → went ≡ went_at key way node → VisitIs a key way went
+names_visit a key way node went names is = subst (λ (n : Option Node). IsSomeAnd n (λ x. went ≡ went_at key way x)) (sym names.named) is

@@ -7,7 +7,9 @@ use Rattle.mt_types.specs.declared.event.Request.TheVariants.{Range as RangeRequ
 use Rattle.mt_slice.specs.Place.{AreBytes, place_of, first_slice, under}
 use Rattle.mt_border.specs.Border.{BorderView}
 use Rattle.mt_arena.specs.Node.{border_at}
+use Rattle.mt_arena.specs.declared.node.Node.{Node}
 use Rattle.mt_arena.specs.Arena.{ArenaView, IsArena}
+use Rattle.mt_commit.specs.Log.{LogView}
 use Rattle.mt_chart.specs.Tree.{Arena, Below}
 use Rattle.mt_chart.specs.Chart.{Chart, Holds}
 use Rattle.mt_chart.specs.Steps.{Twin}
@@ -27,7 +29,8 @@ use Rattle.mt_steps.specs.declared.progress.Progress.TheVariants.{Moved, Waits, 
 use Rattle.mt_steps.specs.declared.ranging.Range.{Range}
 use Rattle.mt_steps.specs.declared.ranging.Sought.{Sought}
 use Rattle.mt_steps.specs.declared.ranging.Sought.TheVariants.{Again, To, Here}
-use Rattle.mt_steps.specs.Way.{start}
+use Rattle.mt_steps.specs.Way.{start, Names}
+use Rattle.mt_steps.specs.Step.{MayStep, nothing}
 use Rattle.mt_steps.specs.World.{World, IsWorld}
 
 abbrev pub range_request : Range → Request
@@ -52,6 +55,20 @@ pub record IsHeldFor (a : ArenaView) (number slice : ℕ) : Type 0 where
   pub prefix : List ℕ
   pub index : IsIndexAt a now twins chart
   pub holds : Holds chart begun number prefix slice
+
+-- the same of a node that it is lent alone
+pub record IsHeldNode (node : Node) (slice : ℕ) : Type 0 where
+  pub arena : ArenaView
+  pub number : ℕ
+  pub names : Names arena number node
+  pub held : IsHeldFor arena number slice
+
+-- a range is lent the node where it stands, and may visit it
+pub record RangeMayVisit (range : Range) (node : Node) : Type 0 where
+  pub arena : ArenaView
+  pub log : LogView
+  pub names : Names arena range.node.0 node
+  pub may : MayStep arena log nothing (RangeIsTrue range)
 
 -- the border is the one in whose interval the slice is, and is not marked deleted
 pub record IsAtSlice (a : ArenaView) (number slice : ℕ) : Type 0 where

@@ -1,14 +1,15 @@
 -- A call on its way to the border of its key.
-use Rattle.std.specs.Prelude.{ℕ, ◌≡◌, ◌≤◌, ◌+◌, ◌*◌, ◌⊎◌, List, length, false, IsSomeAnd}
+use Rattle.std.specs.Prelude.{ℕ, ◌≡◌, ◌≤◌, ◌+◌, ◌-◌, ◌*◌, ◌⊎◌, List, length, false, Some, IsSomeAnd}
 use Rattle.mt_slice.specs.Place.{place_of, under, slices_above, rest_at, slice_number}
-use Rattle.mt_arena.specs.Arena.{ArenaView}
+use Rattle.mt_arena.specs.Arena.{ArenaView, IsArena}
 use Rattle.mt_arena.specs.Node.{node_at}
+use Rattle.mt_arena.specs.declared.node.Node.{Node}
 use Rattle.mt_chart.specs.Chart.{Holds, top}
 use Rattle.mt_chart.specs.Walk.{Known, Moves}
 use Rattle.mt_tree.specs.Seen.{arena_seen}
 use Rattle.mt_tree.specs.declared.visit.Visit.{Visit}
 use Rattle.mt_tree.specs.declared.visit.Visit.TheVariants.{Again as VisitAgain, To as VisitTo, Below, Here as VisitHere}
-use Rattle.mt_tree.specs.Descent.{IsHere, IsLast, MayVisit, found_for, node_visit}
+use Rattle.mt_tree.specs.Descent.{IsHere, IsLast, MayVisit, MayVisitNode, found_for, node_visit}
 use Rattle.mt_steps.specs.declared.way.Way.{Way}
 use Rattle.mt_steps.specs.declared.way.Went.{Went}
 use Rattle.mt_steps.specs.declared.way.Went.TheVariants.{Again, To, Here}
@@ -27,7 +28,7 @@ rest_of key way = rest_at way.layer key
 
 -- the layer is one of the key's
 pub record IsLayerOf (key : List ℕ) (way : Way) : Type 0 where
-  pub within : 8 * way.layer ≤ length key
+  pub within : 8 * way.layer ≤ length key - 1
   pub under : place_of key ≡ under (prefix_of key way) (place_of (rest_of key way))
 
 -- a call that began in the epoch holds the node where it stands, for its key's slice in the layer
@@ -66,15 +67,29 @@ went_by way (VisitTo next) = To (record { node = next; layer = way.layer })
 went_by way (Below below) = To (record { node = below; layer = way.layer + 1 })
 went_by way VisitHere = Here
 
+-- what a visit of this node comes to, where a call stands at it
+abbrev pub went_at : List ℕ → Way → Node → Went
+went_at key way node = went_by way (node_visit (rest_of key way) node)
+
 -- a visit of the one node where a call stands comes to this
 abbrev pub VisitIs : ArenaView → List ℕ → Way → Went → Type 0
-VisitIs a key way went =
-    IsSomeAnd (node_at a.nodes way.node.0) (λ node. went ≡ went_by way (node_visit (rest_of key way) node))
+VisitIs a key way went = IsSomeAnd (node_at a.nodes way.node.0) (λ node. went ≡ went_at key way node)
 
 -- what a call must know before it visits the node where it stands
 pub record MayGo (a : ArenaView) (key : List ℕ) (way : Way) : Type 0 where
-  pub within : 8 * way.layer ≤ length key
+  pub within : 8 * way.layer ≤ length key - 1
   pub may : MayVisit a way.node.0 (slice_number (rest_of key way))
+
+-- the same of the node itself, where it is lent that node alone
+pub record MayGoAt (key : List ℕ) (way : Way) (node : Node) : Type 0 where
+  pub within : 8 * way.layer ≤ length key - 1
+  pub may : MayVisitNode node (slice_number (rest_of key way))
+
+-- A NODE IS LENT: the arena is sound, and the number names this node in it. Who is lent the node alone speaks of each
+-- arena of which that is so.
+pub record Names (a : ArenaView) (number : ℕ) (node : Node) : Type 0 where
+  pub named : node_at a.nodes number ≡ Some node
+  pub sound : IsArena a
 
 -- what a visit tells, in each world in which the call holds the node
 pub record Visits (a : ArenaView) (key : List ℕ) (way : Way) (went : Went) : Type 0 where

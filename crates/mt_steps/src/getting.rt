@@ -1,17 +1,20 @@
 //! A get: on its way to its key's border, where it reads.
 
-ghost use Rattle.std.specs.Prelude.{◌≡◌, ℕ, ◌≤◌, ◌<◌, ◌*◌, length, IfOk, IsSome, Some};
+ghost use Rattle.std.specs.Prelude.{◌≡◌, ℕ, ◌≤◌, ◌<◌, ◌-◌, ◌*◌, length, IfOk, IsSome, Some};
 ghost use Rattle.mt_border.specs.Border.{row_at};
 ghost use Rattle.mt_commit.specs.Log.{LogView};
+ghost use Rattle.mt_arena.specs.Arena.{ArenaView};
 ghost use Rattle.mt_arena.specs.Node.{border_at};
 ghost use Rattle.mt_steps.specs.Step.{StepLaw, MayStep, nothing};
 ghost use Rattle.mt_steps.specs.Causes.{ReadWaits, ReadFails};
+ghost use Rattle.mt_steps.specs.Way.{MayGoAt, Names};
 ghost use Rattle.mt_steps.specs.Getting.{get_request, GetIsTrue, GetFollows, Reads};
 
 use crate::progress::Progress;
 use crate::way::{START, Way, Went, rest_of};
+use mt_arena::Node;
 use mt_border::{Border, Content, Found};
-use mt_tree::Tree;
+use mt_tree::{Tree, find};
 use mt_types::columns::shown;
 use mt_types::event::Answer;
 use mt_types::key::Key;
@@ -43,18 +46,18 @@ pub fn row_at(border: &Border, place: usize) -> &Row
 // What stands at the place of a key.
 fn read(
     alloc: Global,
-    tree: &Tree,
+    border: &Border,
     key: &Key,
     way: Way,
     asked: &ColumnNumbers,
 ) -> Result<Answer, NoMemory>
-    requires within { 8 * way.layer ≤ length key.now }
-    requires border { IsSome (border_at tree.now.nodes way.node.0) }
-    ensures { IfOk result (λ answer. Reads tree.now key.now way asked.now answer) }
+    requires { 8 * way.layer ≤ length key.now - 1 }
+    ensures { IfOk result (λ answer. (a : ArenaView) → border_at a.nodes way.node.0 ≡ Some border.now
+        → Reads a key.now way asked.now answer) }
 {
-    match tree.find(way.node, rest_of(key, way.layer)) {
+    match find(border, rest_of(key, way.layer)) {
         Found::Row(place) => {
-            let row = row_at(tree.border(way.node), place);
+            let row = row_at(border, place);
             Ok(Answer::Found(shown(alloc, asked, row)?))
         }
         Found::Absent(_) | Found::OtherSuffix(_) | Found::Link(_, _) => Ok(Answer::Absent),
@@ -62,7 +65,37 @@ fn read(
 }
 
 impl Get {
-    /// Visits one node.
+    // Visits the node where it stands, and is lent no other.
+    fn visit(&mut self, alloc: Global, node: &Node) -> Progress
+        requires { MayGoAt self.old.key self.old.way node.now }
+        ensures request { get_request self.new ≡ get_request self.old }
+        ensures steps { (a : ArenaView) → Names a self.old.way.node.0 node.now → (C : ℕ) (log : LogView)
+            → StepLaw C a a log log (get_request self.old) nothing result nothing (GetIsTrue self.old)
+            (GetIsTrue self.new) }
+        ensures waits { (a : ArenaView) → Names a self.old.way.node.0 node.now
+            → ReadWaits a self.old.way.node.0 result }
+        ensures fails { (a : ArenaView) → Names a self.old.way.node.0 node.now
+            → ReadFails a self.old.way.node.0 result }
+        ensures gets_on { (a : ArenaView) → Names a self.old.way.node.0 node.now
+            → GetFollows a self.old result self.new }
+    {
+        match self.way.visit_node(node, &self.key) {
+            Went::Again => {
+                self.way = START;
+                Progress::Waits
+            }
+            Went::To(next) => {
+                self.way = next;
+                Progress::Moved
+            }
+            Went::Here => match read(alloc, node.as_border(), &self.key, self.way, &self.columns) {
+                Ok(answer) => Progress::Answered(answer),
+                Err(_) => Progress::Refused(Refusal::NoMemory),
+            },
+        }
+    }
+
+    /// Visits one node: it is lent that node alone.
     pub fn step(&mut self, alloc: Global, tree: &Tree) -> Progress
         requires { (log : LogView) × MayStep tree.now log nothing (GetIsTrue self.old) }
         ensures request { get_request self.new ≡ get_request self.old }
@@ -73,19 +106,6 @@ impl Get {
         ensures fails { ReadFails tree.now self.old.way.node.0 result }
         ensures gets_on { GetFollows tree.now self.old result self.new }
     {
-        match self.way.visit(tree, &self.key) {
-            Went::Again => {
-                self.way = START;
-                Progress::Waits
-            }
-            Went::To(next) => {
-                self.way = next;
-                Progress::Moved
-            }
-            Went::Here => match read(alloc, tree, &self.key, self.way, &self.columns) {
-                Ok(answer) => Progress::Answered(answer),
-                Err(_) => Progress::Refused(Refusal::NoMemory),
-            },
-        }
+        self.visit(alloc, tree.node(self.way.node))
     }
 }

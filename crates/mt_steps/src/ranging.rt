@@ -1,16 +1,21 @@
 //! A range: on its way to the border of the slice that its scan seeks, where the scan takes what is there.
 
-ghost use Rattle.std.specs.Prelude.{◌≡◌, ℕ};
+ghost use Rattle.std.specs.Prelude.{◌≡◌, ℕ, IsSome, true};
 ghost use Rattle.mt_commit.specs.Log.{LogView};
+ghost use Rattle.mt_arena.specs.Arena.{ArenaView};
+ghost use Rattle.mt_arena.specs.Node.{border_of};
 ghost use Rattle.mt_chart.specs.Walk.{Moves};
 ghost use Rattle.mt_tree.specs.Seen.{arena_seen};
+ghost use Rattle.mt_tree.specs.Descent.{is_marked};
+ghost use Rattle.mt_steps.specs.Way.{Names};
 ghost use Rattle.mt_steps.specs.Step.{StepLaw, MayStep, nothing};
 ghost use Rattle.mt_steps.specs.Causes.{IsMarkedAt, ReadWaits, ReadFails};
-ghost use Rattle.mt_steps.specs.Ranging.{range_request, RangeIsTrue, RangeFollows, RangeStays, IsHeldFor, Seeks};
+ghost use Rattle.mt_steps.specs.Ranging.{range_request, RangeIsTrue, RangeFollows, RangeStays, IsHeldFor, IsHeldNode, RangeMayVisit, Seeks};
 
 use crate::progress::Progress;
+use mt_arena::Node;
 use mt_scan::{Scan, ScanMove};
-use mt_tree::{TOP, Tree, Visit};
+use mt_tree::{TOP, Tree, Visit, visit_node};
 use mt_types::event::Answer;
 use mt_types::key::Key;
 use mt_types::numbers::NodeNo;
@@ -39,14 +44,16 @@ pub struct Range {
     pub node: NodeNo,
 }
 
-/// Visits a node on the way to a slice of its layer. No link leads on from a slice alone.
-pub fn seek(tree: &Tree, number: NodeNo, slice: u64) -> Sought
-    requires { IsHeldFor tree.now number.0 slice }
-    ensures seeks { Seeks tree.now number.0 slice result }
-    ensures again { result ≡ Sought.Again → IsMarkedAt tree.now number.0 }
-    ensures moves { (next : NodeNo) → result ≡ Sought.To next → Moves (arena_seen tree.now) number.0 next.0 }
+/// Visits a node on the way to a slice of its layer, and is lent no other. No link leads on from a slice alone.
+pub fn seek_node(node: &Node, slice: u64) -> Sought
+    requires { IsHeldNode node.now slice }
+    ensures seeks { (a : ArenaView) (number : ℕ) → Names a number node.now → Seeks a number slice result }
+    ensures again { result ≡ Sought.Again → is_marked node.now ≡ true }
+    ensures here { result ≡ Sought.Here → IsSome (border_of node.now) }
+    ensures moves { (a : ArenaView) (number : ℕ) (next : NodeNo) → Names a number node.now → result ≡ Sought.To next
+        → Moves (arena_seen a) number next.0 }
 {
-    match tree.visit(number, &slice.to_be_bytes()) {
+    match visit_node(node, &slice.to_be_bytes()) {
         Visit::Again => Sought::Again,
         Visit::To(next) => Sought::To(next),
         Visit::Below(_) => unreachable!(),
@@ -54,8 +61,55 @@ pub fn seek(tree: &Tree, number: NodeNo, slice: u64) -> Sought
     }
 }
 
+/// Visits the node of a number on the way to a slice of its layer.
+pub fn seek(tree: &Tree, number: NodeNo, slice: u64) -> Sought
+    requires { IsHeldFor tree.now number.0 slice }
+    ensures seeks { Seeks tree.now number.0 slice result }
+    ensures again { result ≡ Sought.Again → IsMarkedAt tree.now number.0 }
+    ensures moves { (next : NodeNo) → result ≡ Sought.To next → Moves (arena_seen tree.now) number.0 next.0 }
+{
+    seek_node(tree.node(number), slice)
+}
+
 impl Range {
-    /// Visits one node.
+    // Visits the node where it stands, and is lent no other.
+    fn visit(&mut self, alloc: Global, node: &Node) -> Progress
+        requires { RangeMayVisit self.old node.now }
+        ensures request { range_request self.new ≡ range_request self.old }
+        ensures steps { (a : ArenaView) → Names a self.old.node.0 node.now → (C : ℕ) (log : LogView)
+            → StepLaw C a a log log (range_request self.old) nothing result nothing (RangeIsTrue self.old)
+            (RangeIsTrue self.new) }
+        ensures waits { (a : ArenaView) → Names a self.old.node.0 node.now → ReadWaits a self.old.node.0 result }
+        ensures fails { (a : ArenaView) → Names a self.old.node.0 node.now → ReadFails a self.old.node.0 result }
+        ensures gets_on { (a : ArenaView) → Names a self.old.node.0 node.now → RangeFollows a self.old result self.new }
+        ensures stays { (a : ArenaView) → Names a self.old.node.0 node.now → RangeStays a self.old result self.new }
+    {
+        match seek_node(node, self.scan.slice()) {
+            Sought::Again => {
+                self.scan.restart();
+                self.node = TOP;
+                Progress::Waits
+            }
+            Sought::To(next) => {
+                self.node = next;
+                Progress::Moved
+            }
+            Sought::Here => match self.scan.visit(alloc, node.as_border()) {
+                Ok(ScanMove::To(next)) => {
+                    self.node = next;
+                    Progress::Moved
+                }
+                Ok(ScanMove::Top) => {
+                    self.node = TOP;
+                    Progress::Moved
+                }
+                Ok(ScanMove::Done) => Progress::Answered(Answer::Rows(self.scan.take_pairs(alloc))),
+                Err(_) => Progress::Refused(Refusal::NoMemory),
+            },
+        }
+    }
+
+    /// Visits one node: it is lent that node alone.
     pub fn step(&mut self, alloc: Global, tree: &Tree) -> Progress
         requires { (log : LogView) × MayStep tree.now log nothing (RangeIsTrue self.old) }
         ensures request { range_request self.new ≡ range_request self.old }
@@ -67,34 +121,6 @@ impl Range {
         ensures gets_on { RangeFollows tree.now self.old result self.new }
         ensures stays { RangeStays tree.now self.old result self.new }
     {
-        match seek(tree, self.node, self.scan.slice()) {
-            Sought::Again => {
-                self.scan.restart();
-                self.node = TOP;
-                Progress::Waits
-            }
-            Sought::To(next) => {
-                self.node = next;
-                Progress::Moved
-            }
-            Sought::Here => {
-                let border = tree.border(self.node);
-                let _sound = border.len();
-                match self.scan.visit(alloc, border) {
-                    Ok(ScanMove::To(next)) => {
-                        self.node = next;
-                        Progress::Moved
-                    }
-                    Ok(ScanMove::Top) => {
-                        self.node = TOP;
-                        Progress::Moved
-                    }
-                    Ok(ScanMove::Done) => Progress::Answered(Answer::Rows(
-                        self.scan.take_pairs(alloc),
-                    )),
-                    Err(_) => Progress::Refused(Refusal::NoMemory),
-                }
-            }
-        }
+        self.visit(alloc, tree.node(self.node))
     }
 }

@@ -1,14 +1,16 @@
 //! The way of a call down the tree, to the border of its key.
 
-ghost use Rattle.std.specs.Prelude.{◌≡◌, ◌*◌, ◌≤◌, length};
+ghost use Rattle.std.specs.Prelude.{◌≡◌, ◌*◌, ◌≤◌, length, true};
 ghost use Rattle.mt_types.specs.declared.limits.TheConstants.{MAX_KEY_BYTES};
 ghost use Rattle.mt_slice.specs.Place.{rest_at, AreBytes};
-ghost use Rattle.mt_arena.specs.Arena.{IsArena};
-ghost use Rattle.mt_steps.specs.Way.{MayGo, Visits, VisitIs};
+ghost use Rattle.mt_arena.specs.Arena.{ArenaView, IsArena};
+ghost use Rattle.mt_tree.specs.Descent.{is_marked};
+ghost use Rattle.mt_steps.specs.Way.{MayGo, MayGoAt, Names, Visits, VisitIs, went_at};
 ghost use Rattle.mt_steps.specs.Causes.{IsMarkedAt};
 
+use mt_arena::Node;
 use mt_slice::{SLICE_BYTES, key_bytes};
-use mt_tree::{TOP, Tree, Visit};
+use mt_tree::{TOP, Tree, Visit, visit_node};
 use mt_types::key::Key;
 use mt_types::numbers::NodeNo;
 
@@ -48,6 +50,26 @@ pub fn rest_of(key: &Key, layer: usize) -> &[u8]
 }
 
 impl Way {
+    /// Visits the node where the call stands, and is lent no other.
+    pub fn visit_node(&self, node: &Node, key: &Key) -> Went
+        requires { MayGoAt key.now self.now node.now }
+        ensures value { result ≡ went_at key.now self.now node.now }
+        ensures again { result ≡ Went.Again → is_marked node.now ≡ true }
+        ensures visits { (a : ArenaView) → Names a self.now.node.0 node.now → Visits a key.now self.now result }
+        ensures bytes { AreBytes key.now }
+    {
+        let layer = self.layer;
+        match visit_node(node, rest_of(key, layer)) {
+            Visit::Again => Went::Again,
+            Visit::To(next) => Went::To(Way { node: next, layer }),
+            Visit::Below(top) => Went::To(Way {
+                node: top,
+                layer: layer + 1,
+            }),
+            Visit::Here => Went::Here,
+        }
+    }
+
     /// Visits the node where the call stands.
     pub fn visit(&self, tree: &Tree, key: &Key) -> Went
         requires { MayGo tree.now key.now self.now }
@@ -57,15 +79,6 @@ impl Way {
         ensures sound { IsArena tree.now }
         ensures bytes { AreBytes key.now }
     {
-        let Way { node, layer } = *self;
-        match tree.visit(node, rest_of(key, layer)) {
-            Visit::Again => Went::Again,
-            Visit::To(next) => Went::To(Way { node: next, layer }),
-            Visit::Below(top) => Went::To(Way {
-                node: top,
-                layer: layer + 1,
-            }),
-            Visit::Here => Went::Here,
-        }
+        self.visit_node(tree.node(self.node), key)
     }
 }

@@ -272,5 +272,5 @@ module _ (b : BorderView) (sound : IsBorder b) (rest : List ℕ) where
       let here = link_place (drop 8 rest) at_place place top f.entry.content f.is in
       stands_dropped place b.live f.entry f.more (subst (λ (k : ℕ). drop k b.live ≡ f.entry ∷ f.more) here f.starts) ∙ ap Some (entry_is f.entry (slice_number rest) (Link top) slices is)
 
-pub found_stands : (a : ArenaView) (number : ℕ) (rest : List ℕ) (b : BorderView) → border_at a.nodes number ≡ Some b → IsBorder b → IsSomeAnd (border_at a.nodes number) (λ x. IsFoundAt rest x.live (found_for rest b.live))
-found_stands a number rest b named sound = rw named (stands_at b sound rest (found_for rest b.live) refl)
+pub found_stands : (b : BorderView) → IsBorder b → (rest : List ℕ) → IsFoundAt rest b.live (found_for rest b.live)
+found_stands b sound rest = stands_at b sound rest (found_for rest b.live) refl

@@ -5,9 +5,9 @@ ghost use Rattle.mt_slice.specs.Place.{slice_number};
 ghost use Rattle.mt_border.specs.Order.{IsBorder};
 ghost use Rattle.mt_interior.specs.Head.{IsHead};
 ghost use Rattle.mt_interior.specs.Interior.{IsInterior};
-ghost use Rattle.mt_arena.specs.Node.{node_at, border_at, IsNode};
+ghost use Rattle.mt_arena.specs.Node.{border_at, IsNode};
 ghost use Rattle.mt_arena.specs.Arena.{IsArena};
-ghost use Rattle.mt_tree.specs.Descent.{is_marked, visit_head, visit_interior, visit_border, node_visit, found_for, MayVisit, MayVisitNode, LeadsOn, TellsVisit, IsFoundAt, TellsRow};
+ghost use Rattle.mt_tree.specs.Descent.{is_marked, visit_head, visit_interior, visit_border, node_visit, found_for, MayVisitNode, IsFoundAt, TellsRow};
 
 use crate::tree::Tree;
 use crate::visit::Visit;
@@ -42,9 +42,11 @@ fn visit_interior(interior: &Interior, slice: u64) -> Visit
     Visit::To(interior.child(interior.child_for(slice)).node)
 }
 
-// What a search finds for the rest of a key.
-fn find(border: &Border, rest: &[u8]) -> Found
+/// What a search in a border finds for a key, of which `rest` is what the layers above have left. Looks at that border
+/// alone, and takes no memory.
+pub fn find(border: &Border, rest: &[u8]) -> Found
     ensures value { result ≡ found_for rest.now border.now.live }
+    ensures stands { IsFoundAt rest.now border.now.live result }
     ensures sound { IsBorder border.now }
 {
     let (slice, class) = slice_of(rest);
@@ -71,7 +73,7 @@ fn visit_border(border: &Border, rest: &[u8]) -> Visit
 }
 
 /// What a descent to a key sees at a node, of which `rest` is what the layers above have left (Masstree, EuroSys 2012,
-/// section 4.6). Looks at that node alone: searches it, and takes no memory.
+/// section 4.6). Looks at that node alone, as it stands, locked or not: searches it, and takes no memory.
 pub fn visit_node(node: &Node, rest: &[u8]) -> Visit
     requires { MayVisitNode node.now (slice_number rest.now) }
     ensures value { result ≡ node_visit rest.now node.now }
@@ -89,23 +91,6 @@ pub fn visit_node(node: &Node, rest: &[u8]) -> Visit
 }
 
 impl Tree {
-    /// The visit of a node in the descent to a key, of which `rest` is what the layers above have left (Masstree,
-    /// EuroSys 2012, section 4.6). A node that is locked is read as it stands.
-    ///
-    /// A call that holds the node holds the next one too, and where it has come to `Here`, the tree has a row at the
-    /// key exactly where the border has an entry with that row. Searches one node, and takes no memory.
-    pub fn visit(&self, number: NodeNo, rest: &[u8]) -> Visit
-        requires { MayVisit self.now number.0 (slice_number rest.now) }
-        ensures value { IsSomeAnd (node_at self.now.nodes number.0) (λ node. result ≡ node_visit rest.now node) }
-        ensures again { result ≡ Visit.Again
-            → IsSomeAnd (node_at self.now.nodes number.0) (λ node. is_marked node ≡ true) }
-        ensures leads { LeadsOn self.now number.0 rest.now result }
-        ensures tells { TellsVisit self.now number.0 rest.now result }
-        ensures arena { IsArena self.now }
-    {
-        visit_node(self.node(number), rest)
-    }
-
     /// What a search in a border finds for a key, of which `rest` is what the layers above have left. Searches one
     /// border, and takes no memory.
     pub fn find(&self, number: NodeNo, rest: &[u8]) -> Found

@@ -5,13 +5,15 @@ use Rattle.mt_types.specs.declared.refusal.Refusal.TheVariants.{NoMemory}
 use Rattle.mt_slice.specs.Place.{first_slice, under}
 use Rattle.mt_commit.specs.Log.{LogView, newest}
 use Rattle.mt_border.specs.Border.{BorderView}
-use Rattle.mt_arena.specs.Node.{border_at}
+use Rattle.mt_arena.specs.Node.{node_at, border_of, border_at}
+use Rattle.mt_arena.specs.declared.node.Node.{Node}
 use Rattle.mt_arena.specs.Arena.{ArenaView}
 use Rattle.mt_chart.specs.Tree.{Arena, Below}
 use Rattle.mt_chart.specs.Chart.{Holds}
 use Rattle.mt_chart.proofs.HeldNodes.{evolves_same}
 use Rattle.mt_tree.specs.Seen.{arena_seen, border_seen}
 use Rattle.mt_tree.proofs.SeenLemmas.{seen-border}
+use Rattle.mt_tree.proofs.HeldLemmas.{held_may_visit}
 use Rattle.mt_scan.specs.Scan.{HoldsKeys}
 use Rattle.mt_scan.specs.declared.scan.ScanMove.{ScanMove}
 use Rattle.mt_scan.specs.declared.scan.ScanMove.TheVariants.{Done, To as VisitedTo, Top}
@@ -22,12 +24,15 @@ use Rattle.mt_steps.specs.declared.progress.Progress.TheVariants.{Moved, Waits, 
 use Rattle.mt_steps.specs.declared.ranging.Sought.{Sought}
 use Rattle.mt_steps.specs.declared.ranging.Sought.TheVariants.{To, Here}
 use Rattle.mt_steps.specs.World.{World, IsWorld}
-use Rattle.mt_steps.specs.Ranging.{IsHeldFor, IsAtSlice, KnowsOfSlice, Seeks, ScanGoes}
+use Rattle.mt_steps.specs.Way.{Names}
+use Rattle.mt_steps.specs.Step.{MayStep, nothing}
+use Rattle.mt_steps.specs.Ranging.{IsHeldFor, IsHeldNode, IsAtSlice, KnowsOfSlice, Seeks, ScanGoes}
 use Rattle.mt_steps.proofs.FrameLemmas.{goes_same, quiet_same}
+use Rattle.mt_steps.proofs.WayLemmas.{names_border}
 use Rattle.mt_steps.proofs.RangeLemmas.{IsAliveFor, holds_keys}
 use Rattle.mt_works.specs.declared.building.Building.{Building}
 use Rattle.mt_steps.specs.Causes.{ReadFails}
-use Rattle.mt_works.specs.Building.{BuildingIsTrue, BuildingLaw, ScansOn, ScansAll, KeepsView, TakesNext, GoesOn, BuildMoves, FailsAt, OnlyForMemory, IsInLog, BuildScans, BuildVisits}
+use Rattle.mt_works.specs.Building.{BuildingIsTrue, BuildMayVisit, BuildingLaw, ScansOn, ScansAll, KeepsView, TakesNext, GoesOn, BuildMoves, FailsAt, OnlyForMemory, IsInLog, BuildScans, BuildVisits}
 
 -- one moment more, in which nothing changes
 later : (w : World) (begun number : ℕ) (arena : Arena) (past : List Arena) (build : BuildView) → IsScanning w.chart begun (arena ∷ past) number build
@@ -80,7 +85,7 @@ module _ (a : ArenaView) (log : LogView) (build : BuildView) (number : NodeNo) w
   abbrev at : BuildView → NodeNo → Option ℕ → Building
   at view node upto = record { build = view; node = node; upto = upto }
 
-  pub scan_may : (now begun : ℕ) (past : List Arena) (w : World) → IsWorld a now w → IsScanning w.chart begun (arena_seen a ∷ past) number.0 build → (slice : ℕ) → slice ≡ first_slice build.at → IsHeldFor a number.0 slice
+  scan_may : (now begun : ℕ) (past : List Arena) (w : World) → IsWorld a now w → IsScanning w.chart begun (arena_seen a ∷ past) number.0 build → (slice : ℕ) → slice ≡ first_slice build.at → IsHeldFor a number.0 slice
   scan_may now begun past w world truth slice is = record {
     now = now;
     twins = w.twins;
@@ -104,24 +109,18 @@ module _ (a : ArenaView) (log : LogView) (build : BuildView) (number : NodeNo) w
     scan_moves next is C = build_moves a log (at build number None) (at build next None)
         (λ now begun moves more past w world truth. later w begun next.0 (arena_seen a) past build (ways_keep w.chart begun number.0 next.0 (arena_seen a ∷ past) build (knows now begun past w world truth (To next) is) truth)) C
 
-    -- there is a border
-    pub scan_border : (now begun : ℕ) (past : List Arena) (w : World) → IsWorld a now w → IsScanning w.chart begun (arena_seen a ∷ past) number.0 build → sought ≡ Here → IsSome (border_at a.nodes number.0)
-    scan_border now begun past w world truth is =
-        let here : IsAtSlice a number.0 (first_slice build.at) = knows now begun past w world truth Here is in
-        subst (λ (b : Option BorderView). IsSome b) (sym here.named) refl
-
     module _ (b : BorderView) (named : border_at a.nodes number.0 ≡ Some b) (is : sought ≡ Here) where
       same_border : (here : IsAtSlice a number.0 (first_slice build.at)) → here.border ≡ b
       same_border here = let both : ◌≡◌ {A = Option BorderView} (Some here.border) (Some b) = sym here.named ∙ named in cc
 
       -- whose rows are those of keys
-      pub scan_keys : (now begun : ℕ) (past : List Arena) (w : World) → IsWorld a now w → IsScanning w.chart begun (arena_seen a ∷ past) number.0 build → HoldsKeys build.prefix b.live
+      scan_keys : (now begun : ℕ) (past : List Arena) (w : World) → IsWorld a now w → IsScanning w.chart begun (arena_seen a ∷ past) number.0 build → HoldsKeys build.prefix b.live
       scan_keys now begun past w world truth =
           let here : IsAtSlice a number.0 (first_slice build.at) = knows now begun past w world truth Here is in
           holds_keys a now begun number.0 (first_slice build.at) w build.prefix b world truth.held named (ap (λ (x : BorderView). x.version.deleted) (sym (same_border here)) ∙ here.alive)
 
       -- which is not marked deleted, and in whose interval the slice is
-      pub scan_alive : (now begun : ℕ) (past : List Arena) (w : World) → IsWorld a now w → IsScanning w.chart begun (arena_seen a ∷ past) number.0 build → IsAliveFor b (first_slice build.at)
+      scan_alive : (now begun : ℕ) (past : List Arena) (w : World) → IsWorld a now w → IsScanning w.chart begun (arena_seen a ∷ past) number.0 build → IsAliveFor b (first_slice build.at)
       scan_alive now begun past w world truth =
           let here : IsAtSlice a number.0 (first_slice build.at) = knows now begun past w world truth Here is in
           subst (λ (x : BorderView). IsAliveFor x (first_slice build.at)) (same_border here) (record { alive = here.alive; to_right = here.to_right })
@@ -176,6 +175,38 @@ module _ (a : ArenaView) (log : LogView) (old : Building) (scanning : old.upto �
 
   pub scan_fails : (p : Progress) → ReadFails a old.node.0 p → FailsAt a old.node.0 old.upto p
   scan_fails p fails = subst (λ (u : Option ℕ). FailsAt a old.node.0 u p) (sym scanning) fails
+
+-- ---- where it is lent the node at which it stands
+pub build_node : (a : ArenaView) (log : LogView) (old : Building) → old.upto ≡ None → MayStep a log nothing (BuildingIsTrue old) → IsSome (node_at a.nodes old.node.0)
+build_node a log old scanning may =
+    let held = scan_may a log old.build old.node may.now may.begun may.past may.w may.world (as_truth a log old scanning may.begun may.moves may.past may.w may.true) (first_slice old.build.at) refl in
+    (held_may_visit a held.now held.twins held.chart held.begun old.node.0 (first_slice old.build.at) held.prefix held.index held.holds).named
+
+module _ (log : LogView) (old : Building) (node : Node) (may : BuildMayVisit log old node) (scanning : old.upto ≡ None) where
+  pub build_may_visit : (slice : ℕ) → slice ≡ first_slice old.build.at → IsHeldNode node slice
+  build_may_visit slice is =
+      let at = may.may in
+      record { arena = may.arena; number = old.node.0; names = may.names; held = scan_may may.arena log old.build old.node at.now at.begun at.past at.w at.world (as_truth may.arena log old scanning at.begun at.moves at.past at.w at.true) slice is }
+
+  module _ (sought : Sought) (slice : ℕ) (seeks : (a : ArenaView) (number : ℕ) → Names a number node → Seeks a number slice sought) (slice_is : slice ≡ first_slice old.build.at)
+      (b : BorderView) (is_border : border_of node ≡ Some b) (is : sought ≡ Here) where
+    sought_here : Seeks may.arena old.node.0 (first_slice old.build.at) sought
+    sought_here = subst (λ (s : ℕ). Seeks may.arena old.node.0 s sought) slice_is (seeks may.arena old.node.0 may.names)
+
+    named_here : border_at may.arena.nodes old.node.0 ≡ Some b
+    named_here = names_border may.arena old.node.0 node b may.names is_border
+
+    -- the border's rows are those of keys
+    pub keys_of : HoldsKeys old.build.prefix b.live
+    keys_of =
+        let at = may.may in
+        scan_keys may.arena log old.build old.node sought sought_here b named_here is at.now at.begun at.past at.w at.world (as_truth may.arena log old scanning at.begun at.moves at.past at.w at.true)
+
+    -- it is not marked deleted, and the slice is in its interval
+    pub alive_for : IsAliveFor b (first_slice old.build.at)
+    alive_for =
+        let at = may.may in
+        scan_alive may.arena log old.build old.node sought sought_here b named_here is at.now at.begun at.past at.w at.world (as_truth may.arena log old scanning at.begun at.moves at.past at.w at.true)
 
 -- the visit of the border that the number names
 pub scans_border : (a : ArenaView) (number : ℕ) (old : BuildView) (b : BorderView) (visited : ScanMove) (new : BuildView) → border_at a.nodes number ≡ Some b → VisitsOn old b visited new → BuildVisits a number old visited new

@@ -7,6 +7,7 @@ use Rattle.mt_types.specs.declared.event.Request.TheVariants.{Build as BuildRequ
 use Rattle.mt_commit.specs.Log.{LogView, newest, delta_of}
 use Rattle.mt_slice.specs.Place.{under}
 use Rattle.mt_arena.specs.Node.{border_at}
+use Rattle.mt_arena.specs.declared.node.Node.{Node}
 use Rattle.mt_arena.specs.Arena.{ArenaView}
 use Rattle.mt_chart.specs.Tree.{Arena}
 use Rattle.mt_tree.specs.Seen.{arena_seen}
@@ -17,10 +18,10 @@ use Rattle.mt_build.specs.Build.{BuildView, build_cursor, IsScanning, HasScanned
 use Rattle.mt_steps.specs.declared.progress.Progress.{Progress}
 use Rattle.mt_steps.specs.declared.progress.Progress.TheVariants.{Moved, Waits, Refused}
 use Rattle.mt_steps.specs.World.{World, IsWorld}
-use Rattle.mt_steps.specs.Way.{start}
+use Rattle.mt_steps.specs.Way.{start, Names}
 use Rattle.mt_steps.specs.Ranging.{ScanGoes, IsThen}
 use Rattle.mt_steps.specs.Causes.{ReadWaits, ReadFails}
-use Rattle.mt_steps.specs.Step.{StepLaw, nothing}
+use Rattle.mt_steps.specs.Step.{StepLaw, MayStep, nothing}
 use Rattle.mt_works.specs.declared.building.Building.{Building}
 
 abbrev pub building_request : Building → Request
@@ -34,6 +35,12 @@ ScansOn (Some upto) build number begun past a w = Unit {0}
 
 abbrev pub BuildingIsTrue : Building → ℕ → ℕ → List Arena → ArenaView → World → Type 0
 BuildingIsTrue building begun moves past a w = ScansOn building.upto building.build building.node.0 begun past a w
+
+-- it is lent the node where it stands, and may visit it
+pub record BuildMayVisit (log : LogView) (building : Building) (node : Node) : Type 0 where
+  pub arena : ArenaView
+  pub names : Names arena building.node.0 node
+  pub may : MayStep arena log nothing (BuildingIsTrue building)
 
 -- it has taken each delta that it was to take
 abbrev pub IsUpTo : Option ℕ → ℕ → Type 0

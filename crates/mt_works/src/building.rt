@@ -4,14 +4,16 @@
 ghost use Rattle.std.specs.Prelude.{◌≡◌, ◌≢◌, ◌↔◌, ℕ, IsTrue, IsSome, None};
 ghost use Rattle.mt_arena.specs.Arena.{ArenaView};
 ghost use Rattle.mt_steps.specs.Step.{MayStep, nothing};
+ghost use Rattle.mt_steps.specs.Way.{Names};
 ghost use Rattle.mt_steps.specs.Causes.{ReadWaits, ReadFails};
-ghost use Rattle.mt_works.specs.Building.{building_request, BuildingIsTrue, BuildingLaw, IsBuilt, IsInLog, BuildsOn, BuildFollows, BuildWaits, BuildFails, OnlyForMemory};
+ghost use Rattle.mt_works.specs.Building.{building_request, BuildingIsTrue, BuildMayVisit, BuildingLaw, IsBuilt, IsInLog, BuildsOn, BuildFollows, BuildWaits, BuildFails, OnlyForMemory};
 
+use mt_arena::Node;
 use mt_build::build::Build;
 use mt_commit::log::Log;
 use mt_scan::ScanMove;
 use mt_steps::progress::Progress;
-use mt_steps::ranging::{Sought, seek};
+use mt_steps::ranging::{Sought, seek_node};
 use mt_tree::{TOP, Tree};
 use mt_types::numbers::NodeNo;
 use mt_types::refusal::Refusal;
@@ -38,7 +40,7 @@ impl Building {
         }
     }
 
-    /// Visits one node; or takes the next delta, once it has scanned all.
+    /// Visits one node, and is lent that node alone; or takes the next delta, once it has scanned all.
     pub fn step(&mut self, alloc: Global, tree: &Tree, log: &Log) -> Progress
         requires may { MayStep tree.now log.now nothing (BuildingIsTrue self.old) }
         requires next { IsInLog log.now self.old.build.state.at self.old.upto }
@@ -51,22 +53,24 @@ impl Building {
     {
         match self.upto {
             Some(_) => self.take(log),
-            None => self.scan(alloc, tree, log),
+            None => self.scan(alloc, tree.node(self.node), log),
         }
     }
 
-    // Visits one node: on the way to the border where its cursor is, or that border.
-    fn scan(&mut self, alloc: Global, tree: &Tree, log: &Log) -> Progress
-        requires may { MayStep tree.now log.now nothing (BuildingIsTrue self.old) }
+    // Visits the node where it stands, on the way to the border where its cursor is, or that border. It is lent no other.
+    fn scan(&mut self, alloc: Global, node: &Node, log: &Log) -> Progress
+        requires may { BuildMayVisit log.now self.old node.now }
         requires scans { self.old.upto ≡ None }
         ensures request { building_request self.new ≡ building_request self.old }
-        ensures steps { (C : ℕ) → BuildingLaw C tree.now log.now self.old result self.new }
-        ensures builds { BuildsOn tree.now log.now self.old result self.new }
-        ensures gets_on { BuildFollows tree.now self.old result self.new }
-        ensures waits { ReadWaits tree.now self.old.node.0 result }
-        ensures fails { ReadFails tree.now self.old.node.0 result }
+        ensures steps { (a : ArenaView) → Names a self.old.node.0 node.now
+            → (C : ℕ) → BuildingLaw C a log.now self.old result self.new }
+        ensures builds { (a : ArenaView) → Names a self.old.node.0 node.now
+            → BuildsOn a log.now self.old result self.new }
+        ensures gets_on { (a : ArenaView) → Names a self.old.node.0 node.now → BuildFollows a self.old result self.new }
+        ensures waits { (a : ArenaView) → Names a self.old.node.0 node.now → ReadWaits a self.old.node.0 result }
+        ensures fails { (a : ArenaView) → Names a self.old.node.0 node.now → ReadFails a self.old.node.0 result }
     {
-        match seek(tree, self.node, self.build.slice()) {
+        match seek_node(node, self.build.slice()) {
             Sought::Again => {
                 self.build.restart();
                 self.node = TOP;
@@ -76,7 +80,7 @@ impl Building {
                 self.node = next;
                 Progress::Moved
             }
-            Sought::Here => match self.build.visit(alloc, tree.border(self.node)) {
+            Sought::Here => match self.build.visit(alloc, node.as_border()) {
                 Ok(ScanMove::To(next)) => {
                     self.node = next;
                     Progress::Moved

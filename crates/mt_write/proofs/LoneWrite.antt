@@ -3,7 +3,7 @@ use Rattle.std.proofs.Common.{ℕ, ◌≡◌, ◌<◌, ◌≤◌, ◌+◌, ◌*�
 use Rattle.std.specs.Prelude.{◌^◌, IsSomeAnd}
 use Rattle.std.specs.Option.{option_and_then}
 use Rattle.std.proofs.Math.Nat.{mul-le-mul_left}
-use Rattle.mt_types.specs.declared.limits.TheConstants.{MAX_KEY_BYTES}
+use Rattle.mt_types.specs.declared.limits.TheConstants.{MAX_LAYER, MAX_KEY_BYTES}
 use Rattle.mt_types.specs.declared.numbers.NodeNo.{NodeNo}
 use Rattle.mt_types.specs.declared.event.Request.TheVariants.{Put as PutRequest, Remove as RemoveRequest}
 use Rattle.mt_slice.specs.Place.{AreBytes}
@@ -111,7 +111,7 @@ ends_times : (most here there : ℕ) → here ≡ there → times most here < ti
 ends_times most here there same = let both : times most here ≡ times most there = ap (times most) same in omega (arith, both)
 
 -- a node of a layer stands before the head of the layer below
-before_below : (layer : ℕ) (role : Role) (low : ℕ) → layer ≤ 31 → low < 2 ^ 64 → layer_left layer < all_heights - layer_height layer role low
+before_below : (layer : ℕ) (role : Role) (low : ℕ) → layer ≤ MAX_LAYER → low < 2 ^ 64 → layer_left layer < all_heights - layer_height layer role low
 before_below layer top low deep fits = omega arith
 before_below layer (at_level level) low deep fits = omega arith
 
@@ -137,7 +137,7 @@ more_left : (a : ArenaView) (now begun : ℕ) (w : World) (key : List ℕ) (way 
     → IsOnWay begun key way w → IsOnThere w key way → layer_left way.layer < way_left a way.layer way.node.0
 more_left a now begun w key way world bytes fits held there =
     let within = held.layer.within in
-    let deep : way.layer ≤ 31 = omega (arith, within, fits) in
+    let deep : way.layer ≤ MAX_LAYER = omega (arith, within, fits) in
     let inside = stands_in w begun key way bytes held there in
     let here : IsOnThere w key way = record { posted = inside.posted; role = inside.role; low = inside.low; place = inside.place } in
     subst (λ (n : ℕ). layer_left way.layer < n) (sym (left_by_spot a now w world key way here)) (before_below way.layer inside.role inside.low deep inside.fits)

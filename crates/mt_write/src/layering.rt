@@ -1,7 +1,7 @@
 //! A new layer, for a key that goes on after a slice that another key has: a head and a border are spared, the border
 //! takes the other key's row, one layer deeper, the head is linked, and the put goes on there.
 
-ghost use Rattle.std.specs.Prelude.{◌≡◌, ℕ, ◌≤◌, ◌*◌, List, [], ◌∷◌, length, slice_get, MatchResult, IfOk, IsSomeAnd, Some, None};
+ghost use Rattle.std.specs.Prelude.{◌≡◌, ℕ, ◌≤◌, ◌-◌, ◌*◌, List, [], ◌∷◌, length, slice_get, MatchResult, IfOk, IsSomeAnd, Some, None};
 ghost use Rattle.mt_types.specs.declared.event.Request.TheVariants.{Put as PutRequest};
 ghost use Rattle.mt_types.specs.declared.row.Row.{Row as RowView};
 ghost use Rattle.mt_commit.specs.Log.{LogView};
@@ -15,6 +15,7 @@ ghost use Rattle.mt_write.specs.Causes.{layer_fault, ReadyFor};
 ghost use Rattle.mt_write.specs.Writing.{Prepares, IsBack, HoldsLong, MovesLong};
 ghost use Rattle.mt_write.specs.Follows.{TreeStep, MayBeAt};
 
+use crate::ready::NewRow;
 use crate::writing::{Layer, Stage, Write};
 use mt_arena::Node;
 use mt_border::{Border, Content, Entry};
@@ -24,10 +25,8 @@ use mt_steps::way::{Way, rest_of};
 use mt_tree::Tree;
 use mt_types::copying::TryCopy;
 use mt_types::items::Items;
-use mt_types::key::Key;
 use mt_types::numbers::NodeNo;
 use mt_types::refusal::{NoMemory, Refusal};
-use mt_types::row::Sets;
 use std::alloc::Global;
 
 // The entry of the key at a place, which goes on after its slice, one layer deeper, and alone.
@@ -48,26 +47,26 @@ fn moved(alloc: Global, border: &Border, place: usize) -> Result<Items<Entry>, N
 pub fn spare_layer(
     alloc: Global,
     tree: &mut Tree,
-    way: Way,
+    row: &NewRow<'_>,
     place: usize,
-    key: &Key,
-    sets: &Sets,
 ) -> Result<Stage, Refusal>
-    requires within { 8 * way.layer ≤ length key.now }
-    requires other { IsSomeAnd (border_at tree.old.nodes way.node.0)
-        (λ b. HasOtherSuffix (rest_of key.now way) b.live place) }
+    requires within { 8 * row.now.way.layer ≤ length row.now.key.now - 1 }
+    requires other { IsSomeAnd (border_at tree.old.nodes row.now.way.node.0)
+        (λ b. HasOtherSuffix (rest_of row.now.key.now row.now.way) b.live place) }
     ensures ready { MatchResult result
-        (λ stage. (C : ℕ) (log : LogView) → Prepares C key.now sets.now way tree.old log None stage tree.new log)
-        (λ refusal. ((log : LogView) → MayFail log (PutRequest key.now sets.now) refusal) × IsBack tree.old tree.new) }
+        (λ stage. (C : ℕ) (log : LogView)
+        → Prepares C row.now.key.now row.now.sets.now row.now.way tree.old log None stage tree.new log)
+        (λ refusal. ((log : LogView) → MayFail log (PutRequest row.now.key.now row.now.sets.now) refusal)
+        × IsBack tree.old tree.new) }
     ensures fault { ReadyFor (layer_fault tree.old) result }
 {
     if tree.free_numbers() < 2 {
         return Err(Refusal::ArenaFull);
     }
-    let border = tree.border(way.node);
+    let border = tree.border(row.way.node);
     let _sound = border.len();
-    let _bytes = rest_of(key, way.layer);
-    let layer = (way.layer + 1) as u8;
+    let _bytes = rest_of(row.key, row.way.layer);
+    let layer = (row.way.layer + 1) as u8;
     let entries = moved(alloc, border, place)?;
     let root = tree.occupy(Node::Border(Border::new(alloc, layer, 0)))?;
     match tree.occupy(Node::Head(Head::new_locked(root, 0))) {

@@ -1,6 +1,6 @@
 //! Making ready at the border that a put or remove has locked: the new row, the columns of the row, or the row's copy.
 
-ghost use Rattle.std.specs.Prelude.{◌≡◌, ℕ, ◌≤◌, ◌<◌, ◌+◌, ◌*◌, length, MatchResult, IfOk, OnErr, IsFalse, IsSome, IsSomeAnd, Some, None};
+ghost use Rattle.std.specs.Prelude.{◌≡◌, ℕ, ◌≤◌, ◌<◌, ◌+◌, ◌-◌, ◌*◌, length, MatchResult, IfOk, OnErr, IsFalse, IsSome, IsSomeAnd, Some, None};
 ghost use Rattle.mt_border.specs.Border.{row_at, fill_is_spent};
 ghost use Rattle.mt_commit.specs.Log.{reserve_fault};
 ghost use Rattle.mt_types.specs.declared.event.Request.TheVariants.{Put as PutRequest, Remove as RemoveRequest};
@@ -31,6 +31,15 @@ use mt_types::refusal::{NoMemory, Refusal};
 use mt_types::row::{Columns, Row, Sets};
 use std::alloc::Global;
 
+/// The row that a put is to write: what is set of how many columns, under its key, where its call stands.
+#[derive(Drop)]
+pub struct NewRow<'a> {
+    pub columns: u8,
+    pub key: &'a Key,
+    pub sets: &'a Sets,
+    pub way: Way,
+}
+
 // The entry of a key with these columns, before its commit.
 fn new_entry(alloc: Global, key: &Key, layer: usize, columns: Columns) -> Result<Entry, NoMemory>
     requires { 8 * layer ≤ length key.now }
@@ -46,60 +55,51 @@ fn new_entry(alloc: Global, key: &Key, layer: usize, columns: Columns) -> Result
     Ok(Entry::of_row(rest, row)?)
 }
 
-// Writes the new row of a key into the first unused slot. Gives the key and the columns once more, for the log.
-fn put_new(
-    alloc: Global,
-    columns: u8,
-    tree: &mut Tree,
-    way: Way,
-    key: &Key,
-    sets: &Sets,
-) -> Result<(Key, Columns), NoMemory>
-    requires within { 8 * way.layer ≤ length key.now }
-    requires room { IsSomeAnd (border_at tree.old.nodes way.node.0)
+// Writes a new row into the first unused slot. Gives the key and the columns once more, for the log.
+fn put_new(alloc: Global, tree: &mut Tree, row: &NewRow<'_>) -> Result<(Key, Columns), NoMemory>
+    requires within { 8 * row.now.way.layer ≤ length row.now.key.now - 1 }
+    requires room { IsSomeAnd (border_at tree.old.nodes row.now.way.node.0)
         (λ b. (length b.live < SLOTS) × IsFalse (fill_is_spent b)) }
-    ensures ok { IfOk result (λ made. FillsNew columns key.now sets.now way tree.old made.0 made.1 tree.new) }
+    ensures ok { IfOk result (λ made. FillsNew row.now.columns row.now.key.now row.now.sets.now row.now.way tree.old made.0 made.1
+        tree.new) }
     ensures err { OnErr result (tree.new ≡ tree.old) }
 {
-    let _sound = tree.border(way.node).len();
-    let made = made_columns(alloc, columns, None, sets)?;
+    let _sound = tree.border(row.way.node).len();
+    let made = made_columns(alloc, row.columns, None, row.sets)?;
     let logged = made.copy(alloc)?;
-    let entry = new_entry(alloc, key, way.layer, made)?;
-    let stored = key.copy(alloc)?;
-    let _bytes = rest_of(key, way.layer);
-    let Ok(()) = tree.fill_slot(way.node, entry) else {
+    let entry = new_entry(alloc, row.key, row.way.layer, made)?;
+    let stored = row.key.copy(alloc)?;
+    let _bytes = rest_of(row.key, row.way.layer);
+    let Ok(()) = tree.fill_slot(row.way.node, entry) else {
         unreachable!();
     };
-    let _whole = tree.border(way.node).len();
+    let _whole = tree.border(row.way.node).len();
     Ok((stored, logged))
 }
 
 // Reserves room in the log, and writes a new row into the first unused slot, to be shown at a place.
 pub fn fill(
     alloc: Global,
-    columns: u8,
     tree: &mut Tree,
     log: &mut Log,
-    way: Way,
+    row: &NewRow<'_>,
     place: usize,
-    key: &Key,
-    sets: &Sets,
     split: Option<Halves>,
 ) -> Result<Stage, Refusal>
-    requires within { 8 * way.layer ≤ length key.now }
-    requires absent { IsSomeAnd (border_at tree.old.nodes way.node.0)
-        (λ b. (length b.live < SLOTS) × (found_for (rest_of key.now way) b.live ≡ AbsentFound place)) }
+    requires within { 8 * row.now.way.layer ≤ length row.now.key.now - 1 }
+    requires absent { IsSomeAnd (border_at tree.old.nodes row.now.way.node.0)
+        (λ b. (length b.live < SLOTS) × (found_for (rest_of row.now.key.now row.now.way) b.live ≡ AbsentFound place)) }
     ensures ready { MatchResult result
-        (λ stage. Prepares columns key.now sets.now way tree.old log.old split stage tree.new log.new)
-        (λ refusal. MayFail log.old (PutRequest key.now sets.now) refusal × IsBack tree.old tree.new
+        (λ stage. Prepares row.now.columns row.now.key.now row.now.sets.now row.now.way tree.old log.old split stage tree.new log.new)
+        (λ refusal. MayFail log.old (PutRequest row.now.key.now row.now.sets.now) refusal × IsBack tree.old tree.new
         × (log.new ≡ log.old)) }
-    ensures fault { IsSomeAnd (border_at tree.old.nodes way.node.0) (λ b. ReadyFor (fill_fault log.old b) result) }
+    ensures fault { IsSomeAnd (border_at tree.old.nodes row.now.way.node.0) (λ b. ReadyFor (fill_fault log.old b) result) }
 {
-    if tree.border(way.node).is_fill_spent() {
+    if tree.border(row.way.node).is_fill_spent() {
         return Err(Refusal::Spent);
     }
     log.reserve()?;
-    match put_new(alloc, columns, tree, way, key, sets) {
+    match put_new(alloc, tree, row) {
         Ok((key, logged)) => Ok(Stage::Filled {
             place,
             key,
@@ -116,46 +116,41 @@ pub fn fill(
 // The columns that the row at a place is to have, for the row and for the log, and the key once more.
 fn make_columns(
     alloc: Global,
-    columns: u8,
+    row: &NewRow<'_>,
     border: &Border,
     place: usize,
-    key: &Key,
-    sets: &Sets,
 ) -> Result<(Key, Columns, Columns), NoMemory>
     requires within { place < length border.now.live }
     requires row { IsSome (row_at place border.now.live) }
-    ensures { IfOk result (λ made. (made.0 ≡ key.now)
-        × (made.1 ≡ columns_after columns sets.now (row_at place border.now.live)) × (made.2 ≡ made.1)) }
+    ensures { IfOk result (λ made. (made.0 ≡ row.now.key.now)
+        × (made.1 ≡ columns_after row.now.columns row.now.sets.now (row_at place border.now.live)) × (made.2 ≡ made.1)) }
 {
-    let made = made_columns(alloc, columns, Some(row_at(border, place)), sets)?;
+    let made = made_columns(alloc, row.columns, Some(row_at(border, place)), row.sets)?;
     let logged = made.copy(alloc)?;
-    Ok((key.copy(alloc)?, made, logged))
+    Ok((row.key.copy(alloc)?, made, logged))
 }
 
 // Reserves room in the log, and makes the columns that the row at a place is to have.
 fn make(
     alloc: Global,
-    columns: u8,
     tree: &Tree,
     log: &mut Log,
-    way: Way,
+    row: &NewRow<'_>,
     place: usize,
-    key: &Key,
-    sets: &Sets,
 ) -> Result<Stage, Refusal>
-    requires within { 8 * way.layer ≤ length key.now }
-    requires there { IsSomeAnd (border_at tree.now.nodes way.node.0)
-        (λ b. found_for (rest_of key.now way) b.live ≡ RowFound place) }
+    requires within { 8 * row.now.way.layer ≤ length row.now.key.now - 1 }
+    requires there { IsSomeAnd (border_at tree.now.nodes row.now.way.node.0)
+        (λ b. found_for (rest_of row.now.key.now row.now.way) b.live ≡ RowFound place) }
     ensures ready { MatchResult result
-        (λ stage. Prepares columns key.now sets.now way tree.now log.old None stage tree.now log.new)
-        (λ refusal. MayFail log.old (PutRequest key.now sets.now) refusal × (log.new ≡ log.old)) }
+        (λ stage. Prepares row.now.columns row.now.key.now row.now.sets.now row.now.way tree.now log.old None stage tree.now log.new)
+        (λ refusal. MayFail log.old (PutRequest row.now.key.now row.now.sets.now) refusal × (log.new ≡ log.old)) }
     ensures fault { ReadyFor (reserve_fault log.old) result }
 {
-    let border = tree.border(way.node);
+    let border = tree.border(row.way.node);
     let _sound = border.len();
-    let _bytes = rest_of(key, way.layer);
+    let _bytes = rest_of(row.key, row.way.layer);
     log.reserve()?;
-    match make_columns(alloc, columns, border, place, key, sets) {
+    match make_columns(alloc, row, border, place) {
         Ok((key, columns, logged)) => Ok(Stage::Made {
             place,
             key,
@@ -171,32 +166,25 @@ fn make(
 
 // Makes a put ready at the border that its call has locked: its row stands in an unused slot, or its columns are made,
 // and there is room in the log; or it fails.
-pub fn prepare(
-    alloc: Global,
-    columns: u8,
-    tree: &mut Tree,
-    log: &mut Log,
-    way: Way,
-    key: &Key,
-    sets: &Sets,
-) -> Stage
-    requires within { 8 * way.layer ≤ length key.now }
-    requires last { IsSomeAnd (border_at tree.old.nodes way.node.0)
-        (λ b. IsLast (found_for (rest_of key.now way) b.live)) }
-    ensures ready { Prepares columns key.now sets.now way tree.old log.old None result tree.new log.new }
-    ensures fault { IsSomeAnd (border_at tree.old.nodes way.node.0)
-        (λ b. FailsBy (put_fault tree.old log.old b (found_for (rest_of key.now way) b.live)) None result) }
+pub fn prepare(alloc: Global, tree: &mut Tree, log: &mut Log, row: &NewRow<'_>) -> Stage
+    requires within { 8 * row.now.way.layer ≤ length row.now.key.now - 1 }
+    requires last { IsSomeAnd (border_at tree.old.nodes row.now.way.node.0)
+        (λ b. IsLast (found_for (rest_of row.now.key.now row.now.way) b.live)) }
+    ensures ready { Prepares row.now.columns row.now.key.now row.now.sets.now row.now.way tree.old log.old None result tree.new
+        log.new }
+    ensures fault { IsSomeAnd (border_at tree.old.nodes row.now.way.node.0)
+        (λ b. FailsBy (put_fault tree.old log.old b (found_for (rest_of row.now.key.now row.now.way) b.live)) None result) }
 {
-    let made = match tree.find(way.node, rest_of(key, way.layer)) {
-        Found::Row(place) => make(alloc, columns, tree, log, way, place, key, sets),
+    let made = match tree.find(row.way.node, rest_of(row.key, row.way.layer)) {
+        Found::Row(place) => make(alloc, tree, log, row, place),
         Found::Absent(place) => {
-            if tree.border(way.node).is_full() {
-                spare(alloc, tree, way, key, sets)
+            if tree.border(row.way.node).is_full() {
+                spare(alloc, tree, row)
             } else {
-                fill(alloc, columns, tree, log, way, place, key, sets, None)
+                fill(alloc, tree, log, row, place, None)
             }
         }
-        Found::OtherSuffix(place) => spare_layer(alloc, tree, way, place, key, sets),
+        Found::OtherSuffix(place) => spare_layer(alloc, tree, row, place),
         Found::Link(_, _) => unreachable!(),
     };
     match made {
@@ -224,7 +212,7 @@ fn take(
     place: usize,
     key: &Key,
 ) -> Result<Stage, Refusal>
-    requires within { 8 * way.layer ≤ length key.now }
+    requires within { 8 * way.layer ≤ length key.now - 1 }
     requires there { IsSomeAnd (border_at tree.now.nodes way.node.0)
         (λ b. found_for (rest_of key.now way) b.live ≡ RowFound place) }
     ensures ready { MatchResult result (λ stage. PreparesRemove key.now way tree.now log.old (Some stage) log.new)
@@ -253,7 +241,7 @@ pub fn prepare_remove(
     way: Way,
     key: &Key,
 ) -> Option<Stage>
-    requires within { 8 * way.layer ≤ length key.now }
+    requires within { 8 * way.layer ≤ length key.now - 1 }
     requires border { IsSome (border_at tree.now.nodes way.node.0) }
     ensures ready { PreparesRemove key.now way tree.now log.old result log.new }
     ensures fault { IsSomeAnd (border_at tree.now.nodes way.node.0)

@@ -1,6 +1,6 @@
 //! The split of a full border: a half is spared, filled and linked, and the new row goes where its key belongs.
 
-ghost use Rattle.std.specs.Prelude.{◌≡◌, ℕ, ◌≤◌, ◌*◌, length, MatchResult, IsSomeAnd, Some};
+ghost use Rattle.std.specs.Prelude.{◌≡◌, ℕ, ◌≤◌, ◌-◌, ◌*◌, length, MatchResult, IsSomeAnd, Some};
 ghost use Rattle.mt_types.specs.declared.event.Request.TheVariants.{Put as PutRequest};
 ghost use Rattle.mt_commit.specs.Log.{LogView};
 ghost use Rattle.mt_border.specs.Border.{with_entries, with_split};
@@ -17,7 +17,7 @@ ghost use Rattle.mt_write.specs.Causes.{fill_fault, split_fault, ReadyFor, Fails
 ghost use Rattle.mt_write.specs.Writing.{Prepares, IsBack, IsAbsent, IsHalf, SomeSets, IsHalfOf, MayStage};
 ghost use Rattle.mt_write.specs.Follows.{WriteStep, TreeStep, MayBeAt};
 
-use crate::ready::fill;
+use crate::ready::{NewRow, fill};
 use crate::writing::{Edit, Halves, Stage, Write};
 use mt_arena::Node;
 use mt_border::{Border, Entry, Found};
@@ -30,25 +30,21 @@ use mt_types::items::Items;
 use mt_types::key::Key;
 use mt_types::numbers::NodeNo;
 use mt_types::refusal::Refusal;
-use mt_types::row::Sets;
 use std::alloc::Global;
 
 // Spares a border for the upper half of one that is full.
-pub fn spare(
-    alloc: Global,
-    tree: &mut Tree,
-    way: Way,
-    key: &Key,
-    sets: &Sets,
-) -> Result<Stage, Refusal>
-    requires full { IsSomeAnd (border_at tree.old.nodes way.node.0)
-        (λ b. (length b.live ≡ SLOTS) × IsAbsent (found_for (rest_of key.now way) b.live)) }
+pub fn spare(alloc: Global, tree: &mut Tree, row: &NewRow<'_>) -> Result<Stage, Refusal>
+    requires full { IsSomeAnd (border_at tree.old.nodes row.now.way.node.0)
+        (λ b. (length b.live ≡ SLOTS) × IsAbsent (found_for (rest_of row.now.key.now row.now.way) b.live)) }
     ensures ready { MatchResult result
-        (λ stage. (C : ℕ) (log : LogView) → Prepares C key.now sets.now way tree.old log None stage tree.new log)
-        (λ refusal. ((log : LogView) → MayFail log (PutRequest key.now sets.now) refusal) × IsBack tree.old tree.new) }
-    ensures fault { IsSomeAnd (border_at tree.old.nodes way.node.0) (λ b. ReadyFor (split_fault tree.old b) result) }
+        (λ stage. (C : ℕ) (log : LogView)
+        → Prepares C row.now.key.now row.now.sets.now row.now.way tree.old log None stage tree.new log)
+        (λ refusal. ((log : LogView) → MayFail log (PutRequest row.now.key.now row.now.sets.now) refusal)
+        × IsBack tree.old tree.new) }
+    ensures fault { IsSomeAnd (border_at tree.old.nodes row.now.way.node.0)
+        (λ b. ReadyFor (split_fault tree.old b) result) }
 {
-    let border = tree.border(way.node);
+    let border = tree.border(row.way.node);
     if border.is_split_spent() {
         return Err(Refusal::Spent);
     }
@@ -77,7 +73,7 @@ fn fill_spare(tree: &mut Tree, left: NodeNo, half: NodeNo, entries: Items<Entry>
 
 // The half is linked. Gives the half where the key belongs.
 fn link_halves(tree: &mut Tree, way: Way, key: &Key, half: NodeNo, cut: usize) -> Way
-    requires within { 8 * way.layer ≤ length key.now }
+    requires within { 8 * way.layer ≤ length key.now - 1 }
     requires upper { IsSomeAnd (border_at tree.old.nodes way.node.0)
         (λ b. IsSomeAnd (border_at tree.old.nodes half.0) (λ upper. IsUpperHalf b upper cut)) }
     ensures linked { IsSomeAnd (border_at tree.old.nodes half.0)
@@ -104,35 +100,30 @@ fn fill_half(
     columns: u8,
     tree: &mut Tree,
     log: &mut Log,
-    way: Way,
+    write: &Write,
     split: Halves,
-    key: &Key,
-    edit: &Edit,
 ) -> Stage
-    requires within { 8 * way.layer ≤ length key.now }
-    requires half { IsSomeAnd (border_at tree.old.nodes way.node.0) (IsHalf key.now edit.now way) }
-    ensures fault { IsSomeAnd (border_at tree.old.nodes way.node.0)
+    requires within { 8 * write.now.way.layer ≤ length write.now.key - 1 }
+    requires half { IsSomeAnd (border_at tree.old.nodes write.now.way.node.0)
+        (IsHalf write.now.key write.now.edit write.now.way) }
+    ensures fault { IsSomeAnd (border_at tree.old.nodes write.now.way.node.0)
         (λ b. FailsBy (fill_fault log.old b) (Some split) result) }
-    ensures ready { SomeSets edit.now
-        (λ sets. Prepares columns key.now sets way tree.old log.old (Some split) result tree.new log.new) }
+    ensures ready { SomeSets write.now.edit (λ sets.
+        Prepares columns write.now.key sets write.now.way tree.old log.old (Some split) result tree.new log.new) }
 {
-    let Edit::Put(sets) = edit else {
+    let Edit::Put(sets) = &write.edit else {
         unreachable!();
     };
-    let Found::Absent(place) = tree.find(way.node, rest_of(key, way.layer)) else {
-        unreachable!();
-    };
-    match fill(
-        alloc,
+    let row = NewRow {
         columns,
-        tree,
-        log,
-        way,
-        place,
-        key,
+        key: &write.key,
         sets,
-        Some(split),
-    ) {
+        way: write.way,
+    };
+    let Found::Absent(place) = tree.find(row.way.node, rest_of(row.key, row.way.layer)) else {
+        unreachable!();
+    };
+    match fill(alloc, tree, log, &row, place, Some(split)) {
         Ok(stage) => stage,
         Err(refusal) => Stage::Failed(refusal, Some(split)),
     }
@@ -181,9 +172,7 @@ impl Write {
         requires { MayStage columns tree.old log.old self.old (Stage.Halved split) }
         ensures { WriteStep columns tree.old tree.new log.old log.new self.old (Stage.Halved split) result self.new }
     {
-        let stage = fill_half(
-            alloc, columns, tree, log, self.way, split, &self.key, &self.edit,
-        );
+        let stage = fill_half(alloc, columns, tree, log, self, split);
         self.turn_to(stage);
         Progress::Moved
     }

@@ -6,7 +6,7 @@ ghost use Rattle.mt_write.specs.Writing.{write_request, write_held, WriteIsTrue,
 ghost use Rattle.mt_write.specs.Causes.{WriteWaits, WriteFails};
 ghost use Rattle.mt_write.specs.Follows.{WriteStep, TreeStep, MayBeAt, WriteFollows, HeadFollows, PostsFollow};
 
-use crate::ready::{prepare, prepare_remove};
+use crate::ready::{NewRow, prepare, prepare_remove};
 use mt_border::Entry;
 use mt_commit::log::Log;
 use mt_post::Posting;
@@ -184,7 +184,13 @@ impl Write {
         let number = self.way.node;
         match &self.edit {
             Edit::Put(sets) => {
-                let stage = prepare(alloc, columns, tree, log, self.way, &self.key, sets);
+                let row = NewRow {
+                    columns,
+                    key: &self.key,
+                    sets,
+                    way: self.way,
+                };
+                let stage = prepare(alloc, tree, log, &row);
                 self.turn_to(stage);
                 Progress::Moved
             }

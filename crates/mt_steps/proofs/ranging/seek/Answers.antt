@@ -1,21 +1,21 @@
-use Rattle.std.proofs.Common.{subst}
-use Rattle.mt_tree.specs.Descent.{LeadsOn, TellsVisit}
-use Rattle.mt_tree.specs.declared.visit.Visit.{Visit}
-use Rattle.mt_steps.proofs.RangeLemmas.{slice_back, seeks-may, seeks-to, seeks-here, seeks-moves}
+-- The number names the node that is lent.
+use Rattle.mt_tree.proofs.HeldLemmas.{held_may_visit}
+use Rattle.mt_steps.proofs.WayLemmas.{names_marked}
 use Rattle.mt_steps.proofs.ranging.seek.Goals as goal
 
-pub visit-requires : goal.visit-requires
-visit-requires c = seeks-may c.args.tree.now c.args.number.0 c.args.slice c.to_be_bytes.result (slice_back c.args.slice c.to_be_bytes.result c.to_be_bytes.ensures c.ranges.slice.fits) c.requires
+pub node-requires : goal.node-requires
+node-requires c =
+    let held = c.requires in
+    (held_may_visit c.args.tree.now held.now held.twins held.chart held.begun c.args.number.0 c.args.slice held.prefix held.index held.holds).named
 
-pub returns-in-To-clause-seeks : goal.returns-in-To-clause-seeks
-returns-in-To-clause-seeks c = seeks-to c.args.tree.now c.args.number.0 c.args.slice c.to_be_bytes.result (slice_back c.args.slice c.to_be_bytes.result c.to_be_bytes.ensures c.ranges.slice.fits) c.in-To.next
-    (subst (λ (v : Visit). LeadsOn c.args.tree.now c.args.number.0 c.to_be_bytes.result v) c.in-To.is c.visit.ensures.leads)
+pub seek_node-requires : goal.seek_node-requires
+seek_node-requires c = record { arena = c.args.tree.now; number = c.args.number.0; names = record { named = c.node.ensures.value; sound = c.node.ensures.arena }; held = c.requires }
 
-pub returns-in-Here-clause-seeks : goal.returns-in-Here-clause-seeks
-returns-in-Here-clause-seeks c = seeks-here c.args.tree.now c.args.number.0 c.args.slice c.to_be_bytes.result (slice_back c.args.slice c.to_be_bytes.result c.to_be_bytes.ensures c.ranges.slice.fits)
-    (subst (λ (v : Visit). LeadsOn c.args.tree.now c.args.number.0 c.to_be_bytes.result v) c.in-Here.is c.visit.ensures.leads)
-    (subst (λ (v : Visit). TellsVisit c.args.tree.now c.args.number.0 c.to_be_bytes.result v) c.in-Here.is c.visit.ensures.tells)
+pub returns-clause-seeks : goal.returns-clause-seeks
+returns-clause-seeks c = c.seek_node.ensures.seeks c.args.tree.now c.args.number.0 (record { named = c.node.ensures.value; sound = c.node.ensures.arena })
 
-pub returns-in-To-clause-moves : goal.returns-in-To-clause-moves
-returns-in-To-clause-moves c = λ next same. seeks-moves c.args.tree.now c.args.number.0 c.to_be_bytes.result c.in-To.next next
-    (subst (λ (v : Visit). TellsVisit c.args.tree.now c.args.number.0 c.to_be_bytes.result v) c.in-To.is c.visit.ensures.tells) same
+pub returns-clause-again : goal.returns-clause-again
+returns-clause-again c = λ again. names_marked c.args.tree.now c.args.number.0 c.node.result.now (record { named = c.node.ensures.value; sound = c.node.ensures.arena }) (c.seek_node.ensures.again again)
+
+pub returns-clause-moves : goal.returns-clause-moves
+returns-clause-moves c = λ next is. c.seek_node.ensures.moves c.args.tree.now c.args.number.0 next (record { named = c.node.ensures.value; sound = c.node.ensures.arena }) is

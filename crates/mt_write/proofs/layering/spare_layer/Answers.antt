@@ -13,13 +13,13 @@ returns-in-Ok-clause-ready c = λ C log.
     let b = c.border-border.result.now in
     let named = c.border-border.ensures.value in
     let other = some_at _ _ b c.requires.other named in
-    let moves = c.in_ok-entries.ensures (slice_number (rest_of c.args.key.now c.args.way)) other.suffix other.row other.stands in (
+    let moves = c.in_ok-entries.ensures (slice_number (rest_of c.args.row.now.key.now c.args.row.now.way)) other.suffix other.row other.stands in (
       refl,
       record {
         b = b;
         named = named;
         at = record { sound = c.len-sound.ensures.sound; other = other };
-        number = c.args.way.layer + 1;
+        number = c.args.row.now.way.layer + 1;
         between = c.occupy.new.self;
         root = record {
           vacant = c.in_ok-root.ensures.vacant;

@@ -15,17 +15,17 @@ use Rattle.mt_write.proofs.ready.prepare.Goals as goal
 
 pub returns-in-Ok-clause-fault : goal.returns-in-Ok-clause-fault
 returns-in-Ok-clause-fault c =
-    prepares_ok c.args.tree.now c.args.log.now c.args.key.now c.args.way c.find.result c.match-find.made c.in-Ok.stage
-    (subst (λ (r : List ℕ). IsSomeAnd (border_at c.args.tree.now.nodes c.args.way.node.0) (λ b. c.find.result ≡ found_for r b.live)) c.rest_of.ensures.value c.find.ensures.value) c.in-Ok.is (elim c.match-find.branch [
+    prepares_ok c.args.tree.now c.args.log.now c.args.row.now.key.now c.args.row.now.way c.find.result c.match-find.made c.in-Ok.stage
+    (subst (λ (r : List ℕ). IsSomeAnd (border_at c.args.tree.now.nodes c.args.row.now.way.node.0) (λ b. c.find.result ≡ found_for r b.live)) c.rest_of.ensures.value c.find.ensures.value) c.in-Ok.is (elim c.match-find.branch [
       | in-Row w ↦ λ b named. by_found c.find.result c.match-find.made _ _ b w.in-Row.is w.made-is w.make-made.ensures.fault
       | in-Absent+then-is_full w ↦ λ b named.
-          let here = one_border (border_at c.args.tree.now.nodes c.args.way.node.0) w.border.result.now b w.border.ensures.value named in
+          let here = one_border (border_at c.args.tree.now.nodes c.args.row.now.way.node.0) w.border.result.now b w.border.ensures.value named in
           by_found c.find.result c.match-find.made _ _ b w.in-Absent.is w.made-is
-          (full_ready c.args.tree.now c.args.log.now b w.in-Absent.place _ (subst (λ (x : BorderView). length x.live ≡ SLOTS) here (w.is_full.ensures.full.0 w.if-is_full.true)) (some_at _ (border_at c.args.tree.now.nodes c.args.way.node.0) b w.spare.ensures.fault named))
+          (full_ready c.args.tree.now c.args.log.now b w.in-Absent.place _ (subst (λ (x : BorderView). length x.live ≡ SLOTS) here (w.is_full.ensures.full.0 w.if-is_full.true)) (some_at _ (border_at c.args.tree.now.nodes c.args.row.now.way.node.0) b w.spare.ensures.fault named))
       | in-Absent+else-is_full w ↦ λ b named.
-          let here = one_border (border_at c.args.tree.now.nodes c.args.way.node.0) w.border.result.now b w.border.ensures.value named in
+          let here = one_border (border_at c.args.tree.now.nodes c.args.row.now.way.node.0) w.border.result.now b w.border.ensures.value named in
           by_found c.find.result c.match-find.made _ _ b w.in-Absent.is w.made-is
-          (room_ready c.args.tree.now c.args.log.now b w.in-Absent.place _ (subst (λ (x : BorderView). length x.live < SLOTS) here (w.is_full.ensures.room.0 w.if-is_full.false)) (some_at _ (border_at c.args.tree.now.nodes c.args.way.node.0) b w.fill.ensures.fault named))
+          (room_ready c.args.tree.now c.args.log.now b w.in-Absent.place _ (subst (λ (x : BorderView). length x.live < SLOTS) here (w.is_full.ensures.room.0 w.if-is_full.false)) (some_at _ (border_at c.args.tree.now.nodes c.args.row.now.way.node.0) b w.fill.ensures.fault named))
       | in-OtherSuffix w ↦ λ b named. by_found c.find.result c.match-find.made _ _ b w.in-OtherSuffix.is w.made-is w.spare_layer-made.ensures.fault
     ])
   where

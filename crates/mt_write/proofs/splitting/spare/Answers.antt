@@ -22,7 +22,7 @@ returns-clause-ready c = λ C log.
           is_middle = c.entry.ensures.value;
           unspent = c.is_split_spent.ensures.left.0 c.if-is_split_spent.false;
           absent = full.1;
-          sets = c.args.sets.now;
+          sets = c.args.row.now.sets.now;
           is_put = refl;
         };
         occupied = record {

@@ -1,32 +1,26 @@
-use Rattle.std.proofs.Common.{refl, subst}
-use Rattle.mt_steps.specs.declared.way.Went.{Went}
-use Rattle.mt_steps.specs.Way.{VisitIs}
-use Rattle.mt_steps.proofs.GetLemmas.{get_again, get_moves, get_answers, get_fails, has_border, may_go}
+-- The node where it stands is lent.
+use Rattle.mt_steps.proofs.GetLemmas.{may_go, may_go_at}
 use Rattle.mt_steps.proofs.getting.Get.step.Goals as goal
 
+pub node-requires : goal.node-requires
+node-requires c =
+    let may = c.requires.1 in
+    (may_go c.args.tree.now c.args.self.now.key c.args.self.now.way may.now may.begun may.w may.world may.true.0).may.named
+
 pub visit-requires : goal.visit-requires
-visit-requires c = may_go c.args.tree.now c.args.self.now.key c.args.self.now.way c.requires.1.now c.requires.1.begun c.requires.1.w c.requires.1.world c.requires.1.true.0
+visit-requires c =
+    let may = c.requires.1 in
+    may_go_at c.args.tree.now c.args.self.now.key c.args.self.now.way c.node.result.now (record { named = c.node.ensures.value; sound = c.node.ensures.arena })
+    (may_go c.args.tree.now c.args.self.now.key c.args.self.now.way may.now may.begun may.w may.world may.true.0)
 
-pub read-requires-clause-border : goal.read-requires-clause-border
-read-requires-clause-border c = has_border c.args.tree.now c.args.self.now c.visit.result c.visit.ensures.sound c.visit.ensures.visits c.requires.1.now c.requires.1.begun c.requires.1.w c.requires.1.world c.requires.1.true.0 c.in-Here.is
+pub returns-clause-steps : goal.returns-clause-steps
+returns-clause-steps c = c.visit.ensures.steps c.args.tree.now (record { named = c.node.ensures.value; sound = c.node.ensures.arena })
 
-pub returns-in-Again-clause-steps : goal.returns-in-Again-clause-steps
-returns-in-Again-clause-steps c = get_again c.args.tree.now c.args.self.now c.visit.result c.visit.ensures.sound c.visit.ensures.visits c.in-Again.is
+pub returns-clause-waits : goal.returns-clause-waits
+returns-clause-waits c = c.visit.ensures.waits c.args.tree.now (record { named = c.node.ensures.value; sound = c.node.ensures.arena })
 
-pub returns-in-To-clause-steps : goal.returns-in-To-clause-steps
-returns-in-To-clause-steps c = get_moves c.args.tree.now c.args.self.now c.visit.result c.visit.ensures.sound c.visit.ensures.visits c.in-To.next c.in-To.is
+pub returns-clause-fails : goal.returns-clause-fails
+returns-clause-fails c = c.visit.ensures.fails c.args.tree.now (record { named = c.node.ensures.value; sound = c.node.ensures.arena })
 
-pub returns-in-Ok-clause-steps : goal.returns-in-Ok-clause-steps
-returns-in-Ok-clause-steps c = get_answers c.args.tree.now c.args.self.now c.visit.result c.visit.ensures.sound c.visit.ensures.visits c.in-Ok.answer c.in-Here.is c.in-Ok.ensures
-
-pub returns-in-Err-clause-steps : goal.returns-in-Err-clause-steps
-returns-in-Err-clause-steps c = get_fails c.args.tree.now c.args.self.now c.visit.result c.visit.ensures.sound c.visit.ensures.visits
-
-pub returns-in-Err-clause-fails : goal.returns-in-Err-clause-fails
-returns-in-Err-clause-fails c = (refl, has_border c.args.tree.now c.args.self.now c.visit.result c.visit.ensures.sound c.visit.ensures.visits c.requires.1.now c.requires.1.begun c.requires.1.w c.requires.1.world c.requires.1.true.0 c.in-Here.is)
-
-pub returns-in-Ok-clause-gets_on : goal.returns-in-Ok-clause-gets_on
-returns-in-Ok-clause-gets_on c = subst (λ (went : Went). VisitIs c.args.tree.now c.args.self.now.key c.args.self.now.way went) c.in-Here.is c.visit.ensures.value
-
-pub returns-in-Err-clause-gets_on : goal.returns-in-Err-clause-gets_on
-returns-in-Err-clause-gets_on c = subst (λ (went : Went). VisitIs c.args.tree.now c.args.self.now.key c.args.self.now.way went) c.in-Here.is c.visit.ensures.value
+pub returns-clause-gets_on : goal.returns-clause-gets_on
+returns-clause-gets_on c = c.visit.ensures.gets_on c.args.tree.now (record { named = c.node.ensures.value; sound = c.node.ensures.arena })

@@ -1,25 +1,23 @@
-use Rattle.mt_arena.specs.Node.{node_at}
-use Rattle.mt_tree.specs.declared.visit.Visit.TheVariants.{Again, To, Below, Here}
-use Rattle.mt_steps.proofs.WayLemmas.{visits-to, visits-below, visits-here, went_is}
+-- The number where the call stands names the node that is lent.
+use Rattle.std.proofs.Common.{◌≡◌, Option, true, sym, subst}
+use Rattle.std.specs.Prelude.{IsSomeAnd}
+use Rattle.mt_arena.specs.declared.node.Node.{Node}
+use Rattle.mt_tree.specs.Descent.{is_marked}
+use Rattle.mt_tree.proofs.DescentLemmas.{may_visit}
+use Rattle.mt_steps.specs.Way.{rest_of, went_at}
 use Rattle.mt_steps.proofs.way.Way.visit.Goals as goal
 
-pub returns-in-To-clause-visits : goal.returns-in-To-clause-visits
-returns-in-To-clause-visits c = visits-to c.args.tree.now c.args.key.now c.args.self.now c.rest_of.result.now c.rest_of.ensures.value c.in-To.next c.in-To.ensures.leads c.in-To.ensures.tells
+pub node-requires : goal.node-requires
+node-requires c = c.requires.may.named
 
-pub returns-in-Below-clause-visits : goal.returns-in-Below-clause-visits
-returns-in-Below-clause-visits c = visits-below c.args.tree.now c.args.key.now c.args.self.now c.rest_of.result.now c.rest_of.ensures.value c.in-Below.top c.in-Below.ensures.leads c.in-Below.ensures.tells
+pub visit_node-requires : goal.visit_node-requires
+visit_node-requires c = record { within = c.requires.within; may = may_visit c.args.tree.now c.args.self.now.node.0 (rest_of c.args.key.now c.args.self.now) c.node.result.now c.node.ensures.value c.requires.may }
 
-pub returns-in-Here-clause-visits : goal.returns-in-Here-clause-visits
-returns-in-Here-clause-visits c = visits-here c.args.tree.now c.args.key.now c.args.self.now c.rest_of.result.now c.rest_of.ensures.value c.in-Here.ensures.leads c.in-Here.ensures.tells
+pub returns-clause-visits : goal.returns-clause-visits
+returns-clause-visits c = c.visit_node.ensures.visits c.args.tree.now (record { named = c.node.ensures.value; sound = c.node.ensures.arena })
 
-pub returns-in-Again-clause-value : goal.returns-in-Again-clause-value
-returns-in-Again-clause-value c = went_is c.args.self.now c.rest_of.result.now _ Again (node_at c.args.tree.now.nodes c.args.self.now.node.0) c.rest_of.ensures.value c.in-Again.ensures.value
+pub returns-clause-value : goal.returns-clause-value
+returns-clause-value c = subst (λ (n : Option Node). IsSomeAnd n (λ node. c.visit_node.result ≡ went_at c.args.key.now c.args.self.now node)) (sym c.node.ensures.value) c.visit_node.ensures.value
 
-pub returns-in-To-clause-value : goal.returns-in-To-clause-value
-returns-in-To-clause-value c = went_is c.args.self.now c.rest_of.result.now _ (To c.in-To.next) (node_at c.args.tree.now.nodes c.args.self.now.node.0) c.rest_of.ensures.value c.in-To.ensures.value
-
-pub returns-in-Below-clause-value : goal.returns-in-Below-clause-value
-returns-in-Below-clause-value c = went_is c.args.self.now c.rest_of.result.now _ (Below c.in-Below.top) (node_at c.args.tree.now.nodes c.args.self.now.node.0) c.rest_of.ensures.value c.in-Below.ensures.value
-
-pub returns-in-Here-clause-value : goal.returns-in-Here-clause-value
-returns-in-Here-clause-value c = went_is c.args.self.now c.rest_of.result.now _ Here (node_at c.args.tree.now.nodes c.args.self.now.node.0) c.rest_of.ensures.value c.in-Here.ensures.value
+pub returns-clause-again : goal.returns-clause-again
+returns-clause-again c = λ again. subst (λ (n : Option Node). IsSomeAnd n (λ node. is_marked node ≡ true)) (sym c.node.ensures.value) (c.visit_node.ensures.again again)
