@@ -30,8 +30,9 @@
  *     end, reads answers. A buffer and what else is passed may not overlap.
  *
  * LIMITS
- *     Keys of up to 255 bytes, in the order of their bytes, a key before those that go on after it; 1 to 16 columns of
- *     up to 64 bytes; 1 to 1000 rows or deltas a call; 64 views; 1,048,576 nodes, of up to 15 keys each.
+ *     Keys of up to 1,024 bytes (ROWANSPAN_MAX_KEY_BYTES), in the order of their bytes, a key before those that go on
+ *     after it; 1 to 16 columns of up to 64 bytes; 1 to 1000 rows or deltas a call; 64 views; 1,048,576 nodes, of up to
+ *     15 keys each.
  *
  * MEMORY
  *     Each call that keeps or answers something allocates, by malloc; malloc and realloc have to align blocks as ISO C
@@ -50,12 +51,15 @@
 extern "C" {
 #endif
 
+/* The most bytes of a key. */
+#define ROWANSPAN_MAX_KEY_BYTES 1024
+
 /* ---- statuses */
 
 enum {
     ROWANSPAN_DONE = 0,
     ROWANSPAN_NO_MEMORY = 1,        /* an allocation was refused */
-    ROWANSPAN_KEY_TOO_LONG = 2,     /* a key has more than 255 bytes */
+    ROWANSPAN_KEY_TOO_LONG = 2,     /* a key has more than ROWANSPAN_MAX_KEY_BYTES bytes */
     ROWANSPAN_BAD_COLUMN = 3,       /* a column is not there, or is named twice; or an index was to have none or over 16 */
     ROWANSPAN_COLUMN_TOO_LONG = 4,  /* a column has more than 64 bytes */
     ROWANSPAN_BAD_LIMIT = 5,        /* a limit is not from 1 to 1000; or feed is not from 1 to 65536, or keep above */
@@ -233,7 +237,8 @@ static inline struct rowanspan_test rowanspan_at_least(uint8_t column, uint64_t 
 /* rowanspan_put: sets columns of a key's row. The others stay as they were, those of a new row are empty; with no sets it
  * is a commit too. Tells the number of the commit: commits are numbered from 1 on.
  * Costs the visit of each node on its way (among 100,000 keys six), the split of each that is full, and memory for the
- * key and the columns, which are copied.
+ * key and the columns, which are copied. Each eight bytes at its front that another key has too, where both go on, are a
+ * layer of the tree more: seven visits where it is to be made, else two.
  * DONE; or CLOSED, KEY_TOO_LONG, BAD_COLUMN, COLUMN_TOO_LONG, FEED_FULL, ARENA_FULL, SPENT, NO_MEMORY. */
 static inline uint16_t rowanspan_put(struct rowanspan *handle, const void *key, size_t key_length,
                                      const struct rowanspan_set *sets, size_t count, uint64_t *told) {
@@ -272,7 +277,8 @@ static inline uint16_t rowanspan_get(struct rowanspan *handle, const void *key, 
 /* rowanspan_range: the first rows from a key on, in the order of their keys, `limit` at most (rowanspan_read_count, then
  * for each rowanspan_read_bytes of its key and rowanspan_read_row). Columns and what is told as of rowanspan_get.
  * Costs the visit of each border that it reads and of the nodes on the way there, and memory for the rows, which is
- * freed.
+ * freed. Behind the last row of a layer its way begins anew at the top: two keys of n slices of eight bytes, of which
+ * only the last differ, cost n (n + 1) visits, where the range goes on behind them.
  * DONE; or NO_ROOM; CLOSED, KEY_TOO_LONG, BAD_COLUMN, BAD_LIMIT, NO_MEMORY. */
 static inline uint16_t rowanspan_range(struct rowanspan *handle, const void *start, size_t start_length, uint16_t limit,
                                        const uint8_t *columns, size_t column_count, void *into, size_t room,

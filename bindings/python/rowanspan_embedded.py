@@ -25,7 +25,7 @@ from types import TracebackType
 from typing import (Any, Callable, ClassVar, Dict, Iterator, List, Mapping, NewType, Optional, Sequence, Tuple, Type,
                     TypeVar, Union)
 
-MAX_KEY_BYTES = 255
+MAX_KEY_BYTES = 1024
 MAX_LIMIT = 1000
 MAX_NUMBER = 2 ** 64 - 1
 
@@ -76,7 +76,7 @@ class NoMemory(Refused):
 
 
 class KeyTooLong(Refused):
-    number, cause = 2, "a key has more than 255 bytes"
+    number, cause = 2, f"a key has more than {MAX_KEY_BYTES:,} bytes"
 
 
 class BadColumn(Refused):
@@ -225,7 +225,7 @@ def set_pairs(sets: Sets) -> List[Tuple[int, bytes]]:
 
 
 def key_after(key: bytes) -> Optional[bytes]:
-    """The least key after this one, of at most 255 bytes; None where there is none."""
+    """The least key after this one, of at most `MAX_KEY_BYTES` bytes; None where there is none."""
     if len(key) < MAX_KEY_BYTES:
         return key + b"\0"
     front = key.rstrip(b"\xff")

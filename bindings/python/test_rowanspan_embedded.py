@@ -17,9 +17,9 @@ sys.path.insert(1, str(Path(__file__).resolve().parent.parent.parent / "clients"
 
 import rowanspan  # noqa: E402
 import rowanspan_embedded as embedded  # noqa: E402
-from rowanspan_embedded import (AtLeast, BadColumn, BadLimit, BadRange, Behind, Closed, ColumnTooLong, Delta,  # noqa: E402
-                                Equals, FeedFull, Index, KeyTooLong, NoLibrary, NoSuchView, Page, Prefix, Range, Row,
-                                Tidied, TooLong, TooManyViews, WrongThread, key_after)
+from rowanspan_embedded import (MAX_KEY_BYTES, AtLeast, BadColumn, BadLimit, BadRange, Behind, Closed,  # noqa: E402
+                                ColumnTooLong, Delta, Equals, FeedFull, Index, KeyTooLong, NoLibrary, NoSuchView, Page,
+                                Prefix, Range, Row, Tidied, TooLong, TooManyViews, WrongThread, key_after)
 
 
 def raises(kind: type, call: Callable[[], object]) -> BaseException:
@@ -54,7 +54,8 @@ def columns() -> None:
         raises(BadColumn, lambda: index.get(b"k", [3]))
         raises(BadColumn, lambda: index.put(b"k", {3: b""}))
         raises(ColumnTooLong, lambda: index.put(b"k", bytes(65)))
-        raises(KeyTooLong, lambda: index.put(bytes(256), b""))
+        raises(KeyTooLong, lambda: index.put(bytes(MAX_KEY_BYTES + 1), b""))
+        assert index.put(bytes(MAX_KEY_BYTES), b"") == 2 and index.get(bytes(MAX_KEY_BYTES), [0]) == Row(2, (b"",))
         raises(BadLimit, lambda: index.range(limit=0))
         raises(TooLong, lambda: index.range(limit=65536))
         raises(TooLong, lambda: index.put(b"k", {256: b""}))
@@ -116,7 +117,7 @@ def scans_and_large_answers() -> None:
             index.put(b"%08d" % number, b"x" * 60)
         assert [key for key, _ in index.scan()] == [b"%08d" % number for number in range(2500)]
         assert len(index.range(b"00000500")) == 1000
-    assert key_after(b"\xff" * 255) is None and key_after(b"a") == b"a\0"
+    assert key_after(b"\xff" * MAX_KEY_BYTES) is None and key_after(b"a") == b"a\0"
 
 
 def epochs() -> None:
@@ -169,6 +170,7 @@ def names_of_the_client() -> None:
         assert getattr(client, "__annotations__", None) == getattr(here, "__annotations__", None), name
     for number, kind in embedded.REFUSALS.items():
         assert rowanspan.REFUSALS[number].__name__ == kind.__name__
+    assert embedded.MAX_KEY_BYTES == rowanspan.MAX_KEY_BYTES
 
 
 def random_calls() -> None:

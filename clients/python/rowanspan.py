@@ -26,7 +26,7 @@ WIRE_VERSION = 1
 MAX_QUERIES = 64
 MAX_REQUEST_BODY = 262_144
 MAX_REPLY_BODY = 134_217_727
-MAX_KEY_BYTES = 255
+MAX_KEY_BYTES = 1024
 MAX_LIMIT = 1000
 
 Value = TypeVar("Value")
@@ -76,7 +76,7 @@ class NoMemory(Refused):
 
 
 class KeyTooLong(Refused):
-    number, cause = 2, "a key has more than 255 bytes"
+    number, cause = 2, f"a key has more than {MAX_KEY_BYTES:,} bytes"
 
 
 class BadColumn(Refused):
@@ -555,7 +555,7 @@ def receive_body(connection: socket.socket) -> bytes:
 
 
 def key_after(key: bytes) -> Optional[bytes]:
-    """The least key after this one, of at most 255 bytes; None where there is none."""
+    """The least key after this one, of at most `MAX_KEY_BYTES` bytes; None where there is none."""
     if len(key) < MAX_KEY_BYTES:
         return key + b"\0"
     # nothing goes on after it, so the next key is greater in some byte: in the last that can be

@@ -16,9 +16,10 @@ from typing import Any, Dict, List, Sequence, Tuple
 import rowanspan
 import stand_in
 from rowan_text import HEX, TEXT, BadLine, outcome_line, page_receipt_line, read_query, receipt_line, spec_text
-from rowanspan import (AnswerKind, AnyRow, AtLeast, BadReply, Behind, Build, ConnectionLost, Equals, FeedFull, Get,
-                       GetRange, Index, NoSuchView, Page, Prefix, Put, Query, Range, Refused, Remove, Reply, Row,
-                       Tidied, Tidy, TooLong, Unanswered, ViewDrop, ViewRead, key_after, read_replies, request_frame)
+from rowanspan import (MAX_KEY_BYTES, AnswerKind, AnyRow, AtLeast, BadReply, Behind, Build, ConnectionLost, Equals,
+                       FeedFull, Get, GetRange, Index, NoSuchView, Page, Prefix, Put, Query, Range, Refused, Remove,
+                       Reply, Row, Tidied, Tidy, TooLong, Unanswered, ViewDrop, ViewRead, key_after, read_replies,
+                       request_frame)
 from stand_in import Options, PlainIndex, StandIn, read_queries, reply_frame, spelled_done
 from wire_page import worked_bytes
 
@@ -201,9 +202,13 @@ class BrokenStreamTest(unittest.TestCase):
                 read_replies(body, [Get(b"a")])
 
     def test_too_long_a_key_in_a_row(self) -> None:
-        pair = f"0100 {'61' * 256} 0000000000000102 01 00"
+        def body(count: int) -> bytes:
+            return body_of(f"04 {SPAN} 0001 {count:04x} {'61' * count} 0000000000000102 01 00")
+
+        (reply,) = read_replies(body(MAX_KEY_BYTES), [GetRange()])
+        self.assertEqual(reply, Reply([(b"a" * MAX_KEY_BYTES, Row(258, (b"",)))], 1, 258))
         with self.assertRaises(BadReply):
-            read_replies(body_of(f"04 {SPAN} 0001 {pair}"), [GetRange()])
+            read_replies(body(MAX_KEY_BYTES + 1), [GetRange()])
 
     def test_cut_replies(self) -> None:
         whole = framed([ANSWERS[1][1]])
@@ -297,7 +302,8 @@ class CallTest(unittest.TestCase):
 
     def test_refusals(self) -> None:
         wrong: List[Tuple[Query[Any], int]] = [
-            (Get(bytes(256)), 2), (Get(b"", [2]), 3), (Put(b"", [(0, b""), (0, b"")]), 3), (Put(b"", bytes(65)), 4),
+            (Get(bytes(MAX_KEY_BYTES + 1)), 2), (Get(b"", [2]), 3), (Put(b"", [(0, b""), (0, b"")]), 3),
+            (Put(b"", bytes(65)), 4),
             (GetRange(b"", 0), 5), (GetRange(b"", 1001), 5), (ViewRead(1), 11), (ViewDrop(1), 11),
             (Build(Range(b"b", b"a")), 13)]
         for query, number in wrong:
@@ -314,12 +320,12 @@ class CallTest(unittest.TestCase):
 
 class ScanTest(unittest.TestCase):
     def test_keys_after(self) -> None:
-        whole = b"a" * 254
+        short = MAX_KEY_BYTES - 1
         self.assertEqual(key_after(b""), b"\0")
-        self.assertEqual(key_after(whole), whole + b"\0")
-        self.assertEqual(key_after(whole + b"a"), whole + b"b")
-        self.assertEqual(key_after(b"a" + b"\xff" * 254), b"b")
-        self.assertIsNone(key_after(b"\xff" * 255))
+        self.assertEqual(key_after(b"a" * short), b"a" * short + b"\0")
+        self.assertEqual(key_after(b"a" * MAX_KEY_BYTES), b"a" * short + b"b")
+        self.assertEqual(key_after(b"a" + b"\xff" * short), b"b")
+        self.assertIsNone(key_after(b"\xff" * MAX_KEY_BYTES))
 
     def scanned(self, keys: Sequence[bytes], start: bytes = b"") -> List[bytes]:
         with StandIn() as server, Index(server.port, timeout=SECONDS) as index:
@@ -339,9 +345,10 @@ class ScanTest(unittest.TestCase):
         self.assertEqual(self.scanned(keys, keys[7] + b"\0"), keys[8:])
 
     def test_pages_that_end_at_long_keys(self) -> None:
-        first = [number.to_bytes(2, "big") for number in range(999)]
-        for last, behind in ((b"a" * 255, [b"a" * 254 + b"b", b"b"]), (b"a" + b"\xff" * 254, [b"b", b"b\0"]),
-                             (b"\xff" * 255, []), (b"a" * 254, [b"a" * 254 + b"\0"])):
+        first, short = [number.to_bytes(2, "big") for number in range(999)], MAX_KEY_BYTES - 1
+        for last, behind in ((b"a" * MAX_KEY_BYTES, [b"a" * short + b"b", b"b"]),
+                             (b"a" + b"\xff" * short, [b"b", b"b\0"]), (b"\xff" * MAX_KEY_BYTES, []),
+                             (b"a" * short, [b"a" * short + b"\0"])):
             keys = first + [last] + behind
             with self.subTest(last=last[:2]):
                 self.assertEqual(self.scanned(keys), keys)
@@ -466,7 +473,8 @@ class ShellTest(unittest.TestCase):
         self.assertEqual(self.run_shell(["get", "61", "all"]), (0, "done 1 1 row 1 76\n"))
         self.assertEqual(self.run_shell(["range", "-", "10", "all"]), (0, "done 1 1 rows 1 61:1:76\n"))
         self.assertEqual(self.run_shell(["get", "61"]), (1, "bad line\n"))
-        self.assertEqual(self.run_shell(["get", "61" * 256, "all"]), (0, "refused 2\n"))
+        self.assertEqual(self.run_shell(["get", "61" * (MAX_KEY_BYTES + 1), "all"]), (0, "refused 2\n"))
+        self.assertEqual(self.run_shell(["get", "61" * MAX_KEY_BYTES, "all"]), (0, "done 1 1 absent\n"))
         self.assertEqual(self.run_shell(["put", "61", "0=" + "00" * 256]), (1, "bad line\n"))
 
     def test_lines(self) -> None:
@@ -508,6 +516,11 @@ class ShellTest(unittest.TestCase):
 
 
 class DocumentTest(unittest.TestCase):
+    def test_the_longest_key_of_the_page(self) -> None:
+        page = SHELL.parents[2].joinpath("docs", "WIRE.md").read_text(encoding="utf-8")
+        (most,) = re.findall("A key of more than ([0-9,]+) bytes", page)
+        self.assertEqual(int(most.replace(",", "")), MAX_KEY_BYTES)
+
     def test_the_example_of_the_page(self) -> None:
         page = SHELL.parents[2].joinpath("docs", "SERVING.md").read_text(encoding="utf-8")
         (block,) = (part for part in re.findall(r"(?:^(?:    .*)?\n)+", page, re.M) if "import Index" in part)

@@ -115,19 +115,20 @@ static void columns(void) {
 
 static void keys(void) {
     struct rowanspan index = opened(1, 4096, 0);
-    char key[256];
-    uint8_t room[1024];
+    enum { MOST = ROWANSPAN_MAX_KEY_BYTES, TOO_MANY = MOST + 1 };
+    char key[TOO_MANY];
+    uint8_t room[2048];
     uint64_t told = 99;
     begins();
     memset(key, 'k', sizeof key);
-    WANT_SAME(rowanspan_put(&index, key, 255, NULL, 0, &told), ROWANSPAN_DONE);
-    WANT_SAME(rowanspan_put(&index, key, 256, NULL, 0, &told), ROWANSPAN_KEY_TOO_LONG);
-    WANT_SAME(rowanspan_get(&index, key, 256, NULL, 0, room, sizeof room, &told), ROWANSPAN_KEY_TOO_LONG);
-    WANT_SAME(rowanspan_range(&index, key, 256, 1, NULL, 0, room, sizeof room, &told), ROWANSPAN_KEY_TOO_LONG);
-    WANT_SAME(rowanspan_remove(&index, key, 256, &told), ROWANSPAN_KEY_TOO_LONG);
-    WANT_SAME(rowanspan_tidy(&index, key, 256, &told), ROWANSPAN_KEY_TOO_LONG);
-    WANT_SAME(rowanspan_build_prefix(&index, key, 256, rowanspan_any(), &told), ROWANSPAN_KEY_TOO_LONG);
-    WANT_SAME(rowanspan_view(&index, 1, 0, key, 256, 1, room, sizeof room, &told), ROWANSPAN_KEY_TOO_LONG);
+    WANT_SAME(rowanspan_put(&index, key, MOST, NULL, 0, &told), ROWANSPAN_DONE);
+    WANT_SAME(rowanspan_put(&index, key, TOO_MANY, NULL, 0, &told), ROWANSPAN_KEY_TOO_LONG);
+    WANT_SAME(rowanspan_get(&index, key, TOO_MANY, NULL, 0, room, sizeof room, &told), ROWANSPAN_KEY_TOO_LONG);
+    WANT_SAME(rowanspan_range(&index, key, TOO_MANY, 1, NULL, 0, room, sizeof room, &told), ROWANSPAN_KEY_TOO_LONG);
+    WANT_SAME(rowanspan_remove(&index, key, TOO_MANY, &told), ROWANSPAN_KEY_TOO_LONG);
+    WANT_SAME(rowanspan_tidy(&index, key, TOO_MANY, &told), ROWANSPAN_KEY_TOO_LONG);
+    WANT_SAME(rowanspan_build_prefix(&index, key, TOO_MANY, rowanspan_any(), &told), ROWANSPAN_KEY_TOO_LONG);
+    WANT_SAME(rowanspan_view(&index, 1, 0, key, TOO_MANY, 1, room, sizeof room, &told), ROWANSPAN_KEY_TOO_LONG);
     WANT_SAME(rowanspan_put(&index, NULL, 0, NULL, 0, &told), ROWANSPAN_DONE);
     WANT_SAME(rowanspan_get(&index, NULL, 0, NULL, 0, room, sizeof room, &told), ROWANSPAN_DONE);
     WANT_SAME(rowanspan_range(&index, NULL, 0, 0, NULL, 0, room, sizeof room, &told), ROWANSPAN_BAD_LIMIT);

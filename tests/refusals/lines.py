@@ -5,6 +5,8 @@ from dataclasses import dataclass
 from functools import lru_cache
 from typing import Dict, List, Optional, Tuple
 
+MAX_KEY_BYTES = 1024
+
 Columns = Tuple[bytes, ...]
 Pair = Tuple[bytes, int, Columns]
 

@@ -10,8 +10,8 @@ from __future__ import annotations
 from dataclasses import dataclass, field
 from typing import Dict, List, NamedTuple, Optional, Sequence, Set, Tuple
 
-from lines import (Columns, Command, Pair, Request, amount_of, changed, command_of, delta_text, number_of, pair_of,
-                      pair_text, values_of)
+from lines import (MAX_KEY_BYTES, Columns, Command, Pair, Request, amount_of, changed, command_of, delta_text,
+                   number_of, pair_of, pair_text, values_of)
 
 Change = Tuple[int, Optional[Columns]]
 # behind each feed, so that it is told from what follows how many deltas it gave; it names no view
@@ -385,8 +385,8 @@ class Held:
     def read(self, answer: str, command: Command) -> None:
         """A page: exactly that of the number of commits at which its view stands."""
         view, floor, limit = command.numbers
-        if len(command.start) > 255 or not 1 <= limit <= 1000:
-            want(answer == ("refused 2" if len(command.start) > 255 else "refused 5"), "it breaks a limit")
+        if len(command.start) > MAX_KEY_BYTES or not 1 <= limit <= 1000:
+            want(answer == ("refused 2" if len(command.start) > MAX_KEY_BYTES else "refused 5"), "it breaks a limit")
         elif view not in self.views.may:
             want(answer == "refused 11", "no such view stands")
         elif answer.startswith("refused 12 "):

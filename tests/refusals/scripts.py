@@ -6,7 +6,7 @@ from functools import partial
 from pathlib import Path
 from typing import Callable, Dict, List, Sequence, Tuple
 
-from lines import command_of, word_of
+from lines import MAX_KEY_BYTES, command_of, word_of
 from reading import MARK, Gathering
 
 TESTS = Path(__file__).resolve().parent.parent
@@ -90,11 +90,23 @@ def full_interior(name: str, nodes: int) -> Script:
     return Script(name, (), tuple(lines), begin)
 
 
+def twenty_layers() -> Script:
+    """Two keys that differ in their last byte alone, behind twenty slices: the second put, by single steps, makes as
+    many layers, and when both are removed they are taken out."""
+    deep = 20
+    first, second = ("61" * (8 * deep) + last for last in ("61", "62"))
+    lines = [f"alone put {first} 0=-", f"begin 1 put {second} 0=-", *["step 2"] * (7 * deep + 5)]
+    lines += [f"begin 1 get {second} all", *["step 3"] * (2 * deep + 2)]
+    lines += [f"alone remove {first}", f"alone remove {second}", *[f"alone tidy {second}"] * (deep + 1), "collect"]
+    return Script("twenty_layers", (), tuple(lines))
+
+
 # by the number of nodes below layer 0: 5 has the memory of nodes full at the new root, 6 at the half; and of an
 # interior 12 at the new root, 13 at its half, 14 at the border's half
 MADE: Dict[str, Callable[[], Script]] = {
     **{f"full_border_{nodes}": partial(full_border, f"full_border_{nodes}", nodes) for nodes in (0, 5, 6)},
-    **{f"full_interior_{nodes}": partial(full_interior, f"full_interior_{nodes}", nodes) for nodes in (12, 13, 14)}}
+    **{f"full_interior_{nodes}": partial(full_interior, f"full_interior_{nodes}", nodes) for nodes in (12, 13, 14)},
+    "twenty_layers": twenty_layers}
 
 
 def script_of(name: str) -> Script:
@@ -108,7 +120,7 @@ def keys_of(lines: Sequence[str]) -> List[bytes]:
         command = command_of(line)
         if command is not None and command.request is not None and command.request.is_change():
             keys.add(command.request.key)
-    return sorted(key for key in keys if len(key) <= 255)
+    return sorted(key for key in keys if len(key) <= MAX_KEY_BYTES)
 
 
 def ending(script: Script, gathered: Gathering, views: int) -> List[str]:

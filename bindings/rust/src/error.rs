@@ -8,7 +8,7 @@ use std::fmt;
 pub enum Error {
     /// An allocation was refused.
     NoMemory,
-    /// A key has more than 255 bytes.
+    /// A key has more than [`MAX_KEY_BYTES`](crate::MAX_KEY_BYTES) bytes.
     KeyTooLong,
     /// A column isn't there, or is named twice; or an index was to have none, or more than 16.
     BadColumn,

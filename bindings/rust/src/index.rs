@@ -7,7 +7,8 @@ use crate::raw::{ColumnSet, Library, ViewTest};
 /// The most rows of a range or page, and the most deltas of a feed.
 pub const MAX_LIMIT: u16 = 1000;
 
-const MAX_KEY_BYTES: usize = 255;
+/// The most bytes of a key.
+pub const MAX_KEY_BYTES: usize = 1024;
 
 const DONE: u16 = 0;
 const ABSENT: u16 = 102;

@@ -28,4 +28,4 @@ mod raw;
 
 pub use answers::{Delta, Page, Row};
 pub use error::Error;
-pub use index::{Index, Keys, Options, Pairs, RowTest, Tidied, MAX_LIMIT};
+pub use index::{Index, Keys, Options, Pairs, RowTest, Tidied, MAX_KEY_BYTES, MAX_LIMIT};

@@ -1,6 +1,6 @@
 //! The index by example, and 20,000 calls by chance against a `BTreeMap`.
 
-use rowanspan::{Delta, Error, Index, Keys, Options, Row, RowTest, Tidied};
+use rowanspan::{Delta, Error, Index, Keys, Options, Row, RowTest, Tidied, MAX_KEY_BYTES};
 use std::collections::BTreeMap;
 
 fn row(version: u64, columns: &[&[u8]]) -> Row {
@@ -53,7 +53,10 @@ fn refusals() -> Result<(), Error> {
         Some(Error::BadLimit)
     );
     let mut index = Index::open(two)?;
-    assert_eq!(index.put(&[0; 256], &[]), Err(Error::KeyTooLong));
+    assert_eq!(
+        index.put(&[0; MAX_KEY_BYTES + 1], &[]),
+        Err(Error::KeyTooLong)
+    );
     assert_eq!(index.put(b"k", &[(2, b"")]), Err(Error::BadColumn));
     assert_eq!(
         index.put(b"k", &[(0, b""), (0, b"")]),
@@ -131,12 +134,13 @@ fn ranges_of_many() -> Result<(), Error> {
     for number in 0..2000 {
         index.put(&key(number), &[(0, &[1; 60])])?;
     }
-    index.put(&[255; 255], &[])?;
+    let last = [255u8; MAX_KEY_BYTES];
+    index.put(&last, &[])?;
     let keys = index
         .range(&key(5))
         .map(|pair| Ok(pair?.0))
         .collect::<Result<Vec<_>, Error>>()?;
-    let wanted: Vec<_> = (5..2000).map(key).chain([vec![255; 255]]).collect();
+    let wanted: Vec<_> = (5..2000).map(key).chain([last.to_vec()]).collect();
     assert_eq!(keys, wanted);
     Ok(())
 }
