@@ -15,13 +15,13 @@
  *     it may go to another one, even under a lock, isn't proved.
  *
  * STATUSES
- *     Each call answers a status. ROWANSPAN_DONE, which is 0: it was done. From 1 to 15: it was refused, has changed no
+ *     Each call answers a status. ROWANSPAN_DONE, which is 0: it was done. From 1 to 16: it was refused, has changed no
  *     row, no commit and no view, and the index works on. From 100 on: see there.
  *
  * TOLD
  *     Most calls tell a number besides, through their last parameter: it is always written. Each says below what it
- *     tells where it is done. Where it is refused, it tells the number of commits that goes with the refusal
- *     (ROWANSPAN_FEED_FULL, ROWANSPAN_BEHIND), or else 0.
+ *     tells where it is done. Where it is refused, it tells the number of a commit that goes with the refusal
+ *     (ROWANSPAN_FEED_FULL, ROWANSPAN_BEHIND, ROWANSPAN_OTHER_VERSION), or else 0.
  *
  * BUFFERS
  *     A call that answers with bytes writes them at the front of the caller's buffer, and tells how many there are.
@@ -71,6 +71,7 @@ enum {
                                        after the commit told */
     ROWANSPAN_BAD_RANGE = 13,       /* the range of a view ends before it begins */
     ROWANSPAN_SPENT = 14,           /* a number is at its greatest value, 2^64 - 1 */
+    ROWANSPAN_OTHER_VERSION = 16,   /* the key's row is of the version told, and not of the one asked; 0: there is none */
     ROWANSPAN_CLOSED = 100,         /* the handle holds no index */
     ROWANSPAN_HELD = 101,           /* the handle holds an index already */
     ROWANSPAN_ABSENT = 102,         /* the key has no row */
@@ -132,6 +133,8 @@ uint16_t rowanspan_close(struct rowanspan *handle);
 
 uint16_t rowanspan_raw_put(struct rowanspan *handle, const uint8_t *key, size_t key_length,
                            const struct rowanspan_set *sets, size_t count, uint64_t *told);
+uint16_t rowanspan_raw_put_if(struct rowanspan *handle, const uint8_t *key, size_t key_length,
+                              const struct rowanspan_set *sets, size_t count, uint64_t version, uint64_t *told);
 uint16_t rowanspan_raw_remove(struct rowanspan *handle, const uint8_t *key, size_t key_length, uint64_t *told);
 uint16_t rowanspan_raw_tidy(struct rowanspan *handle, const uint8_t *key, size_t key_length, uint64_t *told);
 uint16_t rowanspan_raw_get(struct rowanspan *handle, const uint8_t *key, size_t key_length, const uint8_t *columns,
@@ -244,6 +247,17 @@ static inline uint16_t rowanspan_put(struct rowanspan *handle, const void *key, 
                                      const struct rowanspan_set *sets, size_t count, uint64_t *told) {
     static const struct rowanspan_set none = {0, NULL, 0};
     return rowanspan_raw_put(handle, rowanspan_bytes_at(key), key_length, sets ? sets : &none, count, told);
+}
+
+/* rowanspan_put_if: a put that is done only where the key's row is of this version, or where `version` is 0 and the key
+ * has no row. So who has read a row changes it only if nobody else has since. Costs what a put costs.
+ * DONE; or OTHER_VERSION, and nothing changes: the version of the row is told, or 0 where there is none; or what else
+ * rowanspan_put answers. */
+static inline uint16_t rowanspan_put_if(struct rowanspan *handle, const void *key, size_t key_length,
+                                        const struct rowanspan_set *sets, size_t count, uint64_t version,
+                                        uint64_t *told) {
+    static const struct rowanspan_set none = {0, NULL, 0};
+    return rowanspan_raw_put_if(handle, rowanspan_bytes_at(key), key_length, sets ? sets : &none, count, version, told);
 }
 
 /* rowanspan_remove: ends a key's row. Tells the number of the commit.

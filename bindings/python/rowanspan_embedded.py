@@ -58,8 +58,9 @@ class NoLibrary(RowanspanError):
 class Refused(RowanspanError):
     """A call was refused: it changed no row, no commit and no view.
 
-    `number` is that of the cause. `detail` is the number of commits that goes with it: for `FeedFull` from which commit
-    on the log is held, for `Behind` where the view stands, or from which commit on the log has deltas; else None.
+    `number` is that of the cause. `detail` is the number of a commit that goes with it: for `FeedFull` from which commit
+    on the log is held, for `Behind` where the view stands, or from which commit on the log has deltas, for `OtherVersion`
+    the version that the row has, or 0 where there is none; else None.
     """
 
     number: ClassVar[int] = 0
@@ -119,9 +120,13 @@ class Spent(Refused):
     number, cause = 14, "a number is at its greatest value"
 
 
+class OtherVersion(Refused):
+    number, has_detail, cause = 16, True, "the row isn't of the version asked, but of this one"
+
+
 REFUSALS: Dict[int, Type[Refused]] = {kind.number: kind for kind in (
     NoMemory, KeyTooLong, BadColumn, ColumnTooLong, BadLimit, ArenaFull, FeedFull, TooManyViews, NoSuchView, Behind,
-    BadRange, Spent)}
+    BadRange, Spent, OtherVersion)}
 
 
 # ---- values
@@ -312,6 +317,7 @@ _ROOM: List[Any] = [ctypes.c_void_p, ctypes.c_size_t]
 # what stands between the handle and what is told, of each symbol
 _PARAMETERS: Dict[str, List[Any]] = {
     "raw_put": [*_BYTES, ctypes.POINTER(_Set), ctypes.c_size_t],
+    "raw_put_if": [*_BYTES, ctypes.POINTER(_Set), ctypes.c_size_t, _U64],
     "raw_remove": _BYTES,
     "raw_tidy": _BYTES,
     "raw_get": [*_BYTES, *_BYTES, *_ROOM],
@@ -365,6 +371,12 @@ def _number(number: int, greatest: int = MAX_NUMBER) -> int:
 
 def _columns(columns: Optional[Sequence[int]]) -> bytes:
     return bytes(_number(column, 255) for column in columns or ())
+
+
+def _sets(sets: Sets) -> Tuple[Any, int]:
+    """Columns that are set, as the library takes them, and how many they are."""
+    pairs = [_Set(_number(column, 255), value, len(value)) for column, value in set_pairs(sets)]
+    return (_Set * max(1, len(pairs)))(*pairs), len(pairs)
 
 
 def _test(test: RowTest) -> _Test:
@@ -472,9 +484,12 @@ class Index:
     def put(self, key: bytes, sets: Sets) -> int:
         """Sets columns of a key's row, by their numbers; plain bytes are column 0. The others stay as they were; those
         of a new row are empty. Gives the number of the commit."""
-        pairs = [_Set(_number(column, 255), value, len(value)) for column, value in set_pairs(sets)]
-        array = (_Set * max(1, len(pairs)))(*pairs)
-        return self._changed(self._tell("raw_put", bytes(key), len(key), array, len(pairs)))
+        return self._changed(self._tell("raw_put", bytes(key), len(key), *_sets(sets)))
+
+    def put_if(self, key: bytes, sets: Sets, version: int) -> int:
+        """A put that is done only where the key's row is of this version, or where `version` is 0 and the key has no
+        row. Gives the number of the commit. Raises `OtherVersion` where the row is of another one."""
+        return self._changed(self._tell("raw_put_if", bytes(key), len(key), *_sets(sets), _number(version)))
 
     def remove(self, key: bytes) -> Optional[int]:
         """Removes a key's row. Gives the number of the commit, or None where there was no row."""

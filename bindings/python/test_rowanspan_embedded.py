@@ -10,7 +10,7 @@ import threading
 import traceback
 from bisect import bisect_left
 from pathlib import Path
-from typing import Callable, Dict, List, Tuple
+from typing import Callable, Dict, List, Optional, Tuple
 
 sys.path.insert(0, str(Path(__file__).resolve().parent))
 sys.path.insert(1, str(Path(__file__).resolve().parent.parent.parent / "clients" / "python"))
@@ -18,8 +18,9 @@ sys.path.insert(1, str(Path(__file__).resolve().parent.parent.parent / "clients"
 import rowanspan  # noqa: E402
 import rowanspan_embedded as embedded  # noqa: E402
 from rowanspan_embedded import (MAX_KEY_BYTES, AtLeast, BadColumn, BadLimit, BadRange, Behind, Closed,  # noqa: E402
-                                ColumnTooLong, Delta, Equals, FeedFull, Index, KeyTooLong, NoLibrary, NoSuchView, Page,
-                                Prefix, Range, Row, Tidied, TooLong, TooManyViews, WrongThread, key_after)
+                                ColumnTooLong, Delta, Equals, FeedFull, Index, KeyTooLong, NoLibrary, NoSuchView,
+                                OtherVersion, Page, Prefix, Range, Row, Tidied, TooLong, TooManyViews, WrongThread,
+                                key_after)
 
 
 def raises(kind: type, call: Callable[[], object]) -> BaseException:
@@ -61,6 +62,29 @@ def columns() -> None:
         raises(TooLong, lambda: index.put(b"k", {256: b""}))
         raises(BadColumn, lambda: Index(columns=17))
         raises(BadLimit, lambda: Index(feed=0))
+
+
+def found_by_put_if(index: Index, key: bytes, version: int) -> Optional[int]:
+    """The version of the row by which a conditional put is refused."""
+    fault = raises(OtherVersion, lambda: index.put_if(key, b"if", version))
+    assert isinstance(fault, OtherVersion)
+    return fault.detail
+
+
+def conditional_puts() -> None:
+    with Index() as index:
+        assert found_by_put_if(index, b"apple", 1) == 0
+        assert index.put_if(b"apple", b"red", 0) == 1
+        assert found_by_put_if(index, b"apple", 0) == 1
+        assert index.put_if(b"apple", {0: b"green"}, 1) == 2
+        assert index.get(b"apple") == Row(2, (b"green",))
+        view = index.build(Prefix(b"a"))
+        assert index.put_if(b"apricot", b"", 0) == 3 and index.view(view, 3).count == 2
+        assert index.remove(b"apple") == 4
+        assert found_by_put_if(index, b"apple", 2) == 0
+        raises(BadColumn, lambda: index.put_if(b"apple", {1: b""}, 9))
+        raises(TooLong, lambda: index.put_if(b"apple", b"", -1))
+        assert index.commits() == 4
 
 
 def views() -> None:
@@ -162,7 +186,7 @@ def other_threads() -> None:
 
 def names_of_the_client() -> None:
     """Each method of the client on rows and views has here the same parameters, with the same defaults."""
-    for name in ("get", "put", "remove", "range", "scan", "tidy", "build", "view", "drop", "close"):
+    for name in ("get", "put", "put_if", "remove", "range", "scan", "tidy", "build", "view", "drop", "close"):
         client = inspect.signature(getattr(rowanspan.Index, name))
         assert inspect.signature(getattr(Index, name)) == client, name
     for name in ("Row", "Page", "Tidied", "AnyRow", "Equals", "AtLeast", "Range", "Prefix"):
@@ -191,7 +215,13 @@ def random_calls() -> None:
         view = index.build(Prefix(b"a", AtLeast(1, 100)))
         for _ in range(20000):
             what, key = chance.randrange(10), a_key()
-            if what < 4:
+            if what < 1:
+                version = plain[key].version if key in plain else 0
+                assert found_by_put_if(index, key, version + 1) == version
+                commits += 1
+                assert index.put_if(key, b"if", version) == commits
+                plain[key] = Row(commits, (b"if", plain[key].columns[1] if key in plain else b""))
+            elif what < 4:
                 sets = {column: chance.randbytes(chance.randrange(5)) for column in chance.sample((0, 1), chance.randrange(3))}
                 commits += 1
                 assert index.put(key, sets) == commits
@@ -228,7 +258,7 @@ def memory_is_flat() -> None:
     assert int(grown) < 4096, f"{grown.strip()} KiB more after a thousand times"
 
 
-CASES = (rows, columns, views, views_by_hand, feeds, scans_and_large_answers, epochs, closed, other_threads,
+CASES = (rows, columns, conditional_puts, views, views_by_hand, feeds, scans_and_large_answers, epochs, closed, other_threads,
          names_of_the_client, random_calls, memory_is_flat)
 
 

@@ -10,8 +10,9 @@ import re
 from dataclasses import dataclass
 from typing import Any, Callable, Dict, List, Optional, Sequence, Tuple
 
-from rowanspan import (AnyRow, AtLeast, Build, Equals, Get, GetRange, Outcome, Page, Pairs, Prefix, Put, Query, Range,
-                       Refused, Remove, Reply, Row, RowTest, Tidied, Tidy, ViewDrop, ViewRead, ViewSpec, set_pairs)
+from rowanspan import (AnyRow, AtLeast, Build, Equals, Get, GetRange, Outcome, Page, Pairs, Prefix, Put, PutIf, Query,
+                       Range, Refused, Remove, Reply, Row, RowTest, Tidied, Tidy, ViewDrop, ViewRead, ViewSpec,
+                       set_pairs)
 
 BYTE, WORD, LONG = 2 ** 8 - 1, 2 ** 16 - 1, 2 ** 64 - 1
 TIDY_NAMES = {Tidied.NOTHING: "none", Tidied.EMPTY_BORDER: "a", Tidied.LONE_CHILD: "b", Tidied.LONE_ROOT_CHILD: "c",
@@ -126,6 +127,7 @@ def read_spec(words: Sequence[str], notation: Notation) -> ViewSpec:
 READERS: Dict[Tuple[str, int], Callable[[List[str], Notation], Query[Any]]] = {
     ("get", 3): lambda words, by: Get(by.read(words[1]), read_columns(words[2])),
     ("put", 3): lambda words, by: Put(by.read(words[1]), read_sets(words[2], by)),
+    ("putif", 4): lambda words, by: PutIf(by.read(words[1]), read_sets(words[3], by), read_number(words[2], LONG)),
     ("remove", 2): lambda words, by: Remove(by.read(words[1])),
     ("range", 4): lambda words, by: GetRange(by.read(words[1]), read_number(words[2], WORD), read_columns(words[3])),
     ("tidy", 2): lambda words, by: Tidy(by.read(words[1])),
@@ -173,7 +175,7 @@ def answer_text(query: Query[Any], value: Any, notation: Notation) -> str:
         return f"rows {pairs_text(value, notation)}"
     if isinstance(query, Tidy):
         return f"tidied {TIDY_NAMES[value]}"
-    return f"{ {Put: 'put', Remove: 'removed', Build: 'built'}[type(query)] } {value}"
+    return f"{ {Put: 'put', PutIf: 'put', Remove: 'removed', Build: 'built'}[type(query)] } {value}"
 
 
 def outcome_line(query: Query[Any], outcome: Outcome, notation: Notation) -> str:
@@ -211,11 +213,13 @@ def spec_text(spec: ViewSpec) -> str:
 
 
 def request_text(query: Query[Any]) -> str:
-    """A get, put, remove or range as the words of a line."""
+    """A get, put, conditional put, remove or range as the words of a line."""
     if isinstance(query, Get):
         return f"get {HEX.write(query.key)} {columns_text(query.columns)}"
     if isinstance(query, Put):
         return f"put {HEX.write(query.key)} {sets_text(set_pairs(query.sets))}"
+    if isinstance(query, PutIf):
+        return f"putif {HEX.write(query.key)} {query.version} {sets_text(set_pairs(query.sets))}"
     if isinstance(query, Remove):
         return f"remove {HEX.write(query.key)}"
     if isinstance(query, GetRange):
@@ -224,7 +228,7 @@ def request_text(query: Query[Any]) -> str:
 
 
 def receipt_line(query: Query[Any], reply: Reply[Any]) -> str:
-    """The receipt of a get, put, remove or range."""
+    """The receipt of a get, put, conditional put, remove or range."""
     return f"receipt {reply.from_} {reply.to} {request_text(query)} => {answer_text(query, reply.value, HEX)}"
 
 

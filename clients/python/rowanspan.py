@@ -3,6 +3,7 @@
     with Index(7070) as index:
         commit = index.put(b"apple", b"red")      # plain bytes are column 0
         row = index.get(b"apple")                 # Row(version=commit, columns=(b"red",)), or None
+        index.put_if(b"apple", b"green", commit)  # only where the row is of this version still; 0: where there is none
         for key, row in index.scan(b"a"):
             print(key, row.columns)
 
@@ -18,11 +19,9 @@ import enum
 import socket
 import struct
 from dataclasses import dataclass
-from types import TracebackType
 from typing import (Any, Callable, ClassVar, Dict, Generic, Iterator, List, Mapping, NewType, Optional, Sequence, Tuple,
                     Type, TypeVar, Union)
 
-WIRE_VERSION = 1
 MAX_QUERIES = 64
 MAX_REQUEST_BODY = 262_144
 MAX_REPLY_BODY = 134_217_727
@@ -58,8 +57,9 @@ class Unanswered(RowanspanError):
 class Refused(RowanspanError):
     """The server refused a query: it changed no row, no commit and no view.
 
-    `number` is that of the cause, as docs/WIRE.md lists them. `detail` is the number of commits that goes with it: for
-    `FeedFull` from which commit on the log is held, for `Behind` where the view stands; else None.
+    `number` is that of the cause, as docs/WIRE.md lists them. `detail` is the number of a commit that goes with it: for
+    `FeedFull` from which commit on the log is held, for `Behind` where the view stands, for `OtherVersion` the version
+    that the row has (0: there is no row); else None.
     """
 
     number: ClassVar[int] = 0
@@ -131,9 +131,11 @@ class WrongPass(Refused):
     number, cause = 15, "this is another pass"
 
 
-REFUSALS: Dict[int, Type[Refused]] = {kind.number: kind for kind in (
-    NoMemory, KeyTooLong, BadColumn, ColumnTooLong, BadLimit, ArenaFull, FeedFull, TooManyCalls, NoSuchCall,
-    TooManyViews, NoSuchView, Behind, BadRange, Spent, WrongPass)}
+class OtherVersion(Refused):
+    number, has_detail, cause = 16, True, "the row isn't of the version that was asked, but of this one"
+
+
+REFUSALS: Dict[int, Type[Refused]] = {kind.number: kind for kind in Refused.__subclasses__()}
 
 
 # ---- values
@@ -338,12 +340,12 @@ Answers = Mapping[AnswerKind, Callable[[Reader], Value]]
 
 
 class Query(Generic[Value]):
-    """What a client asks: its bytes, and how its answers are read."""
+    """What a client asks: its bytes, how its answers are read, and since which version the wire has it."""
+
+    since: ClassVar[int] = 1
+    answers: ClassVar[Answers[Any]] = {}
 
     def spelled(self) -> bytes:
-        raise NotImplementedError
-
-    def answers(self) -> Answers[Value]:
         raise NotImplementedError
 
 
@@ -357,53 +359,68 @@ def set_pairs(sets: Sets) -> List[Tuple[int, bytes]]:
     return list(sets.items()) if isinstance(sets, Mapping) else list(sets)
 
 
+def spelled_sets(sets: Sets) -> bytes:
+    """The columns that a put sets: one byte that counts them, then each number and its bytes."""
+    pairs = set_pairs(sets)
+    columns = b"".join(spelled_number(column, 1) + spelled_bytes(value) for column, value in pairs)
+    return spelled_number(len(pairs), 1) + columns
+
+
 @dataclass(frozen=True)
 class Get(Query[Optional[Row]]):
     """The row of a key, or None. No columns means all of them."""
 
+    answers: ClassVar[Answers[Optional[Row]]] = {AnswerKind.ABSENT: Reader.nothing, AnswerKind.ROW: Reader.row}
     key: bytes
     columns: Sequence[int] = ()
 
     def spelled(self) -> bytes:
         return b"\1" + spelled_key(self.key) + spelled_columns(self.columns)
 
-    def answers(self) -> Answers[Optional[Row]]:
-        return {AnswerKind.ABSENT: Reader.nothing, AnswerKind.ROW: Reader.row}
-
 
 @dataclass(frozen=True)
 class Put(Query[int]):
     """Sets columns of a key's row; gives the number of the commit."""
 
+    answers: ClassVar[Answers[int]] = {AnswerKind.COMMITTED: Reader.commit}
     key: bytes
     sets: Sets
 
     def spelled(self) -> bytes:
-        pairs = set_pairs(self.sets)
-        columns = b"".join(spelled_number(column, 1) + spelled_bytes(value) for column, value in pairs)
-        return b"\2" + spelled_key(self.key) + spelled_number(len(pairs), 1) + columns
+        return b"\2" + spelled_key(self.key) + spelled_sets(self.sets)
 
-    def answers(self) -> Answers[int]:
-        return {AnswerKind.COMMITTED: Reader.commit}
+
+@dataclass(frozen=True)
+class PutIf(Query[int]):
+    """A put that is made only where the key's row is of this version (0: where there is no row); gives the number of
+    the commit. Else it is refused as `OtherVersion`."""
+
+    answers: ClassVar[Answers[int]] = {AnswerKind.COMMITTED: Reader.commit}
+    since: ClassVar[int] = 2
+    key: bytes
+    sets: Sets
+    version: int
+
+    def spelled(self) -> bytes:
+        return b"\x09" + spelled_key(self.key) + spelled_number(self.version, 8) + spelled_sets(self.sets)
 
 
 @dataclass(frozen=True)
 class Remove(Query[Optional[int]]):
     """Removes a key's row; gives the number of the commit, or None where there was no row."""
 
+    answers: ClassVar[Answers[Optional[int]]] = {AnswerKind.ABSENT: Reader.nothing, AnswerKind.COMMITTED: Reader.commit}
     key: bytes
 
     def spelled(self) -> bytes:
         return b"\3" + spelled_key(self.key)
-
-    def answers(self) -> Answers[Optional[int]]:
-        return {AnswerKind.ABSENT: Reader.nothing, AnswerKind.COMMITTED: Reader.commit}
 
 
 @dataclass(frozen=True)
 class GetRange(Query[Pairs]):
     """The first rows from a key on, in the order of their keys. No columns means all of them."""
 
+    answers: ClassVar[Answers[Pairs]] = {AnswerKind.ROWS: Reader.pairs}
     start: bytes = b""
     limit: int = MAX_LIMIT
     columns: Sequence[int] = ()
@@ -411,40 +428,34 @@ class GetRange(Query[Pairs]):
     def spelled(self) -> bytes:
         return b"\4" + spelled_key(self.start) + spelled_number(self.limit, 2) + spelled_columns(self.columns)
 
-    def answers(self) -> Answers[Pairs]:
-        return {AnswerKind.ROWS: Reader.pairs}
-
 
 @dataclass(frozen=True)
 class Tidy(Query[Tidied]):
     """Takes out at most one node that is no longer wanted, near the place of a key."""
 
+    answers: ClassVar[Answers[Tidied]] = {AnswerKind.TIDIED: Reader.tidied}
     key: bytes
 
     def spelled(self) -> bytes:
         return b"\5" + spelled_key(self.key)
-
-    def answers(self) -> Answers[Tidied]:
-        return {AnswerKind.TIDIED: Reader.tidied}
 
 
 @dataclass(frozen=True)
 class Build(Query[ViewNo]):
     """Builds a view; gives its number."""
 
+    answers: ClassVar[Answers[ViewNo]] = {AnswerKind.BUILT: Reader.view_number}
     spec: ViewSpec
 
     def spelled(self) -> bytes:
         return b"\6" + self.spec.spelled()
-
-    def answers(self) -> Answers[ViewNo]:
-        return {AnswerKind.BUILT: Reader.view_number}
 
 
 @dataclass(frozen=True)
 class ViewRead(Query[Page]):
     """A page of a view that stands at `floor` commits at least."""
 
+    answers: ClassVar[Answers[Page]] = {AnswerKind.VIEW: Reader.page}
     view: int
     floor: int = 0
     start: bytes = b""
@@ -454,21 +465,16 @@ class ViewRead(Query[Page]):
         return (b"\7" + spelled_number(self.view, 8) + spelled_number(self.floor, 8) + spelled_key(self.start)
                 + spelled_number(self.limit, 2))
 
-    def answers(self) -> Answers[Page]:
-        return {AnswerKind.VIEW: Reader.page}
-
 
 @dataclass(frozen=True)
 class ViewDrop(Query[None]):
     """Ends a view."""
 
+    answers: ClassVar[Answers[None]] = {AnswerKind.DROPPED: Reader.nothing}
     view: int
 
     def spelled(self) -> bytes:
         return b"\x08" + spelled_number(self.view, 8)
-
-    def answers(self) -> Answers[None]:
-        return {AnswerKind.DROPPED: Reader.nothing}
 
 
 # ---- frames
@@ -486,11 +492,17 @@ class Reply(Generic[Value]):
 Outcome = Union[Reply[Any], Refused]
 
 
-def request_frame(messages: Sequence[bytes]) -> bytes:
-    """The frame of queries that are spelled already."""
+def frame_version(queries: Sequence[Query[Any]]) -> int:
+    """The version of a frame of these queries, and of the reply to it: the first that has them all, which servers that
+    know no later one answer too."""
+    return max((query.since for query in queries), default=1)
+
+
+def request_frame(messages: Sequence[bytes], version: int = 1) -> bytes:
+    """The frame of queries that are spelled already, in this version."""
     if not 1 <= len(messages) <= MAX_QUERIES:
         raise TooLong(f"a frame has 1 to {MAX_QUERIES} queries, not {len(messages)}")
-    body = bytes((WIRE_VERSION, len(messages))) + b"".join(messages)
+    body = bytes((version, len(messages))) + b"".join(messages)
     if len(body) > MAX_REQUEST_BODY:
         raise TooLong(f"the queries take {len(body)} bytes, and a frame has {MAX_REQUEST_BODY}")
     return spelled_number(len(body), 4) + body
@@ -510,7 +522,7 @@ def read_outcome(reader: Reader, query: Query[Any]) -> Outcome:
     kind = AnswerKind(reader.number(1))
     if kind is AnswerKind.REFUSED:
         return read_refusal(reader)
-    read = query.answers().get(kind)
+    read = query.answers.get(kind)
     if read is None:
         raise ValueError(f"{kind.name} answers no {type(query).__name__}")
     if not kind.has_span():
@@ -524,7 +536,7 @@ def read_replies(body: bytes, queries: Sequence[Query[Any]]) -> List[Outcome]:
     try:
         reader = Reader(body)
         version, count = reader.number(1), reader.number(1)
-        if version != WIRE_VERSION or count != len(queries):
+        if version != frame_version(queries) or count != len(queries):
             raise ValueError(f"{count} answers in version {version} came to {len(queries)} queries")
         outcomes = [read_outcome(reader, query) for query in queries]
         if not reader.is_at_end():
@@ -587,8 +599,7 @@ class Index:
     def __enter__(self) -> Index:
         return self
 
-    def __exit__(self, kind: Optional[Type[BaseException]], fault: Optional[BaseException],
-                 trace: Optional[TracebackType]) -> None:
+    def __exit__(self, *_: object) -> None:
         self.close()
 
     def close(self) -> None:
@@ -609,11 +620,11 @@ class Index:
     def call_all(self, queries: Sequence[Query[Any]]) -> List[Outcome]:
         """Asks 1 to 64 queries in one frame, which the server does one after another. Gives for each its reply, or the
         `Refused` that it met, not raised."""
-        return self.exchange(queries, request_frame([query.spelled() for query in queries]))
+        return self.exchange(queries, [query.spelled() for query in queries])
 
-    def exchange(self, queries: Sequence[Query[Any]], frame: bytes) -> List[Outcome]:
-        """Sends a frame of these queries, and reads the answers to them."""
-        connection = self._connection
+    def exchange(self, queries: Sequence[Query[Any]], messages: Sequence[bytes]) -> List[Outcome]:
+        """Sends a frame of these queries, which are spelled as these messages, and reads the answers to them."""
+        connection, frame = self._connection, request_frame(messages, frame_version(queries))
         if connection is None:
             raise ConnectionLost("the connection is closed")
         try:
@@ -641,6 +652,25 @@ class Index:
         """Sets columns of a key's row, by their numbers; plain bytes are column 0. The others stay as they were; those
         of a new row are empty. Gives the number of the commit."""
         return self.call(Put(key, sets)).value
+
+    def put_if(self, key: bytes, sets: Sets, version: int) -> int:
+        """Sets columns as `put` does, but only where the key's row is of this version (0: where there is no row). Gives
+        the number of the commit, the row's version then. Else raises `OtherVersion`, whose detail is its version."""
+        return self.call(PutIf(key, sets, version)).value
+
+    def update(self, key: bytes, change: Callable[[Optional[Row]], Optional[Sets]]) -> Optional[int]:
+        """Changes a key's row by what it is: `change` is given the row (None: there is none), and gives the columns to
+        set (None: none, and nothing is put). It is called anew where another client has changed the row meanwhile,
+        without a bound: so let it do nothing else. Gives the number of the commit, or None where nothing was put."""
+        while True:
+            row = self.get(key)
+            sets = change(row)
+            if sets is None:
+                return None
+            try:
+                return self.put_if(key, sets, row.version if row else 0)
+            except OtherVersion:
+                pass
 
     def remove(self, key: bytes) -> Optional[int]:
         """Removes a key's row. Gives the number of the commit, or None where there was no row."""
@@ -738,8 +768,7 @@ class Pipeline:
     def __enter__(self) -> Pipeline:
         return self
 
-    def __exit__(self, kind: Optional[Type[BaseException]], fault: Optional[BaseException],
-                 trace: Optional[TracebackType]) -> None:
+    def __exit__(self, kind: Optional[Type[BaseException]], *_: object) -> None:
         if kind is None:
             self.send()
 
@@ -763,7 +792,7 @@ class Pipeline:
         self._clear()
         if not queries:
             return []
-        outcomes = self._index.exchange(queries, request_frame(messages))
+        outcomes = self._index.exchange(queries, messages)
         for one, outcome in zip(pending, outcomes):
             one.settle(outcome)
         return [outcome if isinstance(outcome, Refused) else outcome.value for outcome in outcomes]

@@ -13,9 +13,9 @@ from types import TracebackType
 from typing import Any, Callable, Dict, List, Optional, Sequence, Tuple, Type
 
 import rowanspan as wire
-from rowanspan import (AnswerKind, AnyRow, AtLeast, Equals, Get, GetRange, Page, Pairs, Prefix, Put, Query, Range,
-                       Reader, Refused, Remove, Row, RowTest, Tidied, Tidy, ViewDrop, ViewRead, ViewSpec, set_pairs,
-                       spelled_bytes, spelled_key, spelled_number)
+from rowanspan import (AnswerKind, AnyRow, AtLeast, Equals, Get, GetRange, Page, Pairs, Prefix, Put, PutIf, Query,
+                       Range, Reader, Refused, Remove, Row, RowTest, Tidied, Tidy, ViewDrop, ViewRead, ViewSpec,
+                       set_pairs, spelled_bytes, spelled_key, spelled_number)
 
 READ_FAILED, WRITE_FAILED, CUT, BAD_LENGTH, BAD_VERSION, BAD_BODY = 1, 2, 3, 4, 5, 6
 MAX_COLUMN_BYTES = 64
@@ -67,6 +67,11 @@ def read_sets(reader: Reader) -> List[Tuple[int, bytes]]:
     return [(reader.number(1), reader.short()) for _ in range(reader.number(1))]
 
 
+def read_put_if(reader: Reader) -> PutIf:
+    key, version = reader.key(), reader.number(8)
+    return PutIf(key, read_sets(reader), version)
+
+
 READERS: Dict[int, Callable[[Reader], Query[Any]]] = {
     1: lambda reader: Get(reader.key(), read_columns(reader)),
     2: lambda reader: Put(reader.key(), read_sets(reader)),
@@ -76,24 +81,29 @@ READERS: Dict[int, Callable[[Reader], Query[Any]]] = {
     6: lambda reader: wire.Build(read_spec(reader)),
     7: lambda reader: ViewRead(reader.number(8), reader.number(8), reader.key(), reader.number(2)),
     8: lambda reader: ViewDrop(reader.number(8)),
+    9: read_put_if,
 }
 
 
-def read_query(reader: Reader) -> Query[Any]:
+def read_query(reader: Reader, version: int) -> Query[Any]:
     read = READERS.get(reader.number(1))
     if read is None:
         raise ValueError("this is no query")
-    return read(reader)
+    query = read(reader)
+    if query.since > version:
+        raise ValueError("this version has no such query")
+    return query
 
 
 def read_queries(body: bytes) -> List[Query[Any]]:
     """The queries of a body; raises `SessionFault`."""
     reader = Reader(body)
-    if reader.number(1) != wire.WIRE_VERSION:
+    version = reader.number(1)
+    if version not in (1, 2):
         raise SessionFault(BAD_VERSION)
     try:
         count = reader.number(1)
-        queries = [read_query(reader) for _ in range(count)]
+        queries = [read_query(reader, version) for _ in range(count)]
     except ValueError as fault:
         raise SessionFault(BAD_BODY) from fault
     if not 1 <= count <= wire.MAX_QUERIES or not reader.is_at_end():
@@ -126,8 +136,8 @@ def spelled_done(kind: AnswerKind, from_: int, to: int, rest: bytes) -> bytes:
     return spelled_number(kind, 1) + spelled_number(from_, 8) + spelled_number(to, 8) + rest
 
 
-def reply_frame(answers: Sequence[bytes]) -> bytes:
-    body = bytes((wire.WIRE_VERSION, len(answers))) + b"".join(answers)
+def reply_frame(answers: Sequence[bytes], version: int = 1) -> bytes:
+    body = bytes((version, len(answers))) + b"".join(answers)
     return spelled_number(len(body), 4) + body
 
 
@@ -177,7 +187,9 @@ class PlainIndex:
         if isinstance(query, Get):
             return self._get(query)
         if isinstance(query, Put):
-            return self._put(query)
+            return self._put(query.key, set_pairs(query.sets))
+        if isinstance(query, PutIf):
+            return self._put_if(query)
         if isinstance(query, Remove):
             return self._remove(query)
         if isinstance(query, GetRange):
@@ -216,6 +228,12 @@ class PlainIndex:
         if len(value) > MAX_COLUMN_BYTES:
             raise wire.ColumnTooLong()
 
+    def _check_sets(self, key: bytes, sets: List[Tuple[int, bytes]]) -> None:
+        self._check_key(key)
+        self._check_columns([column for column, _ in sets])
+        for _, value in sets:
+            self._check_bytes(value)
+
     def _check_limit(self, limit: int) -> None:
         if not 1 <= limit <= wire.MAX_LIMIT:
             raise wire.BadLimit()
@@ -244,19 +262,24 @@ class PlainIndex:
             return self._done(AnswerKind.ABSENT, self.commits)
         return self._done(AnswerKind.ROW, self.commits, spelled_row(shown(row, query.columns)))
 
-    def _put(self, query: Put) -> bytes:
-        sets = set_pairs(query.sets)
-        self._check_key(query.key)
-        self._check_columns([column for column, _ in sets])
-        for _, value in sets:
-            self._check_bytes(value)
-        before = self._rows.get(query.key)
+    def _put(self, key: bytes, sets: List[Tuple[int, bytes]]) -> bytes:
+        self._check_sets(key, sets)
+        before = self._rows.get(key)
         columns = list(before.columns) if before else [b""] * self._columns
         for column, value in sets:
             columns[column] = value
         commit = self._commit()
-        self._rows[query.key] = Row(commit, tuple(columns))
+        self._rows[key] = Row(commit, tuple(columns))
         return self._done(AnswerKind.COMMITTED, commit - 1, spelled_number(commit, 8))
+
+    def _put_if(self, query: PutIf) -> bytes:
+        sets = set_pairs(query.sets)
+        self._check_sets(query.key, sets)
+        before = self._rows.get(query.key)
+        found = before.version if before else 0
+        if found != query.version:
+            raise wire.OtherVersion(found)
+        return self._put(query.key, sets)
 
     def _remove(self, query: Remove) -> bytes:
         self._check_key(query.key)
@@ -328,7 +351,7 @@ def serve(connection: socket.socket, index: PlainIndex) -> None:
     """Answers the frames of a connection, to its end; raises `SessionFault`."""
     body = next_body(connection)
     while body is not None:
-        frame = reply_frame([index.answer(query) for query in read_queries(body)])
+        frame = reply_frame([index.answer(query) for query in read_queries(body)], body[0])
         try:
             connection.sendall(frame)
         except OSError as fault:

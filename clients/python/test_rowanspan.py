@@ -11,15 +11,15 @@ import textwrap
 import threading
 import unittest
 from pathlib import Path
-from typing import Any, Dict, List, Sequence, Tuple
+from typing import Any, Dict, List, Optional, Sequence, Tuple
 
 import rowanspan
 import stand_in
 from rowan_text import HEX, TEXT, BadLine, outcome_line, page_receipt_line, read_query, receipt_line, spec_text
 from rowanspan import (MAX_KEY_BYTES, AnswerKind, AnyRow, AtLeast, BadReply, Behind, Build, ConnectionLost, Equals,
-                       FeedFull, Get, GetRange, Index, NoSuchView, Page, Prefix, Put, Query, Range, Refused, Remove,
-                       Reply, Row, Tidied, Tidy, TooLong, Unanswered, ViewDrop, ViewRead, key_after, read_replies,
-                       request_frame)
+                       FeedFull, Get, GetRange, Index, NoSuchView, OtherVersion, Page, Prefix, Put, PutIf, Query, Range,
+                       Refused, Remove, Reply, Row, Tidied, Tidy, TooLong, Unanswered, ViewDrop, ViewRead,
+                       frame_version, key_after, read_replies, request_frame)
 from stand_in import Options, PlainIndex, StandIn, read_queries, reply_frame, spelled_done
 from wire_page import worked_bytes
 
@@ -43,6 +43,7 @@ SPELLINGS: List[Tuple[Query[Any], str]] = [
     (Build(Prefix(b"a", AtLeast(2, 5))), "06 01 0001 61 02 02 0000000000000005"),
     (ViewRead(258, 1, b"a", 10), "07 0000000000000102 0000000000000001 0001 61 000a"),
     (ViewDrop(1), "08 0000000000000001"),
+    (PutIf(b"a", b"v", 258), "09 0001 61 0000000000000102 01 00 01 76"),
 ]
 
 # one of each answer: what asks, its bytes, and what is read
@@ -61,6 +62,7 @@ ANSWERS: List[Tuple[Query[Any], str, Reply[Any]]] = [
     (ViewRead(7), f"07 0000000000000003 0000000000000001 02 {1:032x} {2 ** 64:032x} 0001 {PAIR}",
      Reply(Page(3, 1, (1, 2 ** 64), [(b"a", ROW)]))),
     (ViewDrop(7), "08", Reply(None)),
+    (PutIf(b"a", b"v", 0), f"03 {SPAN} 0000000000000002", Reply(2, 1, 258)),
 ]
 
 # bytes that are no answer to a get
@@ -71,14 +73,14 @@ BAD_ANSWERS: Dict[str, str] = {
     "a cut span": "01 00",
     "bytes left over": f"01 {SPAN} 00",
     "a column beyond the end": f"02 {SPAN} 0000000000000102 01 05 76",
-    "no such refusal": "00 10 0000000000000000",
+    "no such refusal": "00 11 0000000000000000",
     "a detail that the refusal has not": "00 05 0000000000000001",
 }
 
 
-def framed(answers: Sequence[str]) -> bytes:
+def framed(answers: Sequence[str], version: int = 1) -> bytes:
     """The frame of these answers, in hex."""
-    return reply_frame([bytes.fromhex(answer) for answer in answers])
+    return reply_frame([bytes.fromhex(answer) for answer in answers], version)
 
 
 class Canned:
@@ -109,27 +111,33 @@ class Canned:
         self._listener.close()
 
 
-def body_of(answer: str) -> bytes:
-    return framed([answer])[4:]
+def body_of(answer: str, version: int = 1) -> bytes:
+    return framed([answer], version)[4:]
+
+
+def frame_of(queries: Sequence[Query[Any]]) -> bytes:
+    return request_frame([query.spelled() for query in queries], frame_version(queries))
 
 
 class WorkedBytesTest(unittest.TestCase):
     def test_requests_both_ways(self) -> None:
-        for exchange in worked_bytes().exchanges:
+        for exchange in worked_bytes().exchanges + worked_bytes().second_version:
             queries = read_queries(exchange.request[4:])
-            self.assertEqual(request_frame([query.spelled() for query in queries]), exchange.request)
+            self.assertEqual(frame_of(queries), exchange.request)
 
     def test_replies_both_ways(self) -> None:
-        index = PlainIndex(1)
-        for exchange in worked_bytes().exchanges:
-            queries = read_queries(exchange.request[4:])
-            self.assertEqual(reply_frame([index.answer(query) for query in queries]), exchange.reply)
-            self.assertEqual(len(read_replies(exchange.reply[4:], queries)), len(queries))
+        for session in (worked_bytes().exchanges, worked_bytes().second_version):
+            index = PlainIndex(1)
+            for exchange in session:
+                queries = read_queries(exchange.request[4:])
+                answers = [index.answer(query) for query in queries]
+                self.assertEqual(reply_frame(answers, frame_version(queries)), exchange.reply)
+                self.assertEqual(len(read_replies(exchange.reply[4:], queries)), len(queries))
 
     def test_what_the_first_session_says(self) -> None:
         queries: List[Query[Any]] = [Put(b"a", b"v"), Get(b"a")]
         first = worked_bytes().exchanges[0]
-        self.assertEqual(request_frame([query.spelled() for query in queries]), first.request)
+        self.assertEqual(frame_of(queries), first.request)
         self.assertEqual(read_replies(first.reply[4:], queries), [Reply(1, 0, 1), Reply(Row(1, (b"v",)), 1, 1)])
 
     def test_bad_frames(self) -> None:
@@ -145,14 +153,14 @@ class SpellingTest(unittest.TestCase):
         for query, spelling in SPELLINGS:
             with self.subTest(query=query):
                 self.assertEqual(query.spelled(), bytes.fromhex(spelling))
-                (back,) = read_queries(b"\1\1" + query.spelled())
+                (back,) = read_queries(bytes((query.since, 1)) + query.spelled())
                 self.assertEqual(back.spelled(), query.spelled())
                 self.assertIs(type(back), type(query))
 
     def test_each_answer(self) -> None:
         for query, spelling, reply in ANSWERS:
             with self.subTest(spelling=spelling):
-                self.assertEqual(read_replies(body_of(spelling), [query]), [reply])
+                self.assertEqual(read_replies(body_of(spelling, query.since), [query]), [reply])
 
     def test_answers_as_the_stand_in_writes_them(self) -> None:
         self.assertEqual(spelled_done(AnswerKind.ABSENT, 1, 258, b""), bytes.fromhex(ANSWERS[0][1]))
@@ -165,14 +173,24 @@ class SpellingTest(unittest.TestCase):
             (refused,) = read_replies(body_of(f"00 {number:02x} {detail or 0:016x}"), [Get(b"a")])
             assert isinstance(refused, Refused)
             self.assertEqual((type(refused), refused.number, refused.detail), (kind, number, detail))
-        self.assertEqual(sorted(rowanspan.REFUSALS), list(range(1, 16)))
-        self.assertEqual([kind for kind in rowanspan.REFUSALS.values() if kind.has_detail], [FeedFull, Behind])
+        self.assertEqual(sorted(rowanspan.REFUSALS), list(range(1, 17)))
+        with_detail = [kind for kind in rowanspan.REFUSALS.values() if kind.has_detail]
+        self.assertEqual(with_detail, [FeedFull, Behind, OtherVersion])
+
+    def test_versions(self) -> None:
+        put, put_if = Put(b"a", b"v"), PutIf(b"a", b"v", 0)
+        self.assertEqual((frame_of([put])[4], frame_of([put, put_if])[4]), (1, 2))
+        answer = ANSWERS[2][1]
+        with self.assertRaises(BadReply):
+            read_replies(body_of(answer, 2), [put])
+        with self.assertRaises(BadReply):
+            read_replies(body_of(answer, 1), [put_if])
 
     def test_what_does_not_fit(self) -> None:
         unfit: List[Query[Any]] = [
             Get(bytes(65_536)), Get(b"a", [256]), Get(b"a", [-1]), Get(b"a", [0] * 256), Put(b"a", bytes(256)),
             Put(b"a", [(0, b"")] * 256), GetRange(b"", 65_536), GetRange(b"", -1), ViewRead(2 ** 64), ViewDrop(-1),
-            Build(Prefix(b"", AtLeast(0, 2 ** 64)))]
+            Build(Prefix(b"", AtLeast(0, 2 ** 64))), PutIf(b"a", b"v", 2 ** 64)]
         for query in unfit:
             with self.subTest(query=type(query)), self.assertRaises(TooLong):
                 query.spelled()
@@ -286,6 +304,36 @@ class CallTest(unittest.TestCase):
         self.assertEqual(self.index.tidy(b"a"), Tidied.NOTHING)
         self.assertEqual(self.index.call(Get(b"a")), Reply(None, 4, 4))
         self.assertEqual(self.index.call(Put(b"a", b"v")), Reply(5, 4, 5))
+
+    def test_conditional_puts(self) -> None:
+        self.assertEqual(self.index.put_if(b"a", b"v", 0), 1)
+        self.assertEqual(self.index.put_if(b"a", {1: b"w"}, 1), 2)
+        for wrong in (0, 1, 3):
+            with self.assertRaises(OtherVersion) as met:
+                self.index.put_if(b"a", b"x", wrong)
+            self.assertEqual((met.exception.number, met.exception.detail), (16, 2))
+        with self.assertRaises(OtherVersion) as met:
+            self.index.put_if(b"b", b"x", 1)
+        self.assertEqual(met.exception.detail, 0)
+        self.assertEqual(self.index.range(), [(b"a", Row(2, (b"v", b"w")))])
+        with self.index.pipeline() as pipeline:
+            commit, row = pipeline.add(PutIf(b"b", b"x", 0)), pipeline.add(Get(b"b", [0]))
+        self.assertEqual((commit.value, row.value), (3, Row(3, (b"x",))))
+
+    def test_update(self) -> None:
+        seen: List[Optional[Row]] = []
+
+        def change(row: Optional[Row]) -> Optional[bytes]:
+            seen.append(row)
+            if len(seen) == 1:
+                self.server.index.answer(Put(b"a", {1: b"w"}))
+            return b"x"
+
+        self.assertEqual(self.index.update(b"a", change), 2)
+        self.assertEqual(seen, [None, Row(1, (b"", b"w"))])
+        self.assertEqual(self.index.get(b"a"), Row(2, (b"x", b"w")))
+        self.assertIsNone(self.index.update(b"a", lambda row: None))
+        self.assertEqual(self.server.index.commits, 2)
 
     def test_views(self) -> None:
         view = self.index.build(Prefix(b"a", AtLeast(0, 5)))
@@ -401,7 +449,8 @@ class PipelineTest(unittest.TestCase):
 class TextTest(unittest.TestCase):
     BAD = ["", "get", "get 61", "get 61  all", " get 61 all", "get 61 all ", "GET 61 all", "get 6 all", "get 6g all",
            "get 61 1,", "get 61 256", "get 61 -1", "get 61 ", "put 61", "put 61 0", "put 61 0=", "put 61 0=7",
-           "put 61 0=76,", "put 61 256=76", "range - 65536 all", "range - +1 all", "range - \u0661 all", "remove",
+           "put 61 0=76,", "put 61 256=76", "putif 61 0", "putif 61 -1 -", "putif 61 18446744073709551616 -",
+           "putif 61 0=76 0", "range - 65536 all", "range - +1 all", "range - \u0661 all", "remove",
            "remove 61 61", "build", "build range - none", "build range - none any any", "build prefix 61 equals 0",
            "build prefix 61 atleast 0 18446744073709551616", "view 1 0 -", "view 1 0 - 65536", "drop", "drop x",
            "get 61 all\r", "step 1", "view " + "9" * 5000 + " 0 - 1"]
@@ -414,7 +463,8 @@ class TextTest(unittest.TestCase):
     def test_lines(self) -> None:
         lines: List[Tuple[str, Query[Any]]] = [
             ("get - 2,0", Get(b"", (2, 0))), ("put aB 0=-,15=00fF", Put(b"\xab", [(0, b""), (15, b"\0\xff")])),
-            ("put 61 -", Put(b"a", [])), ("range 61 007 all", GetRange(b"a", 7)), ("remove 61", Remove(b"a")),
+            ("put 61 -", Put(b"a", [])), ("putif 61 007 0=76", PutIf(b"a", [(0, b"v")], 7)),
+            ("range 61 007 all", GetRange(b"a", 7)), ("remove 61", Remove(b"a")),
             ("tidy -", Tidy(b"")), ("drop 18446744073709551615", ViewDrop(2 ** 64 - 1)),
             ("view 1 2 61 3", ViewRead(1, 2, b"a", 3)), ("build range - none any", Build(Range())),
             ("build range 61 62 equals 1 -", Build(Range(b"a", b"b", Equals(1, b"")))),
@@ -429,7 +479,10 @@ class TextTest(unittest.TestCase):
         rows = [(b"a", ROW), (b"", Row(3, (b"\xab",)))]
         lines: List[Tuple[Query[Any], Any, str]] = [
             (Get(b"a"), Reply(None, 1, 2), "done 1 2 absent"), (Get(b"a"), Reply(ROW, 1, 2), "done 1 2 row 258 76,-"),
-            (Put(b"a", b"v"), Reply(2, 1, 2), "done 1 2 put 2"), (Remove(b"a"), Reply(2, 1, 2), "done 1 2 removed 2"),
+            (Put(b"a", b"v"), Reply(2, 1, 2), "done 1 2 put 2"),
+            (PutIf(b"a", b"v", 1), Reply(2, 1, 2), "done 1 2 put 2"),
+            (PutIf(b"a", b"v", 1), OtherVersion(0), "refused 16 0"),
+            (Remove(b"a"), Reply(2, 1, 2), "done 1 2 removed 2"),
             (GetRange(), Reply([], 1, 2), "done 1 2 rows 0"), (Remove(b"a"), Reply(None, 1, 2), "done 1 2 absent"),
             (GetRange(), Reply(rows, 1, 2), "done 1 2 rows 2 61:258:76,- -:3:ab"),
             (Tidy(b"a"), Reply(Tidied.NOTHING, 1, 2), "done 1 2 tidied none"),
@@ -444,6 +497,7 @@ class TextTest(unittest.TestCase):
 
     def test_receipts(self) -> None:
         self.assertEqual(receipt_line(Put(b"a", b"v"), Reply(1, 0, 1)), "receipt 0 1 put 61 0=76 => put 1")
+        self.assertEqual(receipt_line(PutIf(b"a", b"v", 0), Reply(1, 0, 1)), "receipt 0 1 putif 61 0 0=76 => put 1")
         self.assertEqual(receipt_line(Get(b"a"), Reply(Row(1, (b"v",)), 1, 1)), "receipt 1 1 get 61 all => row 1 76")
         self.assertEqual(page_receipt_line(Prefix(b"a"), ViewRead(1, 2, b"", 3), Page(4, 0, (0,), [])),
                          "receipt 4 4 view prefix 61 any 2 - 3 => view 4 0 0 0")
@@ -478,9 +532,10 @@ class ShellTest(unittest.TestCase):
         self.assertEqual(self.run_shell(["put", "61", "0=" + "00" * 256]), (1, "bad line\n"))
 
     def test_lines(self) -> None:
-        lines = b"put 62 0=77\nnonsense\n\n\xff\nbuild prefix - any\nview 1 2 - 10\ndrop 1\nremove 61"
-        said = "done 1 2 put 2\nbad line\nbad line\nbad line\ndone 2 2 built 1\nview 2 2 237 2 61:1:76 62:2:77\n" \
-               "dropped\ndone 2 3 removed 3\n"
+        lines = b"put 62 0=77\nputif 62 2 0=77\nputif 62 2 -\nputif 63 1 -\nnonsense\n\n\xff\nbuild prefix - any\n" \
+                b"view 1 3 - 10\ndrop 1\nremove 61"
+        said = "done 1 2 put 2\ndone 2 3 put 3\nrefused 16 3\nrefused 16 0\nbad line\nbad line\nbad line\n" \
+               "done 3 3 built 1\nview 3 2 237 2 61:1:76 62:3:77\ndropped\ndone 3 4 removed 4\n"
         self.assertEqual(self.run_shell([], lines), (1, said))
         self.assertEqual(self.run_shell([], b""), (0, ""))
 
@@ -529,7 +584,7 @@ class DocumentTest(unittest.TestCase):
             done = subprocess.run([sys.executable, "-c", example], cwd=SHELL.parent, stdout=subprocess.PIPE,
                                   timeout=SECONDS, check=True)
         self.assertEqual(done.stdout, b"Row(version=1, columns=(b'red',))\n[b'pear', b'plum']\n2\n")
-        self.assertEqual(server.index.commits, 4)
+        self.assertEqual(server.index.commits, 6)
 
     def test_the_lines_of_the_page(self) -> None:
         page = SHELL.parents[2].joinpath("docs", "SERVING.md").read_text(encoding="utf-8")
@@ -538,7 +593,7 @@ class DocumentTest(unittest.TestCase):
                 done = subprocess.run([sys.executable, str(SHELL), "-p", str(server.port), *words.split()],
                                       stdout=subprocess.PIPE, timeout=SECONDS, check=True)
                 self.assertEqual(done.stdout.decode(), said + "\n")
-            self.assertEqual(server.index.commits, 2)
+            self.assertEqual(server.index.commits, 3)
 
 
 def main() -> int:

@@ -27,21 +27,31 @@ class BadFrame:
 
 @dataclass(frozen=True)
 class WorkedBytes:
-    """What stands under 'Worked bytes': the exchanges of one session on an empty index, and the bad frames."""
+    """What stands under 'Worked bytes': the exchanges of a session on an empty index, those of a session in version 2
+    on another, and the bad frames."""
 
     exchanges: List[Exchange]
+    second_version: List[Exchange]
     bad_frames: List[BadFrame]
+
+
+def exchanges_of(part: str) -> List[Exchange]:
+    """The blocks of a part of the page, two by two."""
+    blocks = re.findall(r"(?:^    .*\n)+", part, re.M)
+    frames = [bytes.fromhex("".join(block.split())) for block in blocks]
+    if not frames or len(frames) % 2:
+        raise ValueError("the blocks of worked bytes are no pairs")
+    return [Exchange(*pair) for pair in zip(frames[::2], frames[1::2])]
 
 
 def worked_bytes(page: Path = PAGE) -> WorkedBytes:
     """The worked bytes of the page; raises ValueError where they don't stand as they are wanted."""
     part = page.read_text(encoding="utf-8").partition("\n## Worked bytes\n")[2]
-    blocks = re.findall(r"(?:^    .*\n)+", part, re.M)
-    frames = [bytes.fromhex("".join(block.split())) for block in blocks]
-    if not frames or len(frames) % 2:
-        raise ValueError("the blocks of worked bytes are no pairs")
+    first, title, second = part.partition("\n### Version 2\n")
+    if not title:
+        raise ValueError("there is no part on version 2")
     rows = re.findall(r"^\| `([0-9a-f ]+)` \| (\d+):", part, re.M)
     if not rows:
         raise ValueError("there are no bad frames")
-    exchanges = [Exchange(*pair) for pair in zip(frames[::2], frames[1::2])]
-    return WorkedBytes(exchanges, [BadFrame(bytes.fromhex(row.replace(" ", "")), int(fault)) for row, fault in rows])
+    bad_frames = [BadFrame(bytes.fromhex(row.replace(" ", "")), int(fault)) for row, fault in rows]
+    return WorkedBytes(exchanges_of(first), exchanges_of(second), bad_frames)

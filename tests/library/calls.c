@@ -32,6 +32,7 @@ static void handles(void) {
     WANT_SAME(rowanspan_close(&index), ROWANSPAN_CLOSED);
     WANT_SAME(rowanspan_put(&index, "k", 1, &set, 1, &told), ROWANSPAN_CLOSED);
     WANT_SAME(told, 0);
+    WANT_SAME(rowanspan_put_if(&index, "k", 1, &set, 1, 0, &told), ROWANSPAN_CLOSED);
     WANT_SAME(rowanspan_remove(&index, "k", 1, &told), ROWANSPAN_CLOSED);
     WANT_SAME(rowanspan_tidy(&index, "k", 1, &told), ROWANSPAN_CLOSED);
     WANT_SAME(rowanspan_get(&index, "k", 1, NULL, 0, room, 8, &told), ROWANSPAN_CLOSED);
@@ -113,6 +114,44 @@ static void columns(void) {
     ends("columns");
 }
 
+static void conditional_puts(void) {
+    struct rowanspan index = opened(2, 16, 0);
+    struct rowanspan_set set = rowanspan_set(0, "a", 1);
+    uint8_t room[64];
+    uint64_t told = 99;
+    struct rowanspan_reader reader;
+    struct rowanspan_row row;
+    begins();
+    WANT_SAME(rowanspan_put_if(&index, "k", 1, &set, 1, 1, &told), ROWANSPAN_OTHER_VERSION);
+    WANT_SAME(told, 0);
+    WANT_SAME(rowanspan_put_if(&index, "k", 1, &set, 1, 0, &told), ROWANSPAN_DONE);
+    WANT_SAME(told, 1);
+    WANT_SAME(rowanspan_put_if(&index, "k", 1, &set, 1, 0, &told), ROWANSPAN_OTHER_VERSION);
+    WANT_SAME(told, 1);
+    set = rowanspan_set(1, "b", 1);
+    WANT_SAME(rowanspan_put_if(&index, "k", 1, &set, 1, 1, &told), ROWANSPAN_DONE);
+    WANT_SAME(told, 2);
+    WANT_SAME(rowanspan_put_if(&index, "k", 1, &set, 1, UINT64_MAX, &told), ROWANSPAN_OTHER_VERSION);
+    WANT_SAME(told, 2);
+    WANT_SAME(rowanspan_put_if(&index, "k", 1, NULL, 0, 2, &told), ROWANSPAN_DONE);
+    WANT_SAME(rowanspan_get(&index, "k", 1, NULL, 0, room, sizeof room, &told), ROWANSPAN_DONE);
+    reader = rowanspan_reader(room, told);
+    row = rowanspan_read_row(&reader);
+    WANT_SAME(row.version, 3);
+    WANT(is_text(rowanspan_read_bytes(&row.columns), "a"));
+    WANT(is_text(rowanspan_read_bytes(&row.columns), "b"));
+    set = rowanspan_set(2, "c", 1);
+    WANT_SAME(rowanspan_put_if(&index, "k", 1, &set, 1, 9, &told), ROWANSPAN_BAD_COLUMN);
+    WANT_SAME(rowanspan_put_if(&index, NULL, 0, NULL, 0, 0, &told), ROWANSPAN_DONE);
+    WANT_SAME(rowanspan_remove(&index, "k", 1, &told), ROWANSPAN_DONE);
+    WANT_SAME(rowanspan_put_if(&index, "k", 1, NULL, 0, 3, &told), ROWANSPAN_OTHER_VERSION);
+    WANT_SAME(told, 0);
+    WANT_SAME(rowanspan_commits(&index, &told), ROWANSPAN_DONE);
+    WANT_SAME(told, 5);
+    rowanspan_close(&index);
+    ends("conditional_puts");
+}
+
 static void keys(void) {
     struct rowanspan index = opened(1, 4096, 0);
     enum { MOST = ROWANSPAN_MAX_KEY_BYTES, TOO_MANY = MOST + 1 };
@@ -123,6 +162,7 @@ static void keys(void) {
     memset(key, 'k', sizeof key);
     WANT_SAME(rowanspan_put(&index, key, MOST, NULL, 0, &told), ROWANSPAN_DONE);
     WANT_SAME(rowanspan_put(&index, key, TOO_MANY, NULL, 0, &told), ROWANSPAN_KEY_TOO_LONG);
+    WANT_SAME(rowanspan_put_if(&index, key, TOO_MANY, NULL, 0, 0, &told), ROWANSPAN_KEY_TOO_LONG);
     WANT_SAME(rowanspan_get(&index, key, TOO_MANY, NULL, 0, room, sizeof room, &told), ROWANSPAN_KEY_TOO_LONG);
     WANT_SAME(rowanspan_range(&index, key, TOO_MANY, 1, NULL, 0, room, sizeof room, &told), ROWANSPAN_KEY_TOO_LONG);
     WANT_SAME(rowanspan_remove(&index, key, TOO_MANY, &told), ROWANSPAN_KEY_TOO_LONG);
@@ -346,6 +386,7 @@ int main(void) {
     worked_row();
     handles();
     columns();
+    conditional_puts();
     keys();
     rooms();
     ranges();

@@ -123,6 +123,23 @@ static void put_once(struct rowanspan *index) {
     WANT_SAME(told, commits);
 }
 
+/* A conditional put, over the row that is there or over one that isn't. */
+static void put_if_once(struct rowanspan *index) {
+    uint8_t key[MOST_KEY];
+    size_t length = chance_key(key), at = place_of(key, length);
+    struct rowanspan_set set = rowanspan_set((uint8_t)chance(COLUMNS), "if", 2);
+    uint64_t found = is_at(at, key, length) ? rows[at].version : 0, version = found + chance(2), told;
+    uint16_t status = rowanspan_put_if(index, key, length, &set, 1, version, &told);
+    if (version == found) {
+        WANT_SAME(status, ROWANSPAN_DONE);
+        plain_put(key, length, &set, 1);
+        WANT_SAME(told, commits);
+    } else {
+        WANT_SAME(status, ROWANSPAN_OTHER_VERSION);
+        WANT_SAME(told, found);
+    }
+}
+
 static void remove_once(struct rowanspan *index) {
     uint8_t key[MOST_KEY];
     size_t length = chance_key(key), at = place_of(key, length);
@@ -266,7 +283,9 @@ int main(void) {
     for (i = 0; i < CALLS; i++) {
         /* rows become many, and then few */
         uint64_t what = chance(100), puts = i / 2500 % 2 ? 8 : 40;
-        if (what < puts && row_count < MOST_ROWS) {
+        if (what < puts / 4 && row_count < MOST_ROWS) {
+            put_if_once(&index);
+        } else if (what < puts && row_count < MOST_ROWS) {
             put_once(&index);
         } else if (what < 48) {
             remove_once(&index);

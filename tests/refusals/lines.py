@@ -71,7 +71,8 @@ class Spec:
 
 @dataclass(frozen=True)
 class Request:
-    """What a call asks. `columns` are those of a get or range (none: all), `sets` those of a put."""
+    """What a call asks. `columns` are those of a get or range (none: all), `sets` those of a put, `version` that of a
+    conditional one."""
 
     kind: str
     key: bytes = b""
@@ -79,6 +80,7 @@ class Request:
     sets: Tuple[Tuple[int, bytes], ...] = ()
     limit: int = 0
     spec: Optional[Spec] = None
+    version: Optional[int] = None
 
     def shown(self, columns: Columns) -> Columns:
         """The columns that an answer shows of a row."""
@@ -127,6 +129,8 @@ def request_of(words: List[str]) -> Request:
         return Request(kind, bytes_of(rest[0]), columns=columns_of(rest[1]))
     if kind == "put" and len(rest) == 2:
         return Request(kind, bytes_of(rest[0]), sets=sets_of(rest[1]))
+    if kind == "putif" and len(rest) == 3:
+        return Request("put", bytes_of(rest[0]), sets=sets_of(rest[2]), version=number_of(rest[1]))
     if kind in ("remove", "tidy") and len(rest) == 1:
         return Request(kind, bytes_of(rest[0]))
     if kind == "range" and len(rest) == 3:

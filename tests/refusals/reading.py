@@ -137,6 +137,7 @@ class Gathering:
         assert command.request is not None
         if answer.startswith("refused "):
             self.unsure += 1
+            self.calls.append(Call(command.request, at, at, answer))
             return
         self.last_call += 1
         call = Call(command.request, at)
@@ -217,6 +218,8 @@ class Rows:
             request = commits[number].request
             past = self.past.setdefault(request.key, [(0, None)])
             version, before = past[-1]
+            found = 0 if before is None else version
+            want(request.version in (None, found), f"commit {number} puts over version {found}")
             after = changed(request, columns, before)
             want(request.kind == "put" or before is not None, f"commit {number} removes a key without a row")
             past.append((number, after))
@@ -303,6 +306,8 @@ class Held:
     # -- calls
 
     def end(self, call: Call) -> None:
+        if call.answer.startswith("refused 16 "):
+            self.found_other(call, number_of(call.answer[11:]))
         if call.answer.startswith("refused "):
             return
         assert call.ended is not None
@@ -313,6 +318,14 @@ class Held:
         want(before[0] <= first <= before[1], f"there were {before} commits at its begin")
         want(after[0] <= last <= after[1], f"there are {after} commits at its end")
         self.answered(call, words[3:], first, last)
+
+    def found_other(self, call: Call, found: int) -> None:
+        """A conditional put is refused by a version that its key's row had during the call, not the one asked."""
+        assert call.ended is not None
+        first = self.counts[call.begun - 1][0] if call.begun > 0 else 0
+        states = self.rows.states(call.request.key, first, self.counts[call.ended][1])
+        want(call.request.version not in (None, found), "it asked for no other version")
+        want(found in [0 if row is None else number for number, row in states], "its key's row had no such version")
 
     def answered(self, call: Call, words: List[str], first: int, last: int) -> None:
         request, kind = call.request, words[0]

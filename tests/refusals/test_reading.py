@@ -38,7 +38,12 @@ RIGHT: List[Tuple[str, str]] = [
     ("nonsense", "bad line"),
     ("drop 1", "dropped"),
     ("drop 1", "refused 11"),
-    ("alone remove 61", "done 3 3 absent")]
+    ("alone remove 61", "done 3 3 absent"),
+    ("alone putif 61 0 -", "done 3 4 put 4"),
+    ("begin 1 putif 62 2 0=08", "call 11"),
+    ("begin 2 putif 62 2 0=09", "call 12"),
+    ("finish 11", "done 4 5 put 5"),
+    ("finish 12", "refused 16 5")]
 
 # by the place of a line: what would be wrong there
 WRONG: List[Tuple[int, str]] = [
@@ -52,7 +57,9 @@ WRONG: List[Tuple[int, str]] = [
     (20, "done 2 3 rows 2 61:1:06 62:2:06"), (20, "done 2 3 rows 2 62:2:06 63:4:07"), (21, "done 2 3 absent"),
     (22, "delta 3 61 1:05 none"), (22, "delta 2 62 none 2:06"), (22, "delta 2 62 none 2:07\ndelta 3 61 1:05 none"),
     (22, ""), (23, "done 3 3 rows 2 61:1:05 62:2:06"), (23, "done 2 3 rows 1 62:2:06"), (25, "epoch 2"),
-    (27, "refused 11"), (28, "dropped"), (29, "done 3 4 removed 4")]
+    (27, "refused 11"), (28, "dropped"), (29, "done 3 4 removed 4"),
+    (30, "refused 16 0"), (30, "refused 16 3"), (33, "refused 16 4"), (34, "done 4 6 put 6"), (34, "refused 16 2"),
+    (34, "refused 16 4"), (34, "refused 16 0")]
 
 
 def is_held(lines: List[Tuple[str, str]]) -> bool:

@@ -30,6 +30,8 @@ pub enum Error {
     BadRange,
     /// A number is at its greatest value.
     Spent,
+    /// The key's row is of this version, and not of the one asked; 0: the key has no row.
+    OtherVersion(u64),
     /// The library answered what it answers nobody: it is another one.
     Unknown(u16),
 }
@@ -50,6 +52,7 @@ impl Error {
             12 => Error::Behind(told),
             13 => Error::BadRange,
             14 => Error::Spent,
+            16 => Error::OtherVersion(told),
             other => Error::Unknown(other),
         }
     }
@@ -70,6 +73,8 @@ impl fmt::Display for Error {
             Error::Behind(at) => write!(f, "what was asked for is not there, but at commit {at}"),
             Error::BadRange => write!(f, "a range ends before it begins"),
             Error::Spent => write!(f, "a number is at its greatest value"),
+            Error::OtherVersion(0) => write!(f, "the key has no row"),
+            Error::OtherVersion(found) => write!(f, "the row's version is {found}"),
             Error::Unknown(status) => write!(f, "the library answered {status}"),
         }
     }

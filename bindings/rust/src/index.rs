@@ -89,6 +89,12 @@ fn done((status, told): (u16, u64)) -> Result<u64, Error> {
     }
 }
 
+fn column_sets<'a>(sets: &[(u8, &'a [u8])]) -> Vec<ColumnSet<'a>> {
+    sets.iter()
+        .map(|(column, bytes)| ColumnSet::new(*column, bytes))
+        .collect()
+}
+
 // The bytes of an answer, or none where a key has no row. Asks once more where the first room was too small.
 fn answer(ask: impl Fn(&mut [u8]) -> (u16, u64)) -> Result<Option<Vec<u8>>, Error> {
     let mut room = vec![0; 512];
@@ -124,11 +130,13 @@ impl Index {
     /// number of the commit. Refused for a key or column that is too long, columns that aren't there or stand twice, a
     /// log that views hold, and where no node is free.
     pub fn put(&mut self, key: &[u8], sets: &[(u8, &[u8])]) -> Result<u64, Error> {
-        let sets: Vec<ColumnSet<'_>> = sets
-            .iter()
-            .map(|(column, bytes)| ColumnSet::new(*column, bytes))
-            .collect();
-        done(self.library.put(key, &sets))
+        done(self.library.put(key, &column_sets(sets)))
+    }
+
+    /// A [`put`](Index::put) that is done only where the key's row is of this version, or where `version` is 0 and the
+    /// key has no row. Else it is refused [`OtherVersion`](Error::OtherVersion), with the version that the row has.
+    pub fn put_if(&mut self, key: &[u8], sets: &[(u8, &[u8])], version: u64) -> Result<u64, Error> {
+        done(self.library.put_if(key, &column_sets(sets), version))
     }
 
     /// Ends a key's row. Gives the number of the commit, or none where there was no row.

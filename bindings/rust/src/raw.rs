@@ -68,6 +68,15 @@ extern "C" {
         count: usize,
         told: Told,
     ) -> u16;
+    fn rowanspan_raw_put_if(
+        handle: Handle,
+        key: *const u8,
+        key_length: usize,
+        sets: *const ColumnSet<'_>,
+        count: usize,
+        version: u64,
+        told: Told,
+    ) -> u16;
     fn rowanspan_raw_remove(handle: Handle, key: *const u8, key_length: usize, told: Told) -> u16;
     fn rowanspan_raw_tidy(handle: Handle, key: *const u8, key_length: usize, told: Told) -> u16;
     fn rowanspan_raw_get(
@@ -185,6 +194,23 @@ impl Library {
             key.len(),
             sets.as_ptr(),
             sets.len()
+        )
+    }
+
+    pub(crate) fn put_if(
+        &mut self,
+        key: &[u8],
+        sets: &[ColumnSet<'_>],
+        version: u64,
+    ) -> (u16, u64) {
+        call!(
+            self,
+            rowanspan_raw_put_if,
+            key.as_ptr(),
+            key.len(),
+            sets.as_ptr(),
+            sets.len(),
+            version
         )
     }
 

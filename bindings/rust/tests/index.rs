@@ -38,6 +38,26 @@ fn rows() -> Result<(), Error> {
 }
 
 #[test]
+fn conditional_puts() -> Result<(), Error> {
+    let mut index = Index::open(Options::default())?;
+    assert_eq!(
+        index.put_if(b"apple", &[(0, b"red")], 1),
+        Err(Error::OtherVersion(0))
+    );
+    assert_eq!(index.put_if(b"apple", &[(0, b"red")], 0)?, 1);
+    assert_eq!(
+        index.put_if(b"apple", &[(0, b"green")], 0),
+        Err(Error::OtherVersion(1))
+    );
+    assert_eq!(index.put_if(b"apple", &[(0, b"green")], 1)?, 2);
+    assert_eq!(index.get(b"apple")?, Some(row(2, &[b"green"])));
+    assert_eq!(index.remove(b"apple")?, Some(3));
+    assert_eq!(index.put_if(b"apple", &[], 2), Err(Error::OtherVersion(0)));
+    assert_eq!(index.put_if(b"k", &[(1, b"")], 9), Err(Error::BadColumn));
+    Ok(())
+}
+
+#[test]
 fn refusals() -> Result<(), Error> {
     let two = Options {
         columns: 2,
@@ -167,6 +187,26 @@ impl Chance {
     }
 }
 
+fn put_if_by_chance(
+    index: &mut Index,
+    plain: &mut BTreeMap<Vec<u8>, Row>,
+    chance: &mut Chance,
+) -> Result<(), Error> {
+    let (key, bytes) = (chance.key(), chance.bytes(6, 26));
+    let found = plain.get(&key).map_or(0, |row| row.version);
+    let version = found + chance.below(2);
+    match index.put_if(&key, &[(0, &bytes)], version) {
+        Err(Error::OtherVersion(told)) => assert!(version != found && told == found),
+        put => {
+            assert_eq!(version, found);
+            let row = plain.entry(key).or_insert_with(|| row(0, &[b"", b""]));
+            row.version = put?;
+            row.columns[0] = bytes;
+        }
+    }
+    Ok(())
+}
+
 fn put_by_chance(
     index: &mut Index,
     plain: &mut BTreeMap<Vec<u8>, Row>,
@@ -191,7 +231,8 @@ fn random_calls_against_a_map() -> Result<(), Error> {
     let view = index.build(Keys::Prefix(b"aa"), RowTest::Any)?;
     for _ in 0..20_000 {
         match chance.below(10) {
-            0..=3 => put_by_chance(&mut index, &mut plain, &mut chance)?,
+            0..=2 => put_by_chance(&mut index, &mut plain, &mut chance)?,
+            3 => put_if_by_chance(&mut index, &mut plain, &mut chance)?,
             4..=5 => {
                 let key = chance.key();
                 assert_eq!(index.remove(&key)?.is_some(), plain.remove(&key).is_some());

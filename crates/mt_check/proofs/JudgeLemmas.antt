@@ -1,7 +1,7 @@
 -- The smallest rule that a receipt breaks, and what a sound one claims.
 use Rattle.std.proofs.Common.{◌≡◌, ◌<◌, ℕ, List, length, Some, refl, ap, arith, inl, inr, ◌⊎◌}
 use Rattle.mt_types.specs.declared.row.Delta.{Delta}
-use Rattle.mt_types.specs.declared.event.Request.TheVariants.{Get, Put, Remove, Range, Tidy, Build}
+use Rattle.mt_types.specs.declared.event.Request.TheVariants.{Get, Put, PutIf, Remove, Range, Tidy, Build}
 use Rattle.mt_types.specs.declared.event.Answer.TheVariants.{Stored, Removed}
 use Rattle.mt_check.specs.declared.receipt.Receipt.{Receipt}
 use Rattle.mt_check.specs.declared.receipt.Receipt.TheVariants.{Call, Page}
@@ -15,6 +15,7 @@ use Rattle.mt_check.specs.Judging.{ClaimsWithin}
 rule_high : (C : ℕ) (receipt : Receipt) → IsAsked C receipt → 3 < rule_number (rule_of receipt)
 rule_high C (Call (Get k c) answer from to) asked = omega arith
 rule_high C (Call (Put k s) answer from to) asked = omega arith
+rule_high C (Call (PutIf k s v) answer from to) asked = omega arith
 rule_high C (Call (Remove k) answer from to) asked = omega arith
 rule_high C (Call (Range s l c) answer from to) asked = omega arith
 rule_high C (Call (Tidy k) answer from to) asked = absurd asked.0
@@ -25,6 +26,7 @@ rule_high C (Page spec floor start limit page from to) asked = omega arith
 claims_early : (receipt : Receipt) (number : ℕ) → claim receipt ≡ Some number → rule_number (rule_of receipt) < 6
 claims_early (Call (Get k c) answer from to) number e = omega arith
 claims_early (Call (Put k s) answer from to) number e = omega arith
+claims_early (Call (PutIf k s v) answer from to) number e = omega arith
 claims_early (Call (Remove k) answer from to) number e = omega arith
 claims_early (Call (Range s l c) answer from to) number e = cc
 claims_early (Call (Tidy k) answer from to) number e = omega arith
@@ -70,6 +72,7 @@ span_smallest C deltas earlier receipt asked out = (
 breaks_own : (C : ℕ) (deltas : List Delta) (earlier : List Receipt) (receipt : Receipt) → IsAsked C receipt → (IsRight C deltas receipt → ⊥) → ReceiptBreaks C deltas earlier receipt (rule_of receipt)
 breaks_own C deltas earlier (Call (Get k c) answer from to) asked wrong = (refl, wrong)
 breaks_own C deltas earlier (Call (Put k s) answer from to) asked wrong = (refl, wrong)
+breaks_own C deltas earlier (Call (PutIf k s v) answer from to) asked wrong = (refl, wrong)
 breaks_own C deltas earlier (Call (Remove k) answer from to) asked wrong = (refl, wrong)
 breaks_own C deltas earlier (Call (Range s l c) answer from to) asked wrong = (refl, wrong)
 breaks_own C deltas earlier (Call (Tidy k) answer from to) asked wrong = absurd asked.0
@@ -118,6 +121,12 @@ claims_within C deltas (Call (Put k s) (Stored n) from to) within right number e
     let upto = right.1 in
     let last = within.1 in
     (omega (arith, same, above), omega (arith, same, upto, last))
+claims_within C deltas (Call (PutIf k s v) (Stored n) from to) within right number e =
+    let same : n ≡ number = cc in
+    let above = right.0.0 in
+    let upto = right.0.1 in
+    let last = within.1 in
+    (omega (arith, same, above), omega (arith, same, upto, last))
 claims_within C deltas (Call (Remove k) (Removed n) from to) within right number e =
     let same : n ≡ number = cc in
     let above = right.0 in
@@ -125,6 +134,7 @@ claims_within C deltas (Call (Remove k) (Removed n) from to) within right number
     let last = within.1 in
     (omega (arith, same, above), omega (arith, same, upto, last))
 claims_within C deltas (Call (Put k s) _ from to) within right number e = cc
+claims_within C deltas (Call (PutIf k s v) _ from to) within right number e = cc
 claims_within C deltas (Call (Remove k) _ from to) within right number e = cc
 claims_within C deltas (Call (Get k c) answer from to) within right number e = cc
 claims_within C deltas (Call (Range s l c) answer from to) within right number e = cc

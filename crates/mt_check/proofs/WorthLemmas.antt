@@ -2,14 +2,14 @@
 use Rattle.std.proofs.Common.{◌≡◌, ◌≤◌, ℕ, zero, suc, ◌+◌, ◌-◌, List, [], ◌∷◌, ◌++◌, take, length, Some, None, refl, ap, sym, ◌∙◌, subst, arith, append_assoc, length-append}
 use Rattle.std.specs.Prelude.{slice_index_or, IsSome}
 use Rattle.std.specs.FinMap.{get, empty}
-use Rattle.mt_types.specs.Rows.{Rows, after, after_from, after_change, shown}
+use Rattle.mt_types.specs.Rows.{Rows, after, after_from, after_change, shown, version_of}
 use Rattle.mt_types.specs.declared.row.Row.{Row}
 use Rattle.mt_types.specs.declared.row.Change.{Change}
 use Rattle.mt_types.specs.declared.row.Change.TheVariants.{Put as PutChange, Drop as DropChange}
 use Rattle.mt_types.specs.declared.event.Event.TheVariants.{Begin, Step, ViewRead}
 use Rattle.mt_types.specs.declared.event.Outcome.TheVariants.{Call, Done, View}
 use Rattle.mt_types.specs.declared.event.Request.{Request}
-use Rattle.mt_types.specs.declared.event.Request.TheVariants.{Get, Put, Remove, Range, Tidy, Build}
+use Rattle.mt_types.specs.declared.event.Request.TheVariants.{Get, Put, PutIf, Remove, Range, Tidy, Build}
 use Rattle.mt_types.specs.declared.event.Answer.{Answer}
 use Rattle.mt_types.specs.declared.event.Answer.TheVariants.{Absent, Found, Stored, Removed, Rows as RowsAnswer}
 use Rattle.mt_promise.specs.History.{History, Happening, OpenCall, happening, moment, rows, call_of, change_of, Sometime as SometimeIn}
@@ -21,9 +21,9 @@ use Rattle.mt_promise.proofs.FinishedLemmas.{legal_before, done_call, at_some_mo
 use Rattle.mt_promise.proofs.PageLemmas.{legal_views}
 use Rattle.mt_commit.specs.Logged.{delta_made, deltas_from}
 use Rattle.mt_commit.proofs.DeltaLemmas.{redone, delta_at}
-use Rattle.mt_check.specs.Receipts.{rows_after, rows_at, Sometime, Throughout, Shows, Lacks, IsCommit, IsRightAnswer, page_of_rows, GivesReceipt}
+use Rattle.mt_check.specs.Receipts.{rows_after, rows_at, Sometime, Throughout, Shows, Lacks, IsOfVersion, IsCommit, IsRightAnswer, page_of_rows, GivesReceipt}
 use Rattle.mt_check.specs.Worth.{deltas_after, RepliesAreSound, PagesAreSound}
-use Rattle.mt_check.proofs.CommitLemmas.{GoesOnFrom, commits_since, first_commits, fewer_commits, change_stays, Made, calls_kept}
+use Rattle.mt_check.proofs.CommitLemmas.{GoesOnFrom, commits_since, first_commits, fewer_commits, change_stays, take_within, Made, made_stays, calls_kept}
 
 -- the rows after the first deltas of changes are those after the first changes
 rows_taken : (C number : ℕ) (old : Rows) (cs : List Change) (n : ℕ) → rows_after (take n (deltas_from C number old cs)) old ≡ after_from C number old (take n cs)
@@ -103,7 +103,7 @@ at_each_number C h before past s Q from to f t each newer then e since =
 
 -- the delta of a commit
 commit_delta : (C : ℕ) (h before past : History) → Spans C h before past → (from to number : ℕ) (request : Request) (change : Change) → to ≡ length (moment past).commits
-    → change_of request ≡ change ∷ [] → Made (moment past).commits from request number → IsCommit C (deltas_after C h) from to number change
+    → change_of request ≡ change ∷ [] → Made C (moment past).commits from request number → IsCommit C (deltas_after C h) from to number change
 commit_delta C h before past s from to number request change t is made =
     let cs = (moment h).commits in
     let above = made.above in
@@ -120,6 +120,13 @@ commit_delta C h before past s from to number request change t is made =
           ∙ ap (λ (r : Rows). Some (delta_made C number change r)) (sym (rows_taken C 0 empty cs (number - 1))),
     )
 
+-- and the row over which a conditional put made its own
+commit_over : (C : ℕ) (h before past : History) → Spans C h before past → (from number : ℕ) (key : List ℕ) (sets : List (ℕ × List ℕ)) (version : ℕ) → Made C (moment past).commits from (PutIf key sets version) number
+    → IsOfVersion (deltas_after C h) key version (number - 1)
+commit_over C h before past s from number key sets version made =
+    let cs = (moment h).commits in
+    ap (λ (r : Rows). version_of (get r key)) (rows_taken C 0 empty cs (number - 1)) ∙ (made_stays C cs (moment past).commits from (PutIf key sets version) number s.since made).over
+
 -- what is known of the call when it is done
 record DoneCall (C : ℕ) (before past : History) (call : OpenCall) (request : Request) (from to : ℕ) : Type 0 where
   request_is : call.request ≡ request
@@ -127,13 +134,13 @@ record DoneCall (C : ℕ) (before past : History) (call : OpenCall) (request : R
   from_is : from ≡ length (moment before).commits
   from_call : from ≡ call.from
   to_is : to ≡ length (moment past).commits
-  made : (number : ℕ) → call.committed ≡ Some number → Made (moment past).commits call.from call.request number
+  made : (number : ℕ) → call.committed ≡ Some number → Made C (moment past).commits call.from call.request number
 
 made_for : (C : ℕ) (before past : History) (call : OpenCall) (request : Request) (from to number : ℕ) → DoneCall C before past call request from to → call.committed ≡ Some number
-    → Made (moment past).commits from request number
+    → Made C (moment past).commits from request number
 made_for C before past call request from to number d e =
-    subst (λ (q : Request). Made (moment past).commits from q number) d.request_is
-    (subst (λ (f : ℕ). Made (moment past).commits f call.request number) (sym d.from_call) (d.made number e))
+    subst (λ (q : Request). Made C (moment past).commits from q number) d.request_is
+    (subst (λ (f : ℕ). Made C (moment past).commits f call.request number) (sym d.from_call) (d.made number e))
 
 some_lacks : (C : ℕ) (h before past : History) (call : OpenCall) (request : Request) (from to : ℕ) (key : List ℕ) → Spans C h before past → DoneCall C before past call request from to
     → SometimeIn call.began (LacksIn C key) past → Sometime from to (Lacks (deltas_after C h) key)
@@ -152,6 +159,11 @@ sound_answer C h before past call from to note s (Get key asked) Absent gives d 
 sound_answer C h before past call from to note s (Get key asked) (Found row) gives d right = some_shows C h before past call (Get key asked) from to key asked row s d right
 sound_answer C h before past call from to note s (Put key sets) (Stored number) gives d right =
     commit_delta C h before past s from to number (Put key sets) (PutChange key sets) d.to_is refl (made_for C before past call (Put key sets) from to number d right)
+sound_answer C h before past call from to note s (PutIf key sets version) (Stored number) gives d right =
+    let made = made_for C before past call (PutIf key sets version) from to number d right in (
+      commit_delta C h before past s from to number (PutIf key sets version) (PutChange key sets) d.to_is refl made,
+      commit_over C h before past s from number key sets version made,
+    )
 sound_answer C h before past call from to note s (Remove key) (Removed number) gives d right =
     commit_delta C h before past s from to number (Remove key) (DropChange key) d.to_is refl (made_for C before past call (Remove key) from to number d right)
 sound_answer C h before past call from to note s (Remove key) Absent gives d right = some_lacks C h before past call (Remove key) from to key s d right.1
@@ -170,6 +182,7 @@ sound_answer C h before past call from to note s (Tidy key) answer gives d right
 sound_answer C h before past call from to note s (Build spec) answer gives d right = absurd gives
 sound_answer C h before past call from to note s (Get key asked) _ gives d right = absurd right
 sound_answer C h before past call from to note s (Put key sets) _ gives d right = absurd right
+sound_answer C h before past call from to note s (PutIf key sets version) _ gives d right = absurd right
 sound_answer C h before past call from to note s (Remove key) _ gives d right = absurd right
 sound_answer C h before past call from to note s (Range start limit asked) _ gives d right = absurd right
 
@@ -207,11 +220,6 @@ replies_are_sound C h legal request reply before past f gives =
       sound_answer C h before past done.0 reply.from reply.to f.end_note s request reply.answer gives d
           (subst (λ (q : Request). RightAnswer C past done.0 q reply.answer f.end_note) so.request_is right.answer),
     )
-
-take_within : (cs rest : List Change) (n : ℕ) → n ≤ length cs → take n (cs ++ rest) ≡ take n cs
-take_within cs rest zero h = refl
-take_within [] rest (suc n) h = absurd (omega arith)
-take_within (c ∷ cs) rest (suc n) h = ap (λ (ds : List Change). c ∷ ds) (take_within cs rest n (omega arith))
 
 pub pages_are_sound : PagesAreSound
 pages_are_sound C h legal view floor start limit page note later past e =

@@ -5,7 +5,7 @@ use Rattle.std.specs.FinMap.{get, insert}
 use Rattle.std.specs.Cmp.{first_so, second_so}
 use Rattle.std.proofs.lemmas.Bool.{cases_Bool}
 use borrow.Author.Tests.{leb-true, ltb-true}
-use Rattle.mt_types.specs.Rows.{Rows, after_change, new_columns, columns_before}
+use Rattle.mt_types.specs.Rows.{Rows, after_change, new_columns, columns_before, version_of}
 use Rattle.mt_types.specs.declared.row.Row.{Row}
 use Rattle.mt_types.specs.declared.row.Change.{Change}
 use Rattle.mt_types.specs.declared.row.Change.TheVariants.{Put, Drop}
@@ -14,8 +14,8 @@ use Rattle.mt_commit.specs.Deltas.{with_row}
 use Rattle.mt_commit.specs.Log.{Numbered}
 use Rattle.mt_commit.specs.Logged.{key_of, delta_made}
 use Rattle.mt_commit.proofs.DeltaLemmas.{get-row_put, delta_is}
-use Rattle.mt_check.specs.Receipts.{rows_at, IsSoundLog, IsCommit}
-use Rattle.mt_check.specs.Judging.{MadeBy}
+use Rattle.mt_check.specs.Receipts.{rows_at, IsSoundLog, IsCommit, IsOfVersion}
+use Rattle.mt_check.specs.Judging.{MadeBy, MadeOver}
 
 pub numbered_at : (number : ℕ) (deltas : List Delta) (i : ℕ) (d : Delta) → Numbered number deltas → slice_get deltas i ≡ Some d → d.number ≡ number + i + 1
 numbered_at number [] i d h e = cc
@@ -64,29 +64,56 @@ in_span from to number deltas d e =
       | inr b ↦ let none : Some d ≡ None = e ∙ ap (λ (t : Bool). cond t (slice_get deltas (number - 1)) None) b in cc
     ]
 
--- the commit of a change is told by its delta
-pub told_commit : (C from to number : ℕ) (deltas : List Delta) (d : Delta) (change : Change) (yes_ : Bool) → IsSoundLog deltas
+-- a delta of a span is that of the commit of a change exactly where the change made it
+commit_is : (C from to number : ℕ) (deltas : List Delta) (d : Delta) (change : Change) → IsSoundLog deltas
     → Some d ≡ cond (nat_lt from number && nat_le number to) (slice_get deltas (number - 1)) None
-    → IsTrue yes_ ↔ MadeBy C d change → IsTrue yes_ ↔ IsCommit C deltas from to number change
-told_commit C from to number deltas d change yes_ sound e told =
+    → MadeBy C d change ↔ IsCommit C deltas from to number change
+commit_is C from to number deltas d change sound e =
     let s = in_span from to number deltas d e in
     let rows : Rows = rows_at deltas (number - 1) in
     let counted = numbered_at 0 deltas (number - 1) d sound.numbered s.2 in
     let number_is : d.number ≡ number = let f = s.0 in omega (arith, counted, f) in
     let fits = sound.fits (number - 1) d s.2 in (
-      λ y. (
+      λ made. (
         s.0,
         s.1,
-        s.2 ∙ ap Some (made_is C d change rows fits.before (told.0 y) ∙ ap (λ (n : ℕ). delta_made C n change rows) number_is),
+        s.2 ∙ ap Some (made_is C d change rows fits.before made ∙ ap (λ (n : ℕ). delta_made C n change rows) number_is),
       ),
       λ commit.
           let both : Some d ≡ Some (delta_made C number change rows) = sym s.2 ∙ commit.2 in
           let same : d ≡ delta_made C number change rows = cc in
-          told.1 (subst (λ (x : Delta). MadeBy C x change) (sym same) (is_made C number change rows)),
+          subst (λ (x : Delta). MadeBy C x change) (sym same) (is_made C number change rows),
     )
+
+-- the commit of a change is told by its delta
+pub told_commit : (C from to number : ℕ) (deltas : List Delta) (d : Delta) (change : Change) (yes_ : Bool) → IsSoundLog deltas
+    → Some d ≡ cond (nat_lt from number && nat_le number to) (slice_get deltas (number - 1)) None
+    → IsTrue yes_ ↔ MadeBy C d change → IsTrue yes_ ↔ IsCommit C deltas from to number change
+told_commit C from to number deltas d change yes_ sound e told =
+    let is = commit_is C from to number deltas d change sound e in
+    (λ y. is.0 (told.0 y), λ commit. told.1 (is.1 commit))
 
 pub told_put : {E : Type 0} (C from to number : ℕ) (deltas : List Delta) (d : Delta) (change : Change) (r : Result Bool E) → IsSoundLog deltas
     → Some d ≡ cond (nat_lt from number && nat_le number to) (slice_get deltas (number - 1)) None
     → IfOk r (λ yes_. IsTrue yes_ ↔ MadeBy C d change) → IfOk r (λ yes_. IsTrue yes_ ↔ IsCommit C deltas from to number change)
 told_put C from to number deltas d change (Ok yes_) sound e told = told_commit C from to number deltas d change yes_ sound e told
 told_put C from to number deltas d change (Err error) sound e told = tt
+
+-- that of a conditional put, by the version of the row before too
+pub told_conditional_put : {E : Type 0} (C from to number : ℕ) (deltas : List Delta) (d : Delta) (key : List ℕ) (sets : List (ℕ × List ℕ)) (version : ℕ) (r : Result Bool E) → IsSoundLog deltas
+    → Some d ≡ cond (nat_lt from number && nat_le number to) (slice_get deltas (number - 1)) None
+    → IfOk r (λ yes_. IsTrue yes_ ↔ MadeOver C d (Put key sets) version)
+    → IfOk r (λ yes_. IsTrue yes_ ↔ (IsCommit C deltas from to number (Put key sets) × IsOfVersion deltas key version (number - 1)))
+told_conditional_put C from to number deltas d key sets version (Ok yes_) sound e told =
+    let s = in_span from to number deltas d e in
+    let fits = sound.fits (number - 1) d s.2 in
+    let is = commit_is C from to number deltas d (Put key sets) sound e in
+    let found : d.key ≡ key → get (rows_at deltas (number - 1)) key ≡ d.before = λ same. ap (get (rows_at deltas (number - 1))) (sym same) ∙ fits.before in (
+      λ y.
+          let made = told.0 y in
+          (is.0 made.0, ap version_of (found made.0.0) ∙ made.1),
+      λ right.
+          let made = is.1 right.0 in
+          told.1 (made, ap version_of (sym (found made.0)) ∙ right.1),
+    )
+told_conditional_put C from to number deltas d key sets version (Err error) sound e told = tt

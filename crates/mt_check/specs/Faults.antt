@@ -4,7 +4,7 @@ use Rattle.std.specs.FinMap.{get, empty}
 use Rattle.mt_types.specs.declared.row.Row.{Row}
 use Rattle.mt_types.specs.declared.row.Delta.{Delta}
 use Rattle.mt_types.specs.declared.event.Request.{Request}
-use Rattle.mt_types.specs.declared.event.Request.TheVariants.{Get, Put, Remove, Range, Tidy, Build}
+use Rattle.mt_types.specs.declared.event.Request.TheVariants.{Get, Put, PutIf, Remove, Range, Tidy, Build}
 use Rattle.mt_check.specs.Receipts.{rows_after, FitsRow, IsSoundLog, IsWithin, IsRight, ClaimsAgain}
 use Rattle.mt_check.specs.declared.receipt.Receipt.{Receipt}
 use Rattle.mt_check.specs.declared.receipt.Receipt.TheVariants.{Call, Page}
@@ -37,6 +37,7 @@ DeltaBreaks earlier delta rule = BreaksThere (length earlier + 1) (get (rows_aft
 abbrev pub rule_of_request : Request → Rule
 rule_of_request (Get key asked) = GetAnswer
 rule_of_request (Put key sets) = WriteAnswer
+rule_of_request (PutIf key sets version) = WriteAnswer
 rule_of_request (Remove key) = WriteAnswer
 rule_of_request (Range start limit asked) = RangeAnswer
 rule_of_request (Tidy key) = Memory

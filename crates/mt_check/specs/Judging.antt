@@ -1,6 +1,6 @@
 -- What the code keeps while it judges: the log that is read, and the states of views that it walks on.
 use Rattle.std.specs.Prelude.{ℕ, ◌-◌, ◌≡◌, ◌<◌, ◌≤◌, ◌↔◌, Bool, true, false, List, take, All, length, slice_get, slice_index_or, Some, None}
-use Rattle.mt_types.specs.Rows.{new_columns, columns_before}
+use Rattle.mt_types.specs.Rows.{new_columns, columns_before, version_of}
 use Rattle.mt_types.specs.declared.row.Change.{Change}
 use Rattle.mt_types.specs.declared.row.Change.TheVariants.{Put, Drop}
 use Rattle.mt_types.specs.declared.row.Delta.{Delta}
@@ -24,6 +24,10 @@ MadeBy C delta (Put key sets) =
     × (delta.after
     ≡ Some (record { version = delta.number; columns = new_columns sets 0 (columns_before C delta.before) }))
 MadeBy C delta (Drop key) = (delta.key ≡ key) × (delta.after ≡ None)
+
+-- and its row before is of this version; 0: there is none
+abbrev pub MadeOver : ℕ → Delta → Change → ℕ → Type 0
+MadeOver C delta change version = MadeBy C delta change × (version_of delta.before ≡ version)
 
 -- the state of a view over the log's rows at its number
 pub record IsStanding (C : ℕ) (deltas : List Delta) (wanted : ViewSpec) (state : StateView) : Type 0 where

@@ -3,14 +3,14 @@ use Rattle.std.specs.Prelude.{ℕ, ◌-◌, ◌≡◌, ◌<◌, ◌≤◌, ◌�
 use Rattle.std.specs.FinMap.{get, empty}
 use Rattle.mt_types.specs.Limits.{request_fault, spec_fault, page_fault}
 use Rattle.mt_types.specs.Ranges.{IsRangeAnswer}
-use Rattle.mt_types.specs.Rows.{Rows, shown}
+use Rattle.mt_types.specs.Rows.{Rows, shown, version_of}
 use Rattle.mt_types.specs.Views.{afresh, column_sums, page_from}
 use Rattle.mt_types.specs.declared.row.Row.{Row}
 use Rattle.mt_types.specs.declared.row.Change.{Change}
 use Rattle.mt_types.specs.declared.row.Change.TheVariants.{Put as PutChange, Drop as DropChange}
 use Rattle.mt_types.specs.declared.row.Delta.{Delta}
 use Rattle.mt_types.specs.declared.event.Request.{Request}
-use Rattle.mt_types.specs.declared.event.Request.TheVariants.{Get, Put, Remove, Range, Tidy, Build}
+use Rattle.mt_types.specs.declared.event.Request.TheVariants.{Get, Put, PutIf, Remove, Range, Tidy, Build}
 use Rattle.mt_types.specs.declared.event.Answer.{Answer}
 use Rattle.mt_types.specs.declared.event.Answer.TheVariants.{Absent, Found, Stored, Removed, Rows as RowsAnswer}
 use Rattle.mt_types.specs.declared.view.Page.{Page as PageShown}
@@ -68,6 +68,10 @@ Lacks deltas key number = get (rows_at deltas number) key ≡ None
 abbrev pub Stands : List Delta → List ℕ → ℕ → Type 0
 Stands deltas key number = IsSome (get (rows_at deltas number) key)
 
+-- the key's row is of this version then; 0: it has none
+abbrev pub IsOfVersion : List Delta → List ℕ → ℕ → ℕ → Type 0
+IsOfVersion deltas key version number = version_of (get (rows_at deltas number) key) ≡ version
+
 -- the commit of this number was made after one number of commits and up to another, and its delta is that of the change
 abbrev pub IsCommit : ℕ → List Delta → ℕ → ℕ → ℕ → Change → Type 0
 IsCommit C deltas from to number change =
@@ -79,6 +83,8 @@ abbrev pub IsRightAnswer : ℕ → List Delta → ℕ → ℕ → Request → An
 IsRightAnswer C deltas from to (Get key asked) Absent = Sometime from to (Lacks deltas key)
 IsRightAnswer C deltas from to (Get key asked) (Found row) = Sometime from to (Shows deltas key asked row)
 IsRightAnswer C deltas from to (Put key sets) (Stored number) = IsCommit C deltas from to number (PutChange key sets)
+IsRightAnswer C deltas from to (PutIf key sets version) (Stored number) =
+    IsCommit C deltas from to number (PutChange key sets) × IsOfVersion deltas key version (number - 1)
 IsRightAnswer C deltas from to (Remove key) (Removed number) = IsCommit C deltas from to number (DropChange key)
 IsRightAnswer C deltas from to (Remove key) Absent = Sometime from to (Lacks deltas key)
 IsRightAnswer C deltas from to (Range start limit asked) (RowsAnswer pairs) =
@@ -123,6 +129,7 @@ IsSound C deltas receipt = IsWithin (length deltas) receipt × IsRight C deltas 
 
 abbrev pub claim_of : Request → Answer → Option ℕ
 claim_of (Put key sets) (Stored number) = Some number
+claim_of (PutIf key sets version) (Stored number) = Some number
 claim_of (Remove key) (Removed number) = Some number
 claim_of _ _ = None
 

@@ -11,7 +11,7 @@ ghost use Rattle.mt_check.specs.Judging.{IsRead};
 
 use crate::ranges::{Asked, Span, walk};
 use crate::versions::{Versions, lacks_between, shows_between};
-use crate::writes::{is_drop_at, is_put_at};
+use crate::writes::{ConditionalPut, is_conditional_put_at, is_drop_at, is_put_at};
 use bytes::Bytes;
 use mt_types::copying::TryCopy;
 use mt_types::event::{Answer, Request};
@@ -120,6 +120,17 @@ pub(crate) fn is_right_answer(
         Request::Put { key, sets } => match answer {
             Answer::Stored(number) => {
                 is_put_at(alloc, log.columns, log.deltas, span, *number, key, sets)
+            }
+            _ => Ok(false),
+        },
+        Request::PutIf { key, sets, version } => match answer {
+            Answer::Stored(number) => {
+                let put = ConditionalPut {
+                    key,
+                    sets,
+                    version: *version,
+                };
+                is_conditional_put_at(alloc, log.columns, log.deltas, span, *number, &put)
             }
             _ => Ok(false),
         },

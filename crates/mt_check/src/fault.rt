@@ -20,8 +20,8 @@ pub enum Rule {
     Span,
     /// The answer of a get is right at some number of the span.
     GetAnswer,
-    /// The number of a put or a remove is within the span, and its delta is that of the change; or a remove that found
-    /// nothing lacked its key at some number of the span.
+    /// The number of a put or a remove is within the span, and its delta is that of the change, of a conditional put over
+    /// a row of the version asked; or a remove that found nothing lacked its key at some number of the span.
     WriteAnswer,
     /// No number is claimed by two receipts.
     ClaimedOnce,

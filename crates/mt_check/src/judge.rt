@@ -36,7 +36,9 @@ fn rule_of(receipt: &Receipt) -> Rule
     match receipt {
         Receipt::Call { request, .. } => match request {
             Request::Get { .. } => Rule::GetAnswer,
-            Request::Put { .. } | Request::Remove { .. } => Rule::WriteAnswer,
+            Request::Put { .. } | Request::PutIf { .. } | Request::Remove { .. } => {
+                Rule::WriteAnswer
+            }
             Request::Range { .. } => Rule::RangeAnswer,
             Request::Tidy { .. } | Request::Build { .. } => Rule::Memory,
         },
@@ -54,7 +56,7 @@ pub(crate) fn claim(receipt: &Receipt) -> Option<u64>
             answer,
             ..
         } => match request {
-            Request::Put { .. } => match answer {
+            Request::Put { .. } | Request::PutIf { .. } => match answer {
                 Answer::Stored(number) => Some(*number),
                 _ => None,
             },

@@ -2,10 +2,10 @@
 
 ghost use Rattle.std.specs.Prelude.{◌≡◌, ◌↔◌, ◌-◌, ◌&&◌, nat_lt, nat_le, if◌then◌else◌, slice_get, None, IsTrue, IfOk};
 ghost use Rattle.std.specs.Option.{option_copied};
-ghost use Rattle.mt_types.specs.Rows.{new_columns, columns_before};
+ghost use Rattle.mt_types.specs.Rows.{new_columns, columns_before, version_of};
 ghost use Rattle.mt_types.specs.declared.row.Change.TheVariants.{Put, Drop as DropChange};
-ghost use Rattle.mt_check.specs.Receipts.{IsSoundLog, IsCommit};
-ghost use Rattle.mt_check.specs.Judging.{MadeBy};
+ghost use Rattle.mt_check.specs.Receipts.{IsSoundLog, IsCommit, IsOfVersion};
+ghost use Rattle.mt_check.specs.Judging.{MadeBy, MadeOver};
 
 use crate::ranges::Span;
 use bytes::Bytes;
@@ -15,6 +15,24 @@ use mt_types::copying::TryCopy;
 use mt_types::refusal::NoMemory;
 use mt_types::row::{Delta, Row, Sets};
 use std::alloc::Global;
+
+/// What a conditional put puts under its key, over a row of this version; 0: over none.
+#[derive(Drop)]
+pub(crate) struct ConditionalPut<'a> {
+    pub(crate) key: &'a Bytes,
+    pub(crate) sets: &'a Sets,
+    pub(crate) version: u64,
+}
+
+// A row's version; 0 where there is none.
+fn version_of(row: &Option<Row>) -> u64
+    ensures { result ≡ version_of row.now }
+{
+    match row {
+        Some(row) => row.version,
+        None => 0,
+    }
+}
 
 // The row that a put by the commit of this number makes of the row before it.
 fn put_row(
@@ -58,6 +76,21 @@ fn is_put(
     }
 }
 
+fn is_conditional_put(
+    alloc: Global,
+    columns: u8,
+    delta: &Delta,
+    put: &ConditionalPut<'_>,
+) -> Result<bool, NoMemory>
+    ensures { IfOk result (λ yes. IsTrue yes
+        ↔ MadeOver columns delta.now (Put put.now.key.now put.now.sets.now) put.now.version) }
+{
+    if version_of(&delta.before) != put.version {
+        return Ok(false);
+    }
+    is_put(alloc, columns, delta, put.key, put.sets)
+}
+
 fn is_drop(columns: u8, delta: &Delta, key: &Bytes) -> bool
     ensures { IsTrue result ↔ MadeBy columns delta.now (DropChange key.now) }
 {
@@ -94,6 +127,27 @@ pub(crate) fn is_put_at(
 {
     match commit_at(deltas, span, number) {
         Some(delta) => is_put(alloc, columns, delta, key, sets),
+        None => Ok(false),
+    }
+}
+
+/// The same of a conditional put, whose commit also found a row of the version asked. O(n) in the columns, with an
+/// allocation for the row that the put makes.
+pub(crate) fn is_conditional_put_at(
+    alloc: Global,
+    columns: u8,
+    deltas: &[Delta],
+    span: Span,
+    number: u64,
+    put: &ConditionalPut<'_>,
+) -> Result<bool, NoMemory>
+    requires { IsSoundLog deltas.now }
+    ensures { IfOk result (λ yes. IsTrue yes
+        ↔ (IsCommit columns deltas.now span.from span.to number (Put put.now.key.now put.now.sets.now)
+        × IsOfVersion deltas.now put.now.key.now put.now.version (number - 1))) }
+{
+    match commit_at(deltas, span, number) {
+        Some(delta) => is_conditional_put(alloc, columns, delta, put),
         None => Ok(false),
     }
 }

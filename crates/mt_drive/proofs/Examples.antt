@@ -2,7 +2,7 @@
 use Rattle.std.proofs.Common.{◌≡◌, ◌++◌, [], ◌∷◌, Some, None, refl}
 use Rattle.std.specs.Prelude.{codes}
 use Rattle.hex.specs.Hex.{decode_pairs}
-use Rattle.mt_types.specs.declared.event.Request.TheVariants.{Get, Put, Remove, Range, Tidy, Build}
+use Rattle.mt_types.specs.declared.event.Request.TheVariants.{Get, Put, PutIf, Remove, Range, Tidy, Build}
 use Rattle.mt_types.specs.declared.view.ViewSpec.TheVariants.{Range as RangeOf, Prefix as PrefixOf}
 use Rattle.mt_types.specs.declared.view.RowTest.TheVariants.{Any, Equals, AtLeast}
 use Rattle.mt_types.specs.declared.event.Event.TheVariants.{Begin, Step, ViewRead, Advance}
@@ -12,7 +12,7 @@ use Rattle.mt_drive.specs.declared.command.Reply.TheVariants.{Bad, Came}
 use Rattle.mt_drive.specs.Lines.{lines_of}
 use Rattle.mt_drive.specs.Script.{output_of, bad_lines}
 use Rattle.mt_drive.specs.Commands.{command_of, long_command_of, view_command_of, begin_of, step_of, finish_of, view_read_of, alone_of, feed_of}
-use Rattle.mt_drive.specs.Reading.{request_of, upkeep_of, get_of, put_of, remove_of, range_of, tidy_of, build_of, spec_of, keys_of, prefix_of, end_of, test_of, column_test_of, equals_of, at_least_of, columns_of, set_of, sets_of}
+use Rattle.mt_drive.specs.Reading.{request_of, upkeep_of, get_of, put_of, put_if_of, remove_of, range_of, tidy_of, build_of, spec_of, keys_of, prefix_of, end_of, test_of, column_test_of, equals_of, at_least_of, columns_of, set_of, sets_of}
 
 steps : command_of (codes "step 007") ≡ Some (Once (Step (record { 0 = 7 })))
 unfolding command_of long_command_of step_of
@@ -33,6 +33,18 @@ gets = refl
 puts : command_of (codes "begin 2 put 6Aff 0=-,2=0a") ≡ Some (Once (Begin (record { 0 = 2 }) (Put (106 ∷ 255 ∷ []) ((0, []) ∷ (2, 10 ∷ []) ∷ []))))
 unfolding command_of long_command_of begin_of request_of put_of sets_of set_of decode_pairs
 puts = refl
+
+puts_over_a_version : request_of (codes "putif 61 7 0=0a") ≡ Some (PutIf (97 ∷ []) ((0, 10 ∷ []) ∷ []) 7)
+unfolding request_of put_if_of sets_of set_of decode_pairs
+puts_over_a_version = refl
+
+puts_over_none : command_of (codes "alone putif - 0 -") ≡ Some (Alone (PutIf [] [] 0))
+unfolding command_of long_command_of alone_of request_of put_if_of sets_of
+puts_over_none = refl
+
+over_too_large_a_version : request_of (codes "putif 61 18446744073709551616 -") ≡ None
+unfolding request_of put_if_of sets_of decode_pairs
+over_too_large_a_version = refl
 
 ranges : command_of (codes "begin 2 range 61 1000 2,0") ≡ Some (Once (Begin (record { 0 = 2 }) (Range (97 ∷ []) 1000 (2 ∷ 0 ∷ []))))
 unfolding command_of long_command_of begin_of request_of range_of columns_of decode_pairs

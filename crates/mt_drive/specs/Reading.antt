@@ -2,7 +2,7 @@
 use Rattle.std.specs.Prelude.{ℕ, ◌-◌, ◌^◌, if◌then◌else◌, List, [], codes, Option, Some, None}
 use Rattle.std.specs.Str.{bytes_eq}
 use Rattle.mt_types.specs.declared.event.Request.{Request}
-use Rattle.mt_types.specs.declared.event.Request.TheVariants.{Get, Put, Remove, Range, Tidy, Build}
+use Rattle.mt_types.specs.declared.event.Request.TheVariants.{Get, Put, PutIf, Remove, Range, Tidy, Build}
 use Rattle.mt_types.specs.declared.view.RowTest.{RowTest}
 use Rattle.mt_types.specs.declared.view.RowTest.TheVariants.{Any, Equals, AtLeast}
 use Rattle.mt_types.specs.declared.view.ViewSpec.{ViewSpec}
@@ -40,6 +40,16 @@ put_of text = do
   bytes ← bytes_of key.0
   sets ← sets_of key.1
   Some (Put bytes sets)
+
+-- KEY VERSION SETS
+unfoldable pub put_if_of : List ℕ → Option Request
+put_if_of text = do
+  key ← word_at 32 text
+  bytes ← bytes_of key.0
+  version ← word_at 32 key.1
+  number ← number_of (2 ^ 64 - 1) version.0
+  sets ← sets_of version.1
+  Some (PutIf bytes sets number)
 
 -- KEY
 unfoldable pub remove_of : List ℕ → Option Request
@@ -134,12 +144,13 @@ upkeep_of word text =
     else if bytes_eq word (codes "build") then build_of text
     else None
 
--- get KEY COLS, put KEY SETS, remove KEY, range START LIMIT COLS, tidy KEY or build SPEC
+-- get KEY COLS, put KEY SETS, putif KEY VERSION SETS, remove KEY, range START LIMIT COLS, tidy KEY or build SPEC
 unfoldable pub request_of : List ℕ → Option Request
 request_of text = do
   word ← word_at 32 text
   if bytes_eq word.0 (codes "get") then get_of word.1
       else if bytes_eq word.0 (codes "put") then put_of word.1
+      else if bytes_eq word.0 (codes "putif") then put_if_of word.1
       else if bytes_eq word.0 (codes "remove") then remove_of word.1
       else if bytes_eq word.0 (codes "range") then range_of word.1
       else upkeep_of word.0 word.1

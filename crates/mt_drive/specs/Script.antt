@@ -103,7 +103,7 @@ DoesAlone C request past (Came (Done answered)) h = (open_calls past ≡ 0) × (
     × RunsThrough pass_0 number request past (Done answered) h
     × EndsPlainly C past pass_0 number request answered (moment h))
 DoesAlone C request past (Came (Refused refusal)) h =
-    (open_calls past ≡ 0) × IsRefusedAlone request past refusal h × EndsRefused past (moment h)
+    (open_calls past ≡ 0) × IsRefusedAlone request past refusal h × EndsRefused C past request refusal (moment h)
 DoesAlone C request past Busy h = (0 < open_calls past) × (h ≡ past)
 DoesAlone C request past _ h = ⊥
 

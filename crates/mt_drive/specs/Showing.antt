@@ -58,7 +58,7 @@ answer_text (Rows pairs) = codes "rows " ++ rows_text pairs
 answer_text (Tidied rule) = codes "tidied " ++ rule_text rule
 answer_text (Built view) = codes "built " ++ decimal view.0
 
--- the number of commits that a refusal says beside its number
+-- the number of a commit that a refusal says beside its own
 abbrev pub detail_text : Option ℕ → List ℕ
 detail_text None = []
 detail_text (Some at) = codes " " ++ decimal at
@@ -121,6 +121,8 @@ spec_text (views.Prefix key test) = codes "prefix " ++ bytes_text key ++ codes "
 abbrev pub request_text : Request → List ℕ
 request_text (requests.Get key columns) = codes "get " ++ bytes_text key ++ codes " " ++ columns_text columns
 request_text (requests.Put key sets) = codes "put " ++ bytes_text key ++ codes " " ++ sets_text sets
+request_text (requests.PutIf key sets version) =
+    codes "putif " ++ bytes_text key ++ (codes " " ++ decimal version ++ codes " ") ++ sets_text sets
 request_text (requests.Remove key) = codes "remove " ++ bytes_text key
 request_text (requests.Range start limit columns) =
     codes "range " ++ bytes_text start ++ (codes " " ++ decimal limit ++ codes " ") ++ columns_text columns

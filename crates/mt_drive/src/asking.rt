@@ -3,12 +3,12 @@
 ghost use Rattle.std.specs.Prelude.{◌≡◌, ◌++◌, OnOk, IfOk, string_bytes};
 ghost use Rattle.mt_drive.specs.Showing.{columns_text, set_text, sets_text, test_text, end_text, spec_text, request_text};
 ghost use Rattle.mt_types.specs.declared.view.RowTest.TheVariants.{Equals};
-ghost use Rattle.mt_types.specs.declared.event.Request.TheVariants.{Range};
+ghost use Rattle.mt_types.specs.declared.event.Request.TheVariants.{PutIf, Range};
 
 use crate::showing::{push_bytes, push_comma};
 use bytes::Bytes;
 use mt_types::event::Request;
-use mt_types::row::{Column, ColumnNumbers};
+use mt_types::row::{Column, ColumnNumbers, Sets};
 use mt_types::view::{RowTest, ViewSpec};
 use std::alloc::{AllocError, Global};
 
@@ -102,6 +102,22 @@ fn push_spec(alloc: Global, out: &mut String, spec: &ViewSpec) -> Result<(), All
     }
 }
 
+fn push_put_if(
+    alloc: Global,
+    out: &mut String,
+    key: &Bytes,
+    sets: &Sets,
+    version: u64,
+) -> Result<(), AllocError>
+    ensures { OnOk result (string_bytes out.new
+        ≡ string_bytes out.old ++ request_text (PutIf key.now sets.now version)) }
+{
+    out.push_str("putif ")?;
+    push_bytes(alloc, out, key.as_slice())?;
+    write!(out, " {version} ")?;
+    push_sets(alloc, out, sets.as_slice())
+}
+
 fn push_range(
     alloc: Global,
     out: &mut String,
@@ -134,6 +150,7 @@ fn push_request(alloc: Global, out: &mut String, request: &Request) -> Result<()
             out.push_str(" ")?;
             push_sets(alloc, out, sets.as_slice())
         }
+        Request::PutIf { key, sets, version } => push_put_if(alloc, out, key, sets, *version),
         Request::Remove { key } => {
             out.push_str("remove ")?;
             push_bytes(alloc, out, key.as_slice())

@@ -2,7 +2,7 @@
 
 ghost use Rattle.std.specs.Prelude.{◌≡◌};
 ghost use Rattle.mt_drive.specs.Words.{Gives};
-ghost use Rattle.mt_drive.specs.Reading.{columns_of, sets_of, get_of, put_of, remove_of, range_of, tidy_of, equals_of, at_least_of, column_test_of, test_of, end_of, keys_of, prefix_of, spec_of, build_of, upkeep_of, request_of};
+ghost use Rattle.mt_drive.specs.Reading.{columns_of, sets_of, get_of, put_of, put_if_of, remove_of, range_of, tidy_of, equals_of, at_least_of, column_test_of, test_of, end_of, keys_of, prefix_of, spec_of, build_of, upkeep_of, request_of};
 
 use crate::fault::LineError;
 use crate::words::{Part, bytes_from, cut, number, read_parts};
@@ -67,6 +67,18 @@ fn put(alloc: Global, text: &[u8]) -> Result<Request, LineError>
     let key = bytes_from(alloc, word)?;
     let sets = sets(alloc, rest)?;
     Ok(Request::Put { key, sets })
+}
+
+#[tactic(auto, unfolding(crate::specs::Reading::put_if_of))]
+fn put_if(alloc: Global, text: &[u8]) -> Result<Request, LineError>
+    ensures { Gives (λ r. r) result (put_if_of text.now) }
+{
+    let (word, rest) = cut(text, b' ')?;
+    let key = bytes_from(alloc, word)?;
+    let (word, rest) = cut(rest, b' ')?;
+    let version = number(word, u64::MAX)?;
+    let sets = sets(alloc, rest)?;
+    Ok(Request::PutIf { key, sets, version })
 }
 
 #[tactic(auto, unfolding(crate::specs::Reading::remove_of))]
@@ -216,9 +228,9 @@ fn upkeep(alloc: Global, word: &[u8], text: &[u8]) -> Result<Request, LineError>
     }
 }
 
-/// The request that a text says: `get KEY COLS`, `put KEY SETS`, `remove KEY`, `range START LIMIT COLS`, `tidy KEY` or
-/// `build SPEC`, its words parted by one space. Costs a look at each byte, and an allocation for each key, each list
-/// and each column.
+/// The request that a text says: `get KEY COLS`, `put KEY SETS`, `putif KEY VERSION SETS`, `remove KEY`,
+/// `range START LIMIT COLS`, `tidy KEY` or `build SPEC`, its words parted by one space. Costs a look at each byte, and
+/// an allocation for each key, each list and each column.
 #[tactic(auto, unfolding(crate::specs::Reading::request_of))]
 pub fn read_request(alloc: Global, text: &[u8]) -> Result<Request, LineError>
     ensures { Gives (λ r. r) result (request_of text.now) }
@@ -228,6 +240,8 @@ pub fn read_request(alloc: Global, text: &[u8]) -> Result<Request, LineError>
         get(alloc, rest)
     } else if word == b"put".as_slice() {
         put(alloc, rest)
+    } else if word == b"putif".as_slice() {
+        put_if(alloc, rest)
     } else if word == b"remove".as_slice() {
         remove(alloc, rest)
     } else if word == b"range".as_slice() {

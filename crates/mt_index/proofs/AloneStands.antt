@@ -13,7 +13,7 @@ use Rattle.std.proofs.lemmas.List.Elements.{All-nil, All-cons, All-head, All-tai
 use Rattle.mt_types.specs.Rows.{Rows, shown}
 use Rattle.mt_types.specs.declared.row.Row.{Row}
 use Rattle.mt_types.specs.declared.event.Answer.TheVariants.{Absent, Found, Rows as RowsAnswer}
-use Rattle.mt_types.specs.declared.event.Request.TheVariants.{Get as GetRequest, Put as PutRequest, Remove as RemoveRequest, Range as RangeRequest, Tidy as TidyRequest, Build as BuildRequest}
+use Rattle.mt_types.specs.declared.event.Request.TheVariants.{Get as GetRequest, Put as PutRequest, PutIf as PutIfRequest, Remove as RemoveRequest, Range as RangeRequest, Tidy as TidyRequest, Build as BuildRequest}
 use Rattle.mt_slice.specs.Place.{AreBytes, place_of}
 use Rattle.mt_chart.specs.ScanRun.{Stood, AllHave}
 use Rattle.mt_chart.specs.KeyAnswer.{KeysAreBytes}
@@ -25,8 +25,9 @@ use Rattle.mt_types.specs.declared.event.Outcome.TheVariants.{Call as Called, Mo
 use Rattle.mt_types.specs.declared.refusal.Refusal.{Refusal}
 use Rattle.mt_promise.specs.History.{History, happening, moment, rows, OpenCall}
 use Rattle.mt_promise.specs.Legal.{reads_log}
-use Rattle.mt_promise.specs.Alone.{ShowsRow, IsRangeOfMap, GoesOnBy, RunsAlone, RunsThrough, EndsPlainly}
+use Rattle.mt_promise.specs.Alone.{ShowsRow, IsRangeOfMap, GoesOnBy, RunsAlone, RunsThrough, EndsPlainly, EndsRefused}
 use Rattle.mt_promise.proofs.AloneLemmas.{lone_calls_are_plain, lone_refusals_do_nothing}
+use Rattle.mt_promise.proofs.RefusalLemmas.{turned_away_plainly}
 use Rattle.mt_commit.specs.Log.{LogView, newest, trimmed, IsLog}
 use Rattle.mt_commit.proofs.LogLemmas.{newest-trimmed}
 use Rattle.mt_arena.specs.Arena.{ArenaView}
@@ -234,7 +235,8 @@ asks_get (Get own) key asked is = tt
 asks_get (Write write) key asked is = edit_asks write.key write.edit key asked is
   where
     edit_asks : (own : List ℕ) (edit : Edit) (key asked : List ℕ) → edit_request own edit ≡ GetRequest key asked → ⊥
-    edit_asks own (Put sets) key asked is = let clash : PutRequest own sets ≡ GetRequest key asked = is in cc
+    edit_asks own (Put sets None) key asked is = let clash : PutRequest own sets ≡ GetRequest key asked = is in cc
+    edit_asks own (Put sets (Some version)) key asked is = let clash : PutIfRequest own sets version ≡ GetRequest key asked = is in cc
     edit_asks own Remove key asked is = let clash : RemoveRequest own ≡ GetRequest key asked = is in cc
 asks_get (Range range) key asked is = absurd (let clash : RangeRequest range.start range.limit range.columns ≡ GetRequest key asked = is in cc)
 asks_get (Tidy tidy) key asked is = absurd (let clash : TidyRequest tidy.key ≡ GetRequest key asked = is in cc)
@@ -347,7 +349,7 @@ refuses_plainly begun s t request number refusal from steps h stands =
       stands = stood;
       ran = inr through.0;
       short = through.1;
-      nothing = lone_refusals_do_nothing t.columns request number refusal opens h past alone stood.legal;
+      nothing = subst (λ (C : ℕ). EndsRefused C h request refusal (moment after)) (steps-columns s t number.0 (Refused refusal) steps ∙ from.columns) (lone_refusals_do_nothing t.columns request number refusal opens h past alone stood.legal);
     }
 
 -- or its begin is refused
@@ -357,7 +359,7 @@ begin_refuses_plainly s request refusal idle begins h stands = record {
   stands = begins-stands s s pass_0 request (Refused refusal) h begins stands;
   ran = inl refl;
   short = tt;
-  nothing = record { commits = refl; views = refl; closed = none_open s idle h stands };
+  nothing = record { plain = turned_away_plainly s.columns h pass_0 request refusal 0 (begins-stands s s pass_0 request (Refused refusal) h begins stands).legal.1; commits = refl; views = refl; closed = none_open s idle h stands };
 }
 
 -- a step comes to nothing else

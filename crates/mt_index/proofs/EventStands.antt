@@ -11,7 +11,8 @@ use Rattle.mt_types.specs.declared.numbers.PassNo.{PassNo}
 use Rattle.mt_types.specs.declared.numbers.CallNo.{CallNo}
 use Rattle.mt_types.specs.declared.event.Event.TheVariants.{Begin}
 use Rattle.mt_types.specs.declared.event.Request.{Request}
-use Rattle.mt_types.specs.declared.event.Request.TheVariants.{Put as PutRequest, Remove}
+use Rattle.mt_types.specs.Rows.{version_of}
+use Rattle.mt_types.specs.declared.event.Request.TheVariants.{Put as PutRequest, PutIf, Remove}
 use Rattle.mt_types.specs.declared.event.Outcome.{Outcome}
 use Rattle.mt_types.specs.declared.event.Outcome.TheVariants.{Call as Called, Moved as MovedOutcome, Again, Commit, Done, Applied, Current, View, Dropped, Epoch, Freed, Refused as RefusedOutcome}
 use Rattle.mt_types.specs.declared.refusal.Refusal.TheVariants.{NoSuchCall, TooManyCalls, TooManyViews, Spent}
@@ -190,7 +191,8 @@ module _ (s : MachineView) (h : History) (n : ℕ) (st : Stands s h) (kept : Cal
   no_view past committed (WriteWork g) answer right = by_edit g.edit
     where
       by_edit : (edit : Edit) → view_built (edit_request g.key edit) answer 0 ≡ []
-      by_edit (PutEdit sets) = refl
+      by_edit (PutEdit sets None) = refl
+      by_edit (PutEdit sets (Some version)) = refl
       by_edit RemoveEdit = refl
 
   none_built : (past : List Arena) (committed : Option ℕ) (reply : Reply) → IsRight past s.tree (request_of kept.work) committed reply.answer → view_built f.call.request reply.answer 0 ≡ []
@@ -203,12 +205,19 @@ module _ (s : MachineView) (h : History) (n : ℕ) (st : Stands s h) (kept : Cal
   built_stays past committed reply right = let none = ap (λ (vs : List StandingView). length vs) (none_built past committed reply right) in omega (arith, none)
 
   commit_write : (number : ℕ) (g : Write) (edit : Edit) → g.edit ≡ edit → kept.work ≡ WriteWork g → Law (Committed number) → Leads (Committed number)
-  commit_write number g (PutEdit sets) e is l goes_on sound =
+  commit_write number g (PutEdit sets None) e is l goes_on sound =
       let asked : f.call.request ≡ PutRequest g.key sets = f.related.request ∙ (ap request_of is ∙ ap (edit_request g.key) e) in
       let (before, changes) = subst (λ (r : Request). Commits s.columns s.tree then_tree s.log left r number) (ap request_of is ∙ ap (edit_request g.key) e) l.does.0 in
       commit_stands s h n kept st at f then_tree left work _ _ l.goes request l.bounds g.key before (Some (put_row s.columns number sets before)) number changes (PutChange g.key sets) refl (ap change_of asked)
       (λ stood. ap (λ (b : Option Row). insert (rows s.columns (moment h)) g.key (put_row s.columns number sets b)) stood)
       (λ next stood. subst (λ (r : Request). MayCommit s.columns h f.call r number) (sym asked) (next, f.related.committed ∙ l.does.1))
+      refl l.does.2 l.blocked l.goes.true (reads_then (Committed number) goes_on (λ refusal e. let clash : Committed number ≡ Refused refusal = e in cc)) (room_on l.reserved) sound (held_on l.bounds) building_on
+  commit_write number g (PutEdit sets (Some version)) e is l goes_on sound =
+      let asked : f.call.request ≡ PutIf g.key sets version = f.related.request ∙ (ap request_of is ∙ ap (edit_request g.key) e) in
+      let (before, of_version, changes) = subst (λ (r : Request). Commits s.columns s.tree then_tree s.log left r number) (ap request_of is ∙ ap (edit_request g.key) e) l.does.0 in
+      commit_stands s h n kept st at f then_tree left work _ _ l.goes request l.bounds g.key before (Some (put_row s.columns number sets before)) number changes (PutChange g.key sets) refl (ap change_of asked)
+      (λ stood. ap (λ (b : Option Row). insert (rows s.columns (moment h)) g.key (put_row s.columns number sets b)) stood)
+      (λ next stood. subst (λ (r : Request). MayCommit s.columns h f.call r number) (sym asked) (next, f.related.committed ∙ l.does.1, ap version_of stood ∙ of_version))
       refl l.does.2 l.blocked l.goes.true (reads_then (Committed number) goes_on (λ refusal e. let clash : Committed number ≡ Refused refusal = e in cc)) (room_on l.reserved) sound (held_on l.bounds) building_on
   commit_write number g RemoveEdit e is l goes_on sound =
       let asked : f.call.request ≡ Remove g.key = f.related.request ∙ (ap request_of is ∙ ap (edit_request g.key) e) in
@@ -260,7 +269,7 @@ module _ (s : MachineView) (h : History) (n : ℕ) (st : Stands s h) (kept : Cal
       (apart_without n s.calls.calls st.apart) (owned_end s h n kept st at f then_tree work _ _ l.goes refl) (room_end l.reserved) sound (held_end l.bounds) building_end fewer refl (order_without n 0 s.calls.calls st.in_order))
   leads (Refused refusal) l goes_on sound =
       ended _ _ _ (still s h n kept st at f then_tree left work _ _ l.goes request l.bounds l.does.0 (RefusedOutcome refusal) _ (cond reads (without_holder from left.holders) left.holders) (cond builds (s.views.building - 1) s.views.building)
-      (f.related.committed ∙ l.does.1, subst (λ (q : Request). MayEnd h f.call.began q refusal) (sym f.related.request) (may_end h f.call.began kept.work refusal (subst (WasBlocked f.call.began h) l.blocked f.related.blocked) l.does.2))
+      (f.related.committed ∙ l.does.1, subst (λ (q : Request). MayEnd s.columns h f.call.began q refusal) (sym f.related.request) (may_end s h st f.call.began f.related.began kept.work refusal (subst (WasBlocked f.call.began h) l.blocked f.related.blocked) l.does.2 l.does.3))
       refl refl refl refl
       (calls_end s h n kept st at f then_tree left work _ _ l.goes request l.bounds (RefusedOutcome refusal) refl (alike l.goes l.bounds l.does.0 (RefusedOutcome refusal) refl)
       (keys_still s h n kept st at f then_tree left work _ _ l.goes request l.bounds l.does.0 (RefusedOutcome refusal) refl) (grows_still s h n kept st at f then_tree left work _ _ l.goes request l.bounds l.does.0 (RefusedOutcome refusal) refl))

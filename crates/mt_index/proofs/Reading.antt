@@ -6,7 +6,7 @@ use Rattle.mt_types.specs.Rows.{after}
 use Rattle.mt_types.specs.declared.row.Change.{Change}
 use Rattle.mt_types.specs.declared.row.Delta.{Delta}
 use Rattle.mt_types.specs.declared.view.ViewSpec.{ViewSpec}
-use Rattle.mt_types.specs.declared.event.Request.TheVariants.{Get as GetRequest, Put as PutRequest, Remove as RemoveRequest, Range as RangeRequest, Tidy as TidyRequest, Build as BuildRequest}
+use Rattle.mt_types.specs.declared.event.Request.TheVariants.{Get as GetRequest, Put as PutRequest, PutIf as PutIfRequest, Remove as RemoveRequest, Range as RangeRequest, Tidy as TidyRequest, Build as BuildRequest}
 use Rattle.mt_promise.specs.History.{History, Moment, moment, rows}
 use Rattle.mt_promise.specs.Legal.{reads_log}
 use Rattle.mt_commit.specs.Log.{newest, delta_of}
@@ -179,7 +179,8 @@ module _ (s : MachineView) (h : History) (st : Stands s h) where
     no_build (TidyWork g) never = tt
 
     no_edit : (key : List ℕ) (edit : Edit) (spec : ViewSpec) → edit_request key edit ≡ BuildRequest spec → ⊥
-    no_edit key (PutEdit sets) spec is = let clash : PutRequest key sets ≡ BuildRequest spec = is in cc
+    no_edit key (PutEdit sets None) spec is = let clash : PutRequest key sets ≡ BuildRequest spec = is in cc
+    no_edit key (PutEdit sets (Some version)) spec is = let clash : PutIfRequest key sets version ≡ BuildRequest spec = is in cc
     no_edit key RemoveEdit spec is = let clash : RemoveRequest key ≡ BuildRequest spec = is in cc
 
     -- after a step of its own that ends nothing

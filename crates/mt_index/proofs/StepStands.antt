@@ -10,7 +10,7 @@ use Rattle.std.specs.Ordering.{is_eq}
 use Rattle.std.proofs.lemmas.Cmp.{tied_itself}
 use Rattle.std.proofs.lemmas.List.{length-append, drop-append-le}
 use Rattle.mt_types.specs.Keys.{key_cmp}
-use Rattle.mt_types.specs.Rows.{Rows, after, after_change}
+use Rattle.mt_types.specs.Rows.{Rows, after, after_change, version_of}
 use Rattle.mt_types.specs.declared.row.Row.{Row}
 use Rattle.mt_types.specs.declared.row.Delta.{Delta}
 use Rattle.mt_types.specs.declared.row.Change.{Change}
@@ -21,9 +21,9 @@ use Rattle.mt_types.specs.declared.event.Answer.TheVariants.{Absent, Found as Fo
 use Rattle.mt_types.specs.declared.event.Outcome.{Outcome}
 use Rattle.mt_types.specs.declared.event.Outcome.TheVariants.{Commit}
 use Rattle.mt_types.specs.declared.refusal.Refusal.{Refusal}
-use Rattle.mt_types.specs.declared.refusal.Refusal.TheVariants.{NoMemory, ArenaFull, FeedFull, Spent}
+use Rattle.mt_types.specs.declared.refusal.Refusal.TheVariants.{NoMemory, ArenaFull, FeedFull, Spent, OtherVersion}
 use Rattle.mt_promise.specs.History.{History, Happening, Moment, OpenCall, StandingView, happening, moment, rows, call_of, without_call, replace_call, after_step, after_call_step, change_of}
-use Rattle.mt_promise.specs.RightAnswers.{RightAnswer, Lacks, Shows}
+use Rattle.mt_promise.specs.RightAnswers.{RightAnswer, Lacks, Shows, HasVersion}
 use Rattle.mt_promise.specs.Legal.{MayStepAt, MayStep, MayEnd, MayCommit}
 use Rattle.mt_promise.proofs.HistoryLemmas.{after-append, Sometime-here}
 use Rattle.mt_slice.specs.Place.{AreBytes, place_of}
@@ -40,7 +40,7 @@ use Rattle.mt_index.specs.declared.calls.Call.{Call}
 use Rattle.mt_works.specs.declared.work.Work.{Work}
 use Rattle.mt_works.specs.declared.work.Work.TheVariants.{Get as GetWork, Write as WriteWork, Range as RangeWork, Tidy as TidyWork, Build as BuildWork}
 use Rattle.mt_steps.specs.World.{IsTaken, World, IsSame, Goes, NotAmong}
-use Rattle.mt_steps.specs.Step.{RowIs, IsQuiet, Changes, IsRight, MayRefuse, blocked_by, bounds}
+use Rattle.mt_steps.specs.Step.{RowIs, IsQuiet, Changes, IsRight, MayRefuse, TellsVersion, blocked_by, bounds}
 use Rattle.mt_write.specs.declared.writing.Edit.{Edit}
 use Rattle.mt_write.specs.declared.writing.Edit.TheVariants.{Put as PutEdit, Remove as RemoveEdit}
 use Rattle.mt_write.specs.Writing.{edit_request}
@@ -96,38 +96,54 @@ put_get rs key q then = elim (key_cmp q key) as (λ r. key_cmp q key ≡ r → (
 
 -- ---- refusals and answers, by the kind of the call
 -- a write may end so
-end_write : (past : History) (began : ℕ) (key : List ℕ) (edit : Edit) (refusal : Refusal) → WasBlocked began past (blocked_by refusal) → MayRefuse (edit_request key edit) refusal → MayEnd past began (edit_request key edit) refusal
-end_write past began key (PutEdit sets) NoMemory was m = tt
-end_write past began key (PutEdit sets) ArenaFull was m = tt
-end_write past began key (PutEdit sets) (FeedFull slowest) was m = was
-end_write past began key (PutEdit sets) Spent was m = tt
-end_write past began key (PutEdit sets) _ was m = absurd m
-end_write past began key RemoveEdit NoMemory was m = tt
-end_write past began key RemoveEdit (FeedFull slowest) was m = was
-end_write past began key RemoveEdit Spent was m = tt
-end_write past began key RemoveEdit _ was m = absurd m
+end_write : (s : MachineView) (past : History) (st : Stands s past) (began : ℕ) → began ≤ length past → (key : List ℕ) (edit : Edit) (refusal : Refusal) → WasBlocked began past (blocked_by refusal) → MayRefuse (edit_request key edit) refusal → TellsVersion s.tree (edit_request key edit) refusal
+    → MayEnd s.columns past began (edit_request key edit) refusal
+end_write s past st began since key (PutEdit sets None) NoMemory was m told = tt
+end_write s past st began since key (PutEdit sets None) ArenaFull was m told = tt
+end_write s past st began since key (PutEdit sets None) (FeedFull slowest) was m told = was
+end_write s past st began since key (PutEdit sets None) Spent was m told = tt
+end_write s past st began since key (PutEdit sets None) _ was m told = absurd m
+end_write s past st began since key (PutEdit sets (Some version)) NoMemory was m told = tt
+end_write s past st began since key (PutEdit sets (Some version)) ArenaFull was m told = tt
+end_write s past st began since key (PutEdit sets (Some version)) (FeedFull slowest) was m told = was
+end_write s past st began since key (PutEdit sets (Some version)) Spent was m told = tt
+end_write s past st began since key (PutEdit sets (Some version)) (OtherVersion other) was m told =
+    (m, Sometime-here began (HasVersion s.columns key other) past since (ap version_of (row_is s past st key told.there told.bytes told.stands) ∙ told.is))
+end_write s past st began since key (PutEdit sets (Some version)) _ was m told = absurd m
+end_write s past st began since key RemoveEdit NoMemory was m told = tt
+end_write s past st began since key RemoveEdit (FeedFull slowest) was m told = was
+end_write s past st began since key RemoveEdit Spent was m told = tt
+end_write s past st began since key RemoveEdit _ was m told = absurd m
 
-pub may_end : (past : History) (began : ℕ) (work : Work) (refusal : Refusal) → WasBlocked began past (blocked_by refusal) → MayRefuse (request_of work) refusal → MayEnd past began (request_of work) refusal
-may_end past began (WriteWork g) refusal was m = end_write past began g.key g.edit refusal was m
-may_end past began (GetWork g) NoMemory was m = tt
-may_end past began (GetWork g) _ was m = absurd m
-may_end past began (RangeWork g) NoMemory was m = tt
-may_end past began (RangeWork g) _ was m = absurd m
-may_end past began (TidyWork g) NoMemory was m = tt
-may_end past began (TidyWork g) _ was m = absurd m
-may_end past began (BuildWork g) NoMemory was m = tt
-may_end past began (BuildWork g) _ was m = absurd m
+pub may_end : (s : MachineView) (past : History) (st : Stands s past) (began : ℕ) → began ≤ length past → (work : Work) (refusal : Refusal) → WasBlocked began past (blocked_by refusal) → MayRefuse (request_of work) refusal → TellsVersion s.tree (request_of work) refusal
+    → MayEnd s.columns past began (request_of work) refusal
+may_end s past st began since (WriteWork g) refusal was m told = end_write s past st began since g.key g.edit refusal was m told
+may_end s past st began since (GetWork g) NoMemory was m told = tt
+may_end s past st began since (GetWork g) _ was m told = absurd m
+may_end s past st began since (RangeWork g) NoMemory was m told = tt
+may_end s past st began since (RangeWork g) _ was m told = absurd m
+may_end s past st began since (TidyWork g) NoMemory was m told = tt
+may_end s past st began since (TidyWork g) _ was m told = absurd m
+may_end s past st began since (BuildWork g) NoMemory was m told = tt
+may_end s past st began since (BuildWork g) _ was m told = absurd m
 
 -- and what it answers is right
 answer_write : (s : MachineView) (h : History) (st : Stands s h) (call : OpenCall) (key : List ℕ) (edit : Edit) (committed : Option ℕ) (answer : Answer) (past : List Arena) → call.began ≤ length h → call.committed ≡ committed → IsRight past s.tree (edit_request key edit) committed answer
     → RightAnswer s.columns h call (edit_request key edit) answer 0
-answer_write s h st call key (PutEdit sets) committed Absent past began is m = absurd m
-answer_write s h st call key (PutEdit sets) committed (FoundAnswer row) past began is m = absurd m
-answer_write s h st call key (PutEdit sets) committed (StoredAnswer number) past began is m = is ∙ m
-answer_write s h st call key (PutEdit sets) committed (Removed number) past began is m = absurd m
-answer_write s h st call key (PutEdit sets) committed (RowsAnswer pairs) past began is m = absurd m
-answer_write s h st call key (PutEdit sets) committed (Tidied rule) past began is m = absurd m
-answer_write s h st call key (PutEdit sets) committed (Built view) past began is m = absurd m
+answer_write s h st call key (PutEdit sets None) committed Absent past began is m = absurd m
+answer_write s h st call key (PutEdit sets None) committed (FoundAnswer row) past began is m = absurd m
+answer_write s h st call key (PutEdit sets None) committed (StoredAnswer number) past began is m = is ∙ m
+answer_write s h st call key (PutEdit sets None) committed (Removed number) past began is m = absurd m
+answer_write s h st call key (PutEdit sets None) committed (RowsAnswer pairs) past began is m = absurd m
+answer_write s h st call key (PutEdit sets None) committed (Tidied rule) past began is m = absurd m
+answer_write s h st call key (PutEdit sets None) committed (Built view) past began is m = absurd m
+answer_write s h st call key (PutEdit sets (Some version)) committed Absent past began is m = absurd m
+answer_write s h st call key (PutEdit sets (Some version)) committed (FoundAnswer row) past began is m = absurd m
+answer_write s h st call key (PutEdit sets (Some version)) committed (StoredAnswer number) past began is m = is ∙ m
+answer_write s h st call key (PutEdit sets (Some version)) committed (Removed number) past began is m = absurd m
+answer_write s h st call key (PutEdit sets (Some version)) committed (RowsAnswer pairs) past began is m = absurd m
+answer_write s h st call key (PutEdit sets (Some version)) committed (Tidied rule) past began is m = absurd m
+answer_write s h st call key (PutEdit sets (Some version)) committed (Built view) past began is m = absurd m
 answer_write s h st call key RemoveEdit committed Absent past began is (none, bytes, there) = (is ∙ none, Sometime-here call.began (Lacks s.columns key) h began (row_is s h st key None bytes there))
 answer_write s h st call key RemoveEdit committed (FoundAnswer row) past began is m = absurd m
 answer_write s h st call key RemoveEdit committed (StoredAnswer number) past began is m = absurd m

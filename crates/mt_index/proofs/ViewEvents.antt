@@ -263,14 +263,14 @@ module _ (s : MachineView) (h : History) (st : Stands s h) (n : ℕ) (kept : Cal
             few = omega (arith, few);
           }
 
-      why : (refusal : Refusal) → (refusal ≡ NoMemory) ⊎ ((refusal ≡ Spent) × (greatest_number ≤ s.views.built)) → MayEnd h f.call.began (BuildRequest state.spec) refusal
-      why refusal (inl memory) = subst (MayEnd h f.call.began (BuildRequest state.spec)) (sym memory) tt
-      why refusal (inr spent) = subst (MayEnd h f.call.began (BuildRequest state.spec)) (sym spent.0) (let built = st.views.built in let all = spent.1 in omega (arith, built, all))
+      why : (refusal : Refusal) → (refusal ≡ NoMemory) ⊎ ((refusal ≡ Spent) × (greatest_number ≤ s.views.built)) → MayEnd s.columns h f.call.began (BuildRequest state.spec) refusal
+      why refusal (inl memory) = subst (MayEnd s.columns h f.call.began (BuildRequest state.spec)) (sym memory) tt
+      why refusal (inr spent) = subst (MayEnd s.columns h f.call.began (BuildRequest state.spec)) (sym spent.0) (let built = st.views.built in let all = spent.1 in omega (arith, built, all))
 
       may : MayStepAt s.columns h (call_of n (moment h).calls) (Refused o.refusal) 0
       may = subst (λ z. MayStepAt s.columns h z (Refused o.refusal) 0) (sym f.of) (
         f.related.committed ∙ ap (λ (w : Work). (held w).committed) is_build,
-        subst (λ (q : Request). MayEnd h f.call.began q o.refusal) (sym request) (why o.refusal o.why),
+        subst (λ (q : Request). MayEnd s.columns h f.call.began q o.refusal) (sym request) (why o.refusal o.why),
       )
 
 pub ends-stand : (s t : MachineView) (n : ℕ) (outcome : Outcome) (h : History) → EndsBuild s n outcome t → Stands s h → (opens : ℕ) × Stands t (happening (step_event n) outcome opens ∷ h)

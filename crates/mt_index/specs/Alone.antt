@@ -54,7 +54,7 @@ pub record RefusesFrom (s : MachineView) (h : History) (request : Request) (refu
   pub ran : IsTurnedAway pass_0 request h refusal then
       ⊎ RunsThrough pass_0 (next_call s) request h (Refused refusal) then
   pub short : RanShortly s h request refusal then ran
-  pub nothing : EndsRefused h (moment then)
+  pub nothing : EndsRefused s.columns h request refusal (moment then)
 
 -- wherever the machine stood
 abbrev pub AnswersPlainly : MachineView → Request → Reply → MachineView → Type 0

@@ -6,11 +6,12 @@ use mt_drive::reading::read_request;
 use std::test::Fail;
 
 // Requests of each kind, as they are written.
-const REQUESTS: [&[u8]; 10] = [
+const REQUESTS: [&[u8]; 11] = [
     b"get - all",
     b"get 61 2,0",
     b"put 6a -",
     b"put 61 0=-,255=00ff",
+    b"putif 61 18446744073709551615 0=00",
     b"remove 61",
     b"range - 65535 1",
     b"tidy 61",

@@ -5,23 +5,25 @@ use Rattle.std.specs.FinMap.{get}
 use Rattle.std.proofs.lemmas.Bool.{eq-eqb}
 use Rattle.std.proofs.lemmas.List.{append-nil}
 use Rattle.std.proofs.lemmas.List.Elements.{All-weaker}
-use Rattle.mt_types.specs.Rows.{Rows, after}
+use Rattle.mt_types.specs.Rows.{Rows, after, version_of}
 use Rattle.mt_types.specs.declared.numbers.PassNo.{PassNo}
 use Rattle.mt_types.specs.declared.numbers.CallNo.{CallNo}
 use Rattle.mt_types.specs.declared.row.Row.{Row}
 use Rattle.mt_types.specs.declared.row.Change.{Change}
+use Rattle.mt_types.specs.declared.refusal.Refusal.{Refusal}
+use Rattle.mt_types.specs.declared.refusal.Refusal.TheVariants.{OtherVersion}
 use Rattle.mt_types.specs.declared.event.Event.{Event}
 use Rattle.mt_types.specs.declared.event.Event.TheVariants.{Begin, Step}
 use Rattle.mt_types.specs.declared.event.Outcome.{Outcome}
 use Rattle.mt_types.specs.declared.event.Outcome.TheVariants.{Call, Moved, Again, Commit, Done, Refused}
 use Rattle.mt_types.specs.declared.event.Request.{Request}
-use Rattle.mt_types.specs.declared.event.Request.TheVariants.{Get, Put, Remove, Range, Tidy, Build}
+use Rattle.mt_types.specs.declared.event.Request.TheVariants.{Get, Put, PutIf, Remove, Range, Tidy, Build}
 use Rattle.mt_types.specs.declared.event.Answer.{Answer}
 use Rattle.mt_types.specs.declared.event.Answer.TheVariants.{Absent, Found, Stored, Removed, Rows as RowsAnswer, Tidied, Built}
 use Rattle.mt_promise.specs.History.{History, Happening, happening, Moment, OpenCall, StandingView, without_call, moment, rows, Sometime, Throughout, call_of, new_call, replace_call, after_event, after_call_step, after_step, change_of, view_built}
-use Rattle.mt_promise.specs.RightAnswers.{RightAnswer, RightRange, Shows, Lacks, Stands}
-use Rattle.mt_promise.specs.Legal.{Legal, MayHappen, MayStep, MayStepAt}
-use Rattle.mt_promise.specs.Alone.{ShowsRow, IsRangeOfMap, IsPlain, GoesOnBy, AreStepsOf, RunsAlone, LoneCallsArePlain, LoneRefusalsDoNothing}
+use Rattle.mt_promise.specs.RightAnswers.{RightAnswer, RightRange, Shows, Lacks, Stands, HasVersion}
+use Rattle.mt_promise.specs.Legal.{Legal, MayHappen, MayStep, MayStepAt, MayEnd}
+use Rattle.mt_promise.specs.Alone.{ShowsRow, IsRangeOfMap, IsPlain, IsPlainRefusal, GoesOnBy, AreStepsOf, RunsAlone, LoneCallsArePlain, LoneRefusalsDoNothing}
 use Rattle.mt_promise.proofs.HistoryLemmas.{happened_is}
 use Rattle.mt_promise.proofs.CallLemmas.{began_so}
 
@@ -49,6 +51,7 @@ sometime_with began P Q (x ∷ h) t s = elim s [
 -- which change a call may have made, where these were the rows
 abbrev pub MayHaveMade : Request → Rows → Type 0
 MayHaveMade (Put key sets) map = Unit {0}
+MayHaveMade (PutIf key sets version) map = version_of (get map key) ≡ version
 MayHaveMade (Remove key) map = IsSome (get map key)
 MayHaveMade _ map = ⊥
 
@@ -132,6 +135,7 @@ module _ (C : ℕ) (request : Request) (number : CallNo) (before h : History) (s
   may_make : (q : Request) (n : ℕ) (none : (call.committed ≡ None) × ((moment h).commits ≡ (moment before).commits)) → MayStep C h (record call { request = q }) (Commit n) 0
       → (n ≡ length (moment before).commits + 1) × MayHaveMade q (rows C (moment before))
   may_make (Put key sets) n none may = (may.0 ∙ ap (λ (l : List Change). length l + 1) none.1, tt)
+  may_make (PutIf key sets version) n none may = (may.0 ∙ ap (λ (l : List Change). length l + 1) none.1, subst (λ (l : List Change). version_of (get (after C l) key) ≡ version) none.1 may.2)
   may_make (Remove key) n none may = (may.0 ∙ ap (λ (l : List Change). length l + 1) none.1, subst (λ (l : List Change). IsSome (get (after C l) key)) none.1 may.2)
   may_make (Get key asked) n none may = absurd may
   may_make (Range start limit asked) n none may = absurd may
@@ -143,6 +147,7 @@ module _ (C : ℕ) (request : Request) (number : CallNo) (before h : History) (s
 
   none_before : (q : Request) (n : ℕ) → MayStep C h (record call { request = q }) (Commit n) 0 → call.committed ≡ None
   none_before (Put key sets) n may = may.1
+  none_before (PutIf key sets version) n may = may.1
   none_before (Remove key) n may = may.1
   none_before (Get key asked) n may = absurd may
   none_before (Range start limit asked) n may = absurd may
@@ -279,6 +284,10 @@ module _ (C : ℕ) (before h : History) (call : OpenCall) (opens : ℕ) (began :
     | inl none ↦ (let clash : ◌≡◌ {A = Option ℕ} (Some number) None = sym right ∙ none.0 in cc)
     | inr one ↦ (change_of (Put key sets), (same_some number _ call.committed right one.0, refl), one.1, refl)
   ]
+  did (PutIf key sets version) (Stored number) right done = elim done [
+    | inl none ↦ (let clash : ◌≡◌ {A = Option ℕ} (Some number) None = sym right ∙ none.0 in cc)
+    | inr one ↦ (change_of (PutIf key sets version), (one.2, same_some number _ call.committed right one.0, refl), one.1, refl)
+  ]
   did (Remove key) (Removed number) right done = elim done [
     | inl none ↦ (let clash : ◌≡◌ {A = Option ℕ} (Some number) None = sym right ∙ none.0 in cc)
     | inr one ↦ (change_of (Remove key), (one.2, same_some number _ call.committed right one.0, refl), one.1, refl)
@@ -325,17 +334,42 @@ lone_calls_are_plain C request number reply end before past run legal =
       closed = ap (λ (m : Moment). m.calls) same ∙ closed_alone (moment past).calls s.call s.is_open.calls;
     }
 
+-- a call that has no commit has left the rows as they were
+untouched : (C : ℕ) (request : Request) (before h : History) (committed : Option ℕ) (commits : List Change) → committed ≡ None → HasDone C request before h committed commits
+    → (commits ≡ (moment before).commits) × Throughout (length before) (SameCommits before) h
+untouched C request before h committed commits none done = elim done [
+  | inl quiet ↦ (quiet.1, quiet.2)
+  | inr one ↦ (let clash : ◌≡◌ {A = Option ℕ} (Some (length (moment before).commits + 1)) None = sym one.0 ∙ none in absurd (cc))
+]
+
+-- why it is refused
+found_other : (C : ℕ) (key : List ℕ) (found : ℕ) (before h : History) → Throughout (length before) (SameCommits before) h → Sometime (length before) (HasVersion C key found) h → found ≡ version_of (get (rows C (moment before)) key)
+found_other C key found before h same some =
+    let (m, is, has) = sometime_with (length before) (SameCommits before) (HasVersion C key found) h same some in
+    sym (subst (λ (map : Rows). version_of (get map key) ≡ found) (rows_same C before m is) has)
+
+plainly_refused : (C : ℕ) (before h : History) → Throughout (length before) (SameCommits before) h → (request : Request) (refusal : Refusal) → MayEnd C h (length before) request refusal
+    → IsPlainRefusal (rows C (moment before)) request refusal
+plainly_refused C before h same (PutIf key sets version) (OtherVersion other) may = (found_other C key other before h same may.1, may.0)
+plainly_refused C before h same (Get key asked) (OtherVersion other) may = absurd may
+plainly_refused C before h same (Put key sets) (OtherVersion other) may = absurd may
+plainly_refused C before h same (Remove key) (OtherVersion other) may = absurd may
+plainly_refused C before h same (Range start limit asked) (OtherVersion other) may = absurd may
+plainly_refused C before h same (Tidy key) (OtherVersion other) may = absurd may
+plainly_refused C before h same (Build spec) (OtherVersion other) may = absurd may
+plainly_refused C before h same _ _ may = tt
+
 pub lone_refusals_do_nothing : LoneRefusalsDoNothing
 lone_refusals_do_nothing C request number refusal end before past run legal =
     let s = since C request number before past run legal.0 in
     let x = happening (Step number) (Refused refusal) end in
     let same = after_it C request number before past s x refl in
     let may = may_step C request number before past s x refl legal.1 in
+    let (unchanged, all) = untouched C request before past s.call.committed (moment past).commits may.0 s.done in
+    let ends = subst (λ (q : Request). MayEnd C past (length before) q refusal) s.is_open.asks (subst (λ (n : ℕ). MayEnd C past n s.call.request refusal) s.is_open.began may.1) in
     record {
-      commits = ap (λ (m : Moment). m.commits) same ∙ elim s.done [
-        | inl none ↦ none.1
-        | inr one ↦ (let clash : ◌≡◌ {A = Option ℕ} (Some (length (moment before).commits + 1)) None = sym one.0 ∙ may.0 in cc)
-      ];
+      plain = plainly_refused C before past all request refusal ends;
+      commits = ap (λ (m : Moment). m.commits) same ∙ unchanged;
       views = ap (λ (m : Moment). m.views) same ∙ s.is_open.views;
       closed = ap (λ (m : Moment). m.calls) same ∙ closed_alone (moment past).calls s.call s.is_open.calls;
     }

@@ -11,5 +11,6 @@ pub mod OnceLemmas
 pub mod PageExamples
 pub mod PageLemmas
 pub mod RangeLemmas
+pub mod RefusalLemmas
 pub mod StandLemmas
 pub mod ViewLemmas

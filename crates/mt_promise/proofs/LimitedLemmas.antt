@@ -33,7 +33,7 @@ use Rattle.mt_types.specs.Numbers.{greatest_number}
 use Rattle.mt_types.specs.declared.numbers.CallNo.{CallNo}
 use Rattle.mt_types.specs.declared.event.Reply.{Reply}
 use Rattle.mt_types.specs.declared.event.Request.{Request}
-use Rattle.mt_types.specs.declared.event.Request.TheVariants.{Get, Put, Remove, Range, Tidy, Build}
+use Rattle.mt_types.specs.declared.event.Request.TheVariants.{Get, Put, PutIf, Remove, Range, Tidy, Build}
 use Rattle.mt_types.specs.declared.event.Answer.{Answer}
 use Rattle.mt_types.specs.declared.event.Answer.TheVariants.{Absent, Found, Stored, Removed, Rows as RowsAnswer, Tidied, Built}
 use Rattle.mt_types.specs.declared.event.Event.{Event}
@@ -283,6 +283,10 @@ AreLimited changes = AllByRecursion ChangeIsLimited changes
 commit_limited : (C : ℕ) (past : History) (call : OpenCall) (request : Request) (number opens : ℕ) → MayStep C past (record call { request = request }) (Commit number) opens
     → request_fault C request ≡ None → AreLimited (moment past).commits → AreLimited ((moment past).commits ++ change_of request)
 commit_limited C past call (Put key sets) number opens may asks were =
+    let limits = neither_of (key_fault key) (sets_fault C sets) asks in
+    let short = neither_of (columns_fault C (map (λ set. set.0) sets)) _ limits.1 in
+    added ChangeIsLimited (moment past).commits (PutChange key sets) were (key_fits key limits.0, none_long sets (not_refused _ _ short.1))
+commit_limited C past call (PutIf key sets version) number opens may asks were =
     let limits = neither_of (key_fault key) (sets_fault C sets) asks in
     let short = neither_of (columns_fault C (map (λ set. set.0) sets)) _ limits.1 in
     added ChangeIsLimited (moment past).commits (PutChange key sets) were (key_fits key limits.0, none_long sets (not_refused _ _ short.1))

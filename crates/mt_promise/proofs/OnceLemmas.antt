@@ -12,7 +12,7 @@ use Rattle.mt_types.specs.declared.event.Event.TheVariants.{Begin, Step, Apply, 
 use Rattle.mt_types.specs.declared.event.Outcome.{Outcome}
 use Rattle.mt_types.specs.declared.event.Outcome.TheVariants.{Call, Moved, Again, Commit, Done, Applied, Dropped, Epoch, Refused}
 use Rattle.mt_types.specs.declared.event.Request.{Request}
-use Rattle.mt_types.specs.declared.event.Request.TheVariants.{Get, Put, Remove, Range, Tidy, Build}
+use Rattle.mt_types.specs.declared.event.Request.TheVariants.{Get, Put, PutIf, Remove, Range, Tidy, Build}
 use Rattle.mt_types.specs.declared.event.Answer.{Answer}
 use Rattle.mt_types.specs.declared.event.Answer.TheVariants.{Absent, Found, Stored, Removed, Rows as RowsAnswer, Tidied, Built}
 use Rattle.mt_types.specs.declared.event.Reply.{Reply}
@@ -242,6 +242,7 @@ knows_moved m call new from committed request knows = (
 commit_next : (C : ℕ) (past : History) (call : OpenCall) (request : Request) (number note : ℕ) → MayStep C past (record call { request = request }) (Commit number) note
     → (number ≡ length (moment past).commits + 1) × ((change : Change) × (change_of request ≡ change ∷ []))
 commit_next C past call (Put key sets) number note may = (may.0, (PutChange key sets, refl))
+commit_next C past call (PutIf key sets version) number note may = (may.0, (PutChange key sets, refl))
 commit_next C past call (Remove key) number note may = (may.0, (Drop key, refl))
 commit_next C past call (Get key asked) number note may = absurd may
 commit_next C past call (Range start limit asked) number note may = absurd may
@@ -343,6 +344,8 @@ made_by : (C : ℕ) (past : History) (call : OpenCall) (request : Request) (repl
     → RightAnswer C past call request answer note → Knows (moment past).commits call → HasMade request reply (moment past)
 made_by C past call (Put key sets) reply (Stored number) note is asks from to right knows =
     (number, is, within past call reply number (PutChange key sets) from to (ap change_of asks) (knows.1 number right))
+made_by C past call (PutIf key sets version) reply (Stored number) note is asks from to right knows =
+    (number, is, within past call reply number (PutChange key sets) from to (ap change_of asks) (knows.1 number right))
 made_by C past call (Remove key) reply (Removed number) note is asks from to right knows =
     inr (number, is, within past call reply number (Drop key) from to (ap change_of asks) (knows.1 number right))
 made_by C past call (Remove key) reply Absent note is asks from to right knows = inl is
@@ -396,6 +399,7 @@ next_view : (C : ℕ) (past : History) (call : OpenCall) (request : Request) (an
 next_view C past call (Build spec) (Built number) view note e right = let same : number ≡ view = cc in (sym (ap (λ (v : ViewNo). v.0) same) ∙ right.0, refl)
 next_view C past call (Get key asked) (Built number) view note e right = absurd right
 next_view C past call (Put key sets) (Built number) view note e right = absurd right
+next_view C past call (PutIf key sets version) (Built number) view note e right = absurd right
 next_view C past call (Remove key) (Built number) view note e right = absurd right
 next_view C past call (Range start limit asked) (Built number) view note e right = absurd right
 next_view C past call (Tidy key) (Built number) view note e right = absurd right

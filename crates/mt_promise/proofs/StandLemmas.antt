@@ -17,7 +17,7 @@ use Rattle.mt_types.specs.declared.event.Event.TheVariants.{Begin, Step, Apply, 
 use Rattle.mt_types.specs.declared.event.Outcome.{Outcome}
 use Rattle.mt_types.specs.declared.event.Outcome.TheVariants.{Call, Moved, Again, Commit, Done, Applied, Current, Dropped, Epoch, Refused}
 use Rattle.mt_types.specs.declared.event.Request.{Request}
-use Rattle.mt_types.specs.declared.event.Request.TheVariants.{Get, Put, Remove, Range, Tidy, Build}
+use Rattle.mt_types.specs.declared.event.Request.TheVariants.{Get, Put, PutIf, Remove, Range, Tidy, Build}
 use Rattle.mt_types.specs.declared.event.Answer.{Answer}
 use Rattle.mt_types.specs.declared.event.Answer.TheVariants.{Absent, Found, Stored, Removed, Rows as RowsAnswer, Tidied, Built}
 
@@ -132,6 +132,7 @@ built_next C past call request (RowsAnswer pairs) note right number e = cc
 built_next C past call request (Tidied rule) note right number e = cc
 built_next C past call (Get key columns) (Built k) note right number e = absurd right
 built_next C past call (Put key sets) (Built k) note right number e = absurd right
+built_next C past call (PutIf key sets version) (Built k) note right number e = absurd right
 built_next C past call (Remove key) (Built k) note right number e = absurd right
 built_next C past call (Range start limit columns) (Built k) note right number e = absurd right
 built_next C past call (Tidy key) (Built k) note right number e = absurd right

@@ -1,9 +1,9 @@
 -- A call alone: it begins where no call is open, and nothing else happens until it has ended. It answers as a plain
 -- map does.
-use Rattle.std.specs.Prelude.{ℕ, ◌+◌, ◌≡◌, List, [], ◌∷◌, ◌++◌, length, Some, None, IsSome}
+use Rattle.std.specs.Prelude.{ℕ, ◌+◌, ◌≡◌, ◌≢◌, List, [], ◌∷◌, ◌++◌, length, Some, None, IsSome}
 use Rattle.std.specs.FinMap.{get}
 use Rattle.mt_types.specs.Ranges.{IsRangeAnswer}
-use Rattle.mt_types.specs.Rows.{Rows, shown}
+use Rattle.mt_types.specs.Rows.{Rows, shown, version_of}
 use Rattle.mt_promise.specs.History.{History, happening, Moment, moment, rows, view_built}
 use Rattle.mt_promise.specs.Legal.{Legal}
 use Rattle.mt_types.specs.declared.numbers.PassNo.{PassNo}
@@ -12,12 +12,13 @@ use Rattle.mt_types.specs.declared.row.Row.{Row}
 use Rattle.mt_types.specs.declared.row.Change.{Change}
 use Rattle.mt_types.specs.declared.row.Change.TheVariants.{Put as PutChange, Drop}
 use Rattle.mt_types.specs.declared.refusal.Refusal.{Refusal}
+use Rattle.mt_types.specs.declared.refusal.Refusal.TheVariants.{OtherVersion}
 use Rattle.mt_types.specs.declared.event.Event.TheVariants.{Begin, Step}
 use Rattle.mt_types.specs.declared.event.Outcome.{Outcome}
 use Rattle.mt_types.specs.declared.event.Outcome.TheVariants.{Call, Moved, Again, Commit, Done, Refused}
 use Rattle.mt_types.specs.declared.event.Reply.{Reply}
 use Rattle.mt_types.specs.declared.event.Request.{Request}
-use Rattle.mt_types.specs.declared.event.Request.TheVariants.{Get, Put, Remove, Range, Tidy, Build}
+use Rattle.mt_types.specs.declared.event.Request.TheVariants.{Get, Put, PutIf, Remove, Range, Tidy, Build}
 use Rattle.mt_types.specs.declared.event.Answer.{Answer}
 use Rattle.mt_types.specs.declared.event.Answer.TheVariants.{Absent, Found, Stored, Removed, Rows as RowsAnswer, Tidied, Built}
 
@@ -35,6 +36,8 @@ abbrev pub IsPlain : Rows → ℕ → Request → Answer → List Change → Typ
 IsPlain map commits (Get key asked) Absent made = (get map key ≡ None) × (made ≡ [])
 IsPlain map commits (Get key asked) (Found row) made = ShowsRow map asked key row × (made ≡ [])
 IsPlain map commits (Put key sets) (Stored number) made = (number ≡ commits + 1) × (made ≡ PutChange key sets ∷ [])
+IsPlain map commits (PutIf key sets version) (Stored number) made =
+    (version_of (get map key) ≡ version) × (number ≡ commits + 1) × (made ≡ PutChange key sets ∷ [])
 IsPlain map commits (Remove key) (Removed number) made =
     IsSome (get map key) × (number ≡ commits + 1) × (made ≡ Drop key ∷ [])
 IsPlain map commits (Remove key) Absent made = (get map key ≡ None) × (made ≡ [])
@@ -43,6 +46,16 @@ IsPlain map commits (Range start limit asked) (RowsAnswer pairs) made =
 IsPlain map commits (Tidy key) (Tidied rule) made = made ≡ []
 IsPlain map commits (Build spec) (Built number) made = made ≡ []
 IsPlain map commits _ _ made = ⊥
+
+-- a conditional put asks for another version than this one, of which its key's row is
+abbrev pub AsksForOther : Rows → Request → ℕ → Type 0
+AsksForOther map (PutIf key sets version) found = (found ≡ version_of (get map key)) × (found ≢ version)
+AsksForOther map _ found = ⊥
+
+-- A plain map refuses a conditional put for the version of a row, and tells it. Of other causes it knows nothing.
+abbrev pub IsPlainRefusal : Rows → Request → Refusal → Type 0
+IsPlainRefusal map request (OtherVersion found) = AsksForOther map request found
+IsPlainRefusal map request _ = Unit {0}
 
 -- the call goes on
 abbrev pub GoesOnBy : Outcome → Type 0
@@ -96,7 +109,9 @@ pub record EndsPlainly (C : ℕ) (before : History) (pass : PassNo) (number : Ca
   pub closed : after.calls ≡ []
 
 -- the call alone was refused, and nothing has come of it
-pub record EndsRefused (before : History) (after : Moment) : Type 0 where
+pub record EndsRefused (C : ℕ) (before : History) (request : Request) (refusal : Refusal)
+    (after : Moment) : Type 0 where
+  pub plain : IsPlainRefusal (rows C (moment before)) request refusal
   pub commits : after.commits ≡ (moment before).commits
   pub views : after.views ≡ (moment before).views
   pub closed : after.calls ≡ []
@@ -112,4 +127,4 @@ abbrev pub LoneRefusalsDoNothing : Type 0
 LoneRefusalsDoNothing =
     (C : ℕ) (request : Request) (number : CallNo) (refusal : Refusal) (end : ℕ) (before past : History)
     → RunsAlone request number before past → Legal C (happening (Step number) (Refused refusal) end ∷ past)
-    → EndsRefused before (moment (happening (Step number) (Refused refusal) end ∷ past))
+    → EndsRefused C before request refusal (moment (happening (Step number) (Refused refusal) end ∷ past))

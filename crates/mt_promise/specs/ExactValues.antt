@@ -17,7 +17,7 @@ use Rattle.mt_types.specs.declared.view.ViewSpec.{ViewSpec}
 use Rattle.mt_types.specs.declared.refusal.Refusal.{Refusal}
 use Rattle.mt_types.specs.declared.event.TidyRule.{TidyRule}
 use Rattle.mt_types.specs.declared.event.Request.{Request}
-use Rattle.mt_types.specs.declared.event.Request.TheVariants.{Get, Put, Remove, Range, Tidy, Build}
+use Rattle.mt_types.specs.declared.event.Request.TheVariants.{Get, Put, PutIf, Remove, Range, Tidy, Build}
 use Rattle.mt_types.specs.declared.event.Event.{Event}
 use Rattle.mt_types.specs.declared.event.Event.TheVariants.{Begin, Step, Apply, ViewRead, ViewDrop, Advance, Collect}
 use Rattle.mt_types.specs.declared.event.Answer.{Answer}
@@ -117,6 +117,12 @@ same_requests (Put k s) (Put l t) e =
     let key = same_bytes k l (first_so _ _ e) in
     let sets = same_sets s t (second_so _ _ e) in
     λ i. Put (key i) (sets i)
+same_requests (PutIf k s m) (PutIf l t n) e =
+    let key = same_bytes k l (first_so _ _ e) in
+    let rest = second_so _ _ e in
+    let sets = same_sets s t (first_so _ _ rest) in
+    let version = same_number m n (second_so _ _ rest) in
+    λ i. PutIf (key i) (sets i) (version i)
 same_requests (Remove k) (Remove l) e = ap Remove (same_bytes k l e)
 same_requests (Range s m c) (Range t n d) e =
     let start = same_bytes s t (first_so _ _ e) in
@@ -128,6 +134,7 @@ same_requests (Tidy k) (Tidy l) e = ap Tidy (same_bytes k l e)
 same_requests (Build s) (Build t) e = ap Build (same_view_specs s t e)
 same_requests (Get k c) _ e = absurd (false≢true e)
 same_requests (Put k s) _ e = absurd (false≢true e)
+same_requests (PutIf k s m) _ e = absurd (false≢true e)
 same_requests (Remove k) _ e = absurd (false≢true e)
 same_requests (Range s m c) _ e = absurd (false≢true e)
 same_requests (Tidy k) _ e = absurd (false≢true e)

@@ -8,7 +8,7 @@ use Rattle.mt_types.specs.declared.row.Change.TheVariants.{Put as PutChange, Dro
 use Rattle.mt_types.specs.declared.event.Answer.TheVariants.{Absent, Stored, Removed, Built}
 use Rattle.mt_types.specs.declared.event.Reply.{Reply}
 use Rattle.mt_types.specs.declared.event.Request.{Request}
-use Rattle.mt_types.specs.declared.event.Request.TheVariants.{Put, Remove}
+use Rattle.mt_types.specs.declared.event.Request.TheVariants.{Put, PutIf, Remove}
 use Rattle.mt_promise.specs.History.{History, Moment, moment}
 use Rattle.mt_promise.specs.Headline.{IsFinished}
 use Rattle.mt_promise.specs.Legal.{Legal}
@@ -32,6 +32,8 @@ pub record IsWithin (reply : Reply) (number : ℕ) (change : Change) (m : Moment
 -- a put has made its change; so has a remove, unless its key was absent
 abbrev pub HasMade : Request → Reply → Moment → Type 0
 HasMade (Put key sets) reply m = (number : ℕ) × (reply.answer ≡ Stored number) × IsWithin reply number (PutChange key sets) m
+HasMade (PutIf key sets version) reply m =
+    (number : ℕ) × (reply.answer ≡ Stored number) × IsWithin reply number (PutChange key sets) m
 HasMade (Remove key) reply m =
     (reply.answer ≡ Absent)
     ⊎ ((number : ℕ) × (reply.answer ≡ Removed number) × IsWithin reply number (Drop key) m)

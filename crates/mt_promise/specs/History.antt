@@ -6,7 +6,7 @@ use Rattle.mt_types.specs.declared.event.Event.TheVariants.{Begin, Step, Apply, 
 use Rattle.mt_types.specs.declared.event.Outcome.{Outcome}
 use Rattle.mt_types.specs.declared.event.Outcome.TheVariants.{Call, Moved, Again, Commit, Done, Applied, Dropped, Epoch, Refused}
 use Rattle.mt_types.specs.declared.event.Request.{Request}
-use Rattle.mt_types.specs.declared.event.Request.TheVariants.{Get, Put as PutRequest, Remove, Range, Tidy, Build}
+use Rattle.mt_types.specs.declared.event.Request.TheVariants.{Get, Put as PutRequest, PutIf, Remove, Range, Tidy, Build}
 use Rattle.mt_types.specs.declared.event.Answer.{Answer}
 use Rattle.mt_types.specs.declared.event.Answer.TheVariants.{Built}
 use Rattle.mt_types.specs.declared.row.Change.{Change}
@@ -81,6 +81,7 @@ meant_view number views = if number == 0 then furthest None views else view_of n
 -- the change that a request asks for
 abbrev pub change_of : Request → List Change
 change_of (PutRequest key sets) = Put key sets ∷ []
+change_of (PutIf key sets version) = Put key sets ∷ []
 change_of (Remove key) = Drop key ∷ []
 change_of (Get key columns) = []
 change_of (Range start limit columns) = []

@@ -1,28 +1,29 @@
 -- Which outcome each event may have, after any past: the promise of the index, outcome by outcome.
-use Rattle.std.specs.Prelude.{ℕ, zero, suc, MatchBool, ◌+◌, ◌≡◌, ◌<◌, ◌≤◌, ◌⊎◌, nat_lt, nat_le, Bool, true, false, IsTrue, if◌then◌else◌, List, [], ◌∷◌, ◌++◌, map, filter, length, count_by, take, Option, Some, None}
+use Rattle.std.specs.Prelude.{ℕ, zero, suc, MatchBool, ◌+◌, ◌≡◌, ◌≢◌, ◌<◌, ◌≤◌, ◌⊎◌, nat_lt, nat_le, Bool, true, false, IsTrue, if◌then◌else◌, List, [], ◌∷◌, ◌++◌, map, filter, length, count_by, take, Option, Some, None}
 use Rattle.std.specs.Option.{option_or}
 use Rattle.mt_types.specs.Rows.{after}
 use Rattle.mt_types.specs.Views.{afresh, column_sums, page_from}
 use Rattle.mt_types.specs.Limits.{request_fault, page_fault, refused_if}
 use Rattle.mt_types.specs.Numbers.{greatest_number, least}
 use Rattle.mt_promise.specs.History.{History, Moment, OpenCall, StandingView, moment, call_of, view_of, meant_view, Sometime}
-use Rattle.mt_promise.specs.RightAnswers.{RightAnswer, Stands}
+use Rattle.mt_promise.specs.RightAnswers.{RightAnswer, Stands, HasVersion}
 use Rattle.mt_types.specs.declared.limits.TheConstants.{MAX_OPEN_CALLS, MAX_VIEWS, MAX_NODES}
 use Rattle.mt_types.specs.declared.event.Event.{Event}
 use Rattle.mt_types.specs.declared.event.Event.TheVariants.{Begin, Step, Apply, ViewRead, ViewDrop, Advance, Collect}
 use Rattle.mt_types.specs.declared.event.Outcome.{Outcome}
 use Rattle.mt_types.specs.declared.event.Outcome.TheVariants.{Call, Moved, Again, Commit, Done, Applied, Current, View, Dropped, Epoch, Freed, Refused}
 use Rattle.mt_types.specs.declared.event.Request.{Request}
-use Rattle.mt_types.specs.declared.event.Request.TheVariants.{Get, Put, Remove, Range, Tidy, Build}
+use Rattle.mt_types.specs.declared.event.Request.TheVariants.{Get, Put, PutIf, Remove, Range, Tidy, Build}
 use Rattle.mt_types.specs.declared.event.Reply.{Reply}
 use Rattle.mt_types.specs.declared.view.Page.{Page}
 use Rattle.mt_types.specs.declared.refusal.Refusal.{Refusal}
-use Rattle.mt_types.specs.declared.refusal.Refusal.TheVariants.{NoMemory, ArenaFull, FeedFull, TooManyCalls, NoSuchCall, TooManyViews, NoSuchView, Behind, Spent}
+use Rattle.mt_types.specs.declared.refusal.Refusal.TheVariants.{NoMemory, ArenaFull, FeedFull, TooManyCalls, NoSuchCall, TooManyViews, NoSuchView, Behind, Spent, OtherVersion}
 
 abbrev pub is_build : Request → Bool
 is_build (Build spec) = true
 is_build (Get key columns) = false
 is_build (Put key sets) = false
+is_build (PutIf key sets version) = false
 is_build (Remove key) = false
 is_build (Range start limit columns) = false
 is_build (Tidy key) = false
@@ -30,6 +31,7 @@ is_build (Tidy key) = false
 abbrev pub is_get : Request → Bool
 is_get (Get key columns) = true
 is_get (Put key sets) = false
+is_get (PutIf key sets version) = false
 is_get (Remove key) = false
 is_get (Range start limit columns) = false
 is_get (Tidy key) = false
@@ -59,6 +61,9 @@ MayBegin m None outcome = IsOrLacksMemory (Call (record { 0 = m.begun + 1 })) ou
 -- a commit has the next number, and is the only one of its call
 abbrev pub MayCommit : ℕ → History → OpenCall → Request → ℕ → Type 0
 MayCommit C past call (Put key sets) number = (number ≡ length (moment past).commits + 1) × (call.committed ≡ None)
+-- that of a conditional put comes only where its key's row is of the version asked
+MayCommit C past call (PutIf key sets version) number =
+    (number ≡ length (moment past).commits + 1) × (call.committed ≡ None) × HasVersion C key version (moment past)
 MayCommit C past call (Remove key) number =
     (number ≡ length (moment past).commits + 1) × (call.committed ≡ None) × Stands C key (moment past)
 MayCommit C past call _ number = ⊥
@@ -69,6 +74,7 @@ reads_log (Range start limit columns) = true
 reads_log (Build spec) = true
 reads_log (Get key columns) = false
 reads_log (Put key sets) = false
+reads_log (PutIf key sets version) = false
 reads_log (Remove key) = false
 reads_log (Tidy key) = false
 
@@ -81,16 +87,22 @@ held_from m =
     ++ map (λ (call : OpenCall). call.from) (filter (λ call. reads_log call.request) m.calls))
 
 -- the refusals that can end a call that has begun
-abbrev pub MayEnd : History → ℕ → Request → Refusal → Type 0
-MayEnd past began request NoMemory = Unit {0}
-MayEnd past began (Put key sets) ArenaFull = Unit {0}
-MayEnd past began (Put key sets) (FeedFull slowest) = Sometime began (λ m. held_from m ≡ slowest) past
-MayEnd past began (Put key sets) Spent = Unit {0}
-MayEnd past began (Remove key) (FeedFull slowest) = Sometime began (λ m. held_from m ≡ slowest) past
-MayEnd past began (Remove key) Spent = Unit {0}
+abbrev pub MayEnd : ℕ → History → ℕ → Request → Refusal → Type 0
+MayEnd C past began request NoMemory = Unit {0}
+MayEnd C past began (Put key sets) ArenaFull = Unit {0}
+MayEnd C past began (Put key sets) (FeedFull slowest) = Sometime began (λ m. held_from m ≡ slowest) past
+MayEnd C past began (Put key sets) Spent = Unit {0}
+MayEnd C past began (PutIf key sets version) ArenaFull = Unit {0}
+MayEnd C past began (PutIf key sets version) (FeedFull slowest) = Sometime began (λ m. held_from m ≡ slowest) past
+MayEnd C past began (PutIf key sets version) Spent = Unit {0}
+-- a conditional put, only where its key's row was of the version found, and that isn't the one asked
+MayEnd C past began (PutIf key sets version) (OtherVersion found) =
+    (found ≢ version) × Sometime began (HasVersion C key found) past
+MayEnd C past began (Remove key) (FeedFull slowest) = Sometime began (λ m. held_from m ≡ slowest) past
+MayEnd C past began (Remove key) Spent = Unit {0}
 -- a build, only where as many views were built as there are numbers
-MayEnd past began (Build spec) Spent = greatest_number ≤ (moment past).built
-MayEnd past began _ _ = ⊥
+MayEnd C past began (Build spec) Spent = greatest_number ≤ (moment past).built
+MayEnd C past began _ _ = ⊥
 
 -- a reply carries its call's pass and number, and the numbers of commits at its begin and at its end
 pub record RightReply (C : ℕ) (past : History) (call : OpenCall) (reply : Reply) (opens : ℕ) : Type 0 where
@@ -107,7 +119,7 @@ MayStep C past call Again opens = Unit {0}
 MayStep C past call (Commit number) opens = MayCommit C past call call.request number
 MayStep C past call (Done reply) opens = RightReply C past call reply opens
 -- a call that has committed never ends refused
-MayStep C past call (Refused refusal) opens = (call.committed ≡ None) × MayEnd past call.began call.request refusal
+MayStep C past call (Refused refusal) opens = (call.committed ≡ None) × MayEnd C past call.began call.request refusal
 MayStep C past call _ opens = ⊥
 
 abbrev pub MayStepAt : ℕ → History → Option OpenCall → Outcome → ℕ → Type 0

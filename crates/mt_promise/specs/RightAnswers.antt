@@ -2,11 +2,11 @@
 use Rattle.std.specs.Prelude.{ℕ, ◌+◌, ◌≡◌, ◌≤◌, List, length, Some, None, IsSome}
 use Rattle.std.specs.FinMap.{get}
 use Rattle.mt_types.specs.Ranges.{IsRangeAnswer}
-use Rattle.mt_types.specs.Rows.{shown}
+use Rattle.mt_types.specs.Rows.{shown, version_of}
 use Rattle.mt_promise.specs.History.{History, Moment, OpenCall, moment, rows, Sometime, Throughout}
 use Rattle.mt_types.specs.declared.row.Row.{Row}
 use Rattle.mt_types.specs.declared.event.Request.{Request}
-use Rattle.mt_types.specs.declared.event.Request.TheVariants.{Get, Put, Remove, Range, Tidy, Build}
+use Rattle.mt_types.specs.declared.event.Request.TheVariants.{Get, Put, PutIf, Remove, Range, Tidy, Build}
 use Rattle.mt_types.specs.declared.event.Answer.{Answer}
 use Rattle.mt_types.specs.declared.event.Answer.TheVariants.{Absent, Found, Stored, Removed, Rows as RowsAnswer, Tidied, Built}
 
@@ -22,6 +22,10 @@ Lacks C key m = get (rows C m) key ≡ None
 abbrev pub Stands : ℕ → List ℕ → Moment → Type 0
 Stands C key m = IsSome (get (rows C m) key)
 
+-- the key's row is of this version then; 0: it has none
+abbrev pub HasVersion : ℕ → List ℕ → ℕ → Moment → Type 0
+HasVersion C key version m = version_of (get (rows C m) key) ≡ version
+
 -- the pairs of a range answer, asked from start on, at most limit of them, by a call that began when so much had
 --     happened
 abbrev pub RightRange : ℕ → ℕ → History → List ℕ → List ℕ → ℕ → List (List ℕ × Row) → Type 0
@@ -34,6 +38,7 @@ abbrev pub RightAnswer : ℕ → History → OpenCall → Request → Answer →
 RightAnswer C past call (Get key asked) Absent opens = Sometime call.began (Lacks C key) past
 RightAnswer C past call (Get key asked) (Found row) opens = Sometime call.began (Shows C key asked row) past
 RightAnswer C past call (Put key sets) (Stored number) opens = call.committed ≡ Some number
+RightAnswer C past call (PutIf key sets version) (Stored number) opens = call.committed ≡ Some number
 RightAnswer C past call (Remove key) (Removed number) opens = call.committed ≡ Some number
 RightAnswer C past call (Remove key) Absent opens = (call.committed ≡ None) × Sometime call.began (Lacks C key) past
 RightAnswer C past call (Range start limit asked) (RowsAnswer pairs) opens =

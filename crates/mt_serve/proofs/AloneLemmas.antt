@@ -14,7 +14,7 @@ use Rattle.mt_types.specs.declared.numbers.PassNo.{PassNo}
 use Rattle.mt_types.specs.declared.numbers.CallNo.{CallNo}
 use Rattle.mt_types.specs.declared.row.Change.{Change}
 use Rattle.mt_types.specs.declared.refusal.Refusal.{Refusal}
-use Rattle.mt_types.specs.declared.refusal.Refusal.TheVariants.{NoMemory, ArenaFull, FeedFull, Spent, WrongPass, TooManyCalls, TooManyViews}
+use Rattle.mt_types.specs.declared.refusal.Refusal.TheVariants.{NoMemory, ArenaFull, FeedFull, Spent, WrongPass, TooManyCalls, TooManyViews, OtherVersion}
 use Rattle.mt_types.specs.declared.event.Event.{Event}
 use Rattle.mt_types.specs.declared.event.Event.TheVariants.{Begin, Step}
 use Rattle.mt_types.specs.declared.event.Outcome.{Outcome}
@@ -23,10 +23,10 @@ use Rattle.mt_types.specs.declared.event.Answer.{Answer}
 use Rattle.mt_types.specs.declared.event.Answer.TheVariants.{Built}
 use Rattle.mt_types.specs.declared.event.Reply.{Reply}
 use Rattle.mt_types.specs.declared.event.Request.{Request}
-use Rattle.mt_types.specs.declared.event.Request.TheVariants.{Put, Remove, Build}
-use Rattle.mt_promise.specs.History.{History, happening, Moment, OpenCall, StandingView, moment, call_of, new_call, replace_call, after_event, after_call_step, after_step, view_built, Sometime, Throughout}
+use Rattle.mt_types.specs.declared.event.Request.TheVariants.{Put, PutIf, Remove, Build}
+use Rattle.mt_promise.specs.History.{History, happening, Moment, OpenCall, StandingView, moment, rows, call_of, new_call, replace_call, after_event, after_call_step, after_step, view_built, Sometime, Throughout}
 use Rattle.mt_promise.specs.Legal.{Legal, MayHappen, MayBegin, MayStepAt, MayEnd, begin_fault, view_places, reads_log, held_from, is_build}
-use Rattle.mt_promise.specs.Alone.{GoesOnBy, RunsAlone}
+use Rattle.mt_promise.specs.Alone.{GoesOnBy, RunsAlone, IsPlainRefusal}
 use Rattle.mt_promise.proofs.AloneLemmas.{lone_calls_are_plain, lone_refusals_do_nothing}
 use Rattle.mt_promise.proofs.HistoryLemmas.{happened_is}
 use Rattle.mt_index.specs.declared.calls.Call.{Call}
@@ -40,6 +40,7 @@ use Rattle.mt_shared.specs.Drives.{Runs, Continues, IsStep, whole, IsCut, IsDriv
 use Rattle.mt_shared.specs.Kept.{KeptView, Does, IsMade, IsUnmade, has_book, is_foreign, is_other, is_wrong, is_spent}
 use Rattle.mt_shared.proofs.HappeningLemmas.{event_grows, event_shows}
 use Rattle.mt_serve.specs.Plain.{IsAlone, CallEnds, MayRefuse, MayLack, slowest_view}
+use Rattle.mt_serve.proofs.CauseLemmas.{any_cause, begin_plainly}
 
 -- ---- events are counted
 pub does_rises : (s t : KeptView) (p q : PassView) (e : Event) (o : Outcome) → Does s p e o t q → s.events ≤ t.events
@@ -274,24 +275,30 @@ module _ (request : Request) (pass : PassNo) (call : CallNo) (before past : Hist
   on_by _ note on = absurd on
 
   -- ---- why it may be refused
-  lacks : (own : Request) (refusal : Refusal) → own ≡ request → one.committed ≡ None → MayEnd past (length before) own refusal → MayLack (moment before) own refusal
-  lacks own NoMemory is pending may = tt
-  lacks (Put key sets) ArenaFull is pending may = tt
-  lacks (Put key sets) (FeedFull slowest) is pending may =
+  lacks : (C : ℕ) (own : Request) (refusal : Refusal) → own ≡ request → one.committed ≡ None → MayEnd C past (length before) own refusal → MayLack (moment before) own refusal
+  lacks C own NoMemory is pending may = tt
+  lacks C (Put key sets) ArenaFull is pending may = tt
+  lacks C (Put key sets) (FeedFull slowest) is pending may =
       let (m, held, was) = sometime_with (length before) (λ (m : Moment). held_from m ≡ slowest_view (moment before)) (λ (m : Moment). held_from m ≡ slowest) past (u.held (ap reads_log (sym is)) pending) may in
       sym was ∙ held
-  lacks (Put key sets) Spent is pending may = tt
-  lacks (Remove key) (FeedFull slowest) is pending may =
+  lacks C (Put key sets) Spent is pending may = tt
+  lacks C (PutIf key sets version) ArenaFull is pending may = tt
+  lacks C (PutIf key sets version) (FeedFull slowest) is pending may =
       let (m, held, was) = sometime_with (length before) (λ (m : Moment). held_from m ≡ slowest_view (moment before)) (λ (m : Moment). held_from m ≡ slowest) past (u.held (ap reads_log (sym is)) pending) may in
       sym was ∙ held
-  lacks (Remove key) Spent is pending may = tt
-  lacks (Build spec) Spent is pending may = subst (λ (n : ℕ). greatest_number ≤ n) u.built may
-  lacks _ _ is pending may = absurd may
+  lacks C (PutIf key sets version) Spent is pending may = tt
+  lacks C (PutIf key sets version) (OtherVersion found) is pending may = tt
+  lacks C (Remove key) (FeedFull slowest) is pending may =
+      let (m, held, was) = sometime_with (length before) (λ (m : Moment). held_from m ≡ slowest_view (moment before)) (λ (m : Moment). held_from m ≡ slowest) past (u.held (ap reads_log (sym is)) pending) may in
+      sym was ∙ held
+  lacks C (Remove key) Spent is pending may = tt
+  lacks C (Build spec) Spent is pending may = subst (λ (n : ℕ). greatest_number ≤ n) u.built may
+  lacks C _ _ is pending may = absurd may
 
   pub refused_for : (C note : ℕ) (refusal : Refusal) → MayHappen C past (Step call) (Refused refusal) note → MayLack (moment before) request refusal
   refused_for C note refusal may =
       let (pending, ends) = subst (λ (r : Option OpenCall). MayStepAt C past r (Refused refusal) note) found may in
-      lacks request refusal refl pending (subst (λ (q : Request). MayEnd past (length before) q refusal) u.asks (subst (λ (n : ℕ). MayEnd past n one.request refusal) u.began ends))
+      lacks C request refusal refl pending (subst (λ (q : Request). MayEnd C past (length before) q refusal) u.asks (subst (λ (n : ℕ). MayEnd C past n one.request refusal) u.began ends))
 
   -- ---- the machine knows it as the pass's own
   own_call : (C now : ℕ) (s : MachineView) (st : Stands s past) → pass_at call.0 s.calls.calls ≡ Some pass
@@ -436,7 +443,12 @@ drive_ends s t p q h request (Err refusal) a few d = elim d.refused [
         went.columns,
         (
           turned_for (moment h) (begin_fault s.machine.columns (moment h).begun (length (moment h).calls) (view_places (moment h)) request) (fault_alone s.machine.columns (moment h) request a.ended) went.may,
-          record { commits = refl; views = refl; closed = a.ended },
+          record {
+            plain = turned_plainly (moment h) (begin_fault s.machine.columns (moment h).begun (length (moment h).calls) (view_places (moment h)) request) refl went.may;
+            commits = refl;
+            views = refl;
+            closed = a.ended;
+          },
         ),
       )
   | inr cut ↦ cut_ends cut
@@ -448,6 +460,16 @@ drive_ends s t p q h request (Err refusal) a few d = elim d.refused [
     turned_for m None is may = elim may [
       | inl call ↦ cc
       | inr memory ↦ let same : refusal ≡ NoMemory = cc in inr (subst (λ (x : Refusal). MayLack (moment h) request x) (sym same) tt)
+    ]
+
+    turned_plainly : (m : Moment) (fault : Option Refusal) → fault ≡ begin_fault s.machine.columns (moment h).begun (length (moment h).calls) (view_places (moment h)) request → MayBegin m fault (Refused refusal)
+        → IsPlainRefusal (rows s.machine.columns (moment h)) request refusal
+    turned_plainly m (Some cause) is may =
+        let same : refusal ≡ cause = cc in
+        begin_plainly s.machine.columns (moment h).begun (length (moment h).calls) (view_places (moment h)) request (rows s.machine.columns (moment h)) refusal (sym is ∙ ap (λ (x : Refusal). Some x) (sym same))
+    turned_plainly m None is may = elim may [
+      | inl call ↦ cc
+      | inr memory ↦ let same : refusal ≡ NoMemory = cc in subst (λ (x : Refusal). IsPlainRefusal (rows s.machine.columns (moment h)) request x) (sym same) (any_cause (rows s.machine.columns (moment h)) request NoMemory tt)
     ]
 
     -- a reply from before what the pass had seen: there is none

@@ -1,4 +1,5 @@
 pub mod SourceLemmas
 pub mod ServingLemmas
+pub mod CauseLemmas
 pub mod AloneLemmas
 pub mod PlainLemmas

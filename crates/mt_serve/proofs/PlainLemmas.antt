@@ -23,6 +23,7 @@ use Rattle.mt_shared.specs.Kept.{KeptView, Does}
 use Rattle.mt_wire.specs.declared.query.Query.{Query}
 use Rattle.mt_wire.specs.declared.query.Query.TheVariants.{Call, ViewRead, ViewDrop}
 use Rattle.mt_wire.specs.declared.response.Response.{Response}
+use Rattle.mt_wire.specs.declared.frame.Frame.{Frame}
 use Rattle.mt_serve.specs.Asking.{Asks, Answers, AnswersAll, AnswersFrames, KeepsViews, changes}
 use Rattle.mt_serve.specs.declared.fault.SessionFault.{SessionFault}
 use Rattle.mt_serve.specs.declared.fault.SessionFault.TheVariants.{Write, NoMemory as WantsMemory}
@@ -70,13 +71,13 @@ all_rise s t p q (query ∷ queries) (response ∷ responses) (m, r, one, more) 
 all_rise s t p q [] (response ∷ responses) never = absurd never
 all_rise s t p q (query ∷ queries) [] never = absurd never
 
-frames_rise : (s t : KeptView) (p q : PassView) (frames : List (List Query)) (replies : List (List Response)) → AnswersFrames Does s p frames replies t q → s.events ≤ t.events
+frames_rise : (s t : KeptView) (p q : PassView) (frames : List (Frame Query)) (replies : List (Frame Response)) → AnswersFrames Does s p frames replies t q → s.events ≤ t.events
 frames_rise s t p q [] [] (is, same) = let equal = ap (λ (k : KeptView). k.events) is in omega (arith, equal)
-frames_rise s t p q (queries ∷ frames) (responses ∷ replies) (m, r, one, more) =
-    let a = all_rise s m p r queries responses one in
+frames_rise s t p q (frame ∷ frames) (reply ∷ replies) (m, r, one, more) =
+    let a = all_rise s m p r frame.messages reply.messages one.1 in
     let b = frames_rise m t r q frames replies more in omega (arith, a, b)
-frames_rise s t p q [] (responses ∷ replies) never = absurd never
-frames_rise s t p q (queries ∷ frames) [] never = absurd never
+frames_rise s t p q [] (reply ∷ replies) never = absurd never
+frames_rise s t p q (frame ∷ frames) [] never = absurd never
 
 -- ---- the views, once one is taken on
 taken_none : (views : List StandingView) → TakenOn views views
@@ -485,16 +486,16 @@ alone_answers_frames s t p q h [] [] a few (is, same) = (
   ap (λ (k : KeptView). k.machine.columns) is,
   refl,
 )
-alone_answers_frames s t p q h (queries ∷ frames) (responses ∷ replies) a few (m, r, one, more) =
+alone_answers_frames s t p q h (frame ∷ frames) (reply ∷ replies) a few (m, r, one, more) =
     let rises = frames_rise m t r q frames replies more in
-    let (past, alone, columns, plain) = alone_answers s m p r h queries responses a (omega (arith, few, rises)) one in
+    let (past, alone, columns, plain) = alone_answers s m p r h frame.messages reply.messages a (omega (arith, few, rises)) one.1 in
     let (final, still, same, rest) = alone_answers_frames m t r q past frames replies alone few more in
-    (final, still, same ∙ columns, (past, plain, subst (λ (C : ℕ). PlainlyAnswersFrames C past frames replies final) columns rest))
-alone_answers_frames s t p q h [] (responses ∷ replies) a few never = absurd never
-alone_answers_frames s t p q h (queries ∷ frames) [] a few never = absurd never
+    (final, still, same ∙ columns, (past, (one.0, plain), subst (λ (C : ℕ). PlainlyAnswersFrames C past frames replies final) columns rest))
+alone_answers_frames s t p q h [] (reply ∷ replies) a few never = absurd never
+alone_answers_frames s t p q h (frame ∷ frames) [] a few never = absurd never
 
 -- ---- a session
-whole_input : (input : List ℕ) (frames : List (List Query)) (rest : Option (List ℕ)) → (more : List ℕ) × (rest ≡ Some more) × (input ≡ requests_of frames ++ more) → IfSome rest (λ bytes. bytes ≡ []) → input ≡ requests_of frames
+whole_input : (input : List ℕ) (frames : List (Frame Query)) (rest : Option (List ℕ)) → (more : List ℕ) × (rest ≡ Some more) × (input ≡ requests_of frames ++ more) → IfSome rest (λ bytes. bytes ≡ []) → input ≡ requests_of frames
 whole_input input frames (Some left) (more, is, front) none =
     let same : left ≡ more = cc in
     front ∙ ap (λ (l : List ℕ). requests_of frames ++ l) (sym same ∙ none) ∙ append-nil (requests_of frames)
@@ -516,24 +517,24 @@ alone_serves s t p q h input old new summary a few served =
     )
 
 -- ---- a session that breaks off
-breaks_in_rise : (s t : KeptView) (p q : PassView) (fault : SessionFault) (queries : List Query) (old new : Option (List ℕ)) → BreaksIn Does s p fault queries old new t q → s.events ≤ t.events
-breaks_in_rise s t p q Write queries old new (responses, sent, unsent, answered, is, wrote) = all_rise s t p q queries responses answered
-breaks_in_rise s t p q WantsMemory queries old new (done, undone, responses, is, answered, same) = all_rise s t p q done responses answered
-breaks_in_rise s t p q _ queries old new never = absurd never
+breaks_in_rise : (s t : KeptView) (p q : PassView) (fault : SessionFault) (frame : Frame Query) (old new : Option (List ℕ)) → BreaksIn Does s p fault frame old new t q → s.events ≤ t.events
+breaks_in_rise s t p q Write frame old new (reply, sent, unsent, answered, is, wrote) = all_rise s t p q frame.messages reply.messages answered.1
+breaks_in_rise s t p q WantsMemory frame old new (done, undone, responses, is, answered, same) = all_rise s t p q done responses answered
+breaks_in_rise s t p q _ frame old new never = absurd never
 
 breaks_rise : (s t : KeptView) (p q : PassView) (fault : SessionFault) (rest old new : Option (List ℕ)) → BreaksAt Does s p fault rest old new t q → s.events ≤ t.events
 breaks_rise s t p q fault rest old new (inl (other, stands, same, is, pass)) = let equal = ap (λ (k : KeptView). k.events) is in omega (arith, equal)
-breaks_rise s t p q fault rest old new (inr (queries, fits, there, breaks)) = breaks_in_rise s t p q fault queries old new breaks
+breaks_rise s t p q fault rest old new (inr (frame, fits, there, breaks)) = breaks_in_rise s t p q fault frame old new breaks
 
-breaks_in_plainly : (s t : KeptView) (p q : PassView) (h : History) (fault : SessionFault) (queries : List Query) (old new : Option (List ℕ)) → IsAlone s p h → t.events < greatest_number → BreaksIn Does s p fault queries old new t q
-    → (final : History) × IsAlone t q final × BreaksInPlainly s.machine.columns h fault queries old new final
-breaks_in_plainly s t p q h Write queries old new a few (responses, sent, unsent, answered, is, wrote) =
-    let (final, alone, columns, plain) = alone_answers s t p q h queries responses a few answered in
-    (final, alone, (responses, sent, unsent, plain, is, wrote))
-breaks_in_plainly s t p q h WantsMemory queries old new a few (done, undone, responses, is, answered, same) =
+breaks_in_plainly : (s t : KeptView) (p q : PassView) (h : History) (fault : SessionFault) (frame : Frame Query) (old new : Option (List ℕ)) → IsAlone s p h → t.events < greatest_number → BreaksIn Does s p fault frame old new t q
+    → (final : History) × IsAlone t q final × BreaksInPlainly s.machine.columns h fault frame old new final
+breaks_in_plainly s t p q h Write frame old new a few (reply, sent, unsent, answered, is, wrote) =
+    let (final, alone, columns, plain) = alone_answers s t p q h frame.messages reply.messages a few answered.1 in
+    (final, alone, (reply, sent, unsent, (answered.0, plain), is, wrote))
+breaks_in_plainly s t p q h WantsMemory frame old new a few (done, undone, responses, is, answered, same) =
     let (final, alone, columns, plain) = alone_answers s t p q h done responses a few answered in
     (final, alone, (done, undone, responses, is, plain, same))
-breaks_in_plainly s t p q h _ queries old new a few never = absurd never
+breaks_in_plainly s t p q h _ frame old new a few never = absurd never
 
 breaks_plainly : (s t : KeptView) (p q : PassView) (h : History) (fault : SessionFault) (rest : List ℕ) (old new : Option (List ℕ)) → IsAlone s p h → t.events < greatest_number → BreaksAt Does s p fault (Some rest) old new t q
     → (final : History) × IsAlone t q final × BreaksAtPlainly s.machine.columns h fault rest old new final
@@ -542,9 +543,9 @@ breaks_plainly s t p q h fault rest old new a few (inl (other, stands, same, is,
   subst (λ (k : KeptView). IsAlone k q h) (sym is) (subst (λ (v : PassView). IsAlone s v h) (sym pass) a),
   inl (other, stands, same, refl),
 )
-breaks_plainly s t p q h fault rest old new a few (inr (queries, fits, (more, front), breaks)) =
-    let (final, alone, plain) = breaks_in_plainly s t p q h fault queries old new a few breaks in
-    (final, alone, inr (queries, more, front, plain))
+breaks_plainly s t p q h fault rest old new a few (inr (frame, fits, (more, front), breaks)) =
+    let (final, alone, plain) = breaks_in_plainly s t p q h fault frame old new a few breaks in
+    (final, alone, inr (frame, more, front, plain))
 
 pub alone_breaks : AloneBreaksPlainly
 alone_breaks s t p q h input old new fault a few broken =

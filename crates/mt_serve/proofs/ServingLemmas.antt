@@ -8,6 +8,7 @@ use Rattle.mt_shared.specs.Passes.{PassView}
 use Rattle.mt_shared.specs.Drives.{EventLaw}
 use Rattle.mt_wire.specs.declared.query.Query.{Query}
 use Rattle.mt_wire.specs.declared.response.Response.{Response}
+use Rattle.mt_wire.specs.declared.frame.Frame.{Frame}
 use Rattle.mt_types.specs.Limited.{AnswerIsLimited, PageIsLimited}
 use Rattle.mt_types.specs.declared.refusal.Refusal.{Refusal}
 use Rattle.mt_types.specs.declared.view.Page.{Page}
@@ -20,7 +21,7 @@ use Rattle.mt_wire.specs.Frames.{Holds, RequestsFit, request_frame, reply_frame}
 use Rattle.mt_serve.specs.declared.fault.SessionFault.{SessionFault}
 use Rattle.mt_serve.specs.declared.fault.SessionFault.TheVariants.{Write}
 use Rattle.mt_serve.specs.declared.session.Summary.{Summary}
-use Rattle.mt_serve.specs.Asking.{Answers, AnswersAll, AnswersFrames, call_response, page_response, drop_response}
+use Rattle.mt_serve.specs.Asking.{Answers, AnswersAll, AnswersFrame, AnswersFrames, call_response, page_response, drop_response}
 use Rattle.mt_serve.specs.Sources.{FaultIsAt, LosesFrame}
 use Rattle.mt_serve.specs.Sessions.{HasServed, IsServed, IsBroken, BreaksIn, requests_of, replies_of}
 
@@ -44,10 +45,10 @@ as_many does s t p q [] (y ∷ ys) all = absurd all
 as_many does s t p q (x ∷ xs) [] all = absurd all
 as_many does s t p q (x ∷ xs) (y ∷ ys) all = ap suc (as_many does all.0 t all.1 q xs ys all.3)
 
-pub answers_hold : {S : Type 0} (does : EventLaw S) (s t : S) (p q : PassView) (queries : List Query) (responses : List Response) → RequestsFit queries → AnswersAll does s p queries responses t q
+pub answers_hold : {S : Type 0} (does : EventLaw S) (s t : S) (p q : PassView) (frame : Frame Query) (responses : List Response) → RequestsFit frame → AnswersAll does s p frame.messages responses t q
     → AllByRecursion ResponseIsLimited responses → Holds ResponseIsLimited responses
-answers_hold does s t p q queries responses fits all limited =
-    let same = as_many does s t p q queries responses all in
+answers_hold does s t p q frame responses fits all limited =
+    let same = as_many does s t p q frame.messages responses all in
     let some = fits.0.0 in
     let few = fits.0.1 in
     (omega (arith, same, some), omega (arith, same, few), limited)
@@ -76,40 +77,40 @@ drop_limited (Err refusal) = tt
 
 -- ---- frames
 -- one frame more
-AnswersFrames-push : {S : Type 0} (does : EventLaw S) (s m t : S) (p r q : PassView) (frames : List (List Query)) (replies : List (List Response)) (queries : List Query) (responses : List Response)
-    → AnswersFrames does s p frames replies m r → AnswersAll does m r queries responses t q → AnswersFrames does s p (frames ++ queries ∷ []) (replies ++ responses ∷ []) t q
-AnswersFrames-push {S} does s m t p r q [] [] queries responses all one =
-    (t, q, subst (λ (x : S). AnswersAll does x p queries responses t q) all.0 (subst (λ (y : PassView). AnswersAll does m y queries responses t q) all.1 one), (refl, refl))
-AnswersFrames-push does s m t p r q [] (y ∷ ys) queries responses all one = absurd all
-AnswersFrames-push does s m t p r q (x ∷ xs) [] queries responses all one = absurd all
-AnswersFrames-push does s m t p r q (x ∷ xs) (y ∷ ys) queries responses all one = (all.0, all.1, all.2, AnswersFrames-push does all.0 m t all.1 r q xs ys queries responses all.3 one)
+AnswersFrames-push : {S : Type 0} (does : EventLaw S) (s m t : S) (p r q : PassView) (frames : List (Frame Query)) (replies : List (Frame Response)) (frame : Frame Query) (reply : Frame Response)
+    → AnswersFrames does s p frames replies m r → AnswersFrame does m r frame reply t q → AnswersFrames does s p (frames ++ frame ∷ []) (replies ++ reply ∷ []) t q
+AnswersFrames-push {S} does s m t p r q [] [] frame reply all one =
+    (t, q, subst (λ (x : S). AnswersFrame does x p frame reply t q) all.0 (subst (λ (y : PassView). AnswersFrame does m y frame reply t q) all.1 one), (refl, refl))
+AnswersFrames-push does s m t p r q [] (y ∷ ys) frame reply all one = absurd all
+AnswersFrames-push does s m t p r q (x ∷ xs) [] frame reply all one = absurd all
+AnswersFrames-push does s m t p r q (x ∷ xs) (y ∷ ys) frame reply all one = (all.0, all.1, all.2, AnswersFrames-push does all.0 m t all.1 r q xs ys frame reply all.3 one)
 
-requests-push : (frames : List (List Query)) (queries : List Query) → requests_of (frames ++ queries ∷ []) ≡ requests_of frames ++ request_frame queries
-requests-push [] queries = append-nil (request_frame queries)
-requests-push (x ∷ xs) queries = ap (λ l. request_frame x ++ l) (requests-push xs queries) ∙ sym (append_assoc (request_frame x) (requests_of xs) (request_frame queries))
+requests-push : (frames : List (Frame Query)) (frame : Frame Query) → requests_of (frames ++ frame ∷ []) ≡ requests_of frames ++ request_frame frame
+requests-push [] frame = append-nil (request_frame frame)
+requests-push (x ∷ xs) frame = ap (λ l. request_frame x ++ l) (requests-push xs frame) ∙ sym (append_assoc (request_frame x) (requests_of xs) (request_frame frame))
 
-replies-push : (replies : List (List Response)) (responses : List Response) → replies_of (replies ++ responses ∷ []) ≡ replies_of replies ++ reply_frame responses
-replies-push [] responses = append-nil (reply_frame responses)
-replies-push (x ∷ xs) responses = ap (λ l. reply_frame x ++ l) (replies-push xs responses) ∙ sym (append_assoc (reply_frame x) (replies_of xs) (reply_frame responses))
+replies-push : (replies : List (Frame Response)) (reply : Frame Response) → replies_of (replies ++ reply ∷ []) ≡ replies_of replies ++ reply_frame reply
+replies-push [] reply = append-nil (reply_frame reply)
+replies-push (x ∷ xs) reply = ap (λ l. reply_frame x ++ l) (replies-push xs reply) ∙ sym (append_assoc (reply_frame x) (replies_of xs) (reply_frame reply))
 
-fit-push : (frames : List (List Query)) (queries : List Query) → AllByRecursion RequestsFit frames → RequestsFit queries → AllByRecursion RequestsFit (frames ++ queries ∷ [])
-fit-push [] queries all one = (one, tt)
-fit-push (x ∷ xs) queries all one = (all.0, fit-push xs queries all.1 one)
+fit-push : (frames : List (Frame Query)) (frame : Frame Query) → AllByRecursion RequestsFit frames → RequestsFit frame → AllByRecursion RequestsFit (frames ++ frame ∷ [])
+fit-push [] frame all one = (one, tt)
+fit-push (x ∷ xs) frame all one = (all.0, fit-push xs frame all.1 one)
 
 -- what was read are the frames, and the rest is left
-abbrev Goes : Option (List ℕ) → List (List Query) → Option (List ℕ) → Type 0
+abbrev Goes : Option (List ℕ) → List (Frame Query) → Option (List ℕ) → Type 0
 Goes input frames rest = IfSome input (λ bytes. (more : List ℕ) × (rest ≡ Some more) × (bytes ≡ requests_of frames ++ more))
 
 Goes-start : (input : Option (List ℕ)) → Goes input [] input
 Goes-start None = tt
 Goes-start (Some xs) = (xs, refl, refl)
 
-Goes-more : (input now next : Option (List ℕ)) (frames : List (List Query)) (queries : List Query) → Goes input frames now → LosesFrame queries now next → Goes input (frames ++ queries ∷ []) next
-Goes-more None now next frames queries goes lost = tt
-Goes-more (Some xs) None next frames queries goes lost = absurd (cc goes.1)
-Goes-more (Some xs) (Some ys) next frames queries goes lost =
+Goes-more : (input now next : Option (List ℕ)) (frames : List (Frame Query)) (frame : Frame Query) → Goes input frames now → LosesFrame frame now next → Goes input (frames ++ frame ∷ []) next
+Goes-more None now next frames frame goes lost = tt
+Goes-more (Some xs) None next frames frame goes lost = absurd (cc goes.1)
+Goes-more (Some xs) (Some ys) next frames frame goes lost =
     let same : ys ≡ goes.0 = cc goes.1 in
-    (lost.0, lost.1, goes.2 ∙ ap (λ (l : List ℕ). requests_of frames ++ l) (sym same ∙ lost.2) ∙ sym (append_assoc (requests_of frames) (request_frame queries) lost.0) ∙ ap (λ (l : List ℕ). l ++ lost.0) (sym (requests-push frames queries)))
+    (lost.0, lost.1, goes.2 ∙ ap (λ (l : List ℕ). requests_of frames ++ l) (sym same ∙ lost.2) ∙ sym (append_assoc (requests_of frames) (request_frame frame) lost.0) ∙ ap (λ (l : List ℕ). l ++ lost.0) (sym (requests-push frames frame)))
 
 pub served_none : {S : Type 0} (does : EventLaw S) (s : S) (p : PassView) (input old : Option (List ℕ)) → HasServed does s p input old [] input old s p
 served_none does s p input old = record {
@@ -120,30 +121,30 @@ served_none does s p input old = record {
   written = Appends-nil old;
 }
 
-pub served_more : {S : Type 0} (does : EventLaw S) (s m t : S) (p r q : PassView) (input old now new next out : Option (List ℕ)) (frames : List (List Query)) (queries : List Query) (responses : List Response)
-    → HasServed does s p input old frames now new m r → RequestsFit queries → LosesFrame queries now next → AnswersAll does m r queries responses t q → Appends new out (reply_frame responses)
-    → HasServed does s p input old (frames ++ queries ∷ []) next out t q
-served_more does s m t p r q input old now new next out frames queries responses h fits lost answered sent = record {
-  replies = h.replies ++ responses ∷ [];
-  fit = fit-push frames queries h.fit fits;
-  read = Goes-more input now next frames queries h.read lost;
-  answered = AnswersFrames-push does s m t p r q frames h.replies queries responses h.answered answered;
-  written = subst (Appends old out) (sym (replies-push h.replies responses)) (Appends-trans old new out (replies_of h.replies) (reply_frame responses) h.written sent);
+pub served_more : {S : Type 0} (does : EventLaw S) (s m t : S) (p r q : PassView) (input old now new next out : Option (List ℕ)) (frames : List (Frame Query)) (frame : Frame Query) (reply : Frame Response)
+    → HasServed does s p input old frames now new m r → RequestsFit frame → LosesFrame frame now next → AnswersFrame does m r frame reply t q → Appends new out (reply_frame reply)
+    → HasServed does s p input old (frames ++ frame ∷ []) next out t q
+served_more does s m t p r q input old now new next out frames frame reply h fits lost answered sent = record {
+  replies = h.replies ++ reply ∷ [];
+  fit = fit-push frames frame h.fit fits;
+  read = Goes-more input now next frames frame h.read lost;
+  answered = AnswersFrames-push does s m t p r q frames h.replies frame reply h.answered answered;
+  written = subst (Appends old out) (sym (replies-push h.replies reply)) (Appends-trans old new out (replies_of h.replies) (reply_frame reply) h.written sent);
 }
 
-sum-push_from : (n : ℕ) (frames : List (List Query)) (queries : List Query) → fold (λ a (x : List Query). a + length x) n (frames ++ queries ∷ []) ≡ fold (λ a (x : List Query). a + length x) n frames + length queries
-sum-push_from n [] queries = refl
-sum-push_from n (x ∷ xs) queries = sum-push_from (n + length x) xs queries
+sum-push_from : (n : ℕ) (frames : List (Frame Query)) (frame : Frame Query) → fold (λ a (x : Frame Query). a + length x.messages) n (frames ++ frame ∷ []) ≡ fold (λ a (x : Frame Query). a + length x.messages) n frames + length frame.messages
+sum-push_from n [] frame = refl
+sum-push_from n (x ∷ xs) frame = sum-push_from (n + length x.messages) xs frame
 
-sum-push : (frames : List (List Query)) (queries : List Query) → sum_by length (frames ++ queries ∷ []) ≡ sum_by length frames + length queries
-sum-push frames queries = sum-push_from 0 frames queries
+sum-push : (frames : List (Frame Query)) (frame : Frame Query) → sum_by (λ (f : Frame Query). length f.messages) (frames ++ frame ∷ []) ≡ sum_by (λ (f : Frame Query). length f.messages) frames + length frame.messages
+sum-push frames frame = sum-push_from 0 frames frame
 
 -- the same, with what is counted
 pub record Serving {S : Type 0} (does : EventLaw S) (s : S) (p : PassView) (input old : Option (List ℕ)) (summary : Summary) (rest new : Option (List ℕ)) (t : S) (q : PassView) : Type 0 where
-  pub frames : List (List Query)
+  pub frames : List (Frame Query)
   pub served : HasServed does s p input old frames rest new t q
   pub frame_count : summary.frames ≡ length frames
-  pub query_count : summary.queries ≡ sum_by length frames
+  pub query_count : summary.queries ≡ sum_by (λ (f : Frame Query). length f.messages) frames
   pub few : summary.queries ≤ 64 * summary.frames
 
 pub serving_none : {S : Type 0} (does : EventLaw S) (s : S) (p : PassView) (input old : Option (List ℕ)) → Serving does s p input old (record { frames = 0; queries = 0 }) input old s p
@@ -156,14 +157,14 @@ serving_none does s p input old = record {
 }
 
 -- a frame more is answered
-pub serving_more : {S : Type 0} (does : EventLaw S) (s m t : S) (p r q : PassView) (input old now new next out : Option (List ℕ)) (before after : Summary) (queries : List Query) (responses : List Response)
-    → Serving does s p input old before now new m r → RequestsFit queries → LosesFrame queries now next → AnswersAll does m r queries responses t q → Appends new out (reply_frame responses)
-    → after.frames ≡ before.frames + 1 → after.queries ≡ before.queries + length queries → Serving does s p input old after next out t q
-serving_more does s m t p r q input old now new next out before after queries responses h fits lost answered sent one more = record {
-  frames = h.frames ++ queries ∷ [];
-  served = served_more does s m t p r q input old now new next out h.frames queries responses h.served fits lost answered sent;
-  frame_count = (let long = length-append h.frames (queries ∷ []) in let so_far = h.frame_count in omega (arith, long, so_far, one));
-  query_count = more ∙ ap (λ n. n + length queries) h.query_count ∙ sym (sum-push h.frames queries);
+pub serving_more : {S : Type 0} (does : EventLaw S) (s m t : S) (p r q : PassView) (input old now new next out : Option (List ℕ)) (before after : Summary) (frame : Frame Query) (reply : Frame Response)
+    → Serving does s p input old before now new m r → RequestsFit frame → LosesFrame frame now next → AnswersFrame does m r frame reply t q → Appends new out (reply_frame reply)
+    → after.frames ≡ before.frames + 1 → after.queries ≡ before.queries + length frame.messages → Serving does s p input old after next out t q
+serving_more does s m t p r q input old now new next out before after frame reply h fits lost answered sent one more = record {
+  frames = h.frames ++ frame ∷ [];
+  served = served_more does s m t p r q input old now new next out h.frames frame reply h.served fits lost answered sent;
+  frame_count = (let long = length-append h.frames (frame ∷ []) in let so_far = h.frame_count in omega (arith, long, so_far, one));
+  query_count = more ∙ ap (λ n. n + length frame.messages) h.query_count ∙ sym (sum-push h.frames frame);
   few = (let most = fits.0.1 in let so_far = h.few in omega (arith, most, so_far, one, more));
 }
 
@@ -192,21 +193,21 @@ broken_before does s t p q input old now new summary fault h other stands = reco
   breaks = inl (other, stands, refl, refl, refl);
 }
 
-front_of : (queries : List Query) (now next : Option (List ℕ)) → LosesFrame queries now next → IfSome now (λ bytes. (more : List ℕ) × (bytes ≡ request_frame queries ++ more))
-front_of queries None next lost = tt
-front_of queries (Some bytes) next lost = (lost.0, lost.2)
+front_of : (frame : Frame Query) (now next : Option (List ℕ)) → LosesFrame frame now next → IfSome now (λ bytes. (more : List ℕ) × (bytes ≡ request_frame frame ++ more))
+front_of frame None next lost = tt
+front_of frame (Some bytes) next lost = (lost.0, lost.2)
 
 -- it broke off in a frame
-pub broken_in : {S : Type 0} (does : EventLaw S) (s m t : S) (p r q : PassView) (input old now new next out : Option (List ℕ)) (summary : Summary) (fault : SessionFault) (queries : List Query)
-    → Serving does s p input old summary now new m r → RequestsFit queries → LosesFrame queries now next → BreaksIn does m r fault queries new out t q → IsBroken does s p input old fault out t q
-broken_in does s m t p r q input old now new next out summary fault queries h fits lost breaks = record {
+pub broken_in : {S : Type 0} (does : EventLaw S) (s m t : S) (p r q : PassView) (input old now new next out : Option (List ℕ)) (summary : Summary) (fault : SessionFault) (frame : Frame Query)
+    → Serving does s p input old summary now new m r → RequestsFit frame → LosesFrame frame now next → BreaksIn does m r fault frame new out t q → IsBroken does s p input old fault out t q
+broken_in does s m t p r q input old now new next out summary fault frame h fits lost breaks = record {
   frames = h.frames;
   rest = now;
   between = new;
   shared = m;
   pass = r;
   served = h.served;
-  breaks = inr (queries, fits, front_of queries now next lost, breaks);
+  breaks = inr (frame, fits, front_of frame now next lost, breaks);
 }
 
 -- one query of a frame is answered

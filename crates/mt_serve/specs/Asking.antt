@@ -13,6 +13,7 @@ use Rattle.mt_wire.specs.declared.response.Response.{Response}
 use Rattle.mt_wire.specs.declared.response.Response.TheVariants.{Refused, Done, View, Dropped}
 use Rattle.mt_wire.specs.declared.response.End.{End}
 use Rattle.mt_wire.specs.declared.response.End.TheVariants.{Committed, Built}
+use Rattle.mt_wire.specs.declared.frame.Frame.{Frame}
 use Rattle.mt_wire.specs.Answered.{response_of}
 
 -- ---- what the wire tells of what a query came to
@@ -72,11 +73,17 @@ AnswersAll {S} does s p (query ∷ queries) (response ∷ responses) t q =
 AnswersAll does s p [] (response ∷ responses) t q = ⊥
 AnswersAll does s p (query ∷ queries) [] t q = ⊥
 
--- these frames, one after the other, each by one frame of as many answers
+-- a frame of queries, by one of as many answers, in its version
+abbrev pub AnswersFrame :
+    {S : Type 0} → EventLaw S → S → PassView → Frame Query → Frame Response → S → PassView → Type 0
+AnswersFrame does s p frame reply t q =
+    (reply.version ≡ frame.version) × AnswersAll does s p frame.messages reply.messages t q
+
+-- these frames, one after the other, each by one frame
 abbrev pub AnswersFrames :
-    {S : Type 0} → EventLaw S → S → PassView → List (List Query) → List (List Response) → S → PassView → Type 0
+    {S : Type 0} → EventLaw S → S → PassView → List (Frame Query) → List (Frame Response) → S → PassView → Type 0
 AnswersFrames does s p [] [] t q = (t ≡ s) × (q ≡ p)
-AnswersFrames {S} does s p (queries ∷ frames) (responses ∷ replies) t q =
-    (m : S) × (r : PassView) × AnswersAll does s p queries responses m r × AnswersFrames does m r frames replies t q
-AnswersFrames does s p [] (responses ∷ replies) t q = ⊥
-AnswersFrames does s p (queries ∷ frames) [] t q = ⊥
+AnswersFrames {S} does s p (frame ∷ frames) (reply ∷ replies) t q =
+    (m : S) × (r : PassView) × AnswersFrame does s p frame reply m r × AnswersFrames does m r frames replies t q
+AnswersFrames does s p [] (reply ∷ replies) t q = ⊥
+AnswersFrames does s p (frame ∷ frames) [] t q = ⊥

@@ -7,13 +7,13 @@ use Rattle.std.specs.List.{AllByRecursion}
 use Rattle.std.specs.Io.KnownBytes.{Appends}
 use Rattle.mt_types.specs.Numbers.{greatest_number, least}
 use Rattle.mt_types.specs.declared.refusal.Refusal.{Refusal}
-use Rattle.mt_types.specs.declared.refusal.Refusal.TheVariants.{NoMemory, ArenaFull, FeedFull, Spent}
+use Rattle.mt_types.specs.declared.refusal.Refusal.TheVariants.{NoMemory, ArenaFull, FeedFull, Spent, OtherVersion}
 use Rattle.mt_types.specs.declared.event.Event.{Event}
 use Rattle.mt_types.specs.declared.event.Event.TheVariants.{ViewRead as ReadOf, ViewDrop as DropOf}
 use Rattle.mt_types.specs.declared.event.Outcome.{Outcome}
 use Rattle.mt_types.specs.declared.event.Outcome.TheVariants.{Refused as RefusedOutcome}
 use Rattle.mt_types.specs.declared.event.Request.{Request}
-use Rattle.mt_types.specs.declared.event.Request.TheVariants.{Put, Remove, Build}
+use Rattle.mt_types.specs.declared.event.Request.TheVariants.{Put, PutIf, Remove, Build}
 use Rattle.mt_types.specs.declared.event.Reply.{Reply}
 use Rattle.mt_types.specs.declared.view.Page.{Page}
 use Rattle.mt_types.specs.declared.limits.TheConstants.{MAX_VIEWS}
@@ -28,6 +28,7 @@ use Rattle.mt_shared.specs.Turns.{page_outcome, drop_outcome, furthest}
 use Rattle.mt_wire.specs.declared.query.Query.{Query}
 use Rattle.mt_wire.specs.declared.query.Query.TheVariants.{Call, ViewRead, ViewDrop}
 use Rattle.mt_wire.specs.declared.response.Response.{Response}
+use Rattle.mt_wire.specs.declared.frame.Frame.{Frame}
 use Rattle.mt_wire.specs.Frames.{RequestsFit, request_frame, reply_frame}
 use Rattle.mt_serve.specs.declared.fault.SessionFault.{SessionFault}
 use Rattle.mt_serve.specs.declared.fault.SessionFault.TheVariants.{Write, NoMemory as WantsMemory}
@@ -42,13 +43,18 @@ use Rattle.mt_serve.specs.Sessions.{requests_of, replies_of, IsServed, IsBroken}
 abbrev pub slowest_view : Moment → ℕ
 slowest_view m = least (length m.commits) (map (λ (v : StandingView). v.at) m.views)
 
--- a put for want of nodes, a put or remove for want of room in the log or of numbers, a build for want of numbers of
--- views, and each for want of memory
+-- a put, conditional or not, for want of nodes, a put or remove for want of room in the log or of numbers, a build for
+-- want of numbers of views, and each for want of memory; and a conditional put for another version
 abbrev pub MayLack : Moment → Request → Refusal → Type 0
 MayLack m request NoMemory = Unit {0}
 MayLack m (Put key sets) ArenaFull = Unit {0}
 MayLack m (Put key sets) (FeedFull slowest) = slowest ≡ slowest_view m
 MayLack m (Put key sets) Spent = Unit {0}
+MayLack m (PutIf key sets version) ArenaFull = Unit {0}
+MayLack m (PutIf key sets version) (FeedFull slowest) = slowest ≡ slowest_view m
+MayLack m (PutIf key sets version) Spent = Unit {0}
+-- that its key's row is of this other version, `EndsRefused` says
+MayLack m (PutIf key sets version) (OtherVersion found) = Unit {0}
 MayLack m (Remove key) (FeedFull slowest) = slowest ≡ slowest_view m
 MayLack m (Remove key) Spent = Unit {0}
 MayLack m (Build spec) Spent = greatest_number ≤ m.built
@@ -64,7 +70,7 @@ MayRefuse C m request refusal =
 -- a call is answered as by a plain map, and makes the change that it asks for; or it is refused, and changes nothing
 abbrev pub CallEnds : ℕ → History → Request → Result Reply Refusal → Moment → Type 0
 CallEnds C before request (Ok reply) m = EndsPlainly C before reply.pass reply.call request reply m
-CallEnds C before request (Err refusal) m = MayRefuse C (moment before) request refusal × EndsRefused before m
+CallEnds C before request (Err refusal) m = MayRefuse C (moment before) request refusal × EndsRefused C before request refusal m
 
 -- this event happened, and its outcome is one that it may have
 abbrev pub OneHappens : ℕ → History → Event → Outcome → History → Type 0
@@ -124,14 +130,18 @@ PlainlyAnswersAll C before (query ∷ queries) (response ∷ responses) after =
 PlainlyAnswersAll C before [] (response ∷ responses) after = ⊥
 PlainlyAnswersAll C before (query ∷ queries) [] after = ⊥
 
--- these frames, one after the other, each by one frame of as many answers
-abbrev pub PlainlyAnswersFrames : ℕ → History → List (List Query) → List (List Response) → History → Type 0
+-- a frame of queries, by one of as many answers, in its version
+abbrev pub PlainlyAnswersFrame : ℕ → History → Frame Query → Frame Response → History → Type 0
+PlainlyAnswersFrame C before frame reply after =
+    (reply.version ≡ frame.version) × PlainlyAnswersAll C before frame.messages reply.messages after
+
+-- these frames, one after the other, each by one frame
+abbrev pub PlainlyAnswersFrames : ℕ → History → List (Frame Query) → List (Frame Response) → History → Type 0
 PlainlyAnswersFrames C before [] [] after = after ≡ before
-PlainlyAnswersFrames C before (queries ∷ frames) (responses ∷ replies) after =
-    (then : History) × PlainlyAnswersAll C before queries responses then
-    × PlainlyAnswersFrames C then frames replies after
-PlainlyAnswersFrames C before [] (responses ∷ replies) after = ⊥
-PlainlyAnswersFrames C before (queries ∷ frames) [] after = ⊥
+PlainlyAnswersFrames C before (frame ∷ frames) (reply ∷ replies) after =
+    (then : History) × PlainlyAnswersFrame C before frame reply then × PlainlyAnswersFrames C then frames replies after
+PlainlyAnswersFrames C before [] (reply ∷ replies) after = ⊥
+PlainlyAnswersFrames C before (frame ∷ frames) [] after = ⊥
 
 -- ---- the laws
 
@@ -161,17 +171,17 @@ AloneAnswersPlainly =
 
 abbrev pub AloneAnswersFramesPlainly : Type 0
 AloneAnswersFramesPlainly =
-    (s t : KeptView) (p q : PassView) (h : History) (frames : List (List Query)) (replies : List (List Response))
+    (s t : KeptView) (p q : PassView) (h : History) (frames : List (Frame Query)) (replies : List (Frame Response))
     → IsAlone s p h → t.events < greatest_number → AnswersFrames Does s p frames replies t q
     → (then : History) × IsAlone t q then × (t.machine.columns ≡ s.machine.columns)
     × PlainlyAnswersFrames s.machine.columns h frames replies then
 
--- A SESSION ALONE: the input spells frames; what was written is the spelling of as many frames of answers, and they are
--- those of a plain store, in order.
+-- A SESSION ALONE: the input spells frames; what was written is the spelling of as many frames of answers, each in the
+-- version of its frame, and they are those of a plain store, in order.
 pub record ServesPlainly (C : ℕ) (h : History) (input : List ℕ) (old new : Option (List ℕ))
     (then : History) : Type 0 where
-  pub frames : List (List Query)
-  pub replies : List (List Response)
+  pub frames : List (Frame Query)
+  pub replies : List (Frame Response)
   pub fit : AllByRecursion RequestsFit frames
   pub read : input ≡ requests_of frames
   pub written : Appends old new (replies_of replies)
@@ -186,26 +196,26 @@ AloneServesPlainly =
 -- A SESSION ALONE THAT BREAKS OFF: the frames before are answered plainly; then no frame stands there, for this fault; or
 -- of the frame that stands there all queries are answered plainly, and a front of the answers was written (a write
 -- failed), or some are, and none was written (memory was wanting).
-abbrev pub BreaksInPlainly : ℕ → History → SessionFault → List Query → Option (List ℕ) → Option (List ℕ) → History → Type 0
-BreaksInPlainly C before Write queries old new then =
-    (responses : List Response) × (sent : List ℕ) × (unsent : List ℕ) × PlainlyAnswersAll C before queries responses then
-    × (reply_frame responses ≡ sent ++ unsent) × Appends old new sent
-BreaksInPlainly C before WantsMemory queries old new then =
-    (done : List Query) × (undone : List Query) × (responses : List Response) × (queries ≡ done ++ undone)
+abbrev pub BreaksInPlainly : ℕ → History → SessionFault → Frame Query → Option (List ℕ) → Option (List ℕ) → History → Type 0
+BreaksInPlainly C before Write frame old new then =
+    (reply : Frame Response) × (sent : List ℕ) × (unsent : List ℕ) × PlainlyAnswersFrame C before frame reply then
+    × (reply_frame reply ≡ sent ++ unsent) × Appends old new sent
+BreaksInPlainly C before WantsMemory frame old new then =
+    (done : List Query) × (undone : List Query) × (responses : List Response) × (frame.messages ≡ done ++ undone)
     × PlainlyAnswersAll C before done responses then × (new ≡ old)
-BreaksInPlainly C before _ queries old new then = ⊥
+BreaksInPlainly C before _ frame old new then = ⊥
 
 abbrev pub BreaksAtPlainly :
     ℕ → History → SessionFault → List ℕ → Option (List ℕ) → Option (List ℕ) → History → Type 0
 BreaksAtPlainly C before fault rest old new then =
     ((fault ≢ Write) × FaultIsAt fault rest × (new ≡ old) × (then ≡ before))
-    ⊎ ((queries : List Query) × (more : List ℕ) × (rest ≡ request_frame queries ++ more)
-    × BreaksInPlainly C before fault queries old new then)
+    ⊎ ((frame : Frame Query) × (more : List ℕ) × (rest ≡ request_frame frame ++ more)
+    × BreaksInPlainly C before fault frame old new then)
 
 pub record BreaksPlainly (C : ℕ) (h : History) (input : List ℕ) (old : Option (List ℕ)) (fault : SessionFault)
     (new : Option (List ℕ)) (then : History) : Type 0 where
-  pub frames : List (List Query)
-  pub replies : List (List Response)
+  pub frames : List (Frame Query)
+  pub replies : List (Frame Response)
   pub rest : List ℕ
   pub between : Option (List ℕ)
   pub past : History

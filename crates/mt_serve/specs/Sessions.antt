@@ -6,25 +6,26 @@ use Rattle.mt_shared.specs.Passes.{PassView}
 use Rattle.mt_shared.specs.Drives.{EventLaw}
 use Rattle.mt_wire.specs.declared.query.Query.{Query}
 use Rattle.mt_wire.specs.declared.response.Response.{Response}
+use Rattle.mt_wire.specs.declared.frame.Frame.{Frame}
 use Rattle.mt_wire.specs.Frames.{RequestsFit, request_frame, reply_frame}
 use Rattle.mt_serve.specs.declared.fault.SessionFault.{SessionFault}
 use Rattle.mt_serve.specs.declared.fault.SessionFault.TheVariants.{Write, NoMemory}
 use Rattle.mt_serve.specs.declared.session.Summary.{Summary}
-use Rattle.mt_serve.specs.Asking.{AnswersAll, AnswersFrames}
+use Rattle.mt_serve.specs.Asking.{AnswersAll, AnswersFrame, AnswersFrames}
 use Rattle.mt_serve.specs.Sources.{FaultIsAt}
 
 -- the bytes of frames of queries, and of frames of answers
-abbrev pub requests_of : List (List Query) → List ℕ
+abbrev pub requests_of : List (Frame Query) → List ℕ
 requests_of frames = flat_map request_frame frames
 
-abbrev pub replies_of : List (List Response) → List ℕ
+abbrev pub replies_of : List (Frame Response) → List ℕ
 replies_of replies = flat_map reply_frame replies
 
 -- The session has answered these frames, which stood at the front of the input: one after the other, each by one frame
--- of answers, which were written. What is left of the input is the rest.
+-- of answers in its version, which were written. What is left of the input is the rest.
 pub record HasServed {S : Type 0} (does : EventLaw S) (s : S) (p : PassView) (input old : Option (List ℕ))
-    (frames : List (List Query)) (rest new : Option (List ℕ)) (t : S) (q : PassView) : Type 0 where
-  pub replies : List (List Response)
+    (frames : List (Frame Query)) (rest new : Option (List ℕ)) (t : S) (q : PassView) : Type 0 where
+  pub replies : List (Frame Response)
   pub fit : AllByRecursion RequestsFit frames
   pub read : IfSome input (λ bytes. (more : List ℕ) × (rest ≡ Option.Some more) × (bytes ≡ requests_of frames ++ more))
   pub answered : AnswersFrames does s p frames replies t q
@@ -33,24 +34,24 @@ pub record HasServed {S : Type 0} (does : EventLaw S) (s : S) (p : PassView) (in
 -- A SESSION IS DONE: it has served frames that are all of the input, and so many of them, with so many queries.
 pub record IsServed {S : Type 0} (does : EventLaw S) (s : S) (p : PassView) (input old : Option (List ℕ))
     (summary : Summary) (new : Option (List ℕ)) (t : S) (q : PassView) : Type 0 where
-  pub frames : List (List Query)
+  pub frames : List (Frame Query)
   pub rest : Option (List ℕ)
   pub served : HasServed does s p input old frames rest new t q
   pub whole : IfSome rest (λ bytes. bytes ≡ [])
   pub frame_count : summary.frames ≡ length frames
-  pub query_count : summary.queries ≡ sum_by length frames
+  pub query_count : summary.queries ≡ sum_by (λ frame. length frame.messages) frames
 
 -- What became of the next frame: of its queries these were done, and all of them where a write failed; of its reply a
 -- front was written then, and else nothing.
-abbrev pub BreaksIn : {S : Type 0} → EventLaw S → S → PassView → SessionFault → List Query → Option (List ℕ) →
+abbrev pub BreaksIn : {S : Type 0} → EventLaw S → S → PassView → SessionFault → Frame Query → Option (List ℕ) →
     Option (List ℕ) → S → PassView → Type 0
-BreaksIn does s p Write queries old new t q =
-    (responses : List Response) × (sent : List ℕ) × (unsent : List ℕ) × AnswersAll does s p queries responses t q
-    × (reply_frame responses ≡ sent ++ unsent) × Appends old new sent
-BreaksIn does s p NoMemory queries old new t q =
-    (done : List Query) × (undone : List Query) × (responses : List Response) × (queries ≡ done ++ undone)
+BreaksIn does s p Write frame old new t q =
+    (reply : Frame Response) × (sent : List ℕ) × (unsent : List ℕ) × AnswersFrame does s p frame reply t q
+    × (reply_frame reply ≡ sent ++ unsent) × Appends old new sent
+BreaksIn does s p NoMemory frame old new t q =
+    (done : List Query) × (undone : List Query) × (responses : List Response) × (frame.messages ≡ done ++ undone)
     × AnswersAll does s p done responses t q × (new ≡ old)
-BreaksIn does s p _ queries old new t q = ⊥
+BreaksIn does s p _ frame old new t q = ⊥
 
 -- why it broke off behind the frames that it has served: at the rest of the input stands no frame, for this fault; or
 -- in the frame that stands there
@@ -58,14 +59,14 @@ abbrev pub BreaksAt : {S : Type 0} → EventLaw S → S → PassView → Session
     Option (List ℕ) → S → PassView → Type 0
 BreaksAt does s p fault rest old new t q =
     ((fault ≢ Write) × IfSome rest (FaultIsAt fault) × (new ≡ old) × (t ≡ s) × (q ≡ p))
-    ⊎ ((queries : List Query) × RequestsFit queries
-    × IfSome rest (λ bytes. (more : List ℕ) × (bytes ≡ request_frame queries ++ more))
-    × BreaksIn does s p fault queries old new t q)
+    ⊎ ((frame : Frame Query) × RequestsFit frame
+    × IfSome rest (λ bytes. (more : List ℕ) × (bytes ≡ request_frame frame ++ more))
+    × BreaksIn does s p fault frame old new t q)
 
 -- A SESSION BROKE OFF: it has served frames at the front of the input, and then broke off so.
 pub record IsBroken {S : Type 0} (does : EventLaw S) (s : S) (p : PassView) (input old : Option (List ℕ))
     (fault : SessionFault) (new : Option (List ℕ)) (t : S) (q : PassView) : Type 0 where
-  pub frames : List (List Query)
+  pub frames : List (Frame Query)
   pub rest : Option (List ℕ)
   pub between : Option (List ℕ)
   pub shared : S

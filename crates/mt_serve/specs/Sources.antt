@@ -3,6 +3,7 @@ use Rattle.std.specs.Prelude.{◌≡◌, ◌≢◌, ◌⊎◌, ℕ, Bool, true, 
 use Rattle.std.specs.Option.{option_map}
 use Rattle.mt_types.specs.declared.limits.TheConstants.{MAX_REQUEST_BODY}
 use Rattle.mt_wire.specs.declared.query.Query.{Query}
+use Rattle.mt_wire.specs.declared.frame.Frame.{Frame}
 use Rattle.mt_wire.specs.declared.fault.WireFault.TheVariants as wire
 use Rattle.mt_wire.specs.Frames.{IsBegun, FaultStands, request_frame}
 use Rattle.mt_streams.specs.Readers.{counted_reader, has_failed}
@@ -26,10 +27,10 @@ frames_left f = f.left
 abbrev pub GivesNoMore : {R : Type 0} → Frames R → Type 0
 GivesNoMore f = (read_failed f ≡ true) ⊎ (frames_left f ≡ 0)
 
--- the frame of these queries stood at the front, and is taken off
-abbrev pub LosesFrame : List Query → Option (List ℕ) → Option (List ℕ) → Type 0
-LosesFrame queries old new =
-    IfSome old (λ bytes. (rest : List ℕ) × (new ≡ Some rest) × (bytes ≡ request_frame queries ++ rest))
+-- this frame of queries stood at the front, and is taken off
+abbrev pub LosesFrame : Frame Query → Option (List ℕ) → Option (List ℕ) → Type 0
+LosesFrame frame old new =
+    IfSome old (λ bytes. (rest : List ℕ) × (new ≡ Some rest) × (bytes ≡ request_frame frame ++ rest))
 
 -- no frame stands at the front of these bytes, for this fault
 abbrev pub FaultIsAt : SessionFault → List ℕ → Type 0

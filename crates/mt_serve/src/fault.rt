@@ -22,10 +22,10 @@ pub enum SessionFault {
     /// The length of a frame's body is not within its bounds.
     #[error("the length of a frame is out of its bounds")]
     BadLength,
-    /// The first byte of a body is not the version.
+    /// The first byte of a body is no version.
     #[error("a frame has another version")]
     BadVersion,
-    /// A body spells no queries.
+    /// A body spells no queries of its version.
     #[error("a frame spells no queries")]
     BadBody,
     /// A growth was refused.

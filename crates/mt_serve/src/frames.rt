@@ -12,6 +12,7 @@ ghost use Rattle.mt_serve.specs.declared.fault.SessionFault.TheVariants.{Read as
 use crate::fault::SessionFault;
 use mt_streams::counted::Counted;
 use mt_wire::decoder::Decoder;
+use mt_wire::frame::Frame;
 use mt_wire::laws::a_fault_stays;
 use mt_wire::query::Query;
 use std::alloc::Global;
@@ -78,9 +79,9 @@ impl<R: Read> Frames<R> {
     }
 
     // The next frame, read as far as it must be.
-    fn find(&mut self) -> Result<Option<Vec<Query>>, SessionFault>
-        ensures frame { IfOk result (λ next. IfSome next (λ queries. RequestsFit queries.items
-            × LosesFrame queries.items (frames_rest R.remaining self.old) (frames_rest R.remaining self.new))) }
+    fn find(&mut self) -> Result<Option<Frame<Query>>, SessionFault>
+        ensures frame { IfOk result (λ next. IfSome next (λ frame. RequestsFit frame
+            × LosesFrame frame (frames_rest R.remaining self.old) (frames_rest R.remaining self.new))) }
         ensures end { IfOk result (λ next. IfNone next
             (IfSome (frames_rest R.remaining self.old) (λ bytes. bytes ≡ []))) }
         ensures fault { IfErr result (λ fault. IfSome (frames_rest R.remaining self.old) (FaultIsAt fault)) }
@@ -90,8 +91,8 @@ impl<R: Read> Frames<R> {
     {
         a_fault_stays();
         loop {
-            if let Some(queries) = self.decoder.next()? {
-                return Ok(Some(queries));
+            if let Some(frame) = self.decoder.next()? {
+                return Ok(Some(frame));
             }
             if self.read_more()? == 0 {
                 self.end()?;
@@ -100,16 +101,16 @@ impl<R: Read> Frames<R> {
         }
     }
 
-    /// The queries of the next frame, or nothing where the input ends between frames. The bytes of keys and columns are
-    /// the frame's own, shared.
+    /// The next frame, its version and its queries, or nothing where the input ends between frames. The bytes of keys and
+    /// columns are the frame's own, shared.
     ///
     /// # Errors
     ///
     /// `BadLength`, `BadVersion`, `BadBody` where no frame stands there; `Cut` where the input ends inside one; `Read`
     /// where a read failed, or all the frames that it gives are spent; `NoMemory` for want of it.
-    pub fn next(&mut self) -> Result<Option<Vec<Query>>, SessionFault>
-        ensures frame { IfOk result (λ next. IfSome next (λ queries. RequestsFit queries.items
-            × LosesFrame queries.items (frames_rest R.remaining self.old) (frames_rest R.remaining self.new))) }
+    pub fn next(&mut self) -> Result<Option<Frame<Query>>, SessionFault>
+        ensures frame { IfOk result (λ next. IfSome next (λ frame. RequestsFit frame
+            × LosesFrame frame (frames_rest R.remaining self.old) (frames_rest R.remaining self.new))) }
         ensures end { IfOk result (λ next. IfNone next
             (IfSome (frames_rest R.remaining self.old) (λ bytes. bytes ≡ []))) }
         ensures fewer { IfOk result (λ next. OnSome next (frames_left self.new + 1 ≡ frames_left self.old)) }

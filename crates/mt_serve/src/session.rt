@@ -5,12 +5,14 @@ ghost use Rattle.std.specs.List.{AllByRecursion};
 ghost use Rattle.std.specs.Io.KnownBytes.{Appends};
 ghost use Rattle.mt_wire.specs.declared.query.Query.{Query};
 ghost use Rattle.mt_wire.specs.declared.response.Response.{Response};
+ghost use Rattle.mt_wire.specs.declared.frame.Frame.{Frame};
+ghost use Rattle.mt_wire.specs.Spelling.{framed};
 ghost use Rattle.mt_wire.specs.Limited.{ResponseIsLimited};
 ghost use Rattle.mt_wire.specs.Frames.{Holds, RequestsFit, reply_frame};
 ghost use Rattle.mt_streams.specs.Sinks.{sink_writer, write_failed};
 ghost use Rattle.mt_serve.specs.declared.fault.SessionFault.TheVariants.{Read as ReadFault, Write as WriteFault, NoMemory};
 ghost use Rattle.mt_serve.specs.declared.frames.TheConstants.{MOST_FRAMES};
-ghost use Rattle.mt_serve.specs.Asking.{AnswersAll};
+ghost use Rattle.mt_serve.specs.Asking.{AnswersAll, AnswersFrame};
 ghost use Rattle.mt_serve.specs.Sources.{frames_rest, frames_left, GivesNoMore};
 ghost use Rattle.mt_serve.specs.Sessions.{IsServed, IsBroken, BreaksIn};
 
@@ -22,9 +24,11 @@ use mt_shared::pass::Pass;
 use mt_streams::sink::Sink;
 use mt_wire::encode::encode_replies_into;
 use mt_wire::fault::EncodeError;
+use mt_wire::frame::Frame;
 use mt_wire::laws::limited_replies_fit;
 use mt_wire::query::Query;
 use mt_wire::response::Response;
+use mt_wire::version::WireVersion;
 use std::alloc::{AllocError, Global};
 use std::io::{Read, Write};
 
@@ -58,53 +62,58 @@ fn answer_all<S: Shared>(
     Ok(responses)
 }
 
-// Writes the frame of these answers over what `frame` has. Answers that keep the limits of an index are never too long
-// for a frame.
-fn encode(frame: &mut Vec<u8>, responses: &[Response]) -> Result<(), SessionFault>
+// Writes the frame of these answers over what `out` has. Answers that keep the limits of an index are never too long for
+// a frame.
+fn encode(
+    out: &mut Vec<u8>,
+    version: WireVersion,
+    responses: &[Response],
+) -> Result<(), SessionFault>
     requires { Holds ResponseIsLimited responses.now }
-    ensures frame { OnOk result (frame.new.items ≡ reply_frame responses.now) }
+    ensures frame { OnOk result (out.new.items ≡ reply_frame (framed version responses.now)) }
     ensures only { IfErr result (λ fault. fault ≡ NoMemory) }
 {
     limited_replies_fit();
-    match encode_replies_into(frame, responses) {
+    match encode_replies_into(out, version, responses) {
         Ok(()) => Ok(()),
         Err(EncodeError::NoMemory) => Err(SessionFault::NoMemory),
         Err(EncodeError::TooLong) => unreachable!(),
     }
 }
 
-// Answers one frame of queries, and writes the frame of answers, which is made in `frame`.
+// Answers one frame of queries, and writes the frame of answers, which has its version and is made in `out`.
 fn answer_frame<W: Write, S: Shared>(
     alloc: Global,
     writer: &mut Sink<W>,
     shared: &mut S,
     pass: &mut Pass,
-    frame: &mut Vec<u8>,
-    queries: Vec<Query>,
+    out: &mut Vec<u8>,
+    frame: Frame<Query>,
 ) -> Result<(), SessionFault>
-    requires { RequestsFit queries.items }
-    ensures answered { OnOk result ((responses : List Response)
-        × AnswersAll S.does shared.old pass.old queries.items responses shared.new pass.new
-        × Appends (W.contents (sink_writer writer.old)) (W.contents (sink_writer writer.new)) (reply_frame responses)) }
-    ensures broken { IfErr result (λ fault. BreaksIn S.does shared.old pass.old fault queries.items
+    requires { RequestsFit frame }
+    ensures answered { OnOk result ((reply : Frame Response)
+        × AnswersFrame S.does shared.old pass.old frame reply shared.new pass.new
+        × Appends (W.contents (sink_writer writer.old)) (W.contents (sink_writer writer.new)) (reply_frame reply)) }
+    ensures broken { IfErr result (λ fault. BreaksIn S.does shared.old pass.old fault frame
         (W.contents (sink_writer writer.old)) (W.contents (sink_writer writer.new)) shared.new pass.new) }
     ensures write { IfErr result (λ fault. fault ≡ WriteFault → write_failed writer.new ≡ true) }
 {
-    let Ok(responses) = answer_all(alloc, shared, pass, queries) else {
+    let Frame { version, messages } = frame;
+    let Ok(responses) = answer_all(alloc, shared, pass, messages.into_vec()) else {
         return Err(SessionFault::NoMemory);
     };
-    if let Err(fault) = encode(frame, &responses) {
+    if let Err(fault) = encode(out, version, &responses) {
         return Err(fault);
     }
-    match writer.send(frame) {
+    match writer.send(out) {
         Ok(()) => Ok(()),
         Err(_) => Err(SessionFault::Write),
     }
 }
 
-/// Answers the frames of queries that a reader gives, each by one frame of answers, till the input ends. A frame is
-/// read whole before any of its queries is done; its queries are done in order, each as `answer` says; then its answers
-/// are written in one piece.
+/// Answers the frames of queries that a reader gives, each by one frame of answers in its version, till the input ends.
+/// A frame is read whole before any of its queries is done; its queries are done in order, each as `answer` says; then
+/// its answers are written in one piece.
 ///
 /// Costs the calls and events of the queries, and O(n) in the bytes of the frames. A frame takes the memory of its
 /// bytes, its queries and its answers; the memory of a frame of answers is used again for the next.
@@ -134,10 +143,10 @@ pub fn session<R: Read, W: Write, S: Shared>(
         frames: 0,
         queries: 0,
     };
-    let mut frame = Vec::new(alloc);
-    while let Some(queries) = reader.next()? {
-        let count = queries.len() as u64;
-        answer_frame(alloc, writer, shared, pass, &mut frame, queries)?;
+    let mut out = Vec::new(alloc);
+    while let Some(frame) = reader.next()? {
+        let count = frame.messages.as_slice().len() as u64;
+        answer_frame(alloc, writer, shared, pass, &mut out, frame)?;
         summary.frames += 1;
         summary.queries += count;
     }

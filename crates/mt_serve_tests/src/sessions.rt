@@ -28,6 +28,14 @@ const ANSWERED: &[u8] =
 const ANSWERED_AGAIN: &[u8] =
     b"\0\0\0\x37\x01\x02\x03\0\0\0\0\0\0\0\x01\0\0\0\0\0\0\0\x02\0\0\0\0\0\0\0\x02\x02\0\0\0\0\0\0\0\x02\0\0\0\0\0\0\0\x02\0\0\0\0\0\0\0\x02\x01\x01v";
 
+// In version 2, a put of 76 into column 0 of key 61 where it has no row, and the same of a row of version 7.
+const ASKED_IF: &[u8] =
+    b"\0\0\0\x22\x02\x02\x09\0\x01a\0\0\0\0\0\0\0\0\x01\0\x01v\x09\0\x01a\0\0\0\0\0\0\0\x07\x01\0\x01v";
+
+// What an empty index answers: commit 1, and that the row is of version 1.
+const ANSWERED_IF: &[u8] =
+    b"\0\0\0\x25\x02\x02\x03\0\0\0\0\0\0\0\0\0\0\0\0\0\0\0\x01\0\0\0\0\0\0\0\x01\0\x10\0\0\0\0\0\0\0\x01";
+
 // A build of a view of all keys, a put of 05 into column 0 of key 61, a page of the view, its end, and a page again.
 const VIEWED: &[u8] = b"\0\0\0\x43\x01\x05\x06\0\0\0\0\0\x02\0\x01a\x01\0\x01\x05\
     \x07\0\0\0\0\0\0\0\x01\0\0\0\0\0\0\0\x01\0\0\0\x0a\
@@ -108,6 +116,18 @@ fn worked_session(rt: HostRuntime) -> Result<(), Fail> {
 }
 
 #[test]
+fn both_versions(rt: HostRuntime) -> Result<(), Fail> {
+    let (mut lone, mut pass) = Lone::start(rt.alloc(), OPTIONS)?;
+    let ran = serve(rt.alloc(), &mut lone, &mut pass, ASKED_IF, WHOLE)?;
+    assert!(rt; ran.ended == Ok(ONE_FRAME));
+    assert_eq!(rt; ran.written.as_slice(), ANSWERED_IF);
+    let ran = serve(rt.alloc(), &mut lone, &mut pass, ASKED, WHOLE)?;
+    assert!(rt; ran.ended == Ok(ONE_FRAME));
+    assert_eq!(rt; ran.written.as_slice(), ANSWERED_AGAIN);
+    Ok(())
+}
+
+#[test]
 fn views_over_the_wire(rt: HostRuntime) -> Result<(), Fail> {
     let ran = run(rt.alloc(), VIEWED, WHOLE)?;
     assert!(rt;
@@ -128,13 +148,19 @@ fn views_over_the_wire(rt: HostRuntime) -> Result<(), Fail> {
 }
 
 // Input, how it ends, and what is written.
-const FAULTS: [(&[u8], Option<SessionFault>, &[u8]); 10] = [
+const FAULTS: [(&[u8], Option<SessionFault>, &[u8]); 11] = [
     (b"", None, b""),
     (b"\0\0\0", Some(SessionFault::Cut), b""),
     (b"\0\0\0\x01", Some(SessionFault::BadLength), b""),
     (b"\0\x04\0\x01", Some(SessionFault::BadLength), b""),
     (b"\0\0\0\x02\x03\x01", Some(SessionFault::BadVersion), b""),
     (b"\0\0\0\x02\x01\0", Some(SessionFault::BadBody), b""),
+    // a conditional put in version 1
+    (
+        b"\0\0\0\x12\x01\x01\x09\0\x01a\0\0\0\0\0\0\0\0\x01\0\x01v",
+        Some(SessionFault::BadBody),
+        b"",
+    ),
     (b"\0\0\0\x02\x01\x41", Some(SessionFault::BadBody), b""),
     (
         b"\0\0\0\x07\x01\x01\x01\0\0\0\0",

@@ -14,7 +14,7 @@ use Rattle.mt_types.specs.declared.refusal.Refusal.TheVariants.{NoMemory, NoSuch
 use Rattle.mt_types.specs.declared.event.Event.{Event}
 use Rattle.mt_types.specs.declared.event.Event.TheVariants.{Begin, Step, Apply, ViewRead, ViewDrop, Advance, Collect}
 use Rattle.mt_types.specs.declared.event.Request.{Request}
-use Rattle.mt_types.specs.declared.event.Request.TheVariants.{Put, Remove}
+use Rattle.mt_types.specs.declared.event.Request.TheVariants.{Put, PutIf, Remove}
 use Rattle.mt_types.specs.declared.event.Outcome.{Outcome}
 use Rattle.mt_types.specs.declared.event.Outcome.TheVariants.{Call, Moved, Again, Commit, Done, Applied, Current, View, Dropped, Epoch, Freed, Refused}
 use Rattle.mt_promise.specs.History.{History, Moment, OpenCall, StandingView, happening, moment, call_of, view_of, meant_view, change_of, after_event, after_begin, after_step, after_call_step, after_apply, after_drop, after_advance}
@@ -91,6 +91,7 @@ advance_same m _ = refl
 
 commit_one : (C : ℕ) (past : History) (call : OpenCall) (request : Request) (number : ℕ) (cs : List Change) → MayCommit C past call request number → length (cs ++ change_of request) ≡ length cs + 1
 commit_one C past call (Put key sets) number cs may = length-append cs (change_of (Put key sets))
+commit_one C past call (PutIf key sets version) number cs may = length-append cs (change_of (PutIf key sets version))
 commit_one C past call (Remove key) number cs may = length-append cs (change_of (Remove key))
 commit_one C past call _ number cs may = absurd may
 

@@ -1,6 +1,6 @@
 //! The calls of a pass by their names: each is `drive` with its request, and nothing between its events.
 
-ghost use Rattle.mt_types.specs.declared.event.Request.TheVariants.{Get, Put, Remove, Range, Tidy, Build};
+ghost use Rattle.mt_types.specs.declared.event.Request.TheVariants.{Get, Put, PutIf, Remove, Range, Tidy, Build};
 ghost use Rattle.mt_shared.specs.Drives.{IsDrive};
 
 use crate::driving::{NoGate, Shared, drive};
@@ -51,6 +51,27 @@ pub fn put<S: Shared>(
     ensures { IsDrive S.does shared.old pass.old (Put key sets) result shared.new pass.new }
 {
     drive(alloc, shared, pass, &mut NoGate, Request::Put { key, sets })
+}
+
+/// New bytes for columns of a key's row, if the row is of this version, the number of its last commit (0: if the key has
+/// no row). The reply's answer is `Stored`, with the number of its commit. So a caller that has read a row and puts it
+/// changed, by the version that it read, undoes nobody's put: where another came between, it is refused, and reads anew.
+///
+/// # Errors
+///
+/// `OtherVersion`, with the version that the row has, and then nothing has changed; else those of `put`.
+pub fn put_if<S: Shared>(
+    alloc: Global,
+    shared: &mut S,
+    pass: &mut Pass,
+    key: Bytes,
+    sets: Sets,
+    version: u64,
+) -> Result<Reply, Refusal>
+    ensures { IsDrive S.does shared.old pass.old (PutIf key sets version) result shared.new pass.new }
+{
+    let request = Request::PutIf { key, sets, version };
+    drive(alloc, shared, pass, &mut NoGate, request)
 }
 
 /// The end of a key's row. The reply's answer is `Removed`, with the number of its commit, or `Absent`.

@@ -2,7 +2,7 @@
 
 use bytes::Bytes;
 use mt_index::options::Options;
-use mt_shared::calls::{get, put, view_add};
+use mt_shared::calls::{get, put, put_if, view_add};
 use mt_shared::driving::Shared;
 use mt_shared::index::{Door, Index};
 use mt_shared::lone::Lone;
@@ -114,6 +114,35 @@ fn one_caller(rt: HostRuntime) -> Result<(), Fail> {
     let got = get_key(alloc, &mut lone, &mut pass)?;
     assert!(rt; matches!(&got.answer, Answer::Found(row) if row.version == 1));
     assert_eq!(rt; pass.commits(), 1);
+    Ok(())
+}
+
+fn put_key_if<S: Shared>(
+    alloc: Global,
+    shared: &mut S,
+    pass: &mut Pass,
+    version: u64,
+) -> Result<Answer, Refusal> {
+    let sets = sets(alloc, b"w")?;
+    let reply = put_if(alloc, shared, pass, Bytes::from_static(KEY), sets, version)?;
+    Ok(reply.answer)
+}
+
+#[test]
+fn conditional_puts(rt: HostRuntime) -> Result<(), Fail> {
+    let alloc = rt.alloc();
+    let (mut lone, mut pass) = Lone::start(alloc, OPTIONS)?;
+    assert_eq!(rt;
+        put_key_if(alloc, &mut lone, &mut pass, 0)?,
+        Answer::Stored(1)
+    );
+    let again = put_key_if(alloc, &mut lone, &mut pass, 0);
+    assert!(rt; matches!(again, Err(Refusal::OtherVersion(1))));
+    assert_eq!(rt;
+        put_key_if(alloc, &mut lone, &mut pass, 1)?,
+        Answer::Stored(2)
+    );
+    assert_eq!(rt; pass.commits(), 2);
     Ok(())
 }
 

@@ -65,11 +65,11 @@ impl<'a, C: Clock> Gate for Looks<'a, C> {
     }
 }
 
-// A pass that has made a call, the receipt of the call, and whether a flag was seen.
+// A pass that has made a call, the receipt of the call (none if it was refused), and whether a flag was seen.
 #[derive(Drop)]
 struct Called {
     pass: Pass,
-    receipt: Result<Option<Receipt>, Refusal>,
+    receipt: Option<Receipt>,
     seen: bool,
 }
 
@@ -99,7 +99,7 @@ fn get_slowly<R: Wait + Clock>(
         seen: false,
     };
     let request = get_request(alloc);
-    let receipt = call(rt, alloc, index, &mut pass, &mut gate, request);
+    let receipt = call(rt, alloc, index, &mut pass, &mut gate, request).unwrap_or(None);
     Called {
         pass,
         receipt,
@@ -115,8 +115,8 @@ fn put_and_tell<R: Wait>(
     mut pass: Pass,
 ) -> Called {
     let receipt = match put_request(alloc) {
-        Ok(request) => call(rt, alloc, index, &mut pass, &mut NoGate, request),
-        Err(refusal) => Err(refusal),
+        Ok(request) => call(rt, alloc, index, &mut pass, &mut NoGate, request).unwrap_or(None),
+        Err(_) => None,
     };
     flag.store(true, Ordering::SeqCst);
     Called {
@@ -133,21 +133,39 @@ struct Done {
     receipts: Vec<Receipt>,
 }
 
-// Pass 1 gets, and waits in mid-course till pass 2 has put; then pass 2 gets.
-fn run<R: Wait + Threads + Clock + Sync>(
+// Pass 1 gets, and waits in mid-course till pass 2 has put.
+fn meet<R: Wait + Threads + Clock + Sync>(
     rt: &R,
     alloc: Global,
     index: &Index,
-    mut passes: Vec<Pass>,
-) -> Result<Done, Fail> {
-    let two = passes.pop().ok_or("two")?;
-    let one = passes.pop().ok_or("one")?;
+    one: Pass,
+    two: Pass,
+) -> (Called, Called) {
     let flag = AtomicBool::new(false);
-    let (getter, putter) = join(
+    join(
         rt,
         || get_slowly(rt, alloc, index, &flag, one),
         || put_and_tell(rt, alloc, index, &flag, two),
-    );
+    )
+}
+
+// The receipts of these calls, each of which has one.
+fn all_receipts(alloc: Global, called: Vec<Option<Receipt>>) -> Result<Vec<Receipt>, Fail> {
+    let mut receipts = Vec::new(alloc);
+    for receipt in called {
+        receipts.push(receipt.ok_or("a call was refused")?)?;
+    }
+    Ok(receipts)
+}
+
+// After both have met, pass 2 gets.
+fn get_last<R: Wait>(
+    rt: &R,
+    alloc: Global,
+    index: &Index,
+    getter: Called,
+    putter: Called,
+) -> Result<(Vec<Option<Receipt>>, Pass, Pass), Fail> {
     let Called {
         pass: one,
         receipt: got,
@@ -156,19 +174,30 @@ fn run<R: Wait + Threads + Clock + Sync>(
     let Called {
         pass: mut two,
         receipt: put,
-        seen: _,
+        ..
     } = putter;
     if !seen {
         return Err(Fail::new("the flag was not seen"));
     }
-    let request = get_request(alloc);
-    let last = call(rt, alloc, index, &mut two, &mut NoGate, request)?;
-    let mut receipts = Vec::new(alloc);
-    receipts.push(put?.ok_or("put")?)?;
-    receipts.push(got?.ok_or("get")?)?;
-    receipts.push(last.ok_or("last")?)?;
+    let last = call(rt, alloc, index, &mut two, &mut NoGate, get_request(alloc))?;
+    let called = Vec::from_array(alloc, [put, got, last])?;
+    Ok((called, one, two))
+}
+
+// Two passes meet, and then the second gets.
+fn run<R: Wait + Threads + Clock + Sync>(
+    rt: &R,
+    alloc: Global,
+    index: &Index,
+    mut passes: Vec<Pass>,
+) -> Result<Done, Fail> {
+    let two = passes.pop().ok_or("two")?;
+    let one = passes.pop().ok_or("one")?;
+    let (getter, putter) = meet(rt, alloc, index, one, two);
+    let (called, one, two) = get_last(rt, alloc, index, getter, putter)?;
     passes.push(one)?;
     passes.push(two)?;
+    let receipts = all_receipts(alloc, called)?;
     Ok(Done { passes, receipts })
 }
 

@@ -122,7 +122,7 @@ module _ (a : ArenaView) (get : Get) (went : Went) (sound : IsArena a) (visits :
     steps = λ now begun moves past w world before truth.
         record {
           goes = goes_same now a w _ [] [] refl world tt;
-          does = (quiet_same a log, refl, tt);
+          does = (quiet_same a log, refl, tt, tt);
           reserved = refl;
           bounds = refl;
           blocked = refl;

@@ -344,7 +344,7 @@ module _ (a : ArenaView) (range : Range) where
   range_fails next log C = record {
     steps = λ now begun moves past w world before truth. record {
       goes = goes_same now a w _ [] [] refl world tt;
-      does = (quiet_same a log, refl, tt);
+      does = (quiet_same a log, refl, tt, tt);
       reserved = refl;
       bounds = refl;
       blocked = refl;

@@ -1,16 +1,16 @@
 -- What a step of a call is to the index, said of every kind of call alike: what the call has, what is true of it, and
 -- what the step answers.
 use Rattle.std.specs.Prelude.{ℕ, ◌≡◌, ◌≢◌, ◌≤◌, ◌<◌, ◌+◌, ◌⊎◌, ◌↔◌, List, [], ◌∷◌, length, Option, Some, None, IsTrue}
-use Rattle.mt_types.specs.Rows.{new_columns, columns_before, shown}
+use Rattle.mt_types.specs.Rows.{new_columns, columns_before, shown, version_of}
 use Rattle.mt_promise.specs.Legal.{is_get}
 use Rattle.mt_types.specs.declared.limits.TheConstants.{MAX_NODES, MAX_KEY_BYTES}
 use Rattle.mt_types.specs.declared.row.Row.{Row}
 use Rattle.mt_types.specs.declared.event.Answer.{Answer}
 use Rattle.mt_types.specs.declared.event.Answer.TheVariants.{Absent, Found, Stored, Removed, Rows, Tidied}
 use Rattle.mt_types.specs.declared.event.Request.{Request}
-use Rattle.mt_types.specs.declared.event.Request.TheVariants.{Get as GetRequest, Put as PutRequest, Remove as RemoveRequest, Range as RangeRequest, Tidy as TidyRequest}
+use Rattle.mt_types.specs.declared.event.Request.TheVariants.{Get as GetRequest, Put as PutRequest, PutIf as PutIfRequest, Remove as RemoveRequest, Range as RangeRequest, Tidy as TidyRequest}
 use Rattle.mt_types.specs.declared.refusal.Refusal.{Refusal}
-use Rattle.mt_types.specs.declared.refusal.Refusal.TheVariants.{NoMemory, ArenaFull, FeedFull, Spent}
+use Rattle.mt_types.specs.declared.refusal.Refusal.TheVariants.{NoMemory, ArenaFull, FeedFull, Spent, OtherVersion}
 use Rattle.mt_slice.specs.Place.{Place, AreBytes, place_of}
 use Rattle.mt_commit.specs.Log.{LogView, newest, slowest, with_delta}
 use Rattle.mt_arena.specs.Arena.{ArenaView}
@@ -88,6 +88,9 @@ pub record Changes (a after : ArenaView) (log left : LogView) (key : List ℕ) (
 abbrev pub Commits : ℕ → ArenaView → ArenaView → LogView → LogView → Request → ℕ → Type 0
 Commits C a after log left (PutRequest key sets) number = (before : Option Row)
     × Changes a after log left key before (Some (put_row C number sets before)) number
+Commits C a after log left (PutIfRequest key sets version) number = (before : Option Row)
+    × (version_of before ≡ version)
+    × Changes a after log left key before (Some (put_row C number sets before)) number
 Commits C a after log left (RemoveRequest key) number = (before : Row)
     × Changes a after log left key (Some before) None number
 Commits C a after log left _ number = ⊥
@@ -105,6 +108,7 @@ IsRight past a (GetRequest key asked) committed Absent = AreBytes key × RowIs a
 IsRight past a (GetRequest key asked) committed (Found row) = AreBytes key × (there : Row) × RowIs a key (Some there)
     × (row ≡ shown asked there)
 IsRight past a (PutRequest key sets) committed (Stored number) = committed ≡ Some number
+IsRight past a (PutIfRequest key sets version) committed (Stored number) = committed ≡ Some number
 IsRight past a (RemoveRequest key) committed (Removed number) = committed ≡ Some number
 IsRight past a (RemoveRequest key) committed Absent = (committed ≡ None) × AreBytes key × RowIs a key None
 IsRight past a (RangeRequest start limit asked) committed (Rows pairs) =
@@ -118,9 +122,25 @@ MayRefuse request NoMemory = Unit {0}
 MayRefuse (PutRequest key sets) ArenaFull = Unit {0}
 MayRefuse (PutRequest key sets) (FeedFull number) = Unit {0}
 MayRefuse (PutRequest key sets) Spent = Unit {0}
+MayRefuse (PutIfRequest key sets version) ArenaFull = Unit {0}
+MayRefuse (PutIfRequest key sets version) (FeedFull number) = Unit {0}
+MayRefuse (PutIfRequest key sets version) Spent = Unit {0}
+MayRefuse (PutIfRequest key sets version) (OtherVersion found) = found ≢ version
 MayRefuse (RemoveRequest key) (FeedFull number) = Unit {0}
 MayRefuse (RemoveRequest key) Spent = Unit {0}
 MayRefuse _ _ = ⊥
+
+-- the key's row is of this version; 0: it has none
+pub record IsOfVersion (a : ArenaView) (key : List ℕ) (version : ℕ) : Type 0 where
+  pub bytes : AreBytes key
+  pub there : Option Row
+  pub stands : RowIs a key there
+  pub is : version_of there ≡ version
+
+-- a conditional put that is refused for another version tells the one of which its key's row is
+abbrev pub TellsVersion : ArenaView → Request → Refusal → Type 0
+TellsVersion a (PutIfRequest key sets version) (OtherVersion found) = IsOfVersion a key found
+TellsVersion a _ _ = Unit {0}
 
 -- the number that a refusal for want of room in the log names
 abbrev pub blocked_by : Refusal → Option ℕ
@@ -157,7 +177,7 @@ Does C past a after log left request committed (Committed number) then = Commits
 Does C past a after log left request committed (Answered answer) then = IsQuiet a after log left
     × IsRight past a request committed answer
 Does C past a after log left request committed (Refused refusal) then = IsQuiet a after log left × (committed ≡ None)
-    × MayRefuse request refusal
+    × MayRefuse request refusal × TellsVersion a request refusal
 
 -- a get doesn't move for ever
 abbrev pub MayMove : Request → ℕ → Progress → Type 0

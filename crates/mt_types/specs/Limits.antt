@@ -7,7 +7,7 @@ use Rattle.std.specs.Ordering.{is_lt}
 use Rattle.mt_types.specs.Keys.{key_cmp}
 use Rattle.mt_types.specs.declared.limits.TheConstants.{MAX_KEY_BYTES, MAX_COLUMNS, MAX_COLUMN_BYTES, MAX_RANGE, MAX_FEED, MAX_KEEP, MAX_PASSES}
 use Rattle.mt_types.specs.declared.event.Request.{Request}
-use Rattle.mt_types.specs.declared.event.Request.TheVariants.{Get, Put, Remove, Range, Tidy, Build}
+use Rattle.mt_types.specs.declared.event.Request.TheVariants.{Get, Put, PutIf, Remove, Range, Tidy, Build}
 use Rattle.mt_types.specs.declared.view.ViewSpec.{ViewSpec}
 use Rattle.mt_types.specs.declared.view.ViewSpec.TheVariants.{Range as RangeOf, Prefix as PrefixOf}
 use Rattle.mt_types.specs.declared.view.RowTest.{RowTest}
@@ -67,6 +67,7 @@ spec_fault C (PrefixOf key test) = option_or (key_fault key) (test_fault C test)
 abbrev pub request_fault : ℕ → Request → Option Refusal
 request_fault C (Get key columns) = option_or (key_fault key) (columns_fault C columns)
 request_fault C (Put key sets) = option_or (key_fault key) (sets_fault C sets)
+request_fault C (PutIf key sets version) = option_or (key_fault key) (sets_fault C sets)
 request_fault C (Remove key) = key_fault key
 request_fault C (Range start limit columns) =
     option_or (key_fault start) (option_or (columns_fault C columns) (limit_fault limit))

@@ -1,7 +1,7 @@
 -- The numbers of refusals, as texts and frames give them.
 use Rattle.std.specs.Prelude.{ℕ, Option, Some, None}
 use Rattle.mt_types.specs.declared.refusal.Refusal.{Refusal}
-use Rattle.mt_types.specs.declared.refusal.Refusal.TheVariants.{NoMemory, KeyTooLong, BadColumn, ColumnTooLong, BadLimit, ArenaFull, FeedFull, TooManyCalls, NoSuchCall, TooManyViews, NoSuchView, Behind, BadRange, Spent, WrongPass}
+use Rattle.mt_types.specs.declared.refusal.Refusal.TheVariants.{NoMemory, KeyTooLong, BadColumn, ColumnTooLong, BadLimit, ArenaFull, FeedFull, TooManyCalls, NoSuchCall, TooManyViews, NoSuchView, Behind, BadRange, Spent, WrongPass, OtherVersion}
 
 abbrev pub refusal_number : Refusal → ℕ
 refusal_number NoMemory = 1
@@ -19,9 +19,11 @@ refusal_number (Behind at) = 12
 refusal_number BadRange = 13
 refusal_number Spent = 14
 refusal_number WrongPass = 15
+refusal_number (OtherVersion found) = 16
 
--- the number of commits that goes with a refusal
+-- the number of a commit that goes with a refusal
 abbrev pub refusal_detail : Refusal → Option ℕ
 refusal_detail (FeedFull held_from) = Some held_from
 refusal_detail (Behind at) = Some at
+refusal_detail (OtherVersion found) = Some found
 refusal_detail _ = None

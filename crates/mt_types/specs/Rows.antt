@@ -26,6 +26,11 @@ abbrev pub columns_before : ℕ → Option Row → List (List ℕ)
 columns_before C None = replicate C []
 columns_before C (Some row) = row.columns
 
+-- a row's version; 0 where there is none
+abbrev pub version_of : Option Row → ℕ
+version_of None = 0
+version_of (Some row) = row.version
+
 -- the rows after a change, made by the commit of this number
 abbrev pub after_change : ℕ → ℕ → Change → Rows → Rows
 after_change C number (Put key sets) rows =

@@ -24,6 +24,13 @@ pub enum Request {
         key: Bytes,
         sets: Sets,
     },
+    /// A put that commits only where the key's row is of this version; 0: where the key has no row. Else it is refused,
+    /// with the version that the row has.
+    PutIf {
+        key: Bytes,
+        sets: Sets,
+        version: u64,
+    },
     /// The end of a key's row.
     Remove {
         key: Bytes,
@@ -154,6 +161,11 @@ impl TryCopy for Request {
             Request::Put { key, sets } => Ok(Request::Put {
                 key: key.copy(alloc)?,
                 sets: sets.copy(alloc)?,
+            }),
+            Request::PutIf { key, sets, version } => Ok(Request::PutIf {
+                key: key.copy(alloc)?,
+                sets: sets.copy(alloc)?,
+                version: *version,
             }),
             Request::Remove { key } => Ok(Request::Remove {
                 key: key.copy(alloc)?,

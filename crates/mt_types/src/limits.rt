@@ -189,7 +189,7 @@ pub fn request_fault(columns: u8, request: &Request) -> Option<Refusal>
             key,
             columns: asked,
         } => key_fault(key).or_else(|| columns_fault(columns, asked.as_slice())),
-        Request::Put { key, sets } => {
+        Request::Put { key, sets } | Request::PutIf { key, sets, .. } => {
             key_fault(key).or_else(|| sets_fault(columns, sets.as_slice()))
         }
         Request::Range {

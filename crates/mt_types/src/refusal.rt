@@ -60,6 +60,9 @@ pub enum Refusal {
     /// The pass is not one of this index, or not that of the call.
     #[error("this is another pass")]
     WrongPass,
+    /// The row that was to be of a certain version is of this one; 0: the key has no row.
+    #[error("the row's version is {0}")]
+    OtherVersion(u64),
 }
 
 impl Refusal {
@@ -83,15 +86,17 @@ impl Refusal {
             Refusal::BadRange => 13,
             Refusal::Spent => 14,
             Refusal::WrongPass => 15,
+            Refusal::OtherVersion(_) => 16,
         }
     }
 
-    /// The number of commits that goes with the cause: where the log is held from, or where the view stands.
+    /// The number of a commit that goes with the cause: where the log is held from, where the view stands, or the version
+    /// that was found.
     pub fn detail(&self) -> Option<u64>
         ensures { result ≡ refusal_detail self.now }
     {
         match self {
-            Refusal::FeedFull(at) | Refusal::Behind(at) => Some(*at),
+            Refusal::FeedFull(at) | Refusal::Behind(at) | Refusal::OtherVersion(at) => Some(*at),
             _ => None,
         }
     }

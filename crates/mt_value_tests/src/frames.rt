@@ -1,4 +1,4 @@
-//! The frames of the wire: the worked session, each kind of message both ways, and each fault.
+//! The frames of the wire: the worked sessions, each kind of message both ways and in both versions, and each fault.
 
 use bytes::Bytes;
 use mt_types::event::{Answer, Reply, Request, TidyRule};
@@ -11,10 +11,12 @@ use mt_types::view::{Page, RowTest, ViewSpec};
 use mt_wire::decoder::Decoder;
 use mt_wire::encode::{encode_replies, encode_requests, replies_fit, requests_fit};
 use mt_wire::fault::WireFault;
+use mt_wire::frame::Frame;
 use mt_wire::query::Query;
 use mt_wire::replies::decode_replies;
 use mt_wire::response::{End, Response};
 use mt_wire::stream::decode_requests;
+use mt_wire::version::WireVersion;
 use std::alloc::Global;
 use std::test::Fail;
 
@@ -24,6 +26,12 @@ const ASKED: &[u8] = b"\0\0\0\x0f\x01\x02\x02\0\x01a\x01\0\x01v\x01\0\x01a\0";
 // What an empty index answers: commit 1, and the row of version 1.
 const ANSWERED: &[u8] =
     b"\0\0\0\x37\x01\x02\x03\0\0\0\0\0\0\0\0\0\0\0\0\0\0\0\x01\0\0\0\0\0\0\0\x01\x02\0\0\0\0\0\0\0\x01\0\0\0\0\0\0\0\x01\0\0\0\0\0\0\0\x01\x01\x01v";
+
+// In version 2, a put of 76 into column 0 of key 61, where it has no row; and what an empty index answers.
+const ASKED_IF: &[u8] = b"\0\0\0\x12\x02\x01\x09\0\x01a\0\0\0\0\0\0\0\0\x01\0\x01v";
+
+const ANSWERED_IF: &[u8] =
+    b"\0\0\0\x1b\x02\x01\x03\0\0\0\0\0\0\0\0\0\0\0\0\0\0\0\x01\0\0\0\0\0\0\0\x01";
 
 fn a() -> Bytes {
     Bytes::from_static(b"a")
@@ -58,32 +66,81 @@ fn answered(alloc: Global) -> Result<[Response; 2], Fail> {
     Ok([put, Response::Done { from, to, end }])
 }
 
+// The put of `ASKED_IF`.
+fn asked_if(alloc: Global) -> Result<[Query; 1], Fail> {
+    let (key, version) = (a(), 0);
+    let sets = Items::from_vec(vec![in alloc; (0, v())]?);
+    Ok([Query::Call(Request::PutIf { key, sets, version })])
+}
+
+// This frame with the byte of version 2 in its place, the fifth.
+fn in_version_two(alloc: Global, frame: &[u8]) -> Result<Vec<u8>, Fail> {
+    let mut bytes = Vec::from_slice(alloc, frame)?;
+    if bytes.len() > 4 {
+        bytes[4] = 2;
+    }
+    Ok(bytes)
+}
+
+fn are_asked(read: &Frame<Query>, version: WireVersion, queries: &[Query]) -> bool {
+    read.version == version && read.messages.as_slice() == queries
+}
+
 // Whether the queries are written as this frame, and read from it.
-fn ask(alloc: Global, queries: &[Query], frame: &[u8]) -> Result<bool, Fail> {
-    if !requests_fit(queries) {
+fn ask_in(
+    alloc: Global,
+    version: WireVersion,
+    queries: &[Query],
+    frame: &[u8],
+) -> Result<bool, Fail> {
+    if !requests_fit(version, queries) {
         return Ok(false);
     }
-    let written = encode_requests(alloc, queries)?;
+    let written = encode_requests(alloc, version, queries)?;
     let mut decoder = Decoder::new(alloc);
     decoder.feed(frame)?;
     let read = match decoder.next()? {
-        Some(read) => read.as_slice() == queries,
+        Some(read) => are_asked(&read, version, queries),
         None => false,
     };
     Ok(written.as_slice() == frame && read && decoder.is_between_frames())
 }
 
+// The same of this frame of version 1, and of the one in version 2 that is like it.
+fn ask(alloc: Global, queries: &[Query], frame: &[u8]) -> Result<bool, Fail> {
+    let second = in_version_two(alloc, frame)?;
+    Ok(
+        ask_in(alloc, WireVersion::One, queries, frame)?
+            && ask_in(alloc, WireVersion::Two, queries, &second)?,
+    )
+}
+
 // Whether the answers are written as this frame, and read from it.
-fn answer(alloc: Global, responses: &[Response], frame: &[u8]) -> Result<bool, Fail> {
+fn answer_in(
+    alloc: Global,
+    version: WireVersion,
+    responses: &[Response],
+    frame: &[u8],
+) -> Result<bool, Fail> {
     if !replies_fit(responses) {
         return Ok(false);
     }
-    let written = encode_replies(alloc, responses)?;
+    let written = encode_replies(alloc, version, responses)?;
     let read = decode_replies(alloc, &Bytes::copy_from_slice(alloc, frame)?)?;
-    Ok(written.as_slice() == frame && read.as_slice() == responses)
+    let same = read.version == version && read.messages.as_slice() == responses;
+    Ok(written.as_slice() == frame && same)
 }
 
-// Whether a decoder that is fed byte by byte gives a frame at its last byte, and none before.
+// The same of this frame of version 1, and of the one in version 2 that is like it.
+fn answer(alloc: Global, responses: &[Response], frame: &[u8]) -> Result<bool, Fail> {
+    let second = in_version_two(alloc, frame)?;
+    Ok(
+        answer_in(alloc, WireVersion::One, responses, frame)?
+            && answer_in(alloc, WireVersion::Two, responses, &second)?,
+    )
+}
+
+// Whether a decoder that is fed byte by byte gives a frame of version 1 at its last byte, and none before.
 fn ask_by_bytes(alloc: Global, queries: &[Query], frame: &[u8]) -> Result<bool, Fail> {
     let mut decoder = Decoder::new(alloc);
     for byte in frame {
@@ -93,7 +150,7 @@ fn ask_by_bytes(alloc: Global, queries: &[Query], frame: &[u8]) -> Result<bool, 
         decoder.feed(&[*byte])?;
     }
     let read = match decoder.next()? {
-        Some(read) => read.as_slice() == queries,
+        Some(read) => are_asked(&read, WireVersion::One, queries),
         None => false,
     };
     Ok(read)
@@ -116,6 +173,25 @@ fn wire_session(rt: HostRuntime) -> Result<(), Fail> {
     assert!(rt; ask(alloc, &queries, ASKED)?);
     assert!(rt; ask_by_bytes(alloc, &queries, ASKED)?);
     assert!(rt; answer(alloc, &answered(alloc)?, ANSWERED)?);
+    Ok(())
+}
+
+#[test]
+fn conditional_put(rt: HostRuntime) -> Result<(), Fail> {
+    let alloc = rt.alloc();
+    let queries = asked_if(alloc)?;
+    assert!(rt; ask_in(alloc, WireVersion::Two, &queries, ASKED_IF)?);
+    assert!(rt; !requests_fit(WireVersion::One, &queries));
+    assert_eq!(rt;
+        fault(
+            alloc,
+            b"\0\0\0\x12\x01\x01\x09\0\x01a\0\0\0\0\0\0\0\0\x01\0\x01v"
+        )?,
+        Some(WireFault::BadBody)
+    );
+    let (from, to, end) = (0, 1, End::Committed(1));
+    let put = Response::Done { from, to, end };
+    assert!(rt; answer_in(alloc, WireVersion::Two, &[put], ANSWERED_IF)?);
     Ok(())
 }
 
@@ -221,27 +297,35 @@ fn other_answers(rt: HostRuntime) -> Result<(), Fail> {
     let responses = [
         Response::Refused(Refusal::BadColumn),
         Response::Refused(Refusal::FeedFull(5)),
+        Response::Refused(Refusal::OtherVersion(258)),
         Response::View(page),
         Response::Dropped,
     ];
     let frame =
-        b"\0\0\0\x3b\x01\x04\0\x03\0\0\0\0\0\0\0\0\0\x07\0\0\0\0\0\0\0\x05\x07\0\0\0\0\0\0\0\x01\0\0\0\0\0\0\0\x02\x01\0\0\0\0\0\0\0\x01\0\0\0\0\0\0\0\x03\0\0\x08";
+        b"\0\0\0\x45\x01\x05\0\x03\0\0\0\0\0\0\0\0\0\x07\0\0\0\0\0\0\0\x05\0\x10\0\0\0\0\0\0\x01\x02\x07\0\0\0\0\0\0\0\x01\0\0\0\0\0\0\0\x02\x01\0\0\0\0\0\0\0\x01\0\0\0\0\0\0\0\x03\0\0\x08";
     assert!(rt; answer(alloc, &responses, frame)?);
     Ok(())
 }
 
-// Whether two frames that are cut into pieces of seven bytes, with five bytes of a third, are read as these queries.
+// Whether this frame of version 1 and the one in version 2 that is like it, with five bytes of a third, cut into pieces
+// of seven bytes, are read as these queries.
 fn ask_in_pieces(alloc: Global, queries: &[Query], frame: &[u8]) -> Result<bool, Fail> {
     let mut stream = Vec::new(alloc);
     stream.extend_from_slice(frame)?;
-    stream.extend_from_slice(frame)?;
+    stream.extend_from_slice(&in_version_two(alloc, frame)?)?;
     stream.extend_from_slice(&[0, 0, 0, 9, 1])?;
     let mut pieces = Vec::new(alloc);
     for piece in stream.as_slice().chunks(7) {
         pieces.push(Vec::from_slice(alloc, piece)?)?;
     }
     let frames = decode_requests(alloc, &pieces)?;
-    Ok(frames.len() == 2 && frames.iter().all(|read| read.as_slice() == queries))
+    Ok(match frames.as_slice() {
+        [first, second] => {
+            are_asked(first, WireVersion::One, queries)
+                && are_asked(second, WireVersion::Two, queries)
+        }
+        _ => false,
+    })
 }
 
 #[test]

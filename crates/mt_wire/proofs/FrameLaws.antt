@@ -1,7 +1,6 @@
 -- Frames: what is cut off the front is a frame, and what its body spells is what the frame spells.
-use Rattle.std.proofs.Common.{◌≡◌, ◌≢◌, ℕ, ◌+◌, ◌^◌, ◌<◌, ◌≤◌, Bool, true, false, cond, eqb, ltb, ◌||◌, List, [], ◌∷◌, ◌++◌, length, get_or, take, drop, Option, Some, None, Result, Ok, Err, refl, sym, ap, subst, ◌∙◌, arith}
-use Rattle.std.specs.Prelude.{IfOk, IfErr}
-use Rattle.std.specs.Global.{Vec}
+use Rattle.std.proofs.Common.{◌≡◌, ◌≢◌, ℕ, ◌+◌, ◌^◌, ◌<◌, ◌≤◌, Bool, true, false, cond, eqb, ltb, ◌||◌, List, [], ◌∷◌, ◌++◌, length, get_or, take, drop, Option, Some, None, Result, Ok, Err, refl, sym, ap, subst, ◌∙◌, arith, inl, inr}
+use Rattle.std.specs.Prelude.{◌⊎◌, IsSome}
 use Rattle.std.specs.List.{flat_map}
 use Rattle.std.specs.Int.{w32, from_be_bytes, to_be_bytes}
 use Rattle.std.proofs.lemmas.Bool.{ltb-false, le-ltb, eqb-true, eqb-false}
@@ -10,10 +9,14 @@ use Rattle.std.proofs.lemmas.Nat.{be_bytes_4, from_be_bytes-to_be_bytes_4}
 use Rattle.mt_types.specs.declared.limits.TheConstants.{MAX_QUERIES, MAX_REQUEST_BODY}
 use Rattle.mt_wire.specs.declared.fault.WireFault.{WireFault}
 use Rattle.mt_wire.specs.declared.fault.WireFault.TheVariants as faults
-use Rattle.mt_wire.specs.Spelling.{counted, body_of, query_spelling}
-use Rattle.mt_wire.specs.Frames.{Holds, announced, IsWhole, IsOneFrame, FaultStands, RequestsFit, request_frame}
+use Rattle.mt_wire.specs.declared.version.WireVersion.{WireVersion}
+use Rattle.mt_wire.specs.declared.version.WireVersion.TheVariants.{One, Two}
+use Rattle.mt_wire.specs.declared.frame.Frame.{Frame}
+use Rattle.mt_wire.specs.Versions.{version_byte, version_of}
+use Rattle.mt_wire.specs.Spelling.{counted, framed, body_of, query_spelling}
+use Rattle.mt_wire.specs.Frames.{Holds, InVersion, announced, told_version, IsWhole, IsOneFrame, FaultStands, RequestsFit, request_frame}
 use Rattle.mt_wire.specs.Reading.{Reader, ◌>>=◌, byte_at, times_at, kind_at, query_rest}
-use Rattle.mt_wire.specs.Bodies.{FaultIs, Reads, messages_at, or_bad_body, body_at}
+use Rattle.mt_wire.specs.Bodies.{FaultIs, messages_at, read_as, body_at}
 use Rattle.mt_wire.specs.declared.query.Query.{Query}
 use Rattle.mt_wire.proofs.QueryLaws.{query_exact}
 use Rattle.mt_wire.proofs.Exact.{IsBytes, IsBytes-rest, IsBytes-take, IsBytes-drop, IsExact, bind_some, times_take, times_again}
@@ -63,54 +66,81 @@ messages_again {A} {F} {spell} {item} exact xs h =
     let rest : times_at item (length xs) (flat_map spell xs) ≡ Some (xs, []) = ap (times_at item (length xs)) (sym (append-nil (flat_map spell xs))) ∙ times_again exact xs [] h.2 in
     rw (le-ltb (length xs) 1 h.0, le-ltb MAX_QUERIES (length xs) h.1, rest) refl
 
-guard_version : {B : Type 0} (b : Bool) (r : Option B) (x : B) → cond b (or_bad_body r) (Err faults.BadVersion) ≡ Ok x → (b ≡ true) × (r ≡ Some x)
-guard_version true (Some y) x e = (refl, cc)
-guard_version true None x e = absurd cc
-guard_version false r x e = absurd cc
+-- ---- the first byte
 
-bad_version : {B : Type 0} (b : Bool) (r : Option B) → cond b (or_bad_body r) (Err faults.BadVersion) ≡ Err faults.BadVersion → b ≡ false
-bad_version true (Some y) e = absurd cc
-bad_version true None e = absurd cc
-bad_version false r e = refl
+told_by : (one two : Bool) (version : WireVersion) → cond one (Some One) (cond two (Some Two) None) ≡ Some version → ((one ≡ true) × (version ≡ One)) ⊎ ((two ≡ true) × (version ≡ Two))
+told_by true two version e = inl (refl, cc)
+told_by false true version e = inr (refl, cc)
+told_by false false version e = absurd cc
 
-bad_body : {B : Type 0} (b : Bool) (r : Option B) → cond b (or_bad_body r) (Err faults.BadVersion) ≡ Err faults.BadBody → b ≡ true
-bad_body true r e = refl
-bad_body false r e = absurd cc
+byte_told : (byte : ℕ) (version : WireVersion) → version_of byte ≡ Some version → byte ≡ version_byte version
+byte_told byte version e =
+    elim (told_by (eqb byte 1) (eqb byte 2) version e) [
+      | inl is ↦ eqb-true _ _ is.0 ∙ ap version_byte (sym is.1)
+      | inr is ↦ eqb-true _ _ is.0 ∙ ap version_byte (sym is.1)
+    ]
 
-no_bad_length : {B : Type 0} (b : Bool) (r : Option B) → cond b (or_bad_body r) (Err faults.BadVersion) ≡ Err faults.BadLength → ⊥
-no_bad_length true (Some y) e = cc
-no_bad_length true None e = cc
-no_bad_length false r e = cc
+told_again : (version : WireVersion) → version_of (version_byte version) ≡ Some version
+told_again One = refl
+told_again Two = refl
+
+-- ---- what a body reads as
+
+abbrev pub done : {A : Type 0} → A → Result A WireFault
+done x = Ok x
+
+pub same_done : {A : Type 0} (x y : A) → done x ≡ done y → x ≡ y
+same_done x y e = cc
+
+read_parts : {A : Type 0} (version : Option WireVersion) (messages : Option (List A)) (frame : Frame A) → read_as version messages ≡ Ok frame → (version ≡ Some frame.version) × (messages ≡ Some frame.messages)
+read_parts None messages frame e = absurd cc
+read_parts (Some version) None frame e = absurd cc
+read_parts {A} (Some version) (Some messages) frame e =
+    let same = same_done (framed version messages) frame e in
+    (ap (λ (f : Frame A). Some f.version) same, ap (λ (f : Frame A). Some f.messages) same)
+
+not_told : {A : Type 0} (version : Option WireVersion) (messages : Option (List A)) → read_as version messages ≡ Err faults.BadVersion → version ≡ None
+not_told None messages e = refl
+not_told (Some version) None e = absurd cc
+not_told (Some version) (Some messages) e = absurd cc
+
+is_told : {A : Type 0} (version : Option WireVersion) (messages : Option (List A)) → (read_as version messages ≡ Err faults.BadVersion → ⊥) → IsSome version
+is_told None messages other = absurd (other refl)
+is_told (Some version) messages other = refl
+
+no_bad_length : {A : Type 0} (version : Option WireVersion) (messages : Option (List A)) → read_as version messages ≡ Err faults.BadLength → ⊥
+no_bad_length None messages e = cc
+no_bad_length (Some version) None e = cc
+no_bad_length (Some version) (Some messages) e = cc
 
 pub body_takes : {A : Type 0} {F : A → Type 0} {spell : A → List ℕ} {item : Reader A} → IsExact A F spell item
-    → (body : List ℕ) (xs : List A) → IsBytes body → body_at item body ≡ Ok xs → (body ≡ body_of spell xs) × Holds F xs
+    → (body : List ℕ) (frame : Frame A) → IsBytes body → body_at item body ≡ Ok frame → (body ≡ body_of spell frame) × Holds F frame.messages
 unfolding body_at
-body_takes exact [] xs fits e = absurd cc
-body_takes {A} {F} {spell} {item} exact (version ∷ rest) xs fits e =
-    let g = guard_version (eqb version 1) (messages_at item rest) xs e in
-    let t = messages_take exact rest xs (IsBytes-rest version rest fits) g.1 in
-    let one : version ≡ 1 = eqb-true _ _ g.0 in
-    (rw (one, t.0) refl, t.1)
+body_takes exact [] frame fits e = absurd cc
+body_takes {A} {F} {spell} {item} exact (byte ∷ rest) frame fits e =
+    let g = read_parts (version_of byte) (messages_at item rest) frame e in
+    let t = messages_take exact rest frame.messages (IsBytes-rest byte rest fits) g.1 in
+    (rw (byte_told byte frame.version g.0, t.0) refl, t.1)
 
-pub version_differs : {A : Type 0} (item : Reader A) (body : List ℕ) → body_at item body ≡ Err faults.BadVersion → get_or body 0 0 ≢ 1
+pub version_differs : {A : Type 0} (item : Reader A) (body : List ℕ) → body_at item body ≡ Err faults.BadVersion → version_of (get_or body 0 0) ≡ None
 unfolding body_at
 version_differs item [] e = absurd cc
-version_differs item (version ∷ rest) e = eqb-false _ _ (bad_version (eqb version 1) (messages_at item rest) e)
+version_differs item (byte ∷ rest) e = not_told (version_of byte) (messages_at item rest) e
 
-pub version_same : {A : Type 0} (item : Reader A) (body : List ℕ) → 0 < length body → body_at item body ≡ Err faults.BadBody → get_or body 0 0 ≡ 1
+pub version_is_told : {A : Type 0} (item : Reader A) (body : List ℕ) → 0 < length body → (body_at item body ≡ Err faults.BadVersion → ⊥) → IsSome (version_of (get_or body 0 0))
 unfolding body_at
-version_same item [] long e = absurd (omega arith)
-version_same item (version ∷ rest) long e = eqb-true _ _ (bad_body (eqb version 1) (messages_at item rest) e)
+version_is_told item [] long other = absurd (omega arith)
+version_is_told item (byte ∷ rest) long other = is_told (version_of byte) (messages_at item rest) other
 
 pub length_is_good : {A : Type 0} (item : Reader A) (body : List ℕ) → body_at item body ≡ Err faults.BadLength → ⊥
 unfolding body_at
 length_is_good item [] e = cc
-length_is_good item (version ∷ rest) e = no_bad_length (eqb version 1) (messages_at item rest) e
+length_is_good item (byte ∷ rest) e = no_bad_length (version_of byte) (messages_at item rest) e
 
 pub body_again : {A : Type 0} {F : A → Type 0} {spell : A → List ℕ} {item : Reader A} → IsExact A F spell item
-    → (xs : List A) → Holds F xs → body_at item (body_of spell xs) ≡ Ok xs
+    → (frame : Frame A) → Holds F frame.messages → body_at item (body_of spell frame) ≡ Ok frame
 unfolding body_at
-body_again {A} {F} {spell} {item} exact xs h = rw (messages_again exact xs h) refl
+body_again {A} {F} {spell} {item} exact frame h = rw (told_again frame.version, messages_again exact frame.messages h) refl
 
 -- ---- frames
 
@@ -148,36 +178,52 @@ frame_of_body most frame body fits is e =
 
 -- ---- what stands at the front of a frame of requests
 
+pub no_two_faults : {A : Type 0} (read : Result A WireFault) → read ≡ Err faults.BadBody → read ≡ Err faults.BadVersion → ⊥
+no_two_faults read e k = cc
+
+no_fault_read : {A : Type 0} (read : Result A WireFault) (found : A) → read ≡ Ok found → read ≡ Err faults.BadVersion → ⊥
+no_fault_read read found e k = cc
+
 requests_stand : (frame body : List ℕ) → IsBytes frame → IsOneFrame MAX_REQUEST_BODY frame → drop 4 frame ≡ body → length body ≤ MAX_REQUEST_BODY
 requests_stand frame body fits is e = omega (arith, length-drop 4 frame, is.whole, is.fits, ap length e)
 
-pub queries_found : (frame : List ℕ) (queries : List Query) → IsBytes frame → IsOneFrame MAX_REQUEST_BODY frame → body_at (kind_at query_rest) (drop 4 frame) ≡ Ok queries → RequestsFit queries × (frame ≡ request_frame queries)
-queries_found frame queries fits is e =
-    let t = body_takes query_exact (drop 4 frame) queries (IsBytes-drop 4 frame fits) e in
-    let spelled = frame_of_body MAX_REQUEST_BODY frame (body_of query_spelling queries) fits is t.0 in
-    ((t.1, requests_stand frame (body_of query_spelling queries) fits is t.0), spelled)
+pub queries_found : (frame : List ℕ) (found : Frame Query) → IsBytes frame → IsOneFrame MAX_REQUEST_BODY frame → body_at (kind_at query_rest) (drop 4 frame) ≡ Ok found → InVersion found → RequestsFit found × (frame ≡ request_frame found)
+queries_found frame found fits is e has =
+    let t = body_takes query_exact (drop 4 frame) found (IsBytes-drop 4 frame fits) e in
+    let spelled = frame_of_body MAX_REQUEST_BODY frame (body_of query_spelling found) fits is t.0 in
+    ((t.1, has, requests_stand frame (body_of query_spelling found) fits is t.0), spelled)
 
+-- what a frame of requests at the front would be read as
+read_so : (frame rest : List ℕ) → IsOneFrame MAX_REQUEST_BODY frame → (other : Frame Query) (more : List ℕ) → RequestsFit other → frame ++ rest ≡ request_frame other ++ more
+    → body_at (kind_at query_rest) (drop 4 frame) ≡ Ok other
+read_so frame rest is other more fits spelled =
+    let body = same_body frame rest (body_of query_spelling other) more is (omega (arith, fits.2)) spelled in
+    ap (body_at (kind_at query_rest)) body ∙ body_again query_exact other fits.0
+
+-- no frame of requests stands there, where the body spells no messages
 no_queries : (frame rest : List ℕ) → IsOneFrame MAX_REQUEST_BODY frame → body_at (kind_at query_rest) (drop 4 frame) ≡ Err faults.BadBody
-    → (queries : List Query) (more : List ℕ) → RequestsFit queries → frame ++ rest ≡ request_frame queries ++ more → ⊥
-no_queries frame rest is e queries more fits spelled =
-    let body = same_body frame rest (body_of query_spelling queries) more is (omega (arith, fits.1)) spelled in
-    let read = ap (body_at (kind_at query_rest)) body ∙ body_again query_exact queries fits.0 in
+    → (other : Frame Query) (more : List ℕ) → RequestsFit other → frame ++ rest ≡ request_frame other ++ more → ⊥
+no_queries frame rest is e other more fits spelled =
+    let read = read_so frame rest is other more fits spelled in
     cc
+
+-- nor where one of them isn't of its version
+no_version : (frame rest : List ℕ) (found : Frame Query) → IsOneFrame MAX_REQUEST_BODY frame → body_at (kind_at query_rest) (drop 4 frame) ≡ Ok found → ¬ InVersion found
+    → (other : Frame Query) (more : List ℕ) → RequestsFit other → frame ++ rest ≡ request_frame other ++ more → ⊥
+no_version frame rest found is e lacks other more fits spelled =
+    let same = same_done found other (sym e ∙ read_so frame rest is other more fits spelled) in
+    lacks (subst (λ (f : Frame Query). InVersion f) (sym same) fits.1)
+
+told_of : (frame rest : List ℕ) → IsOneFrame MAX_REQUEST_BODY frame → (body_at (kind_at query_rest) (drop 4 frame) ≡ Err faults.BadVersion → ⊥) → IsSome (told_version (frame ++ rest))
+told_of frame rest is other =
+    subst (λ (byte : ℕ). IsSome (version_of byte)) (sym (version_at frame rest is)) (version_is_told (kind_at query_rest) (drop 4 frame) (omega (arith, length-drop 4 frame, is.whole, is.fits)) other)
 
 pub fault_stands : (frame rest : List ℕ) (fault : WireFault) → IsOneFrame MAX_REQUEST_BODY frame → FaultIs fault (body_at (kind_at query_rest) (drop 4 frame)) → fault ≢ faults.NoMemory → FaultStands fault (frame ++ rest)
 fault_stands frame rest faults.NoMemory is h other = absurd (other refl)
 fault_stands frame rest faults.BadLength is h other = absurd (length_is_good (kind_at query_rest) (drop 4 frame) h)
 fault_stands frame rest faults.BadVersion is h other =
-    (frame_is_whole frame rest is, λ same. version_differs (kind_at query_rest) (drop 4 frame) h (sym (version_at frame rest is) ∙ same))
-fault_stands frame rest faults.BadBody is h other =
-    (frame_is_whole frame rest is, version_at frame rest is ∙ version_same (kind_at query_rest) (drop 4 frame) (omega (arith, length-drop 4 frame, is.whole, is.fits)) h, no_queries frame rest is h)
+    (frame_is_whole frame rest is, ap version_of (version_at frame rest is) ∙ version_differs (kind_at query_rest) (drop 4 frame) h)
+fault_stands frame rest faults.BadBody is h other = (frame_is_whole frame rest is, told_of frame rest is (λ e. no_two_faults _ h e), no_queries frame rest is h)
 
-pub found_in : (frame : List ℕ) (r : Result (Vec Query) WireFault) → IsBytes frame → IsOneFrame MAX_REQUEST_BODY frame → Reads (λ messages. messages.items) r (body_at (kind_at query_rest) (drop 4 frame))
-    → IfOk r (λ queries. RequestsFit queries.items × (frame ≡ request_frame queries.items))
-found_in frame (Ok queries) fits is h = queries_found frame queries.items fits is h
-found_in frame (Err fault) fits is h = tt
-
-pub fault_in : (frame : List ℕ) (r : Result (Vec Query) WireFault) → IsOneFrame MAX_REQUEST_BODY frame → Reads (λ messages. messages.items) r (body_at (kind_at query_rest) (drop 4 frame))
-    → IfErr r (λ fault. fault ≢ faults.NoMemory → (rest : List ℕ) → FaultStands fault (frame ++ rest))
-fault_in frame (Ok queries) is h = tt
-fault_in frame (Err fault) is h = λ other rest. fault_stands frame rest fault is h other
+pub lacks_version : (frame rest : List ℕ) (found : Frame Query) → IsOneFrame MAX_REQUEST_BODY frame → body_at (kind_at query_rest) (drop 4 frame) ≡ Ok found → ¬ InVersion found → FaultStands faults.BadBody (frame ++ rest)
+lacks_version frame rest found is h lacks = (frame_is_whole frame rest is, told_of frame rest is (λ e. no_fault_read _ found h e), no_version frame rest found is h lacks)

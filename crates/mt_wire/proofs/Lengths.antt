@@ -113,6 +113,6 @@ response_lengths (View page) h = (omega (arith, h.0), (omega (arith, h.1.0), pai
 response_lengths Dropped h = tt
 
 pub limited_replies_fit : LimitedRepliesFit
-limited_replies_fit responses h =
-    let most = spelled_most ResponseIsLimited response_spelling 2075276 response_most responses h.2 in
-    ((h.0, h.1, each_of ResponseIsLimited ResponseLengths response_lengths responses h.2), omega (arith, h.1, most))
+limited_replies_fit frame h =
+    let most = spelled_most ResponseIsLimited response_spelling 2075276 response_most frame.messages h.2 in
+    ((h.0, h.1, each_of ResponseIsLimited ResponseLengths response_lengths frame.messages h.2), omega (arith, h.1, most))

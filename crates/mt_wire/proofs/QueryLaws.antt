@@ -2,7 +2,7 @@
 use Rattle.std.proofs.Common.{◌≡◌, ℕ, zero, suc, ◌^◌, ◌<◌, List, [], ◌∷◌, ◌++◌, Option, Some, None, refl}
 use Rattle.std.specs.List.{AllByRecursion}
 use Rattle.std.specs.Int.{w16, w64, to_be_bytes}
-use Rattle.mt_types.specs.declared.event.Request.TheVariants.{Get, Put, Remove, Range, Tidy, Build}
+use Rattle.mt_types.specs.declared.event.Request.TheVariants.{Get, Put, PutIf, Remove, Range, Tidy, Build}
 use Rattle.mt_types.specs.declared.view.ViewSpec.{ViewSpec}
 use Rattle.mt_types.specs.declared.view.ViewSpec.TheVariants.{Range as RangeOf, Prefix as PrefixOf}
 use Rattle.mt_types.specs.declared.view.RowTest.{RowTest}
@@ -11,7 +11,7 @@ use Rattle.mt_wire.specs.declared.query.Query.{Query}
 use Rattle.mt_wire.specs.declared.query.Query.TheVariants.{Call, ViewRead, ViewDrop}
 use Rattle.mt_wire.specs.Spelling.{set_spelling, test_spelling, end_spelling, spec_spelling, query_spelling}
 use Rattle.mt_wire.specs.Fits.{ShortFits, TestLengths, TestNumbers, EndLengths, SpecLengths, SpecNumbers, QueryFits}
-use Rattle.mt_wire.specs.Reading.{byte_at, number_at, kind_at, set_at, test_rest, end_rest, spec_rest, get_at, put_at, remove_at, range_at, tidy_at, build_at, view_read_at, view_drop_at, query_rest}
+use Rattle.mt_wire.specs.Reading.{byte_at, number_at, kind_at, set_at, test_rest, end_rest, spec_rest, get_at, put_at, put_if_at, remove_at, range_at, tidy_at, build_at, view_read_at, view_drop_at, query_rest}
 use Rattle.mt_wire.proofs.Exact.{IsBytes, Takes, IsExact, wide16, wide64, both_exact, made_takes, made_again, kind_exact, nothing_exact, byte_exact, number_exact, key_exact, short_exact, counted_exact}
 
 abbrev n16 : IsExact ℕ (λ n. n < 2 ^ 16) (λ n. to_be_bytes w16 n) (number_at w16)
@@ -87,7 +87,7 @@ spec_exact = kind_exact spec_takes spec_again
 -- ---- queries
 
 query_takes : (kind : ℕ) (bytes : List ℕ) (y : Query × List ℕ) → IsBytes bytes → query_rest kind bytes ≡ Some y → Takes (kind ∷ bytes) (query_spelling y.0) y.1 × QueryFits y.0
-unfolding query_rest get_at put_at remove_at range_at tidy_at build_at view_read_at view_drop_at
+unfolding query_rest get_at put_at put_if_at remove_at range_at tidy_at build_at view_read_at view_drop_at
 query_takes zero = λ bytes y fits e. absurd cc
 query_takes (suc zero) = made_takes (λ x. Call (Get x.0 x.1)) query_spelling QueryFits 1 (both_exact key_exact short_exact) (λ x. refl) (λ x h. (h, tt))
 query_takes (suc (suc zero)) = made_takes (λ x. Call (Put x.0 x.1)) query_spelling QueryFits 2 (both_exact key_exact (counted_exact set_exact)) (λ x. refl) (λ x h. ((h.0, (h.1.0, sets_lengths x.1 h.1.1)), tt))
@@ -98,12 +98,16 @@ query_takes (suc (suc (suc (suc (suc (suc zero)))))) = made_takes (λ x. Call (B
 query_takes (suc (suc (suc (suc (suc (suc (suc zero))))))) =
     made_takes (λ x. ViewRead (record { 0 = x.0.0.0 }) x.0.0.1 x.0.1 x.1) query_spelling QueryFits 7 (both_exact (both_exact (both_exact n64 n64) key_exact) n16) (λ x. refl) (λ x h. (h.0.1, (h.0.0.0, h.0.0.1, h.1)))
 query_takes (suc (suc (suc (suc (suc (suc (suc (suc zero)))))))) = made_takes (λ x. ViewDrop (record { 0 = x })) query_spelling QueryFits 8 n64 (λ x. refl) (λ x h. (tt, h))
-query_takes (suc (suc (suc (suc (suc (suc (suc (suc (suc kind))))))))) = λ bytes y fits e. absurd cc
+query_takes (suc (suc (suc (suc (suc (suc (suc (suc (suc zero))))))))) =
+    made_takes (λ x. Call (PutIf x.0.0 x.1 x.0.1)) query_spelling QueryFits 9 (both_exact (both_exact key_exact n64) (counted_exact set_exact)) (λ x. refl) (λ x h. ((h.0.0, (h.1.0, sets_lengths x.1 h.1.1)), h.0.1))
+query_takes (suc (suc (suc (suc (suc (suc (suc (suc (suc (suc kind)))))))))) = λ bytes y fits e. absurd cc
 
 query_again : (x : Query) (rest : List ℕ) → QueryFits x → kind_at query_rest (query_spelling x ++ rest) ≡ Some (x, rest)
-unfolding kind_at byte_at query_rest get_at put_at remove_at range_at tidy_at build_at view_read_at view_drop_at
+unfolding kind_at byte_at query_rest get_at put_at put_if_at remove_at range_at tidy_at build_at view_read_at view_drop_at
 query_again (Call (Get key columns)) rest h = made_again (λ x. Call (Get x.0 x.1)) (both_exact key_exact short_exact) (key, columns) rest h.0
 query_again (Call (Put key sets)) rest h = made_again (λ x. Call (Put x.0 x.1)) (both_exact key_exact (counted_exact set_exact)) (key, sets) rest (h.0.0, (h.0.1.0, sets_fit sets h.0.1.1))
+query_again (Call (PutIf key sets version)) rest h =
+    made_again (λ x. Call (PutIf x.0.0 x.1 x.0.1)) (both_exact (both_exact key_exact n64) (counted_exact set_exact)) ((key, version), sets) rest ((h.0.0, h.1), (h.0.1.0, sets_fit sets h.0.1.1))
 query_again (Call (Remove key)) rest h = made_again (λ x. Call (Remove x)) key_exact key rest h.0
 query_again (Call (Range start limit columns)) rest h = made_again (λ x. Call (Range x.0.0 x.0.1 x.1)) (both_exact (both_exact key_exact n16) short_exact) ((start, limit), columns) rest ((h.0.0, h.1), h.0.1)
 query_again (Call (Tidy key)) rest h = made_again (λ x. Call (Tidy x)) key_exact key rest h.0

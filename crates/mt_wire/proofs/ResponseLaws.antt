@@ -8,7 +8,7 @@ use Rattle.mt_types.specs.declared.limits.TheConstants.{MAX_KEY_BYTES}
 use Rattle.mt_types.specs.declared.event.TidyRule.{TidyRule}
 use Rattle.mt_types.specs.declared.event.TidyRule.TheVariants.{Nothing, EmptyBorder, LoneChild, LoneRootChild, EmptyLayer}
 use Rattle.mt_types.specs.declared.refusal.Refusal.{Refusal}
-use Rattle.mt_types.specs.declared.refusal.Refusal.TheVariants.{NoMemory, KeyTooLong, BadColumn, ColumnTooLong, BadLimit, ArenaFull, FeedFull, TooManyCalls, NoSuchCall, TooManyViews, NoSuchView, Behind, BadRange, Spent, WrongPass}
+use Rattle.mt_types.specs.declared.refusal.Refusal.TheVariants.{NoMemory, KeyTooLong, BadColumn, ColumnTooLong, BadLimit, ArenaFull, FeedFull, TooManyCalls, NoSuchCall, TooManyViews, NoSuchView, Behind, BadRange, Spent, WrongPass, OtherVersion}
 use Rattle.mt_wire.specs.declared.response.Response.{Response}
 use Rattle.mt_wire.specs.declared.response.Response.TheVariants.{Refused, Done, View, Dropped}
 use Rattle.mt_wire.specs.declared.response.End.TheVariants.{Absent, Found, Committed, Rows, Tidied, Built}
@@ -136,7 +136,8 @@ refusal_takes (suc (suc (suc (suc (suc (suc (suc (suc (suc (suc (suc (suc zero))
 refusal_takes (suc (suc (suc (suc (suc (suc (suc (suc (suc (suc (suc (suc (suc zero))))))))))))) = made_takes (λ _. BadRange) refusal_spelling RefusalNumbers 13 no_detail_exact (λ x. refl) (λ x h. tt)
 refusal_takes (suc (suc (suc (suc (suc (suc (suc (suc (suc (suc (suc (suc (suc (suc zero)))))))))))))) = made_takes (λ _. Spent) refusal_spelling RefusalNumbers 14 no_detail_exact (λ x. refl) (λ x h. tt)
 refusal_takes (suc (suc (suc (suc (suc (suc (suc (suc (suc (suc (suc (suc (suc (suc (suc zero))))))))))))))) = made_takes (λ _. WrongPass) refusal_spelling RefusalNumbers 15 no_detail_exact (λ x. refl) (λ x h. tt)
-refusal_takes (suc (suc (suc (suc (suc (suc (suc (suc (suc (suc (suc (suc (suc (suc (suc (suc kind)))))))))))))))) = λ bytes y fits e. absurd cc
+refusal_takes (suc (suc (suc (suc (suc (suc (suc (suc (suc (suc (suc (suc (suc (suc (suc (suc zero)))))))))))))))) = made_takes (λ x. OtherVersion x) refusal_spelling RefusalNumbers 16 n64 (λ x. refl) (λ x h. h)
+refusal_takes (suc (suc (suc (suc (suc (suc (suc (suc (suc (suc (suc (suc (suc (suc (suc (suc (suc kind))))))))))))))))) = λ bytes y fits e. absurd cc
 
 refusal_again : (x : Refusal) (rest : List ℕ) → RefusalNumbers x → kind_at refusal_rest (refusal_spelling x ++ rest) ≡ Some (x, rest)
 unfolding kind_at byte_at refusal_rest
@@ -155,6 +156,7 @@ refusal_again (Behind at) rest h = made_again (λ x. Behind x) n64 at rest h
 refusal_again BadRange rest h = made_again (λ _. BadRange) no_detail_exact tt rest tt
 refusal_again Spent rest h = made_again (λ _. Spent) no_detail_exact tt rest tt
 refusal_again WrongPass rest h = made_again (λ _. WrongPass) no_detail_exact tt rest tt
+refusal_again (OtherVersion found) rest h = made_again (λ x. OtherVersion x) n64 found rest h
 
 refusal_exact : IsExact Refusal RefusalNumbers refusal_spelling (kind_at refusal_rest)
 refusal_exact = kind_exact refusal_takes refusal_again

@@ -5,6 +5,7 @@ use Rattle.std.specs.List.{AllByRecursion}
 use Rattle.std.proofs.lemmas.List.{take_more, take-append-drop, append-nil}
 use Rattle.std.proofs.lemmas.List.Concat.{flat_map-append}
 use Rattle.mt_wire.specs.declared.query.Query.{Query}
+use Rattle.mt_wire.specs.declared.frame.Frame.{Frame}
 use Rattle.mt_wire.specs.declared.fault.WireFault.{WireFault}
 use Rattle.mt_wire.specs.Frames.{RequestsFit, FaultStands}
 use Rattle.mt_wire.specs.Streams.{joined, stream_of, HasFault}
@@ -18,7 +19,7 @@ joined_more pieces i piece lt is =
 joined_parts : (pieces : List (Vec ℕ)) (n : ℕ) → joined pieces ≡ joined (take n pieces) ++ joined (drop n pieces)
 joined_parts pieces n = ap joined (sym (take-append-drop n pieces)) ∙ flat_map-append (λ (piece : Vec ℕ). piece.items) (take n pieces) (drop n pieces)
 
-pub fault_in_stream : (pieces : List (Vec ℕ)) (i : ℕ) (piece : Vec ℕ) (frames frames_after : List (List Query)) (kept kept_after : List ℕ) (fault : WireFault)
+pub fault_in_stream : (pieces : List (Vec ℕ)) (i : ℕ) (piece : Vec ℕ) (frames frames_after : List (Frame Query)) (kept kept_after : List ℕ) (fault : WireFault)
     → i < length pieces → piece ≡ get_or pieces i piece → joined (take i pieces) ≡ stream_of frames kept
     → stream_of frames_after kept_after ≡ stream_of frames (kept ++ piece.items) → AllByRecursion RequestsFit frames_after → FaultStands fault kept_after
     → HasFault fault (joined pieces)

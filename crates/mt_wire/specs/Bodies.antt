@@ -3,6 +3,10 @@ use Rattle.std.specs.Prelude.{◌≡◌, ℕ, List, [], ◌∷◌, length, Optio
 use Rattle.mt_types.specs.declared.limits.TheConstants.{MAX_QUERIES}
 use Rattle.mt_wire.specs.declared.fault.WireFault.{WireFault}
 use Rattle.mt_wire.specs.declared.fault.WireFault.TheVariants as faults
+use Rattle.mt_wire.specs.declared.version.WireVersion.{WireVersion}
+use Rattle.mt_wire.specs.declared.frame.Frame.{Frame}
+use Rattle.mt_wire.specs.Versions.{version_of}
+use Rattle.mt_wire.specs.Spelling.{framed}
 use Rattle.mt_wire.specs.Reading.{Reader, ◌>>=◌, byte_at, times_at}
 
 -- What a call returned, seen by view, is what reading gives, unless memory ran out.
@@ -28,11 +32,12 @@ messages_at message bytes = do
 abbrev pub IsBytes : List ℕ → Type 0
 IsBytes bytes = (i : ℕ) → slice_index bytes i < 2 ^ 8
 
-abbrev pub or_bad_body : {A : Type 0} → Option A → Result A WireFault
-or_bad_body (Some x) = Ok x
-or_bad_body None = Err faults.BadBody
+-- what the first byte and the messages after it make
+abbrev pub read_as : {A : Type 0} → Option WireVersion → Option (List A) → Result (Frame A) WireFault
+read_as None messages = Err faults.BadVersion
+read_as (Some version) None = Err faults.BadBody
+read_as (Some version) (Some messages) = Ok (framed version messages)
 
-unfoldable pub body_at : {A : Type 0} → Reader A → List ℕ → Result (List A) WireFault
+unfoldable pub body_at : {A : Type 0} → Reader A → List ℕ → Result (Frame A) WireFault
 body_at message [] = Err faults.BadBody
-body_at message (version ∷ rest) =
-    if version == 1 then or_bad_body (messages_at message rest) else Err faults.BadVersion
+body_at message (byte ∷ rest) = read_as (version_of byte) (messages_at message rest)

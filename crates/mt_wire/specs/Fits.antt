@@ -1,7 +1,7 @@
 -- Which messages have a spelling that can be read again: their lengths and numbers fit their fields.
 use Rattle.std.specs.Prelude.{ℕ, ◌<◌, ◌≤◌, ◌^◌, List, length, Option, Some, None}
 use Rattle.std.specs.List.{AllByRecursion}
-use Rattle.mt_types.specs.declared.event.Request.TheVariants.{Get, Put, Remove, Range, Tidy, Build}
+use Rattle.mt_types.specs.declared.event.Request.TheVariants.{Get, Put, PutIf, Remove, Range, Tidy, Build}
 use Rattle.mt_types.specs.declared.view.ViewSpec.{ViewSpec}
 use Rattle.mt_types.specs.declared.view.ViewSpec.TheVariants.{Range as RangeOf, Prefix as PrefixOf}
 use Rattle.mt_types.specs.declared.view.RowTest.{RowTest}
@@ -10,7 +10,7 @@ use Rattle.mt_wire.specs.declared.query.Query.{Query}
 use Rattle.mt_types.specs.declared.row.Row.{Row}
 use Rattle.mt_types.specs.declared.limits.TheConstants.{MAX_KEY_BYTES}
 use Rattle.mt_types.specs.declared.refusal.Refusal.{Refusal}
-use Rattle.mt_types.specs.declared.refusal.Refusal.TheVariants.{FeedFull, Behind}
+use Rattle.mt_types.specs.declared.refusal.Refusal.TheVariants.{FeedFull, Behind, OtherVersion}
 use Rattle.mt_wire.specs.declared.query.Query.{Query}
 use Rattle.mt_wire.specs.declared.query.Query.TheVariants.{Call, ViewRead, ViewDrop}
 use Rattle.mt_wire.specs.declared.response.Response.{Response}
@@ -46,6 +46,7 @@ SpecLengths (PrefixOf key test) = KeyFits key × TestLengths test
 abbrev pub QueryLengths : Query → Type 0
 QueryLengths (Call (Get key columns)) = KeyFits key × ShortFits columns
 QueryLengths (Call (Put key sets)) = KeyFits key × CountedFits (λ set. ShortFits set.1) sets
+QueryLengths (Call (PutIf key sets version)) = KeyFits key × CountedFits (λ set. ShortFits set.1) sets
 QueryLengths (Call (Remove key)) = KeyFits key
 QueryLengths (Call (Range start limit columns)) = KeyFits start × ShortFits columns
 QueryLengths (Call (Tidy key)) = KeyFits key
@@ -82,6 +83,7 @@ SpecNumbers (RangeOf lo hi test) = TestNumbers test
 SpecNumbers (PrefixOf key test) = TestNumbers test
 
 abbrev pub QueryNumbers : Query → Type 0
+QueryNumbers (Call (PutIf key sets version)) = version < 2 ^ 64
 QueryNumbers (Call (Range start limit columns)) = limit < 2 ^ 16
 QueryNumbers (Call (Build spec)) = SpecNumbers spec
 QueryNumbers (Call request) = Unit {0}
@@ -94,6 +96,7 @@ QueryFits query = QueryLengths query × QueryNumbers query
 abbrev pub RefusalNumbers : Refusal → Type 0
 RefusalNumbers (FeedFull held_from) = held_from < 2 ^ 64
 RefusalNumbers (Behind at) = at < 2 ^ 64
+RefusalNumbers (OtherVersion found) = found < 2 ^ 64
 RefusalNumbers _ = Unit {0}
 
 abbrev pub PairNumbers : List ℕ × Row → Type 0

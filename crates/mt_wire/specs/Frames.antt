@@ -1,40 +1,48 @@
 -- Frames: which messages one may hold, and what may stand at the front of bytes.
-use Rattle.std.specs.Prelude.{◌≡◌, ◌≢◌, ℕ, ◌+◌, ◌<◌, ◌≤◌, ◌⊎◌, List, ◌++◌, length, take, slice_index, Option, Some, None}
+use Rattle.std.specs.Prelude.{◌≡◌, ℕ, ◌+◌, ◌<◌, ◌≤◌, ◌⊎◌, List, ◌++◌, length, take, slice_index, Option, Some, None, IsSome}
 use Rattle.std.specs.List.{AllByRecursion}
 use Rattle.std.specs.Int.{w32, from_be_bytes}
 use Rattle.mt_types.specs.declared.limits.TheConstants.{MAX_QUERIES, MAX_REQUEST_BODY}
 use Rattle.mt_wire.specs.declared.limits.TheConstants.{MAX_REPLY_BODY}
 use Rattle.mt_wire.specs.declared.query.Query.{Query}
 use Rattle.mt_wire.specs.declared.response.Response.{Response}
+use Rattle.mt_wire.specs.declared.version.WireVersion.{WireVersion}
+use Rattle.mt_wire.specs.declared.frame.Frame.{Frame}
 use Rattle.mt_wire.specs.declared.fault.WireFault.{WireFault}
 use Rattle.mt_wire.specs.declared.fault.WireFault.TheVariants as faults
+use Rattle.mt_wire.specs.Versions.{version_of, HasQuery}
 use Rattle.mt_wire.specs.Spelling.{query_spelling, response_spelling, body_of, frame_of}
 use Rattle.mt_wire.specs.Fits.{QueryLengths, QueryFits, ResponseLengths, ResponseFits}
 
-abbrev pub request_frame : List Query → List ℕ
-request_frame queries = frame_of query_spelling queries
+abbrev pub request_frame : Frame Query → List ℕ
+request_frame frame = frame_of query_spelling frame
 
-abbrev pub reply_frame : List Response → List ℕ
-reply_frame responses = frame_of response_spelling responses
+abbrev pub reply_frame : Frame Response → List ℕ
+reply_frame frame = frame_of response_spelling frame
 
 -- one message to as many as a frame may hold, each of which fits
 abbrev pub Holds : {A : Type 0} → (A → Type 0) → List A → Type 0
 Holds Fits messages = (0 < length messages) × (length messages ≤ MAX_QUERIES) × AllByRecursion Fits messages
 
+-- each query is one of the frame's version
+abbrev pub InVersion : Frame Query → Type 0
+InVersion frame = AllByRecursion (HasQuery frame.version) frame.messages
+
 -- what may be written, if the body isn't too long
-abbrev pub RequestsLengths : List Query → Type 0
-RequestsLengths queries = Holds QueryLengths queries
+abbrev pub RequestsLengths : Frame Query → Type 0
+RequestsLengths frame = Holds QueryLengths frame.messages × InVersion frame
 
 abbrev pub RepliesLengths : List Response → Type 0
 RepliesLengths responses = Holds ResponseLengths responses
 
 -- what may stand in a frame
-abbrev pub RequestsFit : List Query → Type 0
-RequestsFit queries = Holds QueryFits queries × (length (body_of query_spelling queries) ≤ MAX_REQUEST_BODY)
+abbrev pub RequestsFit : Frame Query → Type 0
+RequestsFit frame =
+    Holds QueryFits frame.messages × InVersion frame × (length (body_of query_spelling frame) ≤ MAX_REQUEST_BODY)
 
-abbrev pub RepliesFit : List Response → Type 0
-RepliesFit responses =
-    Holds ResponseFits responses × (length (body_of response_spelling responses) ≤ MAX_REPLY_BODY)
+abbrev pub RepliesFit : Frame Response → Type 0
+RepliesFit frame =
+    Holds ResponseFits frame.messages × (length (body_of response_spelling frame) ≤ MAX_REPLY_BODY)
 
 -- ---- the front of bytes
 
@@ -61,23 +69,27 @@ pub record IsOneFrame (most : ℕ) (frame : List ℕ) : Type 0 where
   pub fits : LengthFits most (announced frame)
   pub whole : length frame ≡ 4 + announced frame
 
+-- the version that the first byte of a body tells
+abbrev pub told_version : List ℕ → Option WireVersion
+told_version bytes = version_of (slice_index bytes 4)
+
 -- the fault that stands at the front, where no frame of requests does
 abbrev pub FaultStands : WireFault → List ℕ → Type 0
 FaultStands faults.BadLength bytes = (4 ≤ length bytes) × ¬ LengthFits MAX_REQUEST_BODY (announced bytes)
-FaultStands faults.BadVersion bytes = IsWhole MAX_REQUEST_BODY bytes × (slice_index bytes 4 ≢ 1)
+FaultStands faults.BadVersion bytes = IsWhole MAX_REQUEST_BODY bytes × (told_version bytes ≡ None)
 FaultStands faults.BadBody bytes =
-    IsWhole MAX_REQUEST_BODY bytes × (slice_index bytes 4 ≡ 1)
-    × ((queries : List Query) (rest : List ℕ) → RequestsFit queries → bytes ≡ request_frame queries ++ rest → ⊥)
+    IsWhole MAX_REQUEST_BODY bytes × IsSome (told_version bytes)
+    × ((frame : Frame Query) (rest : List ℕ) → RequestsFit frame → bytes ≡ request_frame frame ++ rest → ⊥)
 FaultStands faults.NoMemory bytes = ⊥
 
 -- the fault of bytes that are no frame of replies
 abbrev pub ReplyFaultStands : WireFault → List ℕ → Type 0
-ReplyFaultStands faults.BadLength frame = ¬ IsOneFrame MAX_REPLY_BODY frame
-ReplyFaultStands faults.BadVersion frame = IsOneFrame MAX_REPLY_BODY frame × (slice_index frame 4 ≢ 1)
-ReplyFaultStands faults.BadBody frame =
-    IsOneFrame MAX_REPLY_BODY frame × (slice_index frame 4 ≡ 1)
-    × ((responses : List Response) → RepliesFit responses → frame ≡ reply_frame responses → ⊥)
-ReplyFaultStands faults.NoMemory frame = ⊥
+ReplyFaultStands faults.BadLength bytes = ¬ IsOneFrame MAX_REPLY_BODY bytes
+ReplyFaultStands faults.BadVersion bytes = IsOneFrame MAX_REPLY_BODY bytes × (told_version bytes ≡ None)
+ReplyFaultStands faults.BadBody bytes =
+    IsOneFrame MAX_REPLY_BODY bytes × IsSome (told_version bytes)
+    × ((frame : Frame Response) → RepliesFit frame → bytes ≡ reply_frame frame → ⊥)
+ReplyFaultStands faults.NoMemory bytes = ⊥
 
 -- what a decoder keeps: the bytes that are not read yet, and the fault at which it has stopped
 pub record Kept : Type 0 where

@@ -4,6 +4,7 @@ use Rattle.mt_types.specs.declared.limits.TheConstants.{MAX_REQUEST_BODY}
 use Rattle.mt_wire.specs.declared.limits.TheConstants.{MAX_REPLY_BODY}
 use Rattle.mt_wire.specs.declared.query.Query.{Query}
 use Rattle.mt_wire.specs.declared.response.Response.{Response}
+use Rattle.mt_wire.specs.declared.frame.Frame.{Frame}
 use Rattle.mt_wire.specs.declared.fault.WireFault.{WireFault}
 use Rattle.mt_wire.specs.Spelling.{query_spelling, response_spelling, body_of}
 use Rattle.mt_wire.specs.Fits.{QueryFits, ResponseFits}
@@ -31,9 +32,9 @@ ReplyFramesReadOneWay = ReadOneWay RepliesFit reply_frame
 -- where a frame of requests stands, none has only begun, and no fault stands
 abbrev pub FrameStandsAlone : Type 0
 FrameStandsAlone =
-    (queries : List Query) (rest : List ℕ) → RequestsFit queries
-    → (¬ IsBegun MAX_REQUEST_BODY (request_frame queries ++ rest))
-    × ((fault : WireFault) → ¬ FaultStands fault (request_frame queries ++ rest))
+    (frame : Frame Query) (rest : List ℕ) → RequestsFit frame
+    → (¬ IsBegun MAX_REQUEST_BODY (request_frame frame ++ rest))
+    × ((fault : WireFault) → ¬ FaultStands fault (request_frame frame ++ rest))
 
 -- where a frame has only begun, no fault stands
 abbrev pub BegunHasNoFault : Type 0
@@ -49,5 +50,5 @@ FaultStays =
 -- field, and the body isn't too long
 abbrev pub LimitedRepliesFit : Type 0
 LimitedRepliesFit =
-    (responses : List Response) → Holds ResponseIsLimited responses
-    → RepliesLengths responses × (length (body_of response_spelling responses) ≤ MAX_REPLY_BODY)
+    (frame : Frame Response) → Holds ResponseIsLimited frame.messages
+    → RepliesLengths frame.messages × (length (body_of response_spelling frame) ≤ MAX_REPLY_BODY)

@@ -1,4 +1,5 @@
 -- What the contracts cite, in the order in which a reader takes it. Reading and Bodies are for private calls.
+pub mod Versions
 pub mod Spelling
 pub mod Fits
 pub mod Limited

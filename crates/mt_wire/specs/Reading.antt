@@ -2,7 +2,7 @@
 -- private calls speak of it; the laws say that it undoes spelling.
 use Rattle.std.specs.Prelude.{◌≡◌, ℕ, zero, suc, ◌+◌, ◌*◌, ◌^◌, List, [], ◌∷◌, length, take, drop, Option, Some, None, Result, Ok, Err, nat_lt, ◌==◌, if◌then◌else◌}
 use Rattle.std.specs.Int.{Width, w16, w64, byte_len, from_be_bytes}
-use Rattle.mt_types.specs.declared.event.Request.TheVariants.{Get, Put, Remove, Range, Tidy, Build}
+use Rattle.mt_types.specs.declared.event.Request.TheVariants.{Get, Put, PutIf, Remove, Range, Tidy, Build}
 use Rattle.mt_types.specs.declared.view.ViewSpec.{ViewSpec}
 use Rattle.mt_types.specs.declared.view.ViewSpec.TheVariants.{Range as RangeOf, Prefix as PrefixOf}
 use Rattle.mt_types.specs.declared.view.RowTest.{RowTest}
@@ -13,7 +13,7 @@ use Rattle.mt_types.specs.declared.limits.TheConstants.{MAX_KEY_BYTES}
 use Rattle.mt_types.specs.declared.event.TidyRule.{TidyRule}
 use Rattle.mt_types.specs.declared.event.TidyRule.TheVariants.{Nothing, EmptyBorder, LoneChild, LoneRootChild, EmptyLayer}
 use Rattle.mt_types.specs.declared.refusal.Refusal.{Refusal}
-use Rattle.mt_types.specs.declared.refusal.Refusal.TheVariants.{NoMemory, KeyTooLong, BadColumn, ColumnTooLong, BadLimit, ArenaFull, FeedFull, TooManyCalls, NoSuchCall, TooManyViews, NoSuchView, Behind, BadRange, Spent, WrongPass}
+use Rattle.mt_types.specs.declared.refusal.Refusal.TheVariants.{NoMemory, KeyTooLong, BadColumn, ColumnTooLong, BadLimit, ArenaFull, FeedFull, TooManyCalls, NoSuchCall, TooManyViews, NoSuchView, Behind, BadRange, Spent, WrongPass, OtherVersion}
 use Rattle.mt_wire.specs.declared.query.Query.{Query}
 use Rattle.mt_wire.specs.declared.query.Query.TheVariants.{Call, ViewRead, ViewDrop}
 use Rattle.mt_wire.specs.declared.response.Response.{Response}
@@ -132,6 +132,9 @@ get_at = made (λ x. Call (Get x.0 x.1)) (both key_at short_at)
 unfoldable pub put_at : Reader Query
 put_at = made (λ x. Call (Put x.0 x.1)) (both key_at (counted_at set_at))
 
+unfoldable pub put_if_at : Reader Query
+put_if_at = made (λ x. Call (PutIf x.0.0 x.1 x.0.1)) (both (both key_at (number_at w64)) (counted_at set_at))
+
 unfoldable pub remove_at : Reader Query
 remove_at = made (λ x. Call (Remove x)) key_at
 
@@ -162,7 +165,8 @@ query_rest (suc (suc (suc (suc (suc zero))))) = tidy_at
 query_rest (suc (suc (suc (suc (suc (suc zero)))))) = build_at
 query_rest (suc (suc (suc (suc (suc (suc (suc zero))))))) = view_read_at
 query_rest (suc (suc (suc (suc (suc (suc (suc (suc zero)))))))) = view_drop_at
-query_rest (suc (suc (suc (suc (suc (suc (suc (suc (suc kind))))))))) = λ bytes. None
+query_rest (suc (suc (suc (suc (suc (suc (suc (suc (suc zero))))))))) = put_if_at
+query_rest (suc (suc (suc (suc (suc (suc (suc (suc (suc (suc kind)))))))))) = λ bytes. None
 
 -- ---- answers
 
@@ -209,7 +213,9 @@ refusal_rest (suc (suc (suc (suc (suc (suc (suc (suc (suc (suc (suc (suc (suc (s
     made (λ _. Spent) no_detail_at
 refusal_rest (suc (suc (suc (suc (suc (suc (suc (suc (suc (suc (suc (suc (suc (suc (suc zero))))))))))))))) =
     made (λ _. WrongPass) no_detail_at
-refusal_rest (suc (suc (suc (suc (suc (suc (suc (suc (suc (suc (suc (suc (suc (suc (suc (suc kind)))))))))))))))) =
+refusal_rest (suc (suc (suc (suc (suc (suc (suc (suc (suc (suc (suc (suc (suc (suc (suc (suc zero)))))))))))))))) =
+    made (λ x. OtherVersion x) (number_at w64)
+refusal_rest (suc (suc (suc (suc (suc (suc (suc (suc (suc (suc (suc (suc (suc (suc (suc (suc (suc kind))))))))))))))))) =
     λ bytes. None
 
 unfoldable pub rule_rest : ℕ → Reader TidyRule

@@ -1,8 +1,8 @@
--- The bytes that spell each message: version 1 of the format. Numbers have the highest byte first.
+-- The bytes that spell each message, and a frame of them. Numbers have the highest byte first.
 use Rattle.std.specs.Prelude.{ℕ, ◌/◌, ◌%◌, ◌^◌, List, [], ◌∷◌, ◌++◌, length, Option, Some, None, unwrap_or}
 use Rattle.std.specs.List.{flat_map}
 use Rattle.std.specs.Int.{w16, w32, w64, to_be_bytes}
-use Rattle.mt_types.specs.declared.event.Request.TheVariants.{Get, Put, Remove, Range, Tidy, Build}
+use Rattle.mt_types.specs.declared.event.Request.TheVariants.{Get, Put, PutIf, Remove, Range, Tidy, Build}
 use Rattle.mt_types.specs.declared.view.ViewSpec.{ViewSpec}
 use Rattle.mt_types.specs.declared.view.ViewSpec.TheVariants.{Range as RangeOf, Prefix as PrefixOf}
 use Rattle.mt_types.specs.declared.view.RowTest.{RowTest}
@@ -18,6 +18,9 @@ use Rattle.mt_wire.specs.declared.query.Query.TheVariants.{Call, ViewRead, ViewD
 use Rattle.mt_wire.specs.declared.response.Response.{Response}
 use Rattle.mt_wire.specs.declared.response.Response.TheVariants.{Refused, Done, View, Dropped}
 use Rattle.mt_wire.specs.declared.response.End.TheVariants.{Absent, Found, Committed, Rows, Tidied, Built}
+use Rattle.mt_wire.specs.declared.version.WireVersion.{WireVersion}
+use Rattle.mt_wire.specs.declared.frame.Frame.{Frame}
+use Rattle.mt_wire.specs.Versions.{version_byte}
 
 -- a key: two bytes of length, then its bytes
 abbrev pub key_spelling : List ℕ → List ℕ
@@ -60,6 +63,8 @@ query_spelling (Call (Build spec)) = 6 ∷ spec_spelling spec
 query_spelling (ViewRead view floor start limit) =
     7 ∷ (to_be_bytes w64 view.0 ++ to_be_bytes w64 floor ++ key_spelling start ++ to_be_bytes w16 limit)
 query_spelling (ViewDrop view) = 8 ∷ to_be_bytes w64 view.0
+query_spelling (Call (PutIf key sets version)) =
+    9 ∷ (key_spelling key ++ to_be_bytes w64 version ++ counted set_spelling sets)
 
 -- a number of up to 128 bits: sixteen bytes
 abbrev pub sum_spelling : ℕ → List ℕ
@@ -107,10 +112,14 @@ response_spelling (View page) =
     ++ pairs_spelling page.rows)
 response_spelling Dropped = 8 ∷ []
 
+-- these messages, in a frame of this version
+abbrev pub framed : {A : Type 0} → WireVersion → List A → Frame A
+framed version messages = record { version = version; messages = messages }
+
 -- a body: the version, and the messages
-abbrev pub body_of : {A : Type 0} → (A → List ℕ) → List A → List ℕ
-body_of message messages = 1 ∷ counted message messages
+abbrev pub body_of : {A : Type 0} → (A → List ℕ) → Frame A → List ℕ
+body_of message frame = version_byte frame.version ∷ counted message frame.messages
 
 -- a frame: four bytes of length, then the body
-abbrev pub frame_of : {A : Type 0} → (A → List ℕ) → List A → List ℕ
-frame_of message messages = to_be_bytes w32 (length (body_of message messages)) ++ body_of message messages
+abbrev pub frame_of : {A : Type 0} → (A → List ℕ) → Frame A → List ℕ
+frame_of message frame = to_be_bytes w32 (length (body_of message frame)) ++ body_of message frame

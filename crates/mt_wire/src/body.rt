@@ -5,9 +5,11 @@ ghost use Rattle.mt_wire.specs.Reading.{Gives};
 ghost use Rattle.mt_wire.specs.Bodies.{Reads, IsBytes, messages_at, body_at};
 
 use crate::fault::{ReadError, WireFault};
-use crate::limits::VERSION;
+use crate::frame::Frame;
 use crate::reading::{Readable, byte, items};
+use crate::version::WireVersion;
 use bytes::Bytes;
+use mt_types::items::Items;
 use mt_types::limits::MAX_QUERIES;
 use std::alloc::Global;
 
@@ -26,15 +28,16 @@ fn messages<T: Readable + Drop>(alloc: Global, input: &mut Bytes) -> Result<Vec<
     Ok(messages)
 }
 
-// The messages of a body, all of it.
+// The frame of a body, all of it.
 #[tactic(auto, unfolding(crate::specs::Bodies::body_at, crate::specs::Reading::byte_at))]
-fn body<T: Readable + Drop>(alloc: Global, mut input: Bytes) -> Result<Vec<T>, WireFault>
-    ensures { Reads (λ messages. messages.items) result (body_at T.reading input) }
+fn body<T: Readable + Drop>(alloc: Global, mut input: Bytes) -> Result<Frame<T>, WireFault>
+    ensures { Reads (λ frame. frame) result (body_at T.reading input) }
 {
-    if byte(&mut input)? != VERSION {
+    let Some(version) = WireVersion::of(byte(&mut input)?) else {
         return Err(WireFault::BadVersion);
-    }
-    Ok(messages(alloc, &mut input)?)
+    };
+    let messages = Items::from_vec(messages(alloc, &mut input)?);
+    Ok(Frame { version, messages })
 }
 
 // Does nothing: it tells the proof that the items of a slice of bytes are bytes.
@@ -42,10 +45,10 @@ fn hold_bytes(_bytes: &[u8])
     ensures { IsBytes _bytes.now }
 {}
 
-/// The messages of a whole frame, which share its bytes.
-pub fn frame<T: Readable + Drop>(alloc: Global, frame: &Bytes) -> Result<Vec<T>, WireFault>
+/// The version and the messages of a whole frame, which share its bytes.
+pub fn frame<T: Readable + Drop>(alloc: Global, frame: &Bytes) -> Result<Frame<T>, WireFault>
     requires { 4 ≤ length frame.now }
-    ensures read { Reads (λ messages. messages.items) result (body_at T.reading (drop 4 frame.now)) }
+    ensures read { Reads (λ frame. frame) result (body_at T.reading (drop 4 frame.now)) }
     ensures bytes { IsBytes frame.now }
 {
     hold_bytes(frame.as_slice());

@@ -2,12 +2,14 @@
 
 ghost use Rattle.std.specs.Prelude.{◌≡◌, ◌≢◌, ◌+◌, ◌<◌, ◌≤◌, ◌++◌, ◌==◌, [], ℕ, List, length, Some, None, Ok, Err, IfOk, IfErr, IfSome, IfNone, IsErrOf, OnOk, OnErr, IsOk, IsSome, IsSomeAnd, MatchResult};
 ghost use Rattle.mt_wire.specs.declared.query.Query.{Query};
+ghost use Rattle.mt_wire.specs.declared.frame.Frame.{Frame};
 ghost use Rattle.mt_wire.specs.declared.fault.WireFault.{WireFault};
 ghost use Rattle.mt_wire.specs.Frames.{IsBegun, LengthFits, announced, FaultStands, IsOneFrame, RequestsFit, request_frame, Kept, stopping};
 ghost use Rattle.mt_wire.specs.KeptFields.{cut_off};
 
 use crate::body;
 use crate::fault::WireFault;
+use crate::frame::Frame;
 use crate::query::Query;
 use bytes::{Bytes, BytesMut};
 use mt_types::limits::MAX_REQUEST_BODY;
@@ -92,15 +94,18 @@ fn find(frame: Option<Bytes>, rest: &mut BytesMut) -> Result<Option<Bytes>, Wire
     }
 }
 
-// The queries of a frame.
-fn queries_of(alloc: Global, frame: &Bytes) -> Result<Vec<Query>, WireFault>
+// The queries of a frame, each of them one of its version.
+fn queries_of(alloc: Global, frame: &Bytes) -> Result<Frame<Query>, WireFault>
     requires { IsOneFrame MAX_REQUEST_BODY frame.now }
-    ensures found { IfOk result (λ queries. RequestsFit queries.items
-        × (frame.now ≡ request_frame queries.items)) }
+    ensures found { IfOk result (λ found. RequestsFit found × (frame.now ≡ request_frame found)) }
     ensures fault { IfErr result (λ fault. fault ≢ WireFault.NoMemory
         → (rest : List ℕ) → FaultStands fault (frame.now ++ rest)) }
 {
-    body::frame(alloc, frame)
+    let found: Frame<Query> = body::frame(alloc, frame)?;
+    if !found.version.has_all(found.messages.as_slice()) {
+        return Err(WireFault::BadBody);
+    }
+    Ok(found)
 }
 
 // The fault at which a decoder stops: want of memory passes.
@@ -150,16 +155,16 @@ impl Decoder {
         Ok(())
     }
 
-    /// The queries of the next frame, or `None` where no whole frame stands at the front yet. The bytes of keys and
-    /// columns are the frame's own, shared. O(n) in the bytes of the frame.
+    /// The next frame, its version and its queries, or `None` where no whole frame stands at the front yet. The bytes of
+    /// keys and columns are the frame's own, shared. O(n) in the bytes of the frame.
     ///
     /// # Errors
     ///
     /// The fault that stands at the front, as soon as its four bytes of length are there (`BadLength`) or all of its
     /// frame (`BadVersion`, `BadBody`), and the same for good. On `NoMemory` nothing changed.
-    pub fn next(&mut self) -> Result<Option<Vec<Query>>, WireFault>
-        ensures frame { IfOk result (λ next. IfSome next (λ queries. RequestsFit queries.items
-            × (self.old.bytes ≡ request_frame queries.items ++ self.new.bytes)
+    pub fn next(&mut self) -> Result<Option<Frame<Query>>, WireFault>
+        ensures frame { IfOk result (λ next. IfSome next (λ frame. RequestsFit frame
+            × (self.old.bytes ≡ request_frame frame ++ self.new.bytes)
             × (self.new.fault ≡ None))) }
         ensures begun { IfOk result (λ next. IfNone next (IsBegun MAX_REQUEST_BODY self.old.bytes
             × (self.new ≡ self.old))) }
@@ -170,19 +175,19 @@ impl Decoder {
             × (self.new ≡ record { bytes = self.old.bytes; fault = Some fault })) }
         ensures memory { IsErrOf result WireFault.NoMemory → (self.new ≡ self.old) × (self.old.fault ≡ None) }
         ensures stopped { (fault : WireFault) → self.old.fault ≡ Some fault → result ≡ Err fault }
-        ensures only { (queries : List Query) (rest : List ℕ) → RequestsFit queries → self.old.fault ≡ None
-            → self.old.bytes ≡ request_frame queries ++ rest
+        ensures only { (frame : Frame Query) (rest : List ℕ) → RequestsFit frame → self.old.fault ≡ None
+            → self.old.bytes ≡ request_frame frame ++ rest
             → MatchResult result
-            (λ next. IsSomeAnd next (λ found. (found.items ≡ queries) × (self.new.bytes ≡ rest)))
+            (λ next. IsSomeAnd next (λ found. (found ≡ frame) × (self.new.bytes ≡ rest)))
             (λ fault. fault ≡ WireFault.NoMemory) }
     {
         self.advance()
     }
 
     // `next`, without the clause that follows from the others.
-    fn advance(&mut self) -> Result<Option<Vec<Query>>, WireFault>
-        ensures frame { IfOk result (λ next. IfSome next (λ queries. RequestsFit queries.items
-            × (self.old.bytes ≡ request_frame queries.items ++ self.new.bytes)
+    fn advance(&mut self) -> Result<Option<Frame<Query>>, WireFault>
+        ensures frame { IfOk result (λ next. IfSome next (λ frame. RequestsFit frame
+            × (self.old.bytes ≡ request_frame frame ++ self.new.bytes)
             × (self.new.fault ≡ None))) }
         ensures begun { IfOk result (λ next. IfNone next (IsBegun MAX_REQUEST_BODY self.old.bytes
             × (self.new ≡ self.old))) }

@@ -2,13 +2,14 @@
 
 ghost use Rattle.std.specs.Prelude.{◌≡◌, ◌<◌, ◌≤◌, ◌↔◌, ◌^◌, ◌++◌, ◌∷◌, length, drop, IsTrue, IfOk, OnOk, IsErrOf};
 ghost use Rattle.std.specs.Int.{w32, to_be_bytes};
-ghost use Rattle.mt_wire.specs.Spelling.{query_spelling, response_spelling, body_of, frame_of};
+ghost use Rattle.mt_wire.specs.Spelling.{query_spelling, response_spelling, framed, body_of, frame_of};
 ghost use Rattle.mt_wire.specs.Frames.{Holds, RequestsLengths, RepliesLengths, request_frame, reply_frame};
 
 use crate::fault::EncodeError;
-use crate::limits::{MAX_REPLY_BODY, VERSION};
+use crate::limits::MAX_REPLY_BODY;
 use crate::query::Query;
 use crate::response::Response;
+use crate::version::WireVersion;
 use crate::writing::{Writable, all_fit, counted};
 use mt_types::limits::{MAX_QUERIES, MAX_REQUEST_BODY};
 use std::alloc::{AllocError, Global};
@@ -32,24 +33,35 @@ fn put_length(out: &mut Vec<u8>, len: u32)
 }
 
 // A body behind four bytes, over what was there.
-fn body<T: Writable>(out: &mut Vec<u8>, messages: &[T]) -> Result<(), AllocError>
+fn body<T: Writable>(
+    out: &mut Vec<u8>,
+    version: WireVersion,
+    messages: &[T],
+) -> Result<(), AllocError>
     requires { Holds T.lengths messages.now }
-    ensures { OnOk result (out.new.items ≡ 0 ∷ 0 ∷ 0 ∷ 0 ∷ body_of T.spelling messages.now) }
+    ensures { OnOk result (out.new.items
+        ≡ 0 ∷ 0 ∷ 0 ∷ 0 ∷ body_of T.spelling (framed version messages.now)) }
 {
     out.clear();
     out.extend_from_slice(&[0, 0, 0, 0])?;
-    out.push(VERSION)?;
+    out.push(version.byte())?;
     counted(out, messages)
 }
 
 // A frame, over what was there: its length is known when its body is written.
-fn frame<T: Writable>(out: &mut Vec<u8>, messages: &[T], most: u32) -> Result<(), EncodeError>
+fn frame<T: Writable>(
+    out: &mut Vec<u8>,
+    version: WireVersion,
+    messages: &[T],
+    most: u32,
+) -> Result<(), EncodeError>
     requires { Holds T.lengths messages.now }
-    ensures value { OnOk result (out.new.items ≡ frame_of T.spelling messages.now) }
-    ensures fits { OnOk result (length (body_of T.spelling messages.now) ≤ most) }
-    ensures long { IsErrOf result EncodeError.TooLong → most < length (body_of T.spelling messages.now) }
+    ensures value { OnOk result (out.new.items ≡ frame_of T.spelling (framed version messages.now)) }
+    ensures fits { OnOk result (length (body_of T.spelling (framed version messages.now)) ≤ most) }
+    ensures long { IsErrOf result EncodeError.TooLong
+        → most < length (body_of T.spelling (framed version messages.now)) }
 {
-    body(out, messages)?;
+    body(out, version, messages)?;
     let len = out.len() - 4;
     if len > most as usize {
         return Err(EncodeError::TooLong);
@@ -58,11 +70,12 @@ fn frame<T: Writable>(out: &mut Vec<u8>, messages: &[T], most: u32) -> Result<()
     Ok(())
 }
 
-/// Whether a frame may hold these queries: there are 1 to `MAX_QUERIES`, and each length fits its field.
-pub fn requests_fit(queries: &[Query]) -> bool
-    ensures { IsTrue result ↔ RequestsLengths queries.now }
+/// Whether a frame of this version may hold these queries: there are 1 to `MAX_QUERIES`, each length fits its field, and
+/// the version has each of them.
+pub fn requests_fit(version: WireVersion, queries: &[Query]) -> bool
+    ensures { IsTrue result ↔ RequestsLengths (framed version queries.now) }
 {
-    hold(queries)
+    hold(queries) && version.has_all(queries)
 }
 
 /// Whether a frame may hold these answers: there are 1 to `MAX_QUERIES`, and each length fits its field.
@@ -77,15 +90,19 @@ pub fn replies_fit(responses: &[Response]) -> bool
 /// # Errors
 ///
 /// `TooLong` exactly where its body would have more than `MAX_REQUEST_BODY` bytes.
-pub fn encode_requests(alloc: Global, queries: &[Query]) -> Result<Vec<u8>, EncodeError>
-    requires { RequestsLengths queries.now }
-    ensures value { IfOk result (λ frame. frame.items ≡ request_frame queries.now) }
-    ensures fits { OnOk result (length (body_of query_spelling queries.now) ≤ MAX_REQUEST_BODY) }
+pub fn encode_requests(
+    alloc: Global,
+    version: WireVersion,
+    queries: &[Query],
+) -> Result<Vec<u8>, EncodeError>
+    requires { RequestsLengths (framed version queries.now) }
+    ensures value { IfOk result (λ bytes. bytes.items ≡ request_frame (framed version queries.now)) }
+    ensures fits { OnOk result (length (body_of query_spelling (framed version queries.now)) ≤ MAX_REQUEST_BODY) }
     ensures long { IsErrOf result EncodeError.TooLong
-        → MAX_REQUEST_BODY < length (body_of query_spelling queries.now) }
+        → MAX_REQUEST_BODY < length (body_of query_spelling (framed version queries.now)) }
 {
     let mut out = Vec::new(alloc);
-    frame(&mut out, queries, MAX_REQUEST_BODY)?;
+    frame(&mut out, version, queries, MAX_REQUEST_BODY)?;
     Ok(out)
 }
 
@@ -94,14 +111,18 @@ pub fn encode_requests(alloc: Global, queries: &[Query]) -> Result<Vec<u8>, Enco
 /// # Errors
 ///
 /// `TooLong` exactly where its body would have more than `MAX_REPLY_BODY` bytes. What `out` has then is no frame.
-pub fn encode_replies_into(out: &mut Vec<u8>, responses: &[Response]) -> Result<(), EncodeError>
+pub fn encode_replies_into(
+    out: &mut Vec<u8>,
+    version: WireVersion,
+    responses: &[Response],
+) -> Result<(), EncodeError>
     requires { RepliesLengths responses.now }
-    ensures value { OnOk result (out.new.items ≡ reply_frame responses.now) }
-    ensures fits { OnOk result (length (body_of response_spelling responses.now) ≤ MAX_REPLY_BODY) }
+    ensures value { OnOk result (out.new.items ≡ reply_frame (framed version responses.now)) }
+    ensures fits { OnOk result (length (body_of response_spelling (framed version responses.now)) ≤ MAX_REPLY_BODY) }
     ensures long { IsErrOf result EncodeError.TooLong
-        → MAX_REPLY_BODY < length (body_of response_spelling responses.now) }
+        → MAX_REPLY_BODY < length (body_of response_spelling (framed version responses.now)) }
 {
-    frame(out, responses, MAX_REPLY_BODY)
+    frame(out, version, responses, MAX_REPLY_BODY)
 }
 
 /// The frame of these answers. O(n) in its bytes.
@@ -109,14 +130,18 @@ pub fn encode_replies_into(out: &mut Vec<u8>, responses: &[Response]) -> Result<
 /// # Errors
 ///
 /// `TooLong` exactly where its body would have more than `MAX_REPLY_BODY` bytes.
-pub fn encode_replies(alloc: Global, responses: &[Response]) -> Result<Vec<u8>, EncodeError>
+pub fn encode_replies(
+    alloc: Global,
+    version: WireVersion,
+    responses: &[Response],
+) -> Result<Vec<u8>, EncodeError>
     requires { RepliesLengths responses.now }
-    ensures value { IfOk result (λ frame. frame.items ≡ reply_frame responses.now) }
-    ensures fits { OnOk result (length (body_of response_spelling responses.now) ≤ MAX_REPLY_BODY) }
+    ensures value { IfOk result (λ bytes. bytes.items ≡ reply_frame (framed version responses.now)) }
+    ensures fits { OnOk result (length (body_of response_spelling (framed version responses.now)) ≤ MAX_REPLY_BODY) }
     ensures long { IsErrOf result EncodeError.TooLong
-        → MAX_REPLY_BODY < length (body_of response_spelling responses.now) }
+        → MAX_REPLY_BODY < length (body_of response_spelling (framed version responses.now)) }
 {
     let mut out = Vec::new(alloc);
-    encode_replies_into(&mut out, responses)?;
+    encode_replies_into(&mut out, version, responses)?;
     Ok(out)
 }

@@ -1,7 +1,7 @@
 //! Queries, read from the front of the bytes that are left.
 
 ghost use Rattle.std.specs.Prelude.{◌≡◌};
-ghost use Rattle.mt_wire.specs.Reading.{Gives, kind_at, test_rest, end_rest, spec_rest, query_rest, get_at, put_at, remove_at, range_at, tidy_at, build_at, view_read_at, view_drop_at};
+ghost use Rattle.mt_wire.specs.Reading.{Gives, kind_at, test_rest, end_rest, spec_rest, query_rest, get_at, put_at, put_if_at, remove_at, range_at, tidy_at, build_at, view_read_at, view_drop_at};
 
 use crate::fault::ReadError;
 use crate::query::Query;
@@ -117,6 +117,16 @@ fn put(alloc: Global, input: &mut Bytes) -> Result<Query, ReadError>
     Ok(Query::Call(Request::Put { key, sets }))
 }
 
+#[tactic(auto, unfolding(crate::specs::Reading::put_if_at))]
+fn put_if(alloc: Global, input: &mut Bytes) -> Result<Query, ReadError>
+    ensures { Gives (λ x. (x, input.new)) result (put_if_at input.old) }
+{
+    let key = key(input)?;
+    let version = number64(input)?;
+    let sets = Items::from_vec(counted(alloc, input)?);
+    Ok(Query::Call(Request::PutIf { key, sets, version }))
+}
+
 #[tactic(auto, unfolding(crate::specs::Reading::remove_at))]
 fn remove(input: &mut Bytes) -> Result<Query, ReadError>
     ensures { Gives (λ x. (x, input.new)) result (remove_at input.old) }
@@ -192,6 +202,7 @@ fn query_of_kind(alloc: Global, input: &mut Bytes, kind: u8) -> Result<Query, Re
         6 => build(input),
         7 => view_read(input),
         8 => view_drop(input),
+        9 => put_if(alloc, input),
         _ => Err(ReadError::Misspelled),
     }
 }

@@ -102,6 +102,16 @@ fn write_request(out: &mut Vec<u8>, request: &Request) -> Result<(), AllocError>
             key(out, changed)?;
             counted(out, sets.as_slice())
         }
+        Request::PutIf {
+            key: changed,
+            sets,
+            version,
+        } => {
+            out.push(9)?;
+            key(out, changed)?;
+            number64(out, *version)?;
+            counted(out, sets.as_slice())
+        }
         Request::Remove { key: removed } => {
             out.push(3)?;
             key(out, removed)
@@ -159,7 +169,9 @@ fn request_fits(request: &Request) -> bool
 {
     match request {
         Request::Get { key, columns } => key_fits(key) && short_fits(columns.as_slice()),
-        Request::Put { key, sets } => key_fits(key) && counted_fits(sets.as_slice()),
+        Request::Put { key, sets } | Request::PutIf { key, sets, .. } => {
+            key_fits(key) && counted_fits(sets.as_slice())
+        }
         Request::Range { start, columns, .. } => {
             key_fits(start) && short_fits(columns.as_slice())
         }

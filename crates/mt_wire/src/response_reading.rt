@@ -110,6 +110,7 @@ fn refusal_of_kind(input: &mut Bytes, kind: u8) -> Result<Refusal, ReadError>
         13 => Refusal::BadRange,
         14 => Refusal::Spent,
         15 => Refusal::WrongPass,
+        16 => return Ok(Refusal::OtherVersion(number64(input)?)),
         _ => return Err(ReadError::Misspelled),
     };
     no_detail(input)?;

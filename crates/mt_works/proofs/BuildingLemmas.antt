@@ -72,7 +72,7 @@ module _ (a : ArenaView) (log : LogView) (old : Building) where
   build_fails new C = record {
     steps = λ now begun moves past w world before truth. record {
       goes = goes_same now a w _ [] [] refl world tt;
-      does = (quiet_same a log, refl, tt);
+      does = (quiet_same a log, refl, tt, tt);
       reserved = refl;
       bounds = refl;
       blocked = refl;

@@ -1,5 +1,5 @@
 -- A call that runs alone, of any kind: what is known of it between its steps, and that each step brings it nearer to its end.
-use Rattle.std.proofs.Common.{ℕ, ◌≡◌, ◌≤◌, ◌<◌, ◌+◌, ◌⊎◌, inl, inr, List, [], ◌∷◌, length, Option, refl, sym, ap, subst, ◌∙◌, arith}
+use Rattle.std.proofs.Common.{ℕ, ◌≡◌, ◌≤◌, ◌<◌, ◌+◌, ◌⊎◌, inl, inr, List, [], ◌∷◌, length, Option, refl, sym, ap, subst, ◌∙◌, arith, None, Some}
 use Rattle.mt_types.specs.declared.row.Delta.{Delta}
 use Rattle.mt_commit.specs.Log.{LogView, newest}
 use Rattle.mt_arena.specs.Arena.{ArenaView}
@@ -223,7 +223,8 @@ lone_get_steps C now made a commits (Build building) runs is = absurd is
 
 -- the key of a put or remove
 edit_key : (key : List ℕ) (edit : Edit) → AsksForKey (edit_request key edit) → IsKey key
-edit_key key (Put sets) is = is
+edit_key key (Put sets None) is = is
+edit_key key (Put sets (Some version)) is = is
 edit_key key Remove is = is
 
 write_key : (write : WriteView) → AsksForKey (write_request write) → IsKey write.key

@@ -1,7 +1,7 @@
 -- The kinds of calls: what each asks for, what it has, and what is true of it.
 use Rattle.std.specs.Prelude.{ℕ, ◌≡◌, ◌≤◌, List, [], length, None}
 use Rattle.mt_types.specs.declared.event.Request.{Request}
-use Rattle.mt_types.specs.declared.event.Request.TheVariants.{Get as GetRequest, Put as PutRequest, Remove as RemoveRequest, Range as RangeRequest, Tidy as TidyRequest, Build as BuildRequest}
+use Rattle.mt_types.specs.declared.event.Request.TheVariants.{Get as GetRequest, Put as PutRequest, PutIf as PutIfRequest, Remove as RemoveRequest, Range as RangeRequest, Tidy as TidyRequest, Build as BuildRequest}
 use Rattle.mt_types.specs.declared.limits.TheConstants.{MAX_KEY_BYTES}
 use Rattle.mt_slice.specs.Place.{AreBytes}
 use Rattle.mt_commit.specs.Log.{LogView}
@@ -85,6 +85,7 @@ IsKey key = AreBytes key × (length key ≤ MAX_KEY_BYTES)
 abbrev pub AsksForKey : Request → Type 0
 AsksForKey (GetRequest key asked) = IsKey key
 AsksForKey (PutRequest key sets) = IsKey key
+AsksForKey (PutIfRequest key sets version) = IsKey key
 AsksForKey (RemoveRequest key) = IsKey key
 AsksForKey (RangeRequest start limit asked) = IsKey start
 AsksForKey (TidyRequest key) = IsKey key

@@ -186,7 +186,17 @@ pub fn work_of(alloc: Global, columns: u8, number: u64, request: Request) -> Res
             columns,
             way: START,
         })),
-        Request::Put { key, sets } => Ok(Work::Write(new_write(key_of(key)?, Edit::Put(sets)))),
+        Request::Put { key, sets } => {
+            let edit = Edit::Put { sets, only: None };
+            Ok(Work::Write(new_write(key_of(key)?, edit)))
+        }
+        Request::PutIf { key, sets, version } => {
+            let edit = Edit::Put {
+                sets,
+                only: Some(version),
+            };
+            Ok(Work::Write(new_write(key_of(key)?, edit)))
+        }
         Request::Remove { key } => Ok(Work::Write(new_write(key_of(key)?, Edit::Remove))),
         Request::Range {
             start,

@@ -30,7 +30,7 @@ use Rattle.mt_steps.specs.declared.progress.Progress.TheVariants.{Moved}
 use Rattle.mt_steps.specs.World.{World}
 use Rattle.mt_steps.specs.Way.{rest_of, prefix_of}
 use Rattle.mt_steps.specs.Step.{StepLaw, Stepped}
-use Rattle.mt_write.specs.Writing.{edit_request, stage_held, StageIsTrue, IsLockedAt, HasLocked, IsSplit, IsSpare, IsCutAt, IsHalf, IsAbsent, IsHalfOf, empty_half, upper_half}
+use Rattle.mt_write.specs.Writing.{edit_request, stage_held, StageIsTrue, IsLockedAt, HasLocked, IsSplit, IsSpare, IsCutAt, IsHalf, IsAbsent, IsHalfOf, empty_half, upper_half, PutsNew}
 use Rattle.mt_steps.specs.World.{IsLockedBorder}
 use Rattle.mt_steps.proofs.FoundLemmas.{some_at, some_and}
 use Rattle.mt_write.proofs.AbsentLemmas.{none_has, absent_part, absent_last}
@@ -40,10 +40,10 @@ use Rattle.mt_write.proofs.WorkLemmas.{locked_at_stays}
 use Rattle.mt_write.proofs.WriteLemmas.{no_get}
 
 -- ---- before the steps
-pub half_may_fill : (key : List ℕ) (edit : Edit) (way : Way) (b : BorderView) (cut : ℕ) (c : IsCutAt key edit way b cut) → MayFill (empty_half b c.middle) (drop cut b.live) b.right
+pub half_may_fill : (key : List ℕ) (edit : Edit) (way : Way) (b : BorderView) (cut : ℕ) (c : IsCutAt key way b cut) → MayFill (empty_half b c.middle) (drop cut b.live) b.right
 half_may_fill key edit way b cut c = record { empty = refl; fresh = refl; sound = cut_upper b cut c.middle true c.sound c.full c.place.lawful c.is_middle }
 
-pub half_is_upper : (key : List ℕ) (edit : Edit) (way : Way) (b : BorderView) (cut : ℕ) (c : IsCutAt key edit way b cut) → IsUpperHalf b (upper_half b cut c.middle) cut
+pub half_is_upper : (key : List ℕ) (edit : Edit) (way : Way) (b : BorderView) (cut : ℕ) (c : IsCutAt key way b cut) → IsUpperHalf b (upper_half b cut c.middle) cut
 half_is_upper key edit way b cut c = record {
   within = let full = c.full in let last = c.place.lawful.last in omega (arith, full, last);
   upper = refl;
@@ -66,7 +66,7 @@ module _ (C : ℕ) (a : ArenaView) (log : LogView) (key : List ℕ) (edit : Edit
       → StepLaw C a after log log (edit_request key edit) (stage_held n (Spared half cut entries)) Moved (stage_held n (HalfFilled half cut)) (λ begun moves past x w. StageIsTrue C key edit way (Spared half cut entries) begun x w) (λ begun moves past x w. StageIsTrue C key edit way (HalfFilled half cut) begun x w)
   fills_half entries after filled keeps = record {
     steps = λ now begun moves past w world before truth.
-        let (b, at, c, s, copied) = truth in
+        let (b, at, c, s, copied, p) = truth in
         let is : after ≡ with_border_changed a half.0 (λ spare. with_entries spare entries b.right) = some_at _ (border_at a.nodes n) b filled at.named in
         let change : BorderView → BorderView = λ x. with_entries x entries b.right in
         let new : ArenaView = with_border_changed a half.0 change in
@@ -78,6 +78,7 @@ module _ (C : ℕ) (a : ArenaView) (log : LogView) (key : List ℕ) (edit : Edit
             locked_at_stays a new w w key way b (record { node = others_named a half.0 (empty_half b c.middle) change s.named n (differ b (empty_half b c.middle) w at s); spot = refl; twins = λ one other here. ((λ h. h), (λ h. h)); closing = λ i. i; retired = ((λ h. h), (λ h. h)) }) at,
             c,
             record { named = now_named a half.0 (empty_half b c.middle) change s.named ∙ ap Some made; unknown = s.unknown; locked = refl; free = s.free },
+            p,
           );
           does = (record { content = (keeps_new.keeps now w.twins w.chart world.index s.unknown).content; trimmed = refl; deltas = refl }, refl);
           reserved = refl;
@@ -98,7 +99,7 @@ module _ (C : ℕ) (a : ArenaView) (log : LogView) (key : List ℕ) (edit : Edit
   LinkLaw after goal = StepLaw C a after log log (edit_request key edit) (stage_held n (HalfFilled half cut)) Moved (stage_held goal.node.0 (Halved halves)) (λ begun moves past x w. StageIsTrue C key edit way (HalfFilled half cut) begun x w) (λ begun moves past x w. StageIsTrue C key edit goal (Halved halves) begun x w)
 
   -- what holds once it is linked, in the world that knows it
-  module _ (w : World) (b : BorderView) (at : IsLockedAt a key way b w) (c : IsCutAt key edit way b cut) (s : IsSpare a w half.0 (upper_half b cut c.middle)) where
+  module _ (w : World) (b : BorderView) (at : IsLockedAt a key way b w) (c : IsCutAt key way b cut) (s : IsSpare a w half.0 (upper_half b cut c.middle)) where
     abbrev low : ℕ
     low = c.middle.slice
 
@@ -145,7 +146,7 @@ module _ (C : ℕ) (a : ArenaView) (log : LogView) (key : List ℕ) (edit : Edit
     half_absent : IsAbsent (found_for (rest_of key way) (drop cut b.live))
     half_absent = absent_part (rest_of key way) (drop cut b.live) (All-drop (λ (e : Entry). entry_rank e ≢ rank_at (slice_number (rest_of key way)) (class_of (length (rest_of key way)))) cut b.live (none_has (rest_of key way) b.live c.sound.ordered c.absent))
 
-    pub at_left : slice_number (rest_of key way) < low → IsLockedAt new key way (link low b) next × IsHalf key edit way (link low b) × HasLocked (prefix_of key way) new next n (Some halves)
+    pub at_left : slice_number (rest_of key way) < low → IsLockedAt new key way (link low b) next × IsHalf key way (link low b) × HasLocked (prefix_of key way) new next n (Some halves)
     at_left less = (
       record {
         layer = at.layer;
@@ -163,14 +164,12 @@ module _ (C : ℕ) (a : ArenaView) (log : LogView) (key : List ℕ) (edit : Edit
       record {
         room = let full = c.full in let last = c.place.lawful.last in let short = length-take-le cut b.live (omega (arith, full, last)) in omega (arith, short, last);
         absent = left_absent;
-        sets = c.sets;
-        is_put = c.is_put;
       },
       record { locked = both_locked; own = later first; halves = are_split },
     )
 
     pub at_half : low ≤ slice_number (rest_of key way)
-        → IsLockedAt new key (record { node = half; layer = way.layer }) (upper_half b cut c.middle) next × IsHalf key edit (record { node = half; layer = way.layer }) (upper_half b cut c.middle) × HasLocked (prefix_of key way) new next half.0 (Some halves)
+        → IsLockedAt new key (record { node = half; layer = way.layer }) (upper_half b cut c.middle) next × IsHalf key (record { node = half; layer = way.layer }) (upper_half b cut c.middle) × HasLocked (prefix_of key way) new next half.0 (Some halves)
     at_half from = (
       record {
         layer = record { within = at.layer.within; under = at.layer.under };
@@ -188,24 +187,22 @@ module _ (C : ℕ) (a : ArenaView) (log : LogView) (key : List ℕ) (edit : Edit
       record {
         room = let full = c.full in let start = c.place.lawful.first in let rest = length-drop cut b.live in omega (arith, full, start, rest);
         absent = half_absent;
-        sets = c.sets;
-        is_put = c.is_put;
       },
       record { locked = both_locked; own = first; halves = are_split },
     )
 
   module _ (goal : Way) (after : ArenaView) (value : IsSomeAnd (border_at a.nodes half.0) (λ upper. after ≡ with_border_changed a n (λ b. with_split b cut (record { low = upper.low; node = half })))) (links : LinksHalfAt a after n half.0) where
-    link_law : ((begun : ℕ) (w : World) (b : BorderView) (at : IsLockedAt a key way b w) (c : IsCutAt key edit way b cut) (s : IsSpare a w half.0 (upper_half b cut c.middle))
+    link_law : ((begun : ℕ) (w : World) (b : BorderView) (at : IsLockedAt a key way b w) (c : IsCutAt key way b cut) (s : IsSpare a w half.0 (upper_half b cut c.middle)) → PutsNew edit
         → StageIsTrue C key edit goal (Halved halves) begun (with_border_changed a n (link c.middle.slice)) (record { twins = w.twins; closing = w.closing; chart = with_spot w.chart half.0 (spot (at_level 0) (prefix_of key way) c.middle.slice (on false)) }))
         → LinkLaw after goal
     link_law then = record {
       steps = λ now begun moves past w world before truth.
-          let (b, at, c, s) = truth in
+          let (b, at, c, s, p) = truth in
           let is : after ≡ with_border_changed a n (link c.middle.slice) = some_at _ (border_at a.nodes half.0) (upper_half b cut c.middle) value s.named in
           let (goes, content) = goes_linked now a w n half.0 b (upper_half b cut c.middle) (prefix_of key way) (link c.middle.slice) (half.0 ∷ n ∷ [])
           (λ next. StageIsTrue C key edit goal (Halved halves) begun (with_border_changed a n (link c.middle.slice)) next) at.named s.named
           (subst (λ (x : ArenaView). LinksHalfAt a x n half.0) is links) (record { low = b.low; posted = at.stands.stands.posted; place = at.stands.stands.place })
-          s.unknown (later first) first at.locked at.locked refl at.free world (then begun w b at c s) in
+          s.unknown (later first) first at.locked at.locked refl at.free world (then begun w b at c s p) in
           subst (λ (x : ArenaView). Stepped C now moves past a x log log w (edit_request key edit) (stage_held n (HalfFilled half cut)) Moved (stage_held goal.node.0 (Halved halves)) (λ m next. StageIsTrue C key edit goal (Halved halves) begun x next)) (sym is) (record {
             goes = goes;
             does = (record { content = content; trimmed = refl; deltas = refl }, refl);
@@ -217,18 +214,18 @@ module _ (C : ℕ) (a : ArenaView) (log : LogView) (key : List ℕ) (edit : Edit
     }
 
   -- the low of the half, as it was read
-  low_read : (w : World) (b : BorderView) (c : IsCutAt key edit way b cut) → IsSpare a w half.0 (upper_half b cut c.middle) → (r : BorderView) → border_at a.nodes half.0 ≡ Some r → r.low ≡ c.middle.slice
+  low_read : (w : World) (b : BorderView) (c : IsCutAt key way b cut) → IsSpare a w half.0 (upper_half b cut c.middle) → (r : BorderView) → border_at a.nodes half.0 ≡ Some r → r.low ≡ c.middle.slice
   low_read w b c s r read = (let both : ◌≡◌ {A = Option BorderView} (Some r) (Some (upper_half b cut c.middle)) = sym read ∙ s.named in let same : r ≡ upper_half b cut c.middle = cc in ap (λ (x : BorderView). x.low) same)
 
   links_left : (after : ArenaView) → IsSomeAnd (border_at a.nodes half.0) (λ upper. after ≡ with_border_changed a n (λ b. with_split b cut (record { low = upper.low; node = half }))) → LinksHalfAt a after n half.0
       → (r : BorderView) → border_at a.nodes half.0 ≡ Some r → slice_number (rest_of key way) < r.low → LinkLaw after way
   links_left after value links r read less = link_law way after value links
-      (λ begun w b at c s. let (stands, is_half, has) = at_left w b at c s (subst (λ (m : ℕ). slice_number (rest_of key way) < m) (low_read w b c s r read) less) in (link c.middle.slice b, stands, is_half, has))
+      (λ begun w b at c s p. let (stands, is_half, has) = at_left w b at c s (subst (λ (m : ℕ). slice_number (rest_of key way) < m) (low_read w b c s r read) less) in (link c.middle.slice b, stands, is_half, has, p))
 
   links_right : (after : ArenaView) → IsSomeAnd (border_at a.nodes half.0) (λ upper. after ≡ with_border_changed a n (λ b. with_split b cut (record { low = upper.low; node = half }))) → LinksHalfAt a after n half.0
       → (r : BorderView) → border_at a.nodes half.0 ≡ Some r → r.low ≤ slice_number (rest_of key way) → LinkLaw after (record { node = half; layer = way.layer })
   links_right after value links r read from = link_law (record { node = half; layer = way.layer }) after value links
-      (λ begun w b at c s. let (stands, is_half, has) = at_half w b at c s (subst (λ (m : ℕ). m ≤ slice_number (rest_of key way)) (low_read w b c s r read) from) in (upper_half b cut c.middle, stands, is_half, has))
+      (λ begun w b at c s p. let (stands, is_half, has) = at_half w b at c s (subst (λ (m : ℕ). m ≤ slice_number (rest_of key way)) (low_read w b c s r read) from) in (upper_half b cut c.middle, stands, is_half, has, p))
 
   pub links : (goal : Way) (after : ArenaView) → IsSomeAnd (border_at a.nodes half.0) (λ upper. after ≡ with_border_changed a n (λ b. with_split b cut (record { low = upper.low; node = half }))) → LinksHalfAt a after n half.0
       → IsSomeAnd (border_at a.nodes half.0) (λ upper. IsHalfOf key way half upper.low goal) → LinkLaw after goal
@@ -249,13 +246,13 @@ half_prefix a key way goal half either =
 module _ (C begun : ℕ) (a : ArenaView) (w : World) (key : List ℕ) (edit : Edit) (way : Way) (half : NodeNo) (cut : ℕ) where
   pub spared_fill : (entries : List Entry) → StageIsTrue C key edit way (Spared half cut entries) begun a w → IsSomeAnd (border_at a.nodes way.node.0) (λ b. IsSomeAnd (border_at a.nodes half.0) (λ spare. MayFill spare entries b.right))
   spared_fill entries truth =
-      let (b, at, c, s, copied) = truth in
+      let (b, at, c, s, copied, p) = truth in
       subst (λ (o : Option BorderView). IsSomeAnd o (λ x. IsSomeAnd (border_at a.nodes half.0) (λ spare. MayFill spare entries x.right))) (sym at.named)
       (subst (λ (o : Option BorderView). IsSomeAnd o (λ spare. MayFill spare entries b.right)) (sym s.named)
       (subst (λ (es : List Entry). MayFill (empty_half b c.middle) es b.right) (sym copied) (half_may_fill key edit way b cut c)))
 
   pub filled_link : StageIsTrue C key edit way (HalfFilled half cut) begun a w → IsSomeAnd (border_at a.nodes way.node.0) (λ b. IsSomeAnd (border_at a.nodes half.0) (λ upper. IsUpperHalf b upper cut))
   filled_link truth =
-      let (b, at, c, s) = truth in
+      let (b, at, c, s, p) = truth in
       subst (λ (o : Option BorderView). IsSomeAnd o (λ x. IsSomeAnd (border_at a.nodes half.0) (λ upper. IsUpperHalf x upper cut))) (sym at.named)
       (subst (λ (o : Option BorderView). IsSomeAnd o (λ upper. IsUpperHalf b upper cut)) (sym s.named) (half_is_upper key edit way b cut c))

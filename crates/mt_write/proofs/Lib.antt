@@ -7,6 +7,7 @@ pub mod PostLemmas
 pub mod LinkLemmas
 pub mod NewLayerLemmas
 pub mod StageSteps
+pub mod VersionLemmas
 pub mod WorkLemmas
 pub mod WriteLasts
 pub mod LoneWrite

@@ -5,7 +5,8 @@ use Rattle.std.specs.Option.{option_and_then}
 use Rattle.std.proofs.Math.Nat.{mul-le-mul_left}
 use Rattle.mt_types.specs.declared.limits.TheConstants.{MAX_LAYER, MAX_KEY_BYTES}
 use Rattle.mt_types.specs.declared.numbers.NodeNo.{NodeNo}
-use Rattle.mt_types.specs.declared.event.Request.TheVariants.{Put as PutRequest, Remove as RemoveRequest}
+use Rattle.mt_types.specs.declared.event.Request.{Request}
+use Rattle.mt_types.specs.declared.event.Request.TheVariants.{Put as PutRequest, PutIf as PutIfRequest, Remove as RemoveRequest}
 use Rattle.mt_slice.specs.Place.{AreBytes}
 use Rattle.mt_commit.specs.Log.{LogView}
 use Rattle.mt_arena.specs.Node.{node_at, border_of}
@@ -370,11 +371,19 @@ lone_write_waits_not post_stands posting_waits_not C now begun a w write before 
     go _ truth stands only waits = absurd waits
 
 -- ---- from step to step, by the law
+abbrev key_asked : Request → List ℕ
+key_asked (PutRequest key sets) = key
+key_asked (PutIfRequest key sets version) = key
+key_asked (RemoveRequest key) = key
+key_asked _ = []
+
+has_key : (key : List ℕ) (edit : Edit) → key_asked (edit_request key edit) ≡ key
+has_key key (PutEdit sets None) = refl
+has_key key (PutEdit sets (Some version)) = refl
+has_key key RemoveEdit = refl
+
 pub request_key : (one other : List ℕ) (edit then : Edit) → edit_request one edit ≡ edit_request other then → one ≡ other
-request_key one other (PutEdit sets) (PutEdit others) e = (let same : PutRequest one sets ≡ PutRequest other others = e in cc)
-request_key one other (PutEdit sets) RemoveEdit e = absurd (let clash : PutRequest one sets ≡ RemoveRequest other = e in cc)
-request_key one other RemoveEdit (PutEdit others) e = absurd (let clash : RemoveRequest one ≡ PutRequest other others = e in cc)
-request_key one other RemoveEdit RemoveEdit e = (let same : RemoveRequest one ≡ RemoveRequest other = e in cc)
+request_key one other edit then e = sym (has_key one edit) ∙ ap key_asked e ∙ has_key other then
 
 -- the law of a step tells the next world
 pub lone_step : (post_stands : ArenaView → World → Posting → Type 0) (posting_left : ArenaView → Posting → ℕ) (most C now begun moves : ℕ) (past : List Arena) (a after : ArenaView) (log left : LogView) (w : World) (write new : Write) (p : Progress)

@@ -117,19 +117,19 @@ module _ (a : ArenaView) (w : World) where
   stage_no_head : (C begun : ℕ) (key : List ℕ) (edit : Edit) (way : Way) (stage : Stage) → StageIsTrue C key edit way stage begun a w → (number : ℕ) → Among number (stage_held way.node.0 stage).owns → NoHead a w number
   stage_no_head C begun key edit way Seeks truth = no_others
   stage_no_head C begun key edit way Locked (b, at) = one_more way.node.0 [] (of_border way.node.0 b at.named) no_others
-  stage_no_head C begun key edit way (Spared half cut entries) (b, at, c, spare, same) = one_more half.0 _ (of_border half.0 _ spare.named) (one_more way.node.0 [] (of_border way.node.0 b at.named) no_others)
-  stage_no_head C begun key edit way (HalfFilled half cut) (b, at, c, spare) = one_more half.0 _ (of_border half.0 _ spare.named) (one_more way.node.0 [] (of_border way.node.0 b at.named) no_others)
-  stage_no_head C begun key edit way (Halved split) (b, at, half, has) = halves_no_head (prefix_of key way) way.node.0 (Some split) has
+  stage_no_head C begun key edit way (Spared half cut entries) (b, at, c, spare, same, p) = one_more half.0 _ (of_border half.0 _ spare.named) (one_more way.node.0 [] (of_border way.node.0 b at.named) no_others)
+  stage_no_head C begun key edit way (HalfFilled half cut) (b, at, c, spare, p) = one_more half.0 _ (of_border half.0 _ spare.named) (one_more way.node.0 [] (of_border way.node.0 b at.named) no_others)
+  stage_no_head C begun key edit way (Halved split) (b, at, half, has, p) = halves_no_head (prefix_of key way) way.node.0 (Some split) has
   stage_no_head C begun key edit way (LayerSpared layer entries) (b, at, fill) = one_more layer.head.0 _ (inr fill.has.head_unknown) (one_more layer.root.0 _ (of_border layer.root.0 _ fill.has.is_root) (one_more way.node.0 [] (of_border way.node.0 b at.named) no_others))
   stage_no_head C begun key edit way (LayerFilled layer) (b, at, link) = one_more layer.head.0 _ (inr link.has.head_unknown) (one_more layer.root.0 _ (of_border layer.root.0 _ link.has.is_root) (one_more way.node.0 [] (of_border way.node.0 b at.named) no_others))
   stage_no_head C begun key edit way (LayerReady layer) (b, at, link) = one_more layer.head.0 _ (inr link.has.head_unknown) (one_more layer.root.0 _ (of_border layer.root.0 _ link.has.is_root) (one_more way.node.0 [] (of_border way.node.0 b at.named) no_others))
   stage_no_head C begun key edit way (Layered below) (has, onward, head) = one_more way.node.0 [] (of_border way.node.0 has.border.b has.border.named) no_others
-  stage_no_head C begun key edit way (Filled place stored logged split) (b, at, filled, has) = halves_no_head (prefix_of key way) way.node.0 split has
-  stage_no_head C begun key edit way (Made place stored columns logged) (b, at, made) = one_more way.node.0 [] (of_border way.node.0 b at.named) no_others
+  stage_no_head C begun key edit way (Filled place stored logged split) (b, at, p, filled, has) = halves_no_head (prefix_of key way) way.node.0 split has
+  stage_no_head C begun key edit way (Made place stored columns logged) (b, at, p, made) = one_more way.node.0 [] (of_border way.node.0 b at.named) no_others
   stage_no_head C begun key edit way (Taken place stored before) (b, at, found) = one_more way.node.0 [] (of_border way.node.0 b at.named) no_others
   stage_no_head C begun key edit way (Posts posting ending) (truth, half, may) = posting_no_head begun truth.0 posting.half posting.low posting.waiting truth.1.border truth.1.waiting posting.stage truth.1.stage
   stage_no_head C begun key edit way (Stored commit split) has = halves_no_head (prefix_of key way) way.node.0 split has
-  stage_no_head C begun key edit way (Failed refusal split) (has, may) = halves_no_head (prefix_of key way) way.node.0 split has
+  stage_no_head C begun key edit way (Failed refusal split) (has, may, tells) = halves_no_head (prefix_of key way) way.node.0 split has
 
 -- ---- its posting
 -- what else is true of a posting that runs alone

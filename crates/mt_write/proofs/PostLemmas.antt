@@ -38,7 +38,7 @@ use Rattle.mt_steps.specs.Way.{GoesTo, Visits}
 use Rattle.mt_steps.proofs.WayLemmas.{starts_at_head}
 use Rattle.mt_steps.proofs.FrameLemmas.{goes_same, quiet_same}
 use Rattle.mt_write.specs.declared.writing.Stage.TheVariants.{Seeks}
-use Rattle.mt_write.proofs.WriteLemmas.{no_get, seek_again}
+use Rattle.mt_write.proofs.WriteLemmas.{no_get, seek_again, otherwise_tells, split_otherwise}
 
 -- ---- what is true of a call after a step, with more that lasts
 goes_more : (now : ℕ) (a after : ArenaView) (w : World) (owned owns : List ℕ) (Then More : World → Type 0) → (g : Goes now a after w owned owns Then) → (((begun : ℕ) → begun ≤ now → Evolves begun w.chart g.next.chart) → Then g.next → More g.next) → Goes now a after w owned owns More
@@ -144,11 +144,6 @@ module _ (C : ℕ) (a : ArenaView) (log : LogView) (key : List ℕ) (edit : Edit
         record { content = kept.content; trimmed = refl; deltas = refl },
       )
 
-  -- what the call has locked, and how it may end
-  ending_truth : (begun : ℕ) (w : World) (ending : Ending) (halves : Option Halves) → StageIsTrue C key edit way (ending_stage ending halves) begun a w → HasLocked (prefix_of key way) a w way.node.0 halves × MayEnd key edit ending
-  ending_truth begun w (EndStored commit) halves truth = (truth, tt)
-  ending_truth begun w (EndFailed refusal) halves truth = truth
-
   module _ (head : NodeNo) (posting : Posting) (head_is : posting.head ≡ head) (half_is : posting.half ≡ split.half) (r : BorderView) (read : border_at a.nodes split.half.0 ≡ Some r) (low_is : posting.low ≡ r.low) (new : NewPostingIsTrue posting) where
     -- the posting begins
     begins : (begun : ℕ) (w : World) → HasLocked (prefix_of key way) a w way.node.0 (Some split) → IsHeadOf w begun head.0 (prefix_of key way) → PostingIsTrue begun posting after w × (posting_owned posting ≡ posting.half.0 ∷ [])
@@ -187,7 +182,7 @@ module _ (C : ℕ) (a : ArenaView) (log : LogView) (key : List ℕ) (edit : Edit
     }
     unlocks_left (EndFailed refusal) = record {
       steps = λ now begun moves past w world before truth.
-          let (goes, quiet) = goes_on now begun w (EndFailed refusal) world before truth.0.0 truth.0.1 truth.1 in
+          let (goes, quiet) = goes_on now begun w (EndFailed refusal) world before truth.0.0 (record { may = truth.0.1; otherwise = split_otherwise a w key way refusal split truth.0.2 }) truth.1 in
           record { goes = goes; does = (quiet, refl); reserved = refl; bounds = refl; blocked = inl refl; may = λ get. absurd (no_get key edit get) };
     }
 
@@ -266,6 +261,6 @@ module _ (C : ℕ) (a after : ArenaView) (log : LogView) (key : List ℕ) (edit 
       }
       go (EndFailed refusal) is = record {
         steps = λ now begun moves past w world before truth.
-            let (goes, quiet) = ends_posting end now begun w (λ x. HeadedStage C key edit way head (Failed refusal None) begun after x) world before law truth.0.0 truth.0.1 (λ next evolves has. ((has, truth.0.2), known_on begun w next evolves truth.1)) in
+            let (goes, quiet) = ends_posting end now begun w (λ x. HeadedStage C key edit way head (Failed refusal None) begun after x) world before law truth.0.0 truth.0.1 (λ next evolves has. ((has, truth.0.2.may, otherwise_tells after next key way refusal None truth.0.2.otherwise), known_on begun w next evolves truth.1)) in
             record { goes = goes; does = (quiet, refl); reserved = refl; bounds = refl; blocked = inl refl; may = λ get. absurd (no_get key edit get) };
       }

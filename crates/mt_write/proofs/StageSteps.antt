@@ -17,7 +17,10 @@ use Rattle.mt_arena.specs.Node.{head_at, border_at}
 use Rattle.mt_arena.specs.Arena.{ArenaView, with_border_changed, with_head_changed}
 use Rattle.mt_tree.specs.Spares.{MayFill}
 use Rattle.mt_tree.specs.Keeping.{KeepsTree, KeepsUnknown}
-use Rattle.mt_tree.specs.Descent.{found_for}
+use Rattle.mt_tree.specs.Descent.{found_for, row_found}
+use Rattle.mt_slice.specs.Place.{AreBytes}
+use Rattle.mt_border.specs.Order.{IsBorder}
+use Rattle.std.specs.Option.{option_or}
 use Rattle.mt_tree.specs.BorderSteps.{HasLayerFor, HasRowAt, HidesRowAt, IsUpperHalf, LinksHalfAt, MakesLayerAt, MayShowAt, SetsRowAt, ShowsNext}
 use Rattle.mt_tree.proofs.RowLemmas.{stands_at}
 use Rattle.mt_steps.specs.declared.way.Way.{Way}
@@ -28,7 +31,7 @@ use Rattle.mt_steps.specs.declared.progress.Progress.TheVariants.{Moved, Waits, 
 use Rattle.mt_steps.specs.Causes.{IsMarkedAt, IsLockedAlready}
 use Rattle.mt_steps.specs.Way.{start, rest_of, prefix_of, MayGo, Visits}
 use Rattle.mt_steps.specs.Step.{MayStep, StepLaw}
-use Rattle.mt_steps.proofs.FoundLemmas.{some_and}
+use Rattle.mt_steps.proofs.FoundLemmas.{some_and, some_at}
 use Rattle.mt_steps.proofs.GetLemmas.{may_go}
 use Rattle.mt_post.specs.declared.posting.Posting.{Posting}
 use Rattle.mt_post.specs.declared.posting.PostEnd.{PostEnd}
@@ -46,9 +49,9 @@ use Rattle.mt_write.specs.declared.writing.Ending.TheVariants.{Stored as EndStor
 use Rattle.mt_write.specs.declared.writing.Stage.{Stage}
 use Rattle.mt_write.specs.declared.writing.Stage.TheVariants.{Seeks, Locked, Spared, HalfFilled, Halved, Posts, LayerSpared, LayerFilled, LayerReady, Layered, Filled, Made, Taken, Stored, Failed}
 use Rattle.mt_write.specs.Writing.{edit_request, write_held, stage_held, written_answer, ending_stage, StageIsTrue, WriteIsTrue, MayStage, IsHalfOf, SomeSets, Prepares, PreparesRemove, put_delta, remove_delta, way_below}
-use Rattle.mt_write.specs.Causes.{StageWaits, StageFails, IsNotFailed, EndsWith, FailsBy, RemoveFailsBy, edit_fault, put_fault, remove_fault, fill_fault}
+use Rattle.mt_write.specs.Causes.{StageWaits, StageFails, IsNotFailed, EndsWith, FailsBy, RemoveFailsBy, edit_fault, version_fault, put_fault, remove_fault, fill_fault}
 use Rattle.mt_write.specs.Follows.{WriteStep, TreeStep, MayBeAt, Follows, HeadGoes, PostsGo, PostingSteps, IsNewPosting, IsMadeReady, IsReadyIn}
-use Rattle.mt_write.proofs.WriteLemmas.{seek_waits, seek_locks, has_border_here, readies, takes, lacks, half_readies, shows, writes, hides, answers, refuses, may_at}
+use Rattle.mt_write.proofs.WriteLemmas.{seek_waits, seek_locks, has_border_here, readies, differs, takes, lacks, half_readies, shows, writes, hides, answers, refuses, may_at}
 use Rattle.mt_write.proofs.HalfLemmas.{spared_fill, fills_half, filled_link, links, half_prefix}
 use Rattle.mt_write.proofs.NewLayerLemmas.{spared_root, fills_root, filled_head, unlocks_head, ready_link, links_layer, layered_locked, goes_below}
 use Rattle.mt_write.proofs.PostLemmas.{headed, headed_end, restarts, moves_on, unlocks_left, halves_locked, is_locked_border, posts_on, posts_again, posts_end}
@@ -137,11 +140,11 @@ module _ (a : ArenaView) (write : Write) where
 
   pub may_show : (log : LogView) (place : ℕ) (stored : List ℕ) (logged : List (List ℕ)) (split : Option Halves) → (C : ℕ) × MayStage C a log write (Filled place stored logged split)
       → IsSomeAnd (border_at a.nodes write.way.node.0) (λ b. (version : ℕ) → MayShowAt b place version)
-  may_show log place stored logged split (C, may) = let (b, at, f, has) = may.true.0 in subst (λ (o : Option BorderView). IsSomeAnd o (λ x. (version : ℕ) → MayShowAt x place version)) (sym at.named) f.shows
+  may_show log place stored logged split (C, may) = let (b, at, p, f, has) = may.true.0 in subst (λ (o : Option BorderView). IsSomeAnd o (λ x. (version : ℕ) → MayShowAt x place version)) (sym at.named) f.shows
 
   pub may_write : (log : LogView) (place : ℕ) (stored : List ℕ) (columns logged : List (List ℕ)) → (C : ℕ) × MayStage C a log write (Made place stored columns logged) → IsSomeAnd (border_at a.nodes write.way.node.0) (λ b. HasRowAt b place)
   may_write log place stored columns logged (C, may) =
-      let (b, at, f) = may.true.0 in
+      let (b, at, p, f) = may.true.0 in
       let e = stands_at b f.sound (rest_of write.key write.way) (RowFound place) f.there in
       let (less, row) = row_there b.live place e.entry e.stands e.row in
       subst (λ (o : Option BorderView). IsSomeAnd o (λ x. HasRowAt x place)) (sym at.named) (record { within = less; row = row })
@@ -241,11 +244,25 @@ module _ (C : ℕ) (a after : ArenaView) (log left : LogView) (write : Write) wh
   abbrev fault_at : Edit → BorderView → Option Refusal
   fault_at edit b = edit_fault a log edit b (found_for (rest_of write.key write.way) b.live)
 
-  pub readies_put : (sets : List (ℕ × List ℕ)) (stage : Stage) → write.edit ≡ PutEdit sets → Prepares C write.key sets write.way a log None stage after left
+  -- what the border tells of the version that is asked for
+  abbrev pub Faults : Option ℕ → Option Refusal → Type 0
+  Faults only fault = IsSomeAnd (border_at a.nodes write.way.node.0) (λ b. IsBorder b × (fault ≡ version_fault only (row_found b.live (found_for (rest_of write.key write.way) b.live))))
+
+  faults_at : (sets : List (ℕ × List ℕ)) (only : Option ℕ) (fault : Option Refusal) (stage : Stage) → Faults only fault → IsSomeAnd (border_at a.nodes write.way.node.0) (λ b. FailsBy (option_or fault (put_fault a log b (found_for (rest_of write.key write.way) b.live))) None stage)
+      → write.edit ≡ PutEdit sets only → IsSomeAnd (border_at a.nodes write.way.node.0) (λ b. FailsBy (fault_at write.edit b) None stage)
+  faults_at sets only fault stage here fails is =
+      let (b, named, f) = some_and _ (border_at a.nodes write.way.node.0) fails in
+      let told = some_at _ (border_at a.nodes write.way.node.0) b here named in
+      subst (λ (e : Edit). IsSomeAnd (border_at a.nodes write.way.node.0) (λ b. FailsBy (fault_at e b) None stage)) (sym is)
+      (subst (λ (o : Option BorderView). IsSomeAnd o (λ b. FailsBy (fault_at (PutEdit sets only) b) None stage)) (sym named)
+      (subst (λ (r : Option Refusal). FailsBy (option_or r (put_fault a log b (found_for (rest_of write.key write.way) b.live))) None stage) told.1 f))
+
+  pub readies_put : (sets : List (ℕ × List ℕ)) (only : Option ℕ) (stage : Stage) → write.edit ≡ PutEdit sets only → Faults only None → Prepares C write.key sets write.way a log None stage after left
       → IsSomeAnd (border_at a.nodes write.way.node.0) (λ b. FailsBy (put_fault a log b (found_for (rest_of write.key write.way) b.live)) None stage) → WriteStep C a after log left write Locked Moved (record write { stage = stage })
-  readies_put sets stage is ready fault =
-      leads C a after log left write Locked Moved stage write.way refl (readies C a log write.key sets write.way stage write.edit after left is ready) tt
-      (tt, subst (λ (e : Edit). IsSomeAnd (border_at a.nodes write.way.node.0) (λ b. FailsBy (fault_at e b) None stage)) (sym is) fault)
+  readies_put sets only stage is agrees ready fault =
+      leads C a after log left write Locked Moved stage write.way refl
+      (readies C a log write.key sets only write.way stage write.edit after left is (λ b named. sym (some_at _ (border_at a.nodes write.way.node.0) b agrees named).1) ready) tt
+      (tt, faults_at sets only None stage agrees fault is)
       (put_ready C a after log left write.key sets write.way stage ready, refl) refl tt
 
   pub shows_row : (place : ℕ) (stored : List ℕ) (logged : List (List ℕ)) (split : Option Halves) (number : ℕ) → number ≡ newest log + 1 → after ≡ with_border_changed a write.way.node.0 (λ b. with_shown b place (newest log + 1)) → ShowsNext a after write.way.node.0 (newest log + 1)
@@ -286,6 +303,16 @@ module _ (C : ℕ) (a : ArenaView) (log left : LogView) (write : Write) (is : wr
       (subst (λ (e : Edit). IsSomeAnd (border_at a.nodes write.way.node.0) (λ b. edit_fault a log e b (found_for (rest_of write.key write.way) b.live) ≡ None)) (sym is)
       (subst (λ (s : Option Stage). IsSomeAnd (border_at a.nodes write.way.node.0) (λ b. RemoveFailsBy (remove_fault log (found_for (rest_of write.key write.way) b.live)) s)) none fault)) tt refl tt
 
+-- a put that asks for another version than its key's row is of
+module _ (C : ℕ) (a : ArenaView) (log : LogView) (write : Write) where
+  pub turns_away : (sets : List (ℕ × List ℕ)) (only : Option ℕ) (refusal : Refusal) → write.edit ≡ PutEdit sets only → AreBytes write.key → Faults C a a log log write only (Some refusal) → WriteStep C a a log log write Locked Moved (record write { stage = Failed refusal None })
+  turns_away sets only refusal is bytes fault =
+      let (b, named, here) = some_and _ (border_at a.nodes write.way.node.0) fault in
+      let fails = subst (λ (o : Option BorderView). IsSomeAnd o (λ b. FailsBy (option_or (Some refusal) (put_fault a log b (found_for (rest_of write.key write.way) b.live))) None (Failed refusal None))) (sym named) refl in
+      leads C a a log log write Locked Moved (Failed refusal None) write.way refl (differs C a log write.key write.edit write.way sets only refusal is bytes fault) tt
+      (tt, faults_at C a a log log write sets only (Some refusal) (Failed refusal None) fault fails is)
+      (refl, refl) refl tt
+
 -- ---- a split
 one_or_none : {x : Halves} → ◌≡◌ {A = Option Halves} (Some x) None → ⊥
 one_or_none e = cc
@@ -309,7 +336,7 @@ half_ready C a after log left key sets way split (Taken place stored before) f =
 half_ready C a after log left key sets way split (Stored number halves) f = absurd f
 
 edit_ready : (C : ℕ) (a after : ArenaView) (log left : LogView) (key : List ℕ) (edit : Edit) (way : Way) (split : Halves) (stage : Stage) → SomeSets edit (λ sets. Prepares C key sets way a log (Some split) stage after left) → IsReadyIn split stage
-edit_ready C a after log left key (PutEdit sets) way split stage ready = half_ready C a after log left key sets way split stage ready
+edit_ready C a after log left key (PutEdit sets only) way split stage ready = half_ready C a after log left key sets way split stage ready
 edit_ready C a after log left key RemoveEdit way split stage ready = absurd ready
 
 pub readies_half : (C : ℕ) (a after : ArenaView) (log left : LogView) (write : Write) (split : Halves) (stage : Stage) → SomeSets write.edit (λ sets. Prepares C write.key sets write.way a log (Some split) stage after left)

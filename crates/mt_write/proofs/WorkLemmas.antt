@@ -23,7 +23,9 @@ use Rattle.mt_steps.specs.Way.{IsOnWay, prefix_of}
 use Rattle.mt_chart.specs.Chart.{top}
 use Rattle.mt_chart.proofs.Walk.{known_kept}
 use Rattle.mt_post.proofs.PostingLasts.{posting_stays, posting_taken}
-use Rattle.mt_write.specs.Writing.{StageIsTrue, stage_held, IsLockedAt, HasLocked, AreHalves, HasLayer, HasLink, IsSpare, owned, layer_owned, way_below, WriteIsTrue, write_held}
+use Rattle.mt_write.specs.Writing.{StageIsTrue, stage_held, IsLockedAt, HasLocked, AreHalves, HasLayer, HasLink, IsSpare, owned, layer_owned, way_below, WriteIsTrue, write_held, Tells}
+use Rattle.mt_types.specs.declared.refusal.Refusal.{Refusal}
+use Rattle.mt_types.specs.declared.refusal.Refusal.TheVariants.{OtherVersion}
 use Rattle.mt_steps.specs.World.{IsLockedBorder}
 
 -- ---- what others' steps leave
@@ -86,6 +88,9 @@ module _ (a after : ArenaView) (w next : World) where
     low_is = λ b is. halves.low_is b (ap (option_and_then border_of) (sym (same split refl).node) ∙ is);
   }
 
+  alone_owned : (number : ℕ) (split : Option Halves) → split ≡ None → Among number (owned number split)
+  alone_owned number split none = subst (λ (s : Option Halves). Among number (owned number s)) (sym none) first
+
   half_owned : (number : ℕ) (split : Option Halves) (half : Halves) → split ≡ Some half → Among half.half.0 (owned number split)
   half_owned number split half is = subst (λ (s : Option Halves). Among half.half.0 (owned number s)) (sym is) first
 
@@ -97,22 +102,27 @@ module _ (a after : ArenaView) (w next : World) where
   }
 
   module _ (C begun moves : ℕ) (past : List Arena) (evolves : Evolves begun w.chart next.chart) where
+    tells_stays : (key : List ℕ) (way : Way) (refusal : Refusal) (split : Option Halves) → (split ≡ None → IsSame a after w next way.node.0) → Tells a w key way refusal split → Tells after next key way refusal split
+    tells_stays key way (OtherVersion found) None same tells = record { b = tells.b; at = locked_at_stays key way tells.b (same refl) tells.at; bytes = tells.bytes; sound = tells.sound; is = tells.is }
+    tells_stays key way (OtherVersion found) (Some split) same tells = tells
+    tells_stays key way _ split same tells = tells
+
     stage_stays : (key : List ℕ) (edit : Edit) (way : Way) (stage : Stage) → ((number : ℕ) → Among number (stage_held way.node.0 stage).owns → IsSame a after w next number) → StageIsTrue C key edit way stage begun a w → StageIsTrue C key edit way stage begun after next
     stage_stays key edit way Seeks same truth = way_stays begun key way evolves truth
     stage_stays key edit way Locked same truth = let (b, at) = truth in (b, locked_at_stays key way b (same way.node.0 first) at)
-    stage_stays key edit way (Spared half cut entries) same truth = let (b, at, c, s, e) = truth in (b, locked_at_stays key way b (same way.node.0 (later first)) at, c, spare_stays half.0 _ (same half.0 first) s, e)
-    stage_stays key edit way (HalfFilled half cut) same truth = let (b, at, c, s) = truth in (b, locked_at_stays key way b (same way.node.0 (later first)) at, c, spare_stays half.0 _ (same half.0 first) s)
-    stage_stays key edit way (Halved split) same truth = let (b, at, h, has) = truth in (b, locked_at_stays key way b (same way.node.0 has.own) at, h, has_locked_stays (prefix_of key way) way.node.0 (Some split) same has)
+    stage_stays key edit way (Spared half cut entries) same truth = let (b, at, c, s, e, p) = truth in (b, locked_at_stays key way b (same way.node.0 (later first)) at, c, spare_stays half.0 _ (same half.0 first) s, e, p)
+    stage_stays key edit way (HalfFilled half cut) same truth = let (b, at, c, s, p) = truth in (b, locked_at_stays key way b (same way.node.0 (later first)) at, c, spare_stays half.0 _ (same half.0 first) s, p)
+    stage_stays key edit way (Halved split) same truth = let (b, at, h, has, p) = truth in (b, locked_at_stays key way b (same way.node.0 has.own) at, h, has_locked_stays (prefix_of key way) way.node.0 (Some split) same has, p)
     stage_stays key edit way (LayerSpared layer entries) same truth = let (b, at, f) = truth in (b, locked_at_stays key way b (same way.node.0 (later (later first))) at, record { number = f.number; at = f.at; has = layer_stays layer true _ (same layer.head.0 first) (same layer.root.0 (later first)) f.has; moved = f.moved; whole = f.whole })
     stage_stays key edit way (LayerFilled layer) same truth = let (b, at, f) = truth in (b, locked_at_stays key way b (same way.node.0 (later (later first))) at, record { number = f.number; at = f.at; has = layer_stays layer true _ (same layer.head.0 first) (same layer.root.0 (later first)) f.has })
     stage_stays key edit way (LayerReady layer) same truth = let (b, at, f) = truth in (b, locked_at_stays key way b (same way.node.0 (later (later first))) at, record { number = f.number; at = f.at; has = layer_stays layer false _ (same layer.head.0 first) (same layer.root.0 (later first)) f.has })
     stage_stays key edit way (Layered head) same truth = (link_stays (prefix_of key way) way.node.0 head (same way.node.0 first) truth.0, way_stays begun key (way_below way head) evolves truth.1, known_kept begun head.0 top (prefix_of key (way_below way head)) 0 w.chart next.chart evolves truth.2)
-    stage_stays key edit way (Filled place stored logged split) same truth = let (b, at, f, has) = truth in (b, locked_at_stays key way b (same way.node.0 has.own) at, f, has_locked_stays (prefix_of key way) way.node.0 split same has)
-    stage_stays key edit way (Made place stored columns logged) same truth = let (b, at, f) = truth in (b, locked_at_stays key way b (same way.node.0 first) at, f)
+    stage_stays key edit way (Filled place stored logged split) same truth = let (b, at, p, f, has) = truth in (b, locked_at_stays key way b (same way.node.0 has.own) at, p, f, has_locked_stays (prefix_of key way) way.node.0 split same has)
+    stage_stays key edit way (Made place stored columns logged) same truth = let (b, at, p, f) = truth in (b, locked_at_stays key way b (same way.node.0 first) at, p, f)
     stage_stays key edit way (Taken place stored before) same truth = let (b, at, f) = truth in (b, locked_at_stays key way b (same way.node.0 first) at, f)
     stage_stays key edit way (Posts posting ending) same truth = (posting_stays a after w next begun evolves posting same truth.0, truth.1, truth.2)
     stage_stays key edit way (Stored number split) same truth = has_locked_stays (prefix_of key way) way.node.0 split same truth
-    stage_stays key edit way (Failed refusal split) same truth = (has_locked_stays (prefix_of key way) way.node.0 split same truth.0, truth.1)
+    stage_stays key edit way (Failed refusal split) same truth = (has_locked_stays (prefix_of key way) way.node.0 split same truth.0, truth.1, tells_stays key way refusal split (λ none. same way.node.0 (alone_owned way.node.0 split none)) truth.2)
 
     -- the law of others' steps: where they leave what a put or remove owns, what is true of it stays true
     pub write_stays : (write : Write) → ((number : ℕ) → Among number (write_held write).owns → IsSame a after w next number) → WriteIsTrue C write begun moves past a w → WriteIsTrue C write begun moves (arena_seen a ∷ past) after next
@@ -139,15 +149,15 @@ module _ (C begun moves : ℕ) (past : List Arena) (a : ArenaView) (w : World) w
   stage_taken : (key : List ℕ) (edit : Edit) (way : Way) (stage : Stage) → StageIsTrue C key edit way stage begun a w → (number : ℕ) → Among number (stage_held way.node.0 stage).owns → IsTaken a w number
   stage_taken key edit way Seeks truth number i = elim i [ ]
   stage_taken key edit way Locked truth number i = let (b, at) = truth in border_taken a w way.node.0 number b at.named at.locked i
-  stage_taken key edit way (Spared half cut entries) truth number i = let (b, at, c, s, e) = truth in spare_taken half.0 way.node.0 number _ s b at.named at.locked i
-  stage_taken key edit way (HalfFilled half cut) truth number i = let (b, at, c, s) = truth in spare_taken half.0 way.node.0 number _ s b at.named at.locked i
-  stage_taken key edit way (Halved split) truth number i = let (b, at, h, has) = truth in all_taken (prefix_of key way) way.node.0 (Some split) has number i
+  stage_taken key edit way (Spared half cut entries) truth number i = let (b, at, c, s, e, p) = truth in spare_taken half.0 way.node.0 number _ s b at.named at.locked i
+  stage_taken key edit way (HalfFilled half cut) truth number i = let (b, at, c, s, p) = truth in spare_taken half.0 way.node.0 number _ s b at.named at.locked i
+  stage_taken key edit way (Halved split) truth number i = let (b, at, h, has, p) = truth in all_taken (prefix_of key way) way.node.0 (Some split) has number i
   stage_taken key edit way (LayerSpared layer entries) truth number i = let (b, at, f) = truth in layer_taken way.node.0 number layer true _ f.has b at.named at.locked i
   stage_taken key edit way (LayerFilled layer) truth number i = let (b, at, f) = truth in layer_taken way.node.0 number layer true _ f.has b at.named at.locked i
   stage_taken key edit way (LayerReady layer) truth number i = let (b, at, f) = truth in layer_taken way.node.0 number layer false _ f.has b at.named at.locked i
   stage_taken key edit way (Layered head) truth number i = border_taken a w way.node.0 number truth.0.border.b truth.0.border.named truth.0.border.locked i
-  stage_taken key edit way (Filled place stored logged split) truth number i = let (b, at, f, has) = truth in all_taken (prefix_of key way) way.node.0 split has number i
-  stage_taken key edit way (Made place stored columns logged) truth number i = let (b, at, f) = truth in border_taken a w way.node.0 number b at.named at.locked i
+  stage_taken key edit way (Filled place stored logged split) truth number i = let (b, at, p, f, has) = truth in all_taken (prefix_of key way) way.node.0 split has number i
+  stage_taken key edit way (Made place stored columns logged) truth number i = let (b, at, p, f) = truth in border_taken a w way.node.0 number b at.named at.locked i
   stage_taken key edit way (Taken place stored before) truth number i = let (b, at, f) = truth in border_taken a w way.node.0 number b at.named at.locked i
   stage_taken key edit way (Posts posting ending) truth number i = posting_taken a w begun posting truth.0 number i
   stage_taken key edit way (Stored commit split) truth number i = all_taken (prefix_of key way) way.node.0 split truth number i

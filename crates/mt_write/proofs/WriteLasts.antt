@@ -34,15 +34,15 @@ module _ (C : ℕ) (a : ArenaView) (now begun : ℕ) (w : World) (world : IsWorl
   stage_since : (key : List ℕ) (edit : Edit) (way : Way) (stage : Stage) → StageIsTrue C key edit way stage begun a w → GoneSince begun w (stage_held way.node.0 stage).owns
   stage_since key edit way Seeks truth = λ number i. elim i [ ]
   stage_since key edit way Locked truth = let (b, at) = truth in border_since way.node.0 b at.named
-  stage_since key edit way (Spared half cut entries) truth = let (b, at, c, s, e) = truth in both_since half.0 _ (border_since half.0 _ s.named) (border_since way.node.0 b at.named)
-  stage_since key edit way (HalfFilled half cut) truth = let (b, at, c, s) = truth in both_since half.0 _ (border_since half.0 _ s.named) (border_since way.node.0 b at.named)
-  stage_since key edit way (Halved split) truth = let (b, at, h, has) = truth in locked_since _ way.node.0 (Some split) has
+  stage_since key edit way (Spared half cut entries) truth = let (b, at, c, s, e, p) = truth in both_since half.0 _ (border_since half.0 _ s.named) (border_since way.node.0 b at.named)
+  stage_since key edit way (HalfFilled half cut) truth = let (b, at, c, s, p) = truth in both_since half.0 _ (border_since half.0 _ s.named) (border_since way.node.0 b at.named)
+  stage_since key edit way (Halved split) truth = let (b, at, h, has, p) = truth in locked_since _ way.node.0 (Some split) has
   stage_since key edit way (LayerSpared layer entries) truth = let (b, at, f) = truth in layer_since way.node.0 b layer true _ at.named f.has
   stage_since key edit way (LayerFilled layer) truth = let (b, at, f) = truth in layer_since way.node.0 b layer true _ at.named f.has
   stage_since key edit way (LayerReady layer) truth = let (b, at, f) = truth in layer_since way.node.0 b layer false _ at.named f.has
   stage_since key edit way (Layered head) truth = border_since way.node.0 truth.0.border.b truth.0.border.named
-  stage_since key edit way (Filled place stored logged split) truth = let (b, at, f, has) = truth in locked_since _ way.node.0 split has
-  stage_since key edit way (Made place stored columns logged) truth = let (b, at, f) = truth in border_since way.node.0 b at.named
+  stage_since key edit way (Filled place stored logged split) truth = let (b, at, p, f, has) = truth in locked_since _ way.node.0 split has
+  stage_since key edit way (Made place stored columns logged) truth = let (b, at, p, f) = truth in border_since way.node.0 b at.named
   stage_since key edit way (Taken place stored before) truth = let (b, at, f) = truth in border_since way.node.0 b at.named
   stage_since key edit way (Posts posting ending) truth = posting_since a now begun w world posting truth.0
   stage_since key edit way (Stored number split) truth = locked_since _ way.node.0 split truth

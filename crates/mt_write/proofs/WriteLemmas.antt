@@ -3,12 +3,12 @@ use Rattle.std.proofs.Common.{ℕ, ◌≡◌, ◌≢◌, ◌≤◌, ◌<◌, ◌
 use Rattle.std.specs.Option.{option_map}
 use Rattle.mt_types.specs.declared.row.Row.{Row}
 use Rattle.mt_types.specs.declared.limits.TheConstants.{MAX_KEY_BYTES}
-use Rattle.mt_types.specs.declared.event.Request.TheVariants.{Put as PutRequest}
+use Rattle.mt_types.specs.declared.event.Request.TheVariants.{Put as PutRequest, PutIf as PutIfRequest, Remove as RemoveRequest}
 use Rattle.mt_types.specs.declared.event.Answer.{Answer}
 use Rattle.mt_types.specs.declared.event.Answer.TheVariants.{Absent as AbsentAnswer}
 use Rattle.mt_promise.specs.Legal.{is_get}
 use Rattle.mt_types.specs.declared.refusal.Refusal.{Refusal}
-use Rattle.mt_types.specs.declared.refusal.Refusal.TheVariants.{FeedFull}
+use Rattle.mt_types.specs.declared.refusal.Refusal.TheVariants.{NoMemory, ArenaFull, FeedFull, Spent, OtherVersion}
 use Rattle.mt_types.specs.declared.numbers.NodeNo.{NodeNo}
 use Rattle.mt_slice.specs.Place.{Place, AreBytes, place_of, under, first_slice, slice_number}
 use Rattle.mt_slice.specs.Classes.{class_of, place_at}
@@ -27,7 +27,8 @@ use Rattle.mt_border.specs.Table.{first_changed}
 use Rattle.mt_border.specs.declared.entry.Entry.{Entry}
 use Rattle.mt_border.specs.declared.entry.RightLink.{RightLink}
 use Rattle.mt_border.specs.declared.slot_table.Slot.{Slot}
-use Rattle.mt_border.specs.declared.found.Found.TheVariants.{Absent, Row as RowFound}
+use Rattle.mt_border.specs.declared.found.Found.{Found}
+use Rattle.mt_border.specs.declared.found.Found.TheVariants.{Absent, Row as RowFound, OtherSuffix, Link as LinkFound}
 use Rattle.mt_border.proofs.BorderLemmas.{filled_deleted}
 use Rattle.mt_border.proofs.ShowLemmas.{IsBeforeRight, IsBetween, between_from_absent, filled_shown, filled_row, row_of_row}
 use Rattle.std.specs.Option.{option_and_then}
@@ -61,12 +62,14 @@ use Rattle.mt_steps.specs.declared.progress.Progress.{Progress}
 use Rattle.mt_steps.specs.declared.progress.Progress.TheVariants.{Moved, Waits, Committed, Answered, Refused}
 use Rattle.mt_steps.specs.World.{World, IsWorld, RowsAreOfKeys, NotAmong, Goes}
 use Rattle.mt_steps.specs.Way.{rest_of, prefix_of, IsLayerOf, IsOnWay, IsAtPlace, GoesTo, Visits}
-use Rattle.mt_steps.specs.Step.{Held, Truth, Stepped, StepLaw, MayStep, RowIs, IsQuiet, put_row, Commits, Changes, blocked_by, bounds, IsOfLog, MayRefuse, MayFail, IsRight}
-use Rattle.mt_write.specs.Writing.{edit_request, written_answer, stage_held, IsLockedAt, HasLocked, AreHalves, empty_half, owned, SomeSets, IsBack, IsFilled, IsMade, IsFound, StageIsTrue, HeadedStage, new_entry, Fills, Prepares, PreparesRemove, LacksRow, put_delta, remove_delta}
+use Rattle.mt_steps.specs.Step.{Held, Truth, Stepped, StepLaw, MayStep, RowIs, IsQuiet, put_row, Commits, Changes, blocked_by, bounds, IsOfLog, MayRefuse, TellsVersion, MayFail, IsRight}
+use Rattle.mt_write.specs.Causes.{version_fault}
+use Rattle.mt_write.specs.Writing.{put_request, edit_request, IsAbsent, PutsNew, IsOtherwise, Tells, written_answer, stage_held, IsLockedAt, HasLocked, AreHalves, empty_half, owned, SomeSets, IsBack, IsFilled, IsMade, IsFound, StageIsTrue, HeadedStage, new_entry, Fills, Prepares, PreparesRemove, LacksRow, put_delta, remove_delta}
 use Rattle.mt_steps.specs.World.{IsLockedBorder}
 use Rattle.mt_steps.proofs.FrameLemmas.{goes_same, quiet_same, retired_same}
 use Rattle.std.specs.Prelude.{IsSomeAnd, IsTrue}
-use Rattle.mt_steps.proofs.FoundLemmas.{some_at}
+use Rattle.mt_steps.proofs.FoundLemmas.{some_at, some_and}
+use Rattle.mt_write.proofs.VersionLemmas.{same_version, other_found}
 use Rattle.mt_tree.proofs.RowLemmas.{stands_at, tells_row}
 use Rattle.mt_steps.proofs.WayLemmas.{starts}
 use Rattle.mt_steps.proofs.GetLemmas.{found_is_row}
@@ -74,7 +77,8 @@ use Rattle.mt_steps.proofs.BorderLemmas.{alive_changed, now_named, others_named,
 
 -- no write is a get
 pub no_get : (key : List ℕ) (edit : Edit) → IsTrue (is_get (edit_request key edit)) → ⊥
-no_get key (PutEdit sets) get = (let clash : false ≡ true = get in cc)
+no_get key (PutEdit sets None) get = (let clash : false ≡ true = get in cc)
+no_get key (PutEdit sets (Some version)) get = (let clash : false ≡ true = get in cc)
 no_get key RemoveEdit get = (let clash : false ≡ true = get in cc)
 
 -- a write that fails is blocked at nothing, or at the number from which the log is held
@@ -176,7 +180,8 @@ module _ (C : ℕ) (a : ArenaView) (key : List ℕ) (edit : Edit) (way : Way) (w
 
 -- what a write answers is right
 answer_right : (past : List Arena) (a : ArenaView) (key : List ℕ) (edit : Edit) (number : ℕ) → IsRight past a (edit_request key edit) (Some number) (written_answer edit number)
-answer_right past a key (PutEdit sets) number = refl
+answer_right past a key (PutEdit sets None) number = refl
+answer_right past a key (PutEdit sets (Some version)) number = refl
 answer_right past a key RemoveEdit number = refl
 
 -- ---- entries of a key
@@ -244,14 +249,54 @@ has_changed prefix a n b change named w split locked alive low has = record {
   halves = halves_changed prefix a n b change named w split low has.halves;
 }
 
+-- ---- what a put that asks for a version may come to
+pub as_put : (key : List ℕ) (sets : List (ℕ × List ℕ)) (only : Option ℕ) (refusal : Refusal) → MayRefuse (PutRequest key sets) refusal → MayRefuse (put_request key sets only) refusal
+as_put key sets None refusal may = may
+as_put key sets (Some version) NoMemory may = tt
+as_put key sets (Some version) ArenaFull may = tt
+as_put key sets (Some version) (FeedFull number) may = tt
+as_put key sets (Some version) Spent may = tt
+as_put key sets (Some version) _ may = absurd may
+
+pub put_otherwise : (key : List ℕ) (sets : List (ℕ × List ℕ)) (refusal : Refusal) → MayRefuse (PutRequest key sets) refusal → IsOtherwise refusal
+put_otherwise key sets (OtherVersion other) may = absurd may
+put_otherwise key sets _ may = tt
+
+remove_otherwise : (key : List ℕ) (refusal : Refusal) → MayRefuse (RemoveRequest key) refusal → IsOtherwise refusal
+remove_otherwise key (OtherVersion other) may = absurd may
+remove_otherwise key _ may = tt
+
+pub otherwise_tells : (a : ArenaView) (w : World) (key : List ℕ) (way : Way) (refusal : Refusal) (split : Option Halves) → IsOtherwise refusal → Tells a w key way refusal split
+otherwise_tells a w key way (OtherVersion other) split otherwise = absurd otherwise
+otherwise_tells a w key way _ split otherwise = otherwise
+
+pub split_otherwise : (a : ArenaView) (w : World) (key : List ℕ) (way : Way) (refusal : Refusal) (split : Halves) → Tells a w key way refusal (Some split) → IsOtherwise refusal
+split_otherwise a w key way (OtherVersion other) split tells = tells
+split_otherwise a w key way _ split tells = tells
+
+none_agrees : (only : Option ℕ) (live : List Entry) (found : Found) → IsAbsent found → version_fault only (row_found live found) ≡ None → version_fault only None ≡ None
+none_agrees only live (Absent place) absent agrees = agrees
+none_agrees only live (RowFound place) absent agrees = absurd absent
+none_agrees only live (OtherSuffix place) absent agrees = absurd absent
+none_agrees only live (LinkFound place top) absent agrees = absurd absent
+
+own_agrees : (sets : List (ℕ × List ℕ)) (only : Option ℕ) → (p : PutsNew (PutEdit sets only)) → version_fault only None ≡ None
+own_agrees sets only p = let same : only ≡ p.only = (let both : PutEdit sets only ≡ PutEdit p.sets p.only = p.is_put in cc) in subst (λ (o : Option ℕ). version_fault o None ≡ None) (sym same) p.agrees
+
+-- its commit
+pub commits_put : (C : ℕ) (a after : ArenaView) (log left : LogView) (key : List ℕ) (sets : List (ℕ × List ℕ)) (only : Option ℕ) (before : Option Row) (number : ℕ) → version_fault only before ≡ None
+    → Changes a after log left key before (Some (put_row C number sets before)) number → Commits C a after log left (put_request key sets only) number
+commits_put C a after log left key sets None before number agrees done = (before, done)
+commits_put C a after log left key sets (Some version) before number agrees done = (before, same_version version before agrees, done)
+
 -- ---- ready
-module _ (C : ℕ) (a : ArenaView) (log : LogView) (key : List ℕ) (sets : List (ℕ × List ℕ)) (way : Way) where
+module _ (C : ℕ) (a : ArenaView) (log : LogView) (key : List ℕ) (sets : List (ℕ × List ℕ)) (only : Option ℕ) (way : Way) where
   abbrev ReadyLaw : ArenaView → LogView → Stage → Type 0
-  ReadyLaw after left stage = StepLaw C a after log left (PutRequest key sets) (stage_held way.node.0 Locked) Moved (stage_held way.node.0 stage) (λ begun moves past x w. StageIsTrue C key (PutEdit sets) way Locked begun x w) (λ begun moves past x w. StageIsTrue C key (PutEdit sets) way stage begun x w)
+  ReadyLaw after left stage = StepLaw C a after log left (put_request key sets only) (stage_held way.node.0 Locked) Moved (stage_held way.node.0 stage) (λ begun moves past x w. StageIsTrue C key (PutEdit sets only) way Locked begun x w) (λ begun moves past x w. StageIsTrue C key (PutEdit sets only) way stage begun x w)
 
   filled_is : (b : BorderView) (place : ℕ) (stored : List ℕ) (logged : List (List ℕ)) (after : ArenaView) (left : LogView) → (f : Fills C key sets way a log place stored logged after left) → f.b ≡ b
       → b.version.deleted ≡ false → b.low ≤ slice_number (rest_of key way) → IsBeforeRight (slice_number (rest_of key way)) b.right
-      → IsFilled C key (PutEdit sets) way (with_filled b (new_entry key way logged)) place stored logged
+      → IsFilled C key sets way (with_filled b (new_entry key way logged)) place stored logged
   filled_is b place stored logged after left f same alive low right =
       let entry = new_entry key way logged in
       let rest = rest_of key way in
@@ -270,8 +315,6 @@ module _ (C : ℕ) (a : ArenaView) (log : LogView) (key : List ℕ) (sets : List
         sound = whole;
         stored_is = f.stored_is;
         absent = absent;
-        sets = sets;
-        is_put = refl;
         columns = f.columns;
         shows = λ version. record {
           room = room;
@@ -285,9 +328,9 @@ module _ (C : ℕ) (a : ArenaView) (log : LogView) (key : List ℕ) (sets : List
         entry = next.holds;
       }
 
-  ready_fill : (split : Option Halves) (place : ℕ) (stored : List ℕ) (logged : List (List ℕ)) (after : ArenaView) (left : LogView) → Fills C key sets way a log place stored logged after left → (now begun moves : ℕ) (past : List Arena) (w : World) → IsWorld a now w → (b : BorderView) → IsLockedAt a key way b w → HasLocked (prefix_of key way) a w way.node.0 split
-      → Stepped C now moves past a after log left w (PutRequest key sets) (record { owns = owned way.node.0 split; reserves = 0; committed = None; blocked = None }) Moved (stage_held way.node.0 (Filled place stored logged split)) (λ m next. StageIsTrue C key (PutEdit sets) way (Filled place stored logged split) begun after next)
-  ready_fill split place stored logged after left f now begun moves past w world b at has =
+  ready_fill : version_fault only None ≡ None → (split : Option Halves) (place : ℕ) (stored : List ℕ) (logged : List (List ℕ)) (after : ArenaView) (left : LogView) → Fills C key sets way a log place stored logged after left → (now begun moves : ℕ) (past : List Arena) (w : World) → IsWorld a now w → (b : BorderView) → IsLockedAt a key way b w → HasLocked (prefix_of key way) a w way.node.0 split
+      → Stepped C now moves past a after log left w (put_request key sets only) (record { owns = owned way.node.0 split; reserves = 0; committed = None; blocked = None }) Moved (stage_held way.node.0 (Filled place stored logged split)) (λ m next. StageIsTrue C key (PutEdit sets only) way (Filled place stored logged split) begun after next)
+  ready_fill agrees split place stored logged after left f now begun moves past w world b at has =
       let same : f.b ≡ b = (let both : ◌≡◌ {A = Option BorderView} (Some f.b) (Some b) = sym f.named ∙ at.named in cc) in
       let entry = new_entry key way logged in
       let fill : BorderView → BorderView = λ (x : BorderView). with_filled x entry in
@@ -295,13 +338,14 @@ module _ (C : ℕ) (a : ArenaView) (log : LogView) (key : List ℕ) (sets : List
       let low : b.low ≤ slice_number (rest_of key way) = subst (λ (s : ℕ). b.low ≤ s) slices at.stands.from_low in
       let right = left_of_right (slice_number (rest_of key way)) b.right (subst (λ (s : ℕ). Below s (option_map right_seen b.right)) slices at.stands.to_right) in
       let kept = f.keeps.keeps now w.twins w.chart world.index in
-      subst (λ (x : ArenaView). Stepped C now moves past a x log left w (PutRequest key sets) (record { owns = owned way.node.0 split; reserves = 0; committed = None; blocked = None }) Moved (stage_held way.node.0 (Filled place stored logged split)) (λ m next. StageIsTrue C key (PutEdit sets) way (Filled place stored logged split) begun x next)) (sym f.filled)
+      subst (λ (x : ArenaView). Stepped C now moves past a x log left w (put_request key sets only) (record { owns = owned way.node.0 split; reserves = 0; committed = None; blocked = None }) Moved (stage_held way.node.0 (Filled place stored logged split)) (λ m next. StageIsTrue C key (PutEdit sets only) way (Filled place stored logged split) begun x next)) (sym f.filled)
       (record {
         goes = goes_border a way.node.0 b fill at.named now w (owned way.node.0 split) (owned way.node.0 split) _ world (subst (λ (x : ArenaView). IsIndexAt x now w.twins w.chart) f.filled kept.index)
             (subst (λ (x : ArenaView). RowsAreOfKeys x) f.filled (keys_same a after kept.content world.keys))
             (mine_free a way.node.0 w (owned way.node.0 split) has.own) (λ other i. inl i) (λ other ne i. i) (λ locked. has.own) (locked_may a way.node.0 b fill at.named now w world at.locked at.free (inr (filled_deleted (first_held b.unused) b.version ∙ at.alive))) (
               fill b,
               locked_at-changed a key way b w fill at.named at.layer at.stands at.last refl refl refl (filled_deleted (first_held b.unused) b.version ∙ at.alive) (filled_locked (first_held b.unused) b.version ∙ at.locked) at.free,
+              record { sets = sets; only = only; is_put = refl; agrees = agrees },
               filled_is b place stored logged after left f same at.alive low right,
               has_changed (prefix_of key way) a way.node.0 b fill at.named w split (filled_locked (first_held b.unused) b.version ∙ at.locked) (filled_deleted (first_held b.unused) b.version ∙ at.alive) refl has,
             );
@@ -309,47 +353,51 @@ module _ (C : ℕ) (a : ArenaView) (log : LogView) (key : List ℕ) (sets : List
         reserved = let more = ap (λ (l : LogView). l.reserved) f.reserved in omega (arith, more);
         bounds = ap bounds f.reserved;
         blocked = inl refl;
-        may = λ get. absurd (let clash : false ≡ true = get in cc);
+        may = λ get. absurd (no_get key (PutEdit sets only) get);
       })
 
   abbrev FailStep : ArenaView → LogView → Option Halves → Refusal → ℕ → ℕ → ℕ → List Arena → World → Type 0
   FailStep after left split refusal now begun moves past w =
-      Stepped C now moves past a after log left w (PutRequest key sets) (record { owns = owned way.node.0 split; reserves = 0; committed = None; blocked = None }) Moved (stage_held way.node.0 (Failed refusal split)) (λ m next. StageIsTrue C key (PutEdit sets) way (Failed refusal split) begun after next)
+      Stepped C now moves past a after log left w (put_request key sets only) (record { owns = owned way.node.0 split; reserves = 0; committed = None; blocked = None }) Moved (stage_held way.node.0 (Failed refusal split)) (λ m next. StageIsTrue C key (PutEdit sets only) way (Failed refusal split) begun after next)
 
   ready_fail : (split : Option Halves) (refusal : Refusal) (after : ArenaView) (left : LogView) → MayFail log (PutRequest key sets) refusal × IsBack a after × (left ≡ log) → (now begun moves : ℕ) (past : List Arena) (w : World) → IsWorld a now w → HasLocked (prefix_of key way) a w way.node.0 split → FailStep after left split refusal now begun moves past w
   ready_fail split refusal after left (may, back, same_log) now begun moves past w world has = subst (λ (l : LogView). FailStep after l split refusal now begun moves past w) (sym same_log) (elim back [
     | inl same ↦ subst (λ (x : ArenaView). FailStep x log split refusal now begun moves past w) (sym same) (record {
-      goes = goes_same now a w _ (owned way.node.0 split) (owned way.node.0 split) refl world (has, may.0);
+      goes = goes_same now a w _ (owned way.node.0 split) (owned way.node.0 split) refl world (has, as_put key sets only refusal may.0, otherwise_tells a w key way refusal split (put_otherwise key sets refusal may.0));
       does = (quiet_same a log, refl);
       reserved = refl;
       bounds = refl;
       blocked = fails_at log refusal may.1;
-      may = λ get. absurd (let clash : false ≡ true = get in cc);
+      may = λ get. absurd (no_get key (PutEdit sets only) get);
     })
     | inr gave ↦ (let o = gave.occupied in
-        let (goes, content) = goes_given_back now a gave.between after w gave.number gave.node (owned way.node.0 split) (λ next. StageIsTrue C key (PutEdit sets) way (Failed refusal split) begun after next) o.vacant o.updates o.retired o.unknown o.keeps gave.back gave.retired gave.keeps world
-        (has_locked_back (prefix_of key way) a gave.between after w way.node.0 split gave.number gave.node o.vacant o.updates gave.back has, may.0) in record {
+        let (goes, content) = goes_given_back now a gave.between after w gave.number gave.node (owned way.node.0 split) (λ next. StageIsTrue C key (PutEdit sets only) way (Failed refusal split) begun after next) o.vacant o.updates o.retired o.unknown o.keeps gave.back gave.retired gave.keeps world
+        (has_locked_back (prefix_of key way) a gave.between after w way.node.0 split gave.number gave.node o.vacant o.updates gave.back has, as_put key sets only refusal may.0, otherwise_tells after w key way refusal split (put_otherwise key sets refusal may.0)) in record {
           goes = goes;
           does = (record { content = content; trimmed = refl; deltas = refl }, refl);
           reserved = refl;
           bounds = refl;
           blocked = fails_at log refusal may.1;
-          may = λ get. absurd (let clash : false ≡ true = get in cc);
+          may = λ get. absurd (no_get key (PutEdit sets only) get);
         })
   ])
 
-  ready : (stage : Stage) (after : ArenaView) (left : LogView) → Prepares C key sets way a log None stage after left → ReadyLaw after left stage
-  ready (Filled place stored logged split) after left (none, f) = subst (λ (s : Option Halves). ReadyLaw after left (Filled place stored logged s)) (sym none) (record {
-    steps = λ now begun moves past w world before truth. let (b, at) = truth in ready_fill None place stored logged after left f now begun moves past w world b at (alone a key way b w at);
+  -- the row at the border is of the version that is asked for
+  abbrev Agrees : Type 0
+  Agrees = (b : BorderView) → border_at a.nodes way.node.0 ≡ Some b → version_fault only (row_found b.live (found_for (rest_of key way) b.live)) ≡ None
+
+  ready : Agrees → (stage : Stage) (after : ArenaView) (left : LogView) → Prepares C key sets way a log None stage after left → ReadyLaw after left stage
+  ready agrees (Filled place stored logged split) after left (none, f) = subst (λ (s : Option Halves). ReadyLaw after left (Filled place stored logged s)) (sym none) (record {
+    steps = λ now begun moves past w world before truth. let (b, at) = truth in ready_fill (subst (λ (o : Found). version_fault only (row_found f.b.live o) ≡ None) f.absent (agrees f.b f.named)) None place stored logged after left f now begun moves past w world b at (alone a key way b w at);
   })
-  ready (Spared half cut entries) after left (none, f, same_log) = record {
+  ready agrees (Spared half cut entries) after left (none, f, same_log) = record {
     steps = λ now begun moves past w world before truth.
         let (b, was) = truth in
         let same : f.b ≡ b = (let both : ◌≡◌ {A = Option BorderView} (Some f.b) (Some b) = sym f.named ∙ was.named in cc) in
         let at : IsLockedAt a key way f.b w = subst (λ (x : BorderView). IsLockedAt a key way x w) (sym same) was in
         let differ : way.node.0 ≢ half.0 = λ e. vacant_border a half.0 f.b f.occupied.vacant (ap (λ (m : ℕ). border_at a.nodes m) (sym e) ∙ at.named) in
         let now_is : border_at after.nodes half.0 ≡ Some (empty_half f.b f.cut_at.middle) = ap (option_and_then border_of) f.occupied.updates.changed in
-        subst (λ (l : LogView). Stepped C now moves past a after log l w (PutRequest key sets) (stage_held way.node.0 Locked) Moved (stage_held way.node.0 (Spared half cut entries)) (λ m next. StageIsTrue C key (PutEdit sets) way (Spared half cut entries) begun after next)) (sym same_log)
+        subst (λ (l : LogView). Stepped C now moves past a after log l w (put_request key sets only) (stage_held way.node.0 Locked) Moved (stage_held way.node.0 (Spared half cut entries)) (λ m next. StageIsTrue C key (PutEdit sets only) way (Spared half cut entries) begun after next)) (sym same_log)
         (record {
           goes = goes_occupied now a after w half.0 (Border (empty_half f.b f.cut_at.middle)) (way.node.0 ∷ []) _ f.occupied.vacant f.occupied.updates f.occupied.retired f.occupied.unknown f.occupied.keeps world (
             f.b,
@@ -357,92 +405,93 @@ module _ (C : ℕ) (a : ArenaView) (log : LogView) (key : List ℕ) (sets : List
             f.cut_at,
             record { named = now_is; unknown = f.occupied.unknown.unknown now w.twins w.chart world.index; locked = refl; free = vacant_root a w half.0 f.occupied.vacant world.heads },
             f.copied,
+            record { sets = sets; only = only; is_put = refl; agrees = none_agrees only f.b.live (found_for (rest_of key way) f.b.live) f.cut_at.absent (agrees f.b f.named) },
           );
           does = (record { content = (f.occupied.keeps.keeps now w.twins w.chart world.index).content; trimmed = refl; deltas = refl }, refl);
           reserved = refl;
           bounds = refl;
           blocked = inl refl;
-          may = λ get. absurd (let clash : false ≡ true = get in cc);
+          may = λ get. absurd (no_get key (PutEdit sets only) get);
         });
   }
-  ready (LayerSpared layer entries) after left (none, f, same_log) = record {
+  ready agrees (LayerSpared layer entries) after left (none, f, same_log) = record {
     steps = λ now begun moves past w world before truth.
         let (b, was) = truth in
         let same : f.b ≡ b = (let both : ◌≡◌ {A = Option BorderView} (Some f.b) (Some b) = sym f.named ∙ was.named in cc) in
         let at : IsLockedAt a key way f.b w = subst (λ (x : BorderView). IsLockedAt a key way x w) (sym same) was in
         let (goes, content) = spares_go now begun a after w key way layer entries f world at in
-        subst (λ (l : LogView). Stepped C now moves past a after log l w (PutRequest key sets) (stage_held way.node.0 Locked) Moved (stage_held way.node.0 (LayerSpared layer entries)) (λ m next. StageIsTrue C key (PutEdit sets) way (LayerSpared layer entries) begun after next)) (sym same_log) (record {
+        subst (λ (l : LogView). Stepped C now moves past a after log l w (put_request key sets only) (stage_held way.node.0 Locked) Moved (stage_held way.node.0 (LayerSpared layer entries)) (λ m next. StageIsTrue C key (PutEdit sets only) way (LayerSpared layer entries) begun after next)) (sym same_log) (record {
           goes = goes;
           does = (record { content = content; trimmed = refl; deltas = refl }, refl);
           reserved = refl;
           bounds = refl;
           blocked = inl refl;
-          may = λ get. absurd (let clash : false ≡ true = get in cc);
+          may = λ get. absurd (no_get key (PutEdit sets only) get);
         });
   }
-  ready (Made place stored columns logged) after left (none, f) = record {
+  ready agrees (Made place stored columns logged) after left (none, f) = record {
     steps = λ now begun moves past w world before truth.
         let (b, at) = truth in
         let same : f.b ≡ b = (let both : ◌≡◌ {A = Option BorderView} (Some f.b) (Some b) = sym f.named ∙ at.named in cc) in
-        subst (λ (x : ArenaView). Stepped C now moves past a x log left w (PutRequest key sets) (stage_held way.node.0 Locked) Moved (stage_held way.node.0 (Made place stored columns logged)) (λ m next. StageIsTrue C key (PutEdit sets) way (Made place stored columns logged) begun x next)) (sym f.same)
+        subst (λ (x : ArenaView). Stepped C now moves past a x log left w (put_request key sets only) (stage_held way.node.0 Locked) Moved (stage_held way.node.0 (Made place stored columns logged)) (λ m next. StageIsTrue C key (PutEdit sets only) way (Made place stored columns logged) begun x next)) (sym f.same)
         (record {
-          goes = goes_same now a w _ (way.node.0 ∷ []) (way.node.0 ∷ []) refl world (b, at, subst (λ (x : BorderView). IsMade C key (PutEdit sets) way x place stored columns logged) same f.made);
+          goes = goes_same now a w _ (way.node.0 ∷ []) (way.node.0 ∷ []) refl world (b, at, record { sets = sets; only = only; is_put = refl; agrees = subst (λ (x : BorderView). version_fault only (row_at place x.live) ≡ None) same (subst (λ (o : Found). version_fault only (row_found f.b.live o) ≡ None) f.made.there (agrees f.b f.named)) }, subst (λ (x : BorderView). IsMade C key sets way x place stored columns logged) same f.made);
           does = (record { content = λ k row. ((λ h. h), (λ h. h)); trimmed = ap (λ (l : LogView). l.held_after) f.reserved; deltas = ap (λ (l : LogView). l.deltas) f.reserved }, refl);
           reserved = let more = ap (λ (l : LogView). l.reserved) f.reserved in omega (arith, more);
           bounds = ap bounds f.reserved;
           blocked = inl refl;
-          may = λ get. absurd (let clash : false ≡ true = get in cc);
+          may = λ get. absurd (no_get key (PutEdit sets only) get);
         });
   }
-  ready (Failed refusal split) after left (none, may, same, same_log) = subst (λ (s : Option Halves). ReadyLaw after left (Failed refusal s)) (sym none) (record {
+  ready agrees (Failed refusal split) after left (none, may, same, same_log) = subst (λ (s : Option Halves). ReadyLaw after left (Failed refusal s)) (sym none) (record {
     steps = λ now begun moves past w world before truth. let (b, at) = truth in ready_fail None refusal after left (may, same, same_log) now begun moves past w world (alone a key way b w at);
   })
-  ready (HalfFilled half cut) after left f = absurd f
-  ready (Posts posting ending) after left f = absurd f
-  ready (LayerFilled layer) after left f = absurd f
-  ready (LayerReady layer) after left f = absurd f
-  ready (Layered head) after left f = absurd f
-  ready (Halved split) after left f = absurd f
-  ready Seeks after left f = absurd f
-  ready Locked after left f = absurd f
-  ready (Taken place stored before) after left f = absurd f
-  ready (Stored number split) after left f = absurd f
+  ready agrees (HalfFilled half cut) after left f = absurd f
+  ready agrees (Posts posting ending) after left f = absurd f
+  ready agrees (LayerFilled layer) after left f = absurd f
+  ready agrees (LayerReady layer) after left f = absurd f
+  ready agrees (Layered head) after left f = absurd f
+  ready agrees (Halved split) after left f = absurd f
+  ready agrees Seeks after left f = absurd f
+  ready agrees Locked after left f = absurd f
+  ready agrees (Taken place stored before) after left f = absurd f
+  ready agrees (Stored number split) after left f = absurd f
 
-  pub readies : (stage : Stage) (edit : Edit) (after : ArenaView) (left : LogView) → edit ≡ PutEdit sets → Prepares C key sets way a log None stage after left
+  pub readies : (stage : Stage) (edit : Edit) (after : ArenaView) (left : LogView) → edit ≡ PutEdit sets only → Agrees → Prepares C key sets way a log None stage after left
       → StepLaw C a after log left (edit_request key edit) (stage_held way.node.0 Locked) Moved (stage_held way.node.0 stage) (λ begun moves past x w. StageIsTrue C key edit way Locked begun x w) (λ begun moves past x w. StageIsTrue C key edit way stage begun x w)
-  readies stage edit after left is_put p =
+  readies stage edit after left is_put agrees p =
       subst (λ (e : Edit). StepLaw C a after log left (edit_request key e) (stage_held way.node.0 Locked) Moved (stage_held way.node.0 stage) (λ begun moves past x w. StageIsTrue C key e way Locked begun x w) (λ begun moves past x w. StageIsTrue C key e way stage begun x w)) (sym is_put)
-      (ready stage after left p)
+      (ready agrees stage after left p)
 
 -- ---- ready in a half
 one_or_none : {x : Halves} → ◌≡◌ {A = Option Halves} (Some x) None → ⊥
 one_or_none e = cc
 
-half_ready : (C : ℕ) (a : ArenaView) (log : LogView) (key : List ℕ) (sets : List (ℕ × List ℕ)) (way : Way) (split : Halves) (stage : Stage) (after : ArenaView) (left : LogView) → Prepares C key sets way a log (Some split) stage after left
-    → StepLaw C a after log left (PutRequest key sets) (stage_held way.node.0 (Halved split)) Moved (stage_held way.node.0 stage) (λ begun moves past x w. StageIsTrue C key (PutEdit sets) way (Halved split) begun x w) (λ begun moves past x w. StageIsTrue C key (PutEdit sets) way stage begun x w)
-half_ready C a log key sets way split (Filled place stored logged halves) after left (is, f) = subst (λ (s : Option Halves). StepLaw C a after log left (PutRequest key sets) (stage_held way.node.0 (Halved split)) Moved (stage_held way.node.0 (Filled place stored logged s)) (λ begun moves past x w. StageIsTrue C key (PutEdit sets) way (Halved split) begun x w) (λ begun moves past x w. StageIsTrue C key (PutEdit sets) way (Filled place stored logged s) begun x w)) (sym is) (record {
-  steps = λ now begun moves past w world before truth. let (b, at, h, has) = truth in ready_fill C a log key sets way (Some split) place stored logged after left f now begun moves past w world b at has;
+half_ready : (C : ℕ) (a : ArenaView) (log : LogView) (key : List ℕ) (sets : List (ℕ × List ℕ)) (only : Option ℕ) (way : Way) (split : Halves) (stage : Stage) (after : ArenaView) (left : LogView) → Prepares C key sets way a log (Some split) stage after left
+    → StepLaw C a after log left (put_request key sets only) (stage_held way.node.0 (Halved split)) Moved (stage_held way.node.0 stage) (λ begun moves past x w. StageIsTrue C key (PutEdit sets only) way (Halved split) begun x w) (λ begun moves past x w. StageIsTrue C key (PutEdit sets only) way stage begun x w)
+half_ready C a log key sets only way split (Filled place stored logged halves) after left (is, f) = subst (λ (s : Option Halves). StepLaw C a after log left (put_request key sets only) (stage_held way.node.0 (Halved split)) Moved (stage_held way.node.0 (Filled place stored logged s)) (λ begun moves past x w. StageIsTrue C key (PutEdit sets only) way (Halved split) begun x w) (λ begun moves past x w. StageIsTrue C key (PutEdit sets only) way (Filled place stored logged s) begun x w)) (sym is) (record {
+  steps = λ now begun moves past w world before truth. let (b, at, h, has, p) = truth in ready_fill C a log key sets only way (own_agrees sets only p) (Some split) place stored logged after left f now begun moves past w world b at has;
 })
-half_ready C a log key sets way split (Failed refusal halves) after left (is, may, same, same_log) = subst (λ (s : Option Halves). StepLaw C a after log left (PutRequest key sets) (stage_held way.node.0 (Halved split)) Moved (stage_held way.node.0 (Failed refusal s)) (λ begun moves past x w. StageIsTrue C key (PutEdit sets) way (Halved split) begun x w) (λ begun moves past x w. StageIsTrue C key (PutEdit sets) way (Failed refusal s) begun x w)) (sym is) (record {
-  steps = λ now begun moves past w world before truth. let (b, at, h, has) = truth in ready_fail C a log key sets way (Some split) refusal after left (may, same, same_log) now begun moves past w world has;
+half_ready C a log key sets only way split (Failed refusal halves) after left (is, may, same, same_log) = subst (λ (s : Option Halves). StepLaw C a after log left (put_request key sets only) (stage_held way.node.0 (Halved split)) Moved (stage_held way.node.0 (Failed refusal s)) (λ begun moves past x w. StageIsTrue C key (PutEdit sets only) way (Halved split) begun x w) (λ begun moves past x w. StageIsTrue C key (PutEdit sets only) way (Failed refusal s) begun x w)) (sym is) (record {
+  steps = λ now begun moves past w world before truth. let (b, at, h, has, p) = truth in ready_fail C a log key sets only way (Some split) refusal after left (may, same, same_log) now begun moves past w world has;
 })
-half_ready C a log key sets way split Seeks after left f = absurd f
-half_ready C a log key sets way split Locked after left f = absurd f
-half_ready C a log key sets way split (Spared half cut entries) after left (is, f, same_log) = absurd (one_or_none is)
-half_ready C a log key sets way split (HalfFilled half cut) after left f = absurd f
-half_ready C a log key sets way split (Posts posting ending) after left f = absurd f
-half_ready C a log key sets way split (LayerSpared layer entries) after left (is, f, same_log) = absurd (one_or_none is)
-half_ready C a log key sets way split (LayerFilled layer) after left f = absurd f
-half_ready C a log key sets way split (LayerReady layer) after left f = absurd f
-half_ready C a log key sets way split (Layered head) after left f = absurd f
-half_ready C a log key sets way split (Halved s) after left f = absurd f
-half_ready C a log key sets way split (Made place stored columns logged) after left (is, f) = absurd (one_or_none is)
-half_ready C a log key sets way split (Taken place stored before) after left f = absurd f
-half_ready C a log key sets way split (Stored number s) after left f = absurd f
+half_ready C a log key sets only way split Seeks after left f = absurd f
+half_ready C a log key sets only way split Locked after left f = absurd f
+half_ready C a log key sets only way split (Spared half cut entries) after left (is, f, same_log) = absurd (one_or_none is)
+half_ready C a log key sets only way split (HalfFilled half cut) after left f = absurd f
+half_ready C a log key sets only way split (Posts posting ending) after left f = absurd f
+half_ready C a log key sets only way split (LayerSpared layer entries) after left (is, f, same_log) = absurd (one_or_none is)
+half_ready C a log key sets only way split (LayerFilled layer) after left f = absurd f
+half_ready C a log key sets only way split (LayerReady layer) after left f = absurd f
+half_ready C a log key sets only way split (Layered head) after left f = absurd f
+half_ready C a log key sets only way split (Halved s) after left f = absurd f
+half_ready C a log key sets only way split (Made place stored columns logged) after left (is, f) = absurd (one_or_none is)
+half_ready C a log key sets only way split (Taken place stored before) after left f = absurd f
+half_ready C a log key sets only way split (Stored number s) after left f = absurd f
 
 pub half_readies : (C : ℕ) (a : ArenaView) (log : LogView) (key : List ℕ) (edit : Edit) (way : Way) (split : Halves) (stage : Stage) (after : ArenaView) (left : LogView) → SomeSets edit (λ sets. Prepares C key sets way a log (Some split) stage after left)
     → StepLaw C a after log left (edit_request key edit) (stage_held way.node.0 (Halved split)) Moved (stage_held way.node.0 stage) (λ begun moves past x w. StageIsTrue C key edit way (Halved split) begun x w) (λ begun moves past x w. StageIsTrue C key edit way stage begun x w)
-half_readies C a log key (PutEdit sets) way split stage after left p = half_ready C a log key sets way split stage after left p
+half_readies C a log key (PutEdit sets only) way split stage after left p = half_ready C a log key sets only way split stage after left p
 half_readies C a log key RemoveEdit way split stage after left p = absurd p
 
 -- ---- the commit
@@ -519,7 +568,7 @@ module _ (C : ℕ) (a : ArenaView) (log : LogView) (key : List ℕ) (edit : Edit
       → left ≡ with_delta log (put_delta (newest log + 1) stored None logged) → 1 ≤ log.reserved → CommitLaw after left number split (Filled place stored logged split)
   shows split place stored logged number after left next is shown appended room = record {
     steps = λ now begun moves past w world before truth.
-        let (b, at, f, has) = truth in
+        let (b, at, p, f, has) = truth in
         let commit = newest log + 1 in
         let row : Row = record { version = 0; columns = logged } in
         let show : BorderView → BorderView = λ (x : BorderView). with_shown x place commit in
@@ -529,9 +578,9 @@ module _ (C : ℕ) (a : ArenaView) (log : LogView) (key : List ℕ) (edit : Edit
         let stood : RowIs a key None = subst (λ (r : Option Row). RowIs a key r) (ap (row_found b.live) f.absent) (stood_is b w now f.bytes f.sound world at) in
         let nothing_there : (r : Row) → Has (arena_seen a) (under (prefix_of key way) (entry_place f.slot.entry)) r → ⊥ =
         λ r has. no_row r ((stood r).0 (subst (λ (p : Place). Has (arena_seen a) p r) (key_place at.layer (entry_place f.slot.entry) place_is) has)) in
-        let row_is : record { version = commit; columns = logged } ≡ put_row C number f.sets None = ap (λ (n : ℕ). record { version = n; columns = logged }) (sym next) ∙ ap (λ (c : List (List ℕ)). record { version = number; columns = c }) f.columns in
-        let done : Changes a after log left key None (Some (put_row C number f.sets None)) number =
-        changes after None (Some (put_row C number f.sets None)) (entry_place f.slot.entry) number left f.bytes f.fits at.layer stood place_is
+        let row_is : record { version = commit; columns = logged } ≡ put_row C number p.sets None = ap (λ (n : ℕ). record { version = n; columns = logged }) (sym next) ∙ ap (λ (c : List (List ℕ)). record { version = number; columns = c }) f.columns in
+        let done : Changes a after log left key None (Some (put_row C number p.sets None)) number =
+        changes after None (Some (put_row C number p.sets None)) (entry_place f.slot.entry) number left f.bytes f.fits at.layer stood place_is
         (subst (λ (r : Row). (other : Place) (shown : Row) → Has (arena_seen after) other shown ↔ (((other ≡ under (prefix_of key way) (entry_place f.slot.entry)) × (Some r ≡ Some shown)) ⊎ (Has (arena_seen a) other shown × (other ≢ under (prefix_of key way) (entry_place f.slot.entry))))) row_is
         (replaced_content after (under (prefix_of key way) (entry_place f.slot.entry)) (record { version = commit; columns = logged })
         (shown_content after (under (prefix_of key way) (entry_place f.slot.entry)) (record { version = commit; columns = logged }) nothing_there adds.1)))
@@ -541,13 +590,10 @@ module _ (C : ℕ) (a : ArenaView) (log : LogView) (key : List ℕ) (edit : Edit
         record {
           goes = subst (λ (x : ArenaView). Goes now a x w (owned way.node.0 split) (owned way.node.0 split) (λ next. StageIsTrue C key edit way (Stored number split) begun after next)) (sym is)
               (goes_border a way.node.0 b show at.named now w (owned way.node.0 split) (owned way.node.0 split) _ world (subst (λ (x : ArenaView). IsIndexAt x now w.twins w.chart) is adds.0)
-              (subst (λ (x : ArenaView). RowsAreOfKeys x) is (keys_changed a after log left key None (Some (put_row C number f.sets None)) number done world.keys)) (mine_free a way.node.0 w (owned way.node.0 split) has.own) (λ other i. inl i) (λ other ne i. i) (λ locked. has.own) (locked_may a way.node.0 b show at.named now w world at.locked at.free (inr at.alive))
+              (subst (λ (x : ArenaView). RowsAreOfKeys x) is (keys_changed a after log left key None (Some (put_row C number p.sets None)) number done world.keys)) (mine_free a way.node.0 w (owned way.node.0 split) has.own) (λ other i. inl i) (λ other ne i. i) (λ locked. has.own) (locked_may a way.node.0 b show at.named now w world at.locked at.free (inr at.alive))
               (subst (λ (x : ArenaView). HasLocked (prefix_of key way) x w way.node.0 split) (sym is) (has_changed (prefix_of key way) a way.node.0 b show at.named w split at.locked at.alive refl has)));
           does = (
-            subst (λ (e : Edit). Commits C a after log left (edit_request key e) number) (sym f.is_put) (
-              None,
-              done,
-            ),
+            subst (λ (e : Edit). Commits C a after log left (edit_request key e) number) (sym p.is_put) (commits_put C a after log left key p.sets p.only None number p.agrees done),
             refl,
             refl,
           );
@@ -566,7 +612,7 @@ module _ (C : ℕ) (a : ArenaView) (log : LogView) (key : List ℕ) (edit : Edit
       → IsSomeAnd (border_at a.nodes way.node.0) (λ b. left ≡ with_delta log (put_delta (newest log + 1) stored (row_at place b.live) logged)) → 1 ≤ log.reserved → CommitLaw after left number None (Made place stored columns logged)
   writes place stored columns logged number after left next is written logs room = record {
     steps = λ now begun moves past w world before truth.
-        let (b, at, f) = truth in
+        let (b, at, p, f) = truth in
         let commit = newest log + 1 in
         let row : Row = record { version = commit; columns = columns } in
         let write : BorderView → BorderView = λ (x : BorderView). with_value x place row in
@@ -574,9 +620,9 @@ module _ (C : ℕ) (a : ArenaView) (log : LogView) (key : List ℕ) (edit : Edit
         let replaces = (written.sets b e.entry at.named e.stands).replaces now w.twins w.chart (prefix_of key way) world.index (on_in b w at) in
         let appended : left ≡ with_delta log (put_delta commit stored (row_at place b.live) logged) = some_at _ (border_at a.nodes way.node.0) b logs at.named in
         let stood : RowIs a key (row_at place b.live) = subst (λ (r : Option Row). RowIs a key r) (ap (row_found b.live) f.there) (stood_is b w now f.bytes f.sound world at) in
-        let row_is : row ≡ put_row C number f.sets (row_at place b.live) = ap (λ (n : ℕ). record { version = n; columns = columns }) (sym next) ∙ ap (λ (c : List (List ℕ)). record { version = number; columns = c }) f.made in
-        let done : Changes a after log left key (row_at place b.live) (Some (put_row C number f.sets (row_at place b.live))) number =
-        changes after (row_at place b.live) (Some (put_row C number f.sets (row_at place b.live))) (entry_place e.entry) number left f.bytes f.fits at.layer stood e.of_rest
+        let row_is : row ≡ put_row C number p.sets (row_at place b.live) = ap (λ (n : ℕ). record { version = n; columns = columns }) (sym next) ∙ ap (λ (c : List (List ℕ)). record { version = number; columns = c }) f.made in
+        let done : Changes a after log left key (row_at place b.live) (Some (put_row C number p.sets (row_at place b.live))) number =
+        changes after (row_at place b.live) (Some (put_row C number p.sets (row_at place b.live))) (entry_place e.entry) number left f.bytes f.fits at.layer stood e.of_rest
         (subst (λ (r : Row). (other : Place) (shown : Row) → Has (arena_seen after) other shown ↔ (((other ≡ under (prefix_of key way) (entry_place e.entry)) × (Some r ≡ Some shown)) ⊎ (Has (arena_seen a) other shown × (other ≢ under (prefix_of key way) (entry_place e.entry))))) row_is
         (replaced_content after (under (prefix_of key way) (entry_place e.entry)) row replaces.1))
         next
@@ -585,13 +631,10 @@ module _ (C : ℕ) (a : ArenaView) (log : LogView) (key : List ℕ) (edit : Edit
         record {
           goes = subst (λ (x : ArenaView). Goes now a x w (way.node.0 ∷ []) (way.node.0 ∷ []) (λ next. StageIsTrue C key edit way (Stored number None) begun after next)) (sym is)
               (goes_border a way.node.0 b write at.named now w (way.node.0 ∷ []) (way.node.0 ∷ []) _ world (subst (λ (x : ArenaView). IsIndexAt x now w.twins w.chart) is replaces.0)
-              (subst (λ (x : ArenaView). RowsAreOfKeys x) is (keys_changed a after log left key (row_at place b.live) (Some (put_row C number f.sets (row_at place b.live))) number done world.keys)) (own_free a way.node.0 w) (λ other i. inl i) (λ other ne i. i) (λ locked. first) (locked_may a way.node.0 b write at.named now w world at.locked at.free (inr at.alive))
+              (subst (λ (x : ArenaView). RowsAreOfKeys x) is (keys_changed a after log left key (row_at place b.live) (Some (put_row C number p.sets (row_at place b.live))) number done world.keys)) (own_free a way.node.0 w) (λ other i. inl i) (λ other ne i. i) (λ locked. first) (locked_may a way.node.0 b write at.named now w world at.locked at.free (inr at.alive))
               (subst (λ (x : ArenaView). HasLocked (prefix_of key way) x w way.node.0 None) (sym is) (has_changed (prefix_of key way) a way.node.0 b write at.named w None at.locked at.alive refl (alone a key way b w at))));
           does = (
-            subst (λ (e : Edit). Commits C a after log left (edit_request key e) number) (sym f.is_put) (
-              row_at place b.live,
-              done,
-            ),
+            subst (λ (e : Edit). Commits C a after log left (edit_request key e) number) (sym p.is_put) (commits_put C a after log left key p.sets p.only (row_at place b.live) number p.agrees done),
             refl,
             refl,
           );
@@ -668,6 +711,7 @@ module _ (C : ℕ) (a : ArenaView) (log : LogView) (key : List ℕ) (edit : Edit
               goes = goes_same now a w _ (way.node.0 ∷ []) (way.node.0 ∷ []) refl world (
                 alone a key way b w at,
                 subst (λ (e : Edit). MayRefuse (edit_request key e) refusal) (sym is_remove) may.0,
+                otherwise_tells a w key way refusal None (remove_otherwise key refusal may.0),
               );
               does = (quiet_same a log, refl);
               reserved = refl;
@@ -729,11 +773,46 @@ module _ (C : ℕ) (a : ArenaView) (log : LogView) (key : List ℕ) (edit : Edit
         };
   })
 
+  -- what it tells is so
+  tells_version : (w : World) (now : ℕ) → IsWorld a now w → (own : Edit) (refusal : Refusal) → Tells a w key way refusal None → TellsVersion a (edit_request key own) refusal
+  tells_version w now world (PutEdit sets (Some version)) (OtherVersion other) tells = record {
+    bytes = tells.bytes;
+    there = row_found tells.b.live (found_for rest tells.b.live);
+    stands = stood_is tells.b w now tells.bytes tells.sound world tells.at;
+    is = tells.is;
+  }
+  tells_version w now world (PutEdit sets None) refusal tells = tt
+  tells_version w now world (PutEdit sets (Some version)) _ tells = tt
+  tells_version w now world RemoveEdit refusal tells = tt
+
+  -- a put that asks for another version than the row is of fails for that
+  pub differs : (sets : List (ℕ × List ℕ)) (only : Option ℕ) (refusal : Refusal) → edit ≡ PutEdit sets only → AreBytes key → IsSomeAnd (border_at a.nodes way.node.0) (λ b. IsBorder b × (Some refusal ≡ version_fault only (row_found b.live (found_for rest b.live))))
+      → StepLaw C a a log log (edit_request key edit) (stage_held way.node.0 Locked) Moved (stage_held way.node.0 (Failed refusal None)) (λ begun moves past x w. StageIsTrue C key edit way Locked begun x w) (λ begun moves past x w. StageIsTrue C key edit way (Failed refusal None) begun x w)
+  differs sets None refusal is_put bytes fault = let (b, named, both) = some_and _ (border_at a.nodes way.node.0) fault in absurd (let clash : ◌≡◌ {A = Option Refusal} (Some refusal) None = both.1 in cc)
+  differs sets (Some version) refusal is_put bytes fault = record {
+    steps = λ now begun moves past w world early truth.
+        let (b, at) = truth in
+        let here = some_at _ (border_at a.nodes way.node.0) b fault at.named in
+        let (other, is) = other_found version (row_found b.live (found_for rest b.live)) refusal here.1 in
+        record {
+          goes = goes_same now a w _ (way.node.0 ∷ []) (way.node.0 ∷ []) refl world (
+            alone a key way b w at,
+            subst (λ (e : Edit). MayRefuse (edit_request key e) refusal) (sym is_put) (subst (λ (r : Refusal). MayRefuse (PutIfRequest key sets version) r) (sym is) other),
+            subst (λ (r : Refusal). Tells a w key way r None) (sym is) (record { b = b; at = at; bytes = bytes; sound = here.0; is = refl }),
+          );
+          does = (quiet_same a log, refl);
+          reserved = refl;
+          bounds = refl;
+          blocked = inl (subst (λ (r : Refusal). blocked_by r ≡ None) (sym is) refl);
+          may = λ get. absurd (no_get key edit get);
+        };
+  }
+
   pub refuses : (refusal : Refusal) (then : Held) (Then : Truth) (after : ArenaView) → after ≡ with_border_changed a way.node.0 unlock → KeepsTree a after → EndLaw after (Refused refusal) then Then (Failed refusal None)
   refuses refusal then Then after is keeps = record {
     steps = λ now begun moves past w world before truth.
         let (goes, quiet) = ends (λ next. Unit {0}) now w after is keeps world (truth.0.locked way.node.0 first) tt in
-        record { goes = goes; does = (quiet, refl, truth.1); reserved = refl; bounds = refl; blocked = refl; may = tt };
+        record { goes = goes; does = (quiet, refl, truth.1, tells_version w now world edit refusal truth.2); reserved = refl; bounds = refl; blocked = refl; may = tt };
   }
 
 -- at the place of a key there is a border

@@ -2,9 +2,11 @@
 use Rattle.std.specs.Prelude.{ℕ, ◌≡◌, ◌==◌, ◌+◌, ◌⊎◌, nat_lt, if◌then◌else◌, List, length, Option, Some, None, IsSomeAnd, Result, Err, MatchResult}
 use Rattle.std.specs.Option.{option_or}
 use Rattle.mt_types.specs.Limits.{refused_if}
+use Rattle.mt_types.specs.Rows.{version_of}
+use Rattle.mt_types.specs.declared.row.Row.{Row as RowView}
 use Rattle.mt_types.specs.declared.limits.TheConstants.{MAX_NODES}
 use Rattle.mt_types.specs.declared.refusal.Refusal.{Refusal}
-use Rattle.mt_types.specs.declared.refusal.Refusal.TheVariants.{NoMemory, ArenaFull, Spent}
+use Rattle.mt_types.specs.declared.refusal.Refusal.TheVariants.{NoMemory, ArenaFull, Spent, OtherVersion}
 use Rattle.mt_word.specs.declared.permutation_word.TheConstants.{SLOTS}
 use Rattle.mt_word.specs.declared.version_word.TheConstants.{MAX_SPLITS}
 use Rattle.mt_commit.specs.Log.{LogView, reserve_fault}
@@ -12,7 +14,7 @@ use Rattle.mt_border.specs.Border.{BorderView, fill_is_spent}
 use Rattle.mt_border.specs.declared.found.Found.{Found}
 use Rattle.mt_border.specs.declared.found.Found.TheVariants.{Absent, Row, OtherSuffix}
 use Rattle.mt_arena.specs.Node.{border_at, occupied}
-use Rattle.mt_tree.specs.Descent.{found_for}
+use Rattle.mt_tree.specs.Descent.{found_for, row_found}
 use Rattle.mt_arena.specs.Arena.{ArenaView}
 use Rattle.mt_steps.specs.declared.progress.Progress.{Progress}
 use Rattle.mt_steps.specs.declared.progress.Progress.TheVariants.{Waits, Answered, Refused}
@@ -70,6 +72,11 @@ split_fault a b = option_or (refused_if (b.version.vsplit == MAX_SPLITS) Spent)
 abbrev pub layer_fault : ArenaView → Option Refusal
 layer_fault a = refused_if (nat_lt MAX_NODES (occupied a.nodes + 2)) ArenaFull
 
+-- a put that asks for a version is refused where the row is of another
+abbrev pub version_fault : Option ℕ → Option RowView → Option Refusal
+version_fault None row = None
+version_fault (Some version) row = if version_of row == version then None else Some (OtherVersion (version_of row))
+
 -- by what is found at the border for the key
 abbrev pub put_fault : ArenaView → LogView → BorderView → Found → Option Refusal
 put_fault a log b (Absent place) = if length b.live == SLOTS then split_fault a b else fill_fault log b
@@ -82,7 +89,7 @@ remove_fault log (Row place) = reserve_fault log
 remove_fault log _ = None
 
 abbrev pub edit_fault : ArenaView → LogView → Edit → BorderView → Found → Option Refusal
-edit_fault a log (Put sets) b found = put_fault a log b found
+edit_fault a log (Put sets only) b found = option_or (version_fault only (row_found b.live found)) (put_fault a log b found)
 edit_fault a log Remove b found = remove_fault log found
 
 -- it doesn't fail, and isn't refused

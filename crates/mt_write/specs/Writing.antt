@@ -4,9 +4,12 @@ use Rattle.mt_types.specs.declared.limits.TheConstants.{MAX_KEY_BYTES}
 use Rattle.mt_types.specs.declared.row.Row.{Row}
 use Rattle.mt_types.specs.declared.row.Delta.{Delta}
 use Rattle.mt_types.specs.declared.event.Request.{Request}
-use Rattle.mt_types.specs.declared.event.Request.TheVariants.{Put as PutRequest, Remove as RemoveRequest}
+use Rattle.mt_types.specs.declared.event.Request.TheVariants.{Put as PutRequest, PutIf as PutIfRequest, Remove as RemoveRequest}
 use Rattle.mt_types.specs.declared.event.Answer.{Answer}
 use Rattle.mt_types.specs.declared.event.Answer.TheVariants.{Stored as StoredAnswer, Removed}
+use Rattle.mt_types.specs.Rows.{version_of}
+use Rattle.mt_types.specs.declared.refusal.Refusal.{Refusal}
+use Rattle.mt_types.specs.declared.refusal.Refusal.TheVariants.{OtherVersion}
 use Rattle.mt_slice.specs.Place.{AreBytes, place_of, slice_number}
 use Rattle.mt_types.specs.declared.numbers.NodeNo.{NodeNo}
 use Rattle.mt_word.specs.declared.permutation_word.TheConstants.{SLOTS}
@@ -35,6 +38,7 @@ use Rattle.mt_tree.specs.Descent.{IsLast, HasOtherSuffix, found_for, row_found}
 use Rattle.mt_tree.specs.BorderSteps.{MayShowAt}
 use Rattle.mt_steps.specs.declared.way.Way.{Way}
 use Rattle.mt_write.specs.declared.writing.Write.{Write}
+use Rattle.mt_write.specs.Causes.{version_fault}
 use Rattle.mt_write.specs.declared.writing.Edit.{Edit}
 use Rattle.mt_write.specs.declared.writing.Edit.TheVariants.{Put as PutEdit, Remove as RemoveEdit}
 use Rattle.mt_write.specs.declared.writing.Stage.{Stage}
@@ -50,8 +54,12 @@ use Rattle.mt_steps.specs.Way.{prefix_of, rest_of, IsLayerOf, IsOnWay, IsHeadOf}
 use Rattle.mt_steps.specs.declared.progress.Progress.{Progress}
 use Rattle.mt_steps.specs.Step.{Held, nothing, blocked_by, MayRefuse, MayFail, StepLaw, MayStep, columns_after}
 
+abbrev pub put_request : List ℕ → List (ℕ × List ℕ) → Option ℕ → Request
+put_request key sets None = PutRequest key sets
+put_request key sets (Some version) = PutIfRequest key sets version
+
 abbrev pub edit_request : List ℕ → Edit → Request
-edit_request key (PutEdit sets) = PutRequest key sets
+edit_request key (PutEdit sets only) = put_request key sets only
 edit_request key RemoveEdit = RemoveRequest key
 
 abbrev pub write_request : Write → Request
@@ -59,7 +67,7 @@ write_request write = edit_request write.key write.edit
 
 -- what a write answers that has made its commit
 abbrev pub written_answer : Edit → ℕ → Answer
-written_answer (PutEdit sets) number = StoredAnswer number
+written_answer (PutEdit sets only) number = StoredAnswer number
 written_answer RemoveEdit number = Removed number
 
 -- the border that a write has locked, or the two halves of the border that it has split
@@ -166,7 +174,7 @@ IsAbsent (Absent place) = Unit {0}
 IsAbsent _ = ⊥
 
 -- the border is full, has no entry of the key, and may be cut in two at a place
-pub record IsCutAt (key : List ℕ) (edit : Edit) (way : Way) (b : BorderView) (cut : ℕ) : Type 0 where
+pub record IsCutAt (key : List ℕ) (way : Way) (b : BorderView) (cut : ℕ) : Type 0 where
   pub sound : IsBorder b
   pub full : length b.live ≡ SLOTS
   pub place : IsBestCut b.live cut
@@ -174,8 +182,6 @@ pub record IsCutAt (key : List ℕ) (edit : Edit) (way : Way) (b : BorderView) (
   pub is_middle : slice_get b.live cut ≡ Some middle
   pub unspent : b.version.vsplit < MAX_SPLITS
   pub absent : IsAbsent (found_for (rest_of key way) b.live)
-  pub sets : List (ℕ × List ℕ)
-  pub is_put : edit ≡ PutEdit sets
 
 -- the half of a border, from a place on, before it is filled
 abbrev pub empty_half : BorderView → Entry → BorderView
@@ -186,11 +192,20 @@ abbrev pub upper_half : BorderView → ℕ → Entry → BorderView
 upper_half b cut middle = with_entries (empty_half b middle) (drop cut b.live) b.right
 
 -- the half of a border where the key belongs has room, and no entry of the key
-pub record IsHalf (key : List ℕ) (edit : Edit) (way : Way) (b : BorderView) : Type 0 where
+pub record IsHalf (key : List ℕ) (way : Way) (b : BorderView) : Type 0 where
   pub room : length b.live < SLOTS
   pub absent : IsAbsent (found_for (rest_of key way) b.live)
+
+-- it is a put, and where it asks for a version, this row is of that one
+pub record PutsOver (edit : Edit) (row : Option Row) : Type 0 where
   pub sets : List (ℕ × List ℕ)
-  pub is_put : edit ≡ PutEdit sets
+  pub only : Option ℕ
+  pub is_put : edit ≡ PutEdit sets only
+  pub agrees : version_fault only row ≡ None
+
+-- it is a put of a key that has no row
+abbrev pub PutsNew : Edit → Type 0
+PutsNew edit = PutsOver edit None
 
 -- the entry at a place of the border is of another key that goes on after the same slice
 pub record IsLayerAt (key : List ℕ) (way : Way) (b : BorderView) (place : ℕ) : Type 0 where
@@ -254,15 +269,13 @@ abbrev pub new_entry : List ℕ → Way → List (List ℕ) → Entry
 new_entry key way columns = entry_of_row (rest_of key way) (record { version = 0; columns = columns })
 
 -- the key has no row, and the first unused slot holds the new one
-pub record IsFilled (C : ℕ) (key : List ℕ) (edit : Edit) (way : Way) (b : BorderView) (place : ℕ) (stored : List ℕ)
+pub record IsFilled (C : ℕ) (key : List ℕ) (sets : List (ℕ × List ℕ)) (way : Way) (b : BorderView) (place : ℕ) (stored : List ℕ)
     (logged : List (List ℕ)) : Type 0 where
   pub bytes : AreBytes key
   pub fits : length key ≤ MAX_KEY_BYTES
   pub sound : IsBorder b
   pub stored_is : stored ≡ key
   pub absent : found_for (rest_of key way) b.live ≡ Absent place
-  pub sets : List (ℕ × List ℕ)
-  pub is_put : edit ≡ PutEdit sets
   pub columns : logged ≡ columns_after C sets None
   pub shows : (version : ℕ) → MayShowAt b place version
   pub slot : Slot
@@ -271,15 +284,13 @@ pub record IsFilled (C : ℕ) (key : List ℕ) (edit : Edit) (way : Way) (b : Bo
   pub entry : slot.entry ≡ new_entry key way logged
 
 -- the key has a row, and the columns are made that it is to have
-pub record IsMade (C : ℕ) (key : List ℕ) (edit : Edit) (way : Way) (b : BorderView) (place : ℕ) (stored : List ℕ)
+pub record IsMade (C : ℕ) (key : List ℕ) (sets : List (ℕ × List ℕ)) (way : Way) (b : BorderView) (place : ℕ) (stored : List ℕ)
     (columns logged : List (List ℕ)) : Type 0 where
   pub bytes : AreBytes key
   pub fits : length key ≤ MAX_KEY_BYTES
   pub sound : IsBorder b
   pub stored_is : stored ≡ key
   pub there : found_for (rest_of key way) b.live ≡ RowFound place
-  pub sets : List (ℕ × List ℕ)
-  pub is_put : edit ≡ PutEdit sets
   pub made : columns ≡ columns_after C sets (row_at place b.live)
   pub copied : logged ≡ columns
 
@@ -294,20 +305,43 @@ pub record IsFound (key : List ℕ) (edit : Edit) (way : Way) (b : BorderView) (
   pub is_remove : edit ≡ RemoveEdit
   pub copied : row_at place b.live ≡ Some before
 
+-- it isn't refused for another version
+abbrev pub IsOtherwise : Refusal → Type 0
+IsOtherwise (OtherVersion found) = ⊥
+IsOtherwise _ = Unit {0}
+
+-- at the border that it has locked its key's row is of this version
+pub record FindsVersion (a : ArenaView) (w : World) (key : List ℕ) (way : Way) (found : ℕ) : Type 0 where
+  pub b : BorderView
+  pub at : IsLockedAt a key way b w
+  pub bytes : AreBytes key
+  pub sound : IsBorder b
+  pub is : version_of (row_found b.live (found_for (rest_of key way) b.live)) ≡ found
+
+-- where it is refused for another version, which it isn't once its border is split
+abbrev pub Tells : ArenaView → World → List ℕ → Way → Refusal → Option Halves → Type 0
+Tells a w key way (OtherVersion found) None = FindsVersion a w key way found
+Tells a w key way refusal split = IsOtherwise refusal
+
+pub record FailsOtherwise (key : List ℕ) (edit : Edit) (refusal : Refusal) : Type 0 where
+  pub may : MayRefuse (edit_request key edit) refusal
+  pub otherwise : IsOtherwise refusal
+
 -- it may end so
 abbrev pub MayEnd : List ℕ → Edit → Ending → Type 0
 MayEnd key edit (EndStored commit) = Unit {0}
-MayEnd key edit (EndFailed refusal) = MayRefuse (edit_request key edit) refusal
+MayEnd key edit (EndFailed refusal) = FailsOtherwise key edit refusal
 
 abbrev pub StageIsTrue : ℕ → List ℕ → Edit → Way → Stage → ℕ → ArenaView → World → Type 0
 StageIsTrue C key edit way Seeks begun a w = IsOnWay begun key way w
 StageIsTrue C key edit way Locked begun a w = (b : BorderView) × IsLockedAt a key way b w
 StageIsTrue C key edit way (Spared half cut entries) begun a w = (b : BorderView) × IsLockedAt a key way b w
-    × (c : IsCutAt key edit way b cut) × IsSpare a w half.0 (empty_half b c.middle) × (entries ≡ drop cut b.live)
+    × (c : IsCutAt key way b cut) × IsSpare a w half.0 (empty_half b c.middle) × (entries ≡ drop cut b.live)
+    × PutsNew edit
 StageIsTrue C key edit way (HalfFilled half cut) begun a w = (b : BorderView) × IsLockedAt a key way b w
-    × (c : IsCutAt key edit way b cut) × IsSpare a w half.0 (upper_half b cut c.middle)
+    × (c : IsCutAt key way b cut) × IsSpare a w half.0 (upper_half b cut c.middle) × PutsNew edit
 StageIsTrue C key edit way (Halved split) begun a w = (b : BorderView) × IsLockedAt a key way b w
-    × IsHalf key edit way b × HasLocked (prefix_of key way) a w way.node.0 (Some split)
+    × IsHalf key way b × HasLocked (prefix_of key way) a w way.node.0 (Some split) × PutsNew edit
 StageIsTrue C key edit way (LayerSpared layer entries) begun a w = (b : BorderView) × IsLockedAt a key way b w
     × IsToFill a w key way b layer entries
 StageIsTrue C key edit way (LayerFilled layer) begun a w = (b : BorderView) × IsLockedAt a key way b w
@@ -317,16 +351,17 @@ StageIsTrue C key edit way (LayerReady layer) begun a w = (b : BorderView) × Is
 StageIsTrue C key edit way (Layered head) begun a w = HasLink (prefix_of key way) a w way.node.0 head
     × IsOnWay begun key (way_below way head) w × IsHeadOf w begun head.0 (prefix_of key (way_below way head))
 StageIsTrue C key edit way (Filled place stored logged split) begun a w = (b : BorderView) × IsLockedAt a key way b w
-    × IsFilled C key edit way b place stored logged × HasLocked (prefix_of key way) a w way.node.0 split
+    × (p : PutsNew edit) × IsFilled C key p.sets way b place stored logged
+    × HasLocked (prefix_of key way) a w way.node.0 split
 StageIsTrue C key edit way (Made place stored columns logged) begun a w = (b : BorderView) × IsLockedAt a key way b w
-    × IsMade C key edit way b place stored columns logged
+    × (p : PutsOver edit (row_at place b.live)) × IsMade C key p.sets way b place stored columns logged
 StageIsTrue C key edit way (Taken place stored before) begun a w = (b : BorderView) × IsLockedAt a key way b w
     × IsFound key edit way b place stored before
 StageIsTrue C key edit way (Posts posting ending) begun a w = PostingIsTrue begun posting a w
     × (posting.half ≡ way.node) × MayEnd key edit ending
 StageIsTrue C key edit way (Stored number split) begun a w = HasLocked (prefix_of key way) a w way.node.0 split
 StageIsTrue C key edit way (Failed refusal split) begun a w = HasLocked (prefix_of key way) a w way.node.0 split
-    × MayRefuse (edit_request key edit) refusal
+    × MayRefuse (edit_request key edit) refusal × Tells a w key way refusal split
 
 -- and it knows the head of the layer where it is
 abbrev pub HeadedStage : ℕ → List ℕ → Edit → Way → NodeNo → Stage → ℕ → ArenaView → World → Type 0
@@ -410,11 +445,11 @@ abbrev pub IsBack : ArenaView → ArenaView → Type 0
 IsBack a after = (after ≡ a) ⊎ GaveBack a after
 
 -- or a half for the border, which is full
-pub record Spares (key : List ℕ) (sets : List (ℕ × List ℕ)) (way : Way) (a : ArenaView) (half cut : ℕ)
+pub record Spares (key : List ℕ) (way : Way) (a : ArenaView) (half cut : ℕ)
     (entries : List Entry) (after : ArenaView) : Type 0 where
   pub b : BorderView
   pub named : border_at a.nodes way.node.0 ≡ Some b
-  pub cut_at : IsCutAt key (PutEdit sets) way b cut
+  pub cut_at : IsCutAt key way b cut
   pub occupied : Occupies a after half (Border (empty_half b cut_at.middle))
   pub copied : entries ≡ drop cut b.live
 
@@ -436,20 +471,20 @@ pub record Makes (C : ℕ) (key : List ℕ) (sets : List (ℕ × List ℕ)) (way
     (place : ℕ) (stored : List ℕ) (columns logged : List (List ℕ)) (after : ArenaView) (left : LogView) : Type 0 where
   pub b : BorderView
   pub named : border_at a.nodes way.node.0 ≡ Some b
-  pub made : IsMade C key (PutEdit sets) way b place stored columns logged
+  pub made : IsMade C key sets way b place stored columns logged
   pub same : after ≡ a
   pub reserved : left ≡ with_room log
 
 -- a put of these sets
 abbrev pub SomeSets : Edit → (List (ℕ × List ℕ) → Type 0) → Type 0
-SomeSets (PutEdit sets) P = P sets
+SomeSets (PutEdit sets only) P = P sets
 SomeSets RemoveEdit P = ⊥
 
 -- A put is ready, or it fails. It has split its border already, into these halves, or not.
 abbrev pub Prepares : ℕ → List ℕ → List (ℕ × List ℕ) → Way → ArenaView → LogView → Option Halves → Stage → ArenaView
     → LogView → Type 0
 Prepares C key sets way a log split (Spared half cut entries) after left = (split ≡ None)
-    × Spares key sets way a half.0 cut entries after × (left ≡ log)
+    × Spares key way a half.0 cut entries after × (left ≡ log)
 Prepares C key sets way a log split (LayerSpared layer entries) after left = (split ≡ None)
     × LayerSpares key way a layer entries after × (left ≡ log)
 Prepares C key sets way a log split (Filled place stored logged halves) after left = (halves ≡ split)

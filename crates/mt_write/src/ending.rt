@@ -18,7 +18,7 @@ fn written(edit: &Edit, commit: u64) -> Answer
     ensures { result ≡ written_answer edit.now commit }
 {
     match edit {
-        Edit::Put(_) => Answer::Stored(commit),
+        Edit::Put { .. } => Answer::Stored(commit),
         Edit::Remove => Answer::Removed(commit),
     }
 }

@@ -9,10 +9,12 @@ ghost use Rattle.mt_border.specs.Entry.{entry_of_row};
 ghost use Rattle.mt_border.specs.declared.found.Found.TheVariants.{Absent as AbsentFound, Row as RowFound};
 ghost use Rattle.mt_word.specs.declared.permutation_word.TheConstants.{SLOTS};
 ghost use Rattle.mt_arena.specs.Node.{border_at};
-ghost use Rattle.mt_tree.specs.Descent.{IsLast, found_for};
+ghost use Rattle.mt_slice.specs.Place.{AreBytes};
+ghost use Rattle.mt_border.specs.Order.{IsBorder};
+ghost use Rattle.mt_tree.specs.Descent.{IsLast, found_for, row_found};
 ghost use Rattle.mt_steps.specs.Way.{rest_of};
 ghost use Rattle.mt_steps.specs.Step.{MayFail, columns_after};
-ghost use Rattle.mt_write.specs.Causes.{fill_fault, put_fault, remove_fault, ReadyFor, FailsBy, RemoveFailsBy};
+ghost use Rattle.mt_write.specs.Causes.{version_fault, fill_fault, put_fault, remove_fault, ReadyFor, FailsBy, RemoveFailsBy};
 ghost use Rattle.mt_write.specs.Writing.{FillsNew, Prepares, PreparesRemove, IsBack};
 
 use crate::columns::made_columns;
@@ -38,6 +40,24 @@ pub struct NewRow<'a> {
     pub key: &'a Key,
     pub sets: &'a Sets,
     pub way: Way,
+}
+
+// Why a put is refused that asks for a version, at the border that its call has locked: the row is of another one.
+pub fn other_version(tree: &Tree, way: Way, key: &Key, only: Option<u64>) -> Option<Refusal>
+    requires within { 8 * way.layer ≤ length key.now - 1 }
+    requires border { IsSome (border_at tree.now.nodes way.node.0) }
+    ensures fault { IsSomeAnd (border_at tree.now.nodes way.node.0)
+        (λ b. IsBorder b × (result ≡ version_fault only (row_found b.live (found_for (rest_of key.now way) b.live)))) }
+    ensures bytes { AreBytes key.now }
+{
+    let _sound = tree.border(way.node).len();
+    let rest = rest_of(key, way.layer);
+    let only = only?;
+    let found = match tree.find(way.node, rest) {
+        Found::Row(place) => row_at(tree.border(way.node), place).version,
+        Found::Absent(_) | Found::OtherSuffix(_) | Found::Link(_, _) => 0,
+    };
+    (found != only).then_some(Refusal::OtherVersion(found))
 }
 
 // The entry of a key with these columns, before its commit.

@@ -14,7 +14,7 @@ ghost use Rattle.mt_tree.specs.BorderSteps.{IsUpperHalf, LinksHalfAt};
 ghost use Rattle.mt_steps.specs.Way.{rest_of};
 ghost use Rattle.mt_steps.specs.Step.{MayFail};
 ghost use Rattle.mt_write.specs.Causes.{fill_fault, split_fault, ReadyFor, FailsBy};
-ghost use Rattle.mt_write.specs.Writing.{Prepares, IsBack, IsAbsent, IsHalf, SomeSets, IsHalfOf, MayStage};
+ghost use Rattle.mt_write.specs.Writing.{Prepares, IsBack, IsAbsent, IsHalf, PutsNew, SomeSets, IsHalfOf, MayStage};
 ghost use Rattle.mt_write.specs.Follows.{WriteStep, TreeStep, MayBeAt};
 
 use crate::ready::{NewRow, fill};
@@ -105,13 +105,14 @@ fn fill_half(
 ) -> Stage
     requires within { 8 * write.now.way.layer ≤ length write.now.key - 1 }
     requires half { IsSomeAnd (border_at tree.old.nodes write.now.way.node.0)
-        (IsHalf write.now.key write.now.edit write.now.way) }
+        (IsHalf write.now.key write.now.way) }
+    requires put { PutsNew write.now.edit }
     ensures fault { IsSomeAnd (border_at tree.old.nodes write.now.way.node.0)
         (λ b. FailsBy (fill_fault log.old b) (Some split) result) }
     ensures ready { SomeSets write.now.edit (λ sets.
         Prepares columns write.now.key sets write.now.way tree.old log.old (Some split) result tree.new log.new) }
 {
-    let Edit::Put(sets) = &write.edit else {
+    let Edit::Put { sets, .. } = &write.edit else {
         unreachable!();
     };
     let row = NewRow {

@@ -6,7 +6,7 @@ ghost use Rattle.mt_write.specs.Writing.{write_request, write_held, WriteIsTrue,
 ghost use Rattle.mt_write.specs.Causes.{WriteWaits, WriteFails};
 ghost use Rattle.mt_write.specs.Follows.{WriteStep, TreeStep, MayBeAt, WriteFollows, HeadFollows, PostsFollow};
 
-use crate::ready::{NewRow, prepare, prepare_remove};
+use crate::ready::{NewRow, other_version, prepare, prepare_remove};
 use mt_border::Entry;
 use mt_commit::log::Log;
 use mt_post::Posting;
@@ -25,8 +25,8 @@ use std::mem;
 /// What a write does to the row of its key.
 #[derive(Drop)]
 pub enum Edit {
-    /// It gives columns new bytes.
-    Put(Sets),
+    /// It gives columns new bytes; where `only` is a version, only if the row is of that one (0: there is none).
+    Put { sets: Sets, only: Option<u64> },
     /// It removes the row.
     Remove,
 }
@@ -183,7 +183,11 @@ impl Write {
     {
         let number = self.way.node;
         match &self.edit {
-            Edit::Put(sets) => {
+            Edit::Put { sets, only } => {
+                if let Some(refusal) = other_version(tree, self.way, &self.key, *only) {
+                    self.turn_to(Stage::Failed(refusal, None));
+                    return Progress::Moved;
+                }
                 let row = NewRow {
                     columns,
                     key: &self.key,

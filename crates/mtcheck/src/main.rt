@@ -27,8 +27,9 @@ Standard input has a line for each commit, from the first on, and behind them a 
   delta N KEY BEFORE AFTER         commit N changed the row of KEY: as `feed` of mtdrive prints it. A row is
                                    VERSION:VALUES, VALUES joined by commas, or `none`
   receipt FROM TO REQUEST => ANSWER   a call that began at FROM commits and ended at TO was answered so
-A REQUEST is `get KEY COLS`, `put KEY SETS`, `remove KEY` or `range START LIMIT COLS`; an ANSWER is what mtdrive
-prints behind `done FROM TO`. A page of a view is `view SPEC FLOOR START LIMIT` with `view AT COUNT SUMS K ROWS`.
+A REQUEST is `get KEY COLS`, `put KEY SETS`, `putif KEY VERSION SETS`, `remove KEY` or `range START LIMIT COLS`; an
+ANSWER is what mtdrive prints behind `done FROM TO`. A page of a view is `view SPEC FLOOR START LIMIT` with
+`view AT COUNT SUMS K ROWS`. What was refused gives no receipt.
 Keys and columns are hex, `-` is empty; COLS is `all` or numbers joined by commas, SETS is `-` or COL=BYTES
 joined by commas; a SPEC is `range LO HI TEST`, where HI is a key or `none`, or `prefix KEY TEST`; a TEST is
 `any`, `equals COL BYTES` or `atleast COL NUMBER`.

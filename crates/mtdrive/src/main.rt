@@ -34,10 +34,12 @@ Each line of standard input is one of
   drop VIEW            ends a view: `dropped` or a refusal
   advance, collect     the next epoch: `epoch N`; frees retired nodes: `freed N`
   feed FROM LIMIT      the commits after FROM, at most LIMIT: a line `delta N KEY BEFORE AFTER` for each, or a refusal
-A REQUEST is `get KEY COLS`, `put KEY SETS`, `remove KEY`, `range START LIMIT COLS`, `tidy KEY` or `build SPEC`.
-Keys and columns are hex, `-` is empty; COLS is `all` or numbers joined by commas, SETS is `-` or COL=BYTES
-joined by commas. A SPEC is `range LO HI TEST`, where HI is a key or `none`, or `prefix KEY TEST`; a TEST is `any`,
-`equals COL BYTES` or `atleast COL NUMBER`. Other lines print `bad line`.
+A REQUEST is `get KEY COLS`, `put KEY SETS`, `putif KEY VERSION SETS`, `remove KEY`, `range START LIMIT COLS`,
+`tidy KEY` or `build SPEC`. A `putif` puts only over a row of this version, where VERSION is 0 only over none; else it
+is refused, by `refused 16 N` where the row is of version N. Keys and columns are hex, `-` is empty; COLS is `all` or
+numbers joined by commas, SETS is `-` or COL=BYTES joined by commas. A SPEC is `range LO HI TEST`, where HI is a key
+or `none`, or `prefix KEY TEST`; a TEST is `any`, `equals COL BYTES` or `atleast COL NUMBER`. Other lines print
+`bad line`.
 
 The status is 0; 1 where a line was bad; 2 for a bad command line; 3 where reading or writing failed.";
 

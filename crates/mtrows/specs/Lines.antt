@@ -5,16 +5,17 @@ use Rattle.mt_types.specs.RefusalNumbers.{refusal_number}
 use Rattle.mt_types.specs.declared.refusal.Refusal.{Refusal}
 use Rattle.mt_types.specs.declared.row.Change.TheVariants.{Put as PutChange, Drop as DropChange}
 use Rattle.mt_types.specs.declared.event.Request.{Request}
-use Rattle.mt_types.specs.declared.event.Request.TheVariants.{Get, Put, Remove, Range, Tidy, Build}
+use Rattle.mt_types.specs.declared.event.Request.TheVariants.{Get, Put, PutIf, Remove, Range, Tidy, Build}
 use Rattle.mt_drive.specs.Reading.{request_of}
 use Rattle.mtrows.specs.declared.Line.{Line}
 use Rattle.mtrows.specs.declared.Line.TheVariants.{Says, Refused, Bad}
 
--- the change that a request asks for: only puts and removes do
+-- the change that a request asks for: only puts and removes do; what a conditional put does depends on the rows
 abbrev pub change_said : Request → Line
 change_said (Put key sets) = Says (PutChange key sets)
 change_said (Remove key) = Says (DropChange key)
 change_said (Get key columns) = Bad
+change_said (PutIf key sets version) = Bad
 change_said (Range start limit columns) = Bad
 change_said (Tidy key) = Bad
 change_said (Build spec) = Bad

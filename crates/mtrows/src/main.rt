@@ -25,7 +25,7 @@ enum Line {
     Bad,
 }
 
-// The change that a request asks for, if it asks for one.
+// The change that a request asks for, if it asks for one. A conditional put is none: what it does depends on the rows.
 fn change_of(request: Request) -> Result<Line>
     ensures { IfOk result (λ line. line ≡ change_said request) }
 {

@@ -15,7 +15,7 @@ use Rattle.rowanspan_c.specs.declared.status.TheConstants.{DONE, ABSENT, NO_ROOM
 abbrev pub Tells : ℕ → ℕ → ℕ → ℕ → Type 0
 Tells status number told_status told = (told_status ≡ status) × (told ≡ number)
 
--- a refusal: its number, and the number of commits that goes with it, or 0
+-- a refusal: its number, and the number of a commit that goes with it, or 0
 abbrev pub TellsRefusal : Refusal → ℕ → ℕ → Type 0
 TellsRefusal refusal status told = Tells (refusal_number refusal) (unwrap_or (refusal_detail refusal) 0) status told
 

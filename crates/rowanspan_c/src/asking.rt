@@ -2,7 +2,7 @@
 
 ghost use Rattle.std.specs.Prelude.{◌≡◌, IfOk};
 ghost use Rattle.std.specs.Prelude.{Some as SomeOf, None as NoneOf};
-ghost use Rattle.mt_types.specs.declared.event.Request.TheVariants.{Put, Build};
+ghost use Rattle.mt_types.specs.declared.event.Request.TheVariants.{Put, PutIf, Build};
 ghost use Rattle.mt_types.specs.declared.view.ViewSpec.TheVariants.{Range as RangeOf, Prefix as PrefixOf};
 ghost use Rattle.rowanspan_c.specs.Calls.{sets_of, test_of};
 ghost use Rattle.rowanspan_c.specs.declared.reading.Question.TheVariants.{Row as RowOf, Rows as RowsOf, Page as PageOf};
@@ -65,6 +65,20 @@ pub(crate) fn put_request(
     let key = Bytes::copy_from_slice(alloc, key)?;
     let sets = sets_of(alloc, sets)?;
     Ok(Request::Put { key, sets })
+}
+
+/// A put over a row of this version alone; 0: over none. Copies the bytes.
+pub(crate) fn put_if_request(
+    alloc: Global,
+    key: &[u8],
+    sets: &[ColumnSet],
+    version: u64,
+) -> Result<Request, NoMemory>
+    ensures { IfOk result (λ request. request ≡ PutIf key.now (sets_of sets.now) version) }
+{
+    let key = Bytes::copy_from_slice(alloc, key)?;
+    let sets = sets_of(alloc, sets)?;
+    Ok(Request::PutIf { key, sets, version })
 }
 
 /// A remove. Copies the bytes.

@@ -3,7 +3,7 @@
 //! The header, `include/rowanspan.h`, says of each what it does, what it costs and when it is refused.
 
 ghost use Rattle.std.specs.Prelude.{◌≡◌, ◌<◌, ◌≤◌, MatchResult, OnOk, Some as SomeOf, None as NoneOf};
-ghost use Rattle.mt_types.specs.declared.event.Request.TheVariants.{Put, Remove, Tidy, Build};
+ghost use Rattle.mt_types.specs.declared.event.Request.TheVariants.{Put, PutIf, Remove, Tidy, Build};
 ghost use Rattle.mt_types.specs.declared.event.Event.TheVariants.{Apply, ViewDrop, Advance, Collect};
 ghost use Rattle.mt_types.specs.declared.view.ViewSpec.TheVariants.{Range as RangeOf, Prefix as PrefixOf};
 ghost use Rattle.mt_types.specs.Limits.{open_fault};
@@ -17,8 +17,8 @@ ghost use Rattle.rowanspan_c.specs.Told.{Tells};
 ghost use Rattle.rowanspan_c.specs.Calls.{Opens, Changes, Reads, Meets, Counts, close_status, greatest_kind, sets_of, test_of};
 
 use crate::asking::{
-    ColumnSet, ViewTest, between_request, from_request, page_question, prefix_request, put_request,
-    remove_request, row_question, rows_question, tidy_request,
+    ColumnSet, ViewTest, between_request, from_request, page_question, prefix_request,
+    put_if_request, put_request, remove_request, row_question, rows_question, tidy_request,
 };
 use crate::changing::{answer, change, meet};
 use crate::handle::Handle;
@@ -100,6 +100,26 @@ pub extern "C" fn rowanspan_raw_put<'a>(
     ensures { Changes handle.old.held (Put key.now (sets_of sets.now)) handle.new.held result told.new }
 {
     change(handle, alloc, put_request(alloc, key, sets), told)
+}
+
+/// Sets columns of a key's row, where that is of this version.
+#[unsafe(no_mangle)]
+pub extern "C" fn rowanspan_raw_put_if<'a>(
+    handle: &mut Handle,
+    alloc: Global,
+    key: &[u8],
+    sets: &[ColumnSet<'a>],
+    version: u64,
+    told: &mut u64,
+) -> u16
+    ensures { Changes handle.old.held (PutIf key.now (sets_of sets.now) version) handle.new.held result told.new }
+{
+    change(
+        handle,
+        alloc,
+        put_if_request(alloc, key, sets, version),
+        told,
+    )
 }
 
 /// Ends a key's row.

@@ -5,12 +5,12 @@ use Rattle.mt_serve.specs.Sources.{frames_rest, frames_left}
 use Rattle.mt_serve.proofs.ServingLemmas.{Serving}
 use Rattle.mt_serve.proofs.session.session.Given as goal
 
-abbrev pub invariant-loop-frame : goal.invariant-loop-frame
-invariant-loop-frame g l = record {
+abbrev pub invariant-loop-out : goal.invariant-loop-out
+invariant-loop-out g l = record {
   serving : Serving g.S.Shared.does l.fn.shared l.fn.pass (frames_rest g.R.Read.remaining l.fn.reader) (g.W.Write.contents (sink_writer l.fn.writer)) l.summary
       (frames_rest g.R.Read.remaining l.reader) (g.W.Write.contents (sink_writer l.writer)) l.shared l.pass;
   few : l.summary.frames + frames_left l.reader ≤ MOST_FRAMES;
 }
 
-abbrev pub decreases-loop-frame : goal.decreases-loop-frame
-decreases-loop-frame g l = frames_left l.reader
+abbrev pub decreases-loop-out : goal.decreases-loop-out
+decreases-loop-out g l = frames_left l.reader

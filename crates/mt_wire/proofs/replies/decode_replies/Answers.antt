@@ -6,13 +6,13 @@ use Rattle.mt_wire.proofs.replies.decode_replies.Goals as goal
 
 pub returns-clause-found : goal.returns-clause-found
 returns-clause-found c =
-    let is : IsOneFrame MAX_REPLY_BODY c.args.frame.now = subst (λ (bytes : List ℕ). IsOneFrame MAX_REPLY_BODY bytes) c.as_slice.ensures (c.if-not-is_one_frame.ensures.0 (search rules)) in
-    found_replies c.args.frame.now c.frame.result c.frame.ensures.bytes is c.frame.ensures.read
+    let is : IsOneFrame MAX_REPLY_BODY c.args.bytes.now = subst (λ (x : List ℕ). IsOneFrame MAX_REPLY_BODY x) c.as_slice.ensures (c.if-not-is_one_frame.ensures.0 (search rules)) in
+    found_replies c.args.bytes.now c.frame.result c.frame.ensures.bytes is c.frame.ensures.read
 
 pub returns-clause-only : goal.returns-clause-only
-returns-clause-only c = only_replies c.args.frame.now c.frame.result c.frame.ensures.read
+returns-clause-only c = only_replies c.args.bytes.now c.frame.result c.frame.ensures.read
 
 pub returns-clause-fault : goal.returns-clause-fault
 returns-clause-fault c =
-    let is : IsOneFrame MAX_REPLY_BODY c.args.frame.now = subst (λ (bytes : List ℕ). IsOneFrame MAX_REPLY_BODY bytes) c.as_slice.ensures (c.if-not-is_one_frame.ensures.0 (search rules)) in
-    reply_fault c.args.frame.now c.frame.result is c.frame.ensures.read
+    let is : IsOneFrame MAX_REPLY_BODY c.args.bytes.now = subst (λ (x : List ℕ). IsOneFrame MAX_REPLY_BODY x) c.as_slice.ensures (c.if-not-is_one_frame.ensures.0 (search rules)) in
+    reply_fault c.args.bytes.now c.frame.result is c.frame.ensures.read

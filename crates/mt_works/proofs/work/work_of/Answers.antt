@@ -7,6 +7,9 @@ returns-in_ok-key_of-in-Get-clause-new c = new_get c.args.columns c.args.number 
 pub returns-in_ok-key_of-in-Put-clause-new : goal.returns-in_ok-key_of-in-Put-clause-new
 returns-in_ok-key_of-in-Put-clause-new c = c.new_write.ensures.new c.args.columns c.args.number
 
+pub returns-in_ok-key_of-in-PutIf-clause-new : goal.returns-in_ok-key_of-in-PutIf-clause-new
+returns-in_ok-key_of-in-PutIf-clause-new c = c.new_write-in-PutIf.ensures.new c.args.columns c.args.number
+
 pub returns-in_ok-key_of-in-Remove-clause-new : goal.returns-in_ok-key_of-in-Remove-clause-new
 returns-in_ok-key_of-in-Remove-clause-new c = c.new_write-in-Remove.ensures.new c.args.columns c.args.number
 

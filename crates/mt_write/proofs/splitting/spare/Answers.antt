@@ -22,8 +22,6 @@ returns-clause-ready c = λ C log.
           is_middle = c.entry.ensures.value;
           unspent = c.is_split_spent.ensures.left.0 c.if-is_split_spent.false;
           absent = full.1;
-          sets = c.args.row.now.sets.now;
-          is_put = refl;
         };
         occupied = record {
           vacant = c.in_ok-half.ensures.vacant;

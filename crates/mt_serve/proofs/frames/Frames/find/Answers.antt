@@ -4,8 +4,8 @@ use Rattle.mt_serve.specs.Sources.{frames_rest}
 use Rattle.mt_serve.proofs.SourceLemmas.{fault_at}
 use Rattle.mt_serve.proofs.frames.Frames.find.Goals as goal
 
-pub returns-in_err-queries-clause-fault : goal.returns-in_err-queries-clause-fault
-returns-in_err-queries-clause-fault g c =
+pub returns-in_err-frame-clause-fault : goal.returns-in_err-frame-clause-fault
+returns-in_err-frame-clause-fault g c =
     let p = err_from_is_err_and c.from_residual.result c.from_residual.ensures.1 in
-    rw (p.1, p.2) (fault_at c.in_err-queries.field-0.0 c.loop-queries.self.decoder.bytes (g.R.Read.remaining (counted_reader c.loop-queries.self.reader)) (frames_rest g.R.Read.remaining c.args.self.now)
-    c.a_fault_stays.ensures (λ other. (c.in_err-queries.ensures.fault other).0) c.loop-queries.invariant.rest)
+    rw (p.1, p.2) (fault_at c.in_err-frame.field-0.0 c.loop-frame.self.decoder.bytes (g.R.Read.remaining (counted_reader c.loop-frame.self.reader)) (frames_rest g.R.Read.remaining c.args.self.now)
+    c.a_fault_stays.ensures (λ other. (c.in_err-frame.ensures.fault other).0) c.loop-frame.invariant.rest)

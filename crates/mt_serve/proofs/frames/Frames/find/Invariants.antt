@@ -5,11 +5,11 @@ use Rattle.mt_serve.specs.Sources.{frames_rest}
 use Rattle.mt_serve.proofs.frames.Frames.find.Given as goal
 
 -- nothing is taken off so far
-abbrev pub invariant-loop-queries : goal.invariant-loop-queries
-invariant-loop-queries g l = record {
+abbrev pub invariant-loop-frame : goal.invariant-loop-frame
+invariant-loop-frame g l = record {
   rest : Keeps (frames_rest g.R.Read.remaining l.fn.self) (frames_rest g.R.Read.remaining l.self);
   left : l.self.left ≡ l.fn.self.left;
 }
 
-abbrev pub decreases-loop-queries : goal.decreases-loop-queries
-decreases-loop-queries g l = calls_left l.self.reader
+abbrev pub decreases-loop-frame : goal.decreases-loop-frame
+decreases-loop-frame g l = calls_left l.self.reader

@@ -1,0 +1,62 @@
+//! The versions of the wire.
+
+ghost use Rattle.std.specs.Prelude.{◌≡◌, ◌↔◌, IsTrue};
+ghost use Rattle.std.specs.List.{AllByRecursion};
+ghost use Rattle.mt_wire.specs.Versions.{version_byte, version_of, HasQuery};
+
+use crate::query::Query;
+use mt_types::event::Request;
+
+/// A version of the wire. A frame of answers has that of the queries that it answers.
+#[derive(Clone, Copy, Debug, PartialEq, Eq)]
+pub enum WireVersion {
+    /// Each query but the conditional put.
+    One,
+    /// Each query.
+    Two,
+}
+
+impl WireVersion {
+    /// The version that the first byte of a body tells.
+    pub fn of(byte: u8) -> Option<WireVersion>
+        ensures { result ≡ version_of byte }
+    {
+        match byte {
+            1 => Some(WireVersion::One),
+            2 => Some(WireVersion::Two),
+            _ => None,
+        }
+    }
+
+    /// The first byte of a body of this version.
+    pub fn byte(self) -> u8
+        ensures { result ≡ version_byte self }
+    {
+        match self {
+            WireVersion::One => 1,
+            WireVersion::Two => 2,
+        }
+    }
+
+    /// Whether this version has such a query.
+    pub fn has(self, query: &Query) -> bool
+        ensures { IsTrue result ↔ HasQuery self query.now }
+    {
+        match (self, query) {
+            (WireVersion::One, Query::Call(Request::PutIf { .. })) => false,
+            _ => true,
+        }
+    }
+
+    /// Whether this version has each of these queries.
+    pub fn has_all(self, queries: &[Query]) -> bool
+        ensures { IsTrue result ↔ AllByRecursion (HasQuery self) queries.now }
+    {
+        for query in queries {
+            if !self.has(query) {
+                return false;
+            }
+        }
+        true
+    }
+}
