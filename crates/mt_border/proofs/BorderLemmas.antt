@@ -2,7 +2,7 @@
 use Rattle.std.proofs.Common.{◌≡◌, ℕ, zero, suc, ◌-◌, ◌^◌, ◌<◌, ◌≤◌, List, [], ◌∷◌, ◌++◌, length, take, drop, map, get_or, refl, sym, ap, ◌∙◌, arith, length-append, subst, Option, Some, None, IsSome, Bool, true, false, slice_get}
 use Rattle.std.specs.List.{All, AllPairs, remove}
 use Rattle.std.proofs.lemmas.Option.{get_or_from_slice_get}
-use Rattle.std.proofs.lemmas.List.{length-map, get_or-map, get_or-take, length-take-le, length-drop, map-append, take-map, drop-map}
+use Rattle.std.proofs.lemmas.List.{length-map, get_or-map, get_or-take, length-take-le, length-drop}
 use Rattle.std.proofs.lemmas.List.Edits.{length-remove}
 use Rattle.std.proofs.lemmas.List.Elements.{All-take, All-drop, All-append, All-map}
 use Rattle.std.proofs.lemmas.List.Quantifiers.{all_pairs_remove}
@@ -10,9 +10,10 @@ use Rattle.mt_types.specs.declared.row.Row.{Row}
 use Rattle.mt_types.specs.declared.numbers.NodeNo.{NodeNo}
 use Rattle.mt_word.specs.Version.{VersionView, IsVersion}
 use Rattle.mt_border.specs.Entry.{entry_rank, IsEntry, IsContent, with_row, with_link, content_with_row, content_class, entry_suffix}
-use Rattle.mt_border.specs.Table.{first_changed, changed_at}
-use Rattle.mt_border.specs.Border.{BorderView, entries_of, left_slot, left_slots, first_held, first_suffix, filled_version, with_filled, with_hidden, with_value, with_link_at, with_split}
-use Rattle.mt_border.specs.Order.{IsBorder, IsOrdered, AreEntries, HoldEntries, AreBelow, IsLeftOf, AllHeldKeys}
+use Rattle.mt_border.specs.Table.{first_changed, changed_at, left_slot, left_slots, number_at, slot_changed, with_entry, filled}
+use Rattle.mt_border.specs.Border.{BorderView, entries_of, first_held, first_suffix, filled_version, with_filled, with_hidden, with_value, with_link_at, with_split}
+use Rattle.mt_border.specs.Order.{IsBorder, IsOrdered, AreEntries, HoldEntries, AreBelow, IsLeftOf}
+use Rattle.mt_border.proofs.SlotLemmas.{seen_changed, seen_hidden, seen_filled, seen_split}
 use Rattle.mt_border.specs.declared.entry.Entry.{Entry}
 use Rattle.mt_border.specs.declared.entry.Content.{Content}
 use Rattle.mt_border.specs.declared.entry.Content.TheVariants.{Short, Long, Link}
@@ -31,45 +32,6 @@ suffix_there zero [] entry e some = absurd (cc)
 suffix_there (suc i) [] entry e some = absurd (cc)
 suffix_there zero (x ∷ xs) entry e some = let same : entry ≡ x = cc in subst (λ (y : Entry). IsSome (entry_suffix y)) same some
 suffix_there (suc i) (x ∷ xs) entry e some = suffix_there i xs entry e some
-
--- The slots that held a key.
-pub AllHeldKeys-take : (i : ℕ) (xs : List Slot) → AllHeldKeys xs → AllHeldKeys (take i xs)
-AllHeldKeys-take zero xs h = tt
-AllHeldKeys-take (suc i) [] h = tt
-AllHeldKeys-take (suc i) (x ∷ xs) h = (h.0, AllHeldKeys-take i xs h.1)
-
-pub AllHeldKeys-drop : (i : ℕ) (xs : List Slot) → AllHeldKeys xs → AllHeldKeys (drop i xs)
-AllHeldKeys-drop zero xs h = h
-AllHeldKeys-drop (suc i) [] h = tt
-AllHeldKeys-drop (suc i) (x ∷ xs) h = AllHeldKeys-drop i xs h.1
-
-pub AllHeldKeys-append : (xs ys : List Slot) → AllHeldKeys xs → AllHeldKeys ys → AllHeldKeys (xs ++ ys)
-AllHeldKeys-append [] ys h k = k
-AllHeldKeys-append (x ∷ xs) ys h k = (h.0, AllHeldKeys-append xs ys h.1 k)
-
-pub left_slots-entries_of : (xs : List Slot) → AllHeldKeys xs → left_slots (entries_of xs) ≡ xs
-left_slots-entries_of [] h = refl
-left_slots-entries_of (x ∷ xs) h =
-    ap (λ (b : Bool). record { entry = x.entry; held_key = b } ∷ left_slots (entries_of xs)) (sym h.0) ∙ ap (λ (t : List Slot). x ∷ t) (left_slots-entries_of xs h.1)
-
-AllHeldKeys-first_changed : (g : Entry → Entry) (xs : List Slot) → AllHeldKeys xs → AllHeldKeys (first_changed (λ slot. record slot { entry = g slot.entry }) xs)
-AllHeldKeys-first_changed g [] h = tt
-AllHeldKeys-first_changed g (x ∷ xs) h = h
-
-pub AllHeldKeys-changed_at : (i : ℕ) (g : Entry → Entry) (xs : List Slot) → AllHeldKeys xs → AllHeldKeys (changed_at i (λ slot. record slot { entry = g slot.entry }) xs)
-AllHeldKeys-changed_at i g xs h =
-    AllHeldKeys-append (take i xs) (first_changed (λ slot. record slot { entry = g slot.entry }) (drop i xs)) (AllHeldKeys-take i xs h) (AllHeldKeys-first_changed g (drop i xs) (AllHeldKeys-drop i xs h))
-
--- The entries of slots.
-entries_of-first_changed : (g : Entry → Entry) (xs : List Slot) → entries_of (first_changed (λ slot. record slot { entry = g slot.entry }) xs) ≡ first_changed g (entries_of xs)
-entries_of-first_changed g [] = refl
-entries_of-first_changed g (x ∷ xs) = refl
-
-pub entries_of-changed_at : (i : ℕ) (g : Entry → Entry) (xs : List Slot) → entries_of (changed_at i (λ slot. record slot { entry = g slot.entry }) xs) ≡ changed_at i g (entries_of xs)
-entries_of-changed_at i g xs =
-    let f : Slot → Slot = λ slot. record slot { entry = g slot.entry } in
-    let rest : entries_of (first_changed f (drop i xs)) ≡ first_changed g (drop i (entries_of xs)) = entries_of-first_changed g (drop i xs) ∙ ap (λ (t : List Entry). first_changed g t) (sym (drop-map (λ (slot : Slot). slot.entry) i xs)) in
-    rw (map-append (λ (slot : Slot). slot.entry) (take i xs) (first_changed f (drop i xs)), rest) (simp take-map)
 
 -- What holds of entries.
 pub ordered_take : (live : List Entry) (k : ℕ) → k ≤ length live → IsOrdered live → IsOrdered (take k live)
@@ -148,8 +110,9 @@ nothing_deleted : {X : Type 0} (xs : List X) (i : ℕ) → i < length xs → xs 
 nothing_deleted xs i h e = omega (arith, ap (λ (t : List _). length t) e)
 
 -- The border after each call.
-pub border_changed : (b : BorderView) (i : ℕ) (f : Entry → Entry) → i < length b.live → ((e : Entry) → (f e).slice ≡ e.slice) → ((e : Entry) → IsEntry e → IsEntry (f e)) → map entry_rank (changed_at i f b.live) ≡ map entry_rank b.live → IsBorder b → IsBorder (record b { live = changed_at i f b.live })
+pub border_changed : (b : BorderView) (i : ℕ) (f : Entry → Entry) → i < length b.live → ((e : Entry) → (f e).slice ≡ e.slice) → ((e : Entry) → IsEntry e → IsEntry (f e)) → map entry_rank (changed_at i f b.live) ≡ map entry_rank b.live → IsBorder b → IsBorder (record b { live = changed_at i f b.live; slots = slot_changed (number_at i b.order) (with_entry f) b.slots })
 border_changed b i f within slices whole ranks h = record {
+  seen = seen_changed b.live b.unused b.slots b.order h.seen i f within;
   slots = rw (length-changed_at i f b.live) h.slots;
   low_fits = h.low_fits;
   ordered = ordered_by_ranks _ b.live ranks h.ordered;
@@ -185,6 +148,7 @@ length-first (x ∷ xs) (suc i) h = length-first xs i (omega arith)
 
 pub border_hidden : (b : BorderView) (i : ℕ) → i < length b.live → IsBorder b → IsBorder (with_hidden b i)
 border_hidden b i within h = record {
+  seen = seen_hidden b.live b.unused b.slots b.order h.seen i;
   slots = omega (arith, h.slots, length-remove b.live i within, length-append (left_slots (take 1 (drop i b.live))) b.unused, length-map (take 1 (drop i b.live)) left_slot, length-first b.live i within);
   low_fits = h.low_fits;
   ordered = ordered_remove b.live i within h.ordered;
@@ -206,11 +170,11 @@ filled_border : (held : Bool) (v : VersionView) → (filled_version held v).bord
 filled_border true v = refl
 filled_border false v = refl
 
-hold_filled : (entry : Entry) (slots : List Slot) → IsEntry entry → HoldEntries slots → HoldEntries (first_changed (λ slot. record slot { entry = entry }) slots)
+hold_filled : (entry : Entry) (slots : List Slot) → IsEntry entry → HoldEntries slots → HoldEntries (first_changed (filled entry) slots)
 hold_filled entry [] g h = h
 hold_filled entry (slot ∷ slots) g h = record { each = holds }
   where
-    holds : All (λ (s : Slot). IsEntry s.entry) (record slot { entry = entry } ∷ slots)
+    holds : All (λ (s : Slot). IsEntry s.entry) (filled entry slot ∷ slots)
     holds zero d within = g
     holds (suc k) d within = h.each (suc k) d within
 
@@ -218,9 +182,10 @@ length-first_changed : {X : Type 0} (f : X → X) (xs : List X) → length (firs
 length-first_changed f [] = refl
 length-first_changed f (x ∷ xs) = refl
 
-pub border_filled : (b : BorderView) (entry : Entry) → IsEntry entry → IsVersion (filled_version (first_held b.unused) b.version) → IsBorder b → IsBorder (with_filled b entry)
-border_filled b entry g counters h = record {
-  slots = rw (length-first_changed (λ (slot : Slot). record slot { entry = entry }) b.unused) h.slots;
+pub border_filled : (b : BorderView) (entry : Entry) → length b.live < 15 → IsEntry entry → IsVersion (filled_version (first_held b.unused) b.version) → IsBorder b → IsBorder (with_filled b entry)
+border_filled b entry room g counters h = record {
+  seen = seen_filled b.live b.unused b.slots b.order h.seen entry room;
+  slots = rw (length-first_changed (filled entry) b.unused) h.slots;
   low_fits = h.low_fits;
   ordered = h.ordered;
   entries = h.entries;
@@ -238,6 +203,7 @@ take_none (suc k) xs e = ap (λ (t : List Entry). take (suc k) t) e
 
 pub border_split : (b : BorderView) (keep : ℕ) (right : RightLink) → keep ≤ length b.live → b.low < right.low → AreBelow right.low (take keep b.live) → b.version.vsplit < 2 ^ 64 - 1 → IsBorder b → IsBorder (with_split b keep right)
 border_split b keep right within above below unspent h = record {
+  seen = seen_split b.live b.unused b.slots b.order h.seen keep;
   slots = omega (arith, h.slots, length-take-le keep b.live within, length-drop keep b.live, length-append (left_slots (drop keep b.live)) b.unused, length-map (drop keep b.live) left_slot);
   low_fits = h.low_fits;
   ordered = ordered_take b.live keep within h.ordered;

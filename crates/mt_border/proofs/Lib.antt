@@ -1,5 +1,7 @@
 -- Lemmas of this crate.
 pub mod TableLemmas
+pub mod ArrangedLemmas
+pub mod SlotLemmas
 pub mod FindLemmas
 pub mod BorderLemmas
 pub mod SeenLemmas

@@ -12,11 +12,13 @@ use Rattle.std.specs.Cmp.Lexicographic.{pointwise}
 use Rattle.mt_slice.specs.declared.slice_class.Class.{Class}
 use Rattle.mt_border.specs.Entry.{entry_rank, rank_at, IsEntry, IsContent, entry_class, at_version, content_at_version, content_class, content_row, content_of, entry_row}
 use Rattle.mt_border.specs.Border.{BorderView, with_shown, with_filled, first_held, next_row}
-use Rattle.mt_border.specs.Table.{first_changed}
+use Rattle.mt_border.specs.Table.{first_changed, filled, shown, slot_changed, next_number}
+use Rattle.mt_word.specs.Slots.{with_first_unused_at}
+use Rattle.mt_border.proofs.SlotLemmas.{seen_shown}
 use Rattle.mt_border.proofs.BorderLemmas.{filled_deleted}
 use Rattle.mt_types.specs.declared.row.Row.{Row}
 use Rattle.mt_slice.specs.declared.slice_class.Class.TheVariants.{Len, Long as LongClass}
-use Rattle.mt_border.specs.Order.{IsBorder, IsOrdered, IsLeftOf, HoldEntries}
+use Rattle.mt_border.specs.Order.{IsBorder, IsOrdered, IsLeftOf, HoldEntries, AreInSlots}
 use Rattle.mt_border.specs.Find.{entries_before, found_first, found_in, found_content}
 use Rattle.mt_border.specs.declared.entry.Entry.{Entry}
 use Rattle.mt_border.specs.declared.entry.Content.{Content}
@@ -151,15 +153,18 @@ left_inserted low i live x (Some link) h left = (left.0, record { each = All-ins
 pub border_shown : (b : BorderView) (slot : Slot) (rest : List Slot) (i version : ℕ) → b.unused ≡ slot ∷ rest → b.version.deleted ≡ false → IsBetween (entry_rank slot.entry) i b.live → b.low ≤ slot.entry.slice → IsBeforeRight slot.entry.slice b.right → IsBorder b → IsBorder (with_shown b i version)
 border_shown b slot rest i version e here between low right h =
     let x : Entry = at_version version slot.entry in
-    let shown : with_shown b i version ≡ record b { live = take i b.live ++ (x ∷ drop i b.live); unused = rest } =
-    ap (λ (u : List Slot). record b { live = take i b.live ++ (map (λ (s : Slot). at_version version s.entry) (take 1 u) ++ drop i b.live); unused = drop 1 u }) e in
+    let shown_is : with_shown b i version ≡ record (with_shown b i version) { live = take i b.live ++ (x ∷ drop i b.live); unused = rest } =
+    ap (λ (u : List Slot). record (with_shown b i version) { live = take i b.live ++ (map (λ (s : Slot). at_version version s.entry) (take 1 u) ++ drop i b.live); unused = drop 1 u }) e in
     let rank : entry_rank x ≡ entry_rank slot.entry = ap (λ (c : Class). rank_at slot.entry.slice c) (class_at_version version slot.entry.content) in
     let held : HoldEntries (slot ∷ rest) = subst HoldEntries e h.held_back in
     let own : IsEntry slot.entry = held.each 0 slot (omega arith) in
     let whole : IsEntry x = record { slice_fits = own.slice_fits; content = content_whole version slot.entry.content own.content } in
     let long : length (take i b.live ++ (x ∷ drop i b.live)) ≡ length b.live + 1 = length-insert b.live i x between.within in
     let unused : length b.unused ≡ suc (length rest) = ap (λ (u : List Slot). length u) e in
-    subst IsBorder (sym shown) (record {
+    let seen : AreInSlots (take i b.live ++ (x ∷ drop i b.live)) rest (slot_changed (next_number b.order) (shown version) b.slots) (with_first_unused_at b.order i) =
+    subst (λ (u : List Slot). AreInSlots (take i b.live ++ (map (λ (s : Slot). at_version version s.entry) (take 1 u) ++ drop i b.live)) (drop 1 u) (slot_changed (next_number b.order) (shown version) b.slots) (with_first_unused_at b.order i)) e (seen_shown b.live b.unused b.slots b.order i version h.seen (omega (arith, h.slots, unused))) in
+    subst IsBorder (sym shown_is) (record {
+      seen = seen;
       slots = omega (arith, h.slots, long, unused);
       low_fits = h.low_fits;
       ordered = record { pairs = inserted_pairs b.live i x between.within h.ordered (λ k d l. rw rank (between.below k d l)) (λ k d u w. rw rank (between.above k d u w)) };
@@ -174,17 +179,17 @@ border_shown b slot rest i version e here between low right h =
 
 -- what was filled in may be shown where a search did not find it
 pub filled_shown : (b : BorderView) (entry : Entry) (suffix : List ℕ) (i version : ℕ) → length b.live < 15 → b.version.deleted ≡ false → found_in entry.slice (entry_class entry) suffix b.live ≡ Absent i → b.low ≤ entry.slice → IsBeforeRight entry.slice b.right → IsBorder b → IsBorder (with_filled b entry) → IsBorder (with_shown (with_filled b entry) i version)
-filled_shown b entry suffix i version room here absent low right h filled = go b.unused refl
+filled_shown b entry suffix i version room here absent low right h whole = go b.unused refl
   where
     go : (unused : List Slot) → b.unused ≡ unused → IsBorder (with_shown (with_filled b entry) i version)
     go [] e = absurd (let none : length b.unused ≡ 0 = ap (λ (u : List Slot). length u) e in omega (arith, h.slots, none))
     go (slot ∷ rest) e =
-        border_shown (with_filled b entry) (record slot { entry = entry }) rest i version (ap (λ (u : List Slot). first_changed (λ (s : Slot). record s { entry = entry }) u) e) (filled_deleted (first_held b.unused) b.version ∙ here) (between_from_absent entry.slice (entry_class entry) suffix b.live i h.ordered absent) low right filled
+        border_shown (with_filled b entry) (filled entry slot) rest i version (ap (λ (u : List Slot). first_changed (filled entry) u) e) (filled_deleted (first_held b.unused) b.version ∙ here) (between_from_absent entry.slice (entry_class entry) suffix b.live i h.ordered absent) low right whole
 
 pub filled_row : (b : BorderView) (entry : Entry) → length b.live < 15 → IsSome (entry_row entry) → IsBorder b → IsSome (next_row (with_filled b entry).unused)
 filled_row b entry room row h = go b.unused refl
   where
-    go : (unused : List Slot) → b.unused ≡ unused → IsSome (next_row (first_changed (λ slot. record slot { entry = entry }) b.unused))
+    go : (unused : List Slot) → b.unused ≡ unused → IsSome (next_row (first_changed (filled entry) b.unused))
     go [] e = absurd (let none : length b.unused ≡ 0 = ap (λ (u : List Slot). length u) e in omega (arith, h.slots, none))
     go (slot ∷ rest) e = rw e row
 

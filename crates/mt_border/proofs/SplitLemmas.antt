@@ -7,6 +7,7 @@ use Rattle.std.proofs.lemmas.List.Elements.{All-drop, All-replicate}
 use Rattle.mt_slice.specs.Classes.{class_number}
 use Rattle.mt_border.specs.Entry.{entry_rank, content_class, IsEntry}
 use Rattle.mt_border.specs.Table.{blank_slot}
+use Rattle.mt_border.proofs.SlotLemmas.{new_entries_seen}
 use Rattle.mt_border.specs.Border.{BorderView, new_border, with_entries}
 use Rattle.mt_border.specs.Order.{IsBorder, IsOrdered, AreEntries, AreFrom, AreBelow, IsLeftOf}
 use Rattle.mt_border.specs.Cut.{IsCut, slices}
@@ -83,6 +84,7 @@ cut_upper b i first locked h full cut there =
     let inside : i < length b.live = omega (arith, full, cut.last) in
     let blanks : List Slot = replicate 15 blank_slot in
     record {
+      seen = new_entries_seen (drop i b.live) (omega (arith, length-drop i b.live, full));
       slots = omega (arith, full, inside, length-drop i b.live, length-drop (length (drop i b.live)) blanks, length-replicate 15 blank_slot);
       low_fits = subst (λ (e : Entry). e.slice < 2 ^ 64) (get_or_from_slice_get b.live i first first there) (h.entries.each i first inside).slice_fits;
       ordered = ordered_drop b.live i h.ordered;

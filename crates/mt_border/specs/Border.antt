@@ -5,16 +5,18 @@ use Rattle.std.specs.List.{remove}
 use Rattle.mt_types.specs.declared.row.Row.{Row}
 use Rattle.mt_types.specs.declared.numbers.NodeNo.{NodeNo}
 use Rattle.mt_word.specs.Version.{VersionView}
+use Rattle.mt_word.specs.Slots.{Slots, with_first_unused_at, without_place, with_first}
 use Rattle.mt_word.specs.declared.permutation_word.TheConstants.{SLOTS}
 use Rattle.mt_word.specs.declared.version_word.TheConstants.{MAX_INSERTS}
 use Rattle.mt_border.specs.Entry.{entry_row, entry_suffix, at_version, with_row, with_link}
-use Rattle.mt_border.specs.Table.{TableView, blank_slot, first_changed, changed_at}
+use Rattle.mt_border.specs.Table.{TableView, blank_slot, live_slots, unused_slots, none_live, number_at, next_number, slot_changed, left_slots, with_entry, filled, shown, with_all_filled, with_more_live, first_changed, changed_at}
 use Rattle.mt_border.specs.declared.entry.Entry.{Entry}
 use Rattle.mt_border.specs.declared.entry.RightLink.{RightLink}
 use Rattle.mt_border.specs.declared.slot_table.Slot.{Slot}
 
 -- a border of a layer: the least slice that may stand in it, the border to the right, the version,
--- the live entries in key order, and what the unused slots hold in the order in which they are taken
+-- the live entries in key order, and what the unused slots hold in the order in which they are taken;
+-- and the fields that both are read of: the slots by their numbers, and the order
 pub record BorderView : Type 0 where
   pub layer : ℕ
   pub low : ℕ
@@ -22,6 +24,8 @@ pub record BorderView : Type 0 where
   pub version : VersionView
   pub live : List Entry
   pub unused : List Slot
+  pub slots : List Slot
+  pub order : Slots
 
 -- what slots hold, without whether they held a key
 abbrev pub entries_of : List Slot → List Entry
@@ -34,8 +38,10 @@ border_view layer low right version table = record {
   low = low;
   right = right;
   version = version;
-  live = entries_of table.live;
-  unused = table.unused;
+  live = entries_of (live_slots table);
+  unused = unused_slots table;
+  slots = table.slots;
+  order = table.order;
 }
 
 -- the version of a new border, locked or not
@@ -59,15 +65,9 @@ new_border layer low locked = record {
   version = new_version locked;
   live = [];
   unused = replicate SLOTS blank_slot;
+  slots = replicate SLOTS blank_slot;
+  order = none_live;
 }
-
--- the slot of an entry that was live
-abbrev pub left_slot : Entry → Slot
-left_slot entry = record { entry = entry; held_key = true }
-
--- the slots of these entries, which were live
-abbrev pub left_slots : List Entry → List Slot
-left_slots entries = map left_slot entries
 
 -- whether the first of these slots held a key
 abbrev pub first_held : List Slot → Bool
@@ -108,7 +108,8 @@ filled_version false v = v
 abbrev pub with_filled : BorderView → Entry → BorderView
 with_filled b entry = record b {
   version = filled_version (first_held b.unused) b.version;
-  unused = first_changed (λ slot. record slot { entry = entry }) b.unused;
+  unused = first_changed (filled entry) b.unused;
+  slots = slot_changed (next_number b.order) (filled entry) b.slots;
 }
 
 -- the border once what the first unused slot holds is live at a place, its row made by the commit of this number
@@ -116,6 +117,8 @@ abbrev pub with_shown : BorderView → ℕ → ℕ → BorderView
 with_shown b place version = record b {
   live = take place b.live ++ (map (λ slot. at_version version slot.entry) (take 1 b.unused) ++ drop place b.live);
   unused = drop 1 b.unused;
+  slots = slot_changed (next_number b.order) (shown version) b.slots;
+  order = with_first_unused_at b.order place;
 }
 
 -- the border once the slot of the entry at a place is the first unused one
@@ -123,25 +126,39 @@ abbrev pub with_hidden : BorderView → ℕ → BorderView
 with_hidden b place = record b {
   live = remove b.live place;
   unused = left_slots (take 1 (drop place b.live)) ++ b.unused;
+  order = without_place b.order place;
 }
 
 -- the border once the entry at a place has another row
 abbrev pub with_value : BorderView → ℕ → Row → BorderView
-with_value b place row = record b { live = changed_at place (with_row row) b.live }
+with_value b place row = record b {
+  live = changed_at place (with_row row) b.live;
+  slots = slot_changed (number_at place b.order) (with_entry (with_row row)) b.slots;
+}
 
 -- the border once the entry at a place is a link
 abbrev pub with_link_at : BorderView → ℕ → NodeNo → BorderView
-with_link_at b place head = record b { live = changed_at place (with_link head) b.live }
+with_link_at b place head = record b {
+  live = changed_at place (with_link head) b.live;
+  slots = slot_changed (number_at place b.order) (with_entry (with_link head)) b.slots;
+}
 
 -- the border, which had no live entry, once these are live and this is to its right
 abbrev pub with_entries : BorderView → List Entry → Option RightLink → BorderView
-with_entries b entries right = record b { live = entries; unused = drop (length entries) b.unused; right = right }
+with_entries b entries right = record b {
+  live = entries;
+  unused = drop (length entries) b.unused;
+  slots = with_all_filled b.order.unused entries b.slots;
+  order = with_more_live b.order (length entries);
+  right = right;
+}
 
 -- the border once only the first so many entries are live, and the others are to its right
 abbrev pub with_split : BorderView → ℕ → RightLink → BorderView
 with_split b keep right = record b {
   live = take keep b.live;
   unused = left_slots (drop keep b.live) ++ b.unused;
+  order = with_first b.order keep;
   right = Some right;
   version = record b.version { vsplit = b.version.vsplit + 1 };
 }

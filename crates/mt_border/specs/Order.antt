@@ -1,11 +1,12 @@
 -- The invariant of a border.
 use Rattle.std.specs.Prelude.{◌≡◌, ℕ, ◌+◌, ◌^◌, ◌<◌, ◌≤◌, List, [], ◌∷◌, length, true, Option, Some, None}
 use Rattle.std.specs.List.{All, AllPairs}
+use Rattle.mt_word.specs.Slots.{Slots}
 use Rattle.mt_word.specs.Version.{IsVersion}
 use Rattle.mt_word.specs.declared.permutation_word.TheConstants.{SLOTS}
 use Rattle.mt_border.specs.Entry.{entry_rank, IsEntry}
-use Rattle.mt_border.specs.Border.{BorderView}
-use Rattle.mt_border.specs.Table.{TableView}
+use Rattle.mt_border.specs.Border.{BorderView, entries_of}
+use Rattle.mt_border.specs.Table.{picked, IsSlotTable}
 use Rattle.mt_border.specs.declared.entry.Entry.{Entry}
 use Rattle.mt_border.specs.declared.entry.RightLink.{RightLink}
 use Rattle.mt_border.specs.declared.slot_table.Slot.{Slot}
@@ -33,8 +34,21 @@ abbrev pub IsLeftOf : ℕ → List Entry → Option RightLink → Type 0
 IsLeftOf low live None = Unit {0}
 IsLeftOf low live (Some link) = (low < link.low) × AreBelow link.low live
 
+-- each of these slots held a key
+abbrev pub AllHeldKeys : List Slot → Type 0
+AllHeldKeys [] = Unit {0}
+AllHeldKeys (slot ∷ slots) = (slot.held_key ≡ true) × AllHeldKeys slots
+
+-- what is live and what is unused is what the fifteen slots hold, in this order, and each live slot held a key
+pub record AreInSlots (live : List Entry) (unused : List Slot) (slots : List Slot) (order : Slots) : Type 0 where
+  pub table : IsSlotTable slots order
+  pub live_is : live ≡ entries_of (picked slots order.live)
+  pub unused_is : unused ≡ picked slots order.unused
+  pub held : AllHeldKeys (picked slots order.live)
+
 -- what holds of every border
 pub record IsBorder (b : BorderView) : Type 0 where
+  pub seen : AreInSlots b.live b.unused b.slots b.order
   pub slots : length b.live + length b.unused ≡ SLOTS
   pub low_fits : b.low < 2 ^ 64
   pub ordered : IsOrdered b.live
@@ -45,13 +59,3 @@ pub record IsBorder (b : BorderView) : Type 0 where
   pub deleted_empty : b.version.deleted ≡ true → b.live ≡ []
   pub border : b.version.border ≡ true
   pub counters : IsVersion b.version
-
--- each of these slots held a key
-abbrev pub AllHeldKeys : List Slot → Type 0
-AllHeldKeys [] = Unit {0}
-AllHeldKeys (slot ∷ slots) = (slot.held_key ≡ true) × AllHeldKeys slots
-
--- what holds of every border's fields
-pub record IsSoundBorder (b : BorderView) (table : TableView) : Type 0 where
-  pub held : AllHeldKeys table.live
-  pub border : IsBorder b

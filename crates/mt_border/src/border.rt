@@ -44,13 +44,13 @@ pub struct Border {
 
 impl Model for Border {
     ghost use Rattle.mt_border.specs.Border.{BorderView, border_view};
-    ghost use Rattle.mt_border.specs.Order.{IsSoundBorder};
+    ghost use Rattle.mt_border.specs.Order.{IsBorder};
 
     ghost Value = { BorderView };
 
     ghost view = { λ b. border_view b.layer b.low b.right b.version b.table };
 
-    ghost invariant = { λ b. IsSoundBorder (border_view b.layer b.low b.right b.version b.table) b.table };
+    ghost invariant = { λ b. IsBorder (border_view b.layer b.low b.right b.version b.table) };
 }
 
 // The version after a slot was filled, which held a key before or did not.

@@ -1,12 +1,11 @@
 //! The fifteen slots of a border, under a permutation. It hides their numbers.
 
-ghost use Rattle.std.specs.Prelude.{◌≡◌, ℕ, ◌+◌, ◌<◌, ◌≤◌, ◌++◌, length, take, drop, map, replicate, slice_get, slice_set, slice_index_or, Some, IsSome, true, []};
-ghost use Rattle.std.specs.List.{remove};
+ghost use Rattle.std.specs.Prelude.{◌≡◌, ℕ, ◌+◌, ◌<◌, ◌≤◌, length, drop, replicate, slice_get, slice_set, slice_index_or, Some, IsSome, []};
 ghost use Rattle.arrayvec.specs.ArrayVec.{array_vec_len};
+ghost use Rattle.mt_word.specs.Slots.{with_first_unused_at, without_place, with_first};
 ghost use Rattle.mt_word.specs.declared.permutation_word.TheConstants.{SLOTS};
 ghost use Rattle.mt_border.specs.Entry.{at_version, with_row, with_link, entry_row};
-ghost use Rattle.mt_border.specs.Border.{left_slots};
-ghost use Rattle.mt_border.specs.Table.{blank_slot, changed_at, first_changed, row_of_first};
+ghost use Rattle.mt_border.specs.Table.{blank_slot, live_slots, unused_slots, none_live, number_at, next_number, slot_changed, with_entry, filled, marked, with_all_filled, with_more_live, row_of_first, IsSlotTable};
 
 use crate::entry::{Content, Entry};
 use arrayvec::ArrayVec;
@@ -39,11 +38,11 @@ pub struct SlotTable {
 }
 
 impl Model for SlotTable {
-    ghost use Rattle.mt_border.specs.Table.{TableView, table_view, IsSlotTable};
+    ghost use Rattle.mt_border.specs.Table.{TableView, IsSlotTable};
 
     ghost Value = { TableView };
 
-    ghost view = { λ t. table_view t.slots.items t.permutation };
+    ghost view = { λ t. record { slots = t.slots.items; order = t.permutation } };
 
     ghost invariant = { λ t. IsSlotTable t.slots.items t.permutation };
 }
@@ -65,16 +64,14 @@ impl Slot {
 
 fn put_entry(slots: &mut ArrayVec<Slot, SLOTS, Global>, slot: usize, entry: Entry)
     requires { slot < array_vec_len slots.old }
-    ensures { slots.new.items ≡ slice_set slots.old.items slot
-        (record (slice_index_or slots.old.items slot blank_slot) { entry = entry }) }
+    ensures { slots.new.items ≡ slot_changed slot (filled entry) slots.old.items }
 {
     slots.as_mut_slice()[slot].entry = entry;
 }
 
 fn put_held(slots: &mut ArrayVec<Slot, SLOTS, Global>, slot: usize)
     requires { slot < array_vec_len slots.old }
-    ensures { slots.new.items ≡ slice_set slots.old.items slot
-        (record (slice_index_or slots.old.items slot blank_slot) { held_key = true }) }
+    ensures { slots.new.items ≡ slot_changed slot marked slots.old.items }
 {
     slots.as_mut_slice()[slot].held_key = true;
 }
@@ -91,8 +88,7 @@ fn set_version(entry: &mut Entry, version: u64)
 
 fn put_version(slots: &mut ArrayVec<Slot, SLOTS, Global>, slot: usize, version: u64)
     requires { slot < array_vec_len slots.old }
-    ensures { let old = slice_index_or slots.old.items slot blank_slot in
-        slots.new.items ≡ slice_set slots.old.items slot (record old { entry = at_version version old.entry }) }
+    ensures { slots.new.items ≡ slot_changed slot (with_entry (at_version version)) slots.old.items }
 {
     set_version(&mut slots.as_mut_slice()[slot].entry, version);
 }
@@ -112,8 +108,7 @@ fn replace_row(entry: &mut Entry, row: Row) -> Row
 fn put_row(slots: &mut ArrayVec<Slot, SLOTS, Global>, slot: usize, row: Row) -> Row
     requires within { slot < array_vec_len slots.old }
     requires row { IsSome (entry_row (slice_index_or slots.old.items slot blank_slot).entry) }
-    ensures value { let old = slice_index_or slots.old.items slot blank_slot in
-        slots.new.items ≡ slice_set slots.old.items slot (record old { entry = with_row row old.entry }) }
+    ensures value { slots.new.items ≡ slot_changed slot (with_entry (with_row row)) slots.old.items }
     ensures replaced { entry_row (slice_index_or slots.old.items slot blank_slot).entry ≡ Some result }
 {
     replace_row(&mut slots.as_mut_slice()[slot].entry, row)
@@ -121,8 +116,7 @@ fn put_row(slots: &mut ArrayVec<Slot, SLOTS, Global>, slot: usize, row: Row) -> 
 
 fn put_link(slots: &mut ArrayVec<Slot, SLOTS, Global>, slot: usize, head: NodeNo)
     requires { slot < array_vec_len slots.old }
-    ensures { let old = slice_index_or slots.old.items slot blank_slot in
-        slots.new.items ≡ slice_set slots.old.items slot (record old { entry = with_link head old.entry }) }
+    ensures { slots.new.items ≡ slot_changed slot (with_entry (with_link head)) slots.old.items }
 {
     slots.as_mut_slice()[slot].entry.content = Content::Link(head);
 }
@@ -141,7 +135,7 @@ fn blank_slots(alloc: Global) -> ArrayVec<Slot, SLOTS, Global>
 impl SlotTable {
     /// Fifteen slots that hold nothing yet. It allocates nothing.
     pub fn new(alloc: Global) -> Self
-        ensures { result ≡ record { live = []; unused = replicate SLOTS blank_slot } }
+        ensures { result ≡ record { slots = replicate SLOTS blank_slot; order = none_live } }
     {
         SlotTable {
             slots: blank_slots(alloc),
@@ -152,8 +146,9 @@ impl SlotTable {
     /// How many slots are live.
     #[inline]
     pub fn len(&self) -> usize
-        ensures value { result ≡ length self.now.live }
-        ensures fits { length self.now.live + length self.now.unused ≡ SLOTS }
+        ensures value { result ≡ length (live_slots self.now) }
+        ensures fits { length (live_slots self.now) + length (unused_slots self.now) ≡ SLOTS }
+        ensures sound { IsSlotTable self.now.slots self.now.order }
     {
         self.permutation.len()
     }
@@ -161,26 +156,25 @@ impl SlotTable {
     /// The live slot at a place.
     #[inline]
     pub fn live(&self, place: usize) -> &Slot
-        requires { place < length self.now.live }
-        ensures { slice_get self.now.live place ≡ Some result.now }
+        requires { place < length (live_slots self.now) }
+        ensures { slice_get (live_slots self.now) place ≡ Some result.now }
     {
         &self.slots.as_slice()[self.permutation.slot(place)]
     }
 
     /// The first unused slot.
     pub fn first_unused(&self) -> &Slot
-        requires { length self.now.live < SLOTS }
-        ensures { slice_get self.now.unused 0 ≡ Some result.now }
+        requires { length (live_slots self.now) < SLOTS }
+        ensures { slice_get (unused_slots self.now) 0 ≡ Some result.now }
     {
         &self.slots.as_slice()[self.permutation.first_unused()]
     }
 
     /// Writes the entry of the first unused slot.
     pub fn fill(&mut self, entry: Entry)
-        requires { length self.old.live < SLOTS }
+        requires { length (live_slots self.old) < SLOTS }
         ensures { self.new ≡ record self.old {
-          unused = first_changed (λ slot.
-              record slot { entry = entry }) self.old.unused;
+          slots = slot_changed (next_number self.old.order) (filled entry) self.old.slots;
         } }
     {
         let slot = self.permutation.first_unused();
@@ -189,10 +183,9 @@ impl SlotTable {
 
     /// Writes the version of the row in the first unused slot.
     pub fn stamp(&mut self, version: u64)
-        requires { length self.old.live < SLOTS }
+        requires { length (live_slots self.old) < SLOTS }
         ensures { self.new ≡ record self.old {
-          unused = first_changed (λ slot.
-              record slot { entry = at_version version slot.entry }) self.old.unused;
+          slots = slot_changed (next_number self.old.order) (with_entry (at_version version)) self.old.slots;
         } }
     {
         let slot = self.permutation.first_unused();
@@ -201,10 +194,9 @@ impl SlotTable {
 
     /// Marks the first unused slot as one that held a key.
     pub fn mark(&mut self)
-        requires { length self.old.live < SLOTS }
+        requires { length (live_slots self.old) < SLOTS }
         ensures { self.new ≡ record self.old {
-          unused = first_changed (λ slot.
-              record slot { held_key = true }) self.old.unused;
+          slots = slot_changed (next_number self.old.order) marked self.old.slots;
         } }
     {
         let slot = self.permutation.first_unused();
@@ -213,47 +205,37 @@ impl SlotTable {
 
     /// Makes the first unused slot live at this place.
     pub fn insert_at(&mut self, place: usize)
-        requires room { length self.old.live < SLOTS }
-        requires within { place ≤ length self.old.live }
-        ensures { self.new ≡ record {
-          live = take place self.old.live ++ (take 1 self.old.unused ++ drop place self.old.live);
-          unused = drop 1 self.old.unused;
-        } }
+        requires room { length (live_slots self.old) < SLOTS }
+        requires within { place ≤ length (live_slots self.old) }
+        ensures { self.new ≡ record self.old { order = with_first_unused_at self.old.order place } }
     {
         self.permutation.insert_at(place);
     }
 
     /// Makes the slot at this place the first unused one.
     pub fn remove_at(&mut self, place: usize)
-        requires { place < length self.old.live }
-        ensures { self.new ≡ record {
-          live = remove self.old.live place;
-          unused = take 1 (drop place self.old.live) ++ self.old.unused;
-        } }
+        requires { place < length (live_slots self.old) }
+        ensures { self.new ≡ record self.old { order = without_place self.old.order place } }
     {
         self.permutation.remove_at(place);
     }
 
     /// Keeps the first so many live slots. The others become the first unused ones.
     pub fn keep_first(&mut self, count: usize)
-        requires { count ≤ length self.old.live }
-        ensures { self.new ≡ record {
-          live = take count self.old.live;
-          unused = drop count self.old.live ++ self.old.unused;
-        } }
+        requires { count ≤ length (live_slots self.old) }
+        ensures { self.new ≡ record self.old { order = with_first self.old.order count } }
     {
         self.permutation.keep_first(count);
     }
 
     /// Writes the row of the live slot at a place, and gives back the old one.
     pub fn set_row(&mut self, place: usize, row: Row) -> Row
-        requires within { place < length self.old.live }
-        requires row { IsSome (row_of_first (drop place self.old.live)) }
+        requires within { place < length (live_slots self.old) }
+        requires row { IsSome (row_of_first (drop place (live_slots self.old))) }
         ensures value { self.new ≡ record self.old {
-          live = changed_at place (λ slot.
-              record slot { entry = with_row row slot.entry }) self.old.live;
+          slots = slot_changed (number_at place self.old.order) (with_entry (with_row row)) self.old.slots;
         } }
-        ensures replaced { row_of_first (drop place self.old.live) ≡ Some result }
+        ensures replaced { row_of_first (drop place (live_slots self.old)) ≡ Some result }
     {
         let slot = self.permutation.slot(place);
         put_row(&mut self.slots, slot, row)
@@ -261,10 +243,9 @@ impl SlotTable {
 
     /// Makes the entry of the live slot at a place a link.
     pub fn set_link(&mut self, place: usize, head: NodeNo)
-        requires { place < length self.old.live }
+        requires { place < length (live_slots self.old) }
         ensures { self.new ≡ record self.old {
-          live = changed_at place (λ slot.
-              record slot { entry = with_link head slot.entry }) self.old.live;
+          slots = slot_changed (number_at place self.old.order) (with_entry (with_link head)) self.old.slots;
         } }
     {
         let slot = self.permutation.slot(place);
@@ -273,10 +254,10 @@ impl SlotTable {
 
     /// Makes these entries live, after those that are.
     pub fn extend(&mut self, entries: Vec<Entry>)
-        requires { length self.old.live + length entries.items ≤ SLOTS }
+        requires { length (live_slots self.old) + length entries.items ≤ SLOTS }
         ensures { self.new ≡ record {
-          live = self.old.live ++ left_slots entries.items;
-          unused = drop (length entries.items) self.old.unused;
+          slots = with_all_filled self.old.order.unused entries.items self.old.slots;
+          order = with_more_live self.old.order (length entries.items);
         } }
     {
         for entry in entries {

@@ -69,10 +69,10 @@ module _ (a : ArenaView) (number : ℕ) (b : BorderView) (is : border_at a.nodes
     shown = at_version version slot.entry
 
     abbrev new : BorderView
-    new = record b { live = take place b.live ++ (shown ∷ drop place b.live); unused = slots }
+    new = record (with_shown b place version) { live = take place b.live ++ (shown ∷ drop place b.live); unused = slots }
 
     new_is : with_shown b place version ≡ new
-    new_is = ap (λ (u : List Slot). record b { live = take place b.live ++ (map (λ (s : Slot). at_version version s.entry) (take 1 u) ++ drop place b.live); unused = drop 1 u }) unused
+    new_is = ap (λ (u : List Slot). record (with_shown b place version) { live = take place b.live ++ (map (λ (s : Slot). at_version version s.entry) (take 1 u) ++ drop place b.live); unused = drop 1 u }) unused
 
     pub row_shown : AddsRow a (with_node_at a number (Border (with_shown b place version))) number (entry_place slot.entry) (record row { version = version })
     row_shown = rw (new_is) (shown_in (rw new_is at sound))

@@ -4,6 +4,7 @@ use Rattle.std.proofs.Common.{ℕ, zero, suc, ◌≡◌, ◌≢◌, ◌≤◌, �
 use Rattle.std.specs.Prelude.{IsSomeAnd}
 use Rattle.std.proofs.lemmas.List.Elements.{All-drop, All-replicate}
 use Rattle.mt_border.specs.Table.{blank_slot}
+use Rattle.mt_border.proofs.SlotLemmas.{new_entries_seen}
 use Rattle.mt_border.specs.declared.slot_table.Slot.{Slot}
 use Rattle.std.specs.Option.{option_and_then}
 use Rattle.mt_types.specs.declared.numbers.NodeNo.{NodeNo}
@@ -55,6 +56,7 @@ each_one P entry holds (suc i) d within = absurd (omega (arith, within))
 
 pub lone_sound : (number : ℕ) (entry : Entry) → IsEntry entry → IsBorder (lone_root number entry)
 lone_sound number entry whole = record {
+  seen = new_entries_seen (entry ∷ []) (omega arith);
   slots = refl;
   low_fits = omega arith;
   ordered = record { pairs = λ i j d less within. absurd (one_ordered entry i j less within) };

@@ -1,8 +1,11 @@
-use Rattle.std.proofs.Common.{Some, ◌+◌, refl, subst}
+use Rattle.std.proofs.Common.{◌≡◌, Some, IsSome, ◌+◌, ◌∙◌, ap, refl, subst, inr, rules}
 use Rattle.mt_slice.specs.Place.{slice_number}
 use Rattle.mt_border.specs.Border.{BorderView}
 use Rattle.mt_interior.specs.Head.{HeadView}
-use Rattle.mt_arena.specs.Node.{Updates}
+use Rattle.mt_arena.specs.Node.{Updates, node_at}
+use Rattle.mt_arena.specs.Arena.{ArenaView, without_node}
+use Rattle.mt_arena.proofs.NodeLemmas.{updates-without}
+use Rattle.mt_tree.specs.Keeping.{KeepsUnknown}
 use Rattle.mt_arena.specs.declared.node.Node.TheVariants.{Border, Head}
 use Rattle.mt_steps.specs.Way.{rest_of}
 use Rattle.mt_steps.proofs.FoundLemmas.{some_at}
@@ -39,4 +42,29 @@ returns-in-Ok-clause-ready c = λ C log.
         whole = moves.1;
       },
       refl,
+    )
+
+pub returns-in-Err-clause-ready : goal.returns-in-Err-clause-ready
+returns-in-Err-clause-ready c =
+    let number = c.in_ok-root.root.0 in
+    let between : ArenaView = c.occupy.new.self in
+    let same : c.occupy-2.new.self ≡ between = c.in-Err.ensures.err in
+    let is : c.give_back.new.self ≡ without_node between number = c.give_back.ensures.value ∙ ap (λ (x : ArenaView). without_node x number) same in
+    let there : IsSome (node_at between.nodes number) = rw c.in_ok-root.ensures.updates.changed cc in (
+      λ log. search rules,
+      inr (record {
+        number = number;
+        node = Border c.new.result;
+        between = between;
+        occupied = record {
+          vacant = c.in_ok-root.ensures.vacant;
+          updates = c.in_ok-root.ensures.updates;
+          retired = c.occupy.ensures.retired;
+          unknown = c.in_ok-root.ensures.unknown;
+          keeps = c.in_ok-root.ensures.keeps;
+        };
+        back = rw is (updates-without between.nodes number there);
+        retired = ap (λ (x : ArenaView). x.retired) is;
+        keeps = subst (λ (x : ArenaView). KeepsUnknown x c.give_back.new.self number) same c.give_back.ensures.keeps;
+      }),
     )

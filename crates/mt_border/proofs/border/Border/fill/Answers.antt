@@ -3,15 +3,15 @@ use Rattle.mt_border.proofs.border.Border.fill.Goals as goal
 
 pub invariant_of-self : goal.invariant_of-self
 invariant_of-self c =
-    let made = sound_entries c.self.inside.layer c.self.inside.low c.self.inside.right c.self.inside.version c.self.inside.table c.args.entries c.args.right (rw (← c.self.view_is) at c.requires.empty) (rw (← c.self.view_is) at c.requires.sound) in
+    let made = sound_entries c.self.inside.layer c.self.inside.low c.self.inside.right c.self.inside.version c.self.inside.table c.args.entries c.args.right (rw (← c.self.view_is) at c.requires.sound) in
     rw (c.extend.ensures, c.into_vec.ensures) made.1
 
 pub returns-clause-value : goal.returns-clause-value
 returns-clause-value c =
-    let made = sound_entries c.self.inside.layer c.self.inside.low c.self.inside.right c.self.inside.version c.self.inside.table c.args.entries c.args.right (rw (← c.self.view_is) at c.requires.empty) (rw (← c.self.view_is) at c.requires.sound) in
+    let made = sound_entries c.self.inside.layer c.self.inside.low c.self.inside.right c.self.inside.version c.self.inside.table c.args.entries c.args.right (rw (← c.self.view_is) at c.requires.sound) in
     rw (c.extend.ensures, c.into_vec.ensures, ← c.self.view_is) made.0
 
 pub returns-clause-sound : goal.returns-clause-sound
 returns-clause-sound c =
-    let made = sound_entries c.self.inside.layer c.self.inside.low c.self.inside.right c.self.inside.version c.self.inside.table c.args.entries c.args.right (rw (← c.self.view_is) at c.requires.empty) (rw (← c.self.view_is) at c.requires.sound) in
-    rw (c.extend.ensures, c.into_vec.ensures) made.1.border
+    let made = sound_entries c.self.inside.layer c.self.inside.low c.self.inside.right c.self.inside.version c.self.inside.table c.args.entries c.args.right (rw (← c.self.view_is) at c.requires.sound) in
+    rw (c.extend.ensures, c.into_vec.ensures) made.1

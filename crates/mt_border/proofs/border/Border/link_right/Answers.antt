@@ -14,4 +14,4 @@ returns-clause-value c =
 pub returns-clause-sound : goal.returns-clause-sound
 returns-clause-sound c =
     let made = sound_split c.self.inside.layer c.self.inside.low c.self.inside.right c.self.inside.version c.self.inside.table c.args.keep c.args.right (rw (← c.self.view_is) at c.requires.within) (rw (← c.self.view_is) at c.requires.above_low) (rw (← c.self.view_is) at c.requires.above_kept) (rw (← c.self.view_is) at c.requires.unspent) c.self.invariant in
-    rw (c.keep_first.ensures, c.version_split-self-inside.ensures) made.1.border
+    rw (c.keep_first.ensures, c.version_split-self-inside.ensures) made.1

@@ -14,4 +14,4 @@ returns-clause-value c =
 pub returns-clause-sound : goal.returns-clause-sound
 returns-clause-sound c =
     let made = sound_link c.self.inside.layer c.self.inside.low c.self.inside.right c.self.inside.version c.self.inside.table c.args.place c.args.head (rw (← c.self.view_is) at c.requires.within) (rw (← c.self.view_is) at c.requires.long) c.self.invariant in
-    rw c.set_link.ensures made.1.border
+    rw c.set_link.ensures made.1

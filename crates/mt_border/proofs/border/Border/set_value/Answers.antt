@@ -1,4 +1,5 @@
 use Rattle.std.proofs.Common.{◌∙◌}
+use Rattle.mt_border.specs.Table.{live_slots}
 use Rattle.mt_border.proofs.SeenLemmas.{sound_value, row_seen}
 use Rattle.mt_border.proofs.border.Border.set_value.Goals as goal
 
@@ -15,12 +16,12 @@ returns-clause-value c =
 pub returns-clause-sound : goal.returns-clause-sound
 returns-clause-sound c =
     let made = sound_value c.self.inside.layer c.self.inside.low c.self.inside.right c.self.inside.version c.self.inside.table c.args.place c.args.row (rw (← c.self.view_is) at c.requires.within) c.self.invariant in
-    rw c.set_row.ensures.value made.1.border
+    rw c.set_row.ensures.value made.1
 
 pub set_row-requires-clause-row : goal.set_row-requires-clause-row
 set_row-requires-clause-row c =
     let row = rw (← c.self.view_is) at c.requires.row in
-    rw (← row_seen c.args.place c.self.inside.table.live) row
+    rw (← row_seen c.args.place (live_slots c.self.inside.table)) row
 
 pub returns-clause-replaced : goal.returns-clause-replaced
-returns-clause-replaced c = rw (← c.self.view_is) (row_seen c.args.place c.self.inside.table.live ∙ c.set_row.ensures.replaced)
+returns-clause-replaced c = rw (← c.self.view_is) (row_seen c.args.place (live_slots c.self.inside.table) ∙ c.set_row.ensures.replaced)

@@ -7,4 +7,4 @@ fill-requires c = room_for c.args.entries.items c.loop-entry.yielded c.loop-entr
 pub loop-entry-preserved : goal.loop-entry-preserved
 loop-entry-preserved c =
     let room = room_for c.args.entries.items c.loop-entry.yielded c.loop-entry.entry-iterator.rest.items _ c.args.self.now c.loop-entry.self c.in-Some.entry c.loop-entry.invariant c.in-Some.ensures.steps.0 c.requires in
-    rw (c.insert_at.ensures, c.mark.ensures, c.fill.ensures) (extended c.args.entries.items c.loop-entry.yielded c.loop-entry.entry-iterator.rest.items _ c.args.self.now c.loop-entry.self c.in-Some.entry c.len-place.result c.loop-entry.invariant c.in-Some.ensures.steps.0 room c.len-place.ensures.fits c.len-place.ensures.value)
+    rw (c.insert_at.ensures, c.mark.ensures, c.fill.ensures) (extended c.args.entries.items c.loop-entry.yielded c.loop-entry.entry-iterator.rest.items _ c.args.self.now c.loop-entry.self c.in-Some.entry c.len-place.result c.loop-entry.invariant c.in-Some.ensures.steps.0 room c.len-place.ensures.sound c.len-place.ensures.value)
