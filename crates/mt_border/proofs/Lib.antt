@@ -8,3 +8,4 @@ pub mod SeenLemmas
 pub mod CutLemmas
 pub mod ShowLemmas
 pub mod SplitLemmas
+pub mod FieldLemmas

@@ -5,3 +5,4 @@ pub mod Border
 pub mod Order
 pub mod Find
 pub mod Cut
+pub mod Slots
