@@ -9,3 +9,4 @@ pub mod CutLemmas
 pub mod ShowLemmas
 pub mod SplitLemmas
 pub mod FieldLemmas
+pub mod ChangeLemmas

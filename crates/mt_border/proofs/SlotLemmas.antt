@@ -93,7 +93,8 @@ module _ (live : List Entry) (unused : List Slot) (xs : List Slot) (s : Slots) (
   abbrev u : List Slot
   u = picked xs s.unused
 
-  live_count : length live ≡ length s.live
+  -- as many are live as the order says, and as many unused
+  pub live_count : length live ≡ length s.live
   live_count = rw (h.live_is, length-map l (λ (slot : Slot). slot.entry)) (length-picked xs s s.live)
 
   unused_count : length unused ≡ length s.unused
@@ -103,7 +104,7 @@ module _ (live : List Entry) (unused : List Slot) (xs : List Slot) (s : Slots) (
   pub fifteen_seen : length live + length unused ≡ 15
   fifteen_seen = omega (arith, live_count, unused_count, fifteen_together s h.table.arranged)
 
-  unused_there : length live < 15 → 0 < length s.unused
+  pub unused_there : length live < 15 → 0 < length s.unused
   unused_there room = omega (arith, live_count, fifteen_together s h.table.arranged)
 
   pub seen_filled : (entry : Entry) → length live < 15 → AreInSlots live (first_changed (filled entry) unused) (slot_changed (next_number s) (filled entry) xs) s
