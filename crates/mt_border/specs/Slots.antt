@@ -13,6 +13,6 @@ slot_at b number = slice_index_or b.slots number blank_slot
 abbrev pub is_live : BorderView → ℕ → Bool
 is_live b number = list_any (nat_eq number) b.order.live
 
--- whether the slot of this number held a key
+-- whether the slot of this number holds a key that was live since it was last filled
 abbrev pub held_at : BorderView → ℕ → Bool
 held_at b number = (slot_at b number).held_key

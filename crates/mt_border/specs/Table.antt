@@ -65,11 +65,11 @@ left_slots entries = map left_slot entries
 abbrev pub with_entry : (Entry → Entry) → Slot → Slot
 with_entry change slot = record slot { entry = change slot.entry }
 
--- the slot once it is filled with this entry
+-- the slot once it is filled with this entry, which is not live yet
 abbrev pub filled : Entry → Slot → Slot
-filled entry slot = record slot { entry = entry }
+filled entry slot = record slot { entry = entry; held_key = false }
 
--- the slot, marked as one that held a key
+-- the slot, marked as one that holds a key that is live
 abbrev pub marked : Slot → Slot
 marked slot = record slot { held_key = true }
 

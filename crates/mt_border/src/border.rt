@@ -305,7 +305,7 @@ impl Border {
     }
 
     /// Writes an entry into the first unused slot, where it shows nothing. Where that slot held a key, the counter of
-    /// insertions rises by one. Constant cost.
+    /// insertions rises by one; it then holds none that was live. Constant cost.
     ///
     /// # Errors
     ///
@@ -390,8 +390,8 @@ impl Border {
         Ok(Items::from_vec(copies))
     }
 
-    /// Makes these entries live in a border that never had one, and names what is to its right. Costs a move of each
-    /// entry.
+    /// Makes these entries live in a border that has none, and of whose slots none held a key, and names what is to its
+    /// right. Costs a move of each entry.
     pub fn fill(&mut self, entries: Items<Entry>, right: Option<RightLink>)
         requires empty { self.old.live ≡ [] }
         requires fresh { list_any (λ slot. slot.held_key) self.old.unused ≡ false }

@@ -17,7 +17,7 @@ use std::default::MadeWith;
 use std::marker::Model;
 use std::mem;
 
-/// What a slot holds, and whether it ever held a live entry.
+/// What a slot holds, and whether that was live since the slot was last filled.
 #[derive(Drop)]
 pub struct Slot {
     pub entry: Entry,
@@ -66,7 +66,10 @@ fn put_entry(slots: &mut ArrayVec<Slot, SLOTS, Global>, slot: usize, entry: Entr
     requires { slot < array_vec_len slots.old }
     ensures { slots.new.items ≡ slot_changed slot (filled entry) slots.old.items }
 {
-    slots.as_mut_slice()[slot].entry = entry;
+    slots.as_mut_slice()[slot] = Slot {
+        entry,
+        held_key: false,
+    };
 }
 
 fn put_held(slots: &mut ArrayVec<Slot, SLOTS, Global>, slot: usize)
@@ -170,7 +173,7 @@ impl SlotTable {
         &self.slots.as_slice()[self.permutation.first_unused()]
     }
 
-    /// Writes the entry of the first unused slot.
+    /// Writes the entry of the first unused slot, which then holds no key yet.
     pub fn fill(&mut self, entry: Entry)
         requires { length (live_slots self.old) < SLOTS }
         ensures { self.new ≡ record self.old {
@@ -192,7 +195,7 @@ impl SlotTable {
         put_version(&mut self.slots, slot, version);
     }
 
-    /// Marks the first unused slot as one that held a key.
+    /// Marks the first unused slot as one that holds a key.
     pub fn mark(&mut self)
         requires { length (live_slots self.old) < SLOTS }
         ensures { self.new ≡ record self.old {

@@ -6,7 +6,7 @@ use Rattle.mt_border.specs.Order.{IsBorder}
 use Rattle.mt_border.specs.declared.entry.Entry.{Entry}
 use Rattle.mt_border.specs.declared.entry.RightLink.{RightLink}
 
--- the border has no live entry and never had one, and with these it is in order and in its interval
+-- the border has no live entry, none of its slots held a key, and with these entries it is in order and in its interval
 pub record MayFill (b : BorderView) (entries : List Entry) (right : Option RightLink) : Type 0 where
   pub empty : b.live ≡ []
   pub fresh : list_any (λ slot. slot.held_key) b.unused ≡ false

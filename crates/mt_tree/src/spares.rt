@@ -40,8 +40,8 @@ impl Tree {
         self.arena.spare(node)
     }
 
-    /// Makes these entries live in a border that never had one, and names what is to its right. Costs a move of each
-    /// entry.
+    /// Makes these entries live in a border that has none, and of whose slots none held a key, and names what is to its
+    /// right. Costs a move of each entry.
     pub fn fill_border(&mut self, number: NodeNo, entries: Items<Entry>, right: Option<RightLink>)
         requires { IsSomeAnd (border_at self.old.nodes number.0) (λ b. MayFill b entries right) }
         ensures value { self.new ≡ with_border_changed self.old number.0 (λ b. with_entries b entries right) }

@@ -23,7 +23,7 @@ use Rattle.mt_border.specs.Border.{BorderView, with_lock, with_filled, with_hidd
 use Rattle.mt_border.specs.Entry.{entry_of_row, entry_row, entry_class, content_class, content_of, content_row}
 use Rattle.mt_border.specs.Find.{found_in}
 use Rattle.mt_border.specs.Order.{IsBorder}
-use Rattle.mt_border.specs.Table.{first_changed}
+use Rattle.mt_border.specs.Table.{first_changed, filled}
 use Rattle.mt_border.specs.declared.entry.Entry.{Entry}
 use Rattle.mt_border.specs.declared.entry.RightLink.{RightLink}
 use Rattle.mt_border.specs.declared.slot_table.Slot.{Slot}
@@ -208,12 +208,12 @@ left_of_right slice (Some link) h = elim h [ before_right less ↦ less ]
 record NextSlot (slots : List Slot) (entry : Entry) : Type 0 where
   pub slot : Slot
   pub more : List Slot
-  pub is : first_changed (λ (s : Slot). record s { entry = entry }) slots ≡ slot ∷ more
+  pub is : first_changed (filled entry) slots ≡ slot ∷ more
   pub holds : slot.entry ≡ entry
 
 next_slot : (slots : List Slot) (entry : Entry) → 0 < length slots → NextSlot slots entry
 next_slot [] entry some = absurd (omega arith)
-next_slot (s ∷ slots) entry some = record { slot = record s { entry = entry }; more = slots; is = refl; holds = refl }
+next_slot (s ∷ slots) entry some = record { slot = filled entry s; more = slots; is = refl; holds = refl }
 
 -- ---- what is locked
 alone : (a : ArenaView) (key : List ℕ) (way : Way) (b : BorderView) (w : World) → IsLockedAt a key way b w → HasLocked (prefix_of key way) a w way.node.0 None
