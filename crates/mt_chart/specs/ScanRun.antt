@@ -11,6 +11,11 @@ abbrev pub Stood : {V : Type 0} → (Row → V) → List Arena → Place → V �
 Stood show [] key value = ⊥
 Stood show (arena ∷ past) key value = ((row : Row) × Has arena key row × (show row ≡ value)) ⊎ Stood show past key value
 
+-- at some moment the key had no row
+abbrev pub Lacked : List Arena → Place → Type 0
+Lacked [] key = ⊥
+Lacked (arena ∷ past) key = ((row : Row) → Has arena key row → ⊥) ⊎ Lacked past key
+
 -- at each moment the key had a row
 abbrev pub AllHave : List Arena → Place → Type 0
 AllHave [] key = Unit {0}
