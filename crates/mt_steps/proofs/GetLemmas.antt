@@ -1,5 +1,6 @@
 -- The steps of a get.
 use Rattle.std.proofs.Common.{ℕ, suc, ◌≡◌, ◌*◌, List, [], Option, Some, None, refl, sym, ap, subst, ◌∙◌, add-one, inl}
+use Rattle.std.proofs.lemmas.Option.{none-some}
 use Rattle.mt_types.specs.Rows.{shown}
 use Rattle.mt_types.specs.declared.row.Row.{Row}
 use Rattle.mt_types.specs.declared.event.Answer.{Answer}
@@ -57,16 +58,20 @@ tells_here a way rest b named sound key bytes is found searched =
     let fits : AreBytes rest = subst AreBytes (sym is) (bytes-drop (8 * way.layer) key bytes) in
     subst (λ (f : Found). TellsRow a way.node.0 rest f) (sym searched) (tells_row a way.node.0 rest b named sound fits)
 
--- ---- the answer of a get
+-- ---- the answer of a get: what is read is right at the present moment
 module _ (a : ArenaView) (key : List ℕ) (way : Way) (asked : List ℕ) (rest : List ℕ) (b : BorderView) (bytes : AreBytes key) (is : rest ≡ rest_of key way) (named : border_at a.nodes way.node.0 ≡ Some b) where
   pub reads_row : (found : Found) (there : Row) → found ≡ found_for rest b.live → TellsRow a way.node.0 rest found → row_found b.live found ≡ Some there → Reads a key way asked (FoundAnswer (shown asked there))
   reads_row found there searched tells row = record {
-    reads = λ now w world place past. (bytes, there, subst (λ (r : Option Row). RowIs a key r) row (found_is_row a key way now w rest found b is named searched tells world place), refl);
+    reads = λ now w world place past.
+        let here : RowIs a key (Some there) = subst (λ (r : Option Row). RowIs a key r) row (found_is_row a key way now w rest found b is named searched tells world place) in
+        (bytes, inl (there, (here there).1 refl, refl));
   }
 
   pub reads_none : (found : Found) → found ≡ found_for rest b.live → TellsRow a way.node.0 rest found → row_found b.live found ≡ None → Reads a key way asked AbsentAnswer
   reads_none found searched tells none = record {
-    reads = λ now w world place past. (bytes, subst (λ (r : Option Row). RowIs a key r) none (found_is_row a key way now w rest found b is named searched tells world place));
+    reads = λ now w world place past.
+        let here : RowIs a key None = subst (λ (r : Option Row). RowIs a key r) none (found_is_row a key way now w rest found b is named searched tells world place) in
+        (bytes, inl (λ row has. none-some row ((here row).0 has)));
   }
 
 -- ---- the step

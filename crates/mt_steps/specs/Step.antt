@@ -15,7 +15,7 @@ use Rattle.mt_slice.specs.Place.{Place, AreBytes, place_of}
 use Rattle.mt_commit.specs.Log.{LogView, newest, slowest, with_delta}
 use Rattle.mt_arena.specs.Arena.{ArenaView}
 use Rattle.mt_chart.specs.Tree.{Arena, Has}
-use Rattle.mt_chart.specs.ScanRun.{Stood, AllHave}
+use Rattle.mt_chart.specs.ScanRun.{Stood, Lacked, AllHave}
 use Rattle.mt_chart.specs.KeyAnswer.{KeysAreBytes}
 use Rattle.mt_types.specs.Ranges.{IsRangeAnswer}
 use Rattle.mt_chart.specs.Steps.{SameContent}
@@ -102,11 +102,11 @@ pub record IsRangeOf (arenas : List Arena) (start asked : List ℕ) (limit : ℕ
   pub answers : IsRangeAnswer (λ key row. Stood (shown asked) arenas (place_of key) row)
       (λ key. AreBytes key × AllHave arenas (place_of key)) start limit pairs
 
--- the answer is right at this moment, or by the moments since the begin
+-- the answer is right: a get's and a range's by the moments since the begin, any other at this moment
 abbrev pub IsRight : List Arena → ArenaView → Request → Option ℕ → Answer → Type 0
-IsRight past a (GetRequest key asked) committed Absent = AreBytes key × RowIs a key None
-IsRight past a (GetRequest key asked) committed (Found row) = AreBytes key × (there : Row) × RowIs a key (Some there)
-    × (row ≡ shown asked there)
+IsRight past a (GetRequest key asked) committed Absent = AreBytes key × Lacked (arena_seen a ∷ past) (place_of key)
+IsRight past a (GetRequest key asked) committed (Found row) = AreBytes key
+    × Stood (shown asked) (arena_seen a ∷ past) (place_of key) row
 IsRight past a (PutRequest key sets) committed (Stored number) = committed ≡ Some number
 IsRight past a (PutIfRequest key sets version) committed (Stored number) = committed ≡ Some number
 IsRight past a (RemoveRequest key) committed (Removed number) = committed ≡ Some number
