@@ -52,6 +52,7 @@ use Rattle.mt_index.specs.Paired.{Paired}
 use Rattle.mt_index.specs.Stands.{MachineView, Stands, CallStands, Begins, Steps, StepsOpen, EndsBuild, outcome_of, calls_after, log_after, views_after, pinned, fault_of}
 use Rattle.mt_index.specs.Alone.{IsIdle, pass_0, next_call, IsShort, AnswersFrom, AnswersPlainly, RefusesPlainly}
 use Rattle.mt_index.proofs.EventStands.{begins-stands, begins-columns}
+use Rattle.mt_index.proofs.PastLemmas.{lacks_now}
 use Rattle.mt_index.proofs.ViewEvents.{steps-stand, steps-columns}
 
 -- ---- the machine
@@ -402,21 +403,6 @@ lone_tree s h st idle = record {
     none_among : (k : ℕ × Call) → Among k [] → ⊥
     none_among k i = elim i [ ]
 
--- what a get reads is the row of the rows
-pub read_found : (s : MachineView) (h : History) → Stands s h → (key asked : List ℕ) (row : Row) → IsRightNow s.tree (GetRequest key asked) (Found row)
-    → ◌≡◌ {A = Option Row} (Some row) (option_map (shown asked) (get (rows s.columns (moment h)) key))
-read_found s h st key asked row (bytes, there, is, shows) =
-    let stands : get (rows s.columns (moment h)) key ≡ Some there = (st.content key bytes there).0 ((is there).1 refl) in
-    ap (λ (r : Row). Some r) shows ∙ sym (ap (option_map (shown asked)) stands)
-
-pub read_none : (s : MachineView) (h : History) → Stands s h → (key asked : List ℕ) → IsRightNow s.tree (GetRequest key asked) Absent
-    → ◌≡◌ {A = Option Row} None (option_map (shown asked) (get (rows s.columns (moment h)) key))
-read_none s h st key asked (bytes, is) = sym (ap (option_map (shown asked)) (none (get (rows s.columns (moment h)) key) refl))
-  where
-    none : (found : Option Row) → get (rows s.columns (moment h)) key ≡ found → get (rows s.columns (moment h)) key ≡ None
-    none None e = e
-    none (Some row) e = absurd (let clash : ◌≡◌ {A = Option Row} None (Some row) = (is row).0 ((st.content key bytes row).1 e) in cc)
-
 -- what a range reads are the pairs of the rows
 module _ (s : MachineView) (h : History) (st : Stands s h) (asked : List ℕ) where
   abbrev map : Rows
@@ -446,3 +432,15 @@ module _ (s : MachineView) (h : History) (st : Stands s h) (asked : List ℕ) wh
     stood = all_shown pairs right.bytes right.answers.stood;
     once = λ key from there enough. right.answers.once key from (stands_so key (get map key) refl there) enough;
   }
+
+-- what a get reads is the row of the rows
+pub read_found : (s : MachineView) (h : History) → Stands s h → (key asked : List ℕ) (row : Row) → IsRightNow s.tree (GetRequest key asked) (Found row)
+    → ◌≡◌ {A = Option Row} (Some row) (option_map (shown asked) (get (rows s.columns (moment h)) key))
+read_found s h st key asked row (bytes, stood) =
+    let (there, stands, shows) = shows_so s h st asked key row bytes stood in
+    ap (λ (r : Row). Some r) shows ∙ sym (ap (option_map (shown asked)) stands)
+
+pub read_none : (s : MachineView) (h : History) → Stands s h → (key asked : List ℕ) → IsRightNow s.tree (GetRequest key asked) Absent
+    → ◌≡◌ {A = Option Row} None (option_map (shown asked) (get (rows s.columns (moment h)) key))
+read_none s h st key asked (bytes, inl lacks) = sym (ap (option_map (shown asked)) (lacks_now s.columns s.tree h st.content key bytes lacks))
+read_none s h st key asked (bytes, inr never) = absurd never

@@ -15,14 +15,14 @@ use Rattle.std.proofs.lemmas.List.Elements.{All-nil, All-cons, All-head, All-tai
 use Rattle.mt_types.specs.Rows.{shown}
 use Rattle.mt_types.specs.declared.row.Row.{Row}
 use Rattle.mt_promise.specs.History.{History, Happening, Moment, moment, rows, Sometime}
-use Rattle.mt_promise.specs.RightAnswers.{RightRange, Shows, Stands as IsThere}
+use Rattle.mt_promise.specs.RightAnswers.{RightRange, Shows, Lacks, Stands as IsThere}
 use Rattle.mt_promise.proofs.HistoryLemmas.{Throughout-here}
 use Rattle.mt_slice.specs.Place.{AreBytes, place_of}
 use Rattle.mt_arena.specs.Arena.{ArenaView}
 use Rattle.mt_chart.specs.Tree.{Arena}
 use Rattle.mt_chart.specs.ScanRun.{Stood}
 use Rattle.mt_chart.specs.KeyAnswer.{KeysAreBytes}
-use Rattle.mt_tree.specs.Seen.{arena_seen}
+use Rattle.mt_tree.specs.Seen.{arena_seen, HasRow}
 use Rattle.mt_steps.specs.Step.{IsRangeOf}
 use Rattle.mt_index.specs.Stands.{HasRowsOf, IsPast}
 
@@ -56,10 +56,19 @@ has_rows C a h content keys = record {
   );
 }
 
+-- where the tree has no row at a key, there is none by the history
+pub lacks_now : (C : ℕ) (a : ArenaView) (h : History) → HasRowsOf C a h → (key : List ℕ) → AreBytes key → ((row : Row) → HasRow a key row → ⊥) → Lacks C key (moment h)
+lacks_now C a h content key bytes lacks = none (get (rows C (moment h)) key) refl
+  where
+    none : (there : Option Row) → get (rows C (moment h)) key ≡ there → get (rows C (moment h)) key ≡ None
+    none None e = e
+    none (Some row) e = absurd (lacks row ((content key bytes row).1 e))
+
 -- more happens, and neither the tree nor the commits change
 pub past_later : (C began from : ℕ) (x : Happening) (h : History) (arenas : List Arena) → (moment (x ∷ h)).commits ≡ (moment h).commits → IsPast C began from h arenas → IsPast C began from (x ∷ h) arenas
 past_later C began from x h arenas same past = record {
   stood = λ asked key row bytes stood. inr (past.stood asked key row bytes stood);
+  lacked = λ key bytes lacked. inr (past.lacked key bytes lacked);
   throughout = λ key bytes there. past.throughout key bytes there.1;
   earlier = past.earlier;
   had = subst (λ (cs : List Change). HadRows arenas (after C cs ∷ past.earlier)) (sym same) past.had;
@@ -78,6 +87,10 @@ past_more C began from x h a arenas before content keys goes past = record {
   stood = λ asked key row bytes stood. elim stood [
     | inl now ↦ inl (before, (now.0, (content key bytes now.0).0 now.1, sym now.2))
     | inr then ↦ inr (past.stood asked key row bytes then)
+  ];
+  lacked = λ key bytes lacked. elim lacked [
+    | inl now ↦ inl (before, lacks_now C a (x ∷ h) content key bytes now)
+    | inr then ↦ inr (past.lacked key bytes then)
   ];
   throughout = λ key bytes there.
       let (row, is) = some_row _ (there.0 before) in
@@ -102,6 +115,10 @@ pub past_new : (C : ℕ) (x : Happening) (h : History) (a : ArenaView) → HasRo
 past_new C x h a content keys = record {
   stood = λ asked key row bytes stood. elim stood [
     | inl now ↦ inl (omega arith, (now.0, (content key bytes now.0).0 now.1, sym now.2))
+    | inr then ↦ elim then [ ]
+  ];
+  lacked = λ key bytes lacked. elim lacked [
+    | inl now ↦ inl (omega arith, lacks_now C a (x ∷ h) content key bytes now)
     | inr then ↦ elim then [ ]
   ];
   throughout = λ key bytes there.

@@ -23,7 +23,7 @@ use Rattle.mt_types.specs.declared.event.Outcome.TheVariants.{Commit}
 use Rattle.mt_types.specs.declared.refusal.Refusal.{Refusal}
 use Rattle.mt_types.specs.declared.refusal.Refusal.TheVariants.{NoMemory, ArenaFull, FeedFull, Spent, OtherVersion}
 use Rattle.mt_promise.specs.History.{History, Happening, Moment, OpenCall, StandingView, happening, moment, rows, call_of, without_call, replace_call, after_step, after_call_step, change_of}
-use Rattle.mt_promise.specs.RightAnswers.{RightAnswer, Lacks, Shows, HasVersion}
+use Rattle.mt_promise.specs.RightAnswers.{RightAnswer, Lacks, HasVersion}
 use Rattle.mt_promise.specs.Legal.{MayStepAt, MayStep, MayEnd, MayCommit}
 use Rattle.mt_promise.proofs.HistoryLemmas.{after-append, Sometime-here}
 use Rattle.mt_slice.specs.Place.{AreBytes, place_of}
@@ -155,8 +155,8 @@ answer_write s h st call key RemoveEdit committed (Built view) past began is m =
 pub right_answer : (s : MachineView) (h : History) (st : Stands s h) (call : OpenCall) (work : Work) (answer : Answer) → call.began ≤ length h → call.committed ≡ (held work).committed → (past : List Arena) → IsPast s.columns call.began call.from h (arena_seen s.tree ∷ past) → IsRight past s.tree (request_of work) (held work).committed answer
     → RightAnswer s.columns h call (request_of work) answer 0
 right_answer s h st call (WriteWork g) answer began committed past passed m = answer_write s h st call g.key g.edit (held (WriteWork g)).committed answer past began committed m
-right_answer s h st call (GetWork g) Absent began committed past passed (bytes, is) = Sometime-here call.began (Lacks s.columns g.key) h began (row_is s h st g.key None bytes is)
-right_answer s h st call (GetWork g) (FoundAnswer row) began committed past passed (bytes, there, is, shows) = Sometime-here call.began (Shows s.columns g.key g.columns row) h began (there, row_is s h st g.key (Some there) bytes is, shows)
+right_answer s h st call (GetWork g) Absent began committed past passed (bytes, lacked) = passed.lacked g.key bytes lacked
+right_answer s h st call (GetWork g) (FoundAnswer row) began committed past passed (bytes, stood) = passed.stood g.columns g.key row bytes stood
 right_answer s h st call (GetWork g) (StoredAnswer number) began committed past passed m = absurd m
 right_answer s h st call (GetWork g) (Removed number) began committed past passed m = absurd m
 right_answer s h st call (GetWork g) (RowsAnswer pairs) began committed past passed m = absurd m

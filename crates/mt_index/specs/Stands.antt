@@ -17,14 +17,14 @@ use Rattle.mt_types.specs.declared.limits.TheConstants.{MAX_COLUMNS}
 use Rattle.mt_types.specs.declared.row.Delta.{Delta}
 use Rattle.mt_types.specs.declared.event.Answer.TheVariants.{Built}
 use Rattle.mt_types.specs.Rows.{Rows, shown}
-use Rattle.mt_promise.specs.RightAnswers.{Shows, Stands as IsThere}
+use Rattle.mt_promise.specs.RightAnswers.{Shows, Lacks, Stands as IsThere}
 use Rattle.mt_slice.specs.Place.{AreBytes, place_of}
 use Rattle.mt_commit.specs.Log.{LogView, IsLog, newest, delta_of, trimmed}
 use Rattle.mt_commit.specs.Laws.{times_held}
 use Rattle.mt_commit.specs.Holders.{with_holder, without_holder}
 use Rattle.mt_arena.specs.Arena.{ArenaView}
 use Rattle.mt_chart.specs.Tree.{Arena, Among}
-use Rattle.mt_chart.specs.ScanRun.{Stood, AllHave}
+use Rattle.mt_chart.specs.ScanRun.{Stood, Lacked, AllHave}
 use Rattle.mt_tree.specs.Seen.{arena_seen, HasRow}
 use Rattle.mt_index.specs.declared.calls.Call.{Call}
 use Rattle.mt_works.specs.declared.work.Work.{Work}
@@ -65,11 +65,13 @@ HasRowsOf C a h = (key : List ℕ) → AreBytes key → (row : Row) → HasRow a
     ↔ (get (rows C (moment h)) key ≡ Some row)
 
 -- the moments of a call that began when so much had happened, and so many commits there were, as arenas: a row that one
--- of them has was there at some moment since, and a key that was there at each moment since has a row in each of them;
--- and the deltas of the commits since lead from the rows of each to those of the next
+-- of them has was there at some moment since, a key that one of them lacks had no row at some moment since, and a key
+-- that was there at each moment since has a row in each of them; and the deltas of the commits since lead from the rows
+-- of each to those of the next
 pub record IsPast (C began from : ℕ) (h : History) (arenas : List Arena) : Type 0 where
   pub stood : (asked key : List ℕ) (row : Row) → AreBytes key → Stood (shown asked) arenas (place_of key) row
       → Sometime began (Shows C key asked row) h
+  pub lacked : (key : List ℕ) → AreBytes key → Lacked arenas (place_of key) → Sometime began (Lacks C key) h
   pub throughout : (key : List ℕ) → AreBytes key → Throughout began (IsThere C key) h → AllHave arenas (place_of key)
   pub earlier : List Rows
   pub had : HadRows arenas (rows C (moment h) ∷ earlier)
