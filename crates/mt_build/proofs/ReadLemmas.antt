@@ -13,21 +13,24 @@ use Rattle.mt_types.specs.declared.view.ViewSpec.{ViewSpec}
 use Rattle.mt_slice.proofs.KeyOrder.{cmp_equal, place_order}
 use Rattle.mt_border.specs.Border.{BorderView}
 use Rattle.mt_border.specs.Order.{IsBorder}
+use Rattle.mt_word.specs.declared.permutation_word.TheConstants.{SLOTS}
 use Rattle.mt_rows.proofs.MapLemmas.{Entries, key_order}
 use Rattle.mt_chart.specs.Tree.{Arena, Among, first, later, border, Below, Has, Right}
 use Rattle.mt_chart.specs.Tree.{PlainEntry}
 use Rattle.mt_chart.specs.Chart.{Chart, Holds, IsTree}
 use Rattle.mt_chart.specs.Scan.{Pair, AtMost, Listed, OpenRange, VisitOutcome, answers, goes, AtEnd, BorderVisit, Comes}
 use Rattle.mt_chart.specs.ScanRun.{Stood, AllHave, EntriesInOrder}
+use Rattle.mt_chart.specs.NotedList.{IsNotedList}
 use Rattle.mt_chart.specs.KeyAnswer.{as_places, KeysAreBytes}
-use Rattle.mt_chart.proofs.Entries.{InOrder}
-use Rattle.mt_chart.proofs.HeldNodes.{holds_kept}
+use Rattle.mt_chart.proofs.HeldNodes.{holds_kept, border_is_on}
 use Rattle.mt_chart.proofs.KeyAnswers.{key_bytes, among_place, place_among, place_is_one}
 use Rattle.mt_chart.proofs.PlaceOrder.{either}
-use Rattle.mt_chart.proofs.Ranges.{holds_top, scan_begins, range_visits}
+use Rattle.mt_chart.proofs.Ranges.{holds_top, scan_begins, noted_visits, border_is_noted}
+use Rattle.mt_chart.proofs.ScanRuns.{in_order}
 use Rattle.mt_tree.specs.Seen.{border_seen, entry_seen}
 use Rattle.mt_tree.proofs.IntervalLemmas.{entries_in_order}
-use Rattle.mt_scan.specs.Scan.{ScanView, VisitsBorder, outcome_of}
+use Rattle.mt_scan.specs.Listed.{ListView, list_of, list_entries, list_right}
+use Rattle.mt_scan.specs.Scan.{ScanView, VisitsList, outcome_of}
 use Rattle.mt_scan.specs.declared.scan.ScanMove.{ScanMove}
 use Rattle.mt_scan.specs.declared.scan.ScanMove.TheVariants.{Done, To, Top}
 use Rattle.mt_view.specs.State.{StateView, IsAfresh, with_pairs}
@@ -126,11 +129,7 @@ module _ (arenas : List Arena) (Done_before Done_then : Place → Type 0) (old n
       on_side key b within (inl done) all = keeps_row pairs read.read key (read.covered key b within done all)
       on_side key b within (inr listed) all = listed_has read.read key b (listed all)
 
-in_order : (entries : List PlainEntry) → EntriesInOrder entries → InOrder entries
-in_order [] o = tt
-in_order (entry ∷ entries) o = (o.0, in_order entries o.1)
-
-module _ (scan next : ScanView) (b : BorderView) (state then : StateView) (taken : scan.taken ≡ []) (asked : scan.asked ≡ []) (limit : scan.limit ≡ 16) (sound : IsBorder b)
+module _ (scan next : ScanView) (list : ListView) (state then : StateView) (taken : scan.taken ≡ []) (asked : scan.asked ≡ []) (limit : scan.limit ≡ 16) (few : length list.entries ≤ SLOTS)
     (bytes : KeysAreBytes next.taken) (same_spec : then.spec ≡ state.spec) (takes_in : (rows : Rows) → IsAfresh state rows → IsAfresh then (with_pairs next.taken rows)) where
   abbrev before : BuildView
   before = record { prefix = scan.prefix; at = scan.at; state = state }
@@ -138,56 +137,58 @@ module _ (scan next : ScanView) (b : BorderView) (state then : StateView) (taken
   abbrev then_build : BuildView
   then_build = record { prefix = next.prefix; at = next.at; state = then }
 
-  module _ (chart : Chart) (begun number : ℕ) (arena : Arena) (past : List Arena) (tree : IsTree arena chart) (there : arena number ≡ Some (border (border_seen b))) (alive : b.version.deleted ≡ false)
-      (below : Below (first_slice scan.at) (border_seen b).right) (scanning : IsScanning chart begun (arena ∷ past) number before) where
+  module _ (chart : Chart) (begun number low : ℕ) (arenas : List Arena) (at_top : (slice : ℕ) → Holds chart begun 0 [] slice)
+      (noted : IsNotedList (shown []) chart begun (Stood (shown []) arenas) (AllHave arenas) scan.prefix low (list_right list) (list_entries list)) (ordered : EntriesInOrder (list_entries list))
+      (from_low : low ≤ first_slice scan.at) (below : Below (first_slice scan.at) (list_right list)) (scanning : IsScanning chart begun arenas number before) where
     -- from its cursor on, the visit is that of a scan that has taken nothing
-    came : (move : ScanMove) → VisitsBorder scan b move next → Comes chart begun (Stood (shown []) (arena ∷ past)) (AllHave (arena ∷ past)) (under scan.prefix scan.at) 16 (outcome_of move next)
+    came : (move : ScanMove) → VisitsList scan list move next → Comes chart begun (Stood (shown []) arenas) (AllHave arenas) (under scan.prefix scan.at) 16 (outcome_of move next)
     came move visit =
-        range_visits (shown []) arena chart tree begun (Stood (shown []) (arena ∷ past)) (AllHave (arena ∷ past)) (λ key row h. inl (row, h, refl)) (λ key all. all.0) (under scan.prefix scan.at) 16 scan.prefix number scan.at []
-        (record { held = scanning.held; scanned = scan_begins (Stood (shown []) (arena ∷ past)) (AllHave (arena ∷ past)) (under scan.prefix scan.at) 16 })
-        (border_seen b) there alive (in_order (border_seen b).entries (entries_in_order b sound)) below (outcome_of move next) (afresh visit)
+        noted_visits (shown []) chart begun (Stood (shown []) arenas) (AllHave arenas) at_top (under scan.prefix scan.at) 16 scan.prefix number scan.at []
+        (record { held = scanning.held; scanned = scan_begins (Stood (shown []) arenas) (AllHave arenas) (under scan.prefix scan.at) 16 })
+        (record { deleted = false; locked = false; low = low; entries = list_entries list; right = list_right list }) noted (in_order (list_entries list) ordered) from_low below (outcome_of move next) (afresh visit)
       where
-        afresh : VisitsBorder scan b move next → VisitsBorder (record scan { taken = []; limit = 16; asked = [] }) b move next
-        afresh visit = subst (λ (s : ScanView). VisitsBorder s b move next)
+        afresh : VisitsList scan list move next → VisitsList (record scan { taken = []; limit = 16; asked = [] }) list move next
+        afresh visit = subst (λ (s : ScanView). VisitsList s list move next)
             (ap (λ (t : Entries). record scan { taken = t }) taken ∙ ap (λ (l : ℕ). record scan { taken = []; limit = l }) limit ∙ ap (λ (c : List ℕ). record scan { taken = []; limit = 16; asked = c }) asked) visit
 
-    goes_on : (at_number : ℕ) → OpenRange chart begun (Stood (shown []) (arena ∷ past)) (AllHave (arena ∷ past)) (under scan.prefix scan.at) 16 next.prefix at_number next.at (as_places next.taken)
-        → IsScanning chart begun (arena ∷ past) at_number then_build
+    goes_on : (at_number : ℕ) → OpenRange chart begun (Stood (shown []) arenas) (AllHave arenas) (under scan.prefix scan.at) 16 next.prefix at_number next.at (as_places next.taken)
+        → IsScanning chart begun arenas at_number then_build
     goes_on at_number went = record {
       held = went.held;
-      read = reads_on (arena ∷ past) (λ key. Precedes key (under scan.prefix scan.at)) (λ key. Precedes key (under next.prefix next.at)) state then next.taken bytes same_spec takes_in went.scanned.shown
+      read = reads_on arenas (λ key. Precedes key (under scan.prefix scan.at)) (λ key. Precedes key (under next.prefix next.at)) state then next.taken bytes same_spec takes_in went.scanned.shown
           (λ key ahead. on_side key ahead (either key (under scan.prefix scan.at))) scanning.read;
     }
       where
         on_side : (key : Place) → Precedes key (under next.prefix next.at) → Precedes key (under scan.prefix scan.at) ⊎ AtMost (under scan.prefix scan.at) key
-            → Precedes key (under scan.prefix scan.at) ⊎ (AllHave (arena ∷ past) key → Listed key (as_places next.taken))
+            → Precedes key (under scan.prefix scan.at) ⊎ (AllHave arenas key → Listed key (as_places next.taken))
         on_side key ahead (inl h) = inl h
         on_side key ahead (inr h) = inr (λ all. went.scanned.covered key h (inl ahead) all)
 
-    ends_so : (move : ScanMove) → VisitsBorder scan b move next → length (pairs_of (outcome_of move next)) < 16
+    ends_so : (move : ScanMove) → VisitsList scan list move next → length (pairs_of (outcome_of move next)) < 16
     ends_so move visit =
-        let few = few_taken (shown scan.asked) scan.limit scan.prefix scan.at (border_seen b).right (border_seen b).entries (as_places scan.taken) (outcome_of move next) visit in
+        let least = few_taken (shown scan.asked) scan.limit scan.prefix scan.at (list_right list) (list_entries list) (as_places scan.taken) (outcome_of move next) visit in
         let none : length (as_places scan.taken) ≡ 0 = ap (λ (t : Entries). length (as_places t)) taken in
-        let size = length-map b.live entry_seen in
-        let slots = sound.slots in
-        omega (arith, few, none, size, slots)
+        let size = length-map list.entries entry_seen in
+        omega (arith, few, none, size, least)
 
-    comes : (move : ScanMove) → VisitsBorder scan b move next → (move ≡ Top → next.prefix ≡ []) → ComesTo chart begun (arena ∷ past) move then_build
+    comes : (move : ScanMove) → VisitsList scan list move next → (move ≡ Top → next.prefix ≡ []) → ComesTo chart begun arenas move then_build
     comes Done visit home =
         let right = came Done visit in
         let few = ends_so Done visit in
-        reads_on (arena ∷ past) (λ key. Precedes key (under scan.prefix scan.at)) (λ key. Unit {0}) state then next.taken bytes same_spec takes_in right.shown
+        reads_on arenas (λ key. Precedes key (under scan.prefix scan.at)) (λ key. Unit {0}) state then next.taken bytes same_spec takes_in right.shown
         (λ key done. elim (either key (under scan.prefix scan.at)) [ inl h ↦ inl h | inr h ↦ inr (λ all. right.complete key h all (inl few)) ]) scanning.read
     comes (To node) visit home = goes_on node.0 (came (To node) visit)
     comes Top visit home =
-        goes_on 0 (subst (λ (p : List ℕ). OpenRange chart begun (Stood (shown []) (arena ∷ past)) (AllHave (arena ∷ past)) (under scan.prefix scan.at) 16 p 0 next.at (as_places next.taken)) (sym (home refl)) (came Top visit))
+        goes_on 0 (subst (λ (p : List ℕ). OpenRange chart begun (Stood (shown []) arenas) (AllHave arenas) (under scan.prefix scan.at) 16 p 0 next.at (as_places next.taken)) (sym (home refl)) (came Top visit))
 
-  pub visits : (move : ScanMove) → VisitsBorder scan b move next → (move ≡ Top → next.prefix ≡ []) → VisitsOn before b move then_build
-  visits move visit home = record { comes = λ chart begun number arena past tree there alive below scanning. comes chart begun number arena past tree there alive below scanning move visit home }
+  pub visits : (move : ScanMove) → VisitsList scan list move next → (move ≡ Top → next.prefix ≡ []) → VisitsOn before list move then_build
+  visits move visit home = record { comes = λ chart begun number low arenas at_top noted ordered from_low below scanning. comes chart begun number low arenas at_top noted ordered from_low below scanning move visit home }
 
 -- a visit that leaves the cursor behind each key of the view has come to the scan's end
-pub visits_all : (old : BuildView) (b : BorderView) (move : ScanMove) (new : BuildView) → VisitsOn old b move new → IsBehindAll new → VisitsOn old b Done new
-visits_all old b move new visit behind = record { comes = λ chart begun number arena past tree there alive below scanning. all chart begun (arena ∷ past) move (visit.comes chart begun number arena past tree there alive below scanning) }
+pub visits_all : (old : BuildView) (list : ListView) (move : ScanMove) (new : BuildView) → VisitsOn old list move new → IsBehindAll new → VisitsOn old list Done new
+visits_all old list move new visit behind = record {
+  comes = λ chart begun number low arenas at_top noted ordered from_low below scanning. all chart begun arenas move (visit.comes chart begun number low arenas at_top noted ordered from_low below scanning);
+}
   where
     all_read : (arenas : List Arena) → HasRead arenas (λ key. Precedes key (under new.prefix new.at)) new.state → HasRead arenas (λ key. Unit {0}) new.state
     all_read arenas read = record { read = read.read; afresh = read.afresh; stood = read.stood; covered = λ key b within done all. read.covered key b within (behind key b within) all }
@@ -196,6 +197,16 @@ visits_all old b move new visit behind = record { comes = λ chart begun number 
     all chart begun arenas Done read = read
     all chart begun arenas (To node) scanning = all_read arenas scanning.read
     all chart begun arenas Top scanning = all_read arenas scanning.read
+
+-- the visit of a border of the tree that isn't marked deleted, whole
+pub border_visited : (old : BuildView) (b : BorderView) (move : ScanMove) (new : BuildView) → VisitsOn old (list_of b) move new → IsBorder b
+    → (chart : Chart) (begun number : ℕ) (arena : Arena) (past : List Arena) → IsTree arena chart → arena number ≡ Some (border (border_seen b)) → b.version.deleted ≡ false
+    → Below (first_slice old.at) (border_seen b).right → IsScanning chart begun (arena ∷ past) number old → ComesTo chart begun (arena ∷ past) move new
+border_visited old b move new visit sound chart begun number arena past tree there alive below scanning =
+    let (on, from_low) = border_is_on arena chart tree begun number (first_slice old.at) old.prefix (border_seen b) scanning.held there alive in
+    visit.comes chart begun number b.low (arena ∷ past) (holds_top arena chart tree begun)
+    (border_is_noted (shown []) arena chart tree begun (Stood (shown []) (arena ∷ past)) (AllHave (arena ∷ past)) (λ key row h. inl (row, h, refl)) (λ key all. all.0) old.prefix number (border_seen b) on)
+    (entries_in_order b sound) from_low below scanning
 
 -- ---- the begin
 pub begins : (chart : Chart) (begun : ℕ) (arena : Arena) (build : BuildView) → IsTree arena chart → build.prefix ≡ [] → build.at ≡ place_of (first_key build.state.spec) → AreBytes (first_key build.state.spec)
@@ -212,15 +223,15 @@ begins chart begun arena build tree home start bytes afresh = record {
 }
 
 -- a visit whose pairs were taken out of the scan, and were taken in
-pub visited : (scan next drained : ScanView) (b : BorderView) (state then : StateView) (old : BuildView) (pairs : Entries) (move : ScanMove)
-    → ◌≡◌ {A = BuildView} (record { prefix = scan.prefix; at = scan.at; state = state }) old → scan.taken ≡ [] → scan.asked ≡ [] → scan.limit ≡ 16 → IsBorder b
-    → VisitsBorder scan b move next → (move ≡ Top → next.prefix ≡ []) → pairs ≡ next.taken → KeysAreBytes next.taken → drained ≡ record next { taken = [] }
+pub visited : (scan next drained : ScanView) (list : ListView) (state then : StateView) (old : BuildView) (pairs : Entries) (move : ScanMove)
+    → ◌≡◌ {A = BuildView} (record { prefix = scan.prefix; at = scan.at; state = state }) old → scan.taken ≡ [] → scan.asked ≡ [] → scan.limit ≡ 16 → length list.entries ≤ SLOTS
+    → VisitsList scan list move next → (move ≡ Top → next.prefix ≡ []) → pairs ≡ next.taken → KeysAreBytes next.taken → drained ≡ record next { taken = [] }
     → then ≡ record state { rows = then.rows } → ((rows : Rows) → IsAfresh state rows → IsAfresh then (with_pairs pairs rows))
-    → VisitsOn old b move (record { prefix = drained.prefix; at = drained.at; state = then })
-visited scan next drained b state then old pairs move is taken asked limit sound visit home out bytes kept_scan kept takes_in =
-    subst (λ (s : ScanView). VisitsOn old b move (record { prefix = s.prefix; at = s.at; state = then })) (sym kept_scan)
-    (subst (λ (o : BuildView). VisitsOn o b move (record { prefix = next.prefix; at = next.at; state = then })) is
-    (visits scan next b state then taken asked limit sound bytes (ap (λ (s : StateView). s.spec) kept)
+    → VisitsOn old list move (record { prefix = drained.prefix; at = drained.at; state = then })
+visited scan next drained list state then old pairs move is taken asked limit few visit home out bytes kept_scan kept takes_in =
+    subst (λ (s : ScanView). VisitsOn old list move (record { prefix = s.prefix; at = s.at; state = then })) (sym kept_scan)
+    (subst (λ (o : BuildView). VisitsOn o list move (record { prefix = next.prefix; at = next.at; state = then })) is
+    (visits scan next list state then taken asked limit few bytes (ap (λ (s : StateView). s.spec) kept)
     (λ rows h. subst (λ (ps : Entries). IsAfresh then (with_pairs ps rows)) out (takes_in rows h)) move visit home))
 
 -- ---- what others do, and the scan's own ways

@@ -1,17 +1,17 @@
 -- A build as contracts see it, and what is true of it while it scans the tree among any other calls.
-use Rattle.std.specs.Prelude.{ℕ, ◌≡◌, ◌↔◌, IsTrue, List, [], ◌∷◌, Some, IsSome, false}
+use Rattle.std.specs.Prelude.{ℕ, ◌≡◌, ◌≤◌, ◌↔◌, IsTrue, List, [], ◌∷◌, Some, IsSome}
 use Rattle.std.specs.FinMap.{get}
 use Rattle.mt_types.specs.Rows.{Rows, shown}
 use Rattle.mt_types.specs.declared.row.Row.{Row}
 use Rattle.mt_types.specs.declared.view.ViewSpec.{ViewSpec}
 use Rattle.mt_types.specs.declared.view.ViewSpec.TheVariants.{Range, Prefix}
 use Rattle.mt_slice.specs.Place.{Place, Precedes, AreBytes, first_slice, place_of, under}
-use Rattle.mt_border.specs.Border.{BorderView}
-use Rattle.mt_chart.specs.Tree.{Arena, border, Below, Has}
-use Rattle.mt_chart.specs.Chart.{Chart, Holds, IsTree}
-use Rattle.mt_chart.specs.ScanRun.{Stood, AllHave}
-use Rattle.mt_tree.specs.Seen.{border_seen}
+use Rattle.mt_chart.specs.Tree.{Arena, Below, Has}
+use Rattle.mt_chart.specs.Chart.{Chart, Holds}
+use Rattle.mt_chart.specs.ScanRun.{Stood, AllHave, EntriesInOrder}
+use Rattle.mt_chart.specs.NotedList.{IsNotedList}
 use Rattle.mt_scan.specs.Cursor.{CursorView}
+use Rattle.mt_scan.specs.Listed.{ListView, list_entries, list_right}
 use Rattle.mt_scan.specs.declared.scan.ScanMove.{ScanMove}
 use Rattle.mt_scan.specs.declared.scan.ScanMove.TheVariants.{Done, To, Top}
 use Rattle.mt_view.specs.State.{StateView, IsAfresh}
@@ -62,13 +62,14 @@ ComesTo chart begun arenas (To next) build = IsScanning chart begun arenas next.
 ComesTo chart begun arenas Top build = IsScanning chart begun arenas 0 build
 ComesTo chart begun arenas Done build = HasScanned arenas build
 
--- The visit of a border by a build: in each tree where the build stands at this border, in whose interval its cursor's
--- slice is and which isn't marked deleted, it scans on from where the visit comes to, or has scanned all.
-pub record VisitsOn (old : BuildView) (b : BorderView) (visited : ScanMove) (new : BuildView) : Type 0 where
-  pub comes : (chart : Chart) (begun number : ℕ) (arena : Arena) (past : List Arena) → IsTree arena chart
-      → arena number ≡ Some (border (border_seen b)) → b.version.deleted ≡ false
-      → Below (first_slice old.at) (border_seen b).right → IsScanning chart begun (arena ∷ past) number old
-      → ComesTo chart begun (arena ∷ past) visited new
+-- The visit of a list of entries by a build: wherever they are what was noted of a border, in whose interval its
+-- cursor's slice is, it scans on from where the visit comes to, or has scanned all.
+pub record VisitsOn (old : BuildView) (list : ListView) (visited : ScanMove) (new : BuildView) : Type 0 where
+  pub comes : (chart : Chart) (begun number low : ℕ) (arenas : List Arena) → ((slice : ℕ) → Holds chart begun 0 [] slice)
+      → IsNotedList (shown []) chart begun (Stood (shown []) arenas) (AllHave arenas) old.prefix low (list_right list)
+      (list_entries list) → EntriesInOrder (list_entries list)
+      → low ≤ first_slice old.at → Below (first_slice old.at) (list_right list)
+      → IsScanning chart begun arenas number old → ComesTo chart begun arenas visited new
 
 -- the tree of an arena has exactly these rows
 pub record HasRows (arena : Arena) (rows : Rows) : Type 0 where

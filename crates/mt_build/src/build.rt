@@ -1,6 +1,6 @@
 //! The build itself: what it keeps from one visit of a border to the next, and what each of its steps does.
 
-ghost use Rattle.std.specs.Prelude.{◌≡◌, ◌<◌, ◌⊎◌, ℕ, List, [], ◌∷◌, length, IfOk, IfErr, IsErrOf, OnOk, OnErr, IsTrue};
+ghost use Rattle.std.specs.Prelude.{◌≡◌, ◌<◌, ◌≤◌, ◌⊎◌, ℕ, List, [], ◌∷◌, length, IfOk, IfErr, IsErrOf, OnOk, OnErr, IsTrue};
 ghost use Rattle.mt_types.specs.declared.limits.TheConstants.{MAX_KEY_BYTES};
 ghost use Rattle.std.specs.FinMap as map;
 ghost use Rattle.mt_types.specs.Rows.{Rows};
@@ -8,7 +8,9 @@ ghost use Rattle.mt_types.specs.declared.row.Delta.{Delta as DeltaValue};
 ghost use Rattle.mt_slice.specs.Place.{first_slice, place_of, under};
 ghost use Rattle.mt_chart.specs.Tree.{Arena};
 ghost use Rattle.mt_chart.specs.Chart.{Chart, IsTree};
+ghost use Rattle.mt_word.specs.declared.permutation_word.TheConstants.{SLOTS};
 ghost use Rattle.mt_scan.specs.Scan.{HoldsKeys};
+ghost use Rattle.mt_scan.specs.Listed.{list_in};
 ghost use Rattle.mt_view.specs.State.{IsAfresh, applied};
 ghost use Rattle.mt_build.specs.History.{LeadsTo};
 ghost use Rattle.mt_scan.specs.Onward.{cursor_of, all_cursors, GoesOnward, GoesFrom};
@@ -16,8 +18,7 @@ ghost use Rattle.mt_build.specs.Build.{BuildView, build_cursor, first_key, IsSca
 
 use crate::end::{end_of, first_key};
 use bytes::Bytes;
-use mt_border::Border;
-use mt_scan::{Scan, ScanMove};
+use mt_scan::{Listed, Scan, ScanMove};
 use mt_slice::key_bytes;
 use mt_types::items::Items;
 use mt_types::key::Key;
@@ -109,7 +110,7 @@ impl Build {
         self.scan.restart();
     }
 
-    /// Visits the border in whose interval the slice is, and takes in what it reads there: the rows of the keys from
+    /// Visits what was read of the border in whose interval the slice is, and takes it in: the rows of the keys from
     /// its cursor on, up to the first link that it goes into. The scan is then at its end, behind all keys of the view,
     /// or it goes on at the head of the link's layer, at the border to the right, or at the head of layer 0, with its
     /// cursor further on.
@@ -120,18 +121,18 @@ impl Build {
     ///
     /// `NoMemory` where an allocation is refused. The build is then to be refused too: of what it has read no more is
     /// said.
-    pub fn visit(&mut self, alloc: Global, border: &Border) -> Result<ScanMove, NoMemory>
-        requires { HoldsKeys self.old.prefix border.now.live }
-        ensures visited { IfOk result (λ visited. VisitsOn self.old border.now visited self.new) }
-        ensures onward { IfOk result (λ visited. GoesOnward (build_cursor self.old) border.now visited
+    pub fn visit(&mut self, alloc: Global, listed: Listed<'_>) -> Result<ScanMove, NoMemory>
+        requires keys { HoldsKeys self.old.prefix (list_in listed).entries }
+        requires few { length (list_in listed).entries ≤ SLOTS }
+        ensures visited { IfOk result (λ visited. VisitsOn self.old (list_in listed.entry) visited self.new) }
+        ensures onward { IfOk result (λ visited. GoesOnward (build_cursor self.old) (list_in listed.entry) visited
             (build_cursor self.new)) }
         ensures within { IfOk result (λ visited. (places : ℕ)
             → cursor_of places (build_cursor self.old) < all_cursors places) }
-        ensures leads { IfOk result (λ visited. GoesFrom border.now visited) }
+        ensures leads { IfOk result (λ visited. GoesFrom (list_in listed.entry) visited) }
         ensures state { self.new.state ≡ record self.old.state { rows = self.new.state.rows } }
     {
-        let _sound = border.len();
-        let visited = self.scan.visit(alloc, border);
+        let visited = self.scan.visit(alloc, listed);
         let pairs = self.scan.take_pairs(alloc);
         let visited = visited?;
         self.state.take_in(pairs.as_slice())?;

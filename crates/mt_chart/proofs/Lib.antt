@@ -35,6 +35,8 @@ pub mod PlaceOrder
 pub mod Visit
 pub mod Ranges
 pub mod ScanRuns
+pub mod NotedLemmas
+pub mod ListNoted
 pub mod Cursors
 pub mod KeyAnswers
 pub mod BorderLaws

@@ -5,9 +5,12 @@ use Rattle.mt_slice.specs.Place.{Place, last, deeper, under, Precedes, first_sli
 use Rattle.mt_types.specs.declared.row.Row.{Row}
 use Rattle.mt_chart.specs.Tree.{link, PlainEntry, Right, HeadNode, BorderNode, PlainChild, InteriorNode, head, border, interior, PlainNode, Arena, Among, first, Below, Has}
 use Rattle.mt_chart.specs.Chart.{Standing, on, gone, Role, top, at_level, spot, Chart, OnBorder, IsTree, Holds, Evolves}
+use Rattle.mt_chart.specs.NotedList.{IsNotedList}
 use Rattle.mt_chart.specs.Scan.{AtMost, Pair, UpTo, Listed, AnswersRange, Scanned, OpenRange, Visiting, VisitOutcome, answers, goes, AtEnd, BorderVisit, Comes}
 use Rattle.mt_chart.proofs.PlaceOrder.{not_both, then_most}
 use Rattle.mt_chart.proofs.Entries.{InOrder, among_append}
+use Rattle.mt_chart.proofs.Keys.{in_interval}
+use Rattle.mt_chart.proofs.Reach.{has}
 use Rattle.mt_chart.proofs.HeldNodes.{holds_kept, holds_root, holds_child, holds_right, holds_link, border_is_on}
 use Rattle.mt_chart.proofs.Visit.{visit_begins, visit_passes, row_passed, link_passed, visit_takes, visit_enters, visit_goes_right, visit_ends, visit_leaves}
 
@@ -124,10 +127,9 @@ range_link arena chart tree begun stood throughout start limit p n s h x taken r
   scanned = range.scanned;
 }
 
--- the visit of a border at its place, whole
-module _ {V : Type 0} (show : Row → V) (arena : Arena) (chart : Chart) (tree : IsTree arena chart) (begun : ℕ) (stood : Place → V → Type 0) (throughout : Place → Type 0)
-    (stands_now : (key : Place) (row : Row) → Has arena key row → stood key (show row)) (throughout_now : (key : Place) → throughout key → (row : Row) × Has arena key row)
-    (start : Place) (limit : ℕ) (p : List ℕ) (n : ℕ) (b : BorderNode) (o : OnBorder arena chart n p b) (in_order : InOrder b.entries)
+-- the visit of what was noted of a border, from its place on
+module _ {V : Type 0} (show : Row → V) (chart : Chart) (begun : ℕ) (stood : Place → V → Type 0) (throughout : Place → Type 0) (at_top : (slice : ℕ) → Holds chart begun 0 [] slice)
+    (start : Place) (limit : ℕ) (p : List ℕ) (b : BorderNode) (noted : IsNotedList show chart begun stood throughout p b.low b.right b.entries) (in_order : InOrder b.entries)
     (at : Place) (from_low : b.low ≤ first_slice at) (to_right : Below (first_slice at) b.right) where
   onto : (done : List PlainEntry) (e : PlainEntry) (todo : List PlainEntry) (taken : List (Pair V)) (h : ℕ) → Visiting stood throughout start limit p b at done (e ∷ todo) taken →
       e.content ≡ link h → Among (record { slice = e.slice; content = link h }) b.entries
@@ -141,14 +143,14 @@ module _ {V : Type 0} (show : Row → V) (arena : Arena) (chart : Chart) (tree :
       AtEnd q right taken out → Comes chart begun stood throughout start limit out
   at_end (Some r) q e k taken out v h = to_outcome out (goes q r.number (last r.low 0) taken) h
       (subst (λ (w : List ℕ). OpenRange chart begun stood throughout start limit w r.number (last r.low 0) taken) k (record {
-        held = holds_right arena chart tree begun n r.low 0 p b r o e (omega arith);
-        scanned = visit_goes_right stood throughout show arena chart tree stands_now throughout_now start limit n p b o in_order at from_low to_right taken r v e;
+        held = noted.next r e r.low (omega arith);
+        scanned = visit_goes_right stood throughout show chart begun start limit p b noted in_order at from_low to_right taken r v e;
       }))
   at_end None [] e k taken out v h = to_outcome out (answers taken) h
-      (visit_ends stood throughout show arena chart tree stands_now throughout_now start limit n p b o in_order at from_low to_right taken v e k)
+      (visit_ends stood throughout show chart begun start limit p b noted in_order at from_low to_right taken v e k)
   at_end None (s ∷ u) e k taken out v h = to_outcome out (goes [] 0 (under u (last s 10)) taken) h (record {
-    held = holds_top arena chart tree begun (first_slice (under u (last s 10)));
-    scanned = visit_leaves stood throughout show arena chart tree stands_now throughout_now start limit n p b o in_order at from_low to_right taken s u v e k;
+    held = at_top (first_slice (under u (last s 10)));
+    scanned = visit_leaves stood throughout show chart begun start limit p b noted in_order at from_low to_right taken s u v e k;
   })
 
   visited : (es : List PlainEntry) (done : List PlainEntry) (taken : List (Pair V)) (out : VisitOutcome V) → Visiting stood throughout start limit p b at done es taken →
@@ -157,21 +159,45 @@ module _ {V : Type 0} (show : Row → V) (arena : Arena) (chart : Chart) (tree :
   visited [] done taken out v (inr f) = at_end b.right p refl refl taken out (let e : done ≡ b.entries = sym (v.split ∙ append-nil done) in subst (λ (es : List PlainEntry). Visiting stood throughout start limit p b at es [] taken) e v) f
   visited (e ∷ es) done taken out v (inl f) = to_outcome out (answers taken) f.1 (range_full stood throughout start limit (under p at) taken v.scanned f.0)
   visited (e ∷ es) done taken out v (inr (inl (x, row, h, u, next))) = visited es (done ++ (e ∷ [])) taken out
-      (visit_passes stood throughout show arena chart tree stands_now throughout_now start limit n p b o in_order at from_low to_right done e es taken v
-      (row_passed stood throughout show arena chart tree stands_now throughout_now start limit n p b o in_order at from_low to_right e x row taken h u)) next
+      (visit_passes stood throughout show chart begun start limit p b noted in_order at from_low to_right done e es taken v
+      (row_passed stood throughout show chart begun start limit p b noted in_order at from_low to_right e x row taken h u)) next
   visited (e ∷ es) done taken out v (inr (inr (inl (x, row, h, c, after, room, next)))) = visited es (done ++ (e ∷ [])) (taken ++ (record { key = under p x; value = show row } ∷ [])) out
-      (visit_takes stood throughout show arena chart tree stands_now throughout_now start limit n p b o in_order at from_low to_right done e es taken v x row h c after room) next
+      (visit_takes stood throughout show chart begun start limit p b noted in_order at from_low to_right done e es taken v x row h c after room) next
   visited (e ∷ es) done taken out v (inr (inr (inr (h, q, inl (c, next))))) = visited es (done ++ (e ∷ [])) taken out
-      (visit_passes stood throughout show arena chart tree stands_now throughout_now start limit n p b o in_order at from_low to_right done e es taken v
-      (link_passed stood throughout show arena chart tree stands_now throughout_now start limit n p b o in_order at from_low to_right e h taken q c)) next
+      (visit_passes stood throughout show chart begun start limit p b noted in_order at from_low to_right done e es taken v
+      (link_passed stood throughout show chart begun start limit p b noted in_order at from_low to_right e h taken q c)) next
   visited (e ∷ es) done taken out v (inr (inr (inr (h, q, inr (inl (c, f)))))) = to_outcome out (goes (e.slice ∷ p) h (last 0 0) taken) f (record {
-    held = holds_link arena chart tree begun n 0 e.slice h p b o (onto done e es taken h v q);
-    scanned = visit_enters stood throughout show arena chart tree stands_now throughout_now start limit n p b o in_order at from_low to_right done e es taken h v q c;
+    held = noted.heads e.slice h 0 (onto done e es taken h v q);
+    scanned = visit_enters stood throughout show chart begun start limit p b noted in_order at from_low to_right done e es taken h v q c;
   })
   visited (e ∷ es) done taken out v (inr (inr (inr (h, q, inr (inr (x, k, f)))))) = to_outcome out (goes (e.slice ∷ p) h x taken) f (record {
-    held = holds_link arena chart tree begun n (first_slice x) e.slice h p b o (onto done e es taken h v q);
+    held = noted.heads e.slice h (first_slice x) (onto done e es taken h v q);
     scanned = subst (λ (w : Place). Scanned stood throughout start limit (under p w) taken) k v.scanned;
   })
+
+-- the visit of what was noted: from the scan's fact before it to the scan's fact after it, or to the right answer
+pub noted_visits : {V : Type 0} (show : Row → V) (chart : Chart) (begun : ℕ) (stood : Place → V → Type 0) (throughout : Place → Type 0) → ((slice : ℕ) → Holds chart begun 0 [] slice) →
+    (start : Place) (limit : ℕ) (p : List ℕ) (n : ℕ) (at : Place) (taken : List (Pair V)) → OpenRange chart begun stood throughout start limit p n at taken →
+    (b : BorderNode) → IsNotedList show chart begun stood throughout p b.low b.right b.entries → InOrder b.entries → b.low ≤ first_slice at → Below (first_slice at) b.right →
+    (out : VisitOutcome V) → BorderVisit show limit p at b.right b.entries taken out → Comes chart begun stood throughout start limit out
+noted_visits show chart begun stood throughout at_top start limit p n at taken range b noted ord lo hi out h =
+    visited show chart begun stood throughout at_top start limit p b noted ord at lo hi b.entries [] taken out
+    (visit_begins stood throughout show chart begun start limit p b noted ord at lo hi taken range.scanned) h
+
+-- a border that is on is noted whole
+pub border_is_noted : {V : Type 0} (show : Row → V) (arena : Arena) (chart : Chart) (tree : IsTree arena chart) (begun : ℕ) (stood : Place → V → Type 0) (throughout : Place → Type 0) →
+    ((key : Place) (row : Row) → Has arena key row → stood key (show row)) → ((key : Place) → throughout key → (row : Row) × Has arena key row) →
+    (p : List ℕ) (n : ℕ) (b : BorderNode) → OnBorder arena chart n p b → IsNotedList show chart begun stood throughout p b.low b.right b.entries
+border_is_noted show arena chart tree begun stood throughout stands_now throughout_now p n b o = record {
+  to_right = (tree.each_border n p b o).to_right;
+  shown = λ e x row i h. stands_now (under p x) row (has arena chart tree (under p x) row (record { prefix = p; number = n; node = b; entry = e; place = x; on_border = o; live = i; holds = h; is_key = refl }));
+  heads = λ s h sought i. holds_link arena chart tree begun n sought s h p b o i;
+  covers = λ x lo hi t. elim (in_interval arena chart tree n p b x o lo hi (throughout_now (under p x) t).0 (throughout_now (under p x) t).1) [
+    | inl (e, i, h) ↦ inl (e, (throughout_now (under p x) t).0, i, h)
+    | inr other ↦ inr other
+  ];
+  next = λ r e s lo. holds_right arena chart tree begun n s 0 p b r o e lo;
+}
 
 -- the visit of a border: from the scan's fact before it to the scan's fact after it, or to the right answer
 pub range_visits : {V : Type 0} (show : Row → V) (arena : Arena) (chart : Chart) → IsTree arena chart → (begun : ℕ) (stood : Place → V → Type 0) (throughout : Place → Type 0) →
@@ -181,8 +207,8 @@ pub range_visits : {V : Type 0} (show : Row → V) (arena : Arena) (chart : Char
     (out : VisitOutcome V) → BorderVisit show limit p at b.right b.entries taken out → Comes chart begun stood throughout start limit out
 range_visits show arena chart tree begun stood throughout stands_now throughout_now start limit p n at taken range b e d ord hi out h =
     let (o, lo) = border_is_on arena chart tree begun n (first_slice at) p b range.held e d in
-    visited show arena chart tree begun stood throughout stands_now throughout_now start limit p n b o ord at lo hi b.entries [] taken out
-    (visit_begins stood throughout show arena chart tree stands_now throughout_now start limit n p b o ord at lo hi taken range.scanned) h
+    noted_visits show chart begun stood throughout (holds_top arena chart tree begun) start limit p n at taken range b
+    (border_is_noted show arena chart tree begun stood throughout stands_now throughout_now p n b o) ord lo hi out h
 
 -- of a range with an end: once the cursor is at or after it, all before it is done
 pub scan_stops : {V : Type 0} (stood : Place → V → Type 0) (throughout : Place → Type 0) (start : Place) (limit : ℕ) (cursor : Place) (taken : List (Pair V)) →

@@ -16,7 +16,7 @@ use Rattle.mt_chart.proofs.Ranges.{range_begins, range_kept, range_again_at, ran
 pub stands_now : {V : Type 0} (show : Row → V) (a : Arena) (past : List Arena) (key : Place) (row : Row) → Has a key row → Stood show (a ∷ past) key (show row)
 stands_now show a past key row h = inl (row, h, refl)
 
-in_order : (es : List PlainEntry) → EntriesInOrder es → InOrder es
+pub in_order : (es : List PlainEntry) → EntriesInOrder es → InOrder es
 in_order [] o = tt
 in_order (e ∷ es) o = (o.0, in_order es o.1)
 

@@ -1,9 +1,9 @@
 -- The bound on a get's run of moves, among other calls and alone.
-use Rattle.std.proofs.Common.{ℕ, ◌≡◌, ◌<◌, List, [], ◌∷◌, length, Some, refl, arith}
+use Rattle.std.proofs.Common.{ℕ, ◌≡◌, ◌<◌, List, [], ◌∷◌, length, Some, refl, subst, arith}
 use Rattle.mt_chart.specs.Tree.{Among}
 use Rattle.mt_chart.specs.Chart.{Spot, Chart}
-use Rattle.mt_chart.specs.Walk.{KnownAt, Run, Bounded, Trail, begins, moves, others}
-use Rattle.mt_chart.proofs.Walk.{run_kept, known_at_kept, run_bound, run_fits}
+use Rattle.mt_chart.specs.Walk.{KnownAt, Run, Bounded, Trail, begins, moves, climbs, others}
+use Rattle.mt_chart.proofs.Walk.{one_height, run_kept, known_at_kept, run_bound, run_fits}
 use Rattle.mt_chart.proofs.Rise.{run_move}
 
 -- the run that a trail tells of
@@ -21,6 +21,11 @@ told b {chart} (moves {number = n} {next = m} a tree t v) =
     let (g, r, x) = run_move a chart tree b u.came n m u.height u.run u.known v in
     let e : length u.came ≡ _ = u.as_long in
     record { came = n ∷ u.came; height = g; run = r; known = x; as_long = omega arith }
+told b {chart} (climbs {number = n} {above = above} from to rises t) =
+    let u = told b t in
+    let e : length u.came ≡ _ = u.as_long in
+    let same = one_height chart b n _ u.height from u.known in
+    record { came = n ∷ u.came; height = above; run = (u.height, u.known, subst (λ (h : ℕ). h < above) same rises, u.run); known = to; as_long = omega arith }
 told b (others {chart = chart} {new = new} {number = n} ev t) =
     let u = told b t in
     record { came = u.came; height = u.height; run = run_kept b u.came u.height chart new ev u.run; known = known_at_kept b n u.height chart new ev u.known; as_long = u.as_long }

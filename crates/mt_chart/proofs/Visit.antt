@@ -3,14 +3,15 @@ use Rattle.std.proofs.Common.{ℕ, ◌≡◌, ◌<◌, ◌≤◌, ◌+◌, ◌�
 use Rattle.std.proofs.lemmas.List.{length-append}
 use Rattle.mt_slice.specs.Place.{Place, last, deeper, under, Precedes, first_slice, first_class}
 use Rattle.mt_types.specs.declared.row.Row.{Row}
-use Rattle.mt_chart.specs.Tree.{PlainContent, short, long, link, PlainEntry, Right, BorderNode, Arena, Among, first, later, Below, no_right, before_right, HoldsRow, Has}
-use Rattle.mt_chart.specs.Chart.{Chart, OnBorder, class, IsTree}
+use Rattle.mt_chart.specs.Tree.{PlainContent, short, long, link, PlainEntry, Right, BorderNode, Among, first, later, Below, no_right, before_right, HoldsRow}
+use Rattle.mt_chart.specs.Chart.{Chart, class}
+use Rattle.mt_chart.specs.NotedList.{IsNotedList}
 use Rattle.mt_chart.specs.Scan.{AtMost, Pair, Rising, UpTo, Listed, AnswersRange, Scanned, Passed, Visiting}
 use Rattle.mt_slice.proofs.PlaceOrder.{never, precedes_again, under_precedes}
 use Rattle.mt_chart.proofs.PlaceOrder.{either, then_most, most_again, not_both, under_most, under_back, outside, least, slices_rise, after_layer}
 use Rattle.mt_chart.proofs.Entries.{Before, InOrder, among_append}
-use Rattle.mt_chart.proofs.Keys.{holds_slice, in_interval}
-use Rattle.mt_chart.proofs.Reach.{below_less, has}
+use Rattle.mt_chart.proofs.Keys.{holds_slice}
+use Rattle.mt_chart.proofs.Reach.{below_less}
 
 -- lists of pairs
 pub listed_more : {V : Type 0} (key : Place) (xs ys : List (Pair V)) → Listed key xs → Listed key (xs ++ ys)
@@ -90,9 +91,8 @@ enters s (last t j) (inr h) = inl (inr (h.0, let g : j < 10 = h.1 in omega arith
 enters s (deeper t x) (inl h) = inl (inl h)
 enters s (deeper t x) (inr h) = inr (x, ap (λ (w : ℕ). deeper w x) h.0)
 
-module _ {V : Type 0} (stood : Place → V → Type 0) (throughout : Place → Type 0) (show : Row → V) (arena : Arena) (chart : Chart) (tree : IsTree arena chart)
-    (stands_now : (key : Place) (row : Row) → Has arena key row → stood key (show row)) (throughout_now : (key : Place) → throughout key → (row : Row) × Has arena key row)
-    (start : Place) (limit : ℕ) (n : ℕ) (p : List ℕ) (b : BorderNode) (o : OnBorder arena chart n p b) (in_order : InOrder b.entries)
+module _ {V : Type 0} (stood : Place → V → Type 0) (throughout : Place → Type 0) (show : Row → V) (chart : Chart) (begun : ℕ)
+    (start : Place) (limit : ℕ) (p : List ℕ) (b : BorderNode) (noted : IsNotedList show chart begun stood throughout p b.low b.right b.entries) (in_order : InOrder b.entries)
     (at : Place) (from_low : b.low ≤ first_slice at) (to_right : Below (first_slice at) b.right) where
   -- a place of the border's interval whose row, if it has one, does not stand in what is yet to be visited
   pub seen : (done todo : List PlainEntry) (taken : List (Pair V)) → Visiting stood throughout start limit p b at done todo taken → (x : Place) → Below (first_slice x) b.right →
@@ -114,9 +114,9 @@ module _ {V : Type 0} (stood : Place → V → Type 0) (throughout : Place → T
           (subst (λ (w : Place). Precedes w (last (first_slice x) 10)) (sym q) (inr (refl, omega arith))))
       at_link z h q c (inr i) = absurd ((ahead (record { slice = first_slice x; content = link h }) i).1 h z refl q)
 
-      find : AtMost at x → ((e : PlainEntry) × Among e b.entries × HoldsRow e.slice e.content x (throughout_now (under p x) t).0) ⊎
+      find : AtMost at x → ((e : PlainEntry) × (row : Row) × Among e b.entries × HoldsRow e.slice e.content x row) ⊎
           ((z : Place) × (h : ℕ) × (x ≡ deeper (first_slice x) z) × Among (record { slice = first_slice x; content = link h }) b.entries) → Listed (under p x) taken
-      find c (inl (e, i, h)) = at_entry e (throughout_now (under p x) t).0 h ((among_append e done todo).0 (subst (λ (es : List PlainEntry). Among e es) v.split i))
+      find c (inl (e, row, i, h)) = at_entry e row h ((among_append e done todo).0 (subst (λ (es : List PlainEntry). Among e es) v.split i))
       find c (inr (z, h, q, i)) = at_link z h q c
           ((among_append (record { slice = first_slice x; content = link h }) done todo).0 (subst (λ (es : List PlainEntry). Among (record { slice = first_slice x; content = link h }) es) v.split i))
 
@@ -125,7 +125,7 @@ module _ {V : Type 0} (stood : Place → V → Type 0) (throughout : Place → T
 
       go : Precedes x at ⊎ AtMost at x → Listed (under p x) taken
       go (inl h) = behind (inl h)
-      go (inr c) = find c (in_interval arena chart tree n p b x o (low c) hi (throughout_now (under p x) t).0 (throughout_now (under p x) t).1)
+      go (inr c) = find c (noted.covers x (low c) hi t)
 
   -- all before a place is done, if nothing that is yet to be visited is before it
   pub seen_before : (done todo : List PlainEntry) (taken : List (Pair V)) → Visiting stood throughout start limit p b at done todo taken → (z : Place) →
@@ -188,7 +188,7 @@ module _ {V : Type 0} (stood : Place → V → Type 0) (throughout : Place → T
       let k : first_slice x ≤ first_slice z = slices_rise x z (inr h) in
       let ex : first_slice x ≡ first_slice x = same_slice_at x in let ez : first_slice z ≡ first_slice z = same_slice_at z in
       let le : first_slice x ≤ e.slice = omega arith in
-      below_less le ((tree.each_border n p b o).to_right e (subst (λ (es : List PlainEntry). Among e es) (sym v.split) ((among_append e done (e ∷ todo)).1 (inr first))))
+      below_less le (noted.to_right e (subst (λ (es : List PlainEntry). Among e es) (sym v.split) ((among_append e done (e ∷ todo)).1 (inr first))))
 
   is_live : (done : List PlainEntry) (e : PlainEntry) (todo : List PlainEntry) (taken : List (Pair V)) → Visiting stood throughout start limit p b at done (e ∷ todo) taken → Among e b.entries
   is_live done e todo taken v = subst (λ (es : List PlainEntry). Among e es) (sym v.split) ((among_append e done (e ∷ todo)).1 (inr first))
@@ -212,9 +212,6 @@ module _ {V : Type 0} (stood : Place → V → Type 0) (throughout : Place → T
       weaker y (inl g) = inl g
       weaker y (inr u) = inr (up_to_more (under p y) taken (record { key = under p x; value = show row } ∷ []) u)
 
-      live_row : Has arena (under p x) row
-      live_row = has arena chart tree (under p x) row (record { prefix = p; number = n; node = b; entry = e; place = x; on_border = o; live = is_live done e todo taken v; holds = h; is_key = refl })
-
       from : AtMost start (under p x)
       from = most_again start (under p at) (under p x) v.scanned.onward (under_most p at x c)
 
@@ -225,7 +222,7 @@ module _ {V : Type 0} (stood : Place → V → Type 0) (throughout : Place → T
       each_shown : (pair : Pair V) → Among pair taken ⊎ Among pair (record { key = under p x; value = show row } ∷ []) → stood pair.key pair.value
       each_shown pair (inl i) = v.scanned.shown pair i
       each_shown pair (inr i) = let q : record { key = under p x; value = show row } ≡ pair = sym (among_one pair (record { key = under p x; value = show row }) i) in
-          subst (λ (w : Pair V). stood w.key w.value) q (stands_now (under p x) row live_row)
+          subst (λ (w : Pair V). stood w.key w.value) q (noted.shown e x row (is_live done e todo taken v) h)
 
       up_to_new : (key : Place) → AtMost start key → AtMost key (under p x) → throughout key → Listed key (taken ++ (record { key = under p x; value = show row } ∷ []))
       up_to_new key f (inl q) t = (record { key = under p x; value = show row }, is_new, sym q)

@@ -26,7 +26,7 @@ run_kept b [] h chart new ev r = tt
 run_kept b (n ∷ ns) h chart new ev (g, k, l, r) = (g, known_at_kept b n g chart new ev k, l, run_kept b ns g chart new ev r)
 
 -- a node has one height
-one_height : (chart : Chart) (b n g h : ℕ) → KnownAt chart b n g → KnownAt chart b n h → g ≡ h
+pub one_height : (chart : Chart) (b n g h : ℕ) → KnownAt chart b n g → KnownAt chart b n h → g ≡ h
 one_height chart b n g h j k =
     let e : chart n ≡ Some (spot j.role j.prefix j.low j.known.standing) = j.known.place in
     let f : chart n ≡ Some (spot k.role k.prefix k.low k.known.standing) = k.known.place in

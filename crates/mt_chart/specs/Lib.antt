@@ -4,6 +4,9 @@ pub mod Chart
 pub mod Walk
 pub mod Scan
 pub mod ScanRun
+pub mod Noted
+pub mod NotedList
+pub mod ListNoted
 pub mod Steps
 pub mod StepLaws
 pub mod Posting

@@ -72,11 +72,15 @@ pub record Higher (chart : Chart) (begun number reached : ℕ) : Type 0 where
   pub rises : reached < height
 
 -- A run of moves of a get that began in the epoch: it begins at a node that the call knows, the call moves on, and any
--- steps of others come between. The run stands at a chart and a node, after so many moves.
+-- steps of others come between. A move may also be told by the heights of the two nodes alone: what led to the next node
+-- may be gone by then. The run stands at a chart and a node, after so many moves.
 pub data Trail (begun : ℕ) : Chart → ℕ → ℕ → Type 0 where
   begins : {chart : Chart} {number reached : ℕ} → KnownAt chart begun number reached → Trail begun chart number 0
   moves : {chart : Chart} {number next moves_made : ℕ} (arena : Arena) → IsTree arena chart →
       Trail begun chart number moves_made → Moves arena number next → Trail begun chart next (suc moves_made)
+  climbs : {chart : Chart} {number next moves_made below above : ℕ} → KnownAt chart begun number below →
+      KnownAt chart begun next above → below < above → Trail begun chart number moves_made →
+      Trail begun chart next (suc moves_made)
   others : {chart new : Chart} {number moves_made : ℕ} → Evolves begun chart new → Trail begun chart number moves_made →
       Trail begun new number moves_made
 

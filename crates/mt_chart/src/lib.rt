@@ -5,5 +5,6 @@
 pub mod border_laws;
 pub mod ending_laws;
 pub mod inner_laws;
+pub mod noted_laws;
 pub mod scan_laws;
 pub mod tree_laws;

@@ -3,12 +3,11 @@ use Rattle.std.proofs.Common.{ℕ, ◌≡◌, ◌⊎◌, inl, inr, List, [], ◌
 use Rattle.mt_types.specs.Rows.{shown}
 use Rattle.mt_types.specs.declared.row.Row.{Row}
 use Rattle.mt_slice.specs.Place.{Place, last, under}
-use Rattle.mt_border.specs.Border.{BorderView}
+use Rattle.mt_scan.specs.Listed.{ListView, list_entries, list_right}
 use Rattle.mt_chart.specs.Tree.{PlainContent, link, PlainEntry, Right, Among, first, later}
 use Rattle.mt_chart.specs.Scan.{Pair, VisitOutcome, answers, goes, AtEnd, BorderVisit}
 use Rattle.mt_chart.specs.KeyAnswer.{as_places}
-use Rattle.mt_tree.specs.Seen.{border_seen}
-use Rattle.mt_scan.specs.Scan.{ScanView, VisitsBorder}
+use Rattle.mt_scan.specs.Scan.{ScanView, VisitsList}
 use Rattle.mt_scan.specs.Onward.{GoesFrom}
 use Rattle.mt_scan.specs.declared.scan.ScanMove.{ScanMove}
 use Rattle.mt_scan.specs.declared.scan.ScanMove.TheVariants.{Done, To, Top}
@@ -53,8 +52,8 @@ module _ (show : Row → Row) (limit : ℕ) (prefix : List ℕ) (at : Place) (ri
       at_link entry entries next is (same_node to (entry.slice ∷ prefix) number next place rest after taken goes_to)
 
 -- the visit of a border leads on from it
-pub visit_leads : (s : ScanView) (b : BorderView) (visited : ScanMove) (t : ScanView) → VisitsBorder s b visited t → GoesFrom b visited
-visit_leads s b Done t visits = tt
-visit_leads s b (To node) t visits =
-    leads (shown s.asked) s.limit s.prefix s.at (border_seen b).right t.prefix node.0 t.at (as_places t.taken) (border_seen b).entries (as_places s.taken) visits
-visit_leads s b Top t visits = tt
+pub visit_leads : (s : ScanView) (list : ListView) (visited : ScanMove) (t : ScanView) → VisitsList s list visited t → GoesFrom list visited
+visit_leads s list Done t visits = tt
+visit_leads s list (To node) t visits =
+    leads (shown s.asked) s.limit s.prefix s.at (list_right list) t.prefix node.0 t.at (as_places t.taken) (list_entries list) (as_places s.taken) visits
+visit_leads s list Top t visits = tt

@@ -6,7 +6,7 @@ use Rattle.std.specs.Option.{option_map}
 use Rattle.mt_slice.specs.Place.{Place, last, deeper, under, Precedes, first_slice}
 use Rattle.mt_types.specs.declared.numbers.NodeNo.{NodeNo}
 use Rattle.mt_types.specs.declared.row.Row.{Row}
-use Rattle.mt_border.specs.Border.{BorderView}
+use Rattle.mt_scan.specs.Listed.{ListView, list_right}
 use Rattle.mt_border.specs.declared.entry.Content.{Content}
 use Rattle.mt_border.specs.declared.entry.Content.TheVariants.{Short, Long, Link}
 use Rattle.mt_border.specs.declared.entry.RightLink.{RightLink}
@@ -15,7 +15,7 @@ use Rattle.mt_chart.specs.Scan.{Pair, VisitOutcome, answers, goes, AtEnd}
 use Rattle.mt_chart.specs.KeyAnswer.{as_places}
 use Rattle.mt_chart.specs.CursorNumber.{digit_base, digits_number, digits_above}
 use Rattle.mt_chart.proofs.Cursor.{number_below, grows_longer, leaves_border, leaves_layer}
-use Rattle.mt_tree.specs.Seen.{right_seen, border_seen}
+use Rattle.mt_tree.specs.Seen.{right_seen}
 use Rattle.mt_scan.specs.Cursor.{place_from, entered_at, StepsAt}
 use Rattle.mt_scan.specs.Scan.{ScanView, outcome_of}
 use Rattle.mt_scan.specs.Onward.{last_digit, cursor_digits, HasDigits, cursor_in, cursor_of, all_cursors, GetsOn, MayGetOn}
@@ -139,7 +139,7 @@ module _ (places : ℕ) where
       omega (arith, same, further)
 
 -- ---- a visit, which has taken some pairs and left its cursor where it was
-module _ (old now t : ScanView) (b : BorderView) (same : now ≡ record old { taken = now.taken }) (digits : HasDigits old.at) (places : ℕ) (may : MayGetOn places (cursor_in old) b) where
+module _ (old now t : ScanView) (list : ListView) (same : now ≡ record old { taken = now.taken }) (digits : HasDigits old.at) (places : ℕ) (may : MayGetOn places (cursor_in old) list) where
   -- it enters a link
   pub enters_get_on : (slice : ℕ) (content : Content) (node : NodeNo) → StepsAt now.at slice content (Enter node) → t ≡ record now { prefix = slice ∷ now.prefix; at = entered_at slice now.at } → GetsOn places (cursor_in old) (To node) (cursor_in t)
   enters_get_on slice (Short bytes row) node step is = absurd step
@@ -160,19 +160,19 @@ module _ (old now t : ScanView) (b : BorderView) (same : now ≡ record old { ta
       go (inr most) = inr (omega (arith, after, most), ap length prefix ∙ omega arith)
 
   -- it leaves the border
-  pub leaves_get_on : (right : Option RightLink) (visited : ScanMove) → right ≡ b.right → AtEnd now.prefix (option_map right_seen right) (as_places now.taken) (outcome_of visited t)
+  pub leaves_get_on : (right : Option RightLink) (visited : ScanMove) → right ≡ list.right → AtEnd now.prefix (option_map right_seen right) (as_places now.taken) (outcome_of visited t)
       → (visited ≡ Top → t.prefix ≡ []) → GetsOn places (cursor_in old) visited (cursor_in t)
   leaves_get_on right visited link left home = go visited at_end home
     where
-      at_end : AtEnd old.prefix (border_seen b).right (as_places now.taken) (outcome_of visited t)
+      at_end : AtEnd old.prefix (list_right list) (as_places now.taken) (outcome_of visited t)
       at_end =
-          subst (λ (s : ScanView). AtEnd s.prefix (border_seen b).right (as_places now.taken) (outcome_of visited t)) same
+          subst (λ (s : ScanView). AtEnd s.prefix (list_right list) (as_places now.taken) (outcome_of visited t)) same
           (subst (λ (r : Option RightLink). AtEnd now.prefix (option_map right_seen r) (as_places now.taken) (outcome_of visited t)) link left)
 
-      further : (to : List ℕ) (node : ℕ) → AtEnd old.prefix (border_seen b).right (as_places now.taken) (goes to node t.at (as_places t.taken)) → cursor_of places (cursor_in old) < number places to t.at
-      further to node is = goes_further places old.prefix old.at (border_seen b).right (as_places now.taken) (as_places t.taken) to node t.at may.layer digits may.to_right is
+      further : (to : List ℕ) (node : ℕ) → AtEnd old.prefix (list_right list) (as_places now.taken) (goes to node t.at (as_places t.taken)) → cursor_of places (cursor_in old) < number places to t.at
+      further to node is = goes_further places old.prefix old.at (list_right list) (as_places now.taken) (as_places t.taken) to node t.at may.layer digits may.to_right is
 
-      go : (visited : ScanMove) → AtEnd old.prefix (border_seen b).right (as_places now.taken) (outcome_of visited t) → (visited ≡ Top → t.prefix ≡ []) → GetsOn places (cursor_in old) visited (cursor_in t)
+      go : (visited : ScanMove) → AtEnd old.prefix (list_right list) (as_places now.taken) (outcome_of visited t) → (visited ≡ Top → t.prefix ≡ []) → GetsOn places (cursor_in old) visited (cursor_in t)
       go Done is home = tt
       go (To node) is home = inl (further t.prefix node.0 is)
       go Top is home = subst (λ (prefix : List ℕ). cursor_of places (cursor_in old) < number places prefix t.at) (sym (home refl)) (further [] 0 is)

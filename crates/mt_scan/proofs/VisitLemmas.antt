@@ -7,7 +7,7 @@ use Rattle.mt_types.specs.Rows.{shown}
 use Rattle.mt_types.specs.declared.row.Row.{Row}
 use Rattle.mt_types.specs.declared.numbers.NodeNo.{NodeNo}
 use Rattle.mt_slice.specs.Place.{Place, last, deeper, under, Precedes, place_of}
-use Rattle.mt_border.specs.Border.{BorderView}
+use Rattle.mt_scan.specs.Listed.{ListView, list_entries, list_right}
 use Rattle.mt_border.specs.Entry.{entry_row, content_row}
 use Rattle.mt_border.specs.declared.entry.Content.{Content}
 use Rattle.mt_border.specs.declared.entry.Content.TheVariants.{Short, Long, Link}
@@ -15,7 +15,7 @@ use Rattle.mt_border.specs.declared.entry.Entry.{Entry}
 use Rattle.mt_chart.specs.Tree.{PlainEntry, Right, Among}
 use Rattle.mt_chart.specs.Scan.{Pair, VisitOutcome, answers, goes, BorderVisit, UpTo}
 use Rattle.mt_chart.specs.KeyAnswer.{as_places}
-use Rattle.mt_tree.specs.Seen.{content_seen, entry_seen, entries_seen, border_seen, content_place, entry_place}
+use Rattle.mt_tree.specs.Seen.{content_seen, entry_seen, entries_seen, content_place, entry_place}
 use Rattle.mt_scan.proofs.TakenLemmas.{as_places-append, length-as_places}
 use Rattle.std.proofs.lemmas.Bool.Decides.{eqb_tells}
 use Rattle.mt_scan.specs.Cursor.{StepsAt, entered_at}
@@ -29,9 +29,9 @@ VisitsOn old right entries taken outcome = BorderVisit (shown old.asked) old.lim
 
 -- A visit has come to a place: the scan has taken some pairs, and what the visit of the other entries comes to is what the whole
 -- visit comes to.
-pub record Visiting (old now : ScanView) (b : BorderView) (place : ℕ) : Type 0 where
+pub record Visiting (old now : ScanView) (list : ListView) (place : ℕ) : Type 0 where
   pub same : now ≡ record old { taken = now.taken }
-  pub onward : (outcome : VisitOutcome Row) → VisitsOn old (border_seen b).right (entries_seen (drop place b.live)) now.taken outcome → VisitsOn old (border_seen b).right (entries_seen b.live) old.taken outcome
+  pub onward : (outcome : VisitOutcome Row) → VisitsOn old (list_right list) (entries_seen (drop place list.entries)) now.taken outcome → VisitsOn old (list_right list) (list_entries list) old.taken outcome
 
 -- ---- one entry
 -- a link that is entered: at the layer's first place, or at the rest of the cursor
@@ -110,68 +110,68 @@ module _ (old : ScanView) (right : Option Right) (taken : List (List ℕ × Row)
   visits-take slice (Link top) key row takes room is place new next = absurd takes
 
 -- ---- a visit that has come to a place
-module _ (old now : ScanView) (b : BorderView) (place : ℕ) (so_far : Visiting old now b place) where
+module _ (old now : ScanView) (list : ListView) (place : ℕ) (so_far : Visiting old now list place) where
   -- the entry there
-  at-entry : (entry : Entry) → slice_get b.live place ≡ Some entry → entries_seen (drop place b.live) ≡ entry_seen entry ∷ entries_seen (drop (place + 1) b.live)
+  at-entry : (entry : Entry) → slice_get list.entries place ≡ Some entry → entries_seen (drop place list.entries) ≡ entry_seen entry ∷ entries_seen (drop (place + 1) list.entries)
   at-entry entry here =
-      let within = slice_get_within b.live place entry here in
-      ap entries_seen (drop_more b.live place entry within ∙ ap (λ (e : Entry). e ∷ drop (place + 1) b.live) (get_or_from_slice_get b.live place entry entry here))
+      let within = slice_get_within list.entries place entry here in
+      ap entries_seen (drop_more list.entries place entry within ∙ ap (λ (e : Entry). e ∷ drop (place + 1) list.entries) (get_or_from_slice_get list.entries place entry entry here))
 
   -- the limit is reached
-  pub comes-full : length now.taken ≡ now.limit → VisitsOn old (border_seen b).right (entries_seen b.live) old.taken (outcome_of Done now)
+  pub comes-full : length now.taken ≡ now.limit → VisitsOn old (list_right list) (list_entries list) old.taken (outcome_of Done now)
   comes-full full =
       so_far.onward (outcome_of Done now)
-      (visits-full old (border_seen b).right now.taken [] (outcome_of Done now) (entries_seen (drop place b.live)) (full ∙ ap (λ (s : ScanView). s.limit) so_far.same) refl)
+      (visits-full old (list_right list) now.taken [] (outcome_of Done now) (entries_seen (drop place list.entries)) (full ∙ ap (λ (s : ScanView). s.limit) so_far.same) refl)
 
   -- an entry is passed
-  pub goes-on : (entry : Entry) → slice_get b.live place ≡ Some entry → StepsAt now.at entry.slice entry.content Pass → Visiting old now b (place + 1)
+  pub goes-on : (entry : Entry) → slice_get list.entries place ≡ Some entry → StepsAt now.at entry.slice entry.content Pass → Visiting old now list (place + 1)
   goes-on entry here step = record {
     same = so_far.same;
     onward = λ outcome next. so_far.onward outcome
-        (subst (λ (es : List PlainEntry). VisitsOn old (border_seen b).right es now.taken outcome) (sym (at-entry entry here))
-        (visits-pass old (border_seen b).right now.taken (entries_seen (drop (place + 1) b.live)) outcome entry.slice entry.content
+        (subst (λ (es : List PlainEntry). VisitsOn old (list_right list) es now.taken outcome) (sym (at-entry entry here))
+        (visits-pass old (list_right list) now.taken (entries_seen (drop (place + 1) list.entries)) outcome entry.slice entry.content
         (subst (λ (s : ScanView). StepsAt s.at entry.slice entry.content Pass) so_far.same step) next));
   }
 
   -- an entry's pair is taken, or was
-  pub goes-on_taking : (entry : Entry) (t : ScanView) → slice_get b.live place ≡ Some entry → StepsAt now.at entry.slice entry.content Take → length now.taken < now.limit → TakesPair now entry t → Visiting old t b (place + 1)
+  pub goes-on_taking : (entry : Entry) (t : ScanView) → slice_get list.entries place ≡ Some entry → StepsAt now.at entry.slice entry.content Take → length now.taken < now.limit → TakesPair now entry t → Visiting old t list (place + 1)
   goes-on_taking entry t here step room takes = go takes
     where
       is_step : StepsAt old.at entry.slice entry.content Take
       is_step = subst (λ (s : ScanView). StepsAt s.at entry.slice entry.content Take) so_far.same step
 
-      from : (outcome : VisitOutcome Row) → VisitsOn old (border_seen b).right (entry_seen entry ∷ entries_seen (drop (place + 1) b.live)) now.taken outcome → VisitsOn old (border_seen b).right (entries_seen b.live) old.taken outcome
-      from outcome next = so_far.onward outcome (subst (λ (es : List PlainEntry). VisitsOn old (border_seen b).right es now.taken outcome) (sym (at-entry entry here)) next)
+      from : (outcome : VisitOutcome Row) → VisitsOn old (list_right list) (entry_seen entry ∷ entries_seen (drop (place + 1) list.entries)) now.taken outcome → VisitsOn old (list_right list) (list_entries list) old.taken outcome
+      from outcome next = so_far.onward outcome (subst (λ (es : List PlainEntry). VisitsOn old (list_right list) es now.taken outcome) (sym (at-entry entry here)) next)
 
-      go : TakesPair now entry t → Visiting old t b (place + 1)
-      go (inl (was, is)) = subst (λ (s : ScanView). Visiting old s b (place + 1)) (sym is) (record {
+      go : TakesPair now entry t → Visiting old t list (place + 1)
+      go (inl (was, is)) = subst (λ (s : ScanView). Visiting old s list (place + 1)) (sym is) (record {
         same = so_far.same;
-        onward = λ outcome next. from outcome (visits-taken old (border_seen b).right now.taken (entries_seen (drop (place + 1) b.live)) outcome entry.slice entry.content is_step
+        onward = λ outcome next. from outcome (visits-taken old (list_right list) now.taken (entries_seen (drop (place + 1) list.entries)) outcome entry.slice entry.content is_step
             (subst (λ (s : ScanView). UpTo (under s.prefix (entry_place entry)) (as_places now.taken)) so_far.same was) next);
       })
-      go (inr (key, row, has, at, new, is)) = subst (λ (s : ScanView). Visiting old s b (place + 1)) (sym is) (record {
+      go (inr (key, row, has, at, new, is)) = subst (λ (s : ScanView). Visiting old s list (place + 1)) (sym is) (record {
         same = ap (λ (s : ScanView). let u : ScanView = record s { taken = now.taken ++ (key, shown now.asked row) ∷ [] } in u) so_far.same;
-        onward = λ outcome next. from outcome (visits-take old (border_seen b).right now.taken (entries_seen (drop (place + 1) b.live)) outcome entry.slice entry.content key row is_step
+        onward = λ outcome next. from outcome (visits-take old (list_right list) now.taken (entries_seen (drop (place + 1) list.entries)) outcome entry.slice entry.content key row is_step
             (subst (λ (s : ScanView). length now.taken < s.limit) so_far.same room) has
             (subst (λ (s : ScanView). place_of key ≡ under s.prefix (entry_place entry)) so_far.same at) new
-            (subst (λ (s : ScanView). VisitsOn old (border_seen b).right (entries_seen (drop (place + 1) b.live)) (now.taken ++ (key, shown s.asked row) ∷ []) outcome) so_far.same next));
+            (subst (λ (s : ScanView). VisitsOn old (list_right list) (entries_seen (drop (place + 1) list.entries)) (now.taken ++ (key, shown s.asked row) ∷ []) outcome) so_far.same next));
       })
 
   -- a link is entered
-  pub comes-enter : (entry : Entry) (node : NodeNo) (t : ScanView) → slice_get b.live place ≡ Some entry → StepsAt now.at entry.slice entry.content (Enter node)
+  pub comes-enter : (entry : Entry) (node : NodeNo) (t : ScanView) → slice_get list.entries place ≡ Some entry → StepsAt now.at entry.slice entry.content (Enter node)
       → t ≡ record now { prefix = entry.slice ∷ now.prefix; at = entered_at entry.slice now.at }
-      → VisitsOn old (border_seen b).right (entries_seen b.live) old.taken (outcome_of (To node) t)
+      → VisitsOn old (list_right list) (list_entries list) old.taken (outcome_of (To node) t)
   comes-enter entry node t here step is =
       so_far.onward (outcome_of (To node) t)
-      (subst (λ (es : List PlainEntry). VisitsOn old (border_seen b).right es now.taken (outcome_of (To node) t)) (sym (at-entry entry here))
-      (visits-enter old (border_seen b).right now.taken (entries_seen (drop (place + 1) b.live)) (outcome_of (To node) t) entry.slice entry.content node
+      (subst (λ (es : List PlainEntry). VisitsOn old (list_right list) es now.taken (outcome_of (To node) t)) (sym (at-entry entry here))
+      (visits-enter old (list_right list) now.taken (entries_seen (drop (place + 1) list.entries)) (outcome_of (To node) t) entry.slice entry.content node
       (subst (λ (s : ScanView). StepsAt s.at entry.slice entry.content (Enter node)) so_far.same step)
       (ap (outcome_of (To node)) is ∙ ap (λ (s : ScanView). goes (entry.slice ∷ s.prefix) node.0 (entered_at entry.slice s.at) (as_places now.taken)) so_far.same)))
 
   -- the entry's row is that of a key
-  pub holds-key : HoldsKeys old.prefix b.live → (entry : Entry) → slice_get b.live place ≡ Some entry → IsSome (entry_row entry) → HoldsKey now.prefix entry
+  pub holds-key : HoldsKeys old.prefix list.entries → (entry : Entry) → slice_get list.entries place ≡ Some entry → IsSome (entry_row entry) → HoldsKey now.prefix entry
   holds-key holds entry here row =
-      let within = slice_get_within b.live place entry here in
+      let within = slice_get_within list.entries place entry here in
       subst (λ (s : ScanView). HoldsKey s.prefix entry) (sym so_far.same)
-      (subst (λ (e : Entry). IsSome (entry_row e) → HoldsKey old.prefix e) (get_or_from_slice_get b.live place entry entry here)
-      (All-get_or (λ e. IsSome (entry_row e) → HoldsKey old.prefix e) b.live place entry within holds.each) row)
+      (subst (λ (e : Entry). IsSome (entry_row e) → HoldsKey old.prefix e) (get_or_from_slice_get list.entries place entry entry here)
+      (All-get_or (λ e. IsSome (entry_row e) → HoldsKey old.prefix e) list.entries place entry within holds.each) row)

@@ -1,10 +1,9 @@
 -- A scan that gets on: the number of its cursor, and how that grows with the visit of a border.
 use Rattle.std.specs.Prelude.{ℕ, ◌≡◌, ◌<◌, ◌≤◌, ◌+◌, ◌*◌, ◌==◌, ◌⊎◌, if◌then◌else◌, List, [], ◌∷◌, length, Some}
 use Rattle.mt_slice.specs.Place.{Place, last, deeper, first_slice}
-use Rattle.mt_border.specs.Border.{BorderView}
 use Rattle.mt_chart.specs.Tree.{link, Right, Among, Below}
 use Rattle.mt_chart.specs.CursorNumber.{AreDigits, digit_base, base_power, digits_number, digits_above}
-use Rattle.mt_tree.specs.Seen.{border_seen}
+use Rattle.mt_scan.specs.Listed.{ListView, list_entries, list_right}
 use Rattle.mt_scan.specs.Cursor.{CursorView}
 use Rattle.mt_scan.specs.Scan.{ScanView}
 use Rattle.mt_scan.specs.declared.scan.ScanMove.{ScanMove}
@@ -43,23 +42,23 @@ GetsOn places c (To node) d = (cursor_of places c < cursor_of places d)
     ⊎ ((cursor_of places c ≤ cursor_of places d) × (length d.prefix ≡ length c.prefix + 1))
 GetsOn places c Top d = cursor_of places c < cursor_of places d
 
--- What a scan needs of the border that it visits, to get on: there are fewer layers above it than places, and the slice
--- that it seeks stands before the border's right neighbour.
-pub record MayGetOn (places : ℕ) (c : CursorView) (b : BorderView) : Type 0 where
+-- What a scan needs of the list that it visits, to get on: there are fewer layers above it than places, and the slice
+-- that it seeks stands before what is to the right.
+pub record MayGetOn (places : ℕ) (c : CursorView) (list : ListView) : Type 0 where
   pub layer : length c.prefix < places
-  pub to_right : Below (first_slice c.at) (border_seen b).right
+  pub to_right : Below (first_slice c.at) (list_right list)
 
--- a scan that visits the border gets on, by the number of its cursor in any number of places
-abbrev pub GoesOnward : CursorView → BorderView → ScanMove → CursorView → Type 0
-GoesOnward c b visited d = (places : ℕ) → MayGetOn places c b → GetsOn places c visited d
+-- a scan that visits the list gets on, by the number of its cursor in any number of places
+abbrev pub GoesOnward : CursorView → ListView → ScanMove → CursorView → Type 0
+GoesOnward c list visited d = (places : ℕ) → MayGetOn places c list → GetsOn places c visited d
 
--- the border leads to the number: its right link names it, or a link among its entries does
-abbrev pub LeadsOn : BorderView → ℕ → Type 0
-LeadsOn b number = ((right : Right) × ((border_seen b).right ≡ Some right) × (right.number ≡ number))
-    ⊎ ((slice : ℕ) × Among (record { slice = slice; content = link number }) (border_seen b).entries)
+-- the list leads to the number: its right link names it, or a link among its entries does
+abbrev pub LeadsOn : ListView → ℕ → Type 0
+LeadsOn list number = ((right : Right) × (list_right list ≡ Some right) × (right.number ≡ number))
+    ⊎ ((slice : ℕ) × Among (record { slice = slice; content = link number }) (list_entries list))
 
--- where a scan goes from a border: to a number to which it leads, or back to the head of layer 0
-abbrev pub GoesFrom : BorderView → ScanMove → Type 0
-GoesFrom b Done = Unit {0}
-GoesFrom b (To node) = LeadsOn b node.0 ⊎ (node.0 ≡ 0)
-GoesFrom b Top = Unit {0}
+-- where a scan goes from a list: to a number to which it leads, or back to the head of layer 0
+abbrev pub GoesFrom : ListView → ScanMove → Type 0
+GoesFrom list Done = Unit {0}
+GoesFrom list (To node) = LeadsOn list node.0 ⊎ (node.0 ≡ 0)
+GoesFrom list Top = Unit {0}

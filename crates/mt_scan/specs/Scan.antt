@@ -4,13 +4,13 @@ use Rattle.mt_types.specs.Rows.{shown}
 use Rattle.mt_types.specs.declared.limits.TheConstants.{MAX_KEY_BYTES}
 use Rattle.mt_types.specs.declared.row.Row.{Row}
 use Rattle.mt_slice.specs.Place.{Place, Precedes, under, AreBytes, place_of}
-use Rattle.mt_border.specs.Border.{BorderView}
 use Rattle.mt_border.specs.Entry.{entry_row}
 use Rattle.mt_border.specs.declared.entry.Entry.{Entry}
 use Rattle.mt_chart.specs.Tree.{Among}
 use Rattle.mt_chart.specs.Scan.{Pair, Rising, UpTo, VisitOutcome, answers, goes, BorderVisit}
 use Rattle.mt_chart.specs.KeyAnswer.{as_places, KeysAreBytes}
-use Rattle.mt_tree.specs.Seen.{entry_place, border_seen}
+use Rattle.mt_tree.specs.Seen.{entry_place}
+use Rattle.mt_scan.specs.Listed.{ListView, list_entries, list_right}
 use Rattle.mt_scan.specs.declared.scan.ScanMove.{ScanMove}
 use Rattle.mt_scan.specs.declared.scan.ScanMove.TheVariants.{Done, To, Top}
 
@@ -44,10 +44,10 @@ outcome_of Done s = answers (as_places s.taken)
 outcome_of (To node) s = goes s.prefix node.0 s.at (as_places s.taken)
 outcome_of Top s = goes [] 0 s.at (as_places s.taken)
 
--- the visit of a border by a scan, which leaves it so
-abbrev pub VisitsBorder : ScanView → BorderView → ScanMove → ScanView → Type 0
-VisitsBorder s b visited t =
-    BorderVisit (shown s.asked) s.limit s.prefix s.at (border_seen b).right (border_seen b).entries (as_places s.taken)
+-- the visit of a list of entries by a scan, which leaves it so
+abbrev pub VisitsList : ScanView → ListView → ScanMove → ScanView → Type 0
+VisitsList s list visited t =
+    BorderVisit (shown s.asked) s.limit s.prefix s.at (list_right list) (list_entries list) (as_places s.taken)
     (outcome_of visited t)
 
 -- the key was taken, or one after it

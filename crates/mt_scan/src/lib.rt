@@ -2,7 +2,9 @@
 #![tactic(auto)]
 
 mod cursor;
+mod listed;
 mod pair;
 mod scan;
 
+pub use listed::Listed;
 pub use scan::{Scan, ScanMove};

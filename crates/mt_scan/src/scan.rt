@@ -7,12 +7,14 @@ ghost use Rattle.mt_chart.specs.Scan.{AtEnd, AtMost};
 ghost use Rattle.mt_chart.specs.KeyAnswer.{as_places, KeysAreBytes};
 ghost use Rattle.mt_tree.specs.Seen.{right_seen};
 ghost use Rattle.mt_scan.specs.Cursor.{StepsAt, entered_at};
-ghost use Rattle.mt_scan.specs.Scan.{HoldsKey, HoldsKeys, TakesPair, WasTaken, IsNext, VisitsBorder, outcome_of};
+ghost use Rattle.mt_scan.specs.Scan.{HoldsKey, HoldsKeys, TakesPair, WasTaken, IsNext, VisitsList, outcome_of};
+ghost use Rattle.mt_scan.specs.Listed.{list_in};
 ghost use Rattle.mt_scan.specs.Onward.{HasDigits, cursor_in, cursor_of, all_cursors, GoesOnward};
 
 use crate::cursor::{Cursor, Step};
+use crate::listed::Listed;
 use crate::pair::{key_of, row_of};
-use mt_border::{Border, Entry, RightLink};
+use mt_border::{Entry, RightLink};
 use mt_slice::compare;
 use mt_types::columns::shown;
 use mt_types::items::Items;
@@ -208,8 +210,8 @@ impl Scan {
         }
     }
 
-    /// Visits a border of the layer in which the scan stands: takes the pairs that are at or after the cursor, in
-    /// their order, up to the limit, up to the first link that it has to enter, or to the border's end. The scan is
+    /// Visits the entries of a border of the layer in which the scan stands: takes the pairs that are at or after the
+    /// cursor, in their order, up to the limit, up to the first link that it has to enter, or to the end. The scan is
     /// then at its end, or it goes on at the head of the link's layer, at the border to the right, or at the head of
     /// layer 0, and its cursor is behind all that it has done. Where it has as many pairs as it may take, it is at
     /// its end at once. A scan that goes on gets on: its cursor is further on, or it is in the layer below.
@@ -221,23 +223,23 @@ impl Scan {
     ///
     /// `NoMemory` where an allocation is refused. The call is then to be refused too: of what the scan has done of the
     /// visit, no more is said than that its limit and its columns stay.
-    pub fn visit(&mut self, alloc: Global, border: &Border) -> Result<ScanMove, NoMemory>
-        requires { HoldsKeys self.old.prefix border.now.live }
-        ensures visited { IfOk result (λ visited. VisitsBorder self.old border.now visited self.new) }
+    pub fn visit(&mut self, alloc: Global, listed: Listed<'_>) -> Result<ScanMove, NoMemory>
+        requires { HoldsKeys self.old.prefix (list_in listed).entries }
+        ensures visited { IfOk result (λ visited. VisitsList self.old (list_in listed.entry) visited self.new) }
         ensures full { IfOk result (λ visited. length self.new.taken ≡ self.old.limit → visited ≡ ScanMove.Done) }
         ensures home { IfOk result (λ visited. visited ≡ ScanMove.Top → self.new.prefix ≡ []) }
-        ensures onward { IfOk result (λ visited. GoesOnward (cursor_in self.old) border.now visited
+        ensures onward { IfOk result (λ visited. GoesOnward (cursor_in self.old) (list_in listed.entry) visited
             (cursor_in self.new)) }
         ensures within { (places : ℕ) → cursor_of places (cursor_in self.old) < all_cursors places }
         ensures limit { self.new.limit ≡ self.old.limit }
         ensures asked { self.new.asked ≡ self.old.asked }
     {
         self.cursor_has_digits();
-        for place in 0..border.len() {
+        for place in 0..listed.len() {
             if self.is_full() {
                 return Ok(ScanMove::Done);
             }
-            let entry = border.entry(place);
+            let entry = listed.entry(place);
             match self.step(entry) {
                 Step::Pass => {}
                 Step::Take => self.take(alloc, entry)?,
@@ -250,7 +252,7 @@ impl Scan {
         if self.is_full() {
             return Ok(ScanMove::Done);
         }
-        Ok(self.leave(border.right()))
+        Ok(self.leave(listed.right()))
     }
 
     /// Takes out the pairs that it has taken, in the order of their keys: it is then as if it had taken none. Constant

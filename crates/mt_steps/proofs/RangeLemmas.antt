@@ -46,7 +46,8 @@ use Rattle.mt_tree.proofs.SeenLemmas.{seen-border, among_map}
 use Rattle.mt_chart.specs.Walk.{Moves, to_right, to_link}
 use Rattle.mt_scan.specs.Cursor.{CursorView}
 use Rattle.mt_scan.specs.Onward.{cursor_of, all_cursors, GetsOn, GoesOnward, LeadsOn, GoesFrom}
-use Rattle.mt_scan.specs.Scan.{ScanView, HoldsKey, HoldsKeys, VisitsBorder, outcome_of}
+use Rattle.mt_scan.specs.Listed.{list_of}
+use Rattle.mt_scan.specs.Scan.{ScanView, HoldsKey, HoldsKeys, VisitsList, outcome_of}
 use Rattle.mt_scan.specs.declared.scan.ScanMove.{ScanMove}
 use Rattle.mt_scan.specs.declared.scan.ScanMove.TheVariants.{Done, To as VisitedTo, Top}
 use Rattle.mt_steps.specs.declared.ranging.Range.{Range}
@@ -149,19 +150,19 @@ pub record IsAliveFor (b : BorderView) (slice : ℕ) : Type 0 where
   pub to_right : Below slice (border_seen b).right
 
 -- where a border leads, a move leads
-border_moves : (a : ArenaView) (number : ℕ) (b : BorderView) → border_at a.nodes number ≡ Some b → IsBorder b → b.version.deleted ≡ false → (next : ℕ) → LeadsOn b next ⊎ (next ≡ 0)
+border_moves : (a : ArenaView) (number : ℕ) (b : BorderView) → border_at a.nodes number ≡ Some b → IsBorder b → b.version.deleted ≡ false → (next : ℕ) → LeadsOn (list_of b) next ⊎ (next ≡ 0)
     → Moves (arena_seen a) number next ⊎ (next ≡ 0)
 border_moves a number b named sound alive next (inl (inl (right, is, same))) = inl (to_right (border_seen b) right (seen-border a number b named) alive is same)
 border_moves a number b named sound alive next (inl (inr (slice, there))) = inl (to_link (border_seen b) slice next (seen-border a number b named) alive sound.low_fits there refl)
 border_moves a number b named sound alive next (inr home) = inr home
 
 module _ (a : ArenaView) (number : ℕ) (b : BorderView) (c d : CursorView) (visited : ScanMove) (named : border_at a.nodes number ≡ Some b) (sound : IsBorder b) (alive : IsAliveFor b (first_slice c.at))
-    (leads : GoesFrom b visited) (onward : GoesOnward c b visited d) (within : (places : ℕ) → cursor_of places c < all_cursors places) (arena : IsArena a) where
+    (leads : GoesFrom (list_of b) visited) (onward : GoesOnward c (list_of b) visited d) (within : (places : ℕ) → cursor_of places c < all_cursors places) (arena : IsArena a) where
   pub scans_on : (next : NodeNo) → visited ≡ VisitedTo next → ScansOn a number next.0 c d
   scans_on next to = record {
     gets_on = λ places layer. subst (λ (v : ScanMove). GetsOn places c v d) to (onward places (record { layer = layer; to_right = alive.to_right }));
     within = within;
-    leads = border_moves a number b named sound alive.alive next.0 (subst (λ (v : ScanMove). GoesFrom b v) to leads);
+    leads = border_moves a number b named sound alive.alive next.0 (subst (λ (v : ScanMove). GoesFrom (list_of b) v) to leads);
     sound = arena;
   }
 
@@ -261,7 +262,7 @@ module _ (a : ArenaView) (range : Range) where
           let here = here_is now begun w world truth.scans.held is in
           subst (λ (x : BorderView). IsAliveFor x (first_slice range.scan.at)) (same_border here) (record { alive = here.alive; to_right = here.to_right })
 
-      module _ (sound : IsBorder b) (visited : ScanMove) (scan : ScanView) (visits : VisitsBorder range.scan b visited scan) where
+      module _ (sound : IsBorder b) (visited : ScanMove) (scan : ScanView) (visits : VisitsList range.scan (list_of b) visited scan) where
         comes : (now begun moves : ℕ) (past : List Arena) (w : World) → IsWorld a now w → RangeIsTrue range begun moves past a w
             → Comes w.chart begun (Stood (shown range.columns) (arena_seen a ∷ past)) (AllHave (arena_seen a ∷ past)) (place_of range.start) range.limit (outcome_of visited scan)
         comes now begun moves past w world truth =
@@ -273,8 +274,8 @@ module _ (a : ArenaView) (range : Range) where
             (subst (λ (x : BorderView). Below (first_slice range.scan.at) (border_seen x).right) same here.to_right)
             (outcome_of visited scan) (at_own truth.limit truth.asked)
           where
-            at_own : range.scan.limit ≡ range.limit → range.scan.asked ≡ range.columns → VisitsBorder (record range.scan { limit = range.limit; asked = range.columns }) b visited scan
-            at_own limit asked = subst (λ (s : ScanView). VisitsBorder s b visited scan) (ap (λ (l : ℕ). record range.scan { limit = l }) limit ∙ ap (λ (c : List ℕ). record range.scan { limit = range.limit; asked = c }) asked) visits
+            at_own : range.scan.limit ≡ range.limit → range.scan.asked ≡ range.columns → VisitsList (record range.scan { limit = range.limit; asked = range.columns }) (list_of b) visited scan
+            at_own limit asked = subst (λ (s : ScanView). VisitsList s (list_of b) visited scan) (ap (λ (l : ℕ). record range.scan { limit = l }) limit ∙ ap (λ (c : List ℕ). record range.scan { limit = range.limit; asked = c }) asked) visits
 
         abbrev ComesIf : World → ℕ → List Arena → ScanMove → Type 0
         ComesIf w begun past v = Comes w.chart begun (Stood (shown range.columns) (arena_seen a ∷ past)) (AllHave (arena_seen a ∷ past)) (place_of range.start) range.limit (outcome_of v scan)

@@ -23,7 +23,8 @@ use Rattle.mt_scan.specs.Cursor.{CursorView}
 use Rattle.mt_scan.specs.Onward.{cursor_in, cursor_of, all_cursors, GetsOn}
 use Rattle.mt_scan.specs.declared.scan.ScanMove.{ScanMove}
 use Rattle.mt_scan.specs.declared.scan.ScanMove.TheVariants.{To as VisitedTo, Top as VisitedTop, Done as VisitDone}
-use Rattle.mt_scan.specs.Scan.{ScanView, VisitsBorder}
+use Rattle.mt_scan.specs.Listed.{list_of}
+use Rattle.mt_scan.specs.Scan.{ScanView, VisitsList}
 use Rattle.mt_steps.specs.declared.progress.Progress.{Progress}
 use Rattle.mt_steps.specs.declared.progress.Progress.TheVariants.{Moved, Waits, Answered}
 use Rattle.mt_steps.specs.declared.ranging.Range.{Range}
@@ -113,7 +114,7 @@ restarted scan = record scan { prefix = []; at = under scan.prefix scan.at }
 pub record ScansBorder (a : ArenaView) (range : Range) (visited : ScanMove) (scan : ScanView) : Type 0 where
   pub border : BorderView
   pub stands : border_at a.nodes range.node.0 ≡ Some border
-  pub visits : VisitsBorder range.scan border visited scan
+  pub visits : VisitsList range.scan (list_of border) visited scan
 
 -- a scan that goes on is then at the node of this number
 abbrev pub IsThen : ScanMove → ℕ → Type 0

@@ -14,7 +14,7 @@ ghost use Rattle.mt_steps.specs.Ranging.{range_request, RangeIsTrue, RangeFollow
 
 use crate::progress::Progress;
 use mt_arena::Node;
-use mt_scan::{Scan, ScanMove};
+use mt_scan::{Listed, Scan, ScanMove};
 use mt_tree::{TOP, Tree, Visit, visit_node};
 use mt_types::event::Answer;
 use mt_types::key::Key;
@@ -94,7 +94,7 @@ impl Range {
                 self.node = next;
                 Progress::Moved
             }
-            Sought::Here => match self.scan.visit(alloc, node.as_border()) {
+            Sought::Here => match self.scan.visit(alloc, Listed::Border(node.as_border())) {
                 Ok(ScanMove::To(next)) => {
                     self.node = next;
                     Progress::Moved

@@ -14,11 +14,13 @@ use Rattle.mt_chart.proofs.HeldNodes.{evolves_same}
 use Rattle.mt_tree.specs.Seen.{arena_seen, border_seen}
 use Rattle.mt_tree.proofs.SeenLemmas.{seen-border}
 use Rattle.mt_tree.proofs.HeldLemmas.{held_may_visit}
+use Rattle.mt_border.specs.Order.{IsBorder}
+use Rattle.mt_scan.specs.Listed.{list_of}
 use Rattle.mt_scan.specs.Scan.{HoldsKeys}
 use Rattle.mt_scan.specs.declared.scan.ScanMove.{ScanMove}
 use Rattle.mt_scan.specs.declared.scan.ScanMove.TheVariants.{Done, To as VisitedTo, Top}
 use Rattle.mt_build.specs.Build.{BuildView, build_cursor, IsScanning, ComesTo, VisitsOn}
-use Rattle.mt_build.proofs.ReadLemmas.{others_keep, restarts_keep, ways_keep}
+use Rattle.mt_build.proofs.ReadLemmas.{border_visited, others_keep, restarts_keep, ways_keep}
 use Rattle.mt_steps.specs.declared.progress.Progress.{Progress}
 use Rattle.mt_steps.specs.declared.progress.Progress.TheVariants.{Moved, Waits, Refused}
 use Rattle.mt_steps.specs.declared.ranging.Sought.{Sought}
@@ -125,12 +127,12 @@ module _ (a : ArenaView) (log : LogView) (build : BuildView) (number : NodeNo) w
           let here : IsAtSlice a number.0 (first_slice build.at) = knows now begun past w world truth Here is in
           subst (λ (x : BorderView). IsAliveFor x (first_slice build.at)) (same_border here) (record { alive = here.alive; to_right = here.to_right })
 
-      module _ (visited : ScanMove) (new : BuildView) (visits : VisitsOn build b visited new) where
+      module _ (sound : IsBorder b) (visited : ScanMove) (new : BuildView) (visits : VisitsOn build (list_of b) visited new) where
         comes : (move : ScanMove) → visited ≡ move → (now begun : ℕ) (past : List Arena) (w : World) → IsWorld a now w → IsScanning w.chart begun (arena_seen a ∷ past) number.0 build → ComesTo w.chart begun (arena_seen a ∷ past) move new
         comes move to now begun past w world truth =
             let here : IsAtSlice a number.0 (first_slice build.at) = knows now begun past w world truth Here is in
             subst (λ (v : ScanMove). ComesTo w.chart begun (arena_seen a ∷ past) v new) to
-            (visits.comes w.chart begun number.0 (arena_seen a) past world.index.tree (seen-border a number.0 b named) (ap (λ (x : BorderView). x.version.deleted) (sym (same_border here)) ∙ here.alive)
+            (border_visited build b visited new visits sound w.chart begun number.0 (arena_seen a) past world.index.tree (seen-border a number.0 b named) (ap (λ (x : BorderView). x.version.deleted) (sym (same_border here)) ∙ here.alive)
             (subst (λ (x : BorderView). Below (first_slice build.at) (border_seen x).right) (same_border here) here.to_right) truth)
 
         pub scan_goes : (next : NodeNo) → visited ≡ VisitedTo next → (C : ℕ) → BuildingLaw C a log (at build number None) Moved (at new next None)
@@ -209,8 +211,8 @@ module _ (log : LogView) (old : Building) (node : Node) (may : BuildMayVisit log
         scan_alive may.arena log old.build old.node sought sought_here b named_here is at.now at.begun at.past at.w at.world (as_truth may.arena log old scanning at.begun at.moves at.past at.w at.true)
 
 -- the visit of the border that the number names
-pub scans_border : (a : ArenaView) (number : ℕ) (old : BuildView) (b : BorderView) (visited : ScanMove) (new : BuildView) → border_at a.nodes number ≡ Some b → VisitsOn old b visited new → BuildVisits a number old visited new
-scans_border a number old b visited new named visits = subst (λ (o : Option BorderView). IsSomeAnd o (λ x. VisitsOn old x visited new)) (sym named) visits
+pub scans_border : (a : ArenaView) (number : ℕ) (old : BuildView) (b : BorderView) (visited : ScanMove) (new : BuildView) → border_at a.nodes number ≡ Some b → VisitsOn old (list_of b) visited new → BuildVisits a number old visited new
+scans_border a number old b visited new named visits = subst (λ (o : Option BorderView). IsSomeAnd o (λ x. VisitsOn old (list_of x) visited new)) (sym named) visits
 
 -- ---- while it takes deltas
 module _ (a : ArenaView) (log : LogView) (old : Building) (upto : ℕ) (scanned : old.upto ≡ Some upto) where

@@ -12,6 +12,7 @@ use Rattle.mt_arena.specs.Arena.{ArenaView}
 use Rattle.mt_chart.specs.Tree.{Arena}
 use Rattle.mt_tree.specs.Seen.{arena_seen}
 use Rattle.mt_view.specs.State.{StateView, applied}
+use Rattle.mt_scan.specs.Listed.{list_of}
 use Rattle.mt_scan.specs.declared.scan.ScanMove.{ScanMove}
 use Rattle.mt_scan.specs.declared.scan.ScanMove.TheVariants.{Done as VisitDone}
 use Rattle.mt_build.specs.Build.{BuildView, build_cursor, IsScanning, HasScanned, VisitsOn}
@@ -90,7 +91,7 @@ resumed build = record build { prefix = []; at = under build.prefix build.at }
 
 -- the visit of the one border where it stands leads its scan on so
 abbrev pub BuildVisits : ArenaView → ℕ → BuildView → ScanMove → BuildView → Type 0
-BuildVisits a number old visited new = IsSomeAnd (border_at a.nodes number) (λ b. VisitsOn old b visited new)
+BuildVisits a number old visited new = IsSomeAnd (border_at a.nodes number) (λ b. VisitsOn old (list_of b) visited new)
 
 -- on its way it is as it was; and else it visits the border where it stands
 abbrev pub BuildScans : ArenaView → ℕ → BuildView → ℕ → BuildView → Type 0

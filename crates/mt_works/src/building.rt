@@ -11,7 +11,7 @@ ghost use Rattle.mt_works.specs.Building.{building_request, BuildingIsTrue, Buil
 use mt_arena::Node;
 use mt_build::build::Build;
 use mt_commit::log::Log;
-use mt_scan::ScanMove;
+use mt_scan::{Listed, ScanMove};
 use mt_steps::progress::Progress;
 use mt_steps::ranging::{Sought, seek_node};
 use mt_tree::{TOP, Tree};
@@ -80,7 +80,7 @@ impl Building {
                 self.node = next;
                 Progress::Moved
             }
-            Sought::Here => match self.build.visit(alloc, node.as_border()) {
+            Sought::Here => match self.build.visit(alloc, Listed::Border(node.as_border())) {
                 Ok(ScanMove::To(next)) => {
                     self.node = next;
                     Progress::Moved

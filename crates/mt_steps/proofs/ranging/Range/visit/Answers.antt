@@ -1,7 +1,8 @@
 use Rattle.std.proofs.Common.{ℕ, inl, inr, refl, sym, ap, subst, arith}
 use Rattle.mt_types.specs.declared.event.Answer.TheVariants.{Rows}
 use Rattle.mt_scan.specs.declared.scan.ScanMove.{ScanMove}
-use Rattle.mt_scan.specs.Scan.{VisitsBorder}
+use Rattle.mt_scan.specs.Listed.{list_of}
+use Rattle.mt_scan.specs.Scan.{VisitsList}
 use Rattle.mt_scan.specs.Onward.{cursor_in}
 use Rattle.mt_scan.proofs.LeadLemmas.{visit_leads}
 use Rattle.mt_steps.specs.Way.{start}
@@ -67,7 +68,7 @@ pub returns-in-Ok-To-clause-gets_on : goal.returns-in-Ok-To-clause-gets_on
 returns-in-Ok-To-clause-gets_on c = λ a names.
     let alive = alive_for c.args.self.now c.args.node.now c.requires c.seek_node.result c.slice.result c.seek_node.ensures.seeks c.slice.ensures c.as_border.result.now c.as_border.ensures.value c.in-Here.is in (
       inr (scans_on a c.args.self.now.node.0 c.as_border.result.now (cursor_in c.args.self.now.scan) (cursor_in c.visit.new.self) c.in-Ok-To.field-0 (names_border a c.args.self.now.node.0 c.args.node.now c.as_border.result.now names c.as_border.ensures.value) c.as_border.ensures.sound alive
-          (visit_leads c.args.self.now.scan c.as_border.result.now c.in-Ok-To.field-0 c.visit.new.self c.in-Ok-To.ensures.visited) c.in-Ok-To.ensures.onward c.in-Ok-To.ensures.within names.sound c.in-Ok-To.next c.in-Ok-To.field-0-is),
+          (visit_leads c.args.self.now.scan (list_of c.as_border.result.now) c.in-Ok-To.field-0 c.visit.new.self c.in-Ok-To.ensures.visited) c.in-Ok-To.ensures.onward c.in-Ok-To.ensures.within names.sound c.in-Ok-To.next c.in-Ok-To.field-0-is),
       inr (c.in-Ok-To.field-0, record { border = c.as_border.result.now; stands = (names_border a c.args.self.now.node.0 c.args.node.now c.as_border.result.now names c.as_border.ensures.value); visits = c.in-Ok-To.ensures.visited }, subst (λ (move : ScanMove). IsThen move c.in-Ok-To.next.0) (sym c.in-Ok-To.field-0-is) refl),
     )
 
@@ -80,7 +81,7 @@ pub returns-in-Ok-Top-clause-gets_on : goal.returns-in-Ok-Top-clause-gets_on
 returns-in-Ok-Top-clause-gets_on c = λ a names.
     let alive = alive_for c.args.self.now c.args.node.now c.requires c.seek_node.result c.slice.result c.seek_node.ensures.seeks c.slice.ensures c.as_border.result.now c.as_border.ensures.value c.in-Here.is in (
       inr (scans_top a c.args.self.now.node.0 c.as_border.result.now (cursor_in c.args.self.now.scan) (cursor_in c.visit.new.self) c.in-Ok-Top.field-0 (names_border a c.args.self.now.node.0 c.args.node.now c.as_border.result.now names c.as_border.ensures.value) c.as_border.ensures.sound alive
-          (visit_leads c.args.self.now.scan c.as_border.result.now c.in-Ok-Top.field-0 c.visit.new.self c.in-Ok-Top.ensures.visited) c.in-Ok-Top.ensures.onward c.in-Ok-Top.ensures.within names.sound c.in-Ok-Top.field-0-is),
+          (visit_leads c.args.self.now.scan (list_of c.as_border.result.now) c.in-Ok-Top.field-0 c.visit.new.self c.in-Ok-Top.ensures.visited) c.in-Ok-Top.ensures.onward c.in-Ok-Top.ensures.within names.sound c.in-Ok-Top.field-0-is),
       inr (c.in-Ok-Top.field-0, record { border = c.as_border.result.now; stands = (names_border a c.args.self.now.node.0 c.args.node.now c.as_border.result.now names c.as_border.ensures.value); visits = c.in-Ok-Top.ensures.visited }, subst (λ (move : ScanMove). IsThen move start.node.0) (sym c.in-Ok-Top.field-0-is) refl),
     )
 
@@ -90,7 +91,7 @@ returns-in-Ok-Done-clause-gets_on c = λ a names. (
   record {
     border = c.as_border.result.now;
     stands = (names_border a c.args.self.now.node.0 c.args.node.now c.as_border.result.now names c.as_border.ensures.value);
-    visits = subst (λ (move : ScanMove). VisitsBorder c.args.self.now.scan c.as_border.result.now move c.visit.new.self) c.in-Ok-Done.field-0-is c.in-Ok-Done.ensures.visited;
+    visits = subst (λ (move : ScanMove). VisitsList c.args.self.now.scan (list_of c.as_border.result.now) move c.visit.new.self) c.in-Ok-Done.field-0-is c.in-Ok-Done.ensures.visited;
   },
   ap Rows c.take_pairs.ensures.value,
 )

@@ -1,4 +1,5 @@
 use Rattle.std.proofs.Common.{ℕ, Some, inl, inr, refl, sym, ap, subst, arith}
+use Rattle.mt_scan.specs.Listed.{list_of}
 use Rattle.mt_scan.specs.declared.scan.ScanMove.{ScanMove}
 use Rattle.mt_scan.specs.declared.scan.ScanMove.TheVariants.{Done}
 use Rattle.mt_steps.specs.Way.{start}
@@ -15,8 +16,11 @@ seek_node-requires c = build_may_visit c.args.log.now c.args.self.now c.args.nod
 pub as_border-requires : goal.as_border-requires
 as_border-requires c = c.seek_node.ensures.here c.in-Here.is
 
-pub visit-requires : goal.visit-requires
-visit-requires c =
+pub visit-requires-clause-few : goal.visit-requires-clause-few
+visit-requires-clause-few c = let slots = c.as_border.ensures.sound.slots in omega (arith, slots)
+
+pub visit-requires-clause-keys : goal.visit-requires-clause-keys
+visit-requires-clause-keys c =
     keys_of c.args.log.now c.args.self.now c.args.node.now c.requires.may c.requires.scans c.seek_node.result c.slice.result c.seek_node.ensures.seeks c.slice.ensures
     c.as_border.result.now c.as_border.ensures.value c.in-Here.is
 
@@ -40,25 +44,25 @@ pub returns-in-Ok-To-clause-steps : goal.returns-in-Ok-To-clause-steps
 returns-in-Ok-To-clause-steps c = λ a names C.
     as_scanning a c.args.log.now c.args.self.now c.requires.scans C _ _ _
     (scan_goes a c.args.log.now c.args.self.now.build c.args.self.now.node c.seek_node.result (subst (λ (s : ℕ). Seeks a c.args.self.now.node.0 s c.seek_node.result) c.slice.ensures (c.seek_node.ensures.seeks a c.args.self.now.node.0 names))
-    c.as_border.result.now (names_border a c.args.self.now.node.0 c.args.node.now c.as_border.result.now names c.as_border.ensures.value) c.in-Here.is c.in-Ok-To.field-0 c.visit.new.self c.in-Ok-To.ensures.visited c.in-Ok-To.next c.in-Ok-To.field-0-is C)
+    c.as_border.result.now (names_border a c.args.self.now.node.0 c.args.node.now c.as_border.result.now names c.as_border.ensures.value) c.in-Here.is c.as_border.ensures.sound c.in-Ok-To.field-0 c.visit.new.self c.in-Ok-To.ensures.visited c.in-Ok-To.next c.in-Ok-To.field-0-is C)
 
 pub returns-in-Ok-Top-clause-steps : goal.returns-in-Ok-Top-clause-steps
 returns-in-Ok-Top-clause-steps c = λ a names C.
     as_scanning a c.args.log.now c.args.self.now c.requires.scans C _ _ _
     (scan_tops a c.args.log.now c.args.self.now.build c.args.self.now.node c.seek_node.result (subst (λ (s : ℕ). Seeks a c.args.self.now.node.0 s c.seek_node.result) c.slice.ensures (c.seek_node.ensures.seeks a c.args.self.now.node.0 names))
-    c.as_border.result.now (names_border a c.args.self.now.node.0 c.args.node.now c.as_border.result.now names c.as_border.ensures.value) c.in-Here.is c.in-Ok-Top.field-0 c.visit.new.self c.in-Ok-Top.ensures.visited c.in-Ok-Top.field-0-is C)
+    c.as_border.result.now (names_border a c.args.self.now.node.0 c.args.node.now c.as_border.result.now names c.as_border.ensures.value) c.in-Here.is c.as_border.ensures.sound c.in-Ok-Top.field-0 c.visit.new.self c.in-Ok-Top.ensures.visited c.in-Ok-Top.field-0-is C)
 
 pub returns-in-Ok-Done-clause-steps : goal.returns-in-Ok-Done-clause-steps
 returns-in-Ok-Done-clause-steps c = λ a names C.
     as_ended a c.args.log.now c.args.self.now c.requires.scans C _ (record { build = c.visit.new.self; node = c.args.self.now.node; upto = Some c.number.result })
     (scan_ends a c.args.log.now c.args.self.now.build c.args.self.now.node c.seek_node.result (subst (λ (s : ℕ). Seeks a c.args.self.now.node.0 s c.seek_node.result) c.slice.ensures (c.seek_node.ensures.seeks a c.args.self.now.node.0 names))
-    c.as_border.result.now (names_border a c.args.self.now.node.0 c.args.node.now c.as_border.result.now names c.as_border.ensures.value) c.in-Here.is c.in-Ok-Done.field-0 c.visit.new.self c.in-Ok-Done.ensures.visited c.number.result C)
+    c.as_border.result.now (names_border a c.args.self.now.node.0 c.args.node.now c.as_border.result.now names c.as_border.ensures.value) c.in-Here.is c.as_border.ensures.sound c.in-Ok-Done.field-0 c.visit.new.self c.in-Ok-Done.ensures.visited c.number.result C)
 
 pub returns-in-Ok-Done-clause-builds : goal.returns-in-Ok-Done-clause-builds
 returns-in-Ok-Done-clause-builds c = λ a names.
     has_scanned a c.args.log.now c.args.self.now c.requires.scans c.number.result c.visit.new.self c.number.ensures.value c.visit.ensures.state
     (scans_all a c.args.log.now c.args.self.now.build c.args.self.now.node c.seek_node.result (subst (λ (s : ℕ). Seeks a c.args.self.now.node.0 s c.seek_node.result) c.slice.ensures (c.seek_node.ensures.seeks a c.args.self.now.node.0 names))
-    c.as_border.result.now (names_border a c.args.self.now.node.0 c.args.node.now c.as_border.result.now names c.as_border.ensures.value) c.in-Here.is c.in-Ok-Done.field-0 c.visit.new.self c.in-Ok-Done.ensures.visited c.in-Ok-Done.field-0-is)
+    c.as_border.result.now (names_border a c.args.self.now.node.0 c.args.node.now c.as_border.result.now names c.as_border.ensures.value) c.in-Here.is c.as_border.ensures.sound c.in-Ok-Done.field-0 c.visit.new.self c.in-Ok-Done.ensures.visited c.in-Ok-Done.field-0-is)
 
 pub returns-in-Err-clause-steps : goal.returns-in-Err-clause-steps
 returns-in-Err-clause-steps c = λ a names C. build_fails a c.args.log.now c.args.self.now _ C
@@ -88,7 +92,7 @@ pub returns-in-Ok-Done-clause-gets_on : goal.returns-in-Ok-Done-clause-gets_on
 returns-in-Ok-Done-clause-gets_on c = λ a names.
     scan_ended a c.args.log.now c.args.self.now c.requires.scans c.number.result c.visit.new.self
     (scans_border a c.args.self.now.node.0 c.args.self.now.build c.as_border.result.now Done c.visit.new.self (names_border a c.args.self.now.node.0 c.args.node.now c.as_border.result.now names c.as_border.ensures.value)
-    (subst (λ (move : ScanMove). VisitsOn c.args.self.now.build c.as_border.result.now move c.visit.new.self) c.in-Ok-Done.field-0-is c.in-Ok-Done.ensures.visited))
+    (subst (λ (move : ScanMove). VisitsOn c.args.self.now.build (list_of c.as_border.result.now) move c.visit.new.self) c.in-Ok-Done.field-0-is c.in-Ok-Done.ensures.visited))
 
 pub returns-in-Again-clause-gets_on : goal.returns-in-Again-clause-gets_on
 returns-in-Again-clause-gets_on c = λ a names. ap (λ (build : BuildView). record { build = build; node = start.node; upto = c.args.self.now.upto }) c.restart.ensures
