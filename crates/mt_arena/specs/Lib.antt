@@ -2,3 +2,4 @@
 pub mod Node
 pub mod Arena
 pub mod Lends
+pub mod Parts

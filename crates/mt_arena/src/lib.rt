@@ -3,8 +3,10 @@
 
 mod arena;
 mod node;
+mod part;
 mod retired;
 
 pub use arena::Arena;
 pub use node::Node;
+pub use part::Part;
 pub use retired::Retired;

@@ -6,3 +6,4 @@ pub mod Order
 pub mod Find
 pub mod Cut
 pub mod Slots
+pub mod Parts

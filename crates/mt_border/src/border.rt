@@ -8,11 +8,13 @@ ghost use Rattle.mt_word.specs.declared.version_word.TheConstants.{MAX_INSERTS, 
 ghost use Rattle.mt_word.specs.Version.{IsVersion};
 ghost use Rattle.mt_border.specs.Entry.{IsEntry, entry_rank};
 ghost use Rattle.mt_border.specs.Border.{new_border, with_filled, with_shown, with_hidden, with_value, with_link_at, with_entries, with_split, with_right, with_lock, with_deleted, right_for, row_at, suffix_at, fill_is_spent, filled_version, next_row};
+ghost use Rattle.mt_border.specs.Parts.{IsField, IsBorderPart};
 ghost use Rattle.mt_border.specs.Order.{IsBorder, IsLeftOf, AreBelow};
 ghost use Rattle.mt_border.specs.Find.{entries_before, found_in, found_content};
 ghost use Rattle.mt_border.specs.Cut.{IsBestCut, IsCut};
 
 use crate::entry::{Content, Entry, RightLink};
+use crate::field::{BorderPart, Field};
 use crate::found::Found;
 use crate::slot_table::SlotTable;
 use mt_slice::Class;
@@ -228,6 +230,20 @@ impl Border {
         ensures sound { IsBorder self.now }
     {
         &self.table.live(place).entry
+    }
+
+    /// One field of the border, lent to be read. Constant cost.
+    pub fn part(&self, field: Field) -> BorderPart<'_>
+        requires { IsField field }
+        ensures { IsBorderPart self.now field result }
+    {
+        match field {
+            Field::Version => BorderPart::Version(self.version),
+            Field::Right => BorderPart::Right(self.right),
+            Field::Order => BorderPart::Order(self.table.order()),
+            Field::Key(number) => BorderPart::Key(self.table.slot(number).entry.key_part()),
+            Field::Value(number) => BorderPart::Value(self.table.slot(number).entry.value_part()),
+        }
     }
 
     /// The border to the right, where this slice stands there or beyond. Constant cost.

@@ -3,9 +3,11 @@
 
 mod border;
 mod entry;
+mod field;
 mod found;
 mod slot_table;
 
 pub use border::Border;
 pub use entry::{Content, Entry, RightLink, Suffix};
+pub use field::{BorderPart, Field, KeyPart, KeyRest, ValuePart};
 pub use found::Found;

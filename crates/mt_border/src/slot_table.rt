@@ -156,6 +156,22 @@ impl SlotTable {
         self.permutation.len()
     }
 
+    /// The slot of a number.
+    #[inline]
+    pub fn slot(&self, number: usize) -> &Slot
+        requires { number < SLOTS }
+        ensures { slice_index_or self.now.slots number blank_slot ≡ result.now }
+    {
+        &self.slots.as_slice()[number]
+    }
+
+    /// Which slots are live, in which order.
+    pub fn order(&self) -> Permutation
+        ensures { result ≡ self.now.order }
+    {
+        self.permutation
+    }
+
     /// The live slot at a place.
     #[inline]
     pub fn live(&self, place: usize) -> &Slot

@@ -1,6 +1,6 @@
 //! The tree itself: its nodes under their numbers.
 
-ghost use Rattle.std.specs.Prelude.{◌≡◌, ◌+◌, ℕ, List, Some, IsSome, IfOk, []};
+ghost use Rattle.std.specs.Prelude.{◌≡◌, ◌+◌, ℕ, List, Some, IsSome, IsSomeAnd, IfOk, []};
 ghost use Rattle.mt_types.specs.declared.limits.TheConstants.{MAX_NODES};
 ghost use Rattle.mt_types.specs.declared.row.Row.{Row};
 ghost use Rattle.mt_slice.specs.Place.{Place};
@@ -8,6 +8,8 @@ ghost use Rattle.mt_border.specs.Order.{IsBorder};
 ghost use Rattle.mt_interior.specs.Head.{IsHead};
 ghost use Rattle.mt_interior.specs.Interior.{IsInterior};
 ghost use Rattle.mt_arena.specs.Node.{node_at, head_at, interior_at, border_at, occupied};
+ghost use Rattle.mt_border.specs.Parts.{IsField};
+ghost use Rattle.mt_arena.specs.Parts.{IsPart};
 ghost use Rattle.mt_arena.specs.Arena.{IsArena};
 ghost use Rattle.mt_chart.specs.Tree.{Has};
 ghost use Rattle.mt_chart.specs.NewIndex.{new_chart};
@@ -15,8 +17,8 @@ ghost use Rattle.mt_tree.specs.Seen.{arena_seen};
 ghost use Rattle.mt_tree.specs.Keeping.{IsIndexAt};
 ghost use Rattle.mt_tree.specs.NewTree.{IsNewTree};
 
-use mt_arena::{Arena, Node};
-use mt_border::Border;
+use mt_arena::{Arena, Node, Part};
+use mt_border::{Border, Field};
 use mt_interior::{Head, Interior};
 use mt_types::numbers::NodeNo;
 use mt_types::refusal::NoMemory;
@@ -78,6 +80,16 @@ impl Tree {
         ensures arena { IsArena self.now }
     {
         self.arena.get(number)
+    }
+
+    /// The node under a number, to be read: of a border this field alone. Constant cost.
+    pub fn part(&self, number: NodeNo, field: Field) -> Part<'_>
+        requires named { IsSome (node_at self.now.nodes number.0) }
+        requires field { IsField field }
+        ensures value { IsSomeAnd (node_at self.now.nodes number.0) (λ node. IsPart node field result) }
+        ensures arena { IsArena self.now }
+    {
+        self.node(number).part(field)
     }
 
     /// The head under a number. Constant cost.
