@@ -235,7 +235,8 @@ impl Border {
     /// One field of the border, lent to be read. Constant cost.
     pub fn part(&self, field: Field) -> BorderPart<'_>
         requires { IsField field }
-        ensures { IsBorderPart self.now field result }
+        ensures value { IsBorderPart self.now field result }
+        ensures sound { IsBorder self.now }
     {
         match field {
             Field::Version => BorderPart::Version(self.version),

@@ -7,7 +7,7 @@ ghost use Rattle.mt_slice.specs.Place.{Place};
 ghost use Rattle.mt_border.specs.Order.{IsBorder};
 ghost use Rattle.mt_interior.specs.Head.{IsHead};
 ghost use Rattle.mt_interior.specs.Interior.{IsInterior};
-ghost use Rattle.mt_arena.specs.Node.{node_at, head_at, interior_at, border_at, occupied};
+ghost use Rattle.mt_arena.specs.Node.{node_at, head_at, interior_at, border_at, occupied, IsNode};
 ghost use Rattle.mt_border.specs.Parts.{IsField};
 ghost use Rattle.mt_arena.specs.Parts.{IsPart};
 ghost use Rattle.mt_arena.specs.Arena.{IsArena};
@@ -87,6 +87,7 @@ impl Tree {
         requires named { IsSome (node_at self.now.nodes number.0) }
         requires field { IsField field }
         ensures value { IsSomeAnd (node_at self.now.nodes number.0) (λ node. IsPart node field result) }
+        ensures sound { IsSomeAnd (node_at self.now.nodes number.0) IsNode }
         ensures arena { IsArena self.now }
     {
         self.node(number).part(field)
