@@ -1,6 +1,6 @@
 -- The slot of a number, and whether it is live, through each change of a border.
-use Rattle.std.proofs.Common.{◌≡◌, ◌≢◌, ℕ, ◌+◌, ◌<◌, inl, inr, List, [], ◌∷◌, ◌++◌, length, take, drop, get_or, nat_eq, refl, sym, ap, ◌∙◌, arith, Bool, true, false, ◌||◌}
-use Rattle.std.specs.List.{list_any}
+use Rattle.std.proofs.Common.{subst, ◌≡◌, ◌≢◌, ℕ, ◌+◌, ◌<◌, inl, inr, List, [], ◌∷◌, ◌++◌, length, take, drop, get_or, nat_eq, refl, sym, ap, ◌∙◌, arith, Bool, true, false, ◌||◌}
+use Rattle.std.specs.List.{Contains, list_any}
 use Rattle.std.proofs.lemmas.Bool.Decides.{eqb_tells}
 use Rattle.std.proofs.lemmas.List.{take-append-drop, drop_more, get_or-set_same, get_or-set_other}
 use Rattle.std.proofs.lemmas.List.Elements.{Contains-get_or}
@@ -15,6 +15,7 @@ use Rattle.mt_border.specs.Slots.{slot_at, is_live, held_at}
 use Rattle.mt_border.proofs.TableLemmas.{live_below, next_below}
 use Rattle.mt_border.proofs.SlotLemmas.{live_count, unused_there}
 use Rattle.mt_border.proofs.FieldLemmas.{live_from_there, never_both}
+use Rattle.mt_border.proofs.BorderLemmas.{border_hidden}
 use Rattle.mt_border.specs.declared.entry.Entry.{Entry}
 use Rattle.mt_border.specs.declared.entry.RightLink.{RightLink}
 use Rattle.mt_border.specs.declared.slot_table.Slot.{Slot}
@@ -103,6 +104,22 @@ module _ (b : BorderView) (h : IsBorder b) where
       let more : drop i l ≡ number_at i b.order ∷ drop (i + 1) l = drop_more l i 0 (omega (arith, within, live_count b.live b.unused b.slots b.order h.seen)) in
       let rest : list_any p (drop i l) ≡ list_any p (drop (i + 1) l) = ap (λ (xs : List ℕ). list_any p xs) more ∙ rw (not_equal k (number_at i b.order) other) refl in
       list_any-append p (take i l) (drop (i + 1) l) ∙ (ap (λ (r : Bool). list_any p (take i l) || r) (sym rest) ∙ any_parts p i l)
+
+  pub hidden_lives : (i k : ℕ) → i < length b.live → is_live (with_hidden b i) k ≡ true → is_live b k ≡ true
+  hidden_lives i k within live =
+      elim (eqb_tells k (number_at i b.order)) [
+        | inl p ↦ rw p.1 (number_live i within)
+        | inr p ↦ sym (hidden_lives_other i k within p.1) ∙ live
+      ]
+
+  -- the slot of what is hidden is unused
+  pub hidden_not_live : (i : ℕ) → i < length b.live → is_live (with_hidden b i) (number_at i b.order) ≡ true → ⊥
+  hidden_not_live i within live =
+      let whole = border_hidden b i within h in
+      let more : drop i b.order.live ≡ number_at i b.order ∷ drop (i + 1) b.order.live = drop_more b.order.live i 0 (omega (arith, within, live_count b.live b.unused b.slots b.order h.seen)) in
+      let first : take 1 (drop i b.order.live) ++ b.order.unused ≡ number_at i b.order ∷ b.order.unused = rw more refl in
+      let there : Contains (take 1 (drop i b.order.live) ++ b.order.unused) (number_at i b.order) = subst (λ (l : List ℕ). Contains l (number_at i b.order)) (sym first) (0, omega arith, refl) in
+      never_both (with_hidden b i) (number_at i b.order) whole live there
 
   -- ---- a cut leaves the slots, and what is live then was live
   pub split_lives : (keep k : ℕ) (right : RightLink) → is_live (with_split b keep right) k ≡ true → is_live b k ≡ true

@@ -1,9 +1,10 @@
 -- What a border shows of the slot of a number: a live one is among what is live, and each number is live or unused, and not both.
-use Rattle.std.proofs.Common.{◌≡◌, ℕ, zero, suc, ◌+◌, ◌<◌, ◌⊎◌, inl, inr, List, [], ◌∷◌, length, get_or, sym, ap, ◌∙◌, arith, subst, true, length-append}
-use Rattle.std.specs.List.{Contains}
+use Rattle.std.proofs.Common.{◌≡◌, ℕ, zero, suc, ◌+◌, ◌<◌, ◌⊎◌, inl, inr, List, [], ◌∷◌, length, get_or, sym, ap, ◌∙◌, arith, refl, subst, Bool, true, false, ◌||◌, length-append}
+use Rattle.std.specs.List.{Contains, list_any}
 use Rattle.std.proofs.lemmas.Bool.Decides.{Decides-eqb}
+use Rattle.std.proofs.lemmas.Bool.{cases_lt}
 use Rattle.std.proofs.lemmas.Cmp.{nat_eq_equiv}
-use Rattle.std.proofs.lemmas.List.{get_or-map, get_or_default, get_or_append_left, get_or-append-add, length-map}
+use Rattle.std.proofs.lemmas.List.{get_or-map, get_or_default, get_or_append_left, get_or-append-add, get_or_past, length-map}
 use Rattle.std.proofs.lemmas.List.Elements.{Contains-get_or, Contains-append_cases}
 use Rattle.std.proofs.lemmas.List.Sorted.{Contains-permutation}
 use Rattle.std.proofs.lemmas.Map.Views.{list_any-from_Contains, Contains-from_any}
@@ -80,3 +81,38 @@ never_both b k h live unused =
     let place_left = there.1 in
     let place_right = unused.1 in
     places_distinct b.order h.seen.table.arranged there.0 (length l + unused.0) 0 (omega (arith, place_left)) (omega (arith, place_right, length-append l u)) (left ∙ sym right)
+
+-- ---- where no unused slot held a key
+neither : (a b : Bool) → (a || b) ≡ false → (a ≡ false) × (b ≡ false)
+neither true b h = absurd (cc)
+neither false b h = (refl, h)
+
+none_held_at : (slots : List Slot) (i : ℕ) → list_any (λ slot. slot.held_key) slots ≡ false → i < length slots → (get_or slots i blank_slot).held_key ≡ false
+none_held_at [] i h within = absurd (omega (arith, within))
+none_held_at (slot ∷ slots) zero h within = (neither slot.held_key (list_any (λ (s : Slot). s.held_key) slots) h).0
+none_held_at (slot ∷ slots) (suc i) h within =
+    none_held_at slots i (neither slot.held_key (list_any (λ (s : Slot). s.held_key) slots) h).1 (omega (arith, within))
+
+-- what is no number of a slot reads as a slot that was never filled
+pub held_is_below : (b : BorderView) (k : ℕ) → IsBorder b → held_at b k ≡ true → k < 15
+held_is_below b k h held =
+    elim (cases_lt k 15) [
+      | inl below ↦ below
+      | inr past ↦ absurd (let out : held_at b k ≡ false = ap (λ (slot : Slot). slot.held_key) (get_or_past b.slots k blank_slot (omega (arith, past, h.seen.table.fifteen))) in
+          let clash : true ≡ false = sym held ∙ out in
+          cc)
+    ]
+
+-- a border that may be filled has no slot that held a key
+pub none_held : (b : BorderView) (k : ℕ) → IsBorder b → b.live ≡ [] → list_any (λ slot. slot.held_key) b.unused ≡ false → held_at b k ≡ true → ⊥
+none_held b k h empty fresh held =
+    elim (live_or_unused b k h (held_is_below b k h held)) [
+      | inl live ↦ (let among : Contains [] (slot_at b k).entry = subst (λ (l : List Entry). Contains l (slot_at b k).entry) empty (live_entry_among b k h live) in
+          omega (arith, among.1))
+      | inr unused ↦ (let left : List Slot = picked b.slots b.order.unused in
+          let inside : unused.0 < length left = omega (arith, unused.1, length-picked b.slots b.order b.order.unused) in
+          let read : get_or left unused.0 blank_slot ≡ slot_at b k = picked_at b.slots b.order.unused unused.0 unused.1 ∙ ap (λ (n : ℕ). get_or b.slots n blank_slot) (read_place b.order.unused k unused) in
+          let none : list_any (λ (slot : Slot). slot.held_key) left ≡ false = ap (λ (l : List Slot). list_any (λ (slot : Slot). slot.held_key) l) (sym h.seen.unused_is) ∙ fresh in
+          let clash : true ≡ false = sym held ∙ (ap (λ (slot : Slot). slot.held_key) (sym read) ∙ none_held_at left unused.0 none inside) in
+          cc)
+    ]
