@@ -8,5 +8,5 @@ mod retired;
 
 pub use arena::Arena;
 pub use node::Node;
-pub use part::Part;
+pub use part::{Field, Part};
 pub use retired::Retired;

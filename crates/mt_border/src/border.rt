@@ -8,13 +8,14 @@ ghost use Rattle.mt_word.specs.declared.version_word.TheConstants.{MAX_INSERTS, 
 ghost use Rattle.mt_word.specs.Version.{IsVersion};
 ghost use Rattle.mt_border.specs.Entry.{IsEntry, entry_rank};
 ghost use Rattle.mt_border.specs.Border.{new_border, with_filled, with_shown, with_hidden, with_value, with_link_at, with_entries, with_split, with_right, with_lock, with_deleted, right_for, row_at, suffix_at, fill_is_spent, filled_version, next_row};
-ghost use Rattle.mt_border.specs.Parts.{IsField, IsBorderPart};
+ghost use Rattle.mt_border.specs.Parts.{IsKeyOf, IsValueOf};
+ghost use Rattle.mt_border.specs.Slots.{slot_at};
 ghost use Rattle.mt_border.specs.Order.{IsBorder, IsLeftOf, AreBelow};
 ghost use Rattle.mt_border.specs.Find.{entries_before, found_in, found_content};
 ghost use Rattle.mt_border.specs.Cut.{IsBestCut, IsCut};
 
 use crate::entry::{Content, Entry, RightLink};
-use crate::field::{BorderPart, Field};
+use crate::field::{KeyPart, ValuePart};
 use crate::found::Found;
 use crate::slot_table::SlotTable;
 use mt_slice::Class;
@@ -23,7 +24,7 @@ use mt_types::items::Items;
 use mt_types::numbers::NodeNo;
 use mt_types::refusal::{NoMemory, Refusal};
 use mt_types::row::Row;
-use mt_word::{SLOTS, Version};
+use mt_word::{Permutation, SLOTS, Version};
 use std::alloc::Global;
 use std::cmp::Ordering;
 use std::marker::Model;
@@ -232,19 +233,38 @@ impl Border {
         &self.table.live(place).entry
     }
 
-    /// One field of the border, lent to be read. Constant cost.
-    pub fn part(&self, field: Field) -> BorderPart<'_>
-        requires { IsField field }
-        ensures value { IsBorderPart self.now field result }
+    /// The version word. Constant cost.
+    pub fn version(&self) -> Version
+        ensures value { result ≡ self.now.version }
         ensures sound { IsBorder self.now }
     {
-        match field {
-            Field::Version => BorderPart::Version(self.version),
-            Field::Right => BorderPart::Right(self.right),
-            Field::Order => BorderPart::Order(self.table.order()),
-            Field::Key(number) => BorderPart::Key(self.table.slot(number).entry.key_part()),
-            Field::Value(number) => BorderPart::Value(self.table.slot(number).entry.value_part()),
-        }
+        self.version
+    }
+
+    /// Which slots are live, in which order. Constant cost.
+    pub fn order(&self) -> Permutation
+        ensures value { result ≡ self.now.order }
+        ensures sound { IsBorder self.now }
+    {
+        self.table.order()
+    }
+
+    /// The key of the slot of a number. Constant cost.
+    pub fn key_at(&self, number: usize) -> KeyPart<'_>
+        requires { number < SLOTS }
+        ensures value { IsKeyOf (slot_at self.now number).entry result }
+        ensures sound { IsBorder self.now }
+    {
+        self.table.slot(number).entry.key_part()
+    }
+
+    /// The value of the slot of a number. Constant cost.
+    pub fn value_at(&self, number: usize) -> ValuePart<'_>
+        requires { number < SLOTS }
+        ensures value { IsValueOf (slot_at self.now number).entry.content result }
+        ensures sound { IsBorder self.now }
+    {
+        self.table.slot(number).entry.value_part()
     }
 
     /// The border to the right, where this slice stands there or beyond. Constant cost.

@@ -1,44 +1,30 @@
-//! One field of a border at a time, for calls that read it while others write.
+//! The key and the value of one slot, for calls that read a border one field at a time.
 
-ghost use Rattle.mt_border.specs.Parts.{IsKeyOf, IsValueOf};
+ghost use Rattle.std.specs.Prelude.{◌≡◌, [], unwrap_or};
+ghost use Rattle.mt_slice.specs.Place.{AreBytes};
+ghost use Rattle.mt_border.specs.Entry.{entry_suffix};
+ghost use Rattle.mt_border.specs.Parts.{content_mark, IsKeyOf, IsValueOf};
 
-use crate::entry::{Content, Entry, RightLink, Suffix};
-use mt_slice::Length;
+use crate::entry::{Content, Entry};
+use mt_slice::Class;
 use mt_types::numbers::NodeNo;
 use mt_types::row::Row;
-use mt_word::{Permutation, Version};
 
-/// Which field of a border. A slot is named by its number, 0 to 14.
+/// Whether what stands at a slot's key is a row, or leads to the layer below.
 #[derive(Clone, Copy, Debug, PartialEq, Eq)]
-pub enum Field {
-    /// The version word.
-    Version,
-    /// The right link.
-    Right,
-    /// Which slots are live, in which order.
-    Order,
-    /// The key of a slot.
-    Key(usize),
-    /// The value of a slot.
-    Value(usize),
-}
-
-/// What a slot's key has after its slice.
-#[derive(Clone, Copy)]
-pub enum KeyRest<'a> {
-    /// Nothing: the key ends in the slice, after so many bytes of it.
-    Short(Length),
-    /// What follows the slice.
-    Long(&'a Suffix),
-    /// What the layer holds to which the slot's value leads.
+pub enum Mark {
+    Plain,
     Layer,
 }
 
-/// A slot's key.
+/// A slot's key: its slice and class, what follows the slice (nothing, where the class is a length or the mark that of a
+/// layer), and its mark.
 #[derive(Clone, Copy)]
 pub struct KeyPart<'a> {
     pub slice: u64,
-    pub rest: KeyRest<'a>,
+    pub class: Class,
+    pub suffix: &'a [u8],
+    pub mark: Mark,
 }
 
 /// A slot's value: the row of its key, or the head of the layer to which it leads.
@@ -48,29 +34,37 @@ pub enum ValuePart<'a> {
     Link(NodeNo),
 }
 
-/// One field of a border, lent to be read.
-#[derive(Clone, Copy)]
-pub enum BorderPart<'a> {
-    Version(Version),
-    Right(Option<RightLink>),
-    Order(Permutation),
-    Key(KeyPart<'a>),
-    Value(ValuePart<'a>),
-}
-
 impl Entry {
+    // What follows its slice.
+    fn suffix(&self) -> &[u8]
+        ensures value { result.now ≡ unwrap_or (entry_suffix self.now) [] }
+        ensures bytes { AreBytes result.now }
+    {
+        match &self.content {
+            Content::Long(suffix, _) => suffix.as_slice(),
+            Content::Short(_, _) | Content::Link(_) => &[],
+        }
+    }
+
+    // Whether it has a row, or leads to the layer below.
+    fn mark(&self) -> Mark
+        ensures { result ≡ content_mark self.now.content }
+    {
+        match &self.content {
+            Content::Short(_, _) | Content::Long(_, _) => Mark::Plain,
+            Content::Link(_) => Mark::Layer,
+        }
+    }
+
     /// The key of the slot that holds this entry. Constant cost.
     pub fn key_part(&self) -> KeyPart<'_>
         ensures { IsKeyOf self.now result }
     {
-        let rest = match &self.content {
-            Content::Short(bytes, _) => KeyRest::Short(*bytes),
-            Content::Long(suffix, _) => KeyRest::Long(suffix),
-            Content::Link(_) => KeyRest::Layer,
-        };
         KeyPart {
             slice: self.slice,
-            rest,
+            class: self.class(),
+            suffix: self.suffix(),
+            mark: self.mark(),
         }
     }
 

@@ -9,5 +9,5 @@ mod slot_table;
 
 pub use border::Border;
 pub use entry::{Content, Entry, RightLink, Suffix};
-pub use field::{BorderPart, Field, KeyPart, KeyRest, ValuePart};
+pub use field::{KeyPart, Mark, ValuePart};
 pub use found::Found;
