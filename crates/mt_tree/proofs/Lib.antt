@@ -1,5 +1,6 @@
 -- Lemmas on how nodes are seen and changed, for this crate and for those above it.
 pub mod SeenLemmas
+pub mod AgeLemmas
 pub mod SpareWrites
 pub mod SpareLemmas
 pub mod NewTreeLemmas

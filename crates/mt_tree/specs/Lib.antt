@@ -1,5 +1,6 @@
 -- What the contracts of this crate cite.
 pub mod Seen
+pub mod Fields
 pub mod Keeping
 pub mod NewTree
 pub mod Spares

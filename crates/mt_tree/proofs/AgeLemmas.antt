@@ -1,0 +1,234 @@
+-- What each change of a border leaves of its slots to a reader who noted them while the border was quiet.
+use Rattle.std.proofs.Common.{ℕ, zero, suc, ◌≡◌, ◌≢◌, ◌<◌, ◌+◌, inl, inr, List, [], ◌∷◌, ◌++◌, length, take, drop, get_or, Option, Some, None, IsSome, Bool, true, false, ◌||◌, refl, ap, sym, subst, ◌∙◌, arith}
+use Rattle.std.specs.List.{list_any}
+use Rattle.std.specs.Option.{option_map}
+use Rattle.std.specs.Prelude.{nat_eq}
+use Rattle.std.proofs.lemmas.List.{get_or-map, drop_more, drop-drop, take-append-drop}
+use Rattle.std.proofs.lemmas.List.Folds.{list_any-append}
+use Rattle.mt_slice.specs.Place.{Place, deeper, first_slice, place_of}
+use Rattle.mt_types.specs.declared.row.Row.{Row}
+use Rattle.mt_types.specs.declared.numbers.NodeNo.{NodeNo}
+use Rattle.mt_border.specs.Entry.{entry_suffix, content_with_row, with_row, with_link}
+use Rattle.mt_border.specs.Table.{blank_slot, picked, number_at, next_number, slot_changed, with_entry, filled}
+use Rattle.mt_border.specs.Border.{BorderView, first_held, first_suffix, suffix_at, filled_version, with_lock, with_deleted, with_filled, with_shown, with_hidden, with_value, with_link_at, with_split, with_right}
+use Rattle.mt_border.specs.Order.{IsBorder}
+use Rattle.mt_border.specs.Slots.{slot_at, is_live, held_at}
+use Rattle.mt_border.proofs.TableLemmas.{length-picked, picked_at}
+use Rattle.mt_border.proofs.SlotLemmas.{live_count}
+use Rattle.mt_border.proofs.ChangeLemmas.{changed_there, changed_elsewhere, first_held_is_next, shown_other, shown_lives_other, number_within, number_live}
+use Rattle.mt_border.proofs.FieldLemmas.{live_entry_among}
+use Rattle.mt_border.specs.declared.entry.Content.{Content}
+use Rattle.mt_border.specs.declared.entry.Content.TheVariants.{Short, Long, Link}
+use Rattle.mt_border.specs.declared.entry.Entry.{Entry}
+use Rattle.mt_border.specs.declared.entry.RightLink.{RightLink}
+use Rattle.mt_border.specs.declared.slot_table.Slot.{Slot}
+use Rattle.mt_chart.specs.Tree.{Among, first, later, Below, no_right, before_right}
+use Rattle.mt_chart.proofs.Basics.{same_number}
+use Rattle.mt_chart.specs.Noted.{SlotSeen, FieldsSeen, AreSlots, IsSameKey, KeepsSlot, StaysQuiet, Ages}
+use Rattle.mt_tree.specs.Seen.{entry_seen, entries_seen, right_seen}
+use Rattle.mt_tree.specs.Fields.{slot_seen, fields_seen}
+
+-- ---- what is live stands in the border
+among_seen : (entries : List Entry) (entry : Entry) (i : ℕ) → i < length entries → get_or entries i entry ≡ entry → Among (entry_seen entry) (entries_seen entries)
+among_seen [] entry i within e = absurd (omega (arith, within))
+among_seen (x ∷ xs) entry zero within e = subst (λ (y : Entry). Among (entry_seen y) (entries_seen (x ∷ xs))) e first
+among_seen (x ∷ xs) entry (suc i) within e = later (among_seen xs entry i (omega (arith, within)) e)
+
+pub are_slots : (b : BorderView) → IsBorder b → AreSlots (fields_seen b)
+are_slots b h = record { live = λ k lives whole. let there = live_entry_among b k h lives in among_seen b.live (slot_at b k).entry there.0 there.1 there.2 }
+
+-- ---- one slot
+pub same_key : (s : SlotSeen) → IsSameKey s s
+same_key s = record { slice = refl; class = refl; plain = λ p. (p, λ place row holds. (row, holds)); rows = λ place row holds. inl (row, holds); links = λ number is. is }
+
+-- a slot that holds what it held is live only if it was
+keeps_same : (was now : SlotSeen) (lived lives : Bool) → now ≡ was → (lives ≡ true → lived ≡ true) → KeepsSlot was now lived lives
+keeps_same was now lived true same less = (less refl, subst (λ (s : SlotSeen). IsSameKey was s) (sym same) (same_key was))
+keeps_same was now lived false same less = same
+
+-- ---- a border whose flags and counters stay
+still : (f g : FieldsSeen) → g.inserting ≡ f.inserting → g.splitting ≡ f.splitting → g.vinsert ≡ f.vinsert → g.vsplit ≡ f.vsplit → (f.node.deleted ≡ true → g.node.deleted ≡ true) → StaysQuiet f g → Ages f g
+still f g inserting splitting vinsert vsplit deleted stays = record {
+  inserts = omega (arith, vinsert);
+  splits = omega (arith, vsplit);
+  inserted = λ set not. let clash : true ≡ false = sym set ∙ (sym inserting ∙ not) in absurd (cc);
+  split = λ set not. let clash : true ≡ false = sym set ∙ (sym splitting ∙ not) in absurd (cc);
+  deleted = deleted;
+  quiet = λ v q r. stays;
+}
+
+-- what held a key is as it was, and is live only if it was
+beside : (f g : FieldsSeen) → ((k : ℕ) → f.held k ≡ true → g.held k ≡ true) → ((k : ℕ) → f.held k ≡ true → g.slot k ≡ f.slot k) → ((k : ℕ) → f.held k ≡ true → g.lives k ≡ true → f.lives k ≡ true) → ((slice : ℕ) → Below slice f.node.right → Below slice g.node.right) → StaysQuiet f g
+beside f g held slots lives right = record { held = held; slots = λ k h. keeps_same (f.slot k) (g.slot k) (f.lives k) (g.lives k) (slots k h) (lives k h); right = right }
+
+-- NOTHING CHANGES
+pub ages_same : (f : FieldsSeen) → Ages f f
+ages_same f = still f f refl refl refl refl (λ d. d) (beside f f (λ k h. h) (λ k h. refl) (λ k h l. l) (λ slice below. below))
+
+-- THE LOCK IS TAKEN OR GIVEN BACK
+pub ages_lock : (b : BorderView) (locked : Bool) → Ages (fields_seen b) (fields_seen (with_lock b locked))
+ages_lock b locked = still (fields_seen b) (fields_seen (with_lock b locked)) refl refl refl refl (λ d. d) (beside (fields_seen b) (fields_seen (with_lock b locked)) (λ k h. h) (λ k h. refl) (λ k h l. l) (λ slice below. below))
+
+-- THE BORDER IS MARKED DELETED
+pub ages_deleted : (b : BorderView) → Ages (fields_seen b) (fields_seen (with_deleted b))
+ages_deleted b = still (fields_seen b) (fields_seen (with_deleted b)) refl refl refl refl (λ d. refl) (beside (fields_seen b) (fields_seen (with_deleted b)) (λ k h. h) (λ k h. refl) (λ k h l. l) (λ slice below. below))
+
+-- another right link takes nothing from the border's interval
+abbrev pub NotLower : Option RightLink → Option RightLink → Type 0
+NotLower old new = (slice : ℕ) → Below slice (option_map right_seen old) → Below slice (option_map right_seen new)
+
+-- a link whose low is above the old one's does not, and none does not
+pub not_lower : (old : RightLink) (new : Option RightLink) → ((link : RightLink) → new ≡ Some link → old.low < link.low) → NotLower (Some old) new
+not_lower old None above slice below = no_right
+not_lower old (Some link) above slice (before_right less) = let up = above link refl in before_right (omega (arith, less, up))
+
+-- THE RIGHT LINK IS ANOTHER, that is not lower
+pub ages_right : (b : BorderView) (right : Option RightLink) → NotLower b.right right → Ages (fields_seen b) (fields_seen (with_right b right))
+ages_right b right up = still (fields_seen b) (fields_seen (with_right b right)) refl refl refl refl (λ d. d) (beside (fields_seen b) (fields_seen (with_right b right)) (λ k h. h) (λ k h. refl) (λ k h l. l) up)
+
+-- ---- the numbers of live slots
+or_less : (a b c : Bool) → (b ≡ true → c ≡ true) → (a || b) ≡ true → (a || c) ≡ true
+or_less true b c less either = refl
+or_less false b c less either = less either
+
+or_right : (a b : Bool) → b ≡ true → (a || b) ≡ true
+or_right true b h = refl
+or_right false b h = h
+
+any_dropped : (p : ℕ → Bool) (l : List ℕ) → list_any p (drop 1 l) ≡ true → list_any p l ≡ true
+any_dropped p [] h = h
+any_dropped p (n ∷ l) h = or_right (p n) (list_any p l) h
+
+-- what is live once one is hidden was live
+hidden_lives : (live : List ℕ) (place k : ℕ) → list_any (nat_eq k) (take place live ++ drop (place + 1) live) ≡ true → list_any (nat_eq k) live ≡ true
+hidden_lives live place k h =
+    let p : ℕ → Bool = nat_eq k in
+    let rest : list_any p (drop (place + 1) live) ≡ true → list_any p (drop place live) ≡ true = λ found. any_dropped p (drop place live) (ap (λ (l : List ℕ). list_any p l) (drop-drop 1 place live) ∙ found) in
+    let either = or_less (list_any p (take place live)) (list_any p (drop (place + 1) live)) (list_any p (drop place live)) rest (sym (list_any-append p (take place live) (drop (place + 1) live)) ∙ h) in
+    ap (λ (l : List ℕ). list_any p l) (sym (take-append-drop place live)) ∙ (list_any-append p (take place live) (drop place live) ∙ either)
+
+-- ---- the first unused slot
+module _ (b : BorderView) (h : IsBorder b) (room : length b.live < 15) where
+  -- what held a key is not the slot that is filled next
+  other_held : first_held b.unused ≡ false → (k : ℕ) → held_at b k ≡ true → k ≢ next_number b.order
+  other_held not k held e =
+      let here : held_at b (next_number b.order) ≡ true = subst (λ (n : ℕ). held_at b n ≡ true) e held in
+      let clash : true ≡ false = sym here ∙ (sym (first_held_is_next b h room) ∙ not) in
+      cc
+
+  -- the border once that slot is filled, with a version that says that it held a key, or did not
+  abbrev filled_as : Entry → Bool → BorderView
+  filled_as entry held = record (with_filled b entry) { version = filled_version held b.version }
+
+  -- THE FIRST UNUSED SLOT IS FILLED: where it held a key, the counter is raised
+  pub ages_filled : (entry : Entry) → Ages (fields_seen b) (fields_seen (with_filled b entry))
+  ages_filled entry = go (first_held b.unused) refl
+    where
+      go : (held : Bool) → first_held b.unused ≡ held → Ages (fields_seen b) (fields_seen (filled_as entry held))
+      go true was = record {
+        inserts = omega arith;
+        splits = omega arith;
+        inserted = λ set not. let clash : true ≡ false = sym set ∙ not in absurd (cc);
+        split = λ set not. let clash : true ≡ false = sym set ∙ not in absurd (cc);
+        deleted = λ d. d;
+        quiet = λ v q r. absurd (let one = q.inserts in let two = r.inserts in omega (arith, one, two));
+      }
+      go false not =
+          let same : (k : ℕ) → held_at b k ≡ true → slot_at (filled_as entry false) k ≡ slot_at b k = λ k held. changed_elsewhere b.slots (next_number b.order) k (filled entry) (other_held not k held) in
+          still (fields_seen b) (fields_seen (filled_as entry false)) refl refl refl refl (λ d. d) (beside (fields_seen b) (fields_seen (filled_as entry false))
+          (λ k held. ap (λ (s : Slot). s.held_key) (same k held) ∙ held)
+          (λ k held. ap (λ (s : Slot). slot_seen s.entry) (same k held))
+          (λ k held lives. lives)
+          (λ slice below. below))
+
+  -- THE FIRST UNUSED SLOT IS SHOWN, which was filled since it was live
+  pub ages_shown : (place version : ℕ) → first_held b.unused ≡ false → Ages (fields_seen b) (fields_seen (with_shown b place version))
+  ages_shown place version not =
+      let new = with_shown b place version in
+      let same : (k : ℕ) → held_at b k ≡ true → slot_at new k ≡ slot_at b k = λ k held. shown_other b h place version k (other_held not k held) in
+      still (fields_seen b) (fields_seen new) refl refl refl refl (λ d. d) (beside (fields_seen b) (fields_seen new)
+      (λ k held. ap (λ (s : Slot). s.held_key) (same k held) ∙ held)
+      (λ k held. ap (λ (s : Slot). slot_seen s.entry) (same k held))
+      (λ k held lives. sym (shown_lives_other b h place version k (other_held not k held)) ∙ lives)
+      (λ slice below. below))
+
+-- THE SLOT AT A PLACE IS HIDDEN
+pub ages_hidden : (b : BorderView) (place : ℕ) → Ages (fields_seen b) (fields_seen (with_hidden b place))
+ages_hidden b place =
+    still (fields_seen b) (fields_seen (with_hidden b place)) refl refl refl refl (λ d. d) (beside (fields_seen b) (fields_seen (with_hidden b place)) (λ k h. h) (λ k h. refl) (λ k h lives. hidden_lives b.order.live place k lives) (λ slice below. below))
+
+-- THE UPPER ENTRIES MOVE to the right: the counter is raised
+pub ages_split : (b : BorderView) (keep : ℕ) (right : RightLink) → Ages (fields_seen b) (fields_seen (with_split b keep right))
+ages_split b keep right = record {
+  inserts = omega arith;
+  splits = omega arith;
+  inserted = λ set not. let clash : true ≡ false = sym set ∙ not in absurd (cc);
+  split = λ set not. let clash : true ≡ false = sym set ∙ not in absurd (cc);
+  deleted = λ d. d;
+  quiet = λ v q r. absurd (let one = q.splits in let two = r.splits in omega (arith, one, two));
+}
+
+-- ---- the slot of the entry at a place
+key_with_row : (row : Row) (slice : ℕ) (content : Content) → IsSameKey (slot_seen (record { slice = slice; content = content })) (slot_seen (record { slice = slice; content = content_with_row row content }))
+key_with_row row slice (Short bytes old) = record { slice = refl; class = refl; plain = λ p. (refl, λ place r holds. (old, (holds.0, refl))); rows = λ place r holds. inl (row, (holds.0, refl)); links = λ number is. absurd (cc) }
+key_with_row row slice (Long suffix old) = record { slice = refl; class = refl; plain = λ p. (refl, λ place r holds. (old, (holds.0, refl))); rows = λ place r holds. inl (row, (holds.0, refl)); links = λ number is. absurd (cc) }
+key_with_row row slice (Link head) = same_key (slot_seen (record { slice = slice; content = Link head }))
+
+key_with_link : (head : NodeNo) (slice : ℕ) (content : Content) → IsSome (entry_suffix (record { slice = slice; content = content })) → IsSameKey (slot_seen (record { slice = slice; content = content })) (slot_seen (record { slice = slice; content = Link head }))
+key_with_link head slice (Short bytes row) some = absurd (cc)
+key_with_link head slice (Long suffix row) some = record { slice = refl; class = refl; plain = λ p. absurd (cc); rows = λ place r holds. inr (head.0, refl, place_of suffix, subst (λ (p : Place). p ≡ deeper (first_slice p) (place_of suffix)) (sym holds.0) refl); links = λ number is. absurd (cc) }
+key_with_link head slice (Link old) some = absurd (cc)
+
+module _ (b : BorderView) (h : IsBorder b) (place : ℕ) (within : place < length b.live) where
+  abbrev n : ℕ
+  n = number_at place b.order
+
+  place_within : place < length b.order.live
+  place_within = omega (arith, within, live_count b.live b.unused b.slots b.order h.seen)
+
+  -- the entry at the place is what the slot holds
+  pub entry_read : get_or b.live place blank_slot.entry ≡ (slot_at b n).entry
+  entry_read =
+      let held : List Slot = picked b.slots b.order.live in
+      let inside : place < length held = omega (arith, place_within, length-picked b.slots b.order b.order.live) in
+      ap (λ (l : List Entry). get_or l place blank_slot.entry) h.seen.live_is ∙ (get_or-map (λ (slot : Slot). slot.entry) held place blank_slot blank_slot.entry inside ∙ ap (λ (slot : Slot). slot.entry) (picked_at b.slots b.order.live place place_within))
+
+  -- the border once the entry is changed
+  abbrev changed_as : (Entry → Entry) → List Entry → BorderView
+  changed_as change live = record b { live = live; slots = slot_changed n (with_entry change) b.slots }
+
+  -- its entry is changed, and not its key
+  ages_changed : (change : Entry → Entry) (live : List Entry) → IsSameKey (slot_seen (slot_at b n).entry) (slot_seen (change (slot_at b n).entry)) →
+      Ages (fields_seen b) (fields_seen (changed_as change live))
+  ages_changed change live same = still (fields_seen b) (fields_seen (changed_as change live)) refl refl refl refl (λ d. d) (record { held = held; slots = slots; right = λ slice below. below })
+    where
+      here : slot_at (changed_as change live) n ≡ with_entry change (slot_at b n)
+      here = changed_there b.slots n (with_entry change) (number_within b h place within)
+
+      other : (k : ℕ) → k ≢ n → slot_at (changed_as change live) k ≡ slot_at b k
+      other k differ = changed_elsewhere b.slots n k (with_entry change) differ
+
+      held : (k : ℕ) → held_at b k ≡ true → held_at (changed_as change live) k ≡ true
+      held k was = elim (same_number k n) [
+        | inl e ↦ subst (λ (m : ℕ). held_at (changed_as change live) m ≡ true) (sym e) (ap (λ (s : Slot). s.held_key) here ∙ subst (λ (m : ℕ). held_at b m ≡ true) e was)
+        | inr differ ↦ ap (λ (s : Slot). s.held_key) (other k differ) ∙ was
+      ]
+
+      lived : KeepsSlot (slot_seen (slot_at b n).entry) (slot_seen (slot_at (changed_as change live) n).entry) (is_live b n) (is_live b n)
+      lived = subst (λ (l : Bool). KeepsSlot (slot_seen (slot_at b n).entry) (slot_seen (slot_at (changed_as change live) n).entry) l l) (sym (number_live b h place within)) (refl, subst (λ (s : Slot). IsSameKey (slot_seen (slot_at b n).entry) (slot_seen s.entry)) (sym here) same)
+
+      slots : (k : ℕ) → held_at b k ≡ true → KeepsSlot (slot_seen (slot_at b k).entry) (slot_seen (slot_at (changed_as change live) k).entry) (is_live b k) (is_live b k)
+      slots k was = elim (same_number k n) [
+        | inl e ↦ subst (λ (m : ℕ). KeepsSlot (slot_seen (slot_at b m).entry) (slot_seen (slot_at (changed_as change live) m).entry) (is_live b m) (is_live b m)) (sym e) lived
+        | inr differ ↦ keeps_same (slot_seen (slot_at b k).entry) (slot_seen (slot_at (changed_as change live) k).entry) (is_live b k) (is_live b k) (ap (λ (s : Slot). slot_seen s.entry) (other k differ)) (λ l. l)
+      ]
+
+  -- ITS ROW IS ANOTHER
+  pub ages_value : (row : Row) → Ages (fields_seen b) (fields_seen (with_value b place row))
+  ages_value row = ages_changed (with_row row) (with_value b place row).live (key_with_row row (slot_at b n).entry.slice (slot_at b n).entry.content)
+
+  -- IT BECOMES A LINK, that was a longer key's
+  pub ages_link : (head : NodeNo) → IsSome (suffix_at place b.live) → Ages (fields_seen b) (fields_seen (with_link_at b place head))
+  ages_link head some =
+      let read : suffix_at place b.live ≡ entry_suffix (slot_at b n).entry = ap first_suffix (drop_more b.live place blank_slot.entry within) ∙ ap entry_suffix entry_read in
+      ages_changed (with_link head) (with_link_at b place head).live (key_with_link head (slot_at b n).entry.slice (slot_at b n).entry.content (subst (λ (o : Option (List ℕ)). IsSome o) read some))

@@ -1,0 +1,32 @@
+-- The fields of a border as the theory of one field at a time sees them.
+use Rattle.mt_border.specs.Border.{BorderView}
+use Rattle.mt_border.specs.Slots.{slot_at, is_live, held_at}
+use Rattle.mt_border.specs.declared.entry.Content.{Content}
+use Rattle.mt_border.specs.declared.entry.Content.TheVariants.{Short, Long, Link}
+use Rattle.mt_border.specs.declared.entry.Entry.{Entry}
+use Rattle.mt_chart.specs.Noted.{Mark, plain, layer, SlotSeen, FieldsSeen}
+use Rattle.mt_tree.specs.Seen.{entry_seen, border_seen}
+
+-- the mark of the key of what a slot holds: a link's is that of a layer
+abbrev pub content_mark : Content → Mark
+content_mark (Short bytes row) = plain
+content_mark (Long suffix row) = plain
+content_mark (Link head) = layer
+
+-- what a slot with this entry holds
+abbrev pub slot_seen : Entry → SlotSeen
+slot_seen entry = record { entry = entry_seen entry; mark = content_mark entry.content }
+
+-- a border with its flags, its counters and its slots by number
+abbrev pub fields_seen : BorderView → FieldsSeen
+fields_seen b =
+    record {
+      node = border_seen b;
+      inserting = b.version.inserting;
+      splitting = b.version.splitting;
+      vinsert = b.version.vinsert;
+      vsplit = b.version.vsplit;
+      slot = λ number. slot_seen (slot_at b number).entry;
+      lives = λ number. is_live b number;
+      held = λ number. held_at b number;
+    }
