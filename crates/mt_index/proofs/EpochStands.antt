@@ -84,7 +84,7 @@ module _ (s : MachineView) (h : History) (st : Stands s h) (before : ℕ) (oldes
       blocked = was_later c.began x h (held k.1.work).blocked r.blocked;
       past = arena_seen s.tree ∷ r.past;
       passed = let b = r.began in past_more s.columns c.began c.from x h after (arena_seen s.tree ∷ r.past) (omega (arith, b)) (rows_still s h x st after left.content refl) (keys_later s h x st refl) (inl refl) r.passed;
-      true = stays s.tree after st.w left.next s.columns k.1.epoch c.moves r.past (left.evolves k.1.epoch (since k i)) k.1.work
+      true = stays s.tree after st.w left.next s.columns k.1.epoch c.moves r.past (left.evolves k.1.epoch (since k i)) s.epoch left.world left.age k.1.work
           (λ number owned. left.leaves number (owned_taken s.columns k.1.epoch c.moves r.past s.tree st.w k.1.work r.true number owned)) r.true;
       reads = reads_still s.columns (moment h) (moment (x ∷ h)) (inl refl) c.from k.1.work r.reads;
     }

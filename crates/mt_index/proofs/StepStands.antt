@@ -205,7 +205,7 @@ module _ (s : MachineView) (h : History) (n : ℕ) (kept : Call) (st : Stands s 
     blocked = was_later c.began x h (held k.1.work).blocked r.blocked;
     past = arena_seen s.tree ∷ r.past;
     passed = let b = r.began in past_more s.columns c.began c.from x h after_tree (arena_seen s.tree ∷ r.past) (omega arith) content keys grows r.passed;
-    true = stays s.tree after_tree st.w goes.next s.columns k.1.epoch c.moves r.past (goes.evolves k.1.epoch r.epoch) k.1.work (λ number owned. (others_left k i ne c r number owned).0) r.true;
+    true = stays s.tree after_tree st.w goes.next s.columns k.1.epoch c.moves r.past (goes.evolves k.1.epoch r.epoch) s.epoch goes.world goes.age k.1.work (λ number owned. (others_left k i ne c r number owned).0) r.true;
     reads = reads_still s.columns (moment h) (moment (x ∷ h)) grows c.from k.1.work r.reads;
   }
 

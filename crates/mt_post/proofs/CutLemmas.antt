@@ -29,6 +29,7 @@ use Rattle.mt_post.specs.declared.split.Split.{Split}
 use Rattle.mt_post.specs.declared.posting.PostStage.TheVariants.{HalfPosted, HalfCut}
 use Rattle.mt_post.specs.Posting.{goal_level, split_owns, AreWaiting, IsToPost, IsHeadOf, IsPostedHalf, PostingIsTrue, MayPost}
 use Rattle.mt_post.specs.Follows.{PostStep}
+use Rattle.mt_steps.proofs.AgingLemmas.{age_beside}
 use Rattle.mt_steps.proofs.NodeLemmas.{goes_with, heads_beside, interior_now, interior_others, interior_no_head, interior_no_border, interior_alive, interior_taken, not_both, known_some}
 use Rattle.mt_post.proofs.WalkLemmas.{at_stage, true_at}
 use Rattle.mt_post.proofs.KeptLemmas.{all_stay, owns_below}
@@ -199,7 +200,7 @@ module _ (a : ArenaView) (posting : Posting) (split : Split) (is : posting.stage
                 (interior_kept a new w.chart w.chart one (evolves_same 0 w.chart) (others one not_one) both.0, interior_kept a new w.chart w.chart other (evolves_same 0 w.chart) (others other not_other) both.1);
           };
           retired = retired_kept a new now w.chart w.chart i (evolves_same 0 w.chart) (on_kept a now w.chart i _ _ _ _ p.stands.place world.retired) others refl world.retired;
-        }) refl refl (λ b le. evolves_same b w.chart) others (λ other apart. refl)
+        }) (age_beside i (interior_no_border a i x cut_one p.named) others) refl refl (λ b le. evolves_same b w.chart) others (λ other apart. refl)
             (λ other apart. same_twins w prefix p other (λ e. apart (subst (λ (v : ℕ). Among v owns) (sym e) first)) (λ e. apart (subst (λ (v : ℕ). Among v owns) (sym e) (later first))))
             (λ taken apart. absurd (apart (later first)))
             (λ other taken out k. elim (among_cases other m rest k) [ inl e ↦ out (subst (λ (v : ℕ). Among v owns) (sym e) first) | inr j ↦ out (later (later j)) ])

@@ -41,6 +41,7 @@ use Rattle.mt_post.specs.Posting.{owned, PostsIn, goal, goal_level, split_owns, 
 use Rattle.mt_post.specs.Follows.{FollowsInterior, WaitsNext, PostStep}
 use Rattle.mt_steps.specs.World.{IsLockedBorder}
 use Rattle.mt_steps.proofs.BorderLemmas.{unknown_kept, on_kept}
+use Rattle.mt_steps.proofs.AgingLemmas.{age_beside}
 use Rattle.mt_steps.proofs.NodeLemmas.{goes_at, goes_kept, twins_lone, heads_beside, interior_now, interior_others, interior_no_head, interior_no_border, interior_alive, interior_taken, interior_is_taken, not_both, known_some}
 use Rattle.mt_post.proofs.WalkLemmas.{at_stage, true_at, still_locked, from_head, goes_on, in_layer, is_above}
 use Rattle.mt_post.proofs.KeptLemmas.{all_stay, same_beside, splitting_stays, apart_known, owns_below, owns_beside, goal_has_level}
@@ -81,7 +82,7 @@ module _ (a : ArenaView) (posting : Posting) (node : NodeNo) (is : posting.stage
       let clash_locked : IsLockedInterior a w.chart n → ⊥ = λ locked. (let clash : false ≡ true = sym f.unlocked ∙ some_at _ (interior_at a.nodes n) i locked.locked f.named in cc) in
       let free : IsTaken a w n → ⊥ = λ taken. not_both i.version.locked (w.chart n) f.unlocked is_known (interior_is_taken a n i w f.named taken) in
       let stay = all_stay a locked_one w w prefix half posting.low posting.waiting (λ number k. same_beside a locked_one w refl n others number (owns_beside a w prefix half posting.low n posting.waiting t all free number k)) t all in
-      goes_at now a locked_one w w.chart n rest (n ∷ rest) _ world kept refl (on_kept a now w.chart n _ _ _ _ stands.place world.retired) others (λ other apart. refl)
+      goes_at now a locked_one w w.chart n rest (n ∷ rest) _ world (age_beside n (interior_no_border a n i lock f.named) others) kept refl (on_kept a now w.chart n _ _ _ _ stands.place world.retired) others (λ other apart. refl)
       (heads_beside a locked_one w.chart w.chart n (λ number p h. h) (interior_no_head a n i lock f.named) (interior_no_border a n i lock f.named) others world.heads)
       (alive_there a locked_one w.chart n (interior_alive a n i lock f.named w.chart (inl refl)) others world.alive)
       clash_locked (λ taken apart. free taken)
@@ -252,7 +253,7 @@ module _ (a : ArenaView) (posting : Posting) (interior spare : NodeNo) (is : pos
           let stay = all_stay a filled w w prefix half posting.low posting.waiting (λ number k. same number (owns_below a w prefix half posting.low m (empty_half i middle.low) posting.waiting border all spared.named above number k)) border all in
           subst (λ (x : ArenaView). Goes now a x w owns (owned then) (λ next. PostingIsTrue begun then x next) × SameContent (arena_seen a) (arena_seen x)) (sym value)
           (subst (λ (o : List ℕ). Goes now a filled w owns o (λ next. PostingIsTrue begun then filled next) × SameContent (arena_seen a) (arena_seen filled)) (sym owned_is)
-          (goes_at now a filled w w.chart m owns owns (λ next. PostingIsTrue begun then filled next) world kept refl (unknown_kept a now w.chart m spared.unknown world.retired) others (λ other apart. refl)
+          (goes_at now a filled w w.chart m owns owns (λ next. PostingIsTrue begun then filled next) world (age_beside m (interior_no_border a m (empty_half i middle.low) fill spared.named) others) kept refl (unknown_kept a now w.chart m spared.unknown world.retired) others (λ other apart. refl)
           (heads_beside a filled w.chart w.chart m (λ number p h. h) (interior_no_head a m (empty_half i middle.low) fill spared.named) (interior_no_border a m (empty_half i middle.low) fill spared.named) others world.heads)
           (alive_there a filled w.chart m (alive_unknown filled w.chart m spared.unknown) others world.alive)
           (λ locked. (let known_half = locked.known in let clash : false ≡ true = subst (λ (x : Option Spot). IsSome x) spared.unknown known_half in cc))
@@ -362,7 +363,7 @@ module _ (a : ArenaView) (posting : Posting) (n : ℕ) where
       let others = interior_others a n i unlock l.named in
       let free : IsTaken unlocked w n → ⊥ = λ taken. not_both (unlock i).version.locked (w.chart n) refl (known_some w n _ l.stands.place) (interior_taken a n i unlock l.named w taken) in
       subst (λ (x : ArenaView). Goes now a x w (n ∷ rest) rest (Then x) × SameContent (arena_seen a) (arena_seen x)) (sym value)
-      (goes_kept now a unlocked w w.chart n (n ∷ rest) rest (Then unlocked) world kept refl (on_kept a now w.chart n _ _ _ _ l.stands.place world.retired) others (λ other apart. refl)
+      (goes_kept now a unlocked w w.chart n (n ∷ rest) rest (Then unlocked) world (age_beside n (interior_no_border a n i unlock l.named) others) kept refl (on_kept a now w.chart n _ _ _ _ l.stands.place world.retired) others (λ other apart. refl)
       (heads_beside a unlocked w.chart w.chart n (λ number p h. h) (interior_no_head a n i unlock l.named) (interior_no_border a n i unlock l.named) others world.heads)
       (alive_there a unlocked w.chart n (interior_alive a n i unlock l.named w.chart (inr l.alive)) others world.alive)
       (twins_lone a unlocked w.chart w.chart w.twins n (evolves_same 0 w.chart) l.lone others world.twins)

@@ -34,6 +34,7 @@ use Rattle.mt_post.specs.declared.posting.PostStage.TheVariants.{RootFilled, Hal
 use Rattle.mt_post.specs.Causes.{IsRootStill}
 use Rattle.mt_post.specs.Posting.{split_owns, AreWaiting, PostStageIsTrue, IsToPost, IsHeadOf, IsSpareInterior, IsHalved, upper_half, root_over, PostingIsTrue, MayPost}
 use Rattle.mt_post.specs.Follows.{PostStep}
+use Rattle.mt_steps.proofs.AgingLemmas.{age_beside}
 use Rattle.mt_steps.proofs.NodeLemmas.{at_chart, goes_with, interior_is_taken, alive_free, not_both, known_some, root_place, heads_were}
 use Rattle.mt_post.proofs.WalkLemmas.{at_stage, true_at, from_head}
 use Rattle.mt_post.proofs.KeptLemmas.{all_stay, apart_known, interior_apart_head, owns_below, owns_beside, beside_half}
@@ -165,7 +166,7 @@ module _ (a : ArenaView) (posting : Posting) (old : Root) (root : NodeNo) (split
               (alive_placed a w.chart between m (Some half_place) half_charted (alive_node a between m (Interior u) (node-from_interior a.nodes m u s.spare.named) (inl refl)) world.alive));
           twins = twins_now a new now w chart prefix split world s (updated.others i i_apart) (updated.others m m_apart) i_spot m_spot (twins_beside a new w.chart chart w.twins n (kept.evolves 0 (omega arith)) (no_interior a w.chart n none_there) updated.others world.twins);
           retired = retired_kept a new now w.chart chart n (kept.evolves 0 (omega arith)) (on_kept a now w.chart n _ _ _ _ stands world.retired) updated.others refl world.retired;
-        }) refl refl kept.evolves updated.others
+        }) (age_beside n (ap (option_and_then border_of) (node-from_head a.nodes n h still.named)) updated.others) refl refl kept.evolves updated.others
             (λ other apart. root_charted.rest other (λ e. apart (subst (λ (k : ℕ). Among k (root.0 ∷ owns)) (sym e) first)) ∙ half_charted.rest other (λ e. apart (subst (λ (k : ℕ). Among k (root.0 ∷ owns)) (sym e) (later first))))
             (λ other apart. pair_same m i w.twins other (λ e. apart (subst (λ (k : ℕ). Among k (root.0 ∷ owns)) (sym e) (later first))) (λ e. apart (subst (λ (k : ℕ). Among k (root.0 ∷ owns)) (sym e) (later (later first)))))
             (λ taken apart. head_free taken)

@@ -40,6 +40,7 @@ use Rattle.mt_post.specs.declared.posting.PostStage.TheVariants.{Walks, RootWant
 use Rattle.mt_post.specs.Posting.{goal, goal_level, split_owns, AreWaiting, IsToPost, IsHeadOf, IsSpareInterior, root_children, new_root, root_over, PostingIsTrue, ThenPosts, MayPost}
 use Rattle.mt_post.specs.Causes.{IsRootStill}
 use Rattle.mt_post.specs.Follows.{PostStep}
+use Rattle.mt_steps.proofs.AgingLemmas.{age_beside}
 use Rattle.mt_steps.proofs.NodeLemmas.{at_chart, goes_at, heads_beside, interior_now, interior_others, interior_no_head, interior_no_border, interior_is_taken, alive_free, not_both, known_some, root_place, heads_were, head_there}
 use Rattle.mt_post.proofs.WalkLemmas.{at_stage, true_at, from_head, goes_on}
 use Rattle.mt_post.specs.Follows.{OccupiesOne, GivesOneBack, SameHeads, MarksNone}
@@ -66,7 +67,7 @@ pub gives_number : (now : ℕ) (a : ArenaView) (w : World) (n : ℕ) (owns : Lis
 gives_number now a w n owns Then world named none unknown kept truth =
     let new : ArenaView = without_node a n in
     let updates : Updates a.nodes new.nodes n None = updates-without a.nodes n named in
-    goes_at now a new w w.chart n (n ∷ owns) owns Then world kept refl (unknown_kept a now w.chart n unknown world.retired) updates.others (λ other apart. refl)
+    goes_at now a new w w.chart n (n ∷ owns) owns Then world (age_beside n none updates.others) kept refl (unknown_kept a now w.chart n unknown world.retired) updates.others (λ other apart. refl)
     (heads_beside a new w.chart w.chart n (λ number p h. h) (ap (option_and_then head_of) updates.changed) none updates.others world.heads)
     (alive_there a new w.chart n (alive_unknown new w.chart n unknown) updates.others world.alive)
     (λ locked. (let known_root = locked.known in let clash : false ≡ true = subst (λ (x : Option Spot). IsSome x) unknown known_root in cc))
@@ -186,6 +187,7 @@ module _ (a : ArenaView) (posting : Posting) (old : Root) (root : NodeNo) (is : 
         let stay = all_stay a new w w prefix half posting.low waiting same border all in
         subst (λ (x : ArenaView). Goes now a x w (n ∷ split_owns half waiting) (n ∷ split_owns half waiting) (λ next. PostingIsTrue begun (record posting { stage = RootFilled old root }) x next) × SameContent (arena_seen a) (arena_seen x)) (sym is_new)
         (goes_at now a new w w.chart n (n ∷ split_owns half waiting) (n ∷ split_owns half waiting) (λ next. PostingIsTrue begun (record posting { stage = RootFilled old root }) new next) world
+        (age_beside n (interior_no_border a n (new_root wanted) fill spare.named) others)
         (record { index = kept_again.index; content = λ key row. ((λ h. (kept.content key row).0 ((kept_again.content key row).0 h)), (λ h. (kept_again.content key row).1 ((kept.content key row).1 h))); evolves = λ b le. evolves_same b w.chart })
         refl (unknown_kept a now w.chart n spare.unknown world.retired) others (λ other apart. refl)
         (heads_beside a new w.chart w.chart n (λ number p h. h) (interior_no_head middle n (fill (new_root wanted)) unlock there) (interior_no_border a n (new_root wanted) fill spare.named) others world.heads)
@@ -305,7 +307,7 @@ module _ (a : ArenaView) (posting : Posting) (old : Root) (root : NodeNo) (is : 
           );
         }) in
         let free = (world.heads.alive n prefix h stands named).1 in
-        goes_at now a new w chart n (root.0 ∷ half ∷ []) (half ∷ []) _ world kept refl (on_kept a now w.chart n _ _ _ _ stands world.retired) head_updated.others
+        goes_at now a new w chart n (root.0 ∷ half ∷ []) (half ∷ []) _ world (age_beside n (ap (option_and_then border_of) (node-from_head a.nodes n h named)) head_updated.others) kept refl (on_kept a now w.chart n _ _ _ _ stands world.retired) head_updated.others
         (λ other apart. root_charted.rest other (λ e. apart (subst (λ (m : ℕ). Among m (root.0 ∷ half ∷ [])) (sym e) first)) ∙ half_charted.rest other (λ e. apart (subst (λ (m : ℕ). Among m (root.0 ∷ half ∷ [])) (sym e) (later first))))
         (heads_named w.chart chart (λ number layer place. heads_were w.chart between half 0 posting.low prefix (on true) half_charted number layer (heads_were between chart root.0 1 0 prefix (on true) root_charted number layer place)) world.heads)
         (alive_there a new chart n (alive_node new chart n (Head (change h)) head_updated.changed (inr alive)) head_updated.others

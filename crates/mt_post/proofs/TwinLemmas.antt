@@ -29,6 +29,7 @@ use Rattle.mt_post.specs.declared.posting.PostStage.TheVariants.{Walks, HalfPost
 use Rattle.mt_post.specs.Causes.{HasRoomAt}
 use Rattle.mt_post.specs.Posting.{goal, split_owns, AreWaiting, IsToPost, IsHeadOf, IsWalking, IsHalved, IsPostedHalf, upper_half, PostingIsTrue, MayPost}
 use Rattle.mt_post.specs.Follows.{FollowsInterior, PostStep}
+use Rattle.mt_steps.proofs.AgingLemmas.{age_beside}
 use Rattle.mt_steps.proofs.NodeLemmas.{goes_with, heads_beside, interior_others, interior_no_head, interior_no_border, interior_alive, interior_taken, interior_is_taken, not_both, known_some, heads_were}
 use Rattle.mt_post.proofs.WalkLemmas.{at_stage, true_at, in_layer, is_above, room_for}
 use Rattle.mt_post.proofs.KeptLemmas.{all_stay, apart_known, owns_beside, beside_half}
@@ -217,7 +218,7 @@ module _ (a : ArenaView) (posting : Posting) (node : NodeNo) (split : Split) (wa
               (alive_placed a w.chart chart m (Some place) charted (alive_node a chart m (Interior (upper_half h.interior split.half.low)) (node-from_interior a.nodes m _ h.spare.named) (inl refl)) world.alive);
           twins = twins_now a new now w chart prefix split world h (others i (apart i (later first))) (others m (apart m first)) i_spot charted.now (twins_beside a new w.chart chart w.twins n (kept.evolves 0 (omega arith)) clash_locked others world.twins);
           retired = retired_kept a new now w.chart chart n (kept.evolves 0 (omega arith)) (on_kept a now w.chart n _ _ _ _ stands.place world.retired) others refl world.retired;
-        }) refl refl kept.evolves others
+        }) (age_beside n (interior_no_border a n x change r.named) others) refl refl kept.evolves others
             (λ other out. charted.rest other (λ e. out (subst (λ (k : ℕ). Among k owns) (sym e) first)))
             (λ other out. pair_same m i w.twins other (λ e. out (subst (λ (k : ℕ). Among k owns) (sym e) first)) (λ e. out (subst (λ (k : ℕ). Among k owns) (sym e) (later first))))
             (λ taken out. free taken) (λ other taken out k. out k) (λ other k taken. k)

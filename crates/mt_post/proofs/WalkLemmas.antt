@@ -45,6 +45,7 @@ use Rattle.mt_post.specs.Causes.{IsHeldBack, CanLeaveOut, PostStageWaits, PostSt
 use Rattle.mt_post.specs.Follows.{FollowsHead, FollowsInterior, LeavesOut, StageFollows, Follows, PostStep}
 use Rattle.mt_steps.specs.World.{IsLockedBorder}
 use Rattle.mt_steps.proofs.AliveLemmas.{alive_node, alive_there, alive_placed}
+use Rattle.mt_steps.proofs.AgingLemmas.{age_beside}
 use Rattle.mt_steps.proofs.NodeLemmas.{at_chart, goes_at, heads_beside, interior_others, interior_no_head, interior_no_border, interior_alive, interior_border, interior_taken, interior_is_taken, not_both, known_some, heads_were, root_place}
 use Rattle.mt_types.specs.declared.limits.TheConstants.{MAX_LEVEL}
 use Rattle.mt_post.specs.declared.posting.PostStage.TheVariants.{RootSpared, RootFilled, RootLate, HalfWanted, HalfSpared, LetGo, HalfPosted, HalfCut}
@@ -317,7 +318,7 @@ module _ (a : ArenaView) (posting : Posting) (node : NodeNo) (is : posting.stage
             let stands = in_layer begun w.chart prefix posting.low world.index.tree truth.held in
             let kept = keeps_new.keeps now w.twins w.chart chart world.index (record { prefix = prefix; stands = stands; low = posting.low; unnamed = border.place; charted = charted }) in
             let is_known = known_some w n _ stands.place in
-            goes_at now a new w chart n (posting.half.0 ∷ []) (posting.half.0 ∷ []) _ world kept refl (on_kept a now w.chart n _ _ _ _ stands.place world.retired) (interior_others a n i change named)
+            goes_at now a new w chart n (posting.half.0 ∷ []) (posting.half.0 ∷ []) _ world (age_beside n (interior_no_border a n i change named) (interior_others a n i change named)) kept refl (on_kept a now w.chart n _ _ _ _ stands.place world.retired) (interior_others a n i change named)
             (λ other apart. charted.rest other (λ e. apart (subst (λ (m : ℕ). Among m (posting.half.0 ∷ [])) (sym e) first)))
             (heads_beside a new w.chart chart n (heads_were w.chart chart posting.half.0 0 posting.low prefix (on true) charted) (interior_no_head a n i change named) (interior_no_border a n i change named) (interior_others a n i change named) world.heads)
             (alive_there a new chart n (interior_alive a n i change named chart (inr alive)) (interior_others a n i change named)

@@ -23,6 +23,7 @@ use Rattle.mt_steps.specs.World.{World, IsWorld, IsLockedRoot, HeadsStand, IsTak
 use Rattle.mt_steps.proofs.FrameLemmas.{is_among, taken_back}
 use Rattle.mt_steps.proofs.BorderLemmas.{keys_same, no_interior, twins_beside, retired_kept, on_kept, no_root, roots_kept}
 use Rattle.mt_steps.proofs.AliveLemmas.{alive_head, alive_there}
+use Rattle.mt_steps.proofs.AgingLemmas.{age_beside}
 use Rattle.mt_steps.proofs.NodeLemmas.{alive_free, known_some}
 
 -- ---- the closing borders without one
@@ -143,6 +144,7 @@ module _ (a : ArenaView) (n : ℕ) (h : HeadView) (named : head_at a.nodes n ≡
               ]
             ];
             spots = λ number out apart. refl;
+            age = age_beside n no_border head_others;
             true = truth;
           },
           kept.content,

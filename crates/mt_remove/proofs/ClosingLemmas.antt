@@ -28,6 +28,8 @@ use Rattle.mt_steps.specs.declared.progress.Progress.TheVariants.{Moved, Answere
 use Rattle.mt_steps.specs.World.{World, IsWorld, IsLocked, NotAmong, Goes}
 use Rattle.mt_steps.specs.Way.{prefix_of}
 use Rattle.mt_steps.proofs.LayerLemmas.{head_apart}
+use Rattle.mt_tree.proofs.AgeLemmas.{ages_lock, ages_deleted}
+use Rattle.mt_steps.proofs.AgingLemmas.{age_same, age_one}
 use Rattle.mt_steps.proofs.BorderLemmas.{alive_changed, keys_same, now_named, others_named, goes_border, heads_changed, twins_changed, unlocked_free, unlocked_root, mine_free, locked_may, locked_kept, on_kept, among_one}
 use Rattle.mt_steps.proofs.NodeLemmas.{known_some, root_place, head_there}
 use Rattle.mt_steps.proofs.RetireLemmas.{goes_retired}
@@ -51,7 +53,7 @@ goes_unlocked epoch a w n b named locked alive free known rest once world after 
     let new : ArenaView = with_border_changed a n unlocked_one in
     let kept = (subst (λ (x : ArenaView). KeepsTree a x) value keeps).keeps epoch w.twins w.chart world.index in
     subst (λ (x : ArenaView). Goes epoch a x w (n ∷ rest) rest (Then x) × SameContent (arena_seen a) (arena_seen x)) (sym value) (
-      goes_border a n b unlocked_one named epoch w (n ∷ rest) rest (Then new) world kept.index (keys_same a new kept.content world.keys) (mine_free a n w (n ∷ rest) first) (λ other i. inl (later i))
+      goes_border a n b unlocked_one named epoch w (n ∷ rest) rest (Then new) world (λ known. (ages_lock b false, inr refl)) kept.index (keys_same a new kept.content world.keys) (mine_free a n w (n ∷ rest) first) (λ other i. inl (later i))
           (λ other ne i. elim (among_cases other n rest i) [ inl e ↦ absurd (ne e) | inr j ↦ j ])
           (λ taken. absurd (elim taken [ inl held ↦ (let clash : false ≡ true = held in cc) | inr none ↦ (let some : IsSome (let nothing : Option Spot = None in nothing) = subst (λ (x : Option Spot). IsSome x) none known in cc) ]))
           (locked_may a n b unlocked_one named epoch w world locked free (inr alive)) truth,
@@ -102,7 +104,7 @@ module _ (epoch : ℕ) (a : ArenaView) (tidy : Tidy) (root head above : NodeNo) 
           let kept = (subst (λ (x : ArenaView). KeepsTree a x) value keeps).keeps epoch w.twins w.chart world.index in
           let Then : ArenaView → World → Type 0 = λ x next. StageIsTrue begun tidy.key tidy.way (AboveLocked layer) x next in
           subst (λ (x : ArenaView). Goes epoch a x w (root.0 ∷ []) (n ∷ root.0 ∷ []) (Then x) × SameContent (arena_seen a) (arena_seen x)) (sym value) (
-            goes_border a n b lock b_named epoch w (root.0 ∷ []) (n ∷ root.0 ∷ []) (Then new) world kept.index (keys_same a new kept.content world.keys)
+            goes_border a n b lock b_named epoch w (root.0 ∷ []) (n ∷ root.0 ∷ []) (Then new) world (λ known. (ages_lock b true, inr refl)) kept.index (keys_same a new kept.content world.keys)
                 (unlocked_free a n b lock b_named w (root.0 ∷ []) seen.unlocked (known_some w n _ stands.place))
                 (λ other i. elim (among_cases other n (root.0 ∷ []) i) [ inl e ↦ inr e | inr j ↦ inl j ]) (λ other ne i. later i) (λ locked. first)
                 (on_kept a epoch w.chart n _ _ _ _ stands.place world.retired, λ i. refl, alive_changed a n b lock b_named w.chart (inl refl)) (record {
@@ -213,7 +215,7 @@ module _ (epoch : ℕ) (a : ArenaView) (tidy : Tidy) (layer : Layer) (is : tidy.
         let kept = (subst (λ (x : ArenaView). KeepsTree a x) value keeps).keeps epoch w.twins w.chart world.index in
         let Then : ArenaView → World → Type 0 = λ x next. StageIsTrue begun tidy.key tidy.way (RootMarked layer) x next in
         subst (λ (x : ArenaView). Goes epoch a x w owned owned (Then x) × SameContent (arena_seen a) (arena_seen x)) (sym value) (
-          goes_border a n b with_deleted named epoch w owned owned (Then new) world kept.index (keys_same a new kept.content world.keys) (mine_free a n w owned (later first)) (λ other i. inl i) (λ other ne i. i) (λ locked. later first)
+          goes_border a n b with_deleted named epoch w owned owned (Then new) world (λ known. (ages_deleted b, inr refl)) kept.index (keys_same a new kept.content world.keys) (mine_free a n w owned (later first)) (λ other i. inl i) (λ other ne i. i) (λ locked. later first)
               (locked_kept a epoch w.chart n (subst (λ (x : Option Node). IsLocked x) (sym (node-from_border a.nodes n b named)) k.root.locked) world.retired, λ i. k.root.locked, alive_changed a n b with_deleted named w.chart (inl k.root.locked)) (
                 record {
                   root = record { b = with_deleted b; named = now_named a n b with_deleted named; known = k.root.known; locked = k.root.locked; empty = k.root.empty; right = k.root.right };
@@ -268,6 +270,7 @@ module _ (epoch : ℕ) (a : ArenaView) (tidy : Tidy) (root head : NodeNo) (is : 
         subst (λ (x : ArenaView). Goes epoch a x w (n ∷ head.0 ∷ []) (head.0 ∷ []) (Then x) × SameContent (arena_seen a) (arena_seen x)) (sym is_last)
         (goes_retired epoch a new w root (head.0 ∷ []) (Then last) (at_level 0) g.prefix g.low g.epoch world kept refl (others_named a n g.b unlock g.named) g.place g.kept
         (λ locked. (let clash : false ≡ true = subst (λ (x : Option Node). IsLocked x) (node-from_border new.nodes n (unlock g.b) now_is) locked in cc))
+        (age_one n g.b (unlock g.b) g.named now_is (λ known. (ages_lock g.b false, inr refl)) (others_named a n g.b unlock g.named))
         (heads_changed a n g.b unlock g.named w.chart (λ i. absurd (g.free i)) world.heads)
         (twins_changed a n g.b unlock g.named w.chart w.chart w.twins (evolves_same 0 w.chart) world.twins) keeps_last (λ i. apart (among_one n head.0 i))
         (gone_head_then new w root head.0 epoch apart (gone_head_beside a w n head.0 g.b unlock g.named k)));
@@ -295,7 +298,7 @@ module _ (epoch : ℕ) (a : ArenaView) (tidy : Tidy) (head : NodeNo) (is : tidy.
         subst (λ (x : ArenaView). Goes epoch a x w (head.0 ∷ []) [] (λ next. Unit {0}) × SameContent (arena_seen a) (arena_seen x)) (sym value)
         (goes_retired epoch a a w head [] (λ next. Unit {0}) top k.prefix k.low k.epoch world (record { index = world.index; content = same_content a; evolves = λ b le. evolves_same b w.chart }) refl (λ other differ. refl) k.place k.head.kept
         (λ locked. (let clash : false ≡ true = sym k.head.unlocked ∙ subst (λ (x : Option Node). IsLocked x) (node-from_head a.nodes head.0 k.head.h k.head.named) locked in cc))
-        world.heads world.twins (subst (λ (x : ArenaView). KeepsTree a x) value keeps) (λ i. elim i [ ]) tt);
+        age_same world.heads world.twins (subst (λ (x : ArenaView). KeepsTree a x) value keeps) (λ i. elim i [ ]) tt);
   }) tt tt refl
 
 -- ---- the border above is unlocked as it was

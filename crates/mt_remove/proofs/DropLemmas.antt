@@ -26,6 +26,8 @@ use Rattle.mt_steps.specs.World.{World, IsWorld, IsLockedBorder, Goes}
 use Rattle.mt_steps.specs.Way.{prefix_of}
 use Rattle.mt_steps.proofs.SplitLemmas.{with_spot, spot_changes}
 use Rattle.mt_steps.proofs.AliveLemmas.{alive_node, alive_there, alive_placed}
+use Rattle.mt_tree.proofs.AgeLemmas.{ages_lock, ages_deleted}
+use Rattle.mt_steps.proofs.AgingLemmas.{age_beside}
 use Rattle.mt_steps.proofs.BorderLemmas.{now_named, keys_same, known_stays, goes_border, locked_may, mine_free, on_kept}
 use Rattle.mt_steps.proofs.NodeLemmas.{at_chart, goes_beside, heads_beside, heads_were, interior_others, interior_no_head, interior_no_border, interior_alive, interior_border, interior_taken, interior_is_taken, not_both, known_some, seen_on, free_no_twin, unlocked_no}
 use Rattle.mt_remove.specs.declared.tidy.Tidy.{Tidy}
@@ -112,7 +114,7 @@ module _ (epoch : ℕ) (a : ArenaView) (tidy : Tidy) (border head parent : NodeN
               no_twin = free_no_twin a w.chart w.twins n no_lock world.twins;
             }) in
             let is_known = known_some w n _ stands.place in
-            goes_beside epoch a new w chart n border.0 (Some there) _ world kept refl (on_kept a epoch w.chart n _ _ _ _ stands.place world.retired) (interior_others a n i change i_named) charted
+            goes_beside epoch a new w chart n border.0 (Some there) _ world (age_beside n (interior_no_border a n i change i_named) (interior_others a n i change i_named)) kept refl (on_kept a epoch w.chart n _ _ _ _ stands.place world.retired) (interior_others a n i change i_named) charted
             (heads_beside a new w.chart chart n (heads_were w.chart chart border.0 0 e.b.low prefix (on false) charted) (interior_no_head a n i change i_named) (interior_no_border a n i change i_named) (interior_others a n i change i_named) world.heads)
             (alive_there a new chart n (interior_alive a n i change i_named chart (inr seen.alive)) (interior_others a n i change i_named)
             (alive_placed a w.chart chart border.0 (Some there) charted (alive_node a chart border.0 (Border e.b) (node-from_border a.nodes border.0 e.b e.named) (inl e.locked)) world.alive))
@@ -146,7 +148,7 @@ module _ (epoch : ℕ) (a : ArenaView) (tidy : Tidy) (border head : NodeNo) (is 
         let kept = (subst (λ (x : ArenaView). KeepsTree a x) value keeps).keeps epoch w.twins w.chart world.index in
         let Then : ArenaView → World → Type 0 = λ x next. StageIsTrue begun tidy.key tidy.way (Marked border head head slice) x next in
         subst (λ (x : ArenaView). Goes epoch a x w (border.0 ∷ []) (border.0 ∷ []) (Then x) × SameContent (arena_seen a) (arena_seen x)) (sym value) (
-          goes_border a border.0 e.b with_deleted e.named epoch w (border.0 ∷ []) (border.0 ∷ []) (Then new) world kept.index (keys_same a new kept.content world.keys) (mine_free a border.0 w (border.0 ∷ []) first) (λ other i. inl i) (λ other ne i. i) (λ locked. first)
+          goes_border a border.0 e.b with_deleted e.named epoch w (border.0 ∷ []) (border.0 ∷ []) (Then new) world (λ known. (ages_deleted e.b, inr refl)) kept.index (keys_same a new kept.content world.keys) (mine_free a border.0 w (border.0 ∷ []) first) (λ other i. inl i) (λ other ne i. i) (λ locked. first)
               (locked_may a border.0 e.b with_deleted e.named epoch w world e.locked e.free (inl e.locked)) (record {
                 border = record { b = with_deleted e.b; named = now_named a border.0 e.b with_deleted e.named; locked = e.locked; empty = e.empty; later = e.later; place = e.place; free = e.free };
                 marked = refl;
@@ -169,7 +171,7 @@ module _ (epoch : ℕ) (a : ArenaView) (tidy : Tidy) (border : NodeNo) (is : tid
         let new : ArenaView = with_border_changed a border.0 unlock in
         let kept = (subst (λ (x : ArenaView). KeepsTree a x) value keeps).keeps epoch w.twins w.chart world.index in
         subst (λ (x : ArenaView). Goes epoch a x w (border.0 ∷ []) [] (λ next. Unit {0}) × SameContent (arena_seen a) (arena_seen x)) (sym value) (
-          goes_border a border.0 at.b unlock at.named epoch w (border.0 ∷ []) [] (λ next. Unit {0}) world kept.index (keys_same a new kept.content world.keys) (mine_free a border.0 w (border.0 ∷ []) first) (λ other i. elim i [ ]) (λ other ne i. absurd (only other ne i))
+          goes_border a border.0 at.b unlock at.named epoch w (border.0 ∷ []) [] (λ next. Unit {0}) world (λ known. (ages_lock at.b false, inr refl)) kept.index (keys_same a new kept.content world.keys) (mine_free a border.0 w (border.0 ∷ []) first) (λ other i. elim i [ ]) (λ other ne i. absurd (only other ne i))
               (λ taken. absurd (elim taken [ inl locked ↦ (let clash : false ≡ true = locked in cc) | inr none ↦ (let some : IsSome (let nothing : Option Spot = None in nothing) = subst (λ (x : Option Spot). IsSome x) none at.known in cc) ]))
               (locked_may a border.0 at.b unlock at.named epoch w world at.locked at.free (inr at.alive)) tt,
           kept.content,

@@ -18,6 +18,8 @@ use Rattle.mt_tree.proofs.SeenLemmas.{seen-head}
 use Rattle.mt_steps.specs.declared.progress.Progress.TheVariants.{Moved}
 use Rattle.mt_steps.specs.World.{World, IsWorld, HeadsStand, FreeAreAlive, IsLocked, IsSame, NotAmong, Goes}
 use Rattle.mt_steps.proofs.FrameLemmas.{is_among, taken_back}
+use Rattle.mt_tree.proofs.AgeLemmas.{ages_hidden}
+use Rattle.mt_steps.proofs.AgingLemmas.{age_one}
 use Rattle.mt_steps.proofs.BorderLemmas.{alive_changed, keys_same, no_interior, twins_changed, retired_kept, locked_kept, on_kept, roots_kept, now_named, others_named}
 use Rattle.mt_steps.proofs.LayerLemmas.{head_apart}
 use Rattle.mt_steps.proofs.SplitLemmas.{with_spot, spot_changes}
@@ -205,6 +207,7 @@ module _ (now : ℕ) (a : ArenaView) (w : World) (layer : Layer) (k : IsClosing 
             | inr out ↦ inr (taken_back a new w next number (is_hidden number out) taken, out)
           ];
           spots = λ number out apart. (is_hidden number out).spot;
+          age = age_one n b (hide b) named (now_named a n b hide named) (λ known. (ages_hidden b layer.place, inr refl)) others;
           true = (still_above, then_gone, head_then_gone);
         },
         kept.content,

@@ -34,6 +34,7 @@ use Rattle.mt_steps.proofs.FoundLemmas.{some_at}
 use Rattle.mt_steps.proofs.LayerLemmas.{content_twice}
 use Rattle.mt_steps.proofs.SplitLemmas.{with_spot, spot_changes}
 use Rattle.mt_steps.proofs.AliveLemmas.{alive_node, alive_gone, alive_there, alive_placed}
+use Rattle.mt_steps.proofs.AgingLemmas.{age_beside}
 use Rattle.mt_steps.proofs.BorderLemmas.{known_stays, no_interior, no_root, roots_kept, on_kept}
 use Rattle.mt_steps.proofs.NodeLemmas.{at_chart, goes_kept, goes_at, goes_beside, twins_lone, heads_beside, heads_were, interior_now, interior_others, interior_no_head, interior_no_border, interior_alive, interior_taken, interior_is_taken, alive_free, not_both, known_some, root_place, seen_on, head_there, free_no_twin, unlocked_no}
 use Rattle.mt_steps.proofs.RetireLemmas.{goes_retired}
@@ -89,7 +90,7 @@ module _ (epoch : ℕ) (a : ArenaView) (tidy : Tidy) (lone : OneChild) (is : tid
           let others = interior_others a p i lock i_named in
           let no_lock = unlocked_no a w.chart p i i_named has.seen.unlocked in
           let free : IsTaken a w p → ⊥ = λ taken. not_both i.version.locked (w.chart p) has.seen.unlocked (known_some w p _ stands.place) (interior_is_taken a p i w i_named taken) in
-          goes_at epoch a new w w.chart p [] (p ∷ []) _ world kept refl (on_kept a epoch w.chart p _ _ _ _ stands.place world.retired) others (λ other out. refl)
+          goes_at epoch a new w w.chart p [] (p ∷ []) _ world (age_beside p (interior_no_border a p i lock i_named) others) kept refl (on_kept a epoch w.chart p _ _ _ _ stands.place world.retired) others (λ other out. refl)
           (heads_beside a new w.chart w.chart p (λ number q h. h) (interior_no_head a p i lock i_named) (interior_no_border a p i lock i_named) others world.heads)
           (alive_there a new w.chart p (interior_alive a p i lock i_named w.chart (inl refl)) others world.alive)
           no_lock (λ taken out. free taken)
@@ -211,7 +212,7 @@ module _ (epoch : ℕ) (a : ArenaView) (tidy : Tidy) (lone : OneChild) (is : tid
             let kept = keeps.keeps epoch w.twins w.chart chart world.index (record { prefix = prefix; stands = stands; stood = l.stands; charted = charted; no_twin = free_no_twin a w.chart w.twins m no_lock world.twins; gone_no_twin = l.apart }) in
             let is_known = known_some w m _ stands.place in
             let apart : q ≢ m = λ e. clash_locked l.i l.locked (ap (λ (x : ℕ). interior_at a.nodes x) (sym e) ∙ l.named) in
-            goes_beside epoch a new w chart m q (Some there) _ world kept refl (on_kept a epoch w.chart m _ _ _ _ stands.place world.retired) (interior_others a m j change j_named) charted
+            goes_beside epoch a new w chart m q (Some there) _ world (age_beside m (interior_no_border a m j change j_named) (interior_others a m j change j_named)) kept refl (on_kept a epoch w.chart m _ _ _ _ stands.place world.retired) (interior_others a m j change j_named) charted
             (heads_beside a new w.chart chart m (heads_were w.chart chart q l.stands.level l.stands.low prefix (gone epoch) charted) (interior_no_head a m j change j_named) (interior_no_border a m j change j_named) (interior_others a m j change j_named) world.heads)
             (alive_there a new chart m (interior_alive a m j change j_named chart (inr alive)) (interior_others a m j change j_named)
             (alive_placed a w.chart chart q (Some there) charted (alive_gone a chart q (at_level l.stands.level) prefix l.stands.low epoch charted.now) world.alive))
@@ -278,7 +279,7 @@ module _ (epoch : ℕ) (a : ArenaView) (tidy : Tidy) (lone : OneChild) (is : tid
             let is_known = known_some w n _ stands in
             let free = (world.heads.alive n prefix h stands named).1 in
             let apart : q ≢ n = λ e. no_head l.i (ap (λ (x : ℕ). interior_at a.nodes x) (sym e) ∙ l.named) in
-            goes_beside epoch a new w chart n q (Some there) _ world kept refl (on_kept a epoch w.chart n _ _ _ _ stands world.retired) updated.others charted
+            goes_beside epoch a new w chart n q (Some there) _ world (age_beside n (ap (option_and_then border_of) (node-from_head a.nodes n h named)) updated.others) kept refl (on_kept a epoch w.chart n _ _ _ _ stands world.retired) updated.others charted
             (heads_named w chart world (heads_were w.chart chart q l.stands.level l.stands.low prefix (gone epoch) charted))
             (alive_there a new chart n (alive_node new chart n (Head (change h)) updated.changed (inr (ap (λ v. v.deleted) same ∙ root.0))) updated.others
             (alive_placed a w.chart chart q (Some there) charted (alive_gone a chart q (at_level l.stands.level) prefix l.stands.low epoch charted.now) world.alive))
@@ -355,6 +356,7 @@ module _ (epoch : ℕ) (a : ArenaView) (tidy : Tidy) (interior : NodeNo) (rule :
         subst (λ (x : ArenaView). Goes epoch a x w (g ∷ []) [] (λ next. Unit {0}) × SameContent (arena_seen a) (arena_seen x)) (sym is_last)
         (goes_retired epoch a new w interior [] (λ next. Unit {0}) (at_level t.level) t.prefix t.low t.epoch world both refl others t.place t.kept
         (λ locked. (let clash : false ≡ true = subst (λ (x : Option Node). IsLocked x) (node-from_interior new.nodes g (unlock (mark t.i)) now_is) locked in cc))
+        (age_beside g (interior_no_border a g t.i mark t.named) others)
         (heads_beside a new w.chart w.chart g (λ number layer h. h) (interior_no_head first_new g (mark t.i) unlock there) (interior_no_border a g t.i mark t.named) others world.heads)
         (twins_lone a new w.chart w.chart w.twins g (evolves_same 0 w.chart) t.apart others world.twins) keeps_new (λ i. elim i [ ]) tt);
   }) tt tt refl
@@ -374,7 +376,7 @@ module _ (epoch : ℕ) (a : ArenaView) (tidy : Tidy) (interior : NodeNo) (is : t
         let others = interior_others a n l.i open_it l.named in
         let free : IsTaken new w n → ⊥ = λ taken. not_both (open_it l.i).version.locked (w.chart n) refl (known_some w n _ l.stands.place) (interior_taken a n l.i open_it l.named w taken) in
         subst (λ (x : ArenaView). Goes epoch a x w (n ∷ []) [] (λ next. Unit {0}) × SameContent (arena_seen a) (arena_seen x)) (sym value)
-        (goes_kept epoch a new w w.chart n (n ∷ []) [] (λ next. Unit {0}) world kept refl (on_kept a epoch w.chart n _ _ _ _ l.stands.place world.retired) others (λ other out. refl)
+        (goes_kept epoch a new w w.chart n (n ∷ []) [] (λ next. Unit {0}) world (age_beside n (interior_no_border a n l.i open_it l.named) others) kept refl (on_kept a epoch w.chart n _ _ _ _ l.stands.place world.retired) others (λ other out. refl)
         (heads_beside a new w.chart w.chart n (λ number layer h. h) (interior_no_head a n l.i open_it l.named) (interior_no_border a n l.i open_it l.named) others world.heads)
         (alive_there a new w.chart n (interior_alive a n l.i open_it l.named w.chart (inr l.alive)) others world.alive)
         (twins_lone a new w.chart w.chart w.twins n (evolves_same 0 w.chart) l.apart others world.twins)

@@ -30,6 +30,10 @@ use Rattle.mt_steps.specs.Ranging.{IsHeldFor, IsAtSlice, KnowsOfSlice, Seeks}
 use Rattle.mt_steps.specs.Causes.{IsMarkedAt, IsLockedAlready}
 use Rattle.mt_steps.proofs.SplitLemmas.{with_spot, spot_changes}
 use Rattle.mt_steps.proofs.AliveLemmas.{alive_gone, alive_there, alive_placed}
+use Rattle.mt_chart.specs.Noted.{Ages}
+use Rattle.mt_tree.specs.Fields.{fields_seen}
+use Rattle.mt_tree.proofs.AgeLemmas.{ages_lock, ages_right, NotLower, not_lower}
+use Rattle.mt_steps.proofs.AgingLemmas.{age_one, on_as}
 use Rattle.mt_steps.proofs.BorderLemmas.{alive_changed, now_named, others_named, no_interior, known_stays, heads_changed, twins_changed, unlocked_free, unlocked_root, on_kept}
 use Rattle.mt_steps.proofs.NodeLemmas.{at_chart, goes_beside, heads_were, known_some}
 use Rattle.mt_steps.proofs.RetireLemmas.{goes_retired}
@@ -133,7 +137,9 @@ module _ (epoch : ℕ) (a : ArenaView) (tidy : Tidy) (border head node : NodeNo)
             let is_known = known_some w n _ on_border.place in
             let heads = heads_changed a n c change at.named w.chart (λ i. absurd (unlocked_root a w.closing w.chart n c at.named unlocked world.heads i)) world.heads in
             let apart : border.0 ≢ n = λ x. clash_locked e.b e.locked (ap (λ (m : ℕ). border_at a.nodes m) (sym x) ∙ e.named) in
-            goes_beside epoch a new w chart n border.0 (Some there) _ world kept refl (on_kept a epoch w.chart n _ _ _ _ on_border.place world.retired) (others_named a n c change at.named) charted
+            goes_beside epoch a new w chart n border.0 (Some there) _ world
+            (age_one n c (change c) at.named (now_named a n c change at.named) (λ known. (further begun w world u same, inl (on_as {chart = w.chart} (record { low = c.low; posted = on_border.posted; place = on_border.place }) (charted.rest n (λ x. apart (sym x)))))) (others_named a n c change at.named))
+            kept refl (on_kept a epoch w.chart n _ _ _ _ on_border.place world.retired) (others_named a n c change at.named) charted
             (record { alive = λ number layer h place x. heads.alive number layer h (heads_were w.chart chart border.0 0 e.b.low prefix (gone epoch) charted number layer place) x; roots = heads.roots })
             (alive_there a new chart n (alive_changed a n c change at.named chart (inr at.alive)) (others_named a n c change at.named)
             (alive_placed a w.chart chart border.0 (Some there) charted (alive_gone a chart border.0 (at_level 0) prefix e.b.low epoch charted.now) world.alive))
@@ -153,6 +159,13 @@ module _ (epoch : ℕ) (a : ArenaView) (tidy : Tidy) (border head node : NodeNo)
             });
       }
         where
+          -- the link that it gets is further to the right
+          further : (begun : ℕ) (w : World) → IsWorld a epoch w → (u : IsUnlinking begun a w border.0 (prefix_of tidy.key tidy.way) head.0 n slice) → gone_border ≡ u.border.b → Ages (fields_seen c) (fields_seen (with_right c gone_border.right))
+          further begun w world u same =
+              let facts = world.index.tree.each_border border.0 (prefix_of tidy.key tidy.way) (border_seen u.border.b) (record { posted = false; place = u.border.place; node = seen-border a border.0 u.border.b u.border.named }) in
+              ages_right c gone_border.right (subst (λ (r : Option RightLink). NotLower r gone_border.right) (sym (names begun w world u))
+              (not_lower (record { low = u.border.b.low; node = border }) gone_border.right (λ link is. (facts.right (right_seen link) (ap (option_map right_seen) (ap (λ (b : BorderView). b.right) (sym same) ∙ is))).0)))
+
           clash_locked : (b : BorderView) → b.version.locked ≡ true → border_at a.nodes n ≡ Some b → ⊥
           clash_locked b locked named =
               let same : c ≡ b = (let both : ◌≡◌ {A = Option BorderView} (Some c) (Some b) = sym at.named ∙ named in cc) in
@@ -183,6 +196,7 @@ module _ (epoch : ℕ) (a : ArenaView) (tidy : Tidy) (border : NodeNo) (is : tid
         subst (λ (x : ArenaView). Goes epoch a x w (border.0 ∷ []) [] (λ next. Unit {0}) × SameContent (arena_seen a) (arena_seen x)) (sym is_last)
         (goes_retired epoch a new w border [] (λ next. Unit {0}) (at_level 0) g.prefix g.low g.epoch world kept refl (others_named a border.0 g.b unlock g.named) g.place g.kept
         (λ locked. (let clash : false ≡ true = subst (λ (x : Option Node). IsLocked x) (node-from_border new.nodes border.0 (unlock g.b) now_is) locked in cc))
+        (age_one border.0 g.b (unlock g.b) g.named now_is (λ known. (ages_lock g.b false, inr refl)) (others_named a border.0 g.b unlock g.named))
         (heads_changed a border.0 g.b unlock g.named w.chart (λ i. absurd (g.free i)) world.heads)
         (twins_changed a border.0 g.b unlock g.named w.chart w.chart w.twins (evolves_same 0 w.chart) world.twins) keeps_last (λ i. elim i [ ]) tt);
   }) tt tt refl

@@ -98,13 +98,17 @@ apart_from_first : (node : Retired) (others : List Retired) → AllPairs (λ (r 
 apart_from_first node others pairs k d within = λ same. pairs 0 (suc k) d (omega arith) (omega arith) (sym same)
 
 -- What a collection leaves that frees the node that was retired first: each call that began after the epoch of its retiring may go on, and
--- each number that is taken is as it was.
+-- each number that is taken is as it was. The number names nothing, and all others what they named, where they stood.
 pub record Frees (now : ℕ) (a after : ArenaView) (w next : World) (retired_in : ℕ) : Type 0 where
   pub world : IsWorld after now next
   pub content : SameContent (arena_seen a) (arena_seen after)
   pub evolves : (begun : ℕ) → retired_in < begun → Evolves begun w.chart next.chart
   pub leaves : (number : ℕ) → IsTaken a w number → IsSame a after w next number
   pub takes : (number : ℕ) → IsTaken after next number → IsTaken a w number
+  pub number : ℕ
+  pub nothing : node_at after.nodes number ≡ None
+  pub others : (other : ℕ) → other ≢ number → node_at after.nodes other ≡ node_at a.nodes other
+  pub placed : (other : ℕ) → other ≢ number → next.chart other ≡ w.chart other
 
 -- Each interior that is taken and gone went after the node was retired: so it is where each call that is open began later, and what is taken is
 -- owned by one of them.
@@ -252,4 +256,8 @@ module _ (a : ArenaView) (now : ℕ) (w : World) (node : Retired) (others : List
           | inl e ↦ absurd (nobody (subst (λ (m : ℕ). IsTaken after next m) e taken))
           | inr differ ↦ taken_back a after w next number (is_same number differ) taken
         ];
+        number = n;
+        nothing = updated.changed;
+        others = updated.others;
+        placed = charted.rest;
       }

@@ -7,7 +7,7 @@ use Rattle.std.proofs.lemmas.List.Elements.{All-nil, All-cons, All-head, All-tai
 use Rattle.mt_types.specs.declared.limits.TheConstants.{MAX_NODES}
 use Rattle.mt_types.specs.declared.numbers.NodeNo.{NodeNo}
 use Rattle.mt_interior.specs.Head.{HeadView}
-use Rattle.mt_arena.specs.Node.{head_of}
+use Rattle.mt_arena.specs.Node.{head_of, border_of}
 use Rattle.mt_arena.specs.Arena.{ArenaView, IsArena, without_first_retired}
 use Rattle.mt_arena.specs.declared.retired.Retired.{Retired}
 use Rattle.mt_arena.specs.declared.node.Node.{Node}
@@ -16,6 +16,7 @@ use Rattle.mt_chart.proofs.HeldNodes.{evolves_same, evolves_again}
 use Rattle.mt_tree.specs.Keeping.{FreesNode}
 use Rattle.mt_steps.specs.World.{World, IsLocked, IsTaken, IsSame}
 use Rattle.mt_steps.specs.Collecting.{CollectLaw, given_back}
+use Rattle.mt_steps.proofs.AgingLemmas.{age_same, age_less}
 use Rattle.mt_steps.proofs.LayerLemmas.{content_twice}
 use Rattle.mt_steps.proofs.CollectLemmas.{without_spot, collects}
 
@@ -48,6 +49,7 @@ law_none a before now w world since = record {
   evolves = λ begun less. evolves_same begun w.chart;
   leaves = λ number taken. record { node = refl; spot = refl; twins = λ one other here. ((λ h. h), (λ h. h)); closing = λ i. i; retired = ((λ h. h), (λ h. h)) };
   takes = λ number taken. taken;
+  age = age_same;
 }
 
 -- once one more is
@@ -65,6 +67,7 @@ law_more a mid before node others law sound is frees early now w world since =
       evolves = λ begun less. evolves_again begun w.chart one.next.chart _ (one.evolves begun less) (two.evolves begun (omega (arith, less, early)));
       leaves = λ number taken. let same = one.leaves number taken in same_twice a mid (without_first_retired mid) w one.next _ number same (two.leaves number (taken_on a mid w one.next number same taken));
       takes = λ number taken. one.takes number (two.takes number taken);
+      age = age_less two.number one.age (ap (option_and_then border_of) two.nothing) two.others two.placed;
     }
 
 -- ---- which are freed

@@ -21,6 +21,7 @@ use Rattle.mt_chart.proofs.Trail.{trail_bound}
 use Rattle.mt_tree.specs.Seen.{arena_seen, node_seen}
 use Rattle.mt_steps.specs.World.{World, IsWorld, NotRetired, IsLocked, IsTaken, IsSame, NotAmong, Goes}
 use Rattle.mt_steps.specs.Step.{IsQuiet}
+use Rattle.mt_steps.proofs.AgingLemmas.{age_same}
 
 -- a number is one of a list, or not
 pub is_among : (number : ℕ) (l : List ℕ) → Among number l ⊎ NotAmong number l
@@ -55,6 +56,7 @@ goes_same now a w Then owned owns same world truth = record {
   leaves = λ other taken apart. (record { node = refl; spot = refl; twins = λ one other here. ((λ h. h), (λ h. h)); closing = λ i. i; retired = ((λ h. h), (λ h. h)) }, λ i. apart (subst (λ (l : List ℕ). Among other l) (sym same) i));
   takes = λ number taken. elim (is_among number owned) [ inl i ↦ inl (subst (λ (l : List ℕ). Among number l) same i) | inr out ↦ inr (taken, out) ];
   spots = λ number out apart. refl;
+  age = age_same;
   true = truth;
 }
 

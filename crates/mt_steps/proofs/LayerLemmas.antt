@@ -17,19 +17,26 @@ use Rattle.mt_chart.specs.Chart.{on, at_level, top, Spot, spot, Chart}
 use Rattle.mt_chart.specs.Steps.{SameContent}
 use Rattle.mt_chart.proofs.Basics.{same_number}
 use Rattle.mt_chart.proofs.HeldNodes.{evolves_same, evolves_again}
+use Rattle.mt_chart.specs.Noted.{Ages}
 use Rattle.mt_tree.specs.Seen.{arena_seen}
+use Rattle.mt_tree.specs.Fields.{fields_seen}
 use Rattle.mt_tree.specs.Keeping.{KeepsTree, KeepsUnknown, IsUnknown, IsOnIn}
 use Rattle.mt_tree.specs.BorderSteps.{MakesLayerAt}
 use Rattle.mt_steps.specs.World.{World, IsWorld, HeadsStand, IsLockedInterior, IsAliveIfFree, FreeAreAlive, NotRetired, IsLocked, IsTaken, NotAmong, Goes}
+use Rattle.mt_steps.proofs.AgingLemmas.{on_as, age_known, age_of_unknown, age_one}
 use Rattle.mt_steps.proofs.FrameLemmas.{is_among, taken_back, retired_same}
 use Rattle.mt_steps.proofs.AliveLemmas.{alive_node, alive_unknown, alive_head, alive_there, alive_placed, same_on}
-use Rattle.mt_steps.proofs.BorderLemmas.{keys_same, heads_changed, twins_changed, twins_beside, no_interior, retired_kept, unknown_kept, MayChange, others_named}
+use Rattle.mt_steps.proofs.BorderLemmas.{keys_same, heads_changed, twins_changed, twins_beside, no_interior, retired_kept, unknown_kept, MayChange, now_named, others_named}
 use Rattle.mt_steps.proofs.SplitLemmas.{vacant_free, vacant_root, heads_occupied, with_spot, spot_changes}
 
 -- ---- two spares
 -- what the chart doesn't know is no locked interior of the tree
 unknown_free : (a : ArenaView) (chart : Chart) (number : ℕ) → chart number ≡ None → IsLockedInterior a chart number → ⊥
 unknown_free a chart number unknown locked = (let some : IsSome (let nothing : Option Spot = None in nothing) = subst (λ (x : Option Spot). IsSome x) unknown locked.known in cc)
+
+-- a number that it knows is another
+unknown_apart : (chart : Chart) {one number : ℕ} → chart one ≡ None → IsSome (chart number) → number ≢ one
+unknown_apart chart unknown known e = (let clash : false ≡ true = subst (λ (x : Option Spot). IsSome x) (ap chart e ∙ unknown) known in cc)
 
 -- the same rows, by two changes
 pub content_twice : (a mid after : ArenaView) → SameContent (arena_seen a) (arena_seen mid) → SameContent (arena_seen mid) (arena_seen after) → SameContent (arena_seen a) (arena_seen after)
@@ -79,6 +86,7 @@ module _ (now : ℕ) (a mid after : ArenaView) (w : World) (one two : ℕ) (node
             ]
           ];
           spots = λ number out apart. refl;
+          age = age_known (λ number known. others_same number (λ e. unknown_apart w.chart (unknown_one.unknown now w.twins w.chart world.index) known e) (λ e. unknown_apart w.chart (unknown_two.unknown now w.twins w.chart kept.index) known e));
           true = truth;
         },
         content,
@@ -114,6 +122,7 @@ goes_given_back now a mid after w number node owned Then vacant updates retired 
         leaves = λ other taken apart. (record { node = same other; spot = refl; twins = λ one other here. ((λ h. h), (λ h. h)); closing = λ i. i; retired = retired_same a.retired after.retired other (retired_back ∙ retired) }, apart);
         takes = λ other taken. elim (is_among other owned) [ inl i ↦ inl i | inr out ↦ inr (taken_back a after w w other (record { node = same other; spot = refl; twins = λ one other here. ((λ h. h), (λ h. h)); closing = λ i. i; retired = retired_same a.retired after.retired other (retired_back ∙ retired) }) taken, out) ];
         spots = λ number out apart. refl;
+        age = age_known (λ number known. same number);
         true = truth;
       },
       content,
@@ -140,6 +149,7 @@ goes_spare_changed now a after w number node owned Then updates retired keeps un
         | inr out ↦ inr (taken_back a after w w other (record { node = updates.others other (λ e. out (subst (λ (m : ℕ). Among m owned) (sym e) mine)); spot = refl; twins = λ one other here. ((λ h. h), (λ h. h)); closing = λ i. i; retired = retired_same a.retired after.retired other retired }) taken, out)
       ];
       spots = λ number out apart. refl;
+      age = age_of_unknown number unknown updates.others;
       true = truth;
     }
 
@@ -165,7 +175,7 @@ layered w head root prefix = record { twins = w.twins; closing = w.closing; char
 -- owns the border alone.
 module _ (now : ℕ) (a : ArenaView) (w : World) (n head : ℕ) (root : NodeNo) (b root_b : BorderView) (prefix : List ℕ) (place : ℕ) (entry : Entry) (change : BorderView → BorderView)
     (named : border_at a.nodes n ≡ Some b) (stands : slice_get b.live place ≡ Some entry) (is_head : head_at a.nodes head ≡ Some (new_head root 0 false)) (is_root : border_at a.nodes root.0 ≡ Some root_b) (unlocked : root_b.version.locked ≡ false) (root_alive : root_b.version.deleted ≡ false)
-    (apart_head : n ≢ head) (apart_root : n ≢ root.0) (head_unknown : w.chart head ≡ None) (root_unknown : w.chart root.0 ≡ None) (world : IsWorld a now w) (may : MayChange a n b change named w) where
+    (apart_head : n ≢ head) (apart_root : n ≢ root.0) (head_unknown : w.chart head ≡ None) (root_unknown : w.chart root.0 ≡ None) (ages : Ages (fields_seen b) (fields_seen (change b))) (world : IsWorld a now w) (may : MayChange a n b change named w) where
   abbrev below : List ℕ
   below = entry.slice ∷ prefix
 
@@ -265,6 +275,7 @@ module _ (now : ℕ) (a : ArenaView) (w : World) (n head : ℕ) (root : NodeNo) 
             ]
           ];
           spots = λ number out apart. others_placed number (λ e. out (subst (λ (m : ℕ). Among m (head ∷ root.0 ∷ n ∷ [])) (sym e) first)) (λ e. out (subst (λ (m : ℕ). Among m (head ∷ root.0 ∷ n ∷ [])) (sym e) (later first)));
+          age = age_one n b (change b) named (now_named a n b change named) (λ known. (ages, inl (on_as on_in (others_placed n apart_head apart_root)))) (others_named a n b change named);
           true = truth;
         },
         kept.content,

@@ -1,4 +1,5 @@
 pub mod WayLemmas
+pub mod AgingLemmas
 pub mod FrameLemmas
 pub mod FoundLemmas
 pub mod AliveLemmas

@@ -20,7 +20,7 @@ use Rattle.mt_tree.specs.Seen.{arena_seen, head_seen, interior_seen}
 use Rattle.mt_tree.specs.InteriorSteps.{IsInLayer}
 use Rattle.mt_tree.proofs.SeenLemmas.{changed-interior, seen-head, head-seen, seen-interior}
 use Rattle.mt_tree.proofs.InteriorPlaces.{stands_as}
-use Rattle.mt_steps.specs.World.{World, IsWorld, HeadsStand, IsLockedInterior, IsAliveIfFree, FreeAreAlive, TwinsAreLocked, NotRetired, IsLocked, IsTaken, HasSameTwins, NotAmong, Goes}
+use Rattle.mt_steps.specs.World.{World, IsWorld, HeadsStand, IsLockedInterior, IsAliveIfFree, FreeAreAlive, TwinsAreLocked, NotRetired, IsLocked, IsTaken, HasSameTwins, NotAmong, BordersAge, Goes}
 use Rattle.mt_steps.proofs.FrameLemmas.{is_among, taken_back, retired_same}
 use Rattle.mt_steps.proofs.AliveLemmas.{alive_node}
 use Rattle.mt_steps.proofs.BorderLemmas.{interior_kept, keys_same, twins_beside, retired_kept, no_root, roots_kept}
@@ -31,7 +31,7 @@ at_chart w chart = record { twins = w.twins; closing = w.closing; chart = chart 
 
 -- The node of one number changes, which no other call has taken, and the places and twins of own numbers: what the step leaves.
 pub goes_with : (now : ℕ) (a after : ArenaView) (w next : World) (n : ℕ) (owned owns : List ℕ) (Then : World → Type 0)
-    → IsWorld after now next → next.closing ≡ w.closing → after.retired ≡ a.retired → ((begun : ℕ) → begun ≤ now → Evolves begun w.chart next.chart)
+    → IsWorld after now next → BordersAge a after w next → next.closing ≡ w.closing → after.retired ≡ a.retired → ((begun : ℕ) → begun ≤ now → Evolves begun w.chart next.chart)
     → ((other : ℕ) → other ≢ n → node_at after.nodes other ≡ node_at a.nodes other)
     → ((other : ℕ) → NotAmong other owned → next.chart other ≡ w.chart other)
     → ((other : ℕ) → NotAmong other owned → HasSameTwins w.twins next.twins other)
@@ -41,7 +41,7 @@ pub goes_with : (now : ℕ) (a after : ArenaView) (w next : World) (n : ℕ) (ow
     → (NotAmong n owned → IsTaken after next n → Among n owns)
     → Then next
     → Goes now a after w owned owns Then
-goes_with now a after w next n owned owns Then world closing retired evolves others spots twins nobody no_more stays not_taken truth = record {
+goes_with now a after w next n owned owns Then world age closing retired evolves others spots twins nobody no_more stays not_taken truth = record {
   next = next;
   world = world;
   evolves = evolves;
@@ -63,12 +63,13 @@ goes_with now a after w next n owned owns Then world closing retired evolves oth
     ]
   ];
   spots = λ number out apart. spots number out;
+  age = age;
   true = truth;
 }
 
 -- the same, where the twins stay
 pub goes_kept : (now : ℕ) (a after : ArenaView) (w : World) (chart : Chart) (n : ℕ) (owned owns : List ℕ) (Then : World → Type 0)
-    → IsWorld a now w → Keeps now w.twins (arena_seen a) (arena_seen after) w.chart chart → after.retired ≡ a.retired → NotRetired a.retired n
+    → IsWorld a now w → BordersAge a after w (at_chart w chart) → Keeps now w.twins (arena_seen a) (arena_seen after) w.chart chart → after.retired ≡ a.retired → NotRetired a.retired n
     → ((other : ℕ) → other ≢ n → node_at after.nodes other ≡ node_at a.nodes other)
     → ((other : ℕ) → NotAmong other owned → chart other ≡ w.chart other)
     → HeadsStand after w.closing chart
@@ -80,7 +81,7 @@ pub goes_kept : (now : ℕ) (a after : ArenaView) (w : World) (chart : Chart) (n
     → (NotAmong n owned → IsTaken after (at_chart w chart) n → Among n owns)
     → Then (at_chart w chart)
     → Goes now a after w owned owns Then × SameContent (arena_seen a) (arena_seen after)
-goes_kept now a after w chart n owned owns Then world kept retired apart others spots heads alive twins nobody no_more stays not_taken truth = (
+goes_kept now a after w chart n owned owns Then world age kept retired apart others spots heads alive twins nobody no_more stays not_taken truth = (
   goes_with now a after w (at_chart w chart) n owned owns Then (record {
     index = kept.index;
     keys = keys_same a after kept.content world.keys;
@@ -88,13 +89,13 @@ goes_kept now a after w chart n owned owns Then world kept retired apart others 
     alive = alive;
     twins = twins;
     retired = retired_kept a after now w.chart chart n (kept.evolves 0 (omega arith)) apart others retired world.retired;
-  }) refl retired kept.evolves others spots (λ other apart one two here. ((λ h. h), (λ h. h))) nobody no_more stays not_taken truth,
+  }) age refl retired kept.evolves others spots (λ other apart one two here. ((λ h. h), (λ h. h))) nobody no_more stays not_taken truth,
   kept.content,
 )
 
 -- the same, where the number is no locked interior
 pub goes_at : (now : ℕ) (a after : ArenaView) (w : World) (chart : Chart) (n : ℕ) (owned owns : List ℕ) (Then : World → Type 0)
-    → IsWorld a now w → Keeps now w.twins (arena_seen a) (arena_seen after) w.chart chart → after.retired ≡ a.retired → NotRetired a.retired n
+    → IsWorld a now w → BordersAge a after w (at_chart w chart) → Keeps now w.twins (arena_seen a) (arena_seen after) w.chart chart → after.retired ≡ a.retired → NotRetired a.retired n
     → ((other : ℕ) → other ≢ n → node_at after.nodes other ≡ node_at a.nodes other)
     → ((other : ℕ) → NotAmong other owned → chart other ≡ w.chart other)
     → HeadsStand after w.closing chart
@@ -106,8 +107,8 @@ pub goes_at : (now : ℕ) (a after : ArenaView) (w : World) (chart : Chart) (n :
     → (NotAmong n owned → IsTaken after (at_chart w chart) n → Among n owns)
     → Then (at_chart w chart)
     → Goes now a after w owned owns Then × SameContent (arena_seen a) (arena_seen after)
-goes_at now a after w chart n owned owns Then world kept retired apart others spots heads alive free nobody no_more stays not_taken truth =
-    goes_kept now a after w chart n owned owns Then world kept retired apart others spots heads alive (twins_beside a after w.chart chart w.twins n (kept.evolves 0 (omega arith)) free others world.twins) nobody no_more stays not_taken truth
+goes_at now a after w chart n owned owns Then world age kept retired apart others spots heads alive free nobody no_more stays not_taken truth =
+    goes_kept now a after w chart n owned owns Then world age kept retired apart others spots heads alive (twins_beside a after w.chart chart w.twins n (kept.evolves 0 (omega arith)) free others world.twins) nobody no_more stays not_taken truth
 
 -- twins are locked still, where the one interior that changes is none
 pub twins_lone : (a after : ArenaView) (chart next : Chart) (twins : List Twin) (n : ℕ) → Evolves 0 chart next → NoTwin twins n → ((other : ℕ) → other ≢ n → node_at after.nodes other ≡ node_at a.nodes other) → TwinsAreLocked a chart twins → TwinsAreLocked after next twins
@@ -121,7 +122,7 @@ twins_lone a after chart next twins n evolves lone others all = record {
 
 -- a node that nobody has taken changes, and the place of a number that the call owns
 pub goes_beside : (now : ℕ) (a after : ArenaView) (w : World) (chart : Chart) (n m : ℕ) (place : Option Spot) (Then : World → Type 0)
-    → IsWorld a now w → Keeps now w.twins (arena_seen a) (arena_seen after) w.chart chart → after.retired ≡ a.retired → NotRetired a.retired n
+    → IsWorld a now w → BordersAge a after w (at_chart w chart) → Keeps now w.twins (arena_seen a) (arena_seen after) w.chart chart → after.retired ≡ a.retired → NotRetired a.retired n
     → ((other : ℕ) → other ≢ n → node_at after.nodes other ≡ node_at a.nodes other)
     → Changes w.chart chart m place
     → HeadsStand after w.closing chart
@@ -131,8 +132,8 @@ pub goes_beside : (now : ℕ) (a after : ArenaView) (w : World) (chart : Chart) 
     → (IsTaken after (at_chart w chart) n → ⊥)
     → Then (at_chart w chart)
     → Goes now a after w (m ∷ []) (m ∷ []) Then × SameContent (arena_seen a) (arena_seen after)
-goes_beside now a after w chart n m place Then world kept retired apart others charted heads alive free nobody nobody_then truth =
-    goes_at now a after w chart n (m ∷ []) (m ∷ []) Then world kept retired apart others (λ other out. charted.rest other (λ e. out (subst (λ (k : ℕ). Among k (m ∷ [])) (sym e) first))) heads alive free
+goes_beside now a after w chart n m place Then world age kept retired apart others charted heads alive free nobody nobody_then truth =
+    goes_at now a after w chart n (m ∷ []) (m ∷ []) Then world age kept retired apart others (λ other out. charted.rest other (λ e. out (subst (λ (k : ℕ). Among k (m ∷ [])) (sym e) first))) heads alive free
     (λ taken out. nobody taken) (λ other taken out k. out k) (λ other k taken. k) (λ out taken. absurd (nobody_then taken)) truth
 
 -- ---- heads are as they were, where one number that is no head changes

@@ -17,11 +17,14 @@ use Rattle.mt_chart.specs.Chart.{on, at_level, top, Spot, spot, Standing, Chart,
 use Rattle.std.specs.Option.{option_and_then}
 use Rattle.mt_chart.specs.Steps.{SameContent}
 use Rattle.mt_chart.proofs.Entries.{among_cases}
+use Rattle.mt_chart.specs.Noted.{Ages}
 use Rattle.mt_tree.specs.Seen.{arena_seen}
+use Rattle.mt_tree.specs.Fields.{fields_seen}
 use Rattle.mt_tree.specs.Keeping.{KeepsTree, KeepsUnknown, IsUnknown, IsOnIn}
 use Rattle.mt_tree.specs.BorderSteps.{LinksHalfAt}
 use Rattle.mt_steps.specs.World.{World, IsWorld, HeadsStand, FreeAreAlive, IsLocked, IsTaken, NotAmong, Goes}
-use Rattle.mt_steps.proofs.BorderLemmas.{goes_border, locked_may, alive_changed, unknown_kept, no_root, roots_kept, heads_changed, twins_changed, twins_beside, no_interior, retired_kept, keys_same, others_named}
+use Rattle.mt_steps.proofs.BorderLemmas.{goes_border, locked_may, alive_changed, unknown_kept, no_root, roots_kept, now_named, heads_changed, twins_changed, twins_beside, no_interior, retired_kept, keys_same, others_named}
+use Rattle.mt_steps.proofs.AgingLemmas.{unknown_ages, on_as, age_beside, age_one}
 use Rattle.mt_steps.proofs.FrameLemmas.{is_among, taken_back, retired_same}
 use Rattle.mt_steps.proofs.AliveLemmas.{alive_node, alive_unknown, alive_there, alive_placed}
 
@@ -74,6 +77,7 @@ goes_occupied now a after w number node owned Then vacant updates retired unknow
         | inr differ ↦ elim (is_among other owned) [ inl i ↦ inl (later i) | inr out ↦ inr (taken_back a after w w other (record { node = updates.others other differ; spot = refl; twins = λ one other here. ((λ h. h), (λ h. h)); closing = λ i. i; retired = retired_same a.retired after.retired other retired }) taken, out) ]
       ];
       spots = λ number out apart. refl;
+      age = age_beside number (ap (option_and_then border_of) vacant) updates.others;
       true = truth;
     }
 
@@ -85,7 +89,7 @@ pub goes_filled : (now : ℕ) (a : ArenaView) (w : World) (n : ℕ) (b : BorderV
     → Among n owned → w.chart n ≡ None → (Among n w.closing → (change b).version.locked ≡ true) → IsWorld a now w → Then w → Goes now a (with_border_changed a n change) w owned owned Then
 goes_filled now a w n b change owned Then named keeps mine unknown locked world truth =
     let kept = keeps.keeps now w.twins w.chart world.index unknown in
-    goes_border a n b change named now w owned owned Then world kept.index (keys_same a (with_border_changed a n change) kept.content world.keys)
+    goes_border a n b change named now w owned owned Then world (unknown_ages w w.chart n b (change b) unknown) kept.index (keys_same a (with_border_changed a n change) kept.content world.keys)
     (λ other taken apart e. apart (subst (λ (m : ℕ). Among m owned) (sym e) mine)) (λ other i. inl i) (λ other ne i. i) (λ locked. mine) (unknown_kept a now w.chart n unknown world.retired, locked, alive_unknown (with_border_changed a n change) w.chart n unknown) truth
 
 -- ---- the link
@@ -120,10 +124,10 @@ alive_linked a n half b upper change chart next place named filled still half_lo
 -- call's number changes its node or its place. What is to be true of the call is asked of that world.
 pub goes_linked : (now : ℕ) (a : ArenaView) (w : World) (n half : ℕ) (b upper : BorderView) (prefix : List ℕ) (change : BorderView → BorderView) (owned : List ℕ) (Then : World → Type 0)
     → border_at a.nodes n ≡ Some b → border_at a.nodes half ≡ Some upper → LinksHalfAt a (with_border_changed a n change) n half
-    → IsOnIn w.chart n prefix → w.chart half ≡ None → Among n owned → Among half owned → b.version.locked ≡ true → (change b).version.locked ≡ true → upper.version.locked ≡ true → NotAmong n w.closing → IsWorld a now w
+    → IsOnIn w.chart n prefix → w.chart half ≡ None → Among n owned → Among half owned → b.version.locked ≡ true → (change b).version.locked ≡ true → upper.version.locked ≡ true → NotAmong n w.closing → Ages (fields_seen b) (fields_seen (change b)) → IsWorld a now w
     → Then (record { twins = w.twins; closing = w.closing; chart = with_spot w.chart half (spot (at_level 0) prefix upper.low (on false)) })
     → Goes now a (with_border_changed a n change) w owned owned Then × SameContent (arena_seen a) (arena_seen (with_border_changed a n change))
-goes_linked now a w n half b upper prefix change owned Then named filled links stands unknown mine spare locked still half_locked opened world truth =
+goes_linked now a w n half b upper prefix change owned Then named filled links stands unknown mine spare locked still half_locked opened ages world truth =
     let may = locked_may a n b change named now w world locked opened (inl still) in
     let place : Spot = spot (at_level 0) prefix upper.low (on false) in
     let changes = spot_changes w.chart half place in
@@ -165,6 +169,7 @@ goes_linked now a w n half b upper prefix change owned Then named filled links s
           )
         ];
         spots = λ number out apart. changes.rest number (λ e. out (subst (λ (m : ℕ). Among m owned) (sym e) spare));
+        age = age_one n b (change b) named (now_named a n b change named) (λ known. (ages, inl (on_as stands (changes.rest n (λ e. not_known (sym unknown ∙ (ap w.chart (sym e) ∙ stands.place))))))) (others_named a n b change named);
         true = truth;
       },
       kept.content,

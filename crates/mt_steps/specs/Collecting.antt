@@ -4,7 +4,7 @@ use Rattle.mt_arena.specs.Arena.{ArenaView, without_first_retired}
 use Rattle.mt_chart.specs.Chart.{at_level, spot, gone, Evolves}
 use Rattle.mt_chart.specs.Steps.{SameContent}
 use Rattle.mt_tree.specs.Seen.{arena_seen}
-use Rattle.mt_steps.specs.World.{World, IsWorld, IsTaken, IsSame}
+use Rattle.mt_steps.specs.World.{World, IsWorld, IsTaken, IsSame, BordersAge}
 
 -- the arena, once so many of its retired nodes have been given back, from the first on: their numbers name nothing
 abbrev pub given_back : ℕ → ArenaView → ArenaView
@@ -24,8 +24,8 @@ abbrev pub TakenSince : ℕ → ArenaView → World → Type 0
 TakenSince before a w = (number : ℕ) → IsTaken a w number → (below : ℕ) (prefix : List ℕ) (low epoch : ℕ) →
     w.chart number ≡ Some (spot (at_level (suc below)) prefix low (gone epoch)) → before ≤ epoch
 
--- what is left, in a next world: each call that began in the epoch or later may go on, and each number that is taken is
--- as it was
+-- what is left, in a next world: each call that began in the epoch or later may go on, each number that is taken is as
+-- it was, and each border that the chart knows ages
 pub record Leaves (now before : ℕ) (a after : ArenaView) (w : World) : Type 0 where
   pub next : World
   pub world : IsWorld after now next
@@ -33,6 +33,7 @@ pub record Leaves (now before : ℕ) (a after : ArenaView) (w : World) : Type 0 
   pub evolves : (begun : ℕ) → before ≤ begun → Evolves begun w.chart next.chart
   pub leaves : (number : ℕ) → IsTaken a w number → IsSame a after w next number
   pub takes : (number : ℕ) → IsTaken after next number → IsTaken a w number
+  pub age : BordersAge a after w next
 
 -- the law of a collection
 abbrev pub CollectLaw : ArenaView → ArenaView → ℕ → Type 0

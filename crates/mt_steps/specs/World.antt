@@ -13,7 +13,10 @@ use Rattle.mt_arena.specs.declared.node.Node.TheVariants.{Head, Interior, Border
 use Rattle.mt_chart.specs.Tree.{Among, Has}
 use Rattle.mt_chart.specs.Chart.{Role, at_level, gone, spot, Chart, OnHead, Evolves}
 use Rattle.mt_chart.specs.Steps.{Twin, AreTwins}
+use Rattle.mt_chart.specs.Noted.{Ages}
+use Rattle.mt_chart.specs.Walk.{IsOn}
 use Rattle.mt_tree.specs.Seen.{arena_seen}
+use Rattle.mt_tree.specs.Fields.{fields_seen}
 use Rattle.mt_tree.specs.Keeping.{IsIndexAt}
 use Rattle.mt_tree.specs.InteriorSteps.{IsInLayer}
 use Rattle.mt_tree.specs.Descent.{is_marked}
@@ -150,10 +153,18 @@ abbrev pub GoneSince : ℕ → World → List ℕ → Type 0
 GoneSince begun w numbers = (number : ℕ) → Among number numbers → (below : ℕ) (prefix : List ℕ) (low epoch : ℕ)
     → w.chart number ≡ Some (spot (at_level (suc below)) prefix low (gone epoch)) → begun ≤ epoch
 
+-- each border that the chart knows has aged; and its right link is as it was, unless it is on
+pub record BordersAge (a after : ArenaView) (w next : World) : Type 0 where
+  pub ages : (number : ℕ) (b then : BorderView) → IsSome (w.chart number) → border_at a.nodes number ≡ Some b
+      → border_at after.nodes number ≡ Some then → Ages (fields_seen b) (fields_seen then)
+  pub rights : (number : ℕ) (b then : BorderView) → IsSome (w.chart number) → border_at a.nodes number ≡ Some b
+      → border_at after.nodes number ≡ Some then → IsOn next.chart number ⊎ (then.right ≡ b.right)
+
 -- what a step of one call leaves, which owned these numbers and then owns those: there is a next world in which the
 -- tree is an index; all that calls rely on stays; each number that is taken by another call is as it was, and is not
 -- this call's; and what is then to be true of this call is. And what is then taken is this call's, or was taken and was
--- not this call's: no call leaves a lock or a spare behind. The chart is changed at numbers of this call alone.
+-- not this call's: no call leaves a lock or a spare behind. The chart is changed at numbers of this call alone. Each border
+-- that the chart knows ages.
 pub record Goes (now : ℕ) (a after : ArenaView) (w : World) (owned owns : List ℕ) (Then : World → Type 0) : Type 0 where
   pub next : World
   pub world : IsWorld after now next
@@ -163,4 +174,5 @@ pub record Goes (now : ℕ) (a after : ArenaView) (w : World) (owned owns : List
   pub takes : (number : ℕ) → IsTaken after next number → Among number owns
       ⊎ (IsTaken a w number × NotAmong number owned)
   pub spots : (number : ℕ) → NotAmong number owned → NotAmong number owns → next.chart number ≡ w.chart number
+  pub age : BordersAge a after w next
   pub true : Then next

@@ -19,7 +19,7 @@ use Rattle.mt_steps.specs.declared.getting.Get.{Get}
 use Rattle.mt_steps.specs.declared.ranging.Range.{Range}
 use Rattle.mt_steps.specs.declared.progress.Progress.{Progress}
 use Rattle.mt_steps.specs.declared.progress.Progress.TheVariants.{Refused}
-use Rattle.mt_steps.specs.World.{World, IsWorld, IsTaken, IsSame, GoneSince}
+use Rattle.mt_steps.specs.World.{World, IsWorld, IsTaken, IsSame, GoneSince, BordersAge}
 use Rattle.mt_steps.specs.Step.{Held, Truth, StepLaw, StepLawIn, MayStep, MayStepIn, nothing}
 use Rattle.mt_steps.specs.Getting.{GetIsTrue, get_request}
 use Rattle.mt_steps.specs.Ranging.{range_request, RangeIsTrue}
@@ -89,24 +89,24 @@ pub may_build : (now C : ℕ) (a : ArenaView) (log : LogView) (work : Work) (bui
 may_build now C a log work building is m = subst (λ (x : Work). MayStep a log (held x) (IsTrue C x)) is (may_step now C a log work m)
 
 -- ---- what others' steps leave
--- the law of others' steps: where they leave what a call owns, what is true of it stays true
+-- the law of others' steps: where they leave what a call owns, and each border ages, what is true of it stays true
 module _ (a after : ArenaView) (w next : World) (C begun moves : ℕ) (past : List Arena) (evolves : Evolves begun w.chart next.chart) where
   scan_stays : (upto : Option ℕ) (build : BuildView) (number : ℕ) → ScansOn upto build number begun past a w → ScansOn upto build number begun (arena_seen a ∷ past) after next
   scan_stays None build number truth = others_keep w.chart next.chart begun number (arena_seen after) (arena_seen a ∷ past) build evolves truth
   scan_stays (Some upto) build number truth = tt
 
-  pub stays : (work : Work) → ((number : ℕ) → Among number (held work).owns → IsSame a after w next number) → IsTrue C work begun moves past a w → IsTrue C work begun moves (arena_seen a ∷ past) after next
-  stays (GetWork get) same truth = (way_stays a after w next begun get.key get.way evolves truth.0, others evolves truth.1)
-  stays (WriteWork write) same truth = write_stays a after w next C begun moves past evolves write same truth
-  stays (RangeWork range) same truth = record {
+  pub stays : (now : ℕ) → IsWorld after now next → BordersAge a after w next → (work : Work) → ((number : ℕ) → Among number (held work).owns → IsSame a after w next number) → IsTrue C work begun moves past a w → IsTrue C work begun moves (arena_seen a ∷ past) after next
+  stays now world age (GetWork get) same truth = (way_stays a after w next begun get.key get.way evolves truth.0, others evolves truth.1)
+  stays now world age (WriteWork write) same truth = write_stays a after w next C begun moves past evolves write same truth
+  stays now world age (RangeWork range) same truth = record {
     bytes = truth.bytes;
     limit = truth.limit;
     asked = truth.asked;
     scans = range_kept begun w.chart next.chart (Stood (shown range.columns) (arena_seen a ∷ past)) (Stood (shown range.columns) (arena_seen after ∷ (arena_seen a ∷ past))) (AllHave (arena_seen a ∷ past)) (AllHave (arena_seen after ∷ (arena_seen a ∷ past)))
         (place_of range.start) range.limit range.scan.prefix range.node.0 range.scan.at (as_places range.scan.taken) evolves (λ key v h. inr h) (λ key t. t.1) truth.scans;
   }
-  stays (TidyWork tidy) same truth = tidy_stays a after w next begun evolves tidy same truth
-  stays (BuildWork building) same truth = scan_stays building.upto building.build building.node.0 truth
+  stays now world age (TidyWork tidy) same truth = tidy_stays a after w next begun evolves tidy same truth
+  stays now world age (BuildWork building) same truth = scan_stays building.upto building.build building.node.0 truth
 
 -- ---- what a call owns is taken
 pub owned_taken : (C begun moves : ℕ) (past : List Arena) (a : ArenaView) (w : World) (work : Work) → IsTrue C work begun moves past a w → (number : ℕ) → Among number (held work).owns → IsTaken a w number

@@ -32,6 +32,7 @@ use Rattle.mt_steps.specs.Way.{rest_of, prefix_of}
 use Rattle.mt_steps.specs.Step.{StepLaw, Stepped}
 use Rattle.mt_write.specs.Writing.{edit_request, stage_held, StageIsTrue, IsLockedAt, HasLocked, IsSplit, IsSpare, IsCutAt, IsHalf, IsAbsent, IsHalfOf, empty_half, upper_half, PutsNew}
 use Rattle.mt_steps.specs.World.{IsLockedBorder}
+use Rattle.mt_tree.proofs.AgeLemmas.{ages_split}
 use Rattle.mt_steps.proofs.FoundLemmas.{some_at, some_and}
 use Rattle.mt_write.proofs.AbsentLemmas.{none_has, absent_part, absent_last}
 use Rattle.mt_steps.proofs.BorderLemmas.{now_named, others_named}
@@ -202,7 +203,7 @@ module _ (C : ℕ) (a : ArenaView) (log : LogView) (key : List ℕ) (edit : Edit
           let (goes, content) = goes_linked now a w n half.0 b (upper_half b cut c.middle) (prefix_of key way) (link c.middle.slice) (half.0 ∷ n ∷ [])
           (λ next. StageIsTrue C key edit goal (Halved halves) begun (with_border_changed a n (link c.middle.slice)) next) at.named s.named
           (subst (λ (x : ArenaView). LinksHalfAt a x n half.0) is links) (record { low = b.low; posted = at.stands.stands.posted; place = at.stands.stands.place })
-          s.unknown (later first) first at.locked at.locked refl at.free world (then begun w b at c s p) in
+          s.unknown (later first) first at.locked at.locked refl at.free (ages_split b cut (record { low = c.middle.slice; node = half })) world (then begun w b at c s p) in
           subst (λ (x : ArenaView). Stepped C now moves past a x log log w (edit_request key edit) (stage_held n (HalfFilled half cut)) Moved (stage_held goal.node.0 (Halved halves)) (λ m next. StageIsTrue C key edit goal (Halved halves) begun x next)) (sym is) (record {
             goes = goes;
             does = (record { content = content; trimmed = refl; deltas = refl }, refl);

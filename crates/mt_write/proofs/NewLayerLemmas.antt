@@ -33,6 +33,9 @@ use Rattle.mt_steps.specs.declared.progress.Progress.TheVariants.{Moved}
 use Rattle.mt_steps.specs.World.{World}
 use Rattle.mt_steps.specs.Way.{rest_of, prefix_of, IsHeadOf}
 use Rattle.mt_steps.specs.Step.{StepLaw, Stepped}
+use Rattle.mt_tree.proofs.AgeLemmas.{ages_link}
+use Rattle.mt_border.proofs.BorderLemmas.{suffix_there}
+use Rattle.std.proofs.lemmas.Option.{slice_get_within}
 use Rattle.mt_steps.proofs.WayLemmas.{layer_below}
 use Rattle.mt_steps.proofs.BorderLemmas.{now_named, others_named, locked_may, unlocked_root, no_root as no_border}
 use Rattle.mt_steps.proofs.SplitLemmas.{goes_filled}
@@ -172,10 +175,11 @@ module _ (C : ℕ) (a : ArenaView) (log : LogView) (key : List ℕ) (edit : Edit
         let no_head : n ≢ layer.head.0 = apart_spare b w layer.head.0 at f.has.head_unknown in
         let no_root : n ≢ layer.root.0 = apart_spare b w layer.root.0 at f.has.root_unknown in
         let may = locked_may a n b link at.named now w world at.locked at.free (inr at.alive) in
-        let placed = head_placed now a w n layer.head.0 layer.root b root (prefix_of key way) layer.place entry link at.named f.at.other.stands f.has.head f.has.is_root refl refl no_head no_root f.has.head_unknown f.has.root_unknown world may in
-        let kept = others_placed now a w n layer.head.0 layer.root b root (prefix_of key way) layer.place entry link at.named f.at.other.stands f.has.head f.has.is_root refl refl no_head no_root f.has.head_unknown f.has.root_unknown world may n no_head no_root in
+        let aged = ages_link b f.at.sound layer.place (slice_get_within b.live layer.place entry f.at.other.stands) layer.head (suffix_there layer.place b.live entry f.at.other.stands refl) in
+        let placed = head_placed now a w n layer.head.0 layer.root b root (prefix_of key way) layer.place entry link at.named f.at.other.stands f.has.head f.has.is_root refl refl no_head no_root f.has.head_unknown f.has.root_unknown aged world may in
+        let kept = others_placed now a w n layer.head.0 layer.root b root (prefix_of key way) layer.place entry link at.named f.at.other.stands f.has.head f.has.is_root refl refl no_head no_root f.has.head_unknown f.has.root_unknown aged world may n no_head no_root in
         let held : (slice : ℕ) → Holds next.chart begun layer.head.0 below slice = λ slice. record { role = top; low = 0; standing = on true; place = placed; at_most = omega arith; since = λ epoch gone_is. absurd (let clash : on true ≡ gone epoch = gone_is in cc) } in
-        let (goes, content) = goes_layered now a w n layer.head.0 layer.root b root (prefix_of key way) layer.place entry link at.named f.at.other.stands f.has.head f.has.is_root refl refl no_head no_root f.has.head_unknown f.has.root_unknown world may
+        let (goes, content) = goes_layered now a w n layer.head.0 layer.root b root (prefix_of key way) layer.place entry link at.named f.at.other.stands f.has.head f.has.is_root refl refl no_head no_root f.has.head_unknown f.has.root_unknown aged world may
         (subst (λ (x : ArenaView). MakesLayerAt a x n layer.place layer.head.0) is makes) (record { low = b.low; posted = at.stands.stands.posted; place = at.stands.stands.place }) (λ next. StageIsTrue C key edit way (Layered layer.head) begun new next) (
           record {
             border = record { b = link b; named = now_named a n b link at.named; known = subst (λ (x : Option Spot). IsSome x) (sym (kept ∙ at.stands.stands.place)) refl; locked = at.locked; alive = at.alive; free = at.free };

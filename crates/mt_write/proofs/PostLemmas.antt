@@ -35,6 +35,7 @@ use Rattle.mt_steps.specs.World.{IsLockedBorder}
 use Rattle.mt_steps.specs.declared.way.Went.{Went}
 use Rattle.mt_steps.specs.declared.way.Went.TheVariants.{To}
 use Rattle.mt_steps.specs.Way.{GoesTo, Visits}
+use Rattle.mt_tree.proofs.AgeLemmas.{ages_lock}
 use Rattle.mt_steps.proofs.WayLemmas.{starts_at_head}
 use Rattle.mt_steps.proofs.FrameLemmas.{goes_same, quiet_same}
 use Rattle.mt_write.specs.declared.writing.Stage.TheVariants.{Seeks}
@@ -42,7 +43,7 @@ use Rattle.mt_write.proofs.WriteLemmas.{no_get, seek_again, otherwise_tells, spl
 
 -- ---- what is true of a call after a step, with more that lasts
 goes_more : (now : ℕ) (a after : ArenaView) (w : World) (owned owns : List ℕ) (Then More : World → Type 0) → (g : Goes now a after w owned owns Then) → (((begun : ℕ) → begun ≤ now → Evolves begun w.chart g.next.chart) → Then g.next → More g.next) → Goes now a after w owned owns More
-goes_more now a after w owned owns Then More g more = record { next = g.next; world = g.world; evolves = g.evolves; leaves = g.leaves; takes = g.takes; spots = g.spots; true = more g.evolves g.true }
+goes_more now a after w owned owns Then More g more = record { next = g.next; world = g.world; evolves = g.evolves; leaves = g.leaves; takes = g.takes; spots = g.spots; age = g.age; true = more g.evolves g.true }
 
 then_more : (p : Progress) (moves : ℕ) (True More : ℕ → World → Type 0) (next : World) → ((m : ℕ) → True m next → More m next) → ThenTrue p moves True next → ThenTrue p moves More next
 then_more Moved moves True More next more truth = more (moves + 1) truth
@@ -84,7 +85,7 @@ module _ (C : ℕ) (a : ArenaView) (key : List ℕ) (edit : Edit) (way : Way) (h
     steps = λ now begun moves past w world before truth.
         let s = (seek_again C a key edit way log).steps now begun moves past w world before truth.0 in
         record {
-          goes = record { next = s.goes.next; world = s.goes.world; evolves = s.goes.evolves; leaves = s.goes.leaves; takes = s.goes.takes; spots = s.goes.spots; true = (s.goes.true, starts_at_head a now s.goes.next begun s.goes.world) };
+          goes = record { next = s.goes.next; world = s.goes.world; evolves = s.goes.evolves; leaves = s.goes.leaves; takes = s.goes.takes; spots = s.goes.spots; age = s.goes.age; true = (s.goes.true, starts_at_head a now s.goes.next begun s.goes.world) };
           does = s.does;
           reserved = s.reserved;
           bounds = s.bounds;
@@ -137,7 +138,7 @@ module _ (C : ℕ) (a : ArenaView) (log : LogView) (key : List ℕ) (edit : Edit
       let unlock : BorderView → BorderView = λ x. with_lock x false in
       let new : ArenaView = with_border_changed a split.left.0 unlock in (
         subst (λ (x : ArenaView). Goes now a x w (split.half.0 ∷ split.left.0 ∷ []) (split.half.0 ∷ []) Then) (sym is)
-            (goes_border a split.left.0 left.b unlock left.named now w (split.half.0 ∷ split.left.0 ∷ []) (split.half.0 ∷ []) Then world (subst (λ (x : ArenaView). IsIndexAt x now w.twins w.chart) is kept.index)
+            (goes_border a split.left.0 left.b unlock left.named now w (split.half.0 ∷ split.left.0 ∷ []) (split.half.0 ∷ []) Then world (λ known. (ages_lock left.b false, inr refl)) (subst (λ (x : ArenaView). IsIndexAt x now w.twins w.chart) is kept.index)
             (subst (λ (x : ArenaView). RowsAreOfKeys x) is (keys_same a after kept.content world.keys))
             (mine_free a split.left.0 w (split.half.0 ∷ split.left.0 ∷ []) (later first)) (λ other i. inl (widen other i)) (λ other ne i. among_two other i ne)
             (λ taken. absurd (elim taken [ inl locked ↦ (let clash : false ≡ true = locked in cc) | inr none ↦ (let some : IsSome (let nothing : Option Spot = None in nothing) = subst (λ (x : Option Spot). IsSome x) none left.known in cc) ])) (locked_may a split.left.0 left.b unlock left.named now w world left.locked left.free (inr left.alive)) truth),

@@ -70,6 +70,8 @@ use Rattle.mt_steps.proofs.FrameLemmas.{goes_same, quiet_same, retired_same}
 use Rattle.std.specs.Prelude.{IsSomeAnd, IsTrue}
 use Rattle.mt_steps.proofs.FoundLemmas.{some_at, some_and}
 use Rattle.mt_write.proofs.VersionLemmas.{same_version, other_found}
+use Rattle.mt_tree.proofs.AgeLemmas.{ages_lock, ages_filled, ages_shown, ages_hidden, ages_value}
+use Rattle.std.proofs.lemmas.Option.{slice_get_within}
 use Rattle.mt_tree.proofs.RowLemmas.{stands_at, tells_row}
 use Rattle.mt_steps.proofs.WayLemmas.{starts}
 use Rattle.mt_steps.proofs.GetLemmas.{found_is_row}
@@ -163,7 +165,7 @@ module _ (C : ℕ) (a : ArenaView) (key : List ℕ) (edit : Edit) (way : Way) (w
         let stands = subst (λ (x : BorderView). IsWhere (arena_seen a) w.chart way.node.0 (prefix_of key way) (border_seen x) (place_of (rest_of key way))) same at.here.stands in
         let kept = keeps.keeps now w.twins w.chart world.index in
         record {
-          goes = goes_border a way.node.0 b lock named now w [] (way.node.0 ∷ []) _ world kept.index (keys_same a (with_border_changed a way.node.0 lock) kept.content world.keys)
+          goes = goes_border a way.node.0 b lock named now w [] (way.node.0 ∷ []) _ world (λ known. (ages_lock b true, inr refl)) kept.index (keys_same a (with_border_changed a way.node.0 lock) kept.content world.keys)
               (unlocked_free a way.node.0 b lock named w [] unlocked (known_on (arena_seen a) w.chart way.node.0 (prefix_of key way) (border_seen b) stands.stands))
               (λ other i. inr (among_one other way.node.0 i)) (λ other ne i. elim i [ ]) (λ locked. first) (on_kept a now w.chart way.node.0 (at_level 0) (prefix_of key way) b.low stands.stands.posted stands.stands.place world.retired, λ i. refl, alive_changed a way.node.0 b lock named w.chart (inl refl)) (
                 lock b,
@@ -210,10 +212,11 @@ record NextSlot (slots : List Slot) (entry : Entry) : Type 0 where
   pub more : List Slot
   pub is : first_changed (filled entry) slots ≡ slot ∷ more
   pub holds : slot.entry ≡ entry
+  pub fresh : slot.held_key ≡ false
 
 next_slot : (slots : List Slot) (entry : Entry) → 0 < length slots → NextSlot slots entry
 next_slot [] entry some = absurd (omega arith)
-next_slot (s ∷ slots) entry some = record { slot = filled entry s; more = slots; is = refl; holds = refl }
+next_slot (s ∷ slots) entry some = record { slot = filled entry s; more = slots; is = refl; holds = refl; fresh = refl }
 
 -- ---- what is locked
 alone : (a : ArenaView) (key : List ℕ) (way : Way) (b : BorderView) (w : World) → IsLockedAt a key way b w → HasLocked (prefix_of key way) a w way.node.0 None
@@ -326,6 +329,7 @@ module _ (C : ℕ) (a : ArenaView) (log : LogView) (key : List ℕ) (sets : List
         slots = next.more;
         unused = next.is;
         entry = next.holds;
+        fresh = next.fresh;
       }
 
   ready_fill : version_fault only None ≡ None → (split : Option Halves) (place : ℕ) (stored : List ℕ) (logged : List (List ℕ)) (after : ArenaView) (left : LogView) → Fills C key sets way a log place stored logged after left → (now begun moves : ℕ) (past : List Arena) (w : World) → IsWorld a now w → (b : BorderView) → IsLockedAt a key way b w → HasLocked (prefix_of key way) a w way.node.0 split
@@ -340,7 +344,9 @@ module _ (C : ℕ) (a : ArenaView) (log : LogView) (key : List ℕ) (sets : List
       let kept = f.keeps.keeps now w.twins w.chart world.index in
       subst (λ (x : ArenaView). Stepped C now moves past a x log left w (put_request key sets only) (record { owns = owned way.node.0 split; reserves = 0; committed = None; blocked = None }) Moved (stage_held way.node.0 (Filled place stored logged split)) (λ m next. StageIsTrue C key (PutEdit sets only) way (Filled place stored logged split) begun x next)) (sym f.filled)
       (record {
-        goes = goes_border a way.node.0 b fill at.named now w (owned way.node.0 split) (owned way.node.0 split) _ world (subst (λ (x : ArenaView). IsIndexAt x now w.twins w.chart) f.filled kept.index)
+        goes = goes_border a way.node.0 b fill at.named now w (owned way.node.0 split) (owned way.node.0 split) _ world
+            (λ known. (ages_filled b (subst IsBorder same f.sound) (subst (λ (x : BorderView). length x.live < SLOTS) same f.room) entry, inr refl))
+            (subst (λ (x : ArenaView). IsIndexAt x now w.twins w.chart) f.filled kept.index)
             (subst (λ (x : ArenaView). RowsAreOfKeys x) f.filled (keys_same a after kept.content world.keys))
             (mine_free a way.node.0 w (owned way.node.0 split) has.own) (λ other i. inl i) (λ other ne i. i) (λ locked. has.own) (locked_may a way.node.0 b fill at.named now w world at.locked at.free (inr (filled_deleted (first_held b.unused) b.version ∙ at.alive))) (
               fill b,
@@ -589,7 +595,9 @@ module _ (C : ℕ) (a : ArenaView) (log : LogView) (key : List ℕ) (edit : Edit
         ∙ ap (λ (c : List (List ℕ)). with_delta log (put_delta number key None c)) f.columns))) in
         record {
           goes = subst (λ (x : ArenaView). Goes now a x w (owned way.node.0 split) (owned way.node.0 split) (λ next. StageIsTrue C key edit way (Stored number split) begun after next)) (sym is)
-              (goes_border a way.node.0 b show at.named now w (owned way.node.0 split) (owned way.node.0 split) _ world (subst (λ (x : ArenaView). IsIndexAt x now w.twins w.chart) is adds.0)
+              (goes_border a way.node.0 b show at.named now w (owned way.node.0 split) (owned way.node.0 split) _ world
+              (λ known. (ages_shown b f.sound (f.shows commit).room place commit (ap first_held f.unused ∙ f.fresh), inr refl))
+              (subst (λ (x : ArenaView). IsIndexAt x now w.twins w.chart) is adds.0)
               (subst (λ (x : ArenaView). RowsAreOfKeys x) is (keys_changed a after log left key None (Some (put_row C number p.sets None)) number done world.keys)) (mine_free a way.node.0 w (owned way.node.0 split) has.own) (λ other i. inl i) (λ other ne i. i) (λ locked. has.own) (locked_may a way.node.0 b show at.named now w world at.locked at.free (inr at.alive))
               (subst (λ (x : ArenaView). HasLocked (prefix_of key way) x w way.node.0 split) (sym is) (has_changed (prefix_of key way) a way.node.0 b show at.named w split at.locked at.alive refl has)));
           does = (
@@ -630,7 +638,9 @@ module _ (C : ℕ) (a : ArenaView) (log : LogView) (key : List ℕ) (edit : Edit
         ∙ ap (λ (c : List (List ℕ)). with_delta log (put_delta number key (row_at place b.live) c)) (f.copied ∙ f.made)))) in
         record {
           goes = subst (λ (x : ArenaView). Goes now a x w (way.node.0 ∷ []) (way.node.0 ∷ []) (λ next. StageIsTrue C key edit way (Stored number None) begun after next)) (sym is)
-              (goes_border a way.node.0 b write at.named now w (way.node.0 ∷ []) (way.node.0 ∷ []) _ world (subst (λ (x : ArenaView). IsIndexAt x now w.twins w.chart) is replaces.0)
+              (goes_border a way.node.0 b write at.named now w (way.node.0 ∷ []) (way.node.0 ∷ []) _ world
+              (λ known. (ages_value b f.sound place (slice_get_within b.live place e.entry e.stands) row, inr refl))
+              (subst (λ (x : ArenaView). IsIndexAt x now w.twins w.chart) is replaces.0)
               (subst (λ (x : ArenaView). RowsAreOfKeys x) is (keys_changed a after log left key (row_at place b.live) (Some (put_row C number p.sets (row_at place b.live))) number done world.keys)) (own_free a way.node.0 w) (λ other i. inl i) (λ other ne i. i) (λ locked. first) (locked_may a way.node.0 b write at.named now w world at.locked at.free (inr at.alive))
               (subst (λ (x : ArenaView). HasLocked (prefix_of key way) x w way.node.0 None) (sym is) (has_changed (prefix_of key way) a way.node.0 b write at.named w None at.locked at.alive refl (alone a key way b w at))));
           does = (
@@ -662,7 +672,7 @@ module _ (C : ℕ) (a : ArenaView) (log : LogView) (key : List ℕ) (edit : Edit
         (appended ∙ (ap (λ (n : ℕ). with_delta log (remove_delta n stored before)) (sym next) ∙ ap (λ (k : List ℕ). with_delta log (remove_delta number k before)) f.stored_is)) in
         record {
           goes = subst (λ (x : ArenaView). Goes now a x w (way.node.0 ∷ []) (way.node.0 ∷ []) (λ next. StageIsTrue C key edit way (Stored number None) begun after next)) (sym is)
-              (goes_border a way.node.0 b hide at.named now w (way.node.0 ∷ []) (way.node.0 ∷ []) _ world (subst (λ (x : ArenaView). IsIndexAt x now w.twins w.chart) is removes.0)
+              (goes_border a way.node.0 b hide at.named now w (way.node.0 ∷ []) (way.node.0 ∷ []) _ world (λ known. (ages_hidden b place, inr refl)) (subst (λ (x : ArenaView). IsIndexAt x now w.twins w.chart) is removes.0)
               (subst (λ (x : ArenaView). RowsAreOfKeys x) is (keys_changed a after log left key (Some before) None number done world.keys)) (own_free a way.node.0 w) (λ other i. inl i) (λ other ne i. i) (λ locked. first) (locked_may a way.node.0 b hide at.named now w world at.locked at.free (inr at.alive))
               (subst (λ (x : ArenaView). HasLocked (prefix_of key way) x w way.node.0 None) (sym is) (has_changed (prefix_of key way) a way.node.0 b hide at.named w None at.locked at.alive refl (alone a key way b w at))));
           does = (
@@ -740,7 +750,7 @@ module _ (C : ℕ) (a : ArenaView) (log : LogView) (key : List ℕ) (edit : Edit
   ends Then now w after is keeps world at truth =
       let kept = keeps.keeps now w.twins w.chart world.index in (
         subst (λ (x : ArenaView). Goes now a x w (way.node.0 ∷ []) [] Then) (sym is)
-            (goes_border a way.node.0 at.b unlock at.named now w (way.node.0 ∷ []) [] _ world (subst (λ (x : ArenaView). IsIndexAt x now w.twins w.chart) is kept.index)
+            (goes_border a way.node.0 at.b unlock at.named now w (way.node.0 ∷ []) [] _ world (λ known. (ages_lock at.b false, inr refl)) (subst (λ (x : ArenaView). IsIndexAt x now w.twins w.chart) is kept.index)
             (subst (λ (x : ArenaView). RowsAreOfKeys x) is (keys_same a after kept.content world.keys))
             (own_free a way.node.0 w) (λ other i. elim i [ ]) (λ other ne i. absurd (ne (among_one other way.node.0 i))) (λ taken. absurd (elim taken [ inl locked ↦ (let clash : false ≡ true = locked in cc) | inr none ↦ (let some : IsSome (let nothing : Option Spot = None in nothing) = subst (λ (x : Option Spot). IsSome x) none at.known in cc) ])) (locked_may a way.node.0 at.b unlock at.named now w world at.locked at.free (inr at.alive)) truth),
         record { content = kept.content; trimmed = refl; deltas = refl },

@@ -268,7 +268,7 @@ way_below way head = record { node = head; layer = way.layer + 1 }
 abbrev pub new_entry : List ℕ → Way → List (List ℕ) → Entry
 new_entry key way columns = entry_of_row (rest_of key way) (record { version = 0; columns = columns })
 
--- the key has no row, and the first unused slot holds the new one
+-- the key has no row, and the first unused slot, which was filled since it was live, holds the new one
 pub record IsFilled (C : ℕ) (key : List ℕ) (sets : List (ℕ × List ℕ)) (way : Way) (b : BorderView) (place : ℕ) (stored : List ℕ)
     (logged : List (List ℕ)) : Type 0 where
   pub bytes : AreBytes key
@@ -282,6 +282,7 @@ pub record IsFilled (C : ℕ) (key : List ℕ) (sets : List (ℕ × List ℕ)) (
   pub slots : List Slot
   pub unused : b.unused ≡ slot ∷ slots
   pub entry : slot.entry ≡ new_entry key way logged
+  pub fresh : slot.held_key ≡ false
 
 -- the key has a row, and the columns are made that it is to have
 pub record IsMade (C : ℕ) (key : List ℕ) (sets : List (ℕ × List ℕ)) (way : Way) (b : BorderView) (place : ℕ) (stored : List ℕ)
