@@ -1,6 +1,7 @@
 pub mod CauseLemmas
 pub mod AbsentLemmas
 pub mod SpareLemmas
+pub mod EntryLemmas
 pub mod WriteLemmas
 pub mod HalfLemmas
 pub mod PostLemmas

@@ -47,7 +47,8 @@ use Rattle.mt_write.specs.declared.writing.Stage.TheVariants.{Seeks, LayerSpared
 use Rattle.mt_write.specs.Writing.{edit_request, stage_held, layer_owned, StageIsTrue, HeadedStage, IsLockedAt, moved_entry, lone_root, way_below}
 use Rattle.mt_write.proofs.LinkLemmas.{linked_among}
 use Rattle.mt_write.proofs.WorkLemmas.{locked_at_stays}
-use Rattle.mt_write.proofs.WriteLemmas.{no_get, row_of_content, entry_place_is, ends}
+use Rattle.mt_write.proofs.EntryLemmas.{row_of_content, entry_place_is}
+use Rattle.mt_write.proofs.WriteLemmas.{no_get, ends}
 
 -- ---- a border of one entry
 one_ordered : (entry : Entry) (i j : ℕ) → i < j → j < 1 → ⊥

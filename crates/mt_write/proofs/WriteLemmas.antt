@@ -1,5 +1,5 @@
 -- The steps of a put or remove.
-use Rattle.std.proofs.Common.{ℕ, ◌≡◌, ◌≢◌, ◌≤◌, ◌<◌, ◌+◌, ◌*◌, ◌⊎◌, ◌↔◌, inl, inr, List, [], ◌∷◌, length, drop, Option, Some, None, IsSome, Bool, true, false, refl, sym, ap, subst, ◌∙◌, arith}
+use Rattle.std.proofs.Common.{ℕ, ◌≡◌, ◌≢◌, ◌≤◌, ◌<◌, ◌+◌, ◌*◌, ◌⊎◌, ◌↔◌, inl, inr, List, [], ◌∷◌, length, drop, Option, Some, None, IsSome, true, false, refl, sym, ap, subst, ◌∙◌, arith}
 use Rattle.std.specs.Option.{option_map}
 use Rattle.mt_types.specs.declared.row.Row.{Row}
 use Rattle.mt_types.specs.declared.limits.TheConstants.{MAX_KEY_BYTES}
@@ -11,22 +11,17 @@ use Rattle.mt_types.specs.declared.refusal.Refusal.{Refusal}
 use Rattle.mt_types.specs.declared.refusal.Refusal.TheVariants.{NoMemory, ArenaFull, FeedFull, Spent, OtherVersion}
 use Rattle.mt_types.specs.declared.numbers.NodeNo.{NodeNo}
 use Rattle.mt_slice.specs.Place.{Place, AreBytes, place_of, under, first_slice, slice_number}
-use Rattle.mt_slice.specs.Classes.{class_of, place_at}
+use Rattle.mt_slice.specs.Classes.{class_of}
 use Rattle.mt_slice.specs.declared.slice_class.Class.{Class}
-use Rattle.mt_slice.specs.declared.slice_class.Class.TheVariants.{Len, Long as LongClass}
-use Rattle.mt_slice.proofs.PlaceOn.{place_of-place_at}
 use Rattle.mt_slice.proofs.Slices.{bytes-drop}
 use Rattle.mt_commit.specs.Log.{LogView, newest, slowest, with_delta}
-use Rattle.mt_word.specs.Version.{VersionView}
 use Rattle.mt_word.specs.declared.permutation_word.TheConstants.{SLOTS}
-use Rattle.mt_border.specs.Border.{BorderView, with_lock, with_filled, with_hidden, with_shown, with_value, filled_version, first_held, row_at}
-use Rattle.mt_border.specs.Entry.{entry_of_row, entry_row, entry_class, content_class, content_of, content_row}
+use Rattle.mt_border.specs.Border.{BorderView, with_lock, with_filled, with_hidden, with_shown, with_value, first_held, row_at}
+use Rattle.mt_border.specs.Entry.{entry_row, entry_class}
 use Rattle.mt_border.specs.Find.{found_in}
 use Rattle.mt_border.specs.Order.{IsBorder}
-use Rattle.mt_border.specs.Table.{first_changed, filled}
 use Rattle.mt_border.specs.declared.entry.Entry.{Entry}
 use Rattle.mt_border.specs.declared.entry.RightLink.{RightLink}
-use Rattle.mt_border.specs.declared.slot_table.Slot.{Slot}
 use Rattle.mt_border.specs.declared.found.Found.{Found}
 use Rattle.mt_border.specs.declared.found.Found.TheVariants.{Absent, Row as RowFound, OtherSuffix, Link as LinkFound}
 use Rattle.mt_border.proofs.BorderLemmas.{filled_deleted}
@@ -40,11 +35,11 @@ use Rattle.mt_steps.proofs.LayerLemmas.{goes_given_back}
 use Rattle.mt_write.proofs.SpareLemmas.{vacant_border, has_locked_back, spares_go}
 use Rattle.mt_write.proofs.WorkLemmas.{locked_at_stays}
 use Rattle.mt_arena.specs.Arena.{ArenaView, with_border_changed}
-use Rattle.mt_chart.specs.Tree.{first, Arena, BorderNode, Has, Below, before_right}
+use Rattle.mt_chart.specs.Tree.{first, Arena, BorderNode, Has, Below}
 use Rattle.mt_chart.specs.Chart.{Chart, OnBorder, spot, Spot, at_level, on}
 use Rattle.mt_chart.specs.Steps.{SameContent}
 use Rattle.mt_chart.specs.TreeLaws.{IsWhere}
-use Rattle.mt_tree.specs.Seen.{arena_seen, border_seen, right_seen, content_place, entry_place}
+use Rattle.mt_tree.specs.Seen.{arena_seen, border_seen, right_seen, entry_place}
 use Rattle.mt_tree.specs.Keeping.{KeepsTree, IsOnIn, IsIndexAt}
 use Rattle.mt_tree.specs.Descent.{IsLast, found_for, row_found}
 use Rattle.mt_tree.specs.BorderSteps.{ShowsNext, HidesRowAt, SetsRowAt}
@@ -69,6 +64,7 @@ use Rattle.mt_steps.specs.World.{IsLockedBorder}
 use Rattle.mt_steps.proofs.FrameLemmas.{goes_same, quiet_same, retired_same}
 use Rattle.std.specs.Prelude.{IsSomeAnd, IsTrue}
 use Rattle.mt_steps.proofs.FoundLemmas.{some_at, some_and}
+use Rattle.mt_write.proofs.EntryLemmas.{filled_locked, class_of_content, row_of_content, entry_place_is, left_of_right, next_slot}
 use Rattle.mt_write.proofs.VersionLemmas.{same_version, other_found}
 use Rattle.mt_tree.proofs.AgeLemmas.{ages_lock, ages_filled, ages_shown, ages_hidden, ages_value}
 use Rattle.std.proofs.lemmas.Option.{slice_get_within}
@@ -143,10 +139,6 @@ locked_at-changed a key way b w change named layer stands ends low right live al
       free = free;
     }
 
-filled_locked : (held : Bool) (v : VersionView) → (filled_version held v).locked ≡ v.locked
-filled_locked true v = refl
-filled_locked false v = refl
-
 -- a border that is on is known
 known_on : (arena : Arena) (chart : Chart) (number : ℕ) (prefix : List ℕ) (node : BorderNode) → OnBorder arena chart number prefix node → IsSome (chart number)
 known_on arena chart number prefix node stands = subst (λ (x : Option Spot). IsSome x) (sym stands.place) refl
@@ -185,38 +177,6 @@ answer_right : (past : List Arena) (a : ArenaView) (key : List ℕ) (edit : Edit
 answer_right past a key (PutEdit sets None) number = refl
 answer_right past a key (PutEdit sets (Some version)) number = refl
 answer_right past a key RemoveEdit number = refl
-
--- ---- entries of a key
-class_of_content : (class : Class) (suffix : List ℕ) (row : Row) → content_class (content_of class suffix row) ≡ class
-class_of_content (Len n) suffix row = refl
-class_of_content LongClass suffix row = refl
-
-place_of_content : (slice : ℕ) (class : Class) (suffix : List ℕ) (row : Row) → content_place slice (content_of class suffix row) ≡ place_at slice class (place_of suffix)
-place_of_content slice (Len n) suffix row = refl
-place_of_content slice LongClass suffix row = refl
-
-pub row_of_content : (class : Class) (suffix : List ℕ) (row : Row) → content_row (content_of class suffix row) ≡ Some row
-row_of_content (Len n) suffix row = refl
-row_of_content LongClass suffix row = refl
-
-pub entry_place_is : (rest : List ℕ) (row : Row) → entry_place (entry_of_row rest row) ≡ place_of rest
-entry_place_is rest row = place_of_content (slice_number rest) (class_of (length rest)) (drop 8 rest) row ∙ sym (place_of-place_at rest)
-
-left_of_right : (slice : ℕ) (right : Option RightLink) → Below slice (option_map right_seen right) → IsBeforeRight slice right
-left_of_right slice None h = tt
-left_of_right slice (Some link) h = elim h [ before_right less ↦ less ]
-
--- the first unused slot, once it is filled
-record NextSlot (slots : List Slot) (entry : Entry) : Type 0 where
-  pub slot : Slot
-  pub more : List Slot
-  pub is : first_changed (filled entry) slots ≡ slot ∷ more
-  pub holds : slot.entry ≡ entry
-  pub fresh : slot.held_key ≡ false
-
-next_slot : (slots : List Slot) (entry : Entry) → 0 < length slots → NextSlot slots entry
-next_slot [] entry some = absurd (omega arith)
-next_slot (s ∷ slots) entry some = record { slot = filled entry s; more = slots; is = refl; holds = refl; fresh = refl }
 
 -- ---- what is locked
 alone : (a : ArenaView) (key : List ℕ) (way : Way) (b : BorderView) (w : World) → IsLockedAt a key way b w → HasLocked (prefix_of key way) a w way.node.0 None
