@@ -163,8 +163,8 @@ pub record BordersAge (a after : ArenaView) (w next : World) : Type 0 where
 -- what a step of one call leaves, which owned these numbers and then owns those: there is a next world in which the
 -- tree is an index; all that calls rely on stays; each number that is taken by another call is as it was, and is not
 -- this call's; and what is then to be true of this call is. And what is then taken is this call's, or was taken and was
--- not this call's: no call leaves a lock or a spare behind. The chart is changed at numbers of this call alone. Each border
--- that the chart knows ages.
+-- not this call's: no call leaves a lock or a spare behind. The chart is changed at numbers of this call alone. Each
+-- border that the chart knows ages.
 pub record Goes (now : ℕ) (a after : ArenaView) (w : World) (owned owns : List ℕ) (Then : World → Type 0) : Type 0 where
   pub next : World
   pub world : IsWorld after now next
