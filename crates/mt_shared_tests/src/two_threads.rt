@@ -10,7 +10,7 @@ use mt_types::copying::TryCopy;
 use mt_types::event::{Answer, Outcome, Request};
 use mt_types::items::Items;
 use mt_types::refusal::Refusal;
-use mt_types::row::Row;
+use mt_types::row::{Delta, Row};
 use std::alloc::Global;
 use std::rt::Clock;
 use std::sync::Wait;
@@ -237,20 +237,38 @@ fn changed(alloc: Global) -> Result<Receipt, Refusal> {
     })
 }
 
+// The first fault of the receipts, what the last of them found, and the first fault where that is changed.
+#[derive(Clone, Copy, Debug, PartialEq)]
+struct Judged {
+    first: (u64, u8),
+    found: Option<(u64, u64)>,
+    changed: (u64, u8),
+}
+
+fn judge(alloc: Global, log: &[Delta], mut receipts: Vec<Receipt>) -> Result<Judged, Fail> {
+    let first = first_fault(alloc, log, &receipts);
+    let last = receipts.pop().ok_or("last")?;
+    receipts.push(changed(alloc)?)?;
+    Ok(Judged {
+        first,
+        found: found(&last),
+        changed: first_fault(alloc, log, &receipts),
+    })
+}
+
 #[test]
 fn two_threads(rt: HostRuntime) -> Result<(), Fail> {
     let alloc = rt.alloc();
     let (index, passes) = Index::start(alloc, OPTIONS, 2)?;
-    let Done {
-        passes,
-        mut receipts,
-    } = run(&rt, alloc, &index, passes)?;
+    let Done { passes, receipts } = run(&rt, alloc, &index, passes)?;
     let log = log_of(alloc, &Door::new(&index, &rt))?;
-    assert_eq!(rt; first_fault(alloc, &log, &receipts), (0, 0));
-    let last = receipts.pop().ok_or("last")?;
-    assert_eq!(rt; found(&last), Some((1, 1)));
-    receipts.push(changed(alloc)?)?;
-    assert_eq!(rt; first_fault(alloc, &log, &receipts), (3, 4));
+    let judged = judge(alloc, &log, receipts)?;
+    let wanted = Judged {
+        first: (0, 0),
+        found: Some((1, 1)),
+        changed: (3, 4),
+    };
+    assert_eq!(rt; judged, wanted);
     let sums = sums(&passes);
     let totals = index.close(passes)?;
     assert_eq!(rt; (totals.events, totals.commits), sums);
