@@ -1,5 +1,5 @@
 -- A script that has been played so far.
-use Rattle.std.proofs.Common.{◌≡◌, ◌⊎◌, inl, inr, ℕ, ◌+◌, cond, List, [], ◌∷◌, ◌++◌, length, fold, refl, ap, subst, sym, ◌∙◌, arith, append_assoc, Option, None, Some, IfSome}
+use Rattle.std.proofs.Common.{◌≡◌, ◌⊎◌, inl, inr, ℕ, ◌+◌, cond, List, [], ◌∷◌, ◌++◌, fold, refl, ap, subst, sym, ◌∙◌, arith, append_assoc, Option, None, Some, IfSome}
 use Rattle.std.specs.Io.KnownBytes.{Appends}
 use Rattle.std.proofs.KnownBytes.{Appends-nil, Appends-trans}
 use Rattle.mt_promise.specs.History.{History}

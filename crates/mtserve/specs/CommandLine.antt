@@ -1,5 +1,5 @@
 -- What the words of the command line mean.
-use Rattle.std.specs.Prelude.{◌≡◌, ℕ, ◌<◌, ◌^◌, Bool, true, false, List, codes, Option, Some, None}
+use Rattle.std.specs.Prelude.{◌≡◌, ℕ, ◌<◌, ◌^◌, true, false, List, codes, Option, Some, None}
 use Rattle.std.specs.Str.Parse.{IsNumeral, digits_value, without_leading_plus}
 use Rattle.clap.specs.Words.{App, HasMatchesOf, Rule, found_of, new_app, new_rule, one_text, with_rule}
 use Rattle.clap.specs.declared.parser.matches.ArgMatches.{ArgMatches}
