@@ -5,8 +5,16 @@ step 1
 step 1
 step 2
 step 2
+step 2
+step 2
+step 2
 step 1
 begin 2 get 61 all
+step 3
+step 3
+step 3
+step 3
+step 3
 step 3
 step 3
 step 1

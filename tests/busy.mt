@@ -19,3 +19,15 @@ alone get 10 all
 step 17
 step 17
 step 17
+step 17
+step 17
+step 17
+step 17
+step 17
+step 17
+step 17
+step 17
+step 17
+step 17
+step 17
+step 17

@@ -36,6 +36,12 @@ step 13
 step 14
 step 15
 step 15
+step 15
+step 15
+step 15
+step 15
+step 15
+step 15
 step 13
 step 14
 step 14
@@ -87,6 +93,9 @@ step 28
 begin 3 get 30313233343536374142 all
 step 29
 step 29
+step 29
+step 29
+step 29
 begin 2 putif 30313233343536374142 12 1=64
 step 30
 step 30
@@ -103,6 +112,14 @@ step 30
 step 30
 step 30
 step 30
+step 29
+step 29
+step 29
+step 29
+step 29
+step 29
+step 29
+step 29
 step 29
 alone putif 3031323334353637585a 0 0=66
 alone putif 30313233343536375859 13 0=67

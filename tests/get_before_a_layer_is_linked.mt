@@ -8,6 +8,11 @@ step 3
 step 3
 step 3
 step 2
+step 2
+step 2
+step 2
+step 2
+step 2
 step 3
 step 3
 step 3

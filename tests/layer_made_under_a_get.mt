@@ -17,8 +17,28 @@ step 3
 step 2
 step 2
 step 2
+step 2
+step 2
+step 2
+step 2
+step 2
+step 2
+step 2
+step 2
+step 2
+step 2
 alone remove 30313233343536375859
 begin 1 get 30313233343536374142 all
+step 5
+step 5
+step 5
+step 5
+step 5
+step 5
+step 5
+step 5
+step 5
+step 5
 step 5
 step 5
 step 5

@@ -532,6 +532,8 @@ step 140
 begin 2 put b799925486746b4c 0=6b4c
 begin 3 put 5e676238d97b6ec6 0=6ec6
 step 141
+step 141
+step 141
 step 140
 begin 1 put 37268d7a54dc08c6 0=08c6
 step 142
@@ -539,10 +541,19 @@ finish 133
 finish 143
 step 141
 step 141
+step 141
+step 141
+step 141
+step 141
+step 141
+step 141
 step 142
 step 140
 step 140
 begin 2 get 73657373696f6e2f73657373696f6e2f73657373696f6e2f6f716c756e6e757a7565 all
+step 139
+step 139
+step 139
 step 139
 step 140
 begin 3 put 636174616c6f672f636174616c6f672f7370787576 0=7576
@@ -564,6 +575,8 @@ step 146
 begin 3 put 73657373696f6e2f73657373696f6e2f73657373696f6e2f66 0=2f66
 step 146
 step 145
+step 145
+step 145
 finish 145
 finish 147
 step 149
@@ -577,6 +590,7 @@ step 150
 step 146
 begin 2 get 305e5c01e049df4b all
 step 151
+step 151
 finish 151
 step 150
 step 148
@@ -586,11 +600,17 @@ finish 148
 begin 1 put a292ec2f4a4a66a0 0=66a0
 step 153
 step 150
+step 150
+step 150
+step 150
 begin 2 get 636174616c6f672f646f71696963 all
 step 146
 step 153
 step 153
 finish 150
+step 154
+step 154
+step 154
 step 154
 step 152
 finish 152
@@ -601,12 +621,16 @@ step 153
 finish 153
 begin 1 get 000000000000000000000000000000000000000000000000746b666574776b6971 all
 step 156
+step 156
 begin 2 put 260df281c04f5056 1=26
 step 146
 step 154
 step 157
 begin 3 put 000000000000000071676d76746769697068 0=7068
 finish 155
+step 156
+step 156
+step 156
 step 156
 begin 1 put d5e9ba1eaa222cff 0=2cff
 begin 2 remove 4080e2aa05f17a0b
@@ -620,6 +644,7 @@ finish 161
 step 156
 step 154
 step 154
+step 154
 step 157
 step 159
 finish 159
@@ -628,6 +653,24 @@ step 157
 step 156
 step 157
 step 156
+step 156
+step 156
+step 156
+step 154
+step 154
+step 154
+step 154
+step 154
+step 154
+step 154
+step 154
+step 154
+step 154
+step 154
+step 154
+step 154
+step 154
+step 154
 step 154
 step 154
 finish 154
@@ -644,6 +687,7 @@ begin 2 range 6678eff56b1eab30 2 0
 finish 166
 begin 3 get 5ed94a237e438ab1 all
 step 164
+step 164
 begin 1 get 000000000000000000000000000000000000000000000000786e697162717a6a6f all
 begin 2 put cddddc7fd1fec145 0=c145
 finish 169
@@ -653,6 +697,7 @@ begin 1 get 636174616c6f672f636174616c6f672f76 all
 begin 2 range ae78f058f1c581dd 20 0
 step 163
 step 163
+step 171
 step 171
 finish 171
 finish 172
@@ -666,6 +711,9 @@ step 165
 finish 165
 finish 163
 begin 2 range 636174616c6f672f636174616c6f672f636174616c6f672f7168776878 2 0
+step 173
+step 173
+step 173
 step 173
 step 175
 begin 3 put 593d8baafde69e02 0=9e02
@@ -689,6 +737,7 @@ step 177
 step 176
 finish 177
 step 180
+step 179
 step 179
 begin 2 put 636174616c6f672f636174616c6f672f636174616c6f672f777a717a73786a78666e 0=666e
 step 181
@@ -748,6 +797,9 @@ step 191
 begin 2 get 6d3bc096cdc77a52 all
 step 185
 step 193
+step 193
+step 191
+step 191
 step 191
 step 192
 begin 3 put c19f092387c1b8dc 0=b8dc
@@ -785,8 +837,14 @@ begin 2 put c0ed891f768a83c9 0=83c9
 step 196
 finish 201
 step 196
+step 196
 begin 3 remove a1002e4c486de3c5
 step 197
+step 200
+step 200
+step 200
+step 200
+step 200
 step 200
 finish 202
 finish 196
@@ -803,6 +861,9 @@ begin 2 get 9cdb3153fb269e32 all
 begin 3 get 74d518810579e1ad all
 finish 203
 begin 1 put a93d3d9f040f5124 0=5124
+step 204
+step 204
+step 204
 step 204
 step 206
 finish 206
@@ -860,6 +921,8 @@ finish 221
 step 220
 begin 1 get 4c25d19682812588 all
 step 222
+step 222
+step 222
 step 218
 step 218
 step 219
@@ -869,16 +932,33 @@ finish 218
 step 223
 finish 223
 step 222
+step 222
+step 222
+step 222
+step 222
+step 222
 step 225
 step 225
+step 225
+step 225
+step 225
+step 225
+step 225
+step 225
+step 225
+step 222
 step 222
 step 219
 finish 219
 step 222
 step 222
+step 222
 begin 2 put c98afa60d1bd1fb0 0=1fb0
 step 220
 step 225
+step 225
+step 225
+step 222
 step 222
 begin 3 get 41c52e7d4deea8eb all
 step 220
@@ -898,6 +978,25 @@ begin 1 put 6d9df15b45418c0c 0=8c0c
 step 225
 finish 227
 step 230
+step 222
+step 222
+step 222
+step 222
+step 222
+step 222
+step 222
+step 222
+step 222
+step 222
+step 222
+step 222
+step 222
+step 222
+step 222
+step 222
+step 222
+step 222
+step 222
 step 222
 step 229
 finish 229
@@ -932,14 +1031,31 @@ begin 1 put 73657373696f6e2f756766697a 0=697a
 begin 2 get 89b440ee78f842b5 all
 step 238
 step 238
+step 238
+step 238
+step 238
+step 238
+step 238
+step 238
 step 236
 begin 3 get db8d69d31863c290 all
 step 236
 step 236
 step 238
+step 238
+step 238
+step 238
+step 238
+step 238
+step 238
+step 238
+step 238
+step 238
 step 228
 finish 228
 begin 1 get 24f1133ca703706e all
+step 239
+step 239
 step 239
 step 236
 begin 2 put e57ec8c694972afc 1=e5
@@ -951,6 +1067,11 @@ begin 1 put 943c61e4cdef229c 0=229c
 begin 2 put 000000000000000000000000000000000000000000000000646474777571787267707367 0=7367
 step 237
 finish 242
+step 240
+step 240
+step 240
+step 240
+step 240
 step 240
 finish 240
 step 236
@@ -976,6 +1097,7 @@ step 236
 step 249
 step 236
 step 249
+step 248
 step 248
 finish 248
 step 249
@@ -1009,9 +1131,23 @@ begin 1 get 73657373696f6e2f73657373696f6e2f636d75707170776675787474 all
 finish 236
 finish 251
 step 253
+step 253
+step 253
+step 253
+step 253
+step 253
+step 253
+step 253
+step 253
+step 253
+step 253
+step 253
 step 247
 finish 247
 step 246
+step 255
+step 255
+step 255
 step 255
 step 253
 begin 2 put 00000000000000000000000000000000686f66 0=6f66
@@ -1028,15 +1164,37 @@ step 256
 step 259
 step 255
 step 255
+step 255
+step 255
 finish 246
 begin 3 put 0000000000000000626c 0=626c
 step 259
 finish 259
 finish 253
 step 255
+step 255
+step 255
+step 255
+step 255
+step 255
 step 256
 begin 1 put 3e0cc9d17395df79 0=df79
 begin 2 put 73657373696f6e2f6f787863 0=7863
+step 258
+step 258
+step 258
+step 258
+step 258
+step 258
+step 258
+step 258
+step 258
+step 258
+step 258
+step 258
+step 258
+step 258
+step 258
 step 258
 step 258
 finish 256
@@ -1052,6 +1210,24 @@ step 258
 step 258
 step 255
 step 257
+step 255
+step 255
+step 255
+step 255
+step 255
+step 255
+step 255
+step 255
+step 255
+step 255
+step 255
+step 255
+step 255
+step 255
+step 255
+step 255
+step 255
+step 255
 step 255
 step 261
 step 255
@@ -1090,6 +1266,8 @@ finish 264
 begin 1 get 0945aea11b6c3f26 all
 step 267
 step 270
+step 270
+step 270
 finish 270
 step 260
 step 268
@@ -1102,7 +1280,11 @@ finish 260
 begin 2 get 636174616c6f672f636174616c6f672f6779646a78646476 all
 finish 267
 step 271
+step 271
+step 271
 begin 3 put 00000000000000000000000000000000000000000000000078767479 0=7479
+step 271
+step 271
 step 271
 begin 1 put 023c08be8d9de5d4 1=02
 step 273
@@ -1122,6 +1304,16 @@ step 274
 finish 273
 step 276
 finish 274
+step 275
+step 275
+step 275
+step 275
+step 275
+step 275
+step 275
+step 275
+step 275
+step 275
 step 275
 step 275
 step 276
@@ -1187,6 +1379,7 @@ finish 288
 begin 2 put 89b440ee78f842b5 0=42b5
 begin 3 get 675c7395003f1a72 all
 step 293
+step 293
 step 286
 finish 286
 finish 292
@@ -1211,6 +1404,11 @@ begin 2 put a995556e0a59c5f1 0=c5f1
 begin 3 put 277d758e2f14720d 0=720d
 begin 1 put 8a99dab1492e99c8 0=99c8
 step 297
+step 297
+step 297
+step 297
+step 297
+step 297
 step 303
 finish 303
 step 300
@@ -1221,6 +1419,7 @@ step 301
 finish 302
 begin 2 remove 636174616c6f672f7271
 step 296
+finish 297
 finish 297
 step 304
 begin 3 put f84dd9a51425cab5 0=cab5
@@ -1240,8 +1439,14 @@ finish 301
 step 309
 step 305
 step 306
+step 306
 step 305
 finish 309
+step 306
+step 306
+step 306
+step 306
+step 306
 step 306
 step 305
 step 305
@@ -1258,8 +1463,14 @@ step 296
 step 311
 finish 311
 step 310
+step 310
 begin 1 get 55423883241d3822 all
 step 312
+step 312
+step 312
+step 312
+step 310
+step 310
 step 310
 step 305
 step 305
@@ -1269,10 +1480,26 @@ begin 3 get 57418f2dea08634e all
 finish 296
 begin 1 put ff4cad5ede47150f 0=150f
 step 312
+step 312
+step 312
+step 312
+step 312
+step 312
+step 312
+step 312
+step 312
+step 312
 finish 305
+step 310
+step 310
+step 310
+step 310
+step 310
 step 310
 step 307
 finish 307
+step 313
+step 313
 step 313
 step 315
 step 312
@@ -1280,6 +1507,9 @@ finish 310
 step 312
 finish 314
 begin 2 put e4ec096e7624eae2 0=eae2
+step 313
+step 313
+step 313
 step 313
 step 313
 finish 312
@@ -1306,12 +1536,19 @@ step 316
 step 316
 step 315
 step 323
+step 323
+step 323
+step 323
+step 323
+step 323
 step 320
 step 316
 step 321
 finish 321
 step 315
 begin 2 put 6b12c135f88561c2 0=61c2
+step 323
+step 323
 step 323
 step 324
 finish 320
@@ -1370,6 +1607,7 @@ finish 334
 begin 3 put 636174616c6f672f707a67746a626a6d7665 0=7665
 step 337
 step 335
+step 335
 step 336
 step 336
 step 338
@@ -1385,6 +1623,7 @@ step 336
 finish 336
 begin 1 put 7770791c06998f46 0=8f46
 step 335
+step 335
 step 337
 step 337
 begin 2 get 4b1d873ab41f020c all
@@ -1393,16 +1632,28 @@ step 340
 step 337
 finish 339
 step 340
+step 340
 finish 340
 begin 3 remove 636174616c6f672f636174616c6f672f636174616c6f672f70
 finish 335
 begin 1 range 5b507524e1d71500 7 0
 step 342
 step 342
+step 342
+step 342
+step 342
+step 342
+step 342
+step 342
 finish 341
 step 337
 begin 2 get 636174616c6f672f63627961746273 all
 begin 3 put 73657373696f6e2f73657373696f6e2f65786264 0=6264
+step 343
+step 343
+step 343
+step 343
+step 343
 step 343
 step 342
 finish 342
@@ -1423,6 +1674,19 @@ finish 347
 begin 3 put a84c0d7ceaf0d50f 0=d50f
 step 345
 step 345
+step 345
+step 345
+step 345
+step 345
+step 345
+step 345
+step 345
+step 345
+step 345
+step 345
+step 345
+step 345
+step 345
 finish 350
 step 346
 finish 345
@@ -1434,8 +1698,12 @@ step 353
 finish 353
 begin 1 put 937d5cf09297d162 0=d162
 step 352
+step 352
+step 352
+step 352
 finish 352
 begin 2 put 636174616c6f672f636174616c6f672f6779646a78646476 0=6476
+step 348
 step 348
 step 354
 begin 3 put aa6b9b04b17e5992 0=5992
@@ -1445,6 +1713,11 @@ finish 357
 step 348
 step 356
 step 354
+step 348
+step 348
+step 348
+step 348
+step 348
 step 348
 begin 2 put 636174616c6f672f6d636e666c77 1=63
 step 358
@@ -1489,6 +1762,9 @@ step 358
 begin 1 get 5e676238d97b6ec6 all
 step 354
 step 363
+step 363
+step 363
+step 363
 finish 354
 finish 355
 step 359
@@ -1498,6 +1774,7 @@ step 358
 step 359
 finish 362
 begin 2 put 0000000000000000000000000000000000000000000000006165626d7372656d72 0=6d72
+step 363
 step 363
 begin 3 put db8d69d31863c290 0=c290
 step 358
@@ -1522,6 +1799,9 @@ begin 3 get 0c4a43de6e022bb8 all
 step 359
 finish 359
 step 368
+step 368
+step 368
+step 368
 step 365
 begin 1 put cce034abea0c7e36 0=7e36
 finish 363
@@ -1538,6 +1818,8 @@ begin 3 put 73657373696f6e2f73657373696f6e2f73657373696f6e2f66 1=73
 step 369
 step 370
 step 368
+step 368
+step 368
 step 370
 step 371
 finish 371
@@ -1545,6 +1827,8 @@ begin 1 get 7fb2be233c217d80 all
 step 369
 step 369
 finish 370
+step 368
+step 368
 step 368
 begin 2 put 6715036fad2f14fa 1=67
 step 373
@@ -1563,6 +1847,10 @@ step 369
 step 369
 finish 377
 begin 1 range ae8c6d7baa3b0290 20 0
+step 378
+step 378
+step 378
+step 378
 step 378
 step 378
 finish 375
@@ -1594,12 +1882,27 @@ begin 1 put 0000000000000000000000000000000000000000000000006264666c6a6965627769
 step 373
 step 379
 step 384
+step 384
 finish 384
 step 387
 finish 373
 begin 2 get 0000000000000000000000000000000000000000000000006562746d63726772657372 all
 finish 387
 step 379
+step 379
+step 379
+step 379
+step 379
+step 379
+step 379
+step 379
+step 379
+step 379
+step 379
+step 379
+step 379
+step 379
+step 388
 step 388
 finish 388
 begin 3 put 0945aea11b6c3f26 0=3f26
@@ -1613,6 +1916,11 @@ step 383
 step 389
 begin 2 put 0d085f209a4d8e08 0=8e08
 step 391
+step 385
+step 385
+step 385
+step 385
+step 385
 step 385
 finish 385
 step 390
@@ -1636,8 +1944,16 @@ begin 2 put f2aada1c9ec8853c 0=853c
 begin 3 get 636174616c6f672f636174616c6f672f74626f756b6e6b6e all
 step 395
 step 398
+step 398
 step 393
 step 396
+step 395
+step 395
+step 395
+step 395
+step 395
+step 395
+step 395
 step 395
 step 395
 begin 1 put 2570e1ec152e54c0 0=54c0
@@ -1669,7 +1985,14 @@ step 399
 step 395
 step 401
 step 401
+step 401
+step 401
+step 401
+step 401
+step 401
 begin 3 get 3c63cf1270c105ab all
+step 398
+step 398
 step 398
 step 401
 finish 398
@@ -1685,10 +2008,24 @@ step 399
 begin 2 put 29697c1167302a61 0=2a61
 step 404
 step 404
+step 404
+step 404
+step 404
+step 404
+step 404
+step 404
+step 404
+step 404
+step 401
+step 401
+step 401
 step 401
 step 393
 finish 393
 finish 404
+step 401
+step 401
+step 401
 step 401
 begin 3 get 51188d96e173e567 all
 begin 1 put f1ab4a0b824b8d07 1=f1
@@ -1713,6 +2050,9 @@ begin 2 get 73657373696f6e2f73657373696f6e2f65786264 all
 begin 3 put 1eae3027f810ddea 0=ddea
 step 410
 step 412
+step 412
+step 412
+step 412
 finish 412
 step 411
 finish 410
@@ -1722,6 +2062,11 @@ begin 2 get 134607bb960ef16f all
 step 405
 finish 405
 begin 3 get aa6b9b04b17e5992 all
+step 415
+step 415
+step 415
+step 415
+step 415
 step 415
 step 415
 step 414
@@ -1738,6 +2083,14 @@ begin 1 put 0ed20a93a3f5ee3a 0=ee3a
 step 413
 step 413
 finish 413
+step 415
+step 415
+step 415
+step 415
+step 415
+step 415
+step 415
+step 415
 step 415
 finish 415
 begin 2 put 5ed94a237e438ab1 0=8ab1
@@ -1763,6 +2116,9 @@ step 425
 step 419
 begin 1 get 95e6acc2691ab245 all
 step 426
+step 426
+step 426
+step 426
 begin 2 range 0000000000000000736c6d787276637a 1 0
 step 419
 finish 419
@@ -1780,12 +2136,24 @@ finish 425
 step 427
 step 427
 step 427
+step 427
+step 427
 finish 417
 begin 3 put 7ab652d1ed773b42 0=3b42
 step 431
 step 429
+step 429
+step 429
+step 429
+step 429
+step 429
 step 428
 finish 431
+step 429
+step 429
+step 429
+step 429
+step 429
 step 429
 step 423
 begin 1 put 0000000000000000000000000000000000000000000000006b7676787171 1=00
@@ -1848,12 +2216,17 @@ step 444
 step 429
 step 445
 step 433
+step 433
+step 433
 step 447
 begin 2 get 636174616c6f672f636174616c6f672f61 all
 step 447
 step 446
 step 447
 finish 446
+step 433
+step 433
+step 433
 step 433
 finish 433
 step 448
@@ -1890,6 +2263,8 @@ finish 451
 begin 3 get 636174616c6f672f7865 all
 begin 1 get f2e9bcdd06d2586a all
 step 455
+step 455
+step 455
 finish 455
 step 453
 step 452
@@ -1898,6 +2273,7 @@ step 452
 begin 2 get aefab95bf827d9bc all
 finish 453
 step 452
+step 456
 step 456
 begin 3 put 84072202a134fddc 0=fddc
 step 452
@@ -1927,7 +2303,19 @@ begin 3 get 2ecd5d7eb22efe99 all
 finish 457
 step 463
 step 463
+step 463
+step 463
+step 463
 begin 1 put 636174616c6f672f636174616c6f672f726e6c74797577686274 0=6274
+step 463
+step 463
+step 463
+step 463
+step 463
+step 463
+step 463
+step 463
+step 463
 step 463
 step 462
 finish 458
@@ -1962,11 +2350,14 @@ step 460
 step 468
 begin 2 remove fb68f9c8ad052208
 step 470
+step 470
 step 469
 step 469
 step 463
 finish 471
 finish 463
+step 470
+step 470
 step 470
 step 472
 step 472
@@ -1983,6 +2374,11 @@ step 475
 step 476
 finish 475
 step 474
+step 474
+step 474
+step 470
+step 470
+step 470
 step 470
 step 470
 begin 1 put 7119769a1c098a59 1=71
@@ -1997,6 +2393,11 @@ step 477
 finish 476
 finish 478
 step 477
+step 474
+step 474
+step 474
+step 474
+step 474
 step 474
 begin 3 put 6b2031c6ba4a2d72 0=2d72
 step 479
@@ -2026,7 +2427,17 @@ begin 1 put 2596bd19d8b16bb0 0=6bb0
 begin 2 put 636174616c6f672f636174616c6f672f73786573626e6d647162 0=7162
 begin 3 put 636174616c6f672f636174616c6f672f66646268666f66 0=6f66
 step 485
+step 485
+step 485
+step 485
+step 485
+step 485
 step 487
+step 485
+step 485
+step 485
+step 485
+step 485
 step 485
 step 488
 step 483
@@ -2036,12 +2447,23 @@ finish 482
 step 479
 step 488
 step 485
+step 485
+step 485
+step 485
+step 485
+step 485
 finish 487
 begin 1 get 76c7a618cb0377f3 all
 begin 2 range 73657373696f6e2f6161 1 0
 begin 3 get 0000000000000000 all
 step 486
 step 489
+step 489
+step 489
+step 489
+step 489
+step 489
+step 490
 step 490
 step 479
 step 491
@@ -2050,24 +2472,56 @@ begin 1 range 9cdb3153fb269e32 2 0
 step 485
 step 490
 step 490
+step 490
+step 490
 step 488
 step 488
 finish 488
 begin 2 get 73657373696f6e2f73657373696f6e2f all
 step 493
+step 493
 step 486
+step 493
+step 493
+step 493
+step 493
+step 493
 step 493
 step 485
 step 492
 finish 492
 step 493
+step 493
+step 490
+step 490
 step 490
 step 485
 begin 3 put f4198e84a4605bf0 0=5bf0
 finish 479
 begin 1 put db8d69d31863c290 1=db
 step 490
+step 490
+step 490
+step 490
+step 490
+step 490
+step 490
+step 490
+step 490
+step 490
+step 490
+step 490
+step 490
+step 490
+step 490
+step 490
+step 490
+step 490
+step 490
+step 490
+finish 490
 step 493
+step 485
 step 485
 finish 486
 begin 2 put 636174616c6f672f636174616c6f672f636174616c6f672f67 0=2f67
@@ -2077,12 +2531,25 @@ step 496
 finish 496
 step 489
 step 489
+step 489
+step 489
+step 489
+step 489
+step 489
+step 489
+step 489
+step 489
+step 489
+step 489
 finish 489
+step 485
 step 485
 step 494
 finish 495
 begin 3 get d92029bff1762643 all
 finish 497
+step 485
+step 485
 step 485
 finish 485
 step 494
@@ -2113,12 +2580,17 @@ begin 3 put 214445c60b60f66c 0=f66c
 step 501
 step 501
 step 501
+step 501
+step 501
+step 501
 step 490
 begin 1 get 704f63a070328408 all
 finish 501
 step 500
 step 498
 finish 498
+step 504
+step 504
 step 504
 begin 2 get 32cd2d365edaca4a all
 step 490
@@ -2127,6 +2599,7 @@ begin 3 put ed907139c5d15ddc 1=ed
 step 506
 begin 1 put 4b71eeee92c4c211 0=c211
 step 490
+step 504
 step 504
 step 506
 finish 502
@@ -2177,6 +2650,7 @@ step 503
 begin 2 get 1b0834d4a008223c all
 finish 507
 step 517
+step 517
 finish 517
 step 512
 step 512
@@ -2203,6 +2677,7 @@ step 520
 step 520
 finish 518
 step 521
+step 521
 begin 1 put 05f7aac49d402b2d 0=2b2d
 step 520
 finish 512
@@ -2220,6 +2695,9 @@ finish 527
 step 526
 step 523
 step 521
+step 521
+step 521
+step 521
 step 525
 step 520
 finish 525
@@ -2235,10 +2713,12 @@ step 523
 finish 523
 begin 2 put 000000000000000075726a7862647165797064 0=7064
 step 530
+step 530
 step 526
 finish 522
 begin 3 get 4f0d4fb49dba0b85 all
 step 532
+step 529
 step 529
 finish 532
 begin 1 put 1a0c112b0a9dd78f 0=d78f
@@ -2247,6 +2727,13 @@ finish 530
 step 526
 step 526
 step 526
+step 533
+step 533
+step 533
+step 533
+step 533
+step 533
+step 533
 step 533
 step 533
 step 534
@@ -2362,10 +2849,16 @@ step 561
 finish 558
 step 561
 step 559
+step 559
 begin 3 put a64b31862410f44a 0=f44a
 finish 559
 step 566
 step 561
+step 560
+step 560
+step 560
+step 560
+step 560
 step 560
 begin 1 put 4080e2aa05f17a0b 0=7a0b
 finish 566
@@ -2388,7 +2881,14 @@ step 572
 step 569
 step 571
 step 560
+step 560
 step 571
+step 560
+step 560
+step 560
+step 560
+step 560
+step 560
 step 560
 step 560
 step 569
@@ -2433,11 +2933,14 @@ finish 575
 begin 3 put 00000000000000000000000000000000000000000000000069 0=0069
 step 576
 step 580
+step 580
 step 573
 begin 1 put 108756764d7341a6 0=41a6
 step 573
 begin 2 get 0000000000000000686471 all
 step 573
+step 583
+step 583
 step 583
 step 581
 finish 582
@@ -2448,7 +2951,14 @@ step 585
 begin 2 get 49ca07cafe1c13e6 all
 finish 585
 step 580
+step 580
+step 580
+step 580
+step 580
+step 580
 step 581
+step 586
+step 586
 step 586
 finish 586
 finish 576
@@ -2456,24 +2966,47 @@ begin 3 put 636174616c6f672f636174616c6f672f636174616c6f672f626b76 0=6b76
 begin 1 get 2ebc0a3cf47a4897 all
 begin 2 put 2ebc0a3cf47a4897 0=4897
 step 588
+step 588
+step 588
 step 584
+step 583
 step 583
 step 588
 step 580
+step 580
 finish 581
 step 583
+step 583
+step 583
+step 583
+step 583
+step 583
+step 580
+step 580
+step 580
+step 580
+step 580
 step 580
 step 589
 step 584
+step 584
+step 583
+step 583
 step 583
 step 580
 finish 584
 step 589
 begin 3 put d2300447e5dc0763 1=d2
 step 583
+step 583
 step 589
 step 587
 finish 580
+step 583
+step 583
+step 583
+step 583
+step 583
 step 583
 begin 1 put 00000000000000000000000000000000 0=0000
 begin 2 put 577f2c202a3db4c2 0=b4c2
@@ -2483,13 +3016,21 @@ finish 590
 begin 3 get 7770791c06998f46 all
 finish 592
 step 593
+step 593
+step 593
+step 593
+step 593
+step 593
 finish 593
 begin 1 get 636174616c6f672f636174616c6f672f636174616c6f672f6e62 all
+step 583
 step 583
 begin 2 put 8182fcf31a0ebec8 0=bec8
 finish 591
 begin 3 put f5fa653d43a750f6 0=50f6
 step 583
+step 594
+step 594
 step 594
 finish 588
 step 587
@@ -2516,6 +3057,9 @@ begin 3 put 6fc7ec2f92ed97a8 1=6f
 begin 1 get 4659afef24153403 all
 step 600
 step 603
+step 603
+step 603
+step 603
 finish 603
 step 600
 finish 600
@@ -2528,11 +3072,17 @@ begin 2 put 8b04bfa7da59ed21 0=ed21
 step 602
 step 598
 step 594
+step 594
 step 598
 begin 3 put ae78f058f1c581dd 0=81dd
 finish 604
 step 598
 step 602
+step 594
+step 594
+step 594
+step 594
+step 594
 step 594
 step 598
 step 598
@@ -2543,8 +3093,13 @@ step 594
 begin 1 get 571c3d7033d60488 all
 step 602
 step 606
+step 606
+step 606
+step 606
 begin 2 put 260df281c04f5056 0=5056
 finish 607
+step 594
+step 594
 step 594
 step 598
 finish 606
@@ -2600,6 +3155,9 @@ step 619
 step 619
 begin 1 put 0000000000000000726d 0=726d
 step 617
+step 617
+step 617
+step 617
 finish 624
 finish 621
 begin 2 remove 000000000000000000000000000000000000000000000000796f6a746d62
@@ -2608,12 +3166,20 @@ begin 3 get 636174616c6f672f636174616c6f672f68 all
 step 623
 finish 623
 step 617
+step 617
+step 617
+step 617
+step 617
+step 617
 step 616
 step 616
 begin 1 put 0000000000000000000000000000000000000000000000007a746a766e65626e71647071 0=7071
 step 627
 step 622
 finish 622
+step 617
+step 617
+step 617
 step 617
 step 617
 finish 625
@@ -2625,6 +3191,13 @@ step 617
 begin 3 put 21a3e828bf1dea3d 1=21
 begin 1 put 81919c83533c0b88 0=0b88
 step 628
+step 617
+step 617
+step 617
+step 617
+step 617
+step 617
+step 617
 step 617
 finish 617
 step 619
@@ -2656,6 +3229,11 @@ finish 619
 step 634
 step 628
 step 636
+step 636
+step 636
+step 636
+step 636
+step 636
 step 628
 finish 628
 step 634
@@ -2670,7 +3248,14 @@ finish 637
 step 636
 step 639
 step 636
+step 636
+step 636
+step 636
+step 636
+step 636
 finish 638
+step 636
+step 636
 step 636
 begin 2 get 963301156c69cf28 all
 begin 3 get b74ef6371ecfc2e0 all
@@ -2710,6 +3295,9 @@ begin 1 get e5809f7e3c3b528b all
 begin 2 put 636174616c6f672f636174616c6f672f636174616c6f672f6d74746c63626a74736c6f 1=63
 step 652
 step 650
+step 650
+step 650
+step 650
 step 652
 finish 651
 begin 3 put 43bcf31b91e2cf9a 0=cf9a
@@ -2720,6 +3308,8 @@ step 652
 step 654
 finish 654
 step 650
+step 650
+step 647
 step 647
 begin 2 put e73000ab3e9a1b1e 0=1b1e
 finish 650
@@ -2741,7 +3331,10 @@ step 656
 finish 656
 begin 3 get 21a3e828bf1dea3d all
 step 659
+step 659
 step 662
+step 662
+step 659
 step 659
 finish 659
 begin 1 put 000000000000000074657978776f676a687a62 0=7a62
@@ -2785,12 +3378,15 @@ step 665
 step 666
 begin 3 put 11d1c70e1acab4cc 0=b4cc
 step 672
+step 672
 step 671
 finish 671
 begin 1 put 73657373696f6e2f727a63716c7a6a74 0=6a74
 step 666
 step 663
 finish 663
+step 672
+step 672
 step 672
 begin 2 get 0000000000000000716b78696a7a7875617370 all
 finish 669
@@ -2801,6 +3397,7 @@ step 675
 step 665
 step 674
 step 676
+step 676
 finish 676
 step 675
 finish 675
@@ -2809,6 +3406,9 @@ step 674
 step 665
 finish 665
 step 674
+step 677
+step 677
+step 677
 step 677
 finish 677
 step 674
@@ -2903,6 +3503,8 @@ finish 690
 begin 3 put 636174616c6f672f636174616c6f672f666273727772667078 0=7078
 begin 1 put 59fb2df02326c11e 0=c11e
 step 700
+step 700
+step 700
 step 698
 finish 695
 finish 701
@@ -2913,6 +3515,11 @@ step 696
 begin 2 get 2056616419ed7689 all
 begin 3 put 00000000000000007775636c6a6f786d636b 0=636b
 begin 1 get 00000000000000000000000000000000000000000000000061716d6f all
+step 703
+step 703
+step 703
+step 703
+step 703
 step 703
 begin 2 put 551ce72d0c920f82 0=0f82
 finish 705
@@ -2927,9 +3534,11 @@ begin 1 get fb68f9c8ad052208 all
 begin 2 get 636174616c6f672f636174616c6f672f636174616c6f672f67 all
 begin 3 put 636174616c6f672f636174616c6f672f7177646c 0=646c
 step 703
+step 703
+step 703
+step 703
 step 704
 step 708
-step 703
 step 706
 step 704
 finish 704
@@ -2943,6 +3552,11 @@ step 708
 step 706
 begin 1 get 636174616c6f672f636174616c6f672f726e6c74797577686274 all
 finish 711
+step 709
+step 709
+step 709
+step 709
+step 709
 step 709
 finish 709
 begin 2 get f84dd9a51425cab5 all
@@ -2977,6 +3591,11 @@ finish 721
 step 722
 step 720
 finish 720
+step 718
+step 718
+step 718
+step 718
+step 718
 step 718
 begin 1 put 73657373696f6e2f73657373696f6e2f73657373696f6e2f6674 0=6674
 step 723
@@ -3024,6 +3643,8 @@ begin 1 put 000000000000000000000000000000000000000000000000726f6978746b67616273
 step 732
 finish 729
 step 731
+step 731
+step 731
 begin 2 put 9e831ad586653c74 0=3c74
 begin 3 remove 73657373696f6e2f73657373696f6e2f62646b69736275706a7a61
 begin 1 put 5e37b8be9abbee94 0=ee94
@@ -3031,14 +3652,25 @@ step 732
 step 732
 begin 2 get 1f5738764a08e03b all
 step 736
+step 736
+step 736
+step 736
+step 736
+step 736
 step 731
 finish 731
 finish 732
 step 733
 step 712
 step 712
+step 712
+step 712
+step 712
+step 712
+step 712
 begin 3 put 7ef2cdbaa9e991f4 0=91f4
 begin 1 put 73657373696f6e2f7962777a656a7678627172 1=73
+step 736
 step 736
 step 733
 step 712
@@ -3070,6 +3702,7 @@ step 736
 step 742
 finish 741
 begin 1 get f7d6d91a5aed3d1a all
+step 744
 step 744
 step 744
 finish 744
@@ -3122,6 +3755,11 @@ step 752
 step 736
 step 745
 step 752
+step 752
+step 752
+step 752
+step 752
+step 752
 step 747
 finish 745
 step 736
@@ -3151,6 +3789,13 @@ step 756
 begin 2 put 636174616c6f672f636174616c6f672f636174616c6f672f70 0=2f70
 step 758
 step 758
+step 758
+step 758
+step 758
+step 758
+step 758
+step 758
+step 758
 begin 3 put 6c8eb23a1a29b847 0=b847
 step 761
 step 759
@@ -3170,6 +3815,7 @@ begin 1 get 01fe62529e38a31c all
 step 763
 step 760
 step 762
+step 765
 step 765
 step 762
 finish 765
@@ -3192,6 +3838,7 @@ step 768
 finish 750
 begin 3 put 76c7a618cb0377f3 0=77f3
 step 758
+step 758
 step 766
 finish 769
 begin 1 put 00000000000000000000000000000000000000000000000067706e72 0=6e72
@@ -3204,6 +3851,11 @@ step 768
 step 764
 finish 770
 step 758
+step 758
+step 758
+step 758
+step 758
+step 758
 finish 758
 finish 771
 step 768
@@ -3215,6 +3867,11 @@ begin 2 put 000000000000000000000000000000006a64716c7872666778 1=00
 step 764
 step 775
 begin 3 get 6c3c9004773235ff all
+step 776
+step 776
+step 776
+step 776
+step 776
 step 776
 finish 773
 step 766
@@ -3229,6 +3886,7 @@ finish 774
 step 766
 step 764
 step 772
+step 776
 step 776
 begin 2 put 636174616c6f672f636174616c6f672f61 0=2f61
 step 764
@@ -3250,6 +3908,12 @@ begin 2 range 81919c83533c0b88 1 0
 begin 3 put 636174616c6f672f69756a666b6166 0=6166
 begin 1 put 602771804861cb9a 0=cb9a
 step 781
+step 781
+step 780
+step 780
+step 780
+step 780
+step 780
 step 780
 begin 2 get 73657373696f6e2f73657373696f6e2f73657373696f6e2f74657a63746873616c627a67 all
 step 782
@@ -3259,14 +3923,27 @@ step 784
 finish 784
 begin 3 get e1938b0a7e0c2855 all
 step 780
+step 780
+step 780
+step 780
 finish 780
 step 779
 begin 1 get 73657373696f6e2f73657373696f6e2f73657373696f6e2f71 all
 step 785
 step 785
+step 785
+step 785
+step 785
 finish 785
 step 779
 finish 782
+step 786
+step 786
+step 786
+step 786
+step 786
+step 786
+step 786
 step 786
 step 786
 begin 2 put 506e7d667a921443 0=1443
@@ -3280,6 +3957,7 @@ begin 3 get 636174616c6f672f636174616c6f672f636174616c6f672f7262726b all
 step 787
 step 779
 finish 779
+step 788
 step 788
 finish 788
 step 787
@@ -3295,6 +3973,9 @@ begin 3 put eb60b7d2ffd07b4d 0=7b4d
 finish 789
 begin 1 put 01fe62529e38a31c 0=a31c
 step 790
+step 790
+step 790
+step 790
 begin 2 put 73657373696f6e2f73657373696f6e2f73657373696f6e2f70646f637679666e6c7375 0=7375
 step 792
 finish 792
@@ -3308,9 +3989,11 @@ step 791
 step 794
 step 795
 step 794
+step 794
 step 791
 finish 794
 begin 3 range 74d518810579e1ad 1 0
+step 797
 step 797
 begin 1 put d28295a8573fd523 0=d523
 begin 2 put 2056616419ed7689 0=7689
@@ -3332,22 +4015,52 @@ begin 3 get 38ee74404f01c01a all
 finish 799
 begin 1 put 0f374184f3dc8256 0=8256
 step 803
+step 803
+step 803
 step 798
 step 796
 step 798
 step 797
 step 798
 step 803
+step 803
 finish 803
 step 804
 step 797
+step 797
+step 797
+step 797
+step 797
+step 797
+step 797
+step 797
+step 797
+step 797
+step 797
+step 797
+step 797
+step 797
+step 797
+step 797
+step 797
+step 797
+step 797
+step 797
+finish 797
 step 804
 step 802
 step 797
+step 802
+step 802
+step 802
+step 802
+step 802
 step 802
 step 797
 begin 2 put a7483f891361bdc8 0=bdc8
 step 790
+step 790
+finish 790
 finish 790
 finish 802
 begin 3 put fa6c2e8d20516d98 0=6d98
@@ -3389,6 +4102,14 @@ step 811
 finish 812
 begin 3 range f47bfffae55f3c02 7 0
 step 811
+step 811
+step 811
+step 811
+step 815
+step 815
+step 815
+step 815
+step 815
 step 815
 begin 1 remove b799925486746b4c
 step 805
@@ -3403,15 +4124,24 @@ finish 805
 step 814
 step 817
 step 815
+step 815
 finish 817
 begin 1 range 636174616c6f672f636174616c6f672f636174616c6f672f67 7 0
 step 819
 step 819
+step 819
+step 819
+step 819
 begin 2 get 55b243801f32a205 all
+step 819
+step 819
+step 819
 step 819
 begin 3 put e5809f7e3c3b528b 0=528b
 begin 1 put 73657373696f6e2f73657373696f6e2f65 0=2f65
 step 816
+step 819
+step 819
 step 819
 finish 820
 step 816
@@ -3424,6 +4154,9 @@ step 822
 step 822
 step 814
 step 816
+step 815
+step 815
+step 815
 step 815
 begin 2 put 954f0e2b954d1b6c 0=1b6c
 begin 3 get eea6ec3fa6f0c337 all
@@ -3439,6 +4172,18 @@ finish 822
 step 823
 begin 3 put e57ec8c694972afc 0=2afc
 step 815
+step 815
+step 815
+step 815
+step 815
+step 815
+step 815
+step 815
+step 815
+step 815
+step 815
+step 815
+step 815
 finish 814
 begin 1 put 4659afef24153403 0=3403
 begin 2 get 636174616c6f672f636174616c6f672f636174616c6f672f6f766669626671746868 all
@@ -3453,10 +4198,15 @@ step 831
 finish 831
 begin 2 put 1f919bab46a5f7de 0=f7de
 step 829
+step 829
+step 826
+step 826
 step 826
 step 816
 finish 816
 finish 815
+step 826
+step 826
 step 826
 begin 3 range 8fdc21e161657786 2 0
 step 832
@@ -3465,11 +4215,14 @@ step 830
 finish 830
 begin 1 put 211719c7efa38554 0=8554
 finish 826
+finish 826
 begin 2 get 636174616c6f672f77636e696d6e626c767768 all
 begin 3 put 8606cf37ee43ddbf 0=ddbf
 begin 1 get 3d40dbb0723b1a63 all
 step 833
 finish 833
+step 837
+step 837
 step 837
 step 836
 begin 2 put f944adf16fbc9870 0=9870
@@ -3480,12 +4233,24 @@ finish 836
 step 838
 begin 3 put b03b7b9b6c6bcbff 0=cbff
 step 829
+step 829
+step 829
 begin 1 put 2a99ebc9289d6fac 0=6fac
 step 840
 begin 2 put e6dbfb897492db7e 0=db7e
 begin 3 put 74d518810579e1ad 0=e1ad
 step 841
 step 835
+step 835
+step 835
+step 835
+step 835
+step 835
+step 829
+step 829
+step 829
+step 829
+step 829
 step 829
 finish 829
 finish 838
@@ -3498,6 +4263,9 @@ step 841
 step 842
 finish 842
 step 835
+step 835
+step 835
+step 835
 begin 1 get b7869dcd20ba071f all
 finish 835
 step 840
@@ -3506,6 +4274,8 @@ begin 3 put 73657373696f6e2f73657373696f6e2f726561686e68646c636b6d72 0=6d72
 step 840
 step 840
 begin 1 put 1f5738764a08e03b 0=e03b
+step 843
+step 843
 step 843
 begin 2 put af0c092c1792df2d 0=df2d
 step 840
@@ -3556,6 +4326,7 @@ begin 3 get a35138c8d45dfa0d all
 finish 844
 begin 1 range 3e533c0a174ff987 1 0
 step 857
+step 857
 step 858
 finish 857
 step 851
@@ -3574,12 +4345,15 @@ finish 861
 begin 3 get 9d221faa6592fa48 all
 finish 860
 step 859
+step 859
 step 863
 step 863
 finish 863
 begin 1 remove 193e3ad29af0effe
 step 859
+step 859
 begin 2 put 0347bab34b0975dd 0=75dd
+step 859
 step 859
 step 864
 step 865
@@ -3595,13 +4369,41 @@ step 866
 step 866
 begin 1 put 73657373696f6e2f73657373696f6e2f73657373696f6e2f 0=6e2f
 step 866
+step 866
+step 858
+step 858
+step 858
 step 858
 step 858
 step 867
 finish 867
 step 866
+step 866
 step 858
+step 858
+step 858
+step 858
+step 858
+step 858
+step 858
+step 858
+step 858
+step 858
+step 858
+step 858
+step 858
+step 858
+step 858
+step 858
+step 858
+step 858
+step 858
+step 858
+finish 858
 begin 2 put 04f3a73e1ad173a9 0=73a9
+step 866
+step 866
+step 866
 step 866
 step 858
 begin 3 put 636174616c6f672f636174616c6f672f7777656e676a7475 0=7475
@@ -3625,7 +4427,14 @@ step 873
 finish 873
 begin 2 put cbbcac31223563d5 0=63d5
 step 872
+step 872
+step 872
+step 872
+step 872
+step 872
 step 870
+step 872
+step 872
 step 872
 step 872
 finish 872
@@ -3697,6 +4506,7 @@ step 887
 begin 1 put 636174616c6f672f636174616c6f672f 0=672f
 finish 870
 step 880
+step 889
 step 889
 begin 2 get 5f461e557dc93328 all
 step 890
@@ -3785,6 +4595,9 @@ step 918
 step 918
 step 915
 step 912
+step 912
+step 912
+step 912
 finish 911
 finish 917
 begin 2 put 73657373696f6e2f76776c73637479686972 0=6972
@@ -3794,6 +4607,7 @@ step 919
 step 916
 step 918
 step 919
+step 912
 step 912
 step 915
 step 918
@@ -3813,6 +4627,7 @@ step 914
 step 912
 finish 914
 step 912
+step 912
 step 916
 finish 922
 step 916
@@ -3827,6 +4642,7 @@ step 923
 begin 1 range a04eb246376f0cb5 2 0
 begin 2 put becd5d9b27f2d86a 0=d86a
 step 925
+step 925
 finish 925
 step 928
 finish 928
@@ -3836,6 +4652,7 @@ step 923
 begin 3 get 636174616c6f672f636174616c6f672f636174616c6f672f777a717a73786a78666e all
 step 912
 begin 1 put 95e6acc2691ab245 0=b245
+step 926
 step 926
 finish 930
 begin 2 put 73657373696f6e2f73657373696f6e2f74727362 0=7362
@@ -3848,6 +4665,11 @@ step 924
 step 932
 finish 912
 finish 931
+step 926
+step 926
+step 926
+step 926
+step 926
 step 926
 finish 926
 step 923
@@ -3864,8 +4686,13 @@ step 936
 step 929
 step 936
 step 929
+step 929
+step 929
 finish 929
 finish 935
+step 933
+step 933
+step 933
 step 933
 begin 2 get 73657373696f6e2f73657373696f6e2f all
 begin 3 put c66491bb53f0ec80 0=ec80
@@ -3875,6 +4702,7 @@ finish 933
 begin 1 get c60437e89a0c2b1b all
 begin 2 put 000000000000000000000000000000006c746f776b6f616a 0=616a
 step 940
+step 937
 step 937
 step 940
 finish 940
@@ -3889,34 +4717,49 @@ step 942
 finish 942
 step 932
 step 941
+step 941
 step 936
 step 941
 step 939
 step 938
+step 941
 step 941
 finish 938
 step 939
 step 937
 finish 932
 step 937
+step 937
 step 936
+step 941
 step 941
 finish 939
 begin 2 put 0cd0938b09a07afe 0=7afe
 step 936
 step 941
+step 941
 step 943
+step 941
 step 941
 finish 941
 begin 3 get 73657373696f6e2f73657373696f6e2f6d6c6d697871 all
 step 936
 step 937
+step 937
 begin 1 get c88bc5bd30905689 all
+step 937
+step 937
+step 937
+step 937
+step 937
 step 937
 step 943
 step 944
 step 944
+step 944
 begin 2 put c9a25bbdd9988bdf 0=8bdf
+step 945
+step 945
 step 945
 begin 3 put 73657373696f6e2f73657373696f6e2f73657373696f6e2f63776d61 0=6d61
 step 936
@@ -3925,6 +4768,7 @@ finish 937
 finish 946
 step 945
 begin 1 put 636174616c6f672f636174616c6f672f636174616c6f672f67776c66686f657666 0=7666
+step 944
 step 944
 finish 947
 begin 2 get 73657373696f6e2f73657373696f6e2f62646b69736275706a7a61 all
@@ -3944,17 +4788,36 @@ step 943
 step 949
 begin 2 range 704f63a070328408 1 0
 step 949
+step 949
 finish 936
+step 949
+step 949
+step 949
+step 949
+step 949
+step 949
 step 949
 step 949
 begin 3 put 000000000000000000000000000000007876 0=7876
 finish 943
+step 952
+step 952
+step 952
+step 952
+step 952
 step 952
 finish 949
 step 951
 finish 951
 step 945
 step 945
+step 945
+step 945
+step 945
+step 945
+step 952
+step 952
+step 952
 step 952
 begin 1 put 227bc7ff1b050bf4 0=0bf4
 step 953
@@ -3966,18 +4829,47 @@ finish 945
 begin 1 range 636174616c6f672f636174616c6f672f636174616c6f672f67776c66686f657666 1 0
 step 955
 step 957
+step 957
+step 957
+step 957
+step 957
+step 957
+step 956
+step 956
+step 956
 step 956
 finish 956
 finish 955
 begin 2 put 636174616c6f672f636174616c6f672f636174616c6f672f 0=672f
 step 952
+step 952
 begin 3 put b865914b5b1e7782 0=7782
 step 959
+step 957
 step 957
 step 959
 begin 1 put 73657373696f6e2f73657373696f6e2f716267776478 0=6478
 step 959
 step 957
+step 957
+step 952
+step 952
+step 952
+step 952
+step 952
+step 952
+step 952
+step 952
+step 952
+step 952
+step 952
+step 952
+step 952
+step 952
+step 952
+step 952
+step 952
+step 952
 step 952
 step 958
 step 952
@@ -3988,12 +4880,15 @@ step 953
 step 952
 finish 952
 step 957
+step 957
+step 957
 begin 2 range 636174616c6f672f7a62656b746a74 7 0
 begin 3 put 1b0834d4a008223c 0=223c
 step 962
 finish 962
 begin 1 put 2f1c21010da2f173 0=f173
 step 953
+step 961
 step 961
 finish 961
 begin 2 put 0d0e871d780d8f11 0=8f11
@@ -4019,8 +4914,13 @@ begin 1 get edc8641c10d01c8f all
 begin 2 put a868025c53d4f2d8 1=a8
 begin 3 get 0b83f1d5bfbd7d8c all
 step 957
+step 957
+step 957
+step 957
 finish 967
 begin 1 get 73657373696f6e2f73657373696f6e2f73657373696f6e2f697a70616667 all
+step 968
+step 968
 step 968
 finish 968
 step 957
@@ -4069,6 +4969,7 @@ step 976
 finish 974
 step 981
 begin 2 get 7119769a1c098a59 all
+step 981
 step 981
 finish 982
 step 979
@@ -4132,6 +5033,9 @@ step 987
 step 991
 step 991
 step 997
+step 997
+step 997
+step 997
 begin 3 get 15c807f31e0e7eaa all
 step 991
 step 991
@@ -4149,6 +5053,9 @@ finish 997
 finish 999
 step 998
 step 998
+step 998
+step 998
+step 998
 begin 1 put 636174616c6f672f636174616c6f672f636174616c6f672f6f7172696b6b7463 0=7463
 step 994
 step 1001
@@ -4159,6 +5066,10 @@ step 1002
 step 1003
 step 994
 step 998
+step 998
+step 998
+step 998
+step 998
 finish 994
 begin 1 get 73657373696f6e2f73657373696f6e2f73657373696f6e2f686a7569667a6d6e6e6173 all
 step 998
@@ -4166,12 +5077,20 @@ step 1003
 finish 1005
 begin 2 get 93f5fec0789eb093 all
 step 1006
+step 1006
 step 1000
+step 1004
 step 1004
 finish 1004
 begin 3 get e8472b1721c07a57 all
 step 1006
+step 1006
 step 1007
+step 1006
+step 1006
+step 1006
+step 1006
+step 1006
 step 1006
 step 998
 finish 998
@@ -4186,6 +5105,26 @@ finish 1000
 finish 1002
 begin 2 get 636174616c6f672f636174616c6f672f6e6c77666b6d all
 step 1006
+step 1006
+step 1006
+step 1006
+step 1006
+step 1006
+step 1006
+step 1006
+step 1006
+step 1006
+step 1006
+step 1006
+step 1006
+step 1006
+step 1006
+step 1006
+step 1006
+step 1006
+step 1006
+step 1006
+finish 1006
 finish 1006
 begin 3 put 636174616c6f672f6e687872726d77726c6c7a69 0=7a69
 finish 1008
@@ -4213,21 +5152,40 @@ finish 1014
 step 1016
 finish 1010
 step 1015
+step 1015
 begin 1 put a530f6cbbdb28dbd 0=8dbd
 finish 1013
 step 1017
 step 1009
+step 1009
+step 1009
+step 1009
+step 1009
+step 1009
 step 1015
 begin 2 put 73657373696f6e2f73657373696f6e2f73657373696f6e2f6471656d75746a676e 0=676e
 step 1016
+step 1016
+step 1009
+step 1009
 step 1009
 begin 3 put 16f3f1c830449fd6 0=9fd6
 step 1015
+step 1015
+step 1015
 step 1017
+step 1009
+step 1009
 step 1009
 step 1012
 finish 1009
 begin 1 put 28b5ca001a434990 0=4990
+step 1015
+step 1015
+step 1015
+step 1015
+step 1015
+step 1015
 step 1015
 step 1019
 finish 1019
@@ -4273,6 +5231,7 @@ step 1026
 finish 1025
 begin 1 put a511cc04d17ab083 0=b083
 step 1027
+step 1027
 finish 1027
 finish 1023
 step 1029
@@ -4307,6 +5266,7 @@ step 1038
 step 1036
 finish 1036
 step 1037
+step 1037
 finish 1035
 begin 2 put 9c38402a4ef471da 0=71da
 step 1038
@@ -4322,8 +5282,11 @@ begin 3 put 3fe90aa1fe88eab9 0=eab9
 begin 1 get 636174616c6f672f636174616c6f672f636174616c6f672f716363 all
 begin 2 get 1611998c4f1055aa all
 step 1042
+step 1042
 begin 3 put 000000000000000000000000000000000000000000000000 0=0000
 step 1039
+step 1044
+step 1044
 step 1044
 finish 1041
 step 1043
@@ -4343,6 +5306,8 @@ step 1042
 finish 1049
 step 1046
 step 1045
+step 1045
+step 1045
 step 1039
 step 1048
 begin 1 remove 73657373696f6e2f73657373696f6e2f6d6c6d697871
@@ -4350,6 +5315,9 @@ finish 1043
 begin 2 put 636174616c6f672f636174616c6f672f736c7a6f79717368 1=63
 step 1051
 finish 1051
+step 1045
+step 1045
+step 1045
 step 1045
 step 1046
 begin 3 remove 74f56a5e5cb0ea7d
@@ -4359,10 +5327,18 @@ begin 1 put 44c7ec78cb36db3b 0=db3b
 step 1048
 step 1042
 step 1045
+step 1045
+step 1045
+step 1045
 step 1046
 step 1048
 step 1039
 finish 1039
+step 1042
+step 1042
+step 1042
+step 1042
+step 1042
 step 1042
 begin 2 put 000000000000000000000000000000006c6461 0=6461
 step 1052
@@ -4390,6 +5366,7 @@ step 1057
 begin 3 get 3c5643c75226c396 all
 begin 1 remove d7a7bd292dcaf25b
 step 1058
+step 1058
 begin 2 put e6d240f0033fc1cf 0=c1cf
 step 1060
 begin 3 remove 000000000000000074657978776f676a687a62
@@ -4406,6 +5383,8 @@ begin 1 put 73657373696f6e2f73657373696f6e2f73657373696f6e2f656b78647278737368 0
 begin 2 get 6da1592138718385 all
 step 1058
 step 1058
+step 1058
+step 1058
 finish 1058
 begin 3 put d9d01bb76836e9de 0=e9de
 step 1062
@@ -4415,6 +5394,7 @@ step 1065
 step 1060
 step 1065
 finish 1064
+step 1065
 step 1065
 finish 1065
 begin 2 range 000000000000000000000000000000000000000000000000756f7a71656568727565 2 0
@@ -4434,6 +5414,9 @@ step 1062
 begin 3 get ff51b065bd2c44e4 all
 finish 1066
 finish 1063
+step 1070
+step 1070
+step 1070
 step 1070
 step 1062
 begin 1 put b890e21946c0cbc9 0=cbc9
@@ -4483,10 +5466,14 @@ begin 2 put 73657373696f6e2f 0=6e2f
 begin 3 put 000000000000000000000000000000006f 0=006f
 step 1076
 step 1079
+step 1079
+step 1079
+step 1079
 finish 1080
 step 1062
 begin 1 put 0e19e8599474ca58 0=ca58
 begin 2 put 00000000000000006e63747068726277 0=6277
+step 1079
 step 1079
 step 1079
 step 1081
@@ -4499,15 +5486,23 @@ step 1081
 finish 1082
 step 1085
 step 1085
+step 1085
+step 1085
 begin 1 get 73657373696f6e2f73657373696f6e2f73657373696f6e2f6a73 all
 step 1086
 begin 2 get b7303f6fb606e56f all
 step 1085
 step 1087
+step 1087
+step 1087
+step 1087
 begin 3 put 9d221faa6592fa48 0=fa48
 step 1081
 step 1087
 step 1087
+step 1087
+step 1087
+step 1085
 step 1085
 step 1085
 finish 1087
@@ -4519,6 +5514,17 @@ finish 1089
 begin 2 get 73657373696f6e2f73657373696f6e2f73657373696f6e2f6674 all
 begin 3 put 73657373696f6e2f73657373696f6e2f73657373696f6e2f6164746b636973656d 0=656d
 step 1091
+step 1085
+step 1085
+step 1085
+step 1085
+step 1085
+step 1085
+step 1085
+step 1085
+step 1085
+step 1085
+step 1085
 step 1085
 finish 1083
 step 1084
@@ -4543,6 +5549,9 @@ step 1085
 step 1085
 step 1085
 step 1091
+step 1092
+step 1092
+step 1092
 step 1092
 step 1090
 finish 1090
@@ -4584,6 +5593,7 @@ step 1096
 step 1097
 begin 2 put 8606cf37ee43ddbf 1=86
 step 1101
+step 1101
 step 1081
 finish 1081
 begin 3 put c53794b7f8112291 0=2291
@@ -4603,12 +5613,17 @@ step 1101
 step 1105
 step 1105
 step 1106
+step 1106
+step 1106
 finish 1085
 begin 1 put 0de400a392f0e89f 0=e89f
 finish 1101
 begin 2 put 0000000000000000 0=0000
 step 1106
 step 1096
+step 1105
+step 1105
+step 1105
 step 1105
 finish 1108
 finish 1103
@@ -4617,6 +5632,26 @@ finish 1097
 finish 1106
 begin 3 put f490b52385cc6ee6 0=6ee6
 step 1105
+step 1105
+step 1105
+step 1105
+step 1105
+step 1105
+step 1105
+step 1105
+step 1105
+step 1105
+step 1105
+step 1105
+step 1105
+step 1105
+step 1105
+step 1105
+step 1105
+step 1105
+step 1105
+step 1105
+finish 1105
 finish 1105
 step 1109
 step 1096
@@ -4635,6 +5670,11 @@ begin 1 get 636174616c6f672f6e687872726d77726c6c7a69 all
 finish 1112
 begin 2 put 0d524005df494c9f 0=4c9f
 step 1114
+step 1113
+step 1113
+step 1113
+step 1113
+step 1113
 step 1113
 begin 3 get 8322223d36ae5b3a all
 step 1113

@@ -18,6 +18,25 @@ begin 1 range - 100 all
 step 17
 step 17
 step 17
+step 17
+step 17
+step 17
+step 17
+step 17
+step 17
+step 17
+step 17
+step 17
+step 17
+step 17
+step 17
+step 17
+step 17
+step 17
+step 17
+step 17
+step 17
+step 17
 begin 2 put 11 0=11
 finish 18
 begin 2 put 12 0=12
@@ -54,5 +73,24 @@ begin 2 tidy 11
 finish 34
 advance
 collect
+step 17
+step 17
+step 17
+step 17
+step 17
+step 17
+step 17
+step 17
+step 17
+step 17
+step 17
+step 17
+step 17
+step 17
+step 17
+step 17
+step 17
+step 17
+step 17
 step 17
 collect

@@ -18,6 +18,25 @@ begin 1 range - 100 all
 step 17
 step 17
 step 17
+step 17
+step 17
+step 17
+step 17
+step 17
+step 17
+step 17
+step 17
+step 17
+step 17
+step 17
+step 17
+step 17
+step 17
+step 17
+step 17
+step 17
+step 17
+step 17
 begin 2 remove 02
 finish 18
 begin 2 put 02 0=02
@@ -26,4 +45,23 @@ begin 2 remove 0a
 finish 20
 begin 2 put 0a 0=0a
 finish 21
+step 17
+step 17
+step 17
+step 17
+step 17
+step 17
+step 17
+step 17
+step 17
+step 17
+step 17
+step 17
+step 17
+step 17
+step 17
+step 17
+step 17
+step 17
+step 17
 step 17

@@ -19,3 +19,15 @@ begin 2 put 10 0=10
 finish 17
 step 16
 step 16
+step 16
+step 16
+step 16
+step 16
+step 16
+step 16
+step 16
+step 16
+step 16
+step 16
+step 16
+step 16

@@ -31,3 +31,13 @@ begin 1 get 06 all
 step 17
 step 17
 step 17
+step 17
+step 17
+step 17
+step 17
+step 17
+step 17
+step 17
+step 17
+step 17
+step 17

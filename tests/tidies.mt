@@ -105,6 +105,8 @@ begin 2 put 0000000000000024 0=63fc35c7
 finish 38
 step 34
 step 36
+step 36
+step 36
 finish 34
 finish 39
 step 35
@@ -917,6 +919,9 @@ begin 1 put 00000000000000f8 0=934f4e
 finish 258
 begin 2 get 000000000000009f all
 step 260
+step 260
+step 260
+step 260
 step 257
 finish 254
 begin 1 put 00000000000000f9 0=-
@@ -1041,9 +1046,26 @@ step 286
 step 292
 advance
 step 290
+step 290
+step 290
 step 289
 step 290
 step 289
+step 290
+step 290
+step 290
+step 290
+step 290
+step 290
+step 290
+step 290
+step 290
+step 290
+step 290
+step 290
+step 290
+step 290
+step 290
 step 290
 step 293
 begin 2 put 0000000000000115 0=77d28cd7
@@ -1285,6 +1307,7 @@ finish 372
 finish 379
 step 381
 finish 369
+step 377
 step 377
 begin 3 put 0000000000000169 0=111762
 finish 382
@@ -1647,6 +1670,9 @@ step 495
 step 491
 step 512
 step 502
+step 502
+step 502
+step 502
 finish 495
 begin 1 put 00000000000001e6 0=-
 finish 491
@@ -1767,6 +1793,9 @@ begin 1 put 000000000000020d 0=-
 begin 2 put 000000000000020e 0=211143d2
 step 553
 step 553
+step 552
+step 552
+step 552
 step 552
 finish 552
 finish 547
@@ -2757,6 +2786,7 @@ begin 1 get 000000000000023d all
 begin 1 remove 0000000000000172
 begin 1 remove 00000000000000fa
 step 892
+step 892
 finish 880
 begin 2 remove 0000000000000177
 finish 894
@@ -3111,6 +3141,9 @@ begin 2 remove 00000000000000e0
 begin 2 get 0000000000000290 all
 finish 1018
 step 1023
+step 1023
+step 1023
+step 1023
 finish 1023
 begin 2 remove 00000000000002b1
 step 1022
@@ -3267,6 +3300,7 @@ step 1074
 step 1070
 step 1074
 step 1075
+step 1075
 step 1070
 step 1069
 step 1069
@@ -3278,8 +3312,14 @@ step 1078
 step 1069
 step 1075
 step 1075
+step 1075
+step 1075
+step 1075
 step 1077
 step 1078
+step 1075
+step 1075
+step 1075
 step 1075
 step 1078
 step 1074
@@ -3920,6 +3960,7 @@ step 1215
 step 1215
 finish 1215
 begin 3 range 0000000000000224 1 all
+step 1216
 step 1216
 begin 3 remove 0000000000000262
 finish 1217
@@ -5870,6 +5911,7 @@ step 1792
 step 1792
 begin 1 tidy 000000000000016b
 step 1797
+step 1797
 begin 3 tidy 0000000000000056
 apply 4
 step 1798
@@ -6712,6 +6754,9 @@ step 2098
 begin 2 tidy 000000000000026f
 begin 1 tidy 0000000000000226
 step 2105
+step 2105
+step 2105
+step 2105
 finish 2104
 step 2108
 step 2107
@@ -7029,6 +7074,7 @@ collect
 begin 3 get 00000000000000b2 all
 finish 2216
 step 2224
+step 2224
 step 2223
 finish 2215
 feed 1045 1
@@ -7324,6 +7370,7 @@ finish 2322
 step 2323
 begin 2 range 0000000000000012 1 all
 step 2325
+step 2325
 collect
 step 2319
 begin 2 tidy 0000000000000220
@@ -7425,6 +7472,8 @@ begin 1 tidy 00000000000000c6
 begin 1 range 00000000000001f5 3 all
 finish 2362
 step 2357
+step 2364
+step 2364
 step 2364
 finish 2364
 finish 2363
@@ -7706,6 +7755,10 @@ finish 2465
 begin 3 tidy 00000000000000d6
 step 2467
 step 2469
+step 2469
+step 2469
+step 2469
+step 2469
 step 2466
 begin 1 tidy 0000000000000124
 finish 2467
@@ -7820,12 +7873,19 @@ finish 2498
 finish 2499
 collect
 step 2503
+step 2503
 finish 2507
+step 2503
+step 2503
+step 2503
+step 2503
+step 2503
 step 2503
 begin 1 tidy 0000000000000287
 begin 1 tidy 00000000000001f6
 step 2505
 begin 3 tidy 0000000000000067
+step 2503
 step 2503
 step 2504
 finish 2503
@@ -7912,6 +7972,8 @@ begin 1 tidy 0000000000000169
 step 2536
 finish 2536
 begin 1 tidy 0000000000000061
+step 2533
+step 2533
 step 2533
 begin 1 tidy 00000000000001f3
 begin 2 tidy 00000000000000a6
@@ -8042,7 +8104,17 @@ begin 3 range 0000000000000098 3 all
 begin 2 tidy 0000000000000022
 step 2579
 step 2581
+step 2581
+step 2581
+step 2581
+step 2581
+step 2581
 step 2580
+step 2581
+step 2581
+step 2581
+step 2581
+step 2581
 step 2581
 finish 2577
 advance
@@ -8059,6 +8131,8 @@ step 2585
 begin 3 tidy 000000000000028e
 finish 2582
 step 2581
+step 2581
+step 2581
 begin 3 tidy 00000000000000c7
 step 2584
 finish 2586
@@ -8070,12 +8144,27 @@ begin 3 tidy 00000000000001bc
 finish 2587
 finish 2583
 step 2581
+step 2581
 begin 2 tidy 0000000000000034
 finish 2590
 step 2584
 begin 1 tidy 0000000000000238
 feed 84 10
 finish 2592
+step 2581
+step 2581
+step 2581
+step 2581
+step 2581
+step 2581
+step 2581
+step 2581
+step 2581
+step 2581
+step 2581
+step 2581
+step 2581
+step 2581
 step 2581
 step 2589
 begin 1 tidy 0000000000000210
@@ -8375,6 +8464,7 @@ finish 2695
 step 2694
 begin 2 get 0000000000000171 all
 begin 1 tidy 0000000000000069
+step 2698
 step 2698
 step 2698
 step 2693
@@ -8857,6 +8947,7 @@ finish 2866
 begin 1 get 00000000000001fb all
 begin 2 tidy 00000000000000ce
 step 2867
+step 2867
 finish 2868
 finish 2863
 begin 1 tidy 0000000000000121
@@ -9207,6 +9298,7 @@ begin 3 tidy 000000000000005d
 begin 2 range 0000000000000145 1 all
 begin 3 tidy 000000000000017d
 step 2993
+step 2993
 finish 2991
 step 2990
 begin 2 tidy 0000000000000037
@@ -9335,6 +9427,11 @@ finish 3032
 begin 1 get 0000000000000216 all
 finish 3036
 begin 2 tidy 000000000000029f
+step 3038
+step 3038
+step 3038
+step 3038
+step 3038
 step 3038
 step 3024
 step 3039
@@ -9629,11 +9726,16 @@ begin 2 tidy 00000000000000dc
 begin 3 tidy 0000000000000203
 step 3134
 step 3135
+step 3135
+step 3135
 finish 3142
 begin 2 tidy 000000000000011e
 finish 3140
 begin 3 tidy 000000000000024f
 step 3134
+step 3135
+step 3135
+step 3135
 step 3135
 step 3135
 finish 3134
@@ -10664,11 +10766,16 @@ alone tidy 0000000000000232
 alone tidy 0000000000000268
 begin 2 range 000000000000019f 10 all
 step 3506
+step 3506
+step 3506
+step 3506
 collect
 step 3506
 begin 1 tidy 0000000000000112
 finish 3507
 begin 3 tidy 0000000000000001
+step 3506
+step 3506
 step 3506
 step 3506
 begin 2 tidy 000000000000012b
@@ -10694,6 +10801,9 @@ finish 3515
 begin 2 tidy 00000000000000d8
 advance
 begin 3 tidy 0000000000000025
+step 3514
+step 3514
+step 3514
 step 3514
 finish 3517
 finish 3512
@@ -11368,6 +11478,8 @@ step 3761
 step 3750
 step 3754
 step 3757
+step 3757
+step 3757
 step 3760
 step 3761
 advance
@@ -11461,6 +11573,8 @@ step 3787
 finish 3787
 begin 2 tidy 000000000000006e
 step 3791
+step 3791
+step 3791
 step 3790
 finish 3789
 begin 1 tidy 0000000000000021
@@ -11468,6 +11582,11 @@ finish 3792
 begin 1 tidy 00000000000001be
 finish 3786
 begin 1 tidy 00000000000000cb
+step 3791
+step 3791
+step 3791
+step 3791
+step 3791
 step 3791
 step 3791
 finish 3791
@@ -11995,6 +12114,11 @@ apply 0
 begin 2 tidy 0000000000000175
 begin 3 tidy 00000000000000fb
 step 3987
+step 3987
+step 3987
+step 3987
+step 3987
+step 3987
 begin 2 tidy 00000000000002b4
 begin 1 tidy 0000000000000041
 finish 3988
@@ -12210,6 +12334,7 @@ finish 4062
 step 4060
 begin 2 tidy 00000000000000d0
 step 4060
+step 4060
 step 4061
 finish 4064
 step 4061
@@ -12291,6 +12416,11 @@ finish 4095
 advance
 finish 4096
 finish 4090
+step 4094
+step 4094
+step 4094
+step 4094
+step 4094
 step 4094
 begin 3 tidy 0000000000000044
 finish 4094
@@ -12815,10 +12945,15 @@ finish 4285
 step 4287
 finish 4282
 step 4287
+step 4287
 begin 1 tidy 0000000000000070
 finish 4288
 begin 1 tidy 0000000000000222
 begin 1 tidy 0000000000000039
+step 4287
+step 4287
+step 4287
+step 4287
 step 4287
 begin 2 tidy 000000000000010b
 step 4287
@@ -13183,6 +13318,7 @@ advance
 begin 1 tidy 000000000000024d
 begin 2 tidy 00000000000001c4
 step 4422
+step 4422
 finish 4418
 begin 2 put 000000000000027a 0=e7acd9
 finish 4420
@@ -13196,7 +13332,12 @@ begin 3 put 0000000000000273 0=b512fd67
 finish 4423
 finish 4428
 step 4422
+step 4422
+step 4422
+step 4422
 begin 3 put 000000000000026f 0=7bd9
+step 4422
+step 4422
 step 4422
 finish 4430
 advance
@@ -13240,6 +13381,18 @@ begin 3 put 0000000000000277 0=f16a83
 begin 3 put 0000000000000278 0=-
 step 4422
 finish 4438
+step 4422
+step 4422
+step 4422
+step 4422
+step 4422
+step 4422
+step 4422
+step 4422
+step 4422
+step 4422
+step 4422
+step 4422
 step 4422
 begin 2 put 000000000000026d 0=70
 begin 2 remove 00000000000000fc
@@ -13615,6 +13768,11 @@ begin 2 range 000000000000006e 10 all
 finish 4550
 step 4558
 finish 4552
+step 4559
+step 4559
+step 4559
+step 4559
+step 4559
 step 4559
 collect
 finish 4559

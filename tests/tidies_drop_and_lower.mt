@@ -29,3 +29,8 @@ collect
 begin 1 get 01 all
 step 28
 step 28
+step 28
+step 28
+step 28
+step 28
+step 28

@@ -322,6 +322,8 @@ step 49
 step 61
 begin 2 get 616161616161616100 all
 step 63
+step 63
+step 63
 feed 3 10
 step 62
 step 62
@@ -338,6 +340,7 @@ step 60
 begin 2 tidy 616161616161616162626262626262620303
 step 66
 step 68
+step 63
 step 63
 begin 2 tidy 616161616161616162626262626262620101
 step 67
@@ -378,6 +381,9 @@ begin 2 tidy 616161616161616162626262626262620303
 finish 76
 step 79
 finish 81
+step 77
+step 77
+step 77
 step 77
 step 77
 step 80
@@ -459,6 +465,9 @@ begin 3 remove 61616161616161610303
 step 103
 begin 1 put 6161616161616161626262626262626202 0=-
 step 108
+step 107
+step 107
+step 107
 step 107
 begin 3 remove 6161616161616161626262626262626202
 collect
@@ -634,7 +643,10 @@ begin 1 put 616161616161616102 0=f4e2
 feed 3 1
 finish 144
 step 143
+step 143
+step 143
 finish 149
+finish 143
 finish 143
 begin 2 put 62626262626262620202 0=58e0e997
 begin 1 remove 626262626262626203
@@ -752,6 +764,7 @@ begin 1 range 6161616161616161626262626262626200 1 all
 step 181
 step 185
 step 185
+step 185
 step 171
 step 185
 finish 185
@@ -762,6 +775,16 @@ begin 2 remove 61616161616161610303
 step 174
 step 186
 step 178
+step 186
+step 186
+step 186
+step 186
+step 186
+step 186
+step 186
+step 186
+step 186
+step 186
 step 186
 step 186
 step 186
@@ -838,6 +861,7 @@ step 201
 step 200
 step 193
 step 201
+step 200
 step 200
 step 199
 step 195
@@ -1136,6 +1160,9 @@ step 245
 begin 1 tidy 616161616161616162626262626262620303
 finish 243
 step 251
+step 251
+step 251
+step 251
 begin 2 tidy 616161616161616162626262626262620303
 step 253
 step 248
@@ -1153,6 +1180,7 @@ step 245
 step 248
 step 252
 step 251
+step 251
 step 252
 step 252
 step 248
@@ -1165,6 +1193,22 @@ begin 1 put 61616161616161610303 0=1d35c1
 step 255
 step 255
 begin 1 put 616161616161616162626262626262620303 0=-
+step 251
+step 251
+step 251
+step 251
+step 251
+step 251
+step 251
+step 251
+step 251
+step 251
+step 251
+step 251
+step 251
+step 251
+step 251
+step 251
 step 251
 begin 3 put 616161616161616102 0=a0
 advance
@@ -1210,6 +1254,9 @@ step 259
 begin 2 get 616161616161616162626262626262620101 all
 finish 264
 step 265
+step 265
+step 265
+step 265
 begin 3 put 626262626262626203 0=1ca6
 step 262
 step 266
@@ -1228,6 +1275,17 @@ step 263
 step 268
 step 263
 step 263
+step 263
+step 263
+step 263
+step 263
+step 263
+step 263
+step 263
+step 263
+step 263
+step 263
+step 263
 begin 3 put 616161616161616162626262626262620101 0=8f3a43
 step 268
 step 267
@@ -1239,11 +1297,28 @@ finish 267
 step 265
 begin 3 put 62626262626262620202 0=c3
 step 265
+step 265
 begin 1 remove 616161616161616100
+step 265
+step 265
+step 265
 step 265
 finish 268
 begin 2 tidy 616161616161616100
 step 257
+step 265
+step 265
+step 265
+step 265
+step 265
+step 265
+step 265
+step 265
+step 265
+step 265
+step 265
+step 265
+step 265
 step 265
 begin 2 remove 62626262626262620000
 step 257
@@ -1402,6 +1477,7 @@ step 298
 step 305
 step 297
 step 306
+step 306
 view 1 0 - 1000
 step 297
 step 305
@@ -1410,6 +1486,10 @@ begin 1 remove 616161616161616100
 step 307
 step 307
 drop 1
+step 306
+step 306
+step 306
+step 306
 step 306
 step 298
 step 307
@@ -1429,6 +1509,7 @@ step 301
 begin 2 remove 61616161616161610303
 advance
 step 308
+step 308
 step 309
 step 288
 feed 39 3
@@ -1446,6 +1527,8 @@ step 314
 step 314
 step 308
 step 308
+step 308
+step 308
 step 314
 feed 78 3
 step 313
@@ -1453,6 +1536,16 @@ finish 310
 step 314
 begin 1 tidy 6161616161616161626262626262626202
 step 314
+step 308
+step 308
+step 308
+step 308
+step 308
+step 308
+step 308
+step 308
+step 308
+step 308
 step 308
 advance
 feed 69 3
@@ -1470,6 +1563,9 @@ begin 3 tidy 6161616161616161626262626262626200
 finish 319
 finish 316
 step 320
+step 317
+step 317
+step 317
 step 317
 finish 313
 step 313
@@ -1498,6 +1594,10 @@ step 326
 collect
 begin 2 tidy 61616161616161610101
 step 323
+step 323
+step 323
+step 323
+step 323
 step 328
 begin 2 tidy 6161616161616161626262626262626202
 finish 328
@@ -1516,11 +1616,15 @@ begin 1 put 616161616161616162626262626262620101 0=-
 step 333
 step 330
 step 332
+step 332
 finish 333
 step 334
 begin 3 tidy 6161616161616161626262626262626200
 finish 330
 step 331
+step 332
+step 332
+step 332
 step 332
 finish 329
 step 334
@@ -1624,6 +1728,11 @@ finish 354
 begin 3 tidy 626262626262626201
 step 360
 begin 3 get 616161616161616162626262626262620101 all
+step 361
+step 361
+step 361
+step 361
+step 361
 step 361
 step 358
 step 358
@@ -1882,6 +1991,9 @@ step 404
 step 404
 step 396
 step 403
+step 403
+step 403
+step 403
 step 396
 finish 396
 begin 2 tidy 61616161616161610303
@@ -1897,6 +2009,14 @@ collect
 step 400
 advance
 step 403
+step 403
+step 403
+step 403
+step 403
+step 403
+step 403
+step 403
+step 403
 begin 1 remove 6161616161616161626262626262626200
 begin 3 range 6161616161616161626262626262626202 1 all
 step 409
@@ -1911,6 +2031,8 @@ step 412
 begin 1 remove 61616161616161610101
 step 414
 step 414
+step 411
+step 411
 step 411
 step 401
 step 405
@@ -1931,6 +2053,7 @@ begin 2 remove 62626262626262620202
 step 401
 step 416
 step 410
+step 411
 step 411
 step 413
 finish 410
@@ -2012,6 +2135,9 @@ step 435
 finish 433
 begin 3 tidy 6161616161616161626262626262626202
 step 434
+step 434
+step 434
+step 434
 finish 435
 step 425
 step 434
@@ -2052,6 +2178,9 @@ begin 2 tidy 616161616161616102
 step 450
 step 446
 begin 2 remove 616161616161616162626262626262620303
+step 444
+step 444
+step 444
 step 444
 step 448
 step 444
@@ -2197,9 +2326,13 @@ step 463
 step 464
 begin 3 get 616161616161616162626262626262620101 all
 step 468
-step 467
+step 468
 step 468
 step 467
+step 468
+step 468
+step 467
+step 468
 step 468
 step 467
 step 463
@@ -2223,18 +2356,41 @@ step 459
 step 463
 step 469
 step 468
+step 468
 step 463
 step 463
 begin 1 build range 616161616161616102 none any
 step 472
 step 472
+step 472
+step 468
+step 468
+step 468
+step 468
+step 468
+step 468
+step 468
+step 468
+step 468
+step 468
+step 468
+step 468
+step 468
+step 468
 step 468
 begin 2 build prefix 61616161 any
 step 471
 feed 15 1
 step 459
 step 473
+step 473
+step 473
+step 473
+step 473
+step 473
 feed 21 1
+step 473
+step 473
 step 473
 step 469
 step 470
@@ -2242,11 +2398,20 @@ step 471
 step 469
 step 473
 step 473
+step 473
+step 473
+step 473
+step 473
+step 473
+step 473
 step 469
 step 472
 step 473
 step 471
 step 459
+step 472
+step 472
+step 472
 step 472
 step 471
 step 459
@@ -2255,6 +2420,8 @@ begin 3 range 6161616161616161626262626262626200 1000 all
 step 473
 step 469
 step 470
+step 474
+step 474
 step 474
 step 471
 step 469
@@ -2268,23 +2435,45 @@ step 475
 step 475
 step 475
 step 474
+step 474
+step 474
+step 474
+step 474
 step 475
 step 475
+step 473
+step 473
+step 473
 step 473
 feed 6 10
 step 470
 step 473
 step 475
-step 474
 step 473
+step 473
+step 473
+step 472
+step 472
+step 472
+step 472
 step 472
 step 472
 step 470
 feed 105 3
 step 475
 step 473
+step 473
+step 473
+step 473
+step 473
+step 473
 begin 2 remove 6161616161616161626262626262626202
 step 476
+step 472
+step 472
+step 472
+step 472
+step 472
 step 472
 step 476
 finish 469
@@ -2310,11 +2499,17 @@ step 476
 step 476
 step 480
 step 473
+step 473
 apply 2
 step 478
 advance
 step 479
 advance
+step 473
+step 473
+step 473
+step 473
+step 473
 step 473
 step 480
 step 479
@@ -2473,6 +2668,7 @@ step 521
 step 518
 step 517
 step 518
+step 518
 finish 515
 begin 1 remove 61616161616161610303
 step 522
@@ -2545,6 +2741,11 @@ step 530
 begin 1 tidy 626262626262626203
 begin 3 get 6161616161616161626262626262626200 all
 step 540
+step 540
+step 540
+step 540
+step 540
+step 540
 step 535
 collect
 step 535
@@ -2563,12 +2764,18 @@ begin 3 remove 6161616161616161626262626262626202
 advance
 step 541
 step 540
+step 540
 finish 543
 begin 2 get 6161616161616161626262626262626202 all
 finish 540
 begin 1 remove 626262626262626201
 step 544
+step 544
+step 544
+step 544
 step 541
+step 544
+step 544
 step 544
 step 537
 step 545
@@ -2590,6 +2797,10 @@ begin 2 tidy 616161616161616162626262626262620101
 step 544
 step 546
 step 544
+step 544
+step 544
+step 544
+step 544
 begin 2 remove 62626262626262620000
 step 548
 finish 549
@@ -2600,6 +2811,11 @@ step 539
 step 547
 feed 49 3
 step 539
+step 550
+step 550
+step 550
+step 550
+step 550
 step 550
 view 3 0 - 1
 finish 539
@@ -2832,6 +3048,8 @@ advance
 step 608
 begin 3 get 626262626262626203 all
 step 610
+step 610
+step 610
 step 603
 collect
 finish 609
@@ -2861,6 +3079,11 @@ step 611
 step 608
 step 614
 step 613
+step 613
+step 613
+step 613
+step 613
+step 613
 step 612
 step 614
 step 614
@@ -2872,8 +3095,10 @@ step 613
 collect
 step 608
 step 613
+step 613
 step 603
 advance
+step 613
 step 613
 step 611
 step 612
@@ -2885,6 +3110,10 @@ step 608
 step 613
 begin 1 remove 61616161616161610303
 step 603
+step 613
+step 613
+step 613
+step 613
 step 613
 step 613
 step 614
@@ -2903,9 +3132,17 @@ begin 1 remove 616161616161616162626262626262620303
 step 615
 step 612
 step 613
+step 613
+step 613
+step 613
 step 617
 step 614
 step 617
+step 613
+step 613
+step 613
+step 613
+step 613
 step 613
 step 614
 step 614
@@ -2928,6 +3165,11 @@ step 619
 collect
 step 619
 step 613
+step 613
+step 613
+step 613
+step 613
+step 613
 step 615
 step 619
 step 619
@@ -2938,8 +3180,12 @@ begin 1 tidy 61616161616161610101
 step 620
 step 620
 step 618
+step 618
+step 618
+step 618
 step 622
 step 622
+step 618
 step 618
 step 616
 step 621
@@ -2975,12 +3221,16 @@ step 627
 step 626
 step 618
 step 618
+step 618
+step 618
+step 618
 step 625
 step 625
 step 627
 begin 3 tidy 61616161616161610303
 step 628
 step 623
+step 618
 step 618
 finish 625
 step 626
@@ -3135,6 +3385,9 @@ step 661
 finish 662
 begin 2 range 62626262626262620202 10 all
 step 661
+step 663
+step 663
+step 663
 step 663
 step 659
 step 657
@@ -3295,6 +3548,9 @@ step 711
 step 711
 begin 1 get 61616161616161610101 all
 begin 3 remove 61616161616161610101
+step 715
+step 715
+step 715
 step 715
 step 715
 step 713
@@ -3705,12 +3961,16 @@ step 773
 step 773
 advance
 step 778
+step 778
+step 778
+step 778
 step 776
 finish 772
 step 775
 begin 2 tidy 626262626262626201
 step 773
 step 779
+step 778
 step 778
 step 776
 begin 3 tidy 616161616161616162626262626262620101
@@ -3727,6 +3987,13 @@ step 778
 step 773
 step 779
 step 781
+step 778
+step 778
+step 778
+step 778
+step 778
+step 778
+step 778
 step 778
 step 782
 step 773
@@ -3757,6 +4024,17 @@ step 786
 step 787
 step 788
 step 786
+step 787
+step 787
+step 787
+step 787
+step 787
+step 787
+step 787
+step 787
+step 787
+step 787
+step 787
 step 787
 begin 2 tidy 626262626262626201
 step 789
@@ -3854,6 +4132,7 @@ step 807
 finish 808
 begin 1 remove 626262626262626201
 step 812
+step 810
 step 810
 step 811
 step 807
@@ -3992,17 +4271,23 @@ finish 830
 step 841
 begin 1 range 616161616161616162626262626262620303 1000 all
 step 842
+step 842
 begin 3 tidy 626262626262626203
 step 837
 advance
 step 841
 step 838
 step 842
+step 842
+step 842
 begin 2 tidy 616161616161616102
 step 844
 begin 2 tidy 6161616161616161626262626262626202
 begin 3 build prefix 61616161 atleast 0 108
 step 845
+step 846
+step 846
+step 846
 step 846
 step 846
 step 837
@@ -4065,10 +4350,16 @@ step 859
 begin 3 put 6161616161616161626262626262626202 0=17
 step 859
 step 858
+step 858
+step 858
+step 858
 begin 3 put 626262626262626203 0=de5eba
 begin 2 put 616161616161616162626262626262620303 0=7c72aa
 step 867
 collect
+step 865
+step 865
+step 865
 step 865
 step 865
 finish 867
@@ -4300,6 +4591,7 @@ feed 39 3
 begin 3 remove 616161616161616162626262626262620101
 feed 129 1
 step 890
+step 890
 step 893
 step 890
 step 880
@@ -4313,6 +4605,9 @@ step 880
 step 891
 step 893
 step 890
+step 890
+step 890
+step 890
 step 892
 step 894
 step 891
@@ -4323,6 +4618,8 @@ collect
 step 892
 step 892
 step 892
+step 890
+step 890
 step 890
 step 894
 step 893
@@ -4333,6 +4630,18 @@ step 893
 step 892
 step 893
 step 880
+step 890
+step 890
+step 890
+step 890
+step 890
+step 890
+step 890
+step 890
+step 890
+step 890
+step 890
+step 890
 step 890
 begin 2 tidy 616161616161616162626262626262620303
 step 893
@@ -4473,6 +4782,8 @@ begin 3 tidy 626262626262626203
 step 913
 finish 919
 begin 3 get 626262626262626201 all
+step 923
+step 923
 step 923
 step 922
 finish 922
@@ -4696,6 +5007,11 @@ step 979
 step 979
 step 978
 step 972
+step 972
+step 972
+step 972
+step 972
+step 972
 begin 3 put 616161616161616162626262626262620303 0=a1
 step 976
 step 980
@@ -4757,6 +5073,10 @@ finish 977
 step 984
 begin 2 remove 62626262626262620000
 step 982
+step 990
+step 990
+step 990
+step 990
 step 990
 step 982
 step 990
@@ -5536,6 +5856,9 @@ step 1102
 step 1102
 begin 1 tidy 616161616161616100
 step 1098
+step 1098
+step 1098
+step 1098
 step 1101
 step 1097
 step 1099
@@ -5544,9 +5867,15 @@ collect
 step 1103
 step 1099
 step 1098
+step 1098
+step 1098
+step 1098
 step 1099
 step 1101
 step 1091
+step 1098
+step 1098
+step 1098
 step 1098
 step 1101
 step 1103
@@ -5563,6 +5892,7 @@ finish 1091
 begin 2 tidy 61616161616161610303
 finish 1097
 begin 1 tidy 616161616161616102
+finish 1098
 finish 1098
 begin 2 tidy 626262626262626201
 finish 1106
@@ -5660,6 +5990,9 @@ step 1125
 feed 93 1
 step 1128
 step 1130
+step 1130
+step 1130
+step 1130
 feed 191 10
 step 1124
 step 1127
@@ -5716,6 +6049,9 @@ finish 1144
 begin 2 get 616161616161616100 all
 step 1143
 step 1138
+step 1138
+step 1138
+step 1138
 begin 1 tidy 616161616161616162626262626262620303
 finish 1146
 begin 1 tidy 616161616161616102
@@ -5723,6 +6059,9 @@ step 1142
 begin 1 tidy 626262626262626201
 step 1140
 begin 3 put 626262626262626201 0=aa
+step 1145
+step 1145
+step 1145
 step 1145
 step 1143
 step 1147
@@ -5923,17 +6262,27 @@ begin 3 tidy 616161616161616102
 finish 1180
 finish 1176
 step 1177
+step 1177
+step 1177
+step 1177
 begin 1 tidy 62626262626262620202
 begin 3 tidy 616161616161616162626262626262620303
 step 1184
 step 1177
 finish 1181
 step 1177
+step 1177
 begin 1 remove 6161616161616161626262626262626202
 finish 1185
 step 1176
 step 1184
 begin 3 tidy 6161616161616161626262626262626200
+step 1177
+step 1177
+step 1177
+step 1177
+step 1177
+step 1177
 step 1177
 begin 1 tidy 61616161616161610303
 step 1184

@@ -224,6 +224,9 @@ def one_crowd(serving: ModuleType, shim: Shim, check: str, seed: int) -> Tuple[i
     with server:
         members = [Member(serving, server, number, random.Random(f"{seed} {number}"), server.index())
                    for number in range(CLIENTS)]
+        # once each client has a worker, no thread is to be started any more, which would be refused too
+        for member in members:
+            member.index.get(b"")
         with ThreadPoolExecutor(CLIENTS) as threads:
             for working in [threads.submit(member.work) for member in members]:
                 working.result()

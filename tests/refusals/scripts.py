@@ -96,7 +96,7 @@ def twenty_layers() -> Script:
     deep = 20
     first, second = ("61" * (8 * deep) + last for last in ("61", "62"))
     lines = [f"alone put {first} 0=-", f"begin 1 put {second} 0=-", *["step 2"] * (7 * deep + 5)]
-    lines += [f"begin 1 get {second} all", *["step 3"] * (2 * deep + 2)]
+    lines += [f"begin 1 get {second} all", *["step 3"] * (7 * deep + 8)]
     lines += [f"alone remove {first}", f"alone remove {second}", *[f"alone tidy {second}"] * (deep + 1), "collect"]
     return Script("twenty_layers", (), tuple(lines))
 

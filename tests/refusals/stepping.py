@@ -13,7 +13,7 @@ from scripts import Script, ending, growing
 from shim import Run, Shim, is_one_line
 
 # a line that does nothing, in the place of one that was refused; and a call that changes nothing, where its number
-# counts
+# counts (while it is open it holds the log: where a feed tells that, the plain map judges)
 NOTHING = "drop 18446744073709551615"
 GET = "get - all"
 LARGE = 1500
@@ -187,7 +187,8 @@ class Stepping:
                and one.command.word in ("step", "finish") and one.command.numbers[0] == call]
         want(any(place[0] <= line <= place[1] for line in own), f"line {at + 1} is refused, it fell in {place[0] + 1}")
         words = it.said[begin].line.split(" ")
-        lines = {begin: f"begin {words[1]} {GET}", at: f"finish {call}"}
+        # (in its place the get makes all its steps in the one line, so that nothing comes in between)
+        lines = {begin: f"begin {words[1]} {GET}", **{line: NOTHING for line in own}, at: f"finish {call}"}
         if self.is_same(it, lines, frozenset([begin, *own])):
             return SAME
         Held(self.script.columns, it.said)

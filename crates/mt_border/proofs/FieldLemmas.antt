@@ -13,7 +13,7 @@ use Rattle.mt_word.proofs.SeenLemmas.{all_slots_at}
 use Rattle.mt_word.proofs.ArrangedLemmas.{places_distinct}
 use Rattle.mt_border.specs.Table.{blank_slot, picked}
 use Rattle.mt_border.specs.Border.{BorderView, entries_of}
-use Rattle.mt_border.specs.Order.{IsBorder, AllHeldKeys}
+use Rattle.mt_border.specs.Order.{IsBorder, AllHeldKeys, AreInSlots}
 use Rattle.mt_border.specs.Slots.{slot_at, is_live, held_at}
 use Rattle.mt_border.proofs.TableLemmas.{length-picked, picked_at, live_below}
 use Rattle.mt_border.specs.declared.entry.Entry.{Entry}
@@ -37,8 +37,8 @@ live_is_below b k h live =
     subst (λ (n : ℕ). n < 15) (read_place b.order.live k there) (live_below b.order there.0 h.seen.table.arranged there.1)
 
 -- A LIVE SLOT'S ENTRY IS AMONG THE LIVE ENTRIES
-pub live_entry_among : (b : BorderView) (k : ℕ) → IsBorder b → is_live b k ≡ true → Contains b.live (slot_at b k).entry
-live_entry_among b k h live =
+pub live_entry_in : (b : BorderView) (k : ℕ) → AreInSlots b.live b.unused b.slots b.order → is_live b k ≡ true → Contains b.live (slot_at b k).entry
+live_entry_in b k seen live =
     let there = live_there b k live in
     let i = there.0 in
     let held : List Slot = picked b.slots b.order.live in
@@ -46,7 +46,10 @@ live_entry_among b k h live =
     let within : i < length (entries_of held) = omega (arith, inside, length-map held (λ (slot : Slot). slot.entry)) in
     let read : get_or (entries_of held) i blank_slot.entry ≡ (slot_at b k).entry =
     get_or-map (λ (slot : Slot). slot.entry) held i blank_slot blank_slot.entry inside ∙ ap (λ (slot : Slot). slot.entry) (picked_at b.slots b.order.live i there.1 ∙ ap (λ (n : ℕ). get_or b.slots n blank_slot) (read_place b.order.live k there)) in
-    subst (λ (live : List Entry). Contains live (slot_at b k).entry) (sym h.seen.live_is) (subst (λ (entry : Entry). Contains (entries_of held) entry) read (Contains-get_or (entries_of held) i blank_slot.entry within))
+    subst (λ (live : List Entry). Contains live (slot_at b k).entry) (sym seen.live_is) (subst (λ (entry : Entry). Contains (entries_of held) entry) read (Contains-get_or (entries_of held) i blank_slot.entry within))
+
+pub live_entry_among : (b : BorderView) (k : ℕ) → IsBorder b → is_live b k ≡ true → Contains b.live (slot_at b k).entry
+live_entry_among b k h live = live_entry_in b k h.seen live
 
 -- a live slot held a key
 all_held_at : (slots : List Slot) (i : ℕ) → AllHeldKeys slots → i < length slots → (get_or slots i blank_slot).held_key ≡ true

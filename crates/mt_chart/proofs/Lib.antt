@@ -37,6 +37,9 @@ pub mod Ranges
 pub mod ScanRuns
 pub mod NotedLemmas
 pub mod ListNoted
+pub mod ReadingLemmas
+pub mod ReadingKeys
+pub mod ReadingStay
 pub mod Cursors
 pub mod KeyAnswers
 pub mod BorderLaws

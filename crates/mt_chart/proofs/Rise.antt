@@ -14,10 +14,10 @@ up_root d k h = omega arith
 up_child : (d k j l m : ℕ) → k ≤ 15 → l < 18446744073709551616 → j < k → (d * 17 + (16 - k)) * 18446744073709551616 + l < (d * 17 + (16 - j)) * 18446744073709551616 + m
 up_child d k j l m h w i = omega arith
 
-up_right : (d l m : ℕ) → l < m → (d * 17 + 16) * 18446744073709551616 + l < (d * 17 + 16) * 18446744073709551616 + m
+pub up_right : (d l m : ℕ) → l < m → (d * 17 + 16) * 18446744073709551616 + l < (d * 17 + 16) * 18446744073709551616 + m
 up_right d l m h = omega arith
 
-up_link : (d l : ℕ) → l < 18446744073709551616 → (d * 17 + 16) * 18446744073709551616 + l < (suc d * 17 + 0) * 18446744073709551616 + 0
+pub up_link : (d l : ℕ) → l < 18446744073709551616 → (d * 17 + 16) * 18446744073709551616 + l < (suc d * 17 + 0) * 18446744073709551616 + 0
 up_link d l h = omega arith
 
 module _ (arena : Arena) (chart : Chart) (tree : IsTree arena chart) (b : ℕ) where

@@ -7,6 +7,7 @@ pub mod ScanRun
 pub mod Noted
 pub mod NotedList
 pub mod ListNoted
+pub mod Reading
 pub mod Steps
 pub mod StepLaws
 pub mod Posting

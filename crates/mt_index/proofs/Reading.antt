@@ -27,6 +27,7 @@ use Rattle.mt_write.specs.Writing.{edit_request}
 use Rattle.mt_works.specs.declared.work.Work.{Work}
 use Rattle.mt_works.specs.declared.work.Work.TheVariants.{Get as GetWork, Write as WriteWork, Range as RangeWork, Tidy as TidyWork, Build as BuildWork}
 use Rattle.mt_works.specs.Building.{ScansOn, GoesOn, IsUpTo, IsInLog}
+use Rattle.mt_steps.specs.declared.listing.Listing.{Listing}
 use Rattle.mt_works.specs.Works.{request_of, IsTrue, IsBuiltWork, HasNext, WorkBuilds}
 use Rattle.mt_index.specs.Viewing.{ReadsFrom, ReadsOf, deltas_between}
 use Rattle.mt_index.specs.Stands.{MachineView, IsPast, Stands}
@@ -131,15 +132,15 @@ module _ (s : MachineView) (h : History) (st : Stands s h) where
               (subst (λ (cs : List Change). LeadsTo (drop from ds) (after s.columns cs) state) (sym (take_all upto (moment h).commits (omega (arith, is, all)))) leads)),
         )
 
-    build_reads : (upto then : Option ℕ) (old new : BuildView) (number : ℕ) → s.log.held_after ≤ from → GoesOn s.tree s.log upto old number then new → ScansOn upto old number begun past s.tree st.w → (IsUpTo upto old.state.at → ⊥)
+    build_reads : (upto then : Option ℕ) (old new : BuildView) (number : ℕ) (listing : Listing) → s.log.held_after ≤ from → GoesOn s.tree s.log upto old number listing then new → ScansOn upto old number listing begun past s.tree st.w → (IsUpTo upto old.state.at → ⊥)
         → old.state.columns ≡ s.columns → ReadsFrom s.columns (moment h).commits from upto old.state → (new.state.columns ≡ s.columns) × ReadsFrom s.columns (moment h).commits from then new.state
-    build_reads None None old new number reaches keeps truth unbuilt columns at = (ap (λ (v : StateView). v.columns) keeps ∙ columns, ap (λ (v : StateView). v.at) keeps ∙ at)
-    build_reads None (Some upto) old new number reaches (is, keeps, all) truth unbuilt columns at = (
+    build_reads None None old new number listing reaches keeps truth unbuilt columns at = (ap (λ (v : StateView). v.columns) keeps ∙ columns, ap (λ (v : StateView). v.at) keeps ∙ at)
+    build_reads None (Some upto) old new number listing reaches (is, keeps, all) truth unbuilt columns at = (
       ap (λ (v : StateView). v.columns) keeps ∙ columns,
       scanned_leads new.state upto (ap (λ (v : StateView). v.at) keeps ∙ at) is
           (builds_exact (arena_seen s.tree) past (rows s.columns (moment h)) passed.earlier (drop from ds) new.state passed.had passed.goes (all s.epoch begun past st.w st.world truth)),
     )
-    build_reads (Some upto) then old new number reaches (same, takes) truth unbuilt columns (since, up, within, leads) =
+    build_reads (Some upto) then old new number listing reaches (same, takes) truth unbuilt columns (since, up, within, leads) =
         let below : old.state.at < upto = less old.state.at upto up unbuilt in
         let (there, numbered) = logged_delta old.state.at takes.delta (omega (arith, reaches, since)) (omega (arith, below, within)) takes.is_next in
         let at_is : new.state.at ≡ old.state.at + 1 = ap (λ (v : StateView). v.at) takes.taken ∙ numbered in
@@ -195,7 +196,7 @@ module _ (s : MachineView) (h : History) (st : Stands s h) where
     reads_on (BuildWork old) (WriteWork g) p reaches builds same moves truth unbuilt goes reads = absurd builds
     reads_on (BuildWork old) (TidyWork g) p reaches builds same moves truth unbuilt goes reads = absurd builds
     reads_on (BuildWork old) (BuildWork new) (Refused refusal) reaches builds same moves truth unbuilt goes reads = absurd (goes refusal refl)
-    reads_on (BuildWork old) (BuildWork new) Moved reaches builds same moves truth unbuilt goes (columns, reads) = build_reads old.upto new.upto old.build new.build old.node.0 (reaches refl) builds truth unbuilt columns reads
-    reads_on (BuildWork old) (BuildWork new) Waits reaches builds same moves truth unbuilt goes (columns, reads) = build_reads old.upto new.upto old.build new.build old.node.0 (reaches refl) builds truth unbuilt columns reads
-    reads_on (BuildWork old) (BuildWork new) (Committed number) reaches builds same moves truth unbuilt goes (columns, reads) = build_reads old.upto new.upto old.build new.build old.node.0 (reaches refl) builds truth unbuilt columns reads
-    reads_on (BuildWork old) (BuildWork new) (Answered answer) reaches builds same moves truth unbuilt goes (columns, reads) = build_reads old.upto new.upto old.build new.build old.node.0 (reaches refl) builds truth unbuilt columns reads
+    reads_on (BuildWork old) (BuildWork new) Moved reaches builds same moves truth unbuilt goes (columns, reads) = build_reads old.upto new.upto old.build new.build old.node.0 old.listing (reaches refl) builds truth unbuilt columns reads
+    reads_on (BuildWork old) (BuildWork new) Waits reaches builds same moves truth unbuilt goes (columns, reads) = build_reads old.upto new.upto old.build new.build old.node.0 old.listing (reaches refl) builds truth unbuilt columns reads
+    reads_on (BuildWork old) (BuildWork new) (Committed number) reaches builds same moves truth unbuilt goes (columns, reads) = build_reads old.upto new.upto old.build new.build old.node.0 old.listing (reaches refl) builds truth unbuilt columns reads
+    reads_on (BuildWork old) (BuildWork new) (Answered answer) reaches builds same moves truth unbuilt goes (columns, reads) = build_reads old.upto new.upto old.build new.build old.node.0 old.listing (reaches refl) builds truth unbuilt columns reads

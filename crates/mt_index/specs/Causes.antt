@@ -20,7 +20,7 @@ use Rattle.mt_index.specs.Stands.{MachineView}
 -- the call waits for what stands in the tree
 abbrev pub WaitsFor : MachineView → Option Call → Type 0
 WaitsFor s None = ⊥
-WaitsFor s (Some call) = WorkWaits s.tree call.work Waits
+WaitsFor s (Some call) = WorkWaits call.pace s.tree call.work Waits
 
 -- the call of this number, before its step and after it, where it goes on: a put or remove comes to be failed only for
 -- a fault that stands where it makes ready, and for want of memory only where none stands
@@ -55,8 +55,9 @@ pub record FreesSo (s : MachineView) (count : ℕ) (t : MachineView) : Type 0 wh
 
 -- WHY A CALL WAITS, FAILS OR IS REFUSED, by the machine before the step and after it. It waits only where the node that
 -- its step visits is marked deleted; or, for a put or remove, is a border that is locked or, while it posts, an
--- interior that is; or, for a tidy, is the locked border before the one that it unlinks. So a get or range never waits
--- at a lock.
+-- interior that is; or, for a tidy, is the locked border before the one that it unlinks; or, for a get, range or build
+-- that reads fields, is a border that has a flag set or was changed since it began to read it. So none of these three
+-- ever waits at a lock.
 abbrev pub IsCaused : MachineView → Event → Outcome → MachineView → Type 0
 IsCaused s (Step call) Again t = WaitsFor s (call_at call.0 s.calls.calls)
 IsCaused s (Step call) Moved t = FailsFor s call.0 t

@@ -13,7 +13,9 @@ ghost use Rattle.mt_index.specs.Events.{HappensAlone, last_outcome};
 
 use crate::machine::Machine;
 use mt_scan::Scan;
+use mt_steps::finding::Finding;
 use mt_steps::getting::Get;
+use mt_steps::listing::Listing;
 use mt_steps::ranging::Range;
 use mt_steps::way::START;
 use mt_tree::TOP;
@@ -24,6 +26,7 @@ use mt_types::limits::{columns_fault, limit_fault};
 use mt_types::numbers::PassNo;
 use mt_types::refusal::Refusal;
 use mt_types::row::{ColumnNumbers, Pairs, Row};
+use mt_works::work::Pace;
 use std::alloc::Global;
 
 impl Machine {
@@ -53,6 +56,7 @@ impl Machine {
             key,
             columns,
             way: START,
+            finding: Finding::Begins,
         };
         match call.run_alone(alloc, &self.tree)? {
             Answer::Found(row) => Ok(Some(row)),
@@ -96,6 +100,7 @@ impl Machine {
             columns,
             scan,
             node: TOP,
+            listing: Listing::Begins,
         };
         Ok(call.run_alone(alloc, &self.tree)?)
     }
@@ -106,8 +111,8 @@ impl Machine {
     ///
     /// A get, put, remove or tidy costs the visit of each node on its way, a get at most as many as `nodes` tells, and
     /// a put the steps of its splits; a range and a build besides each border that they read. It takes memory for its
-    /// answer and what it stores, and a range and a build for what they read: what the request has is taken over, and
-    /// no entry is made in the map of open calls.
+    /// answer and what it stores, a range and a build for what they read, and a get, a range and a build to hold the
+    /// log: what the request has is taken over, and no entry is made in the map of open calls.
     ///
     /// # Errors
     ///
@@ -127,7 +132,7 @@ impl Machine {
         if let Some(refusal) = self.fault_of(&request) {
             return Err(refusal);
         }
-        let Ok(call) = self.admit(alloc, PassNo(0), request) else {
+        let Ok(call) = self.admit(alloc, PassNo(0), Pace::Node, request) else {
             return Err(Refusal::NoMemory);
         };
         loop {

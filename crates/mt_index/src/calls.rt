@@ -11,7 +11,7 @@ use mt_steps::progress::Progress;
 use mt_tree::Tree;
 use mt_types::numbers::PassNo;
 use mt_types::refusal::NoMemory;
-use mt_works::work::Work;
+use mt_works::work::{Pace, Work};
 use std::alloc::Global;
 use std::collections::BTreeMap;
 use std::marker::Model;
@@ -24,6 +24,8 @@ pub(crate) struct Call {
     pub(crate) from: u64,
     /// The epoch in which it began.
     pub(crate) epoch: u64,
+    /// How much of a border a step of it reads.
+    pub(crate) pace: Pace,
     pub(crate) work: Work,
 }
 
@@ -32,7 +34,7 @@ pub(crate) struct Call {
 pub(crate) struct Stepped {
     pub(crate) pass: PassNo,
     pub(crate) from: u64,
-    /// Whether it reads the log from the commits of its begin on.
+    /// Whether it holds the log from the commits of its begin on.
     pub(crate) reads: bool,
     /// Whether it is a build, which keeps a place among the views.
     pub(crate) builds: bool,
@@ -106,7 +108,7 @@ impl Call {
         if self.work.is_built() {
             return Found::Built;
         }
-        let progress = self.work.step(alloc, columns, epoch, tree, log);
+        let progress = self.work.step(alloc, self.pace, columns, epoch, tree, log);
         Found::Stepped(Stepped {
             pass: self.pass,
             from: self.from,

@@ -1,4 +1,4 @@
-//! The machine over the whole tree: events in, outcomes out, one visit of one node an event.
+//! The machine over the whole tree: events in, outcomes out, one visit of one node, or of one field of it, an event.
 
 ghost use Rattle.std.specs.Prelude.{ℕ, ◌≡◌, ◌↔◌, [], ◌∷◌, take, drop, IsTrue, length, IfOk, IfErr, MatchOption, Err};
 ghost use Rattle.std.specs.Option.{option_map};
@@ -161,8 +161,8 @@ impl Machine {
     /// # Errors
     ///
     /// `BadLimit` unless `limit` is from 1 to 1000. `Behind` where some of these deltas were trimmed, with the number
-    /// from which on they are there: the log keeps what open ranges hold, and the last `keep` of its options. Else
-    /// `NoMemory` for want of it.
+    /// from which on they are there: the log keeps what views and open gets, ranges and builds hold, and the last
+    /// `keep` of its options. Else `NoMemory` for want of it.
     pub fn feed(&self, alloc: Global, from: u64, limit: u16) -> Result<Vec<Delta>, Refusal>
         ensures tells { IfOk result (λ deltas. (h : History) → Stands self.now h
             → deltas.items ≡ take limit (drop from (deltas_of self.now.columns (moment h).commits))) }
@@ -184,7 +184,8 @@ impl Machine {
     /// that is legal: `stands` says so of each history. Three clauses tell what a history doesn't show: `does`, what an
     /// event of each kind changes, and that it changes nothing else; `caused`, why a call waits, fails or is refused,
     /// and which nodes a collection frees; and `one_step`, that a step of a call is one step of its kind, by the tree
-    /// before it: it visits one node, or takes one delta. What it answers keeps the limits of an index (`limited`).
+    /// before it: it visits one node, of which a get, range or build reads one field where it is a border; or it takes
+    /// one delta. What it answers keeps the limits of an index (`limited`).
     ///
     /// A begin costs some allocations, and a step the visit of one node and at most some allocations. A step finds its
     /// call once, and the last one once more: at the cost of a way down the tree of open calls, or of none for a call

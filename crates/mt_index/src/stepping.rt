@@ -22,7 +22,7 @@ use mt_types::numbers::{CallNo, PassNo, ViewNo};
 use mt_types::refusal::{NoMemory, Refusal};
 use mt_views::views::Views;
 use mt_works::building::Building;
-use mt_works::work::{Work, work_of};
+use mt_works::work::{Pace, Work, work_of};
 use std::alloc::Global;
 
 fn is_build(request: &Request) -> bool
@@ -73,7 +73,7 @@ fn vacate(views: &mut Views, builds: bool)
     }
 }
 
-// A call begins, which holds the log if it reads it. On an error nothing changes.
+// A call begins, which holds the log if it is of a kind that does. On an error nothing changes.
 fn hold(log: &mut Log, reads: bool) -> Result<(), NoMemory>
     requires few { length log.old.holders < MAX_HOLDERS }
     ensures ok { OnOk result (log.new ≡ pinned reads log.old) }
@@ -174,10 +174,11 @@ impl Machine {
         &mut self,
         alloc: Global,
         pass: PassNo,
+        pace: Pace,
         request: Request,
     ) -> Result<CallNo, NoMemory>
         requires { fault_of self.old request ≡ None }
-        ensures begins { IfOk result (λ number. Begins self.old pass request (Called number) self.new) }
+        ensures begins { IfOk result (λ number. Begins pace self.old pass request (Called number) self.new) }
         ensures err { OnErr result (self.new ≡ self.old) }
         ensures bounds { HasBounds self.old.log.feed self.old.log.keep self.new.log }
     {
@@ -189,6 +190,7 @@ impl Machine {
             pass,
             from,
             epoch: self.epoch,
+            pace,
             work,
         };
         let Ok(number) = self.calls.begin(call) else {
@@ -201,7 +203,7 @@ impl Machine {
 
     // A call begins, unless something refuses it.
     pub(crate) fn begin(&mut self, alloc: Global, pass: PassNo, request: &Request) -> Outcome
-        ensures begins { Begins self.old pass request.now result self.new }
+        ensures begins { Begins Pace.Field self.old pass request.now result self.new }
         ensures bounds { HasBounds self.old.log.feed self.old.log.keep self.new.log }
     {
         if let Some(refusal) = self.fault_of(request) {
@@ -210,7 +212,7 @@ impl Machine {
         let Ok(request) = request.copy(alloc) else {
             return Outcome::Refused(Refusal::NoMemory);
         };
-        match self.admit(alloc, pass, request) {
+        match self.admit(alloc, pass, Pace::Field, request) {
             Ok(number) => Outcome::Call(number),
             Err(_) => Outcome::Refused(Refusal::NoMemory),
         }

@@ -1,5 +1,5 @@
 -- The small histories against the definitions.
-use Rattle.std.proofs.Common.{◌≡◌, ◌<◌, ℕ, true, false, List, [], ◌∷◌, length, Option, Some, None, ap, sym, subst, refl, inl, inr, ◌∙◌, arith}
+use Rattle.std.proofs.Common.{◌≡◌, ◌<◌, ◌*◌, ℕ, true, false, List, [], ◌∷◌, length, Option, Some, None, ap, sym, subst, refl, inl, inr, ◌∙◌, arith}
 use Rattle.std.specs.Prelude.{IsSome, take}
 use Rattle.std.proofs.lemmas.Bool.{false≢true}
 use Rattle.std.proofs.lemmas.Cmp.{nat_list_cmp_total}
@@ -19,6 +19,7 @@ use Rattle.mt_types.specs.declared.event.Outcome.{Outcome}
 use Rattle.mt_types.specs.declared.event.Outcome.TheVariants.{View, Refused}
 use Rattle.mt_types.specs.declared.refusal.Refusal.{Refusal}
 use Rattle.mt_types.specs.declared.limits.TheConstants.{MAX_NODES}
+use Rattle.mt_promise.specs.declared.limits.TheConstants.{MAX_READS}
 
 -- a history but for its last happening
 abbrev before_last : History → History
@@ -144,7 +145,7 @@ key_left_out legal =
     (inl (omega arith)) in
     let none : ◌≡◌ {A = ℕ} 0 1 = once in omega (arith, none)
 
-moves_on : (n : ℕ) → false ≡ true → n < MAX_NODES
+moves_on : (n : ℕ) → false ≡ true → n < MAX_READS * MAX_NODES
 moves_on n e = absurd (false≢true e)
 
 pub visible : VisibleIsLegal

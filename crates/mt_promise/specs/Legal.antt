@@ -1,5 +1,5 @@
 -- Which outcome each event may have, after any past: the promise of the index, outcome by outcome.
-use Rattle.std.specs.Prelude.{ℕ, zero, suc, MatchBool, ◌+◌, ◌≡◌, ◌≢◌, ◌<◌, ◌≤◌, ◌⊎◌, nat_lt, nat_le, Bool, true, false, IsTrue, if◌then◌else◌, List, [], ◌∷◌, ◌++◌, map, filter, length, count_by, take, Option, Some, None}
+use Rattle.std.specs.Prelude.{ℕ, zero, suc, MatchBool, ◌+◌, ◌≡◌, ◌≢◌, ◌*◌, ◌<◌, ◌≤◌, ◌⊎◌, nat_lt, nat_le, Bool, true, false, IsTrue, if◌then◌else◌, List, [], ◌∷◌, ◌++◌, map, filter, length, count_by, take, Option, Some, None}
 use Rattle.std.specs.Option.{option_or}
 use Rattle.mt_types.specs.Rows.{after}
 use Rattle.mt_types.specs.Views.{afresh, column_sums, page_from}
@@ -8,6 +8,7 @@ use Rattle.mt_types.specs.Numbers.{greatest_number, least}
 use Rattle.mt_promise.specs.History.{History, Moment, OpenCall, StandingView, moment, call_of, view_of, meant_view, Sometime}
 use Rattle.mt_promise.specs.RightAnswers.{RightAnswer, Stands, HasVersion}
 use Rattle.mt_types.specs.declared.limits.TheConstants.{MAX_OPEN_CALLS, MAX_VIEWS, MAX_NODES}
+use Rattle.mt_promise.specs.declared.limits.TheConstants.{MAX_READS}
 use Rattle.mt_types.specs.declared.event.Event.{Event}
 use Rattle.mt_types.specs.declared.event.Event.TheVariants.{Begin, Step, Apply, ViewRead, ViewDrop, Advance, Collect}
 use Rattle.mt_types.specs.declared.event.Outcome.{Outcome}
@@ -68,18 +69,18 @@ MayCommit C past call (Remove key) number =
     (number ≡ length (moment past).commits + 1) × (call.committed ≡ None) × Stands C key (moment past)
 MayCommit C past call _ number = ⊥
 
--- a range and a build read the log from the commits of their begin on
+-- a get, a range and a build hold the log from the commits of their begin on
 abbrev pub reads_log : Request → Bool
+reads_log (Get key columns) = true
 reads_log (Range start limit columns) = true
 reads_log (Build spec) = true
-reads_log (Get key columns) = false
 reads_log (Put key sets) = false
 reads_log (PutIf key sets version) = false
 reads_log (Remove key) = false
 reads_log (Tidy key) = false
 
 -- from which number of commits on the log is held: the least at which a view stands or at which an open call began
---     that reads the log, or else the number of all commits
+--     that holds it, or else the number of all commits
 abbrev pub held_from : Moment → ℕ
 held_from m =
     least (length m.commits)
@@ -113,8 +114,8 @@ pub record RightReply (C : ℕ) (past : History) (call : OpenCall) (reply : Repl
   pub answer : RightAnswer C past call call.request reply.answer opens
 
 abbrev pub MayStep : ℕ → History → OpenCall → Outcome → ℕ → Type 0
--- a get doesn't go on for ever
-MayStep C past call Moved opens = IsTrue (is_get call.request) → call.moves < MAX_NODES
+-- a get doesn't go on for ever: of moves in a row it makes at most MAX_READS for each number of a node
+MayStep C past call Moved opens = IsTrue (is_get call.request) → call.moves < MAX_READS * MAX_NODES
 MayStep C past call Again opens = Unit {0}
 MayStep C past call (Commit number) opens = MayCommit C past call call.request number
 MayStep C past call (Done reply) opens = RightReply C past call reply opens

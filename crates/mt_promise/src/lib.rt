@@ -8,3 +8,4 @@ pub mod examples;
 pub mod finished;
 pub mod headline;
 pub mod limited;
+pub mod limits;

@@ -30,8 +30,7 @@ use Rattle.mt_steps.specs.Ranging.{IsHeldFor, IsAtSlice, KnowsOfSlice, Seeks}
 use Rattle.mt_steps.specs.Causes.{IsMarkedAt, IsLockedAlready}
 use Rattle.mt_steps.proofs.SplitLemmas.{with_spot, spot_changes}
 use Rattle.mt_steps.proofs.AliveLemmas.{alive_gone, alive_there, alive_placed}
-use Rattle.mt_chart.specs.Noted.{Ages}
-use Rattle.mt_tree.specs.Fields.{fields_seen}
+use Rattle.mt_tree.specs.Fields.{BorderAges}
 use Rattle.mt_tree.proofs.AgeLemmas.{ages_lock, ages_right, NotLower, not_lower}
 use Rattle.mt_steps.proofs.AgingLemmas.{age_one, on_as}
 use Rattle.mt_steps.proofs.BorderLemmas.{alive_changed, now_named, others_named, no_interior, known_stays, heads_changed, twins_changed, unlocked_free, unlocked_root, on_kept}
@@ -160,7 +159,7 @@ module _ (epoch : ℕ) (a : ArenaView) (tidy : Tidy) (border head node : NodeNo)
       }
         where
           -- the link that it gets is further to the right
-          further : (begun : ℕ) (w : World) → IsWorld a epoch w → (u : IsUnlinking begun a w border.0 (prefix_of tidy.key tidy.way) head.0 n slice) → gone_border ≡ u.border.b → Ages (fields_seen c) (fields_seen (with_right c gone_border.right))
+          further : (begun : ℕ) (w : World) → IsWorld a epoch w → (u : IsUnlinking begun a w border.0 (prefix_of tidy.key tidy.way) head.0 n slice) → gone_border ≡ u.border.b → BorderAges c (with_right c gone_border.right)
           further begun w world u same =
               let facts = world.index.tree.each_border border.0 (prefix_of tidy.key tidy.way) (border_seen u.border.b) (record { posted = false; place = u.border.place; node = seen-border a border.0 u.border.b u.border.named }) in
               ages_right c gone_border.right (subst (λ (r : Option RightLink). NotLower r gone_border.right) (sym (names begun w world u))

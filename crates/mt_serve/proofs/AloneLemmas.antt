@@ -141,7 +141,7 @@ sometime_with began P Q (x ∷ h) t s = elim s [
 ]
 
 -- ---- an open call
--- at each moment of a call that reads no log, the log was held from where views stood at its begin
+-- at each moment of a call that doesn't hold the log, it was held from where views stood at its begin
 abbrev pub HeldSince : History → History → Type 0
 HeldSince before past = Throughout (length before) (λ (m : Moment). held_from m ≡ slowest_view (moment before)) past
 

@@ -41,6 +41,11 @@ fn put_and_build(alloc: Global) -> Result<Vec<Event>, Refusal> {
         Event::Step(CallNo(2)),
         Event::Step(CallNo(2)),
         Event::Step(CallNo(2)),
+        Event::Step(CallNo(2)),
+        Event::Step(CallNo(2)),
+        Event::Step(CallNo(2)),
+        Event::Step(CallNo(2)),
+        Event::Step(CallNo(2)),
     ]?)
 }
 
@@ -52,12 +57,13 @@ fn answer(outcome: Option<&Outcome>) -> Option<&Answer> {
     }
 }
 
-// The put committed at its fourth step and was answered at its fifth, the build at its third.
+// The put committed at its fourth step and was answered at its fifth, the build at its eighth: the head, six
+// fields of the border, the view.
 fn are_told(outcomes: &[Outcome]) -> bool {
-    outcomes.len() == 10
+    outcomes.len() == 15
         && matches!(outcomes.get(4), Some(Outcome::Commit(1)))
         && answer(outcomes.get(5)) == Some(&Answer::Stored(1))
-        && answer(outcomes.get(9)) == Some(&Answer::Built(ViewNo(1)))
+        && answer(outcomes.get(14)) == Some(&Answer::Built(ViewNo(1)))
 }
 
 // No call is open, and the key's row is of version 1.

@@ -5,10 +5,9 @@ use Rattle.mt_border.specs.Border.{BorderView}
 use Rattle.mt_arena.specs.Node.{node_at, border_at, border_of}
 use Rattle.mt_arena.specs.Arena.{ArenaView}
 use Rattle.mt_chart.specs.Chart.{Spot, Chart}
-use Rattle.mt_chart.specs.Noted.{Ages}
 use Rattle.mt_chart.specs.Walk.{IsOn}
 use Rattle.mt_chart.proofs.Basics.{same_number}
-use Rattle.mt_tree.specs.Fields.{fields_seen}
+use Rattle.mt_tree.specs.Fields.{BorderAges}
 use Rattle.mt_tree.specs.Keeping.{IsOnIn}
 use Rattle.mt_tree.proofs.AgeLemmas.{ages_same}
 use Rattle.mt_steps.specs.World.{World, BordersAge}
@@ -22,7 +21,7 @@ no_border b none is = (let clash : ◌≡◌ {A = Option BorderView} None (Some 
 
 -- what becomes of a border that the chart knows
 abbrev pub AgesAt : World → Chart → ℕ → BorderView → BorderView → Type 0
-AgesAt w next n b then = IsSome (w.chart n) → Ages (fields_seen b) (fields_seen then) × (IsOn next n ⊎ (then.right ≡ b.right))
+AgesAt w next n b then = IsSome (w.chart n) → BorderAges b then × (IsOn next n ⊎ (then.right ≡ b.right))
 
 -- nothing does, where the chart doesn't know it
 pub unknown_ages : (w : World) (next : Chart) (n : ℕ) (b then : BorderView) → w.chart n ≡ None → AgesAt w next n b then
@@ -38,7 +37,7 @@ pub age_except : {a after : ArenaView} {w next : World} (n : ℕ) → ((b then :
 age_except {a = a} {after = after} {w = w} {next = next} n here others = record {
   ages = λ number b then known was is. elim (same_number number n) [
     | inl e ↦ (there number e b then known was is).0
-    | inr differ ↦ subst (λ (t : BorderView). Ages (fields_seen b) (fields_seen t)) (same number differ b then was is) (ages_same (fields_seen b))
+    | inr differ ↦ subst (λ (t : BorderView). BorderAges b t) (same number differ b then was is) (ages_same b)
   ];
   rights = λ number b then known was is. elim (same_number number n) [
     | inl e ↦ subst (λ (m : ℕ). IsOn next.chart m ⊎ (then.right ≡ b.right)) (sym e) (there number e b then known was is).1
@@ -46,7 +45,7 @@ age_except {a = a} {after = after} {w = w} {next = next} n here others = record 
   ];
 }
   where
-    there : (number : ℕ) → number ≡ n → (b then : BorderView) → IsSome (w.chart number) → border_at a.nodes number ≡ Some b → border_at after.nodes number ≡ Some then → Ages (fields_seen b) (fields_seen then) × (IsOn next.chart n ⊎ (then.right ≡ b.right))
+    there : (number : ℕ) → number ≡ n → (b then : BorderView) → IsSome (w.chart number) → border_at a.nodes number ≡ Some b → border_at after.nodes number ≡ Some then → BorderAges b then × (IsOn next.chart n ⊎ (then.right ≡ b.right))
     there number e b then known was is =
         here b then (subst (λ (m : ℕ). border_at a.nodes m ≡ Some b) e was) (subst (λ (m : ℕ). border_at after.nodes m ≡ Some then) e is) (subst (λ (m : ℕ). IsSome (w.chart m)) e known)
 
@@ -56,7 +55,7 @@ age_except {a = a} {after = after} {w = w} {next = next} n here others = record 
 -- what the chart knows is as it was
 pub age_known : {a after : ArenaView} {w next : World} → ((number : ℕ) → IsSome (w.chart number) → node_at after.nodes number ≡ node_at a.nodes number) → BordersAge a after w next
 age_known {a = a} {after = after} {w = w} {next = next} others = record {
-  ages = λ number b then known was is. subst (λ (t : BorderView). Ages (fields_seen b) (fields_seen t)) (same number b then known was is) (ages_same (fields_seen b));
+  ages = λ number b then known was is. subst (λ (t : BorderView). BorderAges b t) (same number b then known was is) (ages_same b);
   rights = λ number b then known was is. inr (ap (λ (t : BorderView). t.right) (sym (same number b then known was is)));
 }
   where

@@ -16,3 +16,12 @@ pub mod LoneLemmas
 pub mod LoneWay
 pub mod LoneReads
 pub mod LoneRange
+pub mod PartLemmas
+pub mod StandLemmas
+pub mod FieldLemmas
+pub mod GetSteps
+pub mod GetStays
+pub mod ListLemmas
+pub mod ListSteps
+pub mod RangeSteps
+pub mod ListStays

@@ -6,7 +6,7 @@ use Rattle.mt_types.specs.declared.event.Request.TheVariants.{Get as GetRequest,
 use Rattle.mt_types.specs.declared.event.Answer.TheVariants.{Absent, Found, Stored, Removed, Rows, Tidied, Built}
 use Rattle.mt_types.specs.declared.limits.TheConstants.{MAX_KEY_BYTES}
 use Rattle.mt_types.specs.Rows.{shown}
-use Rattle.mt_slice.specs.Place.{AreBytes, place_of}
+use Rattle.mt_slice.specs.Place.{AreBytes, place_of, first_slice}
 use Rattle.mt_commit.specs.Log.{LogView}
 use Rattle.mt_arena.specs.Arena.{ArenaView}
 use Rattle.mt_chart.specs.Walk.{Trail, moves as trail_moves}
@@ -15,16 +15,22 @@ use Rattle.mt_steps.specs.declared.way.Way.{Way}
 use Rattle.mt_steps.specs.declared.getting.Get.{Get}
 use Rattle.mt_steps.specs.declared.progress.Progress.{Progress}
 use Rattle.mt_steps.specs.declared.progress.Progress.TheVariants.{Moved, Waits, Committed, Answered}
-use Rattle.mt_steps.specs.Way.{prefix_of, IsOnWay}
+use Rattle.mt_steps.specs.Way.{prefix_of, IsOnWay, start}
 use Rattle.mt_steps.specs.Step.{StepLaw, MayStep, nothing, IsRight, Does}
 use Rattle.mt_steps.specs.Causes.{ReadWaits}
-use Rattle.mt_steps.specs.Getting.{get_request, GetIsTrue, GetFollows}
-use Rattle.mt_chart.specs.Tree.{Arena}
+use Rattle.mt_steps.specs.Getting.{get_request, GetIsTrue, FindingIsTrue, MovesOn, GetVisits}
+use Rattle.mt_steps.specs.declared.finding.Finding.{Finding}
+use Rattle.mt_steps.specs.declared.finding.Finding.TheVariants.{Begins}
+use Rattle.mt_chart.specs.Tree.{Arena, first, later}
 use Rattle.mt_chart.specs.Scan.{OpenRange}
 use Rattle.mt_chart.specs.ScanRun.{Stood, AllHave}
 use Rattle.mt_chart.specs.KeyAnswer.{as_places}
 use Rattle.mt_chart.proofs.Ranges.{range_begins as open_begins}
 use Rattle.mt_scan.specs.Scan.{ScanView}
+use Rattle.mt_steps.specs.declared.listing.Listing.{Listing}
+use Rattle.mt_steps.specs.declared.listing.Listing.TheVariants.{Begins as ListingBegins}
+use Rattle.mt_steps.specs.Listing.{ListingIsTrue}
+use Rattle.mt_steps.specs.World.{AreOfKeys}
 use Rattle.mt_steps.specs.declared.ranging.Range.{Range}
 use Rattle.mt_steps.specs.Ranging.{range_request, RangeIsTrue, RangeFollows, RangeStays}
 use Rattle.mt_steps.specs.Lone.{IsLoneTree, IsRightNow, IsAtBegin, HasRows}
@@ -44,22 +50,23 @@ pub record IsGetOnWay (a : ArenaView) (begun get : Get) : Type 0 where
   pub fits : length get.key ≤ MAX_KEY_BYTES
   pub same : get_request get ≡ get_request begun
   pub moves : ℕ
+  pub begins : get.finding ≡ Begins
   pub true : GetIsTrue get 0 moves [] a lone.w
   pub there : IsOnThere lone.w get.key get.way
 
 pub get_begins : (a : ArenaView) (get : Get) → IsLoneTree a → AreBytes get.key → length get.key ≤ MAX_KEY_BYTES
-    → get.way ≡ record { node = record { 0 = 0 }; layer = 0 } → IsGetOnWay a get get
-get_begins a get lone bytes fits begins = record {
+    → (get.way ≡ start) × (get.finding ≡ Begins) → IsGetOnWay a get get
+get_begins a get lone bytes fits (at_start, begins) = record {
   lone = lone;
   bytes = bytes;
   fits = fits;
   same = refl;
   moves = 0;
-  true = (
-    subst (λ (way : Way). IsOnWay 0 get.key way lone.w) (sym begins) on,
-    subst (λ (way : Way). Trail 0 lone.w.chart way.node.0 0) (sym begins) (trail_begins lone.w.chart 0 0 _ _ on.held),
-  );
-  there = subst (λ (way : Way). IsOnThere lone.w get.key way) (sym begins) (starts_on a lone.now lone.w get.key lone.world);
+  begins = begins;
+  true = subst (λ (f : Finding). FindingIsTrue get.key get.columns get.way f 0 (arena_seen a ∷ []) a lone.w × MovesOn 0 0 get.way f lone.w) (sym begins)
+      (subst (λ (way : Way). IsOnWay 0 get.key way lone.w × MovesOn 0 0 way Begins lone.w) (sym at_start)
+      (on, record { came = 0; trail = trail_begins lone.w.chart 0 0 _ _ on.held; few = omega arith }));
+  there = subst (λ (way : Way). IsOnThere lone.w get.key way) (sym at_start) (starts_on a lone.now lone.w get.key lone.world);
 }
   where
     on : IsOnWay 0 get.key (record { node = record { 0 = 0 }; layer = 0 }) lone.w
@@ -74,21 +81,25 @@ get_may_step a begun get on = (
 key_same : (one other : List ℕ) (columns asked : List ℕ) → GetRequest one columns ≡ GetRequest other asked → one ≡ other
 key_same one other columns asked e = cc
 
-pub get_goes : (a : ArenaView) (begun get new : Get) → IsGetOnWay a begun get → get_request new ≡ get_request get → GetFollows a get Moved new
+pub get_goes : (a : ArenaView) (begun get new : Get) → IsGetOnWay a begun get → get_request new ≡ get_request get → GetVisits a get Moved new
     → IsGetOnWay a begun new × (way_left a new.way.layer new.way.node.0 < way_left a get.way.layer get.way.node.0)
-get_goes a begun get new on request visits =
+get_goes a begun get new on request (visits, finding) =
     let w = on.lone.w in
-    let (further, move, deeper) = visits.goes on.lone.now w 0 on.lone.world on.true.0 in
-    let trail : Trail 0 w.chart new.way.node.0 (suc on.moves) = trail_moves (arena_seen a) on.lone.world.index.tree on.true.1 move in
-    let (there, falls) = way_moves a on.lone.now 0 w get.key get.way new.way on.lone.world on.bytes on.fits on.true.0 on.there (further, move, deeper) in
-    let same = sym (key_same new.key get.key new.columns get.columns request) in (
+    let (on_way, moved) = subst (λ (f : Finding). FindingIsTrue get.key get.columns get.way f 0 (arena_seen a ∷ []) a w × MovesOn 0 on.moves get.way f w) on.begins on.true in
+    let (further, move, deeper) = visits.goes on.lone.now w 0 on.lone.world on_way in
+    let trail : Trail 0 w.chart new.way.node.0 (suc moved.came) = trail_moves (arena_seen a) on.lone.world.index.tree moved.trail move in
+    let (there, falls) = way_moves a on.lone.now 0 w get.key get.way new.way on.lone.world on.bytes on.fits on_way on.there (further, move, deeper) in
+    let same = sym (key_same new.key get.key new.columns get.columns request) in
+    let most = moved.few in (
       record {
         lone = on.lone;
         bytes = subst AreBytes same on.bytes;
         fits = subst (λ (k : List ℕ). length k ≤ MAX_KEY_BYTES) same on.fits;
         same = request ∙ on.same;
         moves = suc on.moves;
-        true = (subst (λ (k : List ℕ). IsOnWay 0 k new.way w) same further, trail);
+        begins = finding;
+        true = subst (λ (f : Finding). FindingIsTrue new.key new.columns new.way f 0 (arena_seen a ∷ []) a w × MovesOn 0 (suc on.moves) new.way f w) (sym finding)
+            (subst (λ (k : List ℕ). IsOnWay 0 k new.way w) same further, record { came = suc moved.came; trail = trail; few = omega (arith, most) });
         there = subst (λ (k : List ℕ). IsOnThere w k new.way) same there;
       },
       falls,
@@ -123,6 +134,7 @@ pub record IsRangeOnWay (a : ArenaView) (begun range : Range) : Type 0 where
   pub moves : ℕ
   pub true : RangeIsTrue range 0 moves [] a lone.w
   pub there : range_stands lone.w range
+  pub unread : range.listing ≡ ListingBegins
 
 pub range_starts : (a : ArenaView) (range : Range) → IsLoneTree a → AreBytes range.start → IsAtBegin range → IsRangeOnWay a range range
 range_starts a range lone bytes begins = record {
@@ -137,10 +149,17 @@ range_starts a range lone bytes begins = record {
         subst (λ (s : ScanView). Opens s range.node.0) (sym begins.scan)
         (subst (λ (number : ℕ). Opens first_scan number) (sym begins.node)
         (open_begins (arena_seen a) lone.w.chart lone.world.index.tree 0 (Stood (shown range.columns) (arena_seen a ∷ [])) (AllHave (arena_seen a ∷ [])) (place_of range.start) range.limit));
+    keys = keys_now;
+    listing = subst (λ (l : Listing). ListingIsTrue (shown range.columns) range.scan.prefix (first_slice range.scan.at) range.node.0 l 0 (arena_seen a ∷ []) a lone.w) (sym begins.listing) tt;
   };
+  unread = begins.listing;
   there = subst (λ (s : ScanView). ScanStands lone.w.chart range.node.0 s.prefix) (sym begins.scan) (subst (λ (number : ℕ). ScanStands lone.w.chart number []) (sym begins.node) (range_begins a lone.now lone.w lone.world));
 }
   where
+    keys_now : AreOfKeys (arena_seen a ∷ [])
+    keys_now _ first = lone.world.keys.key_of
+    keys_now arena (later i) = elim i [ ]
+
     first_scan : ScanView
     first_scan = record { prefix = []; at = place_of range.start; taken = []; limit = range.limit; asked = range.columns }
 
@@ -153,13 +172,13 @@ range_may_step a begun range on = (
   record { now = on.lone.now; begun = 0; moves = on.moves; past = []; w = on.lone.w; world = on.lone.world; true = on.true; room = omega arith },
 )
 
-pub range_goes_on : (a : ArenaView) (begun range new : Range) → IsRangeOnWay a begun range → range_request new ≡ range_request range → RangeFollows a range Moved new → RangeStays a range Moved new
+pub range_goes_on : (a : ArenaView) (begun range new : Range) → IsRangeOnWay a begun range → range_request new ≡ range_request range → RangeFollows a range Moved new → RangeStays a range Moved new → new.listing ≡ ListingBegins
     → IsRangeOnWay a begun new × (range_left a new < range_left a range)
-range_goes_on a begun range new on request follows stays =
+range_goes_on a begun range new on request follows stays unread =
     let w = on.lone.w in
     let true_then = stays on.lone.now 0 on.moves [] w on.lone.world on.true in
     let (there, falls) = lone_range_nearer a on.lone.now 0 on.moves [] w range new on.lone.world on.true on.there follows w (λ number. refl) 0 (on.moves + 1) [] true_then in
-    (record { lone = on.lone; same = request ∙ on.same; moves = on.moves + 1; true = true_then; there = there }, falls)
+    (record { lone = on.lone; same = request ∙ on.same; moves = on.moves + 1; true = true_then; there = there; unread = unread }, falls)
 
 abbrev RangeSteps : ArenaView → Range → Progress → Range → Type 0
 RangeSteps a range p new = (C : ℕ) (log : LogView) → StepLaw C a a log log (range_request range) nothing p nothing (RangeIsTrue range) (RangeIsTrue new)

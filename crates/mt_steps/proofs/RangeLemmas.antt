@@ -50,12 +50,15 @@ use Rattle.mt_scan.specs.Listed.{list_of}
 use Rattle.mt_scan.specs.Scan.{ScanView, HoldsKey, HoldsKeys, VisitsList, outcome_of}
 use Rattle.mt_scan.specs.declared.scan.ScanMove.{ScanMove}
 use Rattle.mt_scan.specs.declared.scan.ScanMove.TheVariants.{Done, To as VisitedTo, Top}
+use Rattle.mt_steps.specs.declared.listing.Listing.{Listing}
+use Rattle.mt_steps.specs.declared.listing.Listing.TheVariants.{Begins as ListingBegins}
+use Rattle.mt_steps.specs.Listing.{ListingIsTrue}
 use Rattle.mt_steps.specs.declared.ranging.Range.{Range}
 use Rattle.mt_steps.specs.declared.ranging.Sought.{Sought}
 use Rattle.mt_steps.specs.declared.ranging.Sought.TheVariants.{Again, To, Here}
 use Rattle.mt_steps.specs.declared.progress.Progress.{Progress}
 use Rattle.mt_steps.specs.declared.progress.Progress.TheVariants.{Moved, Waits, Answered, Refused}
-use Rattle.mt_steps.specs.World.{World, IsWorld}
+use Rattle.mt_steps.specs.World.{World, IsWorld, AreOfKeys}
 use Rattle.mt_steps.specs.Way.{Names}
 use Rattle.mt_steps.specs.Step.{StepLaw, MayStep, nothing}
 use Rattle.mt_steps.specs.Ranging.{range_request, RangeIsTrue, RangeStays, RangeMayVisit, IsHeldFor, IsHeldNode, IsAtSlice, KnowsOfSlice, Seeks, ScansOn}
@@ -130,16 +133,16 @@ seeks-moves a number rest to next tells same =
     subst (λ (n : NodeNo). Moves (arena_seen a) number n.0) is tells
 
 -- ---- the rows of a border are those of keys
-all_from : {X : Type 0} (P : X → Type 0) (xs : List X) → ((x : X) → Among x xs → P x) → All P xs
+pub all_from : {X : Type 0} (P : X → Type 0) (xs : List X) → ((x : X) → Among x xs → P x) → All P xs
 all_from P [] f = All-nil P
 all_from P (x ∷ xs) f = All-cons P x xs (f x first) (all_from P xs (λ y i. f y (later i)))
 
-holds_row : (slice : ℕ) (content : Content) → IsSome (content_row content) → (row : Row) × HoldsRow slice (content_seen content) (content_place slice content) row
+pub holds_row : (slice : ℕ) (content : Content) → IsSome (content_row content) → (row : Row) × HoldsRow slice (content_seen content) (content_place slice content) row
 holds_row slice (Short bytes row) some = (row, (refl, refl))
 holds_row slice (Long suffix row) some = (row, (refl, refl))
 holds_row slice (Link next) some = absurd (let clash : false ≡ true = some in cc)
 
-in_order : (es : List PlainEntry) → EntriesInOrder es → InOrder es
+pub in_order : (es : List PlainEntry) → EntriesInOrder es → InOrder es
 in_order [] o = tt
 in_order (e ∷ es) o = (o.0, in_order es o.1)
 
@@ -189,21 +192,28 @@ module _ (a : ArenaView) (now begun number slice : ℕ) (w : World) (prefix : Li
   pub holds_keys : HoldsKeys prefix b.live
   holds_keys = record { each = all_from (λ (entry : Entry). IsSome (entry_row entry) → HoldsKey prefix entry) b.live holds_key }
 
+-- the rows of one moment more, at which nothing has changed, are those of keys
+pub keys_again : (a : ArenaView) (past : List Arena) → AreOfKeys (arena_seen a ∷ past) → AreOfKeys (arena_seen a ∷ (arena_seen a ∷ past))
+keys_again a past keys _ first = keys (arena_seen a) first
+keys_again a past keys arena (later i) = keys arena i
+
 -- ---- the step
 module _ (a : ArenaView) (range : Range) where
   abbrev with_scan : ScanView → NodeNo → Range
-  with_scan scan node = record { start = range.start; limit = range.limit; columns = range.columns; scan = scan; node = node }
+  with_scan scan node = record { start = range.start; limit = range.limit; columns = range.columns; scan = scan; node = node; listing = ListingBegins }
 
   -- one moment more, in which nothing changes
-  later_true : (w : World) (begun moves : ℕ) (past : List Arena) (scan : ScanView) (node : NodeNo) → AreBytes range.start → scan.limit ≡ range.limit → scan.asked ≡ range.columns
+  later_true : (w : World) (begun moves : ℕ) (past : List Arena) (scan : ScanView) (node : NodeNo) → AreOfKeys (arena_seen a ∷ past) → AreBytes range.start → scan.limit ≡ range.limit → scan.asked ≡ range.columns
       → OpenRange w.chart begun (Stood (shown range.columns) (arena_seen a ∷ past)) (AllHave (arena_seen a ∷ past)) (place_of range.start) range.limit scan.prefix node.0 scan.at (as_places scan.taken)
       → RangeIsTrue (with_scan scan node) begun moves (arena_seen a ∷ past) a w
-  later_true w begun moves past scan node bytes limit asked scans = record {
+  later_true w begun moves past scan node keys bytes limit asked scans = record {
     bytes = bytes;
     limit = limit;
     asked = asked;
     scans = range_kept begun w.chart w.chart (Stood (shown range.columns) (arena_seen a ∷ past)) (Stood (shown range.columns) (arena_seen a ∷ (arena_seen a ∷ past))) (AllHave (arena_seen a ∷ past)) (AllHave (arena_seen a ∷ (arena_seen a ∷ past)))
         (place_of range.start) range.limit scan.prefix node.0 scan.at (as_places scan.taken) (evolves_same begun w.chart) (λ key v h. inr h) (λ key t. t.1) scans;
+    keys = keys_again a past keys;
+    listing = tt;
   }
 
   abbrev RangeLaw : LogView → Progress → Range → Type 0
@@ -212,7 +222,7 @@ module _ (a : ArenaView) (range : Range) where
   pub range_waits : (scan : ScanView) → scan ≡ record range.scan { prefix = []; at = under range.scan.prefix range.scan.at } → (log : LogView) → RangeLaw log Waits (with_scan scan (record { 0 = 0 }))
   range_waits scan is log C = subst (λ (s : ScanView). StepLaw C a a log log (range_request range) nothing Waits nothing (RangeIsTrue range) (RangeIsTrue (with_scan s (record { 0 = 0 })))) (sym is) (record {
     steps = λ now begun moves past w world before truth. record {
-      goes = goes_same now a w _ [] [] refl world (later_true w begun 0 past (record range.scan { prefix = []; at = under range.scan.prefix range.scan.at }) (record { 0 = 0 }) truth.bytes truth.limit truth.asked
+      goes = goes_same now a w _ [] [] refl world (later_true w begun 0 past (record range.scan { prefix = []; at = under range.scan.prefix range.scan.at }) (record { 0 = 0 }) truth.keys truth.bytes truth.limit truth.asked
           (range_again (arena_seen a) w.chart world.index.tree begun _ _ (place_of range.start) range.limit range.scan.prefix range.node.0 range.scan.at (as_places range.scan.taken) truth.scans));
       does = (quiet_same a log, refl);
       reserved = refl;
@@ -222,13 +232,75 @@ module _ (a : ArenaView) (range : Range) where
     };
   })
 
-  module _ (sought : Sought) (seeks : Seeks a range.node.0 (first_slice range.scan.at) sought) where
-    pub range_moves : (next : NodeNo) → sought ≡ To next → (log : LogView) → RangeLaw log Moved (with_scan range.scan next)
-    range_moves next is log C = record {
+  -- ---- where it goes on to another node of its layer
+  pub moves_by : (next : NodeNo) → ((now begun moves : ℕ) (past : List Arena) (w : World) → IsWorld a now w → RangeIsTrue range begun moves past a w → Holds w.chart begun next.0 range.scan.prefix (first_slice range.scan.at))
+      → (log : LogView) → RangeLaw log Moved (with_scan range.scan next)
+  moves_by next holds log C = record {
+    steps = λ now begun moves past w world before truth. record {
+      goes = goes_same now a w _ [] [] refl world (later_true w begun (moves + 1) past range.scan next truth.keys truth.bytes truth.limit truth.asked (record { held = holds now begun moves past w world truth; scanned = truth.scans.scanned }));
+      does = (quiet_same a log, refl);
+      reserved = refl;
+      bounds = refl;
+      blocked = inl refl;
+      may = λ get. absurd (let clash : false ≡ true = get in cc);
+    };
+  }
+
+  -- where it reads the border again, or reads on
+  pub repeats_by : (log : LogView) → RangeLaw log Waits (with_scan range.scan range.node)
+  repeats_by log C = record {
+    steps = λ now begun moves past w world before truth. record {
+      goes = goes_same now a w _ [] [] refl world (later_true w begun 0 past range.scan range.node truth.keys truth.bytes truth.limit truth.asked truth.scans);
+      does = (quiet_same a log, refl);
+      reserved = refl;
+      bounds = refl;
+      blocked = inl refl;
+      may = tt;
+    };
+  }
+
+  pub reads_by : (next : Listing) → ((now begun moves : ℕ) (past : List Arena) (w : World) → IsWorld a now w → RangeIsTrue range begun moves past a w
+      → ListingIsTrue (shown range.columns) range.scan.prefix (first_slice range.scan.at) range.node.0 next begun (arena_seen a ∷ (arena_seen a ∷ past)) a w) → (log : LogView) → RangeLaw log Moved (record range { listing = next })
+  reads_by next leads log C = record {
+    steps = λ now begun moves past w world before truth.
+        let then = later_true w begun (moves + 1) past range.scan range.node truth.keys truth.bytes truth.limit truth.asked truth.scans in
+        record {
+          goes = goes_same now a w _ [] [] refl world (record { bytes = then.bytes; limit = then.limit; asked = then.asked; scans = then.scans; keys = then.keys; listing = leads now begun moves past w world truth });
+          does = (quiet_same a log, refl);
+          reserved = refl;
+          bounds = refl;
+          blocked = inl refl;
+          may = λ get. absurd (let clash : false ≡ true = get in cc);
+        };
+  }
+
+  -- ---- where its scan has visited a border, or what it has read of one
+  module _ (visited : ScanMove) (scan : ScanView) (comes : (now begun moves : ℕ) (past : List Arena) (w : World) → IsWorld a now w → RangeIsTrue range begun moves past a w
+      → Comes w.chart begun (Stood (shown range.columns) (arena_seen a ∷ past)) (AllHave (arena_seen a ∷ past)) (place_of range.start) range.limit (outcome_of visited scan)) where
+    abbrev ComesIf : World → ℕ → List Arena → ScanMove → Type 0
+    ComesIf w begun past v = Comes w.chart begun (Stood (shown range.columns) (arena_seen a ∷ past)) (AllHave (arena_seen a ∷ past)) (place_of range.start) range.limit (outcome_of v scan)
+
+    pub goes_by : scan.limit ≡ range.scan.limit → scan.asked ≡ range.scan.asked → (next : NodeNo) → visited ≡ VisitedTo next → (log : LogView) → RangeLaw log Moved (with_scan scan next)
+    goes_by limit asked next to log C = record {
       steps = λ now begun moves past w world before truth.
-          let held = subst (λ (s : Sought). KnowsOfSlice a w.chart begun range.node.0 range.scan.prefix (first_slice range.scan.at) s) is (seeks.leads now w.twins w.chart begun range.scan.prefix world.index truth.scans.held) in
+          let scans = subst (λ (v : ScanMove). ComesIf w begun past v) to (comes now begun moves past w world truth) in
           record {
-            goes = goes_same now a w _ [] [] refl world (later_true w begun (moves + 1) past range.scan next truth.bytes truth.limit truth.asked (record { held = held; scanned = truth.scans.scanned }));
+            goes = goes_same now a w _ [] [] refl world (later_true w begun (moves + 1) past scan next truth.keys truth.bytes (limit ∙ truth.limit) (asked ∙ truth.asked) scans);
+            does = (quiet_same a log, refl);
+            reserved = refl;
+            bounds = refl;
+            blocked = inl refl;
+            may = λ get. absurd (let clash : false ≡ true = get in cc);
+          };
+    }
+
+    pub tops_by : scan.limit ≡ range.scan.limit → scan.asked ≡ range.scan.asked → (visited ≡ Top → scan.prefix ≡ []) → visited ≡ Top → (log : LogView) → RangeLaw log Moved (with_scan scan (record { 0 = 0 }))
+    tops_by limit asked home to log C = record {
+      steps = λ now begun moves past w world before truth.
+          let scans = subst (λ (v : ScanMove). ComesIf w begun past v) to (comes now begun moves past w world truth) in
+          record {
+            goes = goes_same now a w _ [] [] refl world (later_true w begun (moves + 1) past scan (record { 0 = 0 }) truth.keys truth.bytes (limit ∙ truth.limit) (asked ∙ truth.asked)
+                (subst (λ (p : List ℕ). OpenRange w.chart begun (Stood (shown range.columns) (arena_seen a ∷ past)) (AllHave (arena_seen a ∷ past)) (place_of range.start) range.limit p 0 scan.at (as_places scan.taken)) (sym (home to)) scans));
             does = (quiet_same a log, refl);
             reserved = refl;
             bounds = refl;
@@ -238,10 +310,51 @@ module _ (a : ArenaView) (range : Range) where
     }
 
     -- what is true of it stays
+    pub goes_by_stays : scan.limit ≡ range.scan.limit → scan.asked ≡ range.scan.asked → (next : NodeNo) → visited ≡ VisitedTo next → RangeStays a range Moved (with_scan scan next)
+    goes_by_stays limit asked next to now begun moves past w world truth = record {
+      bytes = truth.bytes;
+      limit = limit ∙ truth.limit;
+      asked = asked ∙ truth.asked;
+      keys = truth.keys;
+      listing = tt;
+      scans = subst (λ (v : ScanMove). ComesIf w begun past v) to (comes now begun moves past w world truth);
+    }
+
+    pub tops_by_stays : scan.limit ≡ range.scan.limit → scan.asked ≡ range.scan.asked → (visited ≡ Top → scan.prefix ≡ []) → visited ≡ Top → RangeStays a range Moved (with_scan scan (record { 0 = 0 }))
+    tops_by_stays limit asked home to now begun moves past w world truth = record {
+      bytes = truth.bytes;
+      limit = limit ∙ truth.limit;
+      asked = asked ∙ truth.asked;
+      keys = truth.keys;
+      listing = tt;
+      scans = subst (λ (p : List ℕ). OpenRange w.chart begun (Stood (shown range.columns) (arena_seen a ∷ past)) (AllHave (arena_seen a ∷ past)) (place_of range.start) range.limit p 0 scan.at (as_places scan.taken)) (sym (home to))
+          (subst (λ (v : ScanMove). ComesIf w begun past v) to (comes now begun moves past w world truth));
+    }
+
+    pub answers_by : visited ≡ Done → (pairs : List (List ℕ × Row)) → pairs ≡ scan.taken → KeysAreBytes scan.taken → (next : Range) (log : LogView) → RangeLaw log (Answered (RowsAnswer pairs)) next
+    answers_by to pairs are bytes next log C = subst (λ (ps : List (List ℕ × Row)). StepLaw C a a log log (range_request range) nothing (Answered (RowsAnswer ps)) nothing (RangeIsTrue range) (RangeIsTrue next)) (sym are) (record {
+      steps = λ now begun moves past w world before truth.
+          let done = subst (λ (v : ScanMove). ComesIf w begun past v) to (comes now begun moves past w world truth) in
+          record {
+            goes = goes_same now a w _ [] [] refl world tt;
+            does = (quiet_same a log, record { bytes = bytes; answers = of_keys (shown range.columns) (arena_seen a ∷ past) range.start range.limit scan.taken truth.bytes bytes done });
+            reserved = refl;
+            bounds = refl;
+            blocked = tt;
+            may = tt;
+          };
+    })
+
+  module _ (sought : Sought) (seeks : Seeks a range.node.0 (first_slice range.scan.at) sought) where
+    pub range_moves : (next : NodeNo) → sought ≡ To next → (log : LogView) → RangeLaw log Moved (with_scan range.scan next)
+    range_moves next is = moves_by next (λ now begun moves past w world truth.
+        subst (λ (s : Sought). KnowsOfSlice a w.chart begun range.node.0 range.scan.prefix (first_slice range.scan.at) s) is (seeks.leads now w.twins w.chart begun range.scan.prefix world.index truth.scans.held))
+
+    -- what is true of it stays
     pub range_moves_stays : (next : NodeNo) → sought ≡ To next → RangeStays a range Moved (with_scan range.scan next)
     range_moves_stays next is now begun moves past w world truth =
         let held = subst (λ (s : Sought). KnowsOfSlice a w.chart begun range.node.0 range.scan.prefix (first_slice range.scan.at) s) is (seeks.leads now w.twins w.chart begun range.scan.prefix world.index truth.scans.held) in
-        record { bytes = truth.bytes; limit = truth.limit; asked = truth.asked; scans = record { held = held; scanned = truth.scans.scanned } }
+        record { bytes = truth.bytes; limit = truth.limit; asked = truth.asked; scans = record { held = held; scanned = truth.scans.scanned }; keys = truth.keys; listing = tt }
 
     here_is : (now begun : ℕ) (w : World) → IsWorld a now w → Holds w.chart begun range.node.0 range.scan.prefix (first_slice range.scan.at) → sought ≡ Here → IsAtSlice a range.node.0 (first_slice range.scan.at)
     here_is now begun w world held is = subst (λ (s : Sought). KnowsOfSlice a w.chart begun range.node.0 range.scan.prefix (first_slice range.scan.at) s) is (seeks.leads now w.twins w.chart begun range.scan.prefix world.index held)
@@ -263,7 +376,7 @@ module _ (a : ArenaView) (range : Range) where
           subst (λ (x : BorderView). IsAliveFor x (first_slice range.scan.at)) (same_border here) (record { alive = here.alive; to_right = here.to_right })
 
       module _ (sound : IsBorder b) (visited : ScanMove) (scan : ScanView) (visits : VisitsList range.scan (list_of b) visited scan) where
-        comes : (now begun moves : ℕ) (past : List Arena) (w : World) → IsWorld a now w → RangeIsTrue range begun moves past a w
+        pub comes : (now begun moves : ℕ) (past : List Arena) (w : World) → IsWorld a now w → RangeIsTrue range begun moves past a w
             → Comes w.chart begun (Stood (shown range.columns) (arena_seen a ∷ past)) (AllHave (arena_seen a ∷ past)) (place_of range.start) range.limit (outcome_of visited scan)
         comes now begun moves past w world truth =
             let here = here_is now begun w world truth.scans.held is in
@@ -276,70 +389,6 @@ module _ (a : ArenaView) (range : Range) where
           where
             at_own : range.scan.limit ≡ range.limit → range.scan.asked ≡ range.columns → VisitsList (record range.scan { limit = range.limit; asked = range.columns }) (list_of b) visited scan
             at_own limit asked = subst (λ (s : ScanView). VisitsList s (list_of b) visited scan) (ap (λ (l : ℕ). record range.scan { limit = l }) limit ∙ ap (λ (c : List ℕ). record range.scan { limit = range.limit; asked = c }) asked) visits
-
-        abbrev ComesIf : World → ℕ → List Arena → ScanMove → Type 0
-        ComesIf w begun past v = Comes w.chart begun (Stood (shown range.columns) (arena_seen a ∷ past)) (AllHave (arena_seen a ∷ past)) (place_of range.start) range.limit (outcome_of v scan)
-
-        pub range_goes : scan.limit ≡ range.scan.limit → scan.asked ≡ range.scan.asked → (next : NodeNo) → visited ≡ VisitedTo next → (log : LogView) → RangeLaw log Moved (with_scan scan next)
-        range_goes limit asked next to log C = record {
-          steps = λ now begun moves past w world before truth.
-              let scans = subst (λ (v : ScanMove). ComesIf w begun past v) to (comes now begun moves past w world truth) in
-              record {
-                goes = goes_same now a w _ [] [] refl world (later_true w begun (moves + 1) past scan next truth.bytes (limit ∙ truth.limit) (asked ∙ truth.asked) scans);
-                does = (quiet_same a log, refl);
-                reserved = refl;
-                bounds = refl;
-                blocked = inl refl;
-                may = λ get. absurd (let clash : false ≡ true = get in cc);
-              };
-        }
-
-        pub range_tops : scan.limit ≡ range.scan.limit → scan.asked ≡ range.scan.asked → (visited ≡ Top → scan.prefix ≡ []) → visited ≡ Top → (log : LogView) → RangeLaw log Moved (with_scan scan (record { 0 = 0 }))
-        range_tops limit asked home to log C = record {
-          steps = λ now begun moves past w world before truth.
-              let scans = subst (λ (v : ScanMove). ComesIf w begun past v) to (comes now begun moves past w world truth) in
-              record {
-                goes = goes_same now a w _ [] [] refl world (later_true w begun (moves + 1) past scan (record { 0 = 0 }) truth.bytes (limit ∙ truth.limit) (asked ∙ truth.asked)
-                    (subst (λ (p : List ℕ). OpenRange w.chart begun (Stood (shown range.columns) (arena_seen a ∷ past)) (AllHave (arena_seen a ∷ past)) (place_of range.start) range.limit p 0 scan.at (as_places scan.taken)) (sym (home to)) scans));
-                does = (quiet_same a log, refl);
-                reserved = refl;
-                bounds = refl;
-                blocked = inl refl;
-                may = λ get. absurd (let clash : false ≡ true = get in cc);
-              };
-        }
-
-        -- what is true of it stays
-        pub range_goes_stays : scan.limit ≡ range.scan.limit → scan.asked ≡ range.scan.asked → (next : NodeNo) → visited ≡ VisitedTo next → RangeStays a range Moved (with_scan scan next)
-        range_goes_stays limit asked next to now begun moves past w world truth = record {
-          bytes = truth.bytes;
-          limit = limit ∙ truth.limit;
-          asked = asked ∙ truth.asked;
-          scans = subst (λ (v : ScanMove). ComesIf w begun past v) to (comes now begun moves past w world truth);
-        }
-
-        pub range_tops_stays : scan.limit ≡ range.scan.limit → scan.asked ≡ range.scan.asked → (visited ≡ Top → scan.prefix ≡ []) → visited ≡ Top → RangeStays a range Moved (with_scan scan (record { 0 = 0 }))
-        range_tops_stays limit asked home to now begun moves past w world truth = record {
-          bytes = truth.bytes;
-          limit = limit ∙ truth.limit;
-          asked = asked ∙ truth.asked;
-          scans = subst (λ (p : List ℕ). OpenRange w.chart begun (Stood (shown range.columns) (arena_seen a ∷ past)) (AllHave (arena_seen a ∷ past)) (place_of range.start) range.limit p 0 scan.at (as_places scan.taken)) (sym (home to))
-              (subst (λ (v : ScanMove). ComesIf w begun past v) to (comes now begun moves past w world truth));
-        }
-
-        pub range_answers : visited ≡ Done → (pairs : List (List ℕ × Row)) → pairs ≡ scan.taken → KeysAreBytes scan.taken → (next : Range) (log : LogView) → RangeLaw log (Answered (RowsAnswer pairs)) next
-        range_answers to pairs are bytes next log C = subst (λ (ps : List (List ℕ × Row)). StepLaw C a a log log (range_request range) nothing (Answered (RowsAnswer ps)) nothing (RangeIsTrue range) (RangeIsTrue next)) (sym are) (record {
-          steps = λ now begun moves past w world before truth.
-              let done = subst (λ (v : ScanMove). ComesIf w begun past v) to (comes now begun moves past w world truth) in
-              record {
-                goes = goes_same now a w _ [] [] refl world tt;
-                does = (quiet_same a log, record { bytes = bytes; answers = of_keys (shown range.columns) (arena_seen a ∷ past) range.start range.limit scan.taken truth.bytes bytes done });
-                reserved = refl;
-                bounds = refl;
-                blocked = tt;
-                may = tt;
-              };
-        })
 
   pub range_fails : (next : Range) (log : LogView) → RangeLaw log (Refused NoMemory) next
   range_fails next log C = record {

@@ -1,35 +1,214 @@
--- What is true of a get.
-use Rattle.std.specs.Prelude.{ℕ, ◌≡◌, List, None}
+-- What is true of a get, and what its steps do.
+use Rattle.std.specs.Prelude.{ℕ, ◌≡◌, ◌≢◌, ◌≤◌, ◌<◌, ◌+◌, ◌*◌, ◌⊎◌, List, ◌∷◌, length, slice_index, Option, None, IsSomeAnd, true}
+use Rattle.std.specs.Option.{option_map}
+use Rattle.mt_types.specs.Rows.{shown}
 use Rattle.mt_types.specs.declared.event.Answer.{Answer}
 use Rattle.mt_types.specs.declared.event.Request.{Request}
 use Rattle.mt_types.specs.declared.event.Request.TheVariants.{Get as GetRequest}
+use Rattle.mt_types.specs.declared.refusal.Refusal.TheVariants.{NoMemory}
+use Rattle.mt_promise.specs.declared.limits.TheConstants.{MAX_READS}
+use Rattle.mt_slice.specs.Place.{place_of, slice_number}
+use Rattle.mt_word.specs.Slots.{Slots}
+use Rattle.mt_word.specs.declared.permutation_word.TheConstants.{SLOTS}
+use Rattle.mt_border.specs.Entry.{entry_row}
+use Rattle.mt_border.specs.Slots.{slot_at}
+use Rattle.mt_border.specs.Border.{BorderView}
+use Rattle.mt_border.specs.declared.entry.RightLink.{RightLink}
 use Rattle.mt_arena.specs.Arena.{ArenaView}
+use Rattle.mt_arena.specs.Node.{node_at, border_of}
+use Rattle.mt_arena.specs.declared.node.Node.{Node}
+use Rattle.mt_arena.specs.declared.part.Field.{Field}
+use Rattle.mt_arena.specs.declared.part.Field.TheVariants.{Version as VersionField, Right as RightField, Order as OrderField, Key as KeyField, Value as ValueField}
+use Rattle.mt_arena.specs.declared.part.Part.{Part}
+use Rattle.mt_arena.specs.declared.part.Part.TheVariants.{Head as HeadPart, Interior as InteriorPart, Version as VersionPart, Right as RightPart, Order as OrderPart, Key as KeyPart, Value as ValuePart}
 use Rattle.mt_chart.specs.Tree.{Arena}
+use Rattle.mt_chart.specs.Chart.{Holds}
 use Rattle.mt_chart.specs.Walk.{Trail}
+use Rattle.mt_chart.specs.ScanRun.{Stood, Lacked}
+use Rattle.mt_chart.specs.Reading.{Searches, HasRowKey, HasLinkKey}
+use Rattle.mt_tree.specs.Seen.{arena_seen, right_seen}
+use Rattle.mt_tree.specs.Fields.{fields_seen}
+use Rattle.mt_tree.specs.Descent.{visit_head, visit_interior, is_marked}
+use Rattle.mt_tree.specs.declared.visit.Visit.{Visit}
+use Rattle.mt_tree.specs.declared.visit.Visit.TheVariants.{Again as VisitAgain, To as VisitTo, Below as VisitBelow, Here as VisitHere}
 use Rattle.mt_steps.specs.declared.way.Way.{Way}
+use Rattle.mt_steps.specs.declared.finding.Counters.{Counters}
+use Rattle.mt_steps.specs.declared.finding.Kind.{Kind}
+use Rattle.mt_steps.specs.declared.finding.Kind.TheVariants.{Row as RowKind, Link as LinkKind}
+use Rattle.mt_steps.specs.declared.finding.Sight.{Sight}
+use Rattle.mt_steps.specs.declared.finding.Sight.TheVariants.{Absent as AbsentSight, Row as RowSight, Link as LinkSight}
+use Rattle.mt_steps.specs.declared.finding.Finding.{Finding}
+use Rattle.mt_steps.specs.declared.finding.Finding.TheVariants.{Begins, Looked, Bounded, Reads, AtValue, Settles}
+use Rattle.mt_steps.specs.declared.finding.Reading.{Reading}
+use Rattle.mt_steps.specs.declared.finding.Reading.TheVariants.{Restarts, Repeats, GoesOn, To, Below, Answers}
 use Rattle.mt_steps.specs.declared.getting.Get.{Get}
-use Rattle.mt_steps.specs.World.{World, IsWorld}
-use Rattle.mt_steps.specs.declared.way.Went.TheVariants.{To, Here}
 use Rattle.mt_steps.specs.declared.progress.Progress.{Progress}
-use Rattle.mt_steps.specs.declared.progress.Progress.TheVariants.{Moved, Waits}
-use Rattle.mt_steps.specs.Way.{IsOnWay, IsAtPlace, Visits, VisitIs, start}
+use Rattle.mt_steps.specs.declared.progress.Progress.TheVariants.{Moved, Waits, Answered, Refused}
+use Rattle.mt_steps.specs.Finding.{counters_of, is_flagged, at_version, at_right, at_order, at_key, at_value}
+use Rattle.mt_steps.specs.declared.way.Went.TheVariants.{To as WentTo, Here as WentHere}
+use Rattle.mt_steps.specs.World.{World, IsWorld}
+use Rattle.mt_steps.specs.Standing.{Lends, StandsAt, Still, IsBounded}
+use Rattle.mt_steps.specs.Way.{IsLayerOf, IsOnWay, IsAtPlace, Visits, VisitIs, prefix_of, rest_of, start}
 use Rattle.mt_steps.specs.Step.{IsRight}
 
 abbrev pub get_request : Get → Request
 get_request get = GetRequest get.key get.columns
 
--- it is on its way, and has come by a run of so many moves
-abbrev pub GetIsTrue : Get → ℕ → ℕ → List Arena → ArenaView → World → Type 0
-GetIsTrue get begun moves past a w = IsOnWay begun get.key get.way w × Trail begun w.chart get.way.node.0 moves
+-- ---- what it does
+-- the field of a border that it reads next
+abbrev pub wants : Finding → Field
+wants Begins = VersionField
+wants (Looked counters) = RightField
+wants (Bounded counters right) = OrderField
+wants (Reads glance place) = KeyField (slice_index glance.order.live place)
+wants (AtValue glance place kind) = ValueField (slice_index glance.order.live place)
+wants (Settles counters sight) = VersionField
 
--- what is read at the place of a key is right at that moment
-pub record Reads (a : ArenaView) (key : List ℕ) (way : Way) (asked : List ℕ) (answer : Answer) : Type 0 where
+-- a key or a value that it reads is that of one of the live slots
+abbrev pub IsReading : Finding → Type 0
+IsReading (Reads glance place) = place < length glance.order.live
+IsReading (AtValue glance place kind) = place < length glance.order.live
+IsReading _ = Unit {0}
+
+-- where a head or an interior node leads
+abbrev pub by_visit : Visit → Reading
+by_visit VisitAgain = Restarts
+by_visit (VisitTo next) = To next
+by_visit (VisitBelow head) = Below head
+by_visit VisitHere = Repeats
+
+-- WHAT IT DOES, by what it is lent of the node where it stands, and by nothing else
+abbrev pub reading_of : Get → Part → Reading
+reading_of get (HeadPart part) = by_visit (visit_head part.now)
+reading_of get (InteriorPart part) = by_visit (visit_interior (slice_number (rest_of get.key get.way)) part.now)
+reading_of get (VersionPart version) = at_version get.finding version
+reading_of get (RightPart right) = at_right get.finding right (slice_number (rest_of get.key get.way))
+reading_of get (OrderPart order) = at_order get.finding order
+reading_of get (KeyPart part) = at_key get.finding part (rest_of get.key get.way)
+reading_of get (ValuePart part) = at_value get.finding part get.columns
+
+abbrev pub progress_of : Reading → Progress
+progress_of Restarts = Waits
+progress_of Repeats = Waits
+progress_of (GoesOn finding) = Moved
+progress_of (To node) = Moved
+progress_of (Below head) = Moved
+progress_of (Answers answer) = Answered answer
+
+abbrev pub get_after : Get → Reading → Get
+get_after get Restarts = record get { way = start; finding = Begins }
+get_after get Repeats = record get { finding = Begins }
+get_after get (GoesOn finding) = record get { finding = finding }
+get_after get (To node) = record get { way = record { node = node; layer = get.way.layer }; finding = Begins }
+get_after get (Below head) = record get { way = record { node = head; layer = get.way.layer + 1 }; finding = Begins }
+get_after get (Answers answer) = record get { finding = Begins }
+
+-- ---- what is true of it
+-- it stands at a border of its key's way, of which it has read the version, with these counters
+pub record AtBorder (begun : ℕ) (key : List ℕ) (way : Way) (counters : Counters) (a : ArenaView) (w : World) : Type 0 where
+  pub layer : IsLayerOf key way
+  pub here : StandsAt begun (prefix_of key way) (slice_number (rest_of key way)) way.node.0 counters a w
+
+-- it has read the right link, and its slice is before it
+abbrev pub HasBound : List ℕ → Way → Counters → BorderView → Option RightLink → ℕ → World → Type 0
+HasBound key way counters b right begun w = IsBounded (prefix_of key way) (slice_number (rest_of key way)) counters b right begun w
+
+-- a place among the live slots of an order
+abbrev pub IsPlaceOf : Slots → ℕ → Type 0
+IsPlaceOf order place = (place < length order.live) × (length order.live ≤ SLOTS)
+
+-- what it has found, where the border is quiet still: no row at some moment, the row of some moment, or the held head of
+-- the layer where its key goes on
+abbrev pub SightIsTrue : List ℕ → List ℕ → Way → Sight → ℕ → List Arena → World → Type 0
+SightIsTrue key asked way AbsentSight begun arenas w = Lacked arenas (place_of key)
+SightIsTrue key asked way (RowSight row) begun arenas w = Stood (shown asked) arenas (place_of key) row
+SightIsTrue key asked way (LinkSight head) begun arenas w = (sought : ℕ)
+    → Holds w.chart begun head.0 (slice_number (rest_of key way) ∷ prefix_of key way) sought
+
+-- only a key that goes on past its slice leads below
+abbrev pub Fits : List ℕ → Way → Sight → Type 0
+Fits key way (LinkSight head) = 8 < length (rest_of key way)
+Fits key way _ = Unit {0}
+
+-- the key of the slot that it has found was its own key's, or a link's
+abbrev pub KeyIsTrue : List ℕ → List ℕ → Way → Kind → ℕ → BorderView → ℕ → List Arena → World → Type 0
+KeyIsTrue key asked way RowKind number b begun arenas w =
+    HasRowKey (shown asked) w.chart begun arenas (prefix_of key way) (fields_seen b) number (place_of (rest_of key way))
+KeyIsTrue key asked way LinkKind number b begun arenas w =
+    HasLinkKey (shown asked) w.chart begun arenas (prefix_of key way) (fields_seen b) number
+    (slice_number (rest_of key way))
+
+abbrev pub GoesDeeper : List ℕ → Way → Kind → Type 0
+GoesDeeper key way RowKind = Unit {0}
+GoesDeeper key way LinkKind = 8 < length (rest_of key way)
+
+-- HOW FAR IT HAS READ is true, by the arenas of its moments, the present one among them: all that it has read of slots
+-- is said of a border that is quiet still
+abbrev pub FindingIsTrue : List ℕ → List ℕ → Way → Finding → ℕ → List Arena → ArenaView → World → Type 0
+FindingIsTrue key asked way Begins begun arenas a w = IsOnWay begun key way w
+FindingIsTrue key asked way (Looked counters) begun arenas a w = AtBorder begun key way counters a w
+FindingIsTrue key asked way (Bounded counters right) begun arenas a w = (at : AtBorder begun key way counters a w)
+    × HasBound key way counters at.here.b right begun w
+FindingIsTrue key asked way (Reads glance place) begun arenas a w = (at : AtBorder begun key way glance.counters a w)
+    × HasBound key way glance.counters at.here.b glance.right begun w × IsPlaceOf glance.order place
+    × (Still glance.counters at.here.b → Searches (shown asked) w.chart begun arenas (prefix_of key way) (fields_seen at.here.b)
+    (option_map right_seen glance.right) glance.order.live (place_of (rest_of key way)) place)
+FindingIsTrue key asked way (AtValue glance place kind) begun arenas a w =
+    (at : AtBorder begun key way glance.counters a w) × IsPlaceOf glance.order place × GoesDeeper key way kind
+    × (Still glance.counters at.here.b
+    → KeyIsTrue key asked way kind (slice_index glance.order.live place) at.here.b begun arenas w)
+FindingIsTrue key asked way (Settles counters sight) begun arenas a w = (at : AtBorder begun key way counters a w)
+    × Fits key way sight × (Still counters at.here.b → SightIsTrue key asked way sight begun arenas w)
+
+-- how many moves it has made at the node where it stands, at most
+abbrev pub reads_made : Finding → ℕ
+reads_made Begins = 0
+reads_made (Looked counters) = 1
+reads_made (Bounded counters right) = 2
+reads_made (Reads glance place) = 3 + place
+reads_made (AtValue glance place kind) = 4 + place
+reads_made (Settles counters sight) = 20
+
+-- the run of moves that it is in: through so many nodes, with few moves at each
+pub record MovesOn (begun moves : ℕ) (way : Way) (finding : Finding) (w : World) : Type 0 where
+  pub came : ℕ
+  pub trail : Trail begun w.chart way.node.0 came
+  pub few : moves ≤ MAX_READS * came + reads_made finding
+
+abbrev pub GetIsTrue : Get → ℕ → ℕ → List Arena → ArenaView → World → Type 0
+GetIsTrue get begun moves past a w =
+    FindingIsTrue get.key get.columns get.way get.finding begun (arena_seen a ∷ past) a w
+    × MovesOn begun moves get.way get.finding w
+
+-- ---- why it waits
+-- the border of the number is marked deleted, has a flag set, or has other counters than were noted; or the slot of a key
+-- that was a row's holds a link
+abbrev pub ReadingWaits : Finding → Node → Type 0
+ReadingWaits Begins node = (is_marked node ≡ true) ⊎ IsSomeAnd (border_of node) (λ b. is_flagged b.version ≡ true)
+ReadingWaits (Settles counters sight) node = (is_marked node ≡ true)
+    ⊎ IsSomeAnd (border_of node) (λ b. (is_flagged b.version ≡ true) ⊎ (counters_of b.version ≢ counters))
+ReadingWaits (AtValue glance place RowKind) node = IsSomeAnd (border_of node)
+    (λ b. entry_row (slot_at b (slice_index glance.order.live place)).entry ≡ None)
+ReadingWaits _ node = ⊥
+
+abbrev pub GetWaits : ArenaView → Get → Progress → Type 0
+GetWaits a get Waits = IsSomeAnd (node_at a.nodes get.way.node.0) (ReadingWaits get.finding)
+GetWaits a get _ = Unit {0}
+
+-- A STEP READS ONE FIELD of one border, or visits one head or interior: it is lent that, and does what follows from it
+pub record GetFollows (a : ArenaView) (get : Get) (p : Progress) (new : Get) : Type 0 where
+  pub part : Part
+  pub lent : Lends a get.way.node.0 (wants get.finding) part
+  pub does : (p ≡ Refused NoMemory) ⊎ ((p ≡ progress_of (reading_of get part)) × (new ≡ get_after get (reading_of get part)))
+
+-- ---- whole visits, of a get alone: what is read at the place of a key is right at that moment
+pub record ReadsWhole (a : ArenaView) (key : List ℕ) (way : Way) (asked : List ℕ) (answer : Answer) : Type 0 where
   pub reads : (now : ℕ) (w : World) → IsWorld a now w → IsAtPlace a key way w → (past : List Arena)
       → IsRight past a (GetRequest key asked) None answer
 
--- A STEP VISITS ONE NODE. Where it moves, it goes to the node to which that visit leads; where it waits, it begins its
--- way again; it answers, or is refused, only where the node is its key's border.
-abbrev pub GetFollows : ArenaView → Get → Progress → Get → Type 0
-GetFollows a get Moved new = Visits a get.key get.way (To new.way)
-GetFollows a get Waits new = new.way ≡ start
-GetFollows a get _ new = VisitIs a get.key get.way Here
+-- Where it moves, it goes to the node to which that visit leads; where it waits, it begins its way again; it answers, or
+-- is refused, only where the node is its key's border. It has read nothing of the next node.
+abbrev pub GetVisits : ArenaView → Get → Progress → Get → Type 0
+GetVisits a get Moved new = Visits a get.key get.way (WentTo new.way) × (new.finding ≡ Begins)
+GetVisits a get Waits new = (new.way ≡ start) × (new.finding ≡ Begins)
+GetVisits a get _ new = VisitIs a get.key get.way WentHere × (new.finding ≡ Begins)

@@ -2,7 +2,10 @@
 pub mod World
 pub mod Step
 pub mod Way
+pub mod Finding
+pub mod Standing
 pub mod Getting
+pub mod Listing
 pub mod Ranging
 pub mod Causes
 pub mod Collecting

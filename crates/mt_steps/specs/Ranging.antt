@@ -1,5 +1,6 @@
 -- What is true of a range.
 use Rattle.std.specs.Prelude.{ℕ, ◌≡◌, ◌<◌, ◌+◌, ◌⊎◌, ◌^◌, List, [], ◌∷◌, length, Some, false}
+use Rattle.mt_types.specs.declared.refusal.Refusal.TheVariants.{NoMemory}
 use Rattle.mt_types.specs.Rows.{shown}
 use Rattle.mt_types.specs.declared.event.Answer.TheVariants.{Rows}
 use Rattle.mt_types.specs.declared.event.Request.{Request}
@@ -7,6 +8,7 @@ use Rattle.mt_types.specs.declared.event.Request.TheVariants.{Range as RangeRequ
 use Rattle.mt_slice.specs.Place.{AreBytes, place_of, first_slice, under}
 use Rattle.mt_border.specs.Border.{BorderView}
 use Rattle.mt_arena.specs.Node.{border_at}
+use Rattle.mt_arena.specs.declared.part.Part.{Part}
 use Rattle.mt_arena.specs.declared.node.Node.{Node}
 use Rattle.mt_arena.specs.Arena.{ArenaView, IsArena}
 use Rattle.mt_commit.specs.Log.{LogView}
@@ -15,7 +17,7 @@ use Rattle.mt_chart.specs.Chart.{Chart, Holds}
 use Rattle.mt_chart.specs.Steps.{Twin}
 use Rattle.mt_chart.specs.Scan.{OpenRange}
 use Rattle.mt_chart.specs.ScanRun.{Stood, AllHave}
-use Rattle.mt_chart.specs.KeyAnswer.{as_places}
+use Rattle.mt_chart.specs.KeyAnswer.{as_places, KeysAreBytes}
 use Rattle.mt_chart.specs.Walk.{Moves}
 use Rattle.mt_tree.specs.Seen.{arena_seen, border_seen}
 use Rattle.mt_tree.specs.Keeping.{IsIndexAt}
@@ -23,22 +25,27 @@ use Rattle.mt_scan.specs.Cursor.{CursorView}
 use Rattle.mt_scan.specs.Onward.{cursor_in, cursor_of, all_cursors, GetsOn}
 use Rattle.mt_scan.specs.declared.scan.ScanMove.{ScanMove}
 use Rattle.mt_scan.specs.declared.scan.ScanMove.TheVariants.{To as VisitedTo, Top as VisitedTop, Done as VisitDone}
-use Rattle.mt_scan.specs.Listed.{list_of}
-use Rattle.mt_scan.specs.Scan.{ScanView, VisitsList}
+use Rattle.mt_scan.specs.Listed.{ListView, list_of}
+use Rattle.mt_scan.specs.Scan.{ScanView, HoldsKeys, VisitsList}
 use Rattle.mt_steps.specs.declared.progress.Progress.{Progress}
-use Rattle.mt_steps.specs.declared.progress.Progress.TheVariants.{Moved, Waits, Answered}
+use Rattle.mt_steps.specs.declared.progress.Progress.TheVariants.{Moved, Waits, Answered, Refused}
+use Rattle.mt_steps.specs.declared.listing.Listing.TheVariants.{Begins}
+use Rattle.mt_steps.specs.declared.listing.ListReading.{ListReading}
+use Rattle.mt_steps.specs.declared.listing.ListReading.TheVariants.{Restarts, Repeats, GoesOn, To as ReadTo, Lists}
 use Rattle.mt_steps.specs.declared.ranging.Range.{Range}
 use Rattle.mt_steps.specs.declared.ranging.Sought.{Sought}
 use Rattle.mt_steps.specs.declared.ranging.Sought.TheVariants.{Again, To, Here}
 use Rattle.mt_steps.specs.Way.{start, Names}
 use Rattle.mt_steps.specs.Step.{MayStep, nothing}
-use Rattle.mt_steps.specs.World.{World, IsWorld}
+use Rattle.mt_steps.specs.Standing.{Lends}
+use Rattle.mt_steps.specs.Listing.{list_wants, list_reading, WaitsForField, ListingIsTrue}
+use Rattle.mt_steps.specs.World.{World, IsWorld, AreOfKeys}
 
 abbrev pub range_request : Range → Request
 range_request range = RangeRequest range.start range.limit range.columns
 
 -- a range that began in the epoch holds the node where it stands, and all before its cursor is done, by the arenas of
--- its moments
+-- its moments; and how far it has read that node is true
 pub record RangeIsTrue (range : Range) (begun moves : ℕ) (past : List Arena) (a : ArenaView) (w : World) : Type 0 where
   pub bytes : AreBytes range.start
   pub limit : range.scan.limit ≡ range.limit
@@ -46,6 +53,9 @@ pub record RangeIsTrue (range : Range) (begun moves : ℕ) (past : List Arena) (
   pub scans : OpenRange w.chart begun (Stood (shown range.columns) (arena_seen a ∷ past))
       (AllHave (arena_seen a ∷ past)) (place_of range.start) range.limit
       range.scan.prefix range.node.0 range.scan.at (as_places range.scan.taken)
+  pub keys : AreOfKeys (arena_seen a ∷ past)
+  pub listing : ListingIsTrue (shown range.columns) range.scan.prefix (first_slice range.scan.at) range.node.0
+      range.listing begun (arena_seen a ∷ past) a w
 
 -- a call may hold the node for this slice
 pub record IsHeldFor (a : ArenaView) (number slice : ℕ) : Type 0 where
@@ -142,3 +152,48 @@ abbrev pub RangeStays : ArenaView → Range → Progress → Range → Type 0
 RangeStays a range Moved new = (now begun moves : ℕ) (past : List Arena) (w : World) → IsWorld a now w
     → RangeIsTrue range begun moves past a w → RangeIsTrue new begun (moves + 1) past a w
 RangeStays a range _ new = Unit {0}
+
+-- ---- one field a step
+-- its scan has visited what it has read of a border, and comes to this
+abbrev pub ScanEnds : Range → ScanView → ScanMove → Progress → Range → Type 0
+ScanEnds range scan VisitDone p new = (p ≡ Answered (Rows scan.taken)) × KeysAreBytes scan.taken
+ScanEnds range scan (VisitedTo next) p new = (p ≡ Moved) × (new ≡ record range { scan = scan; node = next })
+ScanEnds range scan VisitedTop p new = (p ≡ Moved) × (new ≡ record range { scan = scan; node = start.node })
+
+pub record RangeScans (range : Range) (list : ListView) (p : Progress) (new : Range) : Type 0 where
+  pub visited : ScanMove
+  pub scan : ScanView
+  pub visits : VisitsList range.scan list visited scan
+  pub limit : scan.limit ≡ range.scan.limit
+  pub asked : scan.asked ≡ range.scan.asked
+  pub home : visited ≡ VisitedTop → scan.prefix ≡ []
+  pub ends : ScanEnds range scan visited p new
+
+-- what it does by a reading
+abbrev pub RangeDoes : Range → ListReading → Progress → Range → Type 0
+RangeDoes range Restarts p new = (p ≡ Waits) × (new ≡ record range { scan = restarted range.scan; node = start.node })
+RangeDoes range Repeats p new = (p ≡ Waits) × (new ≡ range)
+RangeDoes range (GoesOn next) p new = (p ≡ Moved) × (new ≡ record range { listing = next })
+RangeDoes range (ReadTo node) p new = (p ≡ Moved) × (new ≡ record range { node = node })
+RangeDoes range (Lists entries right) p new = (p ≡ Refused NoMemory)
+    ⊎ RangeScans range (record { entries = entries; right = right }) p new
+
+-- the rows of what it has read are those of keys
+abbrev pub ListHasKeys : List ℕ → ListReading → Type 0
+ListHasKeys prefix (Lists entries right) = HoldsKeys prefix entries
+ListHasKeys prefix _ = Unit {0}
+
+-- it has read nothing of the node where it stands
+abbrev pub unread : Range → Range
+unread range = record range { listing = Begins }
+
+-- A STEP READS ONE FIELD of one border, or visits one head or interior: it is lent that, and does what follows from it
+pub record RangeReads (a : ArenaView) (range : Range) (p : Progress) (new : Range) : Type 0 where
+  pub part : Part
+  pub lent : Lends a range.node.0 (list_wants range.listing) part
+  pub does : (p ≡ Refused NoMemory)
+      ⊎ RangeDoes (unread range) (list_reading range.listing (first_slice range.scan.at) part) p new
+
+-- it waits for what it has read of the border
+abbrev pub RangeWaits : ArenaView → Range → Progress → Type 0
+RangeWaits a range p = WaitsForField a range.node.0 range.listing p

@@ -1,8 +1,9 @@
 -- What a step of a call is to the index, said of every kind of call alike: what the call has, what is true of it, and
 -- what the step answers.
-use Rattle.std.specs.Prelude.{ℕ, ◌≡◌, ◌≢◌, ◌≤◌, ◌<◌, ◌+◌, ◌⊎◌, ◌↔◌, List, [], ◌∷◌, length, Option, Some, None, IsTrue}
+use Rattle.std.specs.Prelude.{ℕ, ◌≡◌, ◌≢◌, ◌≤◌, ◌<◌, ◌+◌, ◌*◌, ◌⊎◌, ◌↔◌, List, [], ◌∷◌, length, Option, Some, None, IsTrue}
 use Rattle.mt_types.specs.Rows.{new_columns, columns_before, shown, version_of}
 use Rattle.mt_promise.specs.Legal.{is_get}
+use Rattle.mt_promise.specs.declared.limits.TheConstants.{MAX_READS}
 use Rattle.mt_types.specs.declared.limits.TheConstants.{MAX_NODES, MAX_KEY_BYTES}
 use Rattle.mt_types.specs.declared.row.Row.{Row}
 use Rattle.mt_types.specs.declared.event.Answer.{Answer}
@@ -179,9 +180,9 @@ Does C past a after log left request committed (Answered answer) then = IsQuiet 
 Does C past a after log left request committed (Refused refusal) then = IsQuiet a after log left × (committed ≡ None)
     × MayRefuse request refusal × TellsVersion a request refusal
 
--- a get doesn't move for ever
+-- a get doesn't move for ever: of moves in a row it makes at most MAX_READS for each number of a node
 abbrev pub MayMove : Request → ℕ → Progress → Type 0
-MayMove request moves Moved = IsTrue (is_get request) → moves < MAX_NODES
+MayMove request moves Moved = IsTrue (is_get request) → moves < MAX_READS * MAX_NODES
 MayMove request moves _ = Unit {0}
 
 -- a step of a call, in a world

@@ -10,13 +10,12 @@ use Rattle.mt_interior.specs.Head.{HeadView}
 use Rattle.mt_arena.specs.declared.retired.Retired.{Retired}
 use Rattle.mt_arena.specs.declared.node.Node.{Node}
 use Rattle.mt_arena.specs.declared.node.Node.TheVariants.{Head, Interior, Border}
-use Rattle.mt_chart.specs.Tree.{Among, Has}
+use Rattle.mt_chart.specs.Tree.{Arena, Among, Has}
 use Rattle.mt_chart.specs.Chart.{Role, at_level, gone, spot, Chart, OnHead, Evolves}
 use Rattle.mt_chart.specs.Steps.{Twin, AreTwins}
-use Rattle.mt_chart.specs.Noted.{Ages}
 use Rattle.mt_chart.specs.Walk.{IsOn}
 use Rattle.mt_tree.specs.Seen.{arena_seen}
-use Rattle.mt_tree.specs.Fields.{fields_seen}
+use Rattle.mt_tree.specs.Fields.{BorderAges}
 use Rattle.mt_tree.specs.Keeping.{IsIndexAt}
 use Rattle.mt_tree.specs.InteriorSteps.{IsInLayer}
 use Rattle.mt_tree.specs.Descent.{is_marked}
@@ -38,6 +37,11 @@ pub record IsKeyPlace (place : Place) : Type 0 where
 -- each row that the tree has is at the place of a key
 pub record RowsAreOfKeys (a : ArenaView) : Type 0 where
   pub key_of : (place : Place) (row : Row) → Has (arena_seen a) place row → IsKeyPlace place
+
+-- and so is each row that these arenas had
+abbrev pub AreOfKeys : List Arena → Type 0
+AreOfKeys arenas = (arena : Arena) → Among arena arenas → (place : Place) (row : Row) → Has arena place row
+    → IsKeyPlace place
 
 -- the number names a border that is locked
 abbrev pub IsLockedRoot : ArenaView → ℕ → Type 0
@@ -156,7 +160,7 @@ GoneSince begun w numbers = (number : ℕ) → Among number numbers → (below :
 -- each border that the chart knows has aged; and its right link is as it was, unless it is on
 pub record BordersAge (a after : ArenaView) (w next : World) : Type 0 where
   pub ages : (number : ℕ) (b then : BorderView) → IsSome (w.chart number) → border_at a.nodes number ≡ Some b
-      → border_at after.nodes number ≡ Some then → Ages (fields_seen b) (fields_seen then)
+      → border_at after.nodes number ≡ Some then → BorderAges b then
   pub rights : (number : ℕ) (b then : BorderView) → IsSome (w.chart number) → border_at a.nodes number ≡ Some b
       → border_at after.nodes number ≡ Some then → IsOn next.chart number ⊎ (then.right ≡ b.right)
 

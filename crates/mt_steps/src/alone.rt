@@ -7,6 +7,7 @@ ghost use Rattle.mt_types.specs.declared.event.Answer.TheVariants.{Rows};
 ghost use Rattle.mt_steps.specs.Ranging.{range_request};
 ghost use Rattle.mt_steps.specs.Lone.{IsLoneTree, IsRightNow, IsAtBegin, HasRows};
 
+use crate::finding::Finding;
 use crate::getting::Get;
 use crate::progress::Progress;
 use crate::ranging::Range;
@@ -26,13 +27,13 @@ impl Get {
     /// `NoMemory` where an allocation is refused.
     pub fn run_alone(self, alloc: Global, tree: &Tree) -> Result<Answer, NoMemory>
         requires lone { IsLoneTree tree.now }
-        requires begins { self.way ≡ start }
+        requires begins { (self.way ≡ start) × (self.finding ≡ Finding.Begins) }
         ensures { IfOk result (λ answer. IsRightNow tree.now (get_request self) answer) }
     {
         let _bytes = rest_of(&self.key, 0);
         let mut get = self;
         loop {
-            match get.step(alloc, tree) {
+            match get.step_whole(alloc, tree) {
                 Progress::Moved => {}
                 Progress::Answered(answer) => return Ok(answer),
                 Progress::Refused(_) => return Err(NoMemory),
@@ -70,7 +71,7 @@ impl Range {
         let _bytes = rest_of(&self.start, 0);
         let mut range = self;
         loop {
-            match range.step(alloc, tree) {
+            match range.step_whole(alloc, tree) {
                 Progress::Moved => {}
                 Progress::Answered(answer) => return Ok(rows_of(answer)),
                 Progress::Refused(_) => return Err(NoMemory),

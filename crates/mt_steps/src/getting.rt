@@ -1,26 +1,36 @@
-//! A get: on its way to its key's border, where it reads.
+//! A get: on its way to its key's border, where it reads. Among other calls it reads a border one field a step.
 
-ghost use Rattle.std.specs.Prelude.{◌≡◌, ℕ, ◌≤◌, ◌<◌, ◌-◌, ◌*◌, length, IfOk, IsSome, Some};
+ghost use Rattle.std.specs.Prelude.{◌≡◌, ℕ, ◌≤◌, ◌<◌, ◌-◌, ◌*◌, ◌⊎◌, length, IfOk, IsSome, Some, false, true};
+ghost use Rattle.mt_types.specs.declared.refusal.Refusal.TheVariants.{NoMemory as NoMemoryRefusal};
+ghost use Rattle.mt_slice.specs.Place.{AreBytes, slice_number};
 ghost use Rattle.mt_border.specs.Border.{row_at};
 ghost use Rattle.mt_commit.specs.Log.{LogView};
 ghost use Rattle.mt_arena.specs.Arena.{ArenaView};
 ghost use Rattle.mt_arena.specs.Node.{border_at};
+ghost use Rattle.mt_arena.specs.Parts.{IsField};
+ghost use Rattle.mt_tree.specs.Descent.{visit_head, visit_interior};
 ghost use Rattle.mt_steps.specs.Step.{StepLaw, MayStep, nothing};
 ghost use Rattle.mt_steps.specs.Causes.{ReadWaits, ReadFails};
-ghost use Rattle.mt_steps.specs.Way.{MayGoAt, Names};
-ghost use Rattle.mt_steps.specs.Getting.{get_request, GetIsTrue, GetFollows, Reads};
+ghost use Rattle.mt_steps.specs.Way.{MayGoAt, Names, rest_of};
+ghost use Rattle.mt_steps.specs.declared.progress.Progress.TheVariants.{Refused};
+ghost use Rattle.mt_steps.specs.declared.finding.Reading.TheVariants.{Restarts};
+ghost use Rattle.mt_steps.specs.Getting.{get_request, wants, IsReading, by_visit, reading_of, progress_of, get_after, GetIsTrue, GetWaits, GetFollows, GetVisits, ReadsWhole};
 
+use crate::finding::{Finding, Reading, at_key, at_order, at_right, at_value, at_version};
 use crate::progress::Progress;
 use crate::way::{START, Way, Went, rest_of};
-use mt_arena::Node;
+use mt_arena::{Field, Node, Part};
 use mt_border::{Border, Content, Found};
-use mt_tree::{Tree, find};
+use mt_interior::{Head, Interior};
+use mt_slice::slice_of;
+use mt_tree::{Tree, Visit, find, visit_head, visit_interior};
 use mt_types::columns::shown;
 use mt_types::event::Answer;
 use mt_types::key::Key;
 use mt_types::refusal::{NoMemory, Refusal};
 use mt_types::row::{ColumnNumbers, Row};
 use std::alloc::Global;
+use std::mem;
 
 /// A get of some columns of a key's row.
 #[derive(Drop)]
@@ -28,6 +38,8 @@ pub struct Get {
     pub key: Key,
     pub columns: ColumnNumbers,
     pub way: Way,
+    /// How far it has read the border where it stands.
+    pub finding: Finding,
 }
 
 // The row of the entry at a place.
@@ -53,7 +65,7 @@ fn read(
 ) -> Result<Answer, NoMemory>
     requires { 8 * way.layer ≤ length key.now - 1 }
     ensures { IfOk result (λ answer. (a : ArenaView) → border_at a.nodes way.node.0 ≡ Some border.now
-        → Reads a key.now way asked.now answer) }
+        → ReadsWhole a key.now way asked.now answer) }
 {
     match find(border, rest_of(key, way.layer)) {
         Found::Row(place) => {
@@ -64,10 +76,95 @@ fn read(
     }
 }
 
+// What a head or an interior node leads to.
+fn by_visit(visit: Visit) -> Reading
+    ensures { result ≡ by_visit visit }
+{
+    match visit {
+        Visit::Again => Reading::Restarts,
+        Visit::To(next) => Reading::To(next),
+        Visit::Below(head) => Reading::Below(head),
+        Visit::Here => Reading::Repeats,
+    }
+}
+
+// What is read of a head.
+fn at_head(head: &Head) -> Reading
+    ensures { result ≡ by_visit (visit_head head.now) }
+{
+    by_visit(visit_head(head))
+}
+
+// What is read of an interior node, for the slice that is sought.
+fn at_interior(interior: &Interior, slice: u64) -> Reading
+    requires { interior.now.version.deleted ≡ false → (0 < length interior.now.children) × (interior.now.low ≤ slice) }
+    ensures value { result ≡ by_visit (visit_interior slice interior.now) }
+    ensures marked { result ≡ Restarts → interior.now.version.deleted ≡ true }
+{
+    by_visit(visit_interior(interior, slice))
+}
+
 impl Get {
-    // Visits the node where it stands, and is lent no other.
-    fn visit(&mut self, alloc: Global, node: &Node) -> Progress
-        requires { MayGoAt self.old.key self.old.way node.now }
+    // The field that it reads next, where it stands at a border.
+    fn wants(&self) -> Field
+        requires { IsReading self.now.finding }
+        ensures value { result ≡ wants self.now.finding }
+        ensures field { IsField result }
+    {
+        match &self.finding {
+            Finding::Begins | Finding::Settles(_, _) => Field::Version,
+            Finding::Looked(_) => Field::Right,
+            Finding::Bounded(_, _) => Field::Order,
+            Finding::Reads(glance, place) => Field::Key(glance.order.slot(*place)),
+            Finding::AtValue(glance, place, _) => Field::Value(glance.order.slot(*place)),
+        }
+    }
+
+    // The slice that it seeks in the layer where it stands.
+    fn slice(&self) -> u64
+        requires { 8 * self.now.way.layer ≤ length self.now.key - 1 }
+        ensures { result ≡ slice_number (rest_of self.now.key self.now.way) }
+    {
+        let (slice, _) = slice_of(rest_of(&self.key, self.way.layer));
+        slice
+    }
+
+    // Does what a reading leads to.
+    fn follow(&mut self, reading: Reading) -> Progress
+        requires { 8 * self.old.way.layer ≤ length self.old.key - 1 }
+        ensures bytes { AreBytes self.old.key }
+        ensures progress { result ≡ progress_of reading }
+        ensures after { self.new ≡ get_after self.old reading }
+    {
+        let _fits = rest_of(&self.key, self.way.layer);
+        self.finding = Finding::Begins;
+        match reading {
+            Reading::Restarts => {
+                self.way = START;
+                Progress::Waits
+            }
+            Reading::Repeats => Progress::Waits,
+            Reading::GoesOn(finding) => {
+                self.finding = finding;
+                Progress::Moved
+            }
+            Reading::To(node) => {
+                self.way.node = node;
+                Progress::Moved
+            }
+            Reading::Below(node) => {
+                let layer = self.way.layer + 1;
+                self.way = Way { node, layer };
+                Progress::Moved
+            }
+            Reading::Answers(answer) => Progress::Answered(answer),
+        }
+    }
+
+    // Visits the node where it stands, whole, and is lent no other.
+    fn visit_whole(&mut self, alloc: Global, node: &Node) -> Progress
+        requires may { MayGoAt self.old.key self.old.way node.now }
+        requires begins { self.old.finding ≡ Finding.Begins }
         ensures request { get_request self.new ≡ get_request self.old }
         ensures steps { (a : ArenaView) → Names a self.old.way.node.0 node.now → (C : ℕ) (log : LogView)
             → StepLaw C a a log log (get_request self.old) nothing result nothing (GetIsTrue self.old)
@@ -77,8 +174,9 @@ impl Get {
         ensures fails { (a : ArenaView) → Names a self.old.way.node.0 node.now
             → ReadFails a self.old.way.node.0 result }
         ensures gets_on { (a : ArenaView) → Names a self.old.way.node.0 node.now
-            → GetFollows a self.old result self.new }
+            → GetVisits a self.old result self.new }
     {
+        self.finding = Finding::Begins;
         match self.way.visit_node(node, &self.key) {
             Went::Again => {
                 self.way = START;
@@ -95,17 +193,57 @@ impl Get {
         }
     }
 
-    /// Visits one node: it is lent that node alone.
-    pub fn step(&mut self, alloc: Global, tree: &Tree) -> Progress
-        requires { (log : LogView) × MayStep tree.now log nothing (GetIsTrue self.old) }
+    /// Visits one node, whole, as a get alone does: it is lent that node.
+    pub fn step_whole(&mut self, alloc: Global, tree: &Tree) -> Progress
+        requires may { (log : LogView) × MayStep tree.now log nothing (GetIsTrue self.old) }
+        requires begins { self.old.finding ≡ Finding.Begins }
         ensures request { get_request self.new ≡ get_request self.old }
         ensures steps { (C : ℕ) (log : LogView)
             → StepLaw C tree.now tree.now log log (get_request self.old) nothing result nothing (GetIsTrue self.old)
             (GetIsTrue self.new) }
         ensures waits { ReadWaits tree.now self.old.way.node.0 result }
         ensures fails { ReadFails tree.now self.old.way.node.0 result }
-        ensures gets_on { GetFollows tree.now self.old result self.new }
+        ensures gets_on { GetVisits tree.now self.old result self.new }
     {
-        self.visit(alloc, tree.node(self.way.node))
+        self.visit_whole(alloc, tree.node(self.way.node))
+    }
+
+    /// Reads one field of the border where it stands, or visits the head or interior node where it does: it is lent that
+    /// alone.
+    pub fn step(&mut self, alloc: Global, tree: &Tree) -> Progress
+        requires { (log : LogView) × MayStep tree.now log nothing (GetIsTrue self.old) }
+        ensures request { get_request self.new ≡ get_request self.old }
+        ensures steps { (C : ℕ) (log : LogView)
+            → StepLaw C tree.now tree.now log log (get_request self.old) nothing result nothing (GetIsTrue self.old)
+            (GetIsTrue self.new) }
+        ensures waits { GetWaits tree.now self.old result }
+        ensures fails { ReadFails tree.now self.old.way.node.0 result }
+        ensures gets_on { GetFollows tree.now self.old result self.new }
+        ensures bytes { AreBytes self.old.key }
+    {
+        let field = self.wants();
+        let finding = mem::replace(&mut self.finding, Finding::Begins);
+        let _bytes = rest_of(&self.key, self.way.layer);
+        match tree.part(self.way.node, field) {
+            Part::Head(head) => self.follow(at_head(head)),
+            Part::Interior(interior) => {
+                let slice = self.slice();
+                self.follow(at_interior(interior, slice))
+            }
+            Part::Version(version) => self.follow(at_version(finding, version)),
+            Part::Right(right) => {
+                let slice = self.slice();
+                self.follow(at_right(finding, right, slice))
+            }
+            Part::Order(order) => self.follow(at_order(finding, order)),
+            Part::Key(key) => {
+                let reading = at_key(finding, &key, rest_of(&self.key, self.way.layer));
+                self.follow(reading)
+            }
+            Part::Value(value) => match at_value(alloc, finding, &value, &self.columns) {
+                Ok(reading) => self.follow(reading),
+                Err(_) => Progress::Refused(Refusal::NoMemory),
+            },
+        }
     }
 }

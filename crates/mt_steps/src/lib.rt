@@ -3,7 +3,9 @@
 
 pub mod alone;
 pub mod collecting;
+pub mod finding;
 pub mod getting;
+pub mod listing;
 pub mod progress;
 pub mod ranging;
 pub mod way;

@@ -1,6 +1,9 @@
 //! A range: on its way to the border of the slice that its scan seeks, where the scan takes what is there.
 
-ghost use Rattle.std.specs.Prelude.{◌≡◌, ℕ, IsSome, true};
+ghost use Rattle.std.specs.Prelude.{◌≡◌, ℕ, ◌⊎◌, IsSome, true};
+ghost use Rattle.mt_types.specs.declared.refusal.Refusal.TheVariants.{NoMemory as NoMemoryRefusal};
+ghost use Rattle.mt_scan.specs.Scan.{HoldsKeys};
+ghost use Rattle.mt_steps.specs.declared.progress.Progress.TheVariants.{Refused};
 ghost use Rattle.mt_commit.specs.Log.{LogView};
 ghost use Rattle.mt_arena.specs.Arena.{ArenaView};
 ghost use Rattle.mt_arena.specs.Node.{border_of};
@@ -10,18 +13,22 @@ ghost use Rattle.mt_tree.specs.Descent.{is_marked};
 ghost use Rattle.mt_steps.specs.Way.{Names};
 ghost use Rattle.mt_steps.specs.Step.{StepLaw, MayStep, nothing};
 ghost use Rattle.mt_steps.specs.Causes.{IsMarkedAt, ReadWaits, ReadFails};
-ghost use Rattle.mt_steps.specs.Ranging.{range_request, RangeIsTrue, RangeFollows, RangeStays, IsHeldFor, IsHeldNode, RangeMayVisit, Seeks};
+ghost use Rattle.mt_steps.specs.Ranging.{range_request, RangeIsTrue, RangeFollows, RangeStays, RangeScans, RangeDoes, ListHasKeys, RangeReads, RangeWaits, IsHeldFor, IsHeldNode, RangeMayVisit, Seeks};
 
+use crate::listing::{ListReading, Listing};
 use crate::progress::Progress;
 use mt_arena::Node;
+use mt_border::{Entry, RightLink};
 use mt_scan::{Listed, Scan, ScanMove};
 use mt_tree::{TOP, Tree, Visit, visit_node};
 use mt_types::event::Answer;
+use mt_types::items::Items;
 use mt_types::key::Key;
 use mt_types::numbers::NodeNo;
 use mt_types::refusal::Refusal;
 use mt_types::row::ColumnNumbers;
 use std::alloc::Global;
+use std::mem;
 
 /// What a visit on the way to a slice leads to.
 #[derive(Clone, Copy)]
@@ -42,6 +49,8 @@ pub struct Range {
     pub columns: ColumnNumbers,
     pub scan: Scan,
     pub node: NodeNo,
+    /// How far it has read the border where it stands.
+    pub listing: Listing,
 }
 
 /// Visits a node on the way to a slice of its layer, and is lent no other. No link leads on from a slice alone.
@@ -72,9 +81,11 @@ pub fn seek(tree: &Tree, number: NodeNo, slice: u64) -> Sought
 }
 
 impl Range {
-    // Visits the node where it stands, and is lent no other.
-    fn visit(&mut self, alloc: Global, node: &Node) -> Progress
-        requires { RangeMayVisit self.old node.now }
+    // Visits the node where it stands, whole, and is lent no other.
+    fn visit_whole(&mut self, alloc: Global, node: &Node) -> Progress
+        requires may { RangeMayVisit self.old node.now }
+        requires begins { self.old.listing ≡ Listing.Begins }
+        ensures begins { self.new.listing ≡ Listing.Begins }
         ensures request { range_request self.new ≡ range_request self.old }
         ensures steps { (a : ArenaView) → Names a self.old.node.0 node.now → (C : ℕ) (log : LogView)
             → StepLaw C a a log log (range_request self.old) nothing result nothing (RangeIsTrue self.old)
@@ -84,6 +95,7 @@ impl Range {
         ensures gets_on { (a : ArenaView) → Names a self.old.node.0 node.now → RangeFollows a self.old result self.new }
         ensures stays { (a : ArenaView) → Names a self.old.node.0 node.now → RangeStays a self.old result self.new }
     {
+        self.listing = Listing::Begins;
         match seek_node(node, self.scan.slice()) {
             Sought::Again => {
                 self.scan.restart();
@@ -109,9 +121,65 @@ impl Range {
         }
     }
 
-    /// Visits one node: it is lent that node alone.
-    pub fn step(&mut self, alloc: Global, tree: &Tree) -> Progress
-        requires { (log : LogView) × MayStep tree.now log nothing (RangeIsTrue self.old) }
+    // Its scan visits what it has read of a border.
+    fn scan_list(
+        &mut self,
+        alloc: Global,
+        entries: Items<Entry>,
+        right: Option<RightLink>,
+    ) -> Progress
+        requires { HoldsKeys self.old.scan.prefix entries }
+        ensures request { range_request self.new ≡ range_request self.old }
+        ensures scans { (result ≡ Refused NoMemoryRefusal)
+            ⊎ RangeScans self.old (record { entries = entries; right = right }) result self.new }
+    {
+        match self
+            .scan
+            .visit(alloc, Listed::Entries(entries.as_slice(), right))
+        {
+            Ok(ScanMove::To(next)) => {
+                self.node = next;
+                Progress::Moved
+            }
+            Ok(ScanMove::Top) => {
+                self.node = TOP;
+                Progress::Moved
+            }
+            Ok(ScanMove::Done) => Progress::Answered(Answer::Rows(self.scan.take_pairs(alloc))),
+            Err(_) => Progress::Refused(Refusal::NoMemory),
+        }
+    }
+
+    // Does what a reading leads to.
+    fn follow(&mut self, alloc: Global, reading: ListReading) -> Progress
+        requires { ListHasKeys self.old.scan.prefix reading }
+        ensures request { range_request self.new ≡ range_request self.old }
+        ensures does { RangeDoes self.old reading result self.new }
+    {
+        match reading {
+            ListReading::Restarts => {
+                self.scan.restart();
+                self.node = TOP;
+                Progress::Waits
+            }
+            ListReading::Repeats => Progress::Waits,
+            ListReading::GoesOn(listing) => {
+                self.listing = listing;
+                Progress::Moved
+            }
+            ListReading::To(next) => {
+                self.node = next;
+                Progress::Moved
+            }
+            ListReading::Lists(entries, right) => self.scan_list(alloc, entries, right),
+        }
+    }
+
+    /// Visits one node, whole, as a range alone does: it is lent that node.
+    pub fn step_whole(&mut self, alloc: Global, tree: &Tree) -> Progress
+        requires may { (log : LogView) × MayStep tree.now log nothing (RangeIsTrue self.old) }
+        requires begins { self.old.listing ≡ Listing.Begins }
+        ensures begins { self.new.listing ≡ Listing.Begins }
         ensures request { range_request self.new ≡ range_request self.old }
         ensures steps { (C : ℕ) (log : LogView)
             → StepLaw C tree.now tree.now log log (range_request self.old) nothing result nothing (RangeIsTrue self.old)
@@ -121,6 +189,26 @@ impl Range {
         ensures gets_on { RangeFollows tree.now self.old result self.new }
         ensures stays { RangeStays tree.now self.old result self.new }
     {
-        self.visit(alloc, tree.node(self.node))
+        self.visit_whole(alloc, tree.node(self.node))
+    }
+
+    /// Reads one field of the border where it stands, or visits the head or interior node where it does: it is lent that
+    /// alone. Once it has read a border, its scan visits what it has read.
+    pub fn step(&mut self, alloc: Global, tree: &Tree) -> Progress
+        requires { (log : LogView) × MayStep tree.now log nothing (RangeIsTrue self.old) }
+        ensures request { range_request self.new ≡ range_request self.old }
+        ensures steps { (C : ℕ) (log : LogView)
+            → StepLaw C tree.now tree.now log log (range_request self.old) nothing result nothing (RangeIsTrue self.old)
+            (RangeIsTrue self.new) }
+        ensures waits { RangeWaits tree.now self.old result }
+        ensures fails { ReadFails tree.now self.old.node.0 result }
+        ensures gets_on { RangeReads tree.now self.old result self.new }
+    {
+        let slice = self.scan.slice();
+        let listing = mem::replace(&mut self.listing, Listing::Begins);
+        match listing.read(alloc, tree, self.node, slice) {
+            Ok(reading) => self.follow(alloc, reading),
+            Err(_) => Progress::Refused(Refusal::NoMemory),
+        }
     }
 }

@@ -14,9 +14,9 @@ use Rattle.mt_border.specs.Border.{BorderView, first_held, first_suffix, suffix_
 use Rattle.mt_border.specs.Order.{IsBorder}
 use Rattle.mt_border.specs.Slots.{slot_at, is_live, held_at}
 use Rattle.mt_border.proofs.TableLemmas.{length-picked, picked_at}
-use Rattle.mt_border.proofs.SlotLemmas.{live_count}
+use Rattle.mt_border.proofs.SlotLemmas.{live_count, seen_filled, seen_hidden, seen_changed, seen_split, seen_shown}
 use Rattle.mt_border.proofs.ChangeLemmas.{changed_there, changed_elsewhere, first_held_is_next, shown_other, shown_lives_other, number_within, number_live}
-use Rattle.mt_border.proofs.FieldLemmas.{live_entry_among}
+use Rattle.mt_border.proofs.FieldLemmas.{live_entry_in}
 use Rattle.mt_border.specs.declared.entry.Content.{Content}
 use Rattle.mt_border.specs.declared.entry.Content.TheVariants.{Short, Long, Link}
 use Rattle.mt_border.specs.declared.entry.Entry.{Entry}
@@ -26,7 +26,7 @@ use Rattle.mt_chart.specs.Tree.{Among, first, later, Below, no_right, before_rig
 use Rattle.mt_chart.proofs.Basics.{same_number}
 use Rattle.mt_chart.specs.Noted.{SlotSeen, FieldsSeen, AreSlots, IsSameKey, KeepsSlot, StaysQuiet, Ages}
 use Rattle.mt_tree.specs.Seen.{entry_seen, entries_seen, right_seen}
-use Rattle.mt_tree.specs.Fields.{slot_seen, fields_seen}
+use Rattle.mt_tree.specs.Fields.{slot_seen, fields_seen, HasSlots, BorderAges}
 
 -- ---- what is live stands in the border
 among_seen : (entries : List Entry) (entry : Entry) (i : ℕ) → i < length entries → get_or entries i entry ≡ entry → Among (entry_seen entry) (entries_seen entries)
@@ -34,8 +34,8 @@ among_seen [] entry i within e = absurd (omega (arith, within))
 among_seen (x ∷ xs) entry zero within e = subst (λ (y : Entry). Among (entry_seen y) (entries_seen (x ∷ xs))) e first
 among_seen (x ∷ xs) entry (suc i) within e = later (among_seen xs entry i (omega (arith, within)) e)
 
-pub are_slots : (b : BorderView) → IsBorder b → AreSlots (fields_seen b)
-are_slots b h = record { live = λ k lives whole. let there = live_entry_among b k h lives in among_seen b.live (slot_at b k).entry there.0 there.1 there.2 }
+pub are_slots : (b : BorderView) → HasSlots b → AreSlots (fields_seen b)
+are_slots b seen = record { live = λ k lives whole. let there = live_entry_in b k seen lives in among_seen b.live (slot_at b k).entry there.0 there.1 there.2 }
 
 -- ---- one slot
 pub same_key : (s : SlotSeen) → IsSameKey s s
@@ -62,16 +62,16 @@ beside : (f g : FieldsSeen) → ((k : ℕ) → f.held k ≡ true → g.held k �
 beside f g held slots lives right = record { held = held; slots = λ k h. keeps_same (f.slot k) (g.slot k) (f.lives k) (g.lives k) (slots k h) (lives k h); right = right }
 
 -- NOTHING CHANGES
-pub ages_same : (f : FieldsSeen) → Ages f f
-ages_same f = still f f refl refl refl refl (λ d. d) (beside f f (λ k h. h) (λ k h. refl) (λ k h l. l) (λ slice below. below))
+fields_same : (f : FieldsSeen) → Ages f f
+fields_same f = still f f refl refl refl refl (λ d. d) (beside f f (λ k h. h) (λ k h. refl) (λ k h l. l) (λ slice below. below))
 
 -- THE LOCK IS TAKEN OR GIVEN BACK
-pub ages_lock : (b : BorderView) (locked : Bool) → Ages (fields_seen b) (fields_seen (with_lock b locked))
-ages_lock b locked = still (fields_seen b) (fields_seen (with_lock b locked)) refl refl refl refl (λ d. d) (beside (fields_seen b) (fields_seen (with_lock b locked)) (λ k h. h) (λ k h. refl) (λ k h l. l) (λ slice below. below))
+fields_lock : (b : BorderView) (locked : Bool) → Ages (fields_seen b) (fields_seen (with_lock b locked))
+fields_lock b locked = still (fields_seen b) (fields_seen (with_lock b locked)) refl refl refl refl (λ d. d) (beside (fields_seen b) (fields_seen (with_lock b locked)) (λ k h. h) (λ k h. refl) (λ k h l. l) (λ slice below. below))
 
 -- THE BORDER IS MARKED DELETED
-pub ages_deleted : (b : BorderView) → Ages (fields_seen b) (fields_seen (with_deleted b))
-ages_deleted b = still (fields_seen b) (fields_seen (with_deleted b)) refl refl refl refl (λ d. refl) (beside (fields_seen b) (fields_seen (with_deleted b)) (λ k h. h) (λ k h. refl) (λ k h l. l) (λ slice below. below))
+fields_deleted : (b : BorderView) → Ages (fields_seen b) (fields_seen (with_deleted b))
+fields_deleted b = still (fields_seen b) (fields_seen (with_deleted b)) refl refl refl refl (λ d. refl) (beside (fields_seen b) (fields_seen (with_deleted b)) (λ k h. h) (λ k h. refl) (λ k h l. l) (λ slice below. below))
 
 -- another right link takes nothing from the border's interval
 abbrev pub NotLower : Option RightLink → Option RightLink → Type 0
@@ -83,8 +83,8 @@ not_lower old None above slice below = no_right
 not_lower old (Some link) above slice (before_right less) = let up = above link refl in before_right (omega (arith, less, up))
 
 -- THE RIGHT LINK IS ANOTHER, that is not lower
-pub ages_right : (b : BorderView) (right : Option RightLink) → NotLower b.right right → Ages (fields_seen b) (fields_seen (with_right b right))
-ages_right b right up = still (fields_seen b) (fields_seen (with_right b right)) refl refl refl refl (λ d. d) (beside (fields_seen b) (fields_seen (with_right b right)) (λ k h. h) (λ k h. refl) (λ k h l. l) up)
+fields_right : (b : BorderView) (right : Option RightLink) → NotLower b.right right → Ages (fields_seen b) (fields_seen (with_right b right))
+fields_right b right up = still (fields_seen b) (fields_seen (with_right b right)) refl refl refl refl (λ d. d) (beside (fields_seen b) (fields_seen (with_right b right)) (λ k h. h) (λ k h. refl) (λ k h l. l) up)
 
 -- ---- the numbers of live slots
 or_less : (a b c : Bool) → (b ≡ true → c ≡ true) → (a || b) ≡ true → (a || c) ≡ true
@@ -121,8 +121,8 @@ module _ (b : BorderView) (h : IsBorder b) (room : length b.live < 15) where
   filled_as entry held = record (with_filled b entry) { version = filled_version held b.version }
 
   -- THE FIRST UNUSED SLOT IS FILLED: where it held a key, the counter is raised
-  pub ages_filled : (entry : Entry) → Ages (fields_seen b) (fields_seen (with_filled b entry))
-  ages_filled entry = go (first_held b.unused) refl
+  fields_filled : (entry : Entry) → Ages (fields_seen b) (fields_seen (with_filled b entry))
+  fields_filled entry = go (first_held b.unused) refl
     where
       go : (held : Bool) → first_held b.unused ≡ held → Ages (fields_seen b) (fields_seen (filled_as entry held))
       go true was = record {
@@ -142,8 +142,8 @@ module _ (b : BorderView) (h : IsBorder b) (room : length b.live < 15) where
           (λ slice below. below))
 
   -- THE FIRST UNUSED SLOT IS SHOWN, which was filled since it was live
-  pub ages_shown : (place version : ℕ) → first_held b.unused ≡ false → Ages (fields_seen b) (fields_seen (with_shown b place version))
-  ages_shown place version not =
+  fields_shown : (place version : ℕ) → first_held b.unused ≡ false → Ages (fields_seen b) (fields_seen (with_shown b place version))
+  fields_shown place version not =
       let new = with_shown b place version in
       let same : (k : ℕ) → held_at b k ≡ true → slot_at new k ≡ slot_at b k = λ k held. shown_other b h place version k (other_held not k held) in
       still (fields_seen b) (fields_seen new) refl refl refl refl (λ d. d) (beside (fields_seen b) (fields_seen new)
@@ -153,13 +153,13 @@ module _ (b : BorderView) (h : IsBorder b) (room : length b.live < 15) where
       (λ slice below. below))
 
 -- THE SLOT AT A PLACE IS HIDDEN
-pub ages_hidden : (b : BorderView) (place : ℕ) → Ages (fields_seen b) (fields_seen (with_hidden b place))
-ages_hidden b place =
+fields_hidden : (b : BorderView) (place : ℕ) → Ages (fields_seen b) (fields_seen (with_hidden b place))
+fields_hidden b place =
     still (fields_seen b) (fields_seen (with_hidden b place)) refl refl refl refl (λ d. d) (beside (fields_seen b) (fields_seen (with_hidden b place)) (λ k h. h) (λ k h. refl) (λ k h lives. hidden_lives b.order.live place k lives) (λ slice below. below))
 
 -- THE UPPER ENTRIES MOVE to the right: the counter is raised
-pub ages_split : (b : BorderView) (keep : ℕ) (right : RightLink) → Ages (fields_seen b) (fields_seen (with_split b keep right))
-ages_split b keep right = record {
+fields_split : (b : BorderView) (keep : ℕ) (right : RightLink) → Ages (fields_seen b) (fields_seen (with_split b keep right))
+fields_split b keep right = record {
   inserts = omega arith;
   splits = omega arith;
   inserted = λ set not. let clash : true ≡ false = sym set ∙ not in absurd (cc);
@@ -224,11 +224,42 @@ module _ (b : BorderView) (h : IsBorder b) (place : ℕ) (within : place < lengt
       ]
 
   -- ITS ROW IS ANOTHER
-  pub ages_value : (row : Row) → Ages (fields_seen b) (fields_seen (with_value b place row))
-  ages_value row = ages_changed (with_row row) (with_value b place row).live (key_with_row row (slot_at b n).entry.slice (slot_at b n).entry.content)
+  fields_value : (row : Row) → Ages (fields_seen b) (fields_seen (with_value b place row))
+  fields_value row = ages_changed (with_row row) (with_value b place row).live (key_with_row row (slot_at b n).entry.slice (slot_at b n).entry.content)
 
   -- IT BECOMES A LINK, that was a longer key's
-  pub ages_link : (head : NodeNo) → IsSome (suffix_at place b.live) → Ages (fields_seen b) (fields_seen (with_link_at b place head))
-  ages_link head some =
+  fields_link : (head : NodeNo) → IsSome (suffix_at place b.live) → Ages (fields_seen b) (fields_seen (with_link_at b place head))
+  fields_link head some =
       let read : suffix_at place b.live ≡ entry_suffix (slot_at b n).entry = ap first_suffix (drop_more b.live place blank_slot.entry within) ∙ ap entry_suffix entry_read in
       ages_changed (with_link head) (with_link_at b place head).live (key_with_link head (slot_at b n).entry.slice (slot_at b n).entry.content (subst (λ (o : Option (List ℕ)). IsSome o) read some))
+
+-- ---- and so the border ages
+pub ages_same : (b : BorderView) → BorderAges b b
+ages_same b = record { low = refl; fields = fields_same (fields_seen b); slots = λ seen. seen }
+
+pub ages_lock : (b : BorderView) (locked : Bool) → BorderAges b (with_lock b locked)
+ages_lock b locked = record { low = refl; fields = fields_lock b locked; slots = λ seen. seen }
+
+pub ages_deleted : (b : BorderView) → BorderAges b (with_deleted b)
+ages_deleted b = record { low = refl; fields = fields_deleted b; slots = λ seen. seen }
+
+pub ages_right : (b : BorderView) (right : Option RightLink) → NotLower b.right right → BorderAges b (with_right b right)
+ages_right b right up = record { low = refl; fields = fields_right b right up; slots = λ seen. seen }
+
+pub ages_filled : (b : BorderView) → IsBorder b → length b.live < 15 → (entry : Entry) → BorderAges b (with_filled b entry)
+ages_filled b h room entry = record { low = refl; fields = fields_filled b h room entry; slots = λ seen. seen_filled b.live b.unused b.slots b.order seen entry room }
+
+pub ages_shown : (b : BorderView) → IsBorder b → length b.live < 15 → (place version : ℕ) → first_held b.unused ≡ false → BorderAges b (with_shown b place version)
+ages_shown b h room place version fresh = record { low = refl; fields = fields_shown b h room place version fresh; slots = λ seen. seen_shown b.live b.unused b.slots b.order place version seen room }
+
+pub ages_hidden : (b : BorderView) (place : ℕ) → BorderAges b (with_hidden b place)
+ages_hidden b place = record { low = refl; fields = fields_hidden b place; slots = λ seen. seen_hidden b.live b.unused b.slots b.order seen place }
+
+pub ages_split : (b : BorderView) (keep : ℕ) (right : RightLink) → BorderAges b (with_split b keep right)
+ages_split b keep right = record { low = refl; fields = fields_split b keep right; slots = λ seen. seen_split b.live b.unused b.slots b.order seen keep }
+
+pub ages_value : (b : BorderView) → IsBorder b → (place : ℕ) → place < length b.live → (row : Row) → BorderAges b (with_value b place row)
+ages_value b h place within row = record { low = refl; fields = fields_value b h place within row; slots = λ seen. seen_changed b.live b.unused b.slots b.order seen place (with_row row) within }
+
+pub ages_link : (b : BorderView) → IsBorder b → (place : ℕ) → place < length b.live → (head : NodeNo) → IsSome (suffix_at place b.live) → BorderAges b (with_link_at b place head)
+ages_link b h place within head some = record { low = refl; fields = fields_link b h place within head some; slots = λ seen. seen_changed b.live b.unused b.slots b.order seen place (with_link head) within }

@@ -11,7 +11,7 @@ use Rattle.mt_arena.specs.Arena.{ArenaView, with_node_at, with_head_changed, wit
 use Rattle.mt_arena.specs.declared.node.Node.{Node}
 use Rattle.mt_arena.specs.declared.node.Node.TheVariants.{Head, Interior, Border}
 use Rattle.mt_arena.proofs.NodeLemmas.{updates-with_node, node-from_head, node-from_interior, node-from_border}
-use Rattle.mt_chart.specs.Tree.{HeadNode, Among, first, later, head, border, interior}
+use Rattle.mt_chart.specs.Tree.{HeadNode, BorderNode, Among, first, later, head, border, interior}
 use Rattle.mt_chart.specs.Chart.{Changes}
 use Rattle.mt_tree.specs.Seen.{arena_seen, node_seen, head_seen, border_seen, interior_seen}
 
@@ -51,6 +51,16 @@ head-seen a number node is = go (node_at a.nodes number) is
     go (Some (Head h)) e = (h, refl, cc)
     go (Some (Interior i)) e = absurd (cc)
     go (Some (Border b)) e = absurd (cc)
+
+-- what is seen as a border is one
+pub border-seen : (a : ArenaView) (number : ℕ) (node : BorderNode) → arena_seen a number ≡ Some (border node) → (b : BorderView) × (border_at a.nodes number ≡ Some b) × (border_seen b ≡ node)
+border-seen a number node is = go (node_at a.nodes number) is
+  where
+    go : (found : Option Node) → option_map node_seen found ≡ Some (border node) → (b : BorderView) × (option_and_then border_of found ≡ Some b) × (border_seen b ≡ node)
+    go None e = absurd (cc)
+    go (Some (Head h)) e = absurd (cc)
+    go (Some (Interior i)) e = absurd (cc)
+    go (Some (Border b)) e = (b, refl, cc)
 
 -- one node is written, and the others stay
 pub seen-written : (a : ArenaView) (number : ℕ) (old node : Node) → node_at a.nodes number ≡ Some old → Changes (arena_seen a) (arena_seen (with_node_at a number node)) number (Some (node_seen node))

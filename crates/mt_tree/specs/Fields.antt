@@ -1,10 +1,12 @@
 -- The fields of a border as the theory of one field at a time sees them.
+use Rattle.std.specs.Prelude.{◌≡◌}
 use Rattle.mt_border.specs.Border.{BorderView}
+use Rattle.mt_border.specs.Order.{AreInSlots}
 use Rattle.mt_border.specs.Slots.{slot_at, is_live, held_at}
 use Rattle.mt_border.specs.declared.entry.Content.{Content}
 use Rattle.mt_border.specs.declared.entry.Content.TheVariants.{Short, Long, Link}
 use Rattle.mt_border.specs.declared.entry.Entry.{Entry}
-use Rattle.mt_chart.specs.Noted.{Mark, plain, layer, SlotSeen, FieldsSeen}
+use Rattle.mt_chart.specs.Noted.{Mark, plain, layer, SlotSeen, FieldsSeen, Ages}
 use Rattle.mt_tree.specs.Seen.{entry_seen, border_seen}
 
 -- the mark of the key of what a slot holds: a link's is that of a layer
@@ -30,3 +32,13 @@ fields_seen b =
       lives = λ number. is_live b number;
       held = λ number. held_at b number;
     }
+
+-- what is live and unused is what its slots hold, in its order
+abbrev pub HasSlots : BorderView → Type 0
+HasSlots b = AreInSlots b.live b.unused b.slots b.order
+
+-- a border ages: its low stays, its fields age, and its slots still hold what is live and unused
+pub record BorderAges (b then : BorderView) : Type 0 where
+  pub low : then.low ≡ b.low
+  pub fields : Ages (fields_seen b) (fields_seen then)
+  pub slots : HasSlots b → HasSlots then

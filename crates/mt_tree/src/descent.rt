@@ -17,8 +17,8 @@ use mt_interior::{Head, Interior};
 use mt_slice::{rest_of, slice_of};
 use mt_types::numbers::NodeNo;
 
-// From a head to the root.
-fn visit_head(head: &Head) -> Visit
+/// What a descent sees at a head: it goes to the root. Constant cost.
+pub fn visit_head(head: &Head) -> Visit
     ensures value { result ≡ visit_head head.now }
     ensures again { result ≡ Visit.Again → head.now.version.deleted ≡ true }
     ensures sound { IsHead head.now }
@@ -29,8 +29,9 @@ fn visit_head(head: &Head) -> Visit
     Visit::To(head.root())
 }
 
-// From an interior node to the last child whose low is at most the slice.
-fn visit_interior(interior: &Interior, slice: u64) -> Visit
+/// What a descent sees at an interior node: it goes to the last child whose low is at most the slice. Costs a search of
+/// its children.
+pub fn visit_interior(interior: &Interior, slice: u64) -> Visit
     requires { interior.now.version.deleted ≡ false → (0 < length interior.now.children) × (interior.now.low ≤ slice) }
     ensures value { result ≡ visit_interior slice interior.now }
     ensures again { result ≡ Visit.Again → interior.now.version.deleted ≡ true }

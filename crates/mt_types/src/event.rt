@@ -51,7 +51,8 @@ pub enum Request {
     },
 }
 
-/// One event. Calls go on by steps, each of which visits one node, or takes one delta of the log.
+/// One event. Calls go on by steps: each visits one node, and a get, range or build reads one field of it, where it is a
+/// border; or it takes one delta of the log.
 #[derive(Debug, PartialEq, Eq, Drop)]
 pub enum Event {
     /// A pass begins a call.

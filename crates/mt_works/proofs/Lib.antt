@@ -1,4 +1,5 @@
 pub mod BuildingLemmas
+pub mod BuildSteps
 pub mod WorkLemmas
 pub mod NewWorks
 pub mod LoneBuild

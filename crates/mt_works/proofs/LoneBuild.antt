@@ -10,6 +10,7 @@ use Rattle.mt_steps.specs.declared.progress.Progress.TheVariants.{Moved, Waits}
 use Rattle.mt_steps.specs.World.{World, IsWorld, IsTaken}
 use Rattle.mt_steps.specs.Causes.{ReadWaits}
 use Rattle.mt_steps.proofs.LoneRange.{ScanStands, scan_left, scan_waits_not, scan_nearer_in}
+use Rattle.mt_steps.specs.declared.listing.Listing.{Listing}
 use Rattle.mt_works.specs.declared.building.Building.{Building}
 use Rattle.mt_works.specs.Building.{ScansOn, BuildingIsTrue, GoesOn, BuildsOn, BuildMoves, BuildFollows}
 
@@ -42,11 +43,11 @@ lone_build_waits_not a now w building world scans stands free marked =
     scan_waits_not a now w world building.node.0 building.build.prefix (subst (λ (u : Option ℕ). StandsBy u w building.node.0 building.build) scans stands) free marked
 
 -- ---- a step
-module _ (a : ArenaView) (log : LogView) (now begun then : ℕ) (past since : List Arena) (w next_world : World) (number next : ℕ) (old new : BuildView) (world : IsWorld a now w) (same : (other : ℕ) → next_world.chart other ≡ w.chart other) where
-  nearer : (upto later : Option ℕ) → ScansOn upto old number begun past a w → StandsBy upto w number old → GoesOn a log upto old number later new → BuildMoves a upto later number old next new → HasToTake upto old.state.at
-      → ScansOn later new next then since a next_world → StandsBy later next_world next new × (left_by later a (newest log) next new < left_by upto a (newest log) number old)
+module _ (a : ArenaView) (log : LogView) (now begun then : ℕ) (past since : List Arena) (w next_world : World) (number next : ℕ) (old new : BuildView) (was then_listing : Listing) (world : IsWorld a now w) (same : (other : ℕ) → next_world.chart other ≡ w.chart other) where
+  nearer : (upto later : Option ℕ) → ScansOn upto old number was begun past a w → StandsBy upto w number old → GoesOn a log upto old number was later new → BuildMoves a upto later number old next new → HasToTake upto old.state.at
+      → ScansOn later new next then_listing then since a next_world → StandsBy later next_world next new × (left_by later a (newest log) next new < left_by upto a (newest log) number old)
   nearer None None truth stands keeps moves has true_then =
-      let (there, falls) = scan_nearer_in a now w next_world world same number next begun then (first_slice new.at) (build_cursor old) (build_cursor new) stands truth.held moves.0 true_then.held in
+      let (there, falls) = scan_nearer_in a now w next_world world same number next begun then (first_slice new.at) (build_cursor old) (build_cursor new) stands truth.scans.held moves.0 true_then.scans.held in
       let at : new.state.at ≡ old.state.at = ap (λ (s : StateView). s.at) keeps in
       (there, omega (arith, falls, at))
   nearer None (Some upto) truth stands (is, keeps, all) moves has true_then =
@@ -63,4 +64,4 @@ pub lone_build_nearer : (a : ArenaView) (log : LogView) (now begun moves : ℕ) 
     → (next : World) → ((number : ℕ) → next.chart number ≡ w.chart number) → (then made : ℕ) (since : List Arena) → BuildingIsTrue new then made since a next
     → build_stands next new × (build_left a (newest log) new < build_left a (newest log) old)
 lone_build_nearer a log now begun moves past w old new world truth stands builds follows has next same then made since true_then =
-    nearer a log now begun then past since w next old.node.0 new.node.0 old.build new.build world same old.upto new.upto truth stands builds follows has true_then
+    nearer a log now begun then past since w next old.node.0 new.node.0 old.build new.build old.listing new.listing world same old.upto new.upto truth stands builds follows has true_then

@@ -1,4 +1,4 @@
--- A get that runs alone makes no more steps than there are nodes.
+-- A get that runs alone makes fewer steps than there are nodes.
 use Rattle.std.proofs.Common.{ℕ, suc, zero, ◌≡◌, ◌<◌, ◌+◌, List, [], ◌∷◌, length, Option, Some, None, refl, sym, ap, subst, ◌∙◌, arith}
 use Rattle.std.specs.Prelude.{cond, is_some}
 use Rattle.std.specs.Option.{option_map}
@@ -6,13 +6,12 @@ use Rattle.std.proofs.lemmas.List.Sums.{sum_by-cons}
 use Rattle.mt_arena.specs.Node.{Nodes, node_at, occupied}
 use Rattle.mt_arena.specs.Arena.{ArenaView}
 use Rattle.mt_arena.specs.declared.node.Node.{Node}
-use Rattle.mt_chart.specs.Tree.{Arena, Among, first, later, PlainNode}
+use Rattle.mt_chart.specs.Tree.{Among, first, later, PlainNode}
 use Rattle.mt_chart.specs.Chart.{Spot}
 use Rattle.mt_chart.proofs.Trail.{trail_fits}
 use Rattle.mt_tree.specs.Seen.{arena_seen, node_seen}
 use Rattle.mt_tree.proofs.SpareLemmas.{known_named}
-use Rattle.mt_steps.specs.declared.getting.Get.{Get}
-use Rattle.mt_steps.specs.Getting.{GetIsTrue}
+use Rattle.mt_chart.specs.Walk.{Trail}
 use Rattle.mt_steps.specs.World.{World, IsWorld}
 
 -- the numbers that name a node, of which the first is this one
@@ -53,9 +52,9 @@ there_is a number seen is = go (node_at a.nodes number) refl
     go None found = absurd (let clash : ◌≡◌ {A = Option PlainNode} None (Some seen) = sym (ap (option_map node_seen) found) ∙ is in cc)
 
 -- it has come by fewer moves than there are nodes
-pub get_steps : (a : ArenaView) (now : ℕ) (w : World) → IsWorld a now w → (get : Get) (begun moves : ℕ) (past : List Arena) → GetIsTrue get begun moves past a w → moves < occupied a.nodes
-get_steps a now w world get begun moves past (way, trail) =
-    subst (λ (n : ℕ). moves < n) (named_count 0 a.nodes) (trail_fits begun get.way.node.0 moves w.chart (named_from 0 a.nodes) all trail)
+pub trail_short : (a : ArenaView) (now : ℕ) (w : World) → IsWorld a now w → (begun number moves : ℕ) → Trail begun w.chart number moves → moves < occupied a.nodes
+trail_short a now w world begun number moves trail =
+    subst (λ (n : ℕ). moves < n) (named_count 0 a.nodes) (trail_fits begun number moves w.chart (named_from 0 a.nodes) all trail)
   where
     all : (number : ℕ) (place : Spot) → w.chart number ≡ Some place → Among number (named_from 0 a.nodes)
     all number place known =

@@ -1,21 +1,20 @@
 -- What others' steps leave of each kind of call, and what each kind owns.
-use Rattle.std.proofs.Common.{ℕ, ◌≡◌, inr, List, ◌∷◌, Option, Some, None, sym, subst}
+use Rattle.std.proofs.Common.{ℕ, ◌≡◌, List, [], ◌∷◌, Option, Some, None, sym, subst}
 use Rattle.mt_types.specs.Rows.{shown}
 use Rattle.mt_types.specs.declared.refusal.Refusal.{Refusal}
 use Rattle.mt_types.specs.declared.event.Request.{Request}
-use Rattle.mt_slice.specs.Place.{place_of}
+use Rattle.mt_slice.specs.Place.{first_slice}
 use Rattle.mt_commit.specs.Log.{LogView}
 use Rattle.mt_arena.specs.Arena.{ArenaView}
 use Rattle.mt_chart.specs.Tree.{Arena, Among}
 use Rattle.mt_chart.specs.Chart.{Evolves}
-use Rattle.mt_chart.specs.Walk.{others}
-use Rattle.mt_chart.specs.ScanRun.{Stood, AllHave}
-use Rattle.mt_chart.specs.KeyAnswer.{as_places}
-use Rattle.mt_chart.proofs.Ranges.{range_kept}
 use Rattle.mt_tree.specs.Seen.{arena_seen}
 use Rattle.mt_build.specs.Build.{BuildView}
 use Rattle.mt_build.proofs.ReadLemmas.{others_keep}
 use Rattle.mt_steps.specs.declared.getting.Get.{Get}
+use Rattle.mt_steps.proofs.GetStays.{get_stays}
+use Rattle.mt_steps.proofs.ListStays.{keys_later, listing_stays, range_stays}
+use Rattle.mt_steps.specs.declared.listing.Listing.{Listing}
 use Rattle.mt_steps.specs.declared.ranging.Range.{Range}
 use Rattle.mt_steps.specs.declared.progress.Progress.{Progress}
 use Rattle.mt_steps.specs.declared.progress.Progress.TheVariants.{Refused}
@@ -26,7 +25,7 @@ use Rattle.mt_steps.specs.Ranging.{range_request, RangeIsTrue}
 use Rattle.mt_write.specs.declared.writing.Write.{Write}
 use Rattle.mt_write.specs.Writing.{WriteIsTrue, write_request, write_held}
 use Rattle.mt_write.proofs.CauseLemmas.{stage_refused}
-use Rattle.mt_write.proofs.WorkLemmas.{way_stays, write_stays, write_taken}
+use Rattle.mt_write.proofs.WorkLemmas.{write_stays, write_taken}
 use Rattle.mt_write.proofs.WriteLasts.{write_since}
 use Rattle.mt_remove.specs.declared.tidy.Tidy.{Tidy}
 use Rattle.mt_remove.specs.Tidy.{tidy_request, tidy_held, TidyTruth}
@@ -91,22 +90,20 @@ may_build now C a log work building is m = subst (λ (x : Work). MayStep a log (
 -- ---- what others' steps leave
 -- the law of others' steps: where they leave what a call owns, and each border ages, what is true of it stays true
 module _ (a after : ArenaView) (w next : World) (C begun moves : ℕ) (past : List Arena) (evolves : Evolves begun w.chart next.chart) where
-  scan_stays : (upto : Option ℕ) (build : BuildView) (number : ℕ) → ScansOn upto build number begun past a w → ScansOn upto build number begun (arena_seen a ∷ past) after next
-  scan_stays None build number truth = others_keep w.chart next.chart begun number (arena_seen after) (arena_seen a ∷ past) build evolves truth
-  scan_stays (Some upto) build number truth = tt
+  scan_stays : (now : ℕ) → IsWorld after now next → BordersAge a after w next → (upto : Option ℕ) (build : BuildView) (number : ℕ) (listing : Listing) → ScansOn upto build number listing begun past a w → ScansOn upto build number listing begun (arena_seen a ∷ past) after next
+  scan_stays now world age None build number listing truth = record {
+    scans = others_keep w.chart next.chart begun number (arena_seen after) (arena_seen a ∷ past) build evolves truth.scans;
+    keys = keys_later after now next world (arena_seen a ∷ past) truth.keys;
+    reads = listing_stays (shown []) a after now w next world age begun evolves build.prefix (first_slice build.at) number past listing truth.reads;
+  }
+  scan_stays now world age (Some upto) build number listing truth = tt
 
   pub stays : (now : ℕ) → IsWorld after now next → BordersAge a after w next → (work : Work) → ((number : ℕ) → Among number (held work).owns → IsSame a after w next number) → IsTrue C work begun moves past a w → IsTrue C work begun moves (arena_seen a ∷ past) after next
-  stays now world age (GetWork get) same truth = (way_stays a after w next begun get.key get.way evolves truth.0, others evolves truth.1)
+  stays now world age (GetWork get) same truth = get_stays a after now w next world age begun moves evolves past get truth
   stays now world age (WriteWork write) same truth = write_stays a after w next C begun moves past evolves write same truth
-  stays now world age (RangeWork range) same truth = record {
-    bytes = truth.bytes;
-    limit = truth.limit;
-    asked = truth.asked;
-    scans = range_kept begun w.chart next.chart (Stood (shown range.columns) (arena_seen a ∷ past)) (Stood (shown range.columns) (arena_seen after ∷ (arena_seen a ∷ past))) (AllHave (arena_seen a ∷ past)) (AllHave (arena_seen after ∷ (arena_seen a ∷ past)))
-        (place_of range.start) range.limit range.scan.prefix range.node.0 range.scan.at (as_places range.scan.taken) evolves (λ key v h. inr h) (λ key t. t.1) truth.scans;
-  }
+  stays now world age (RangeWork range) same truth = range_stays a after now w next world age begun moves evolves past range truth
   stays now world age (TidyWork tidy) same truth = tidy_stays a after w next begun evolves tidy same truth
-  stays now world age (BuildWork building) same truth = scan_stays building.upto building.build building.node.0 truth
+  stays now world age (BuildWork building) same truth = scan_stays now world age building.upto building.build building.node.0 building.listing truth
 
 -- ---- what a call owns is taken
 pub owned_taken : (C begun moves : ℕ) (past : List Arena) (a : ArenaView) (w : World) (work : Work) → IsTrue C work begun moves past a w → (number : ℕ) → Among number (held work).owns → IsTaken a w number

@@ -19,6 +19,10 @@ use Rattle.mt_remove.specs.declared.stage.Stage.TheVariants.{Seeks as TidySeeks}
 use Rattle.mt_remove.specs.Follows.{not_noted}
 use Rattle.mt_remove.specs.Tidy.{tidy_request, tidy_held, TidyTruth}
 use Rattle.mt_works.specs.Building.{building_request, BuildingIsTrue, IsInLog, IsBuilt, BuildsOn}
+use Rattle.mt_steps.specs.declared.finding.Finding.TheVariants.{Begins}
+use Rattle.mt_steps.specs.declared.listing.Listing.TheVariants.{Begins as ListBegins}
+use Rattle.mt_works.specs.declared.work.Pace.{Pace}
+use Rattle.mt_works.specs.declared.work.Pace.TheVariants.{Node}
 use Rattle.mt_works.specs.declared.work.Work.{Work}
 use Rattle.mt_works.specs.declared.work.Work.TheVariants.{Get, Write, Range, Tidy, Build}
 
@@ -55,6 +59,13 @@ pub record MayWork (now C : ℕ) (a : ArenaView) (log : LogView) (work : Work) :
   pub world : IsWorld a now w
   pub true : IsTrue C work begun moves past a w
   pub room : (held work).reserves ≤ log.reserved
+
+-- a get, range or build whose step reads all of a border has read nothing of it
+abbrev pub MayPace : Pace → Work → Type 0
+MayPace Node (Get get) = get.finding ≡ Begins
+MayPace Node (Range range) = range.listing ≡ ListBegins
+MayPace Node (Build building) = building.listing ≡ ListBegins
+MayPace _ _ = Unit {0}
 
 -- the delta that a build is to take next is one of the log's
 abbrev pub HasNext : LogView → Work → Type 0
@@ -93,11 +104,12 @@ AsksForKey (BuildRequest spec) = Unit {0}
 
 -- it stands at the head of layer 0, and has done nothing
 abbrev pub IsAtStart : Work → Type 0
-IsAtStart (Get get) = get.way ≡ start
+IsAtStart (Get get) = (get.way ≡ start) × (get.finding ≡ Begins)
 IsAtStart (Write write) = (write.way ≡ start) × (write.stage ≡ WriteSeeks) × (write.head ≡ start.node)
-IsAtStart (Range range) = (range.node ≡ start.node) × (range.scan.prefix ≡ [])
+IsAtStart (Range range) = (range.node ≡ start.node) × (range.scan.prefix ≡ []) × (range.listing ≡ ListBegins)
 IsAtStart (Tidy tidy) = (tidy.way ≡ start) × (tidy.stage ≡ TidySeeks not_noted)
 IsAtStart (Build building) = (building.node ≡ start.node) × (building.build.prefix ≡ [])
+    × (building.listing ≡ ListBegins)
 
 -- a call that begins has nothing, and its record is true
 pub record IsNew (C number : ℕ) (work : Work) : Type 0 where

@@ -1,23 +1,32 @@
 //! A build of a view as a call: a scan of the view's keys, border by border, and then a step for each delta since its
 //! begin.
 
-ghost use Rattle.std.specs.Prelude.{◌≡◌, ◌≢◌, ◌↔◌, ℕ, IsTrue, IsSome, None};
+ghost use Rattle.std.specs.Prelude.{◌≡◌, ◌≢◌, ◌↔◌, ◌⊎◌, ◌≤◌, ℕ, length, IsTrue, IsSome, None};
+ghost use Rattle.mt_types.specs.declared.refusal.Refusal.TheVariants.{NoMemory as NoMemoryRefusal};
+ghost use Rattle.mt_word.specs.declared.permutation_word.TheConstants.{SLOTS};
+ghost use Rattle.mt_scan.specs.Scan.{HoldsKeys};
+ghost use Rattle.mt_steps.specs.declared.progress.Progress.TheVariants.{Moved, Refused};
+ghost use Rattle.mt_steps.specs.Listing.{WaitsForField};
 ghost use Rattle.mt_arena.specs.Arena.{ArenaView};
 ghost use Rattle.mt_steps.specs.Step.{MayStep, nothing};
 ghost use Rattle.mt_steps.specs.Way.{Names};
 ghost use Rattle.mt_steps.specs.Causes.{ReadWaits, ReadFails};
-ghost use Rattle.mt_works.specs.Building.{building_request, BuildingIsTrue, BuildMayVisit, BuildingLaw, IsBuilt, IsInLog, BuildsOn, BuildFollows, BuildWaits, BuildFails, OnlyForMemory};
+ghost use Rattle.mt_works.specs.Building.{building_request, BuildingIsTrue, BuildMayVisit, BuildingLaw, IsBuilt, IsInLog, BuildsOn, BuildFollows, BuildLists, BuildDoes, MayScan, BuildReads, BuildStepsOn, BuildWaits, BuildFieldWaits, BuildFails, OnlyForMemory};
 
 use mt_arena::Node;
+use mt_border::{Entry, RightLink};
 use mt_build::build::Build;
 use mt_commit::log::Log;
 use mt_scan::{Listed, ScanMove};
+use mt_steps::listing::{ListReading, Listing};
 use mt_steps::progress::Progress;
 use mt_steps::ranging::{Sought, seek_node};
 use mt_tree::{TOP, Tree};
+use mt_types::items::Items;
 use mt_types::numbers::NodeNo;
 use mt_types::refusal::Refusal;
 use std::alloc::Global;
+use std::mem;
 
 /// A build of a view.
 #[derive(Drop)]
@@ -27,6 +36,8 @@ pub struct Building {
     pub node: NodeNo,
     /// Once it has scanned all: the number of the last commit whose delta it is to take.
     pub upto: Option<u64>,
+    /// How far it has read the border where it stands.
+    pub listing: Listing,
 }
 
 impl Building {
@@ -40,10 +51,31 @@ impl Building {
         }
     }
 
-    /// Visits one node, and is lent that node alone; or takes the next delta, once it has scanned all.
+    /// Reads one field of the border where it stands, or visits the head or interior node where it does, and is lent that
+    /// alone; or takes the next delta, once it has scanned all.
     pub fn step(&mut self, alloc: Global, tree: &Tree, log: &Log) -> Progress
         requires may { MayStep tree.now log.now nothing (BuildingIsTrue self.old) }
         requires next { IsInLog log.now self.old.build.state.at self.old.upto }
+        ensures request { building_request self.new ≡ building_request self.old }
+        ensures steps { (C : ℕ) → BuildingLaw C tree.now log.now self.old result self.new }
+        ensures builds { BuildsOn tree.now log.now self.old result self.new }
+        ensures gets_on { BuildStepsOn tree.now log.now self.old result self.new }
+        ensures waits { BuildFieldWaits tree.now self.old result }
+        ensures fails { BuildFails tree.now self.old result }
+    {
+        match self.upto {
+            Some(_) => self.take(log),
+            None => self.read(alloc, tree, log),
+        }
+    }
+
+    /// Visits one node, whole, as a build alone does, and is lent that node; or takes the next delta, once it has scanned
+    /// all.
+    pub fn step_whole(&mut self, alloc: Global, tree: &Tree, log: &Log) -> Progress
+        requires may { MayStep tree.now log.now nothing (BuildingIsTrue self.old) }
+        requires next { IsInLog log.now self.old.build.state.at self.old.upto }
+        requires begins { self.old.listing ≡ Listing.Begins }
+        ensures begins { self.new.listing ≡ Listing.Begins }
         ensures request { building_request self.new ≡ building_request self.old }
         ensures steps { (C : ℕ) → BuildingLaw C tree.now log.now self.old result self.new }
         ensures builds { BuildsOn tree.now log.now self.old result self.new }
@@ -57,10 +89,90 @@ impl Building {
         }
     }
 
+    // Its scan visits what it has read of a border.
+    fn scan_list(
+        &mut self,
+        alloc: Global,
+        entries: Items<Entry>,
+        right: Option<RightLink>,
+        log: &Log,
+    ) -> Progress
+        requires keys { HoldsKeys self.old.build.prefix entries }
+        requires few { length entries ≤ SLOTS }
+        ensures request { building_request self.new ≡ building_request self.old }
+        ensures lists { (result ≡ Refused NoMemoryRefusal) ⊎ ((result ≡ Moved)
+            × BuildLists log.now self.old (record { entries = entries; right = right }) self.new) }
+    {
+        match self
+            .build
+            .visit(alloc, Listed::Entries(entries.as_slice(), right))
+        {
+            Ok(ScanMove::To(next)) => {
+                self.node = next;
+                Progress::Moved
+            }
+            Ok(ScanMove::Top) => {
+                self.node = TOP;
+                Progress::Moved
+            }
+            Ok(ScanMove::Done) => {
+                self.upto = Some(log.number());
+                Progress::Moved
+            }
+            Err(_) => Progress::Refused(Refusal::NoMemory),
+        }
+    }
+
+    // Does what a reading leads to.
+    fn follow(&mut self, alloc: Global, reading: ListReading, log: &Log) -> Progress
+        requires { MayScan self.old.build.prefix reading }
+        ensures request { building_request self.new ≡ building_request self.old }
+        ensures does { BuildDoes log.now self.old reading result self.new }
+    {
+        match reading {
+            ListReading::Restarts => {
+                self.build.restart();
+                self.node = TOP;
+                Progress::Waits
+            }
+            ListReading::Repeats => Progress::Waits,
+            ListReading::GoesOn(listing) => {
+                self.listing = listing;
+                Progress::Moved
+            }
+            ListReading::To(next) => {
+                self.node = next;
+                Progress::Moved
+            }
+            ListReading::Lists(entries, right) => self.scan_list(alloc, entries, right, log),
+        }
+    }
+
+    // Reads the next field of the border where it stands, or visits the head or interior node where it does.
+    fn read(&mut self, alloc: Global, tree: &Tree, log: &Log) -> Progress
+        requires may { MayStep tree.now log.now nothing (BuildingIsTrue self.old) }
+        requires scans { self.old.upto ≡ None }
+        ensures request { building_request self.new ≡ building_request self.old }
+        ensures steps { (C : ℕ) → BuildingLaw C tree.now log.now self.old result self.new }
+        ensures builds { BuildsOn tree.now log.now self.old result self.new }
+        ensures reads { BuildReads tree.now log.now self.old result self.new }
+        ensures waits { WaitsForField tree.now self.old.node.0 self.old.listing result }
+        ensures fails { ReadFails tree.now self.old.node.0 result }
+    {
+        let slice = self.build.slice();
+        let listing = mem::replace(&mut self.listing, Listing::Begins);
+        match listing.read(alloc, tree, self.node, slice) {
+            Ok(reading) => self.follow(alloc, reading, log),
+            Err(_) => Progress::Refused(Refusal::NoMemory),
+        }
+    }
+
     // Visits the node where it stands, on the way to the border where its cursor is, or that border. It is lent no other.
     fn scan(&mut self, alloc: Global, node: &Node, log: &Log) -> Progress
         requires may { BuildMayVisit log.now self.old node.now }
         requires scans { self.old.upto ≡ None }
+        requires begins { self.old.listing ≡ Listing.Begins }
+        ensures begins { self.new.listing ≡ Listing.Begins }
         ensures request { building_request self.new ≡ building_request self.old }
         ensures steps { (a : ArenaView) → Names a self.old.node.0 node.now
             → (C : ℕ) → BuildingLaw C a log.now self.old result self.new }
@@ -70,6 +182,7 @@ impl Building {
         ensures waits { (a : ArenaView) → Names a self.old.node.0 node.now → ReadWaits a self.old.node.0 result }
         ensures fails { (a : ArenaView) → Names a self.old.node.0 node.now → ReadFails a self.old.node.0 result }
     {
+        self.listing = Listing::Begins;
         match seek_node(node, self.build.slice()) {
             Sought::Again => {
                 self.build.restart();
@@ -102,6 +215,7 @@ impl Building {
     fn take(&mut self, log: &Log) -> Progress
         requires next { IsInLog log.now self.old.build.state.at self.old.upto }
         requires scanned { IsSome self.old.upto }
+        ensures listing { self.new.listing ≡ self.old.listing }
         ensures request { building_request self.new ≡ building_request self.old }
         ensures steps { (a : ArenaView) (C : ℕ) → BuildingLaw C a log.now self.old result self.new }
         ensures builds { (a : ArenaView) → BuildsOn a log.now self.old result self.new }

@@ -8,7 +8,7 @@ ghost use Rattle.mt_steps.specs.Ranging.{range_request};
 ghost use Rattle.mt_works.specs.Building.{building_request};
 ghost use Rattle.mt_works.specs.Causes.{WorkWaits, WorkFails};
 ghost use Rattle.mt_works.specs.Follows.{WorkFollows, WorkReads, WorkPosts};
-ghost use Rattle.mt_works.specs.Works.{request_of, held, IsTrue, IsKey, IsNew, MayWork, IsBuiltWork, HasNext, WorkBuilds};
+ghost use Rattle.mt_works.specs.Works.{request_of, held, IsTrue, IsKey, IsNew, MayWork, MayPace, IsBuiltWork, HasNext, WorkBuilds};
 
 use crate::building::Building;
 use bytes::Bytes;
@@ -16,7 +16,9 @@ use mt_build::build::Build;
 use mt_commit::log::Log;
 use mt_remove::tidy::Tidy;
 use mt_scan::Scan;
+use mt_steps::finding::Finding;
 use mt_steps::getting::Get;
+use mt_steps::listing::Listing;
 use mt_steps::progress::Progress;
 use mt_steps::ranging::Range;
 use mt_steps::way::{START, rest_of};
@@ -30,6 +32,15 @@ use mt_types::view::ViewSpec;
 use mt_write::writing::{Edit, Stage, Write};
 use std::alloc::Global;
 
+/// How much of a border a step of a get, range or build reads.
+#[derive(Clone, Copy, Debug, PartialEq, Eq)]
+pub enum Pace {
+    /// One field, as among other calls.
+    Field,
+    /// All of it, as of a call alone.
+    Node,
+}
+
 /// What a call is at work on.
 #[derive(Drop)]
 pub enum Work {
@@ -41,11 +52,11 @@ pub enum Work {
 }
 
 impl Work {
-    /// Whether it reads the log from the commits of its begin on, as a range and a build do.
+    /// Whether it holds the log from the commits of its begin on, as a get, a range and a build do.
     pub fn reads_log(&self) -> bool
         ensures { result ≡ reads_log (request_of self.now) }
     {
-        matches!(self, Work::Range(_) | Work::Build(_))
+        matches!(self, Work::Get(_) | Work::Range(_) | Work::Build(_))
     }
 
     /// Whether it is a build.
@@ -65,10 +76,12 @@ impl Work {
         }
     }
 
-    /// Visits one node, in this epoch, the present one; a build that has scanned its keys takes one delta.
+    /// Visits one node, in this epoch, the present one: of a border a get, range or build reads one field, or all, by the
+    /// pace. A build that has scanned its keys takes one delta.
     pub fn step(
         &mut self,
         alloc: Global,
+        pace: Pace,
         columns: u8,
         epoch: u64,
         tree: &mut Tree,
@@ -76,27 +89,37 @@ impl Work {
     ) -> Progress
         requires may { MayWork epoch columns tree.old log.old self.old }
         requires next { HasNext log.old self.old }
+        requires pace { MayPace pace self.old }
         ensures request { request_of self.new ≡ request_of self.old }
         ensures steps { StepLawIn epoch columns tree.old tree.new log.old log.new (request_of self.old) (held self.old)
             result (held self.new) (IsTrue columns self.old) (IsTrue columns self.new) }
         ensures builds { WorkBuilds tree.old log.old self.old result self.new }
-        ensures waits { WorkWaits tree.old self.old result }
+        ensures waits { WorkWaits pace tree.old self.old result }
         ensures fails { WorkFails tree.old log.old self.old result self.new }
-        ensures gets_on { WorkFollows tree.old self.old result self.new }
+        ensures gets_on { WorkFollows pace tree.old log.old self.old result self.new }
         ensures reads { WorkReads tree.old tree.new self.old }
         ensures posts { WorkPosts tree.old tree.new self.old result self.new }
     {
         match self {
-            Work::Get(get) => get.step(alloc, tree),
+            Work::Get(get) => match pace {
+                Pace::Field => get.step(alloc, tree),
+                Pace::Node => get.step_whole(alloc, tree),
+            },
             Work::Write(write) => {
                 let _before = tree.free_numbers();
                 let progress = write.step(alloc, columns, tree, log);
                 let _after = tree.free_numbers();
                 progress
             }
-            Work::Range(range) => range.step(alloc, tree),
+            Work::Range(range) => match pace {
+                Pace::Field => range.step(alloc, tree),
+                Pace::Node => range.step_whole(alloc, tree),
+            },
             Work::Tidy(tidy) => tidy.step(tree, epoch),
-            Work::Build(building) => building.step(alloc, tree, log),
+            Work::Build(building) => match pace {
+                Pace::Field => building.step(alloc, tree, log),
+                Pace::Node => building.step_whole(alloc, tree, log),
+            },
         }
     }
 }
@@ -147,6 +170,7 @@ fn new_range(
         columns,
         scan,
         node: TOP,
+        listing: Listing::Begins,
     })
 }
 
@@ -167,6 +191,7 @@ fn new_building(
         build,
         node: TOP,
         upto: None,
+        listing: Listing::Begins,
     })
 }
 
@@ -185,6 +210,7 @@ pub fn work_of(alloc: Global, columns: u8, number: u64, request: Request) -> Res
             key: key_of(key)?,
             columns,
             way: START,
+            finding: Finding::Begins,
         })),
         Request::Put { key, sets } => {
             let edit = Edit::Put { sets, only: None };

@@ -6,7 +6,7 @@ use Rattle.mt_index.specs.Alone.{RefusesPlainly}
 use Rattle.mt_index.specs.Stands.{MachineView, Steps}
 use Rattle.mt_works.proofs.LoneWork.{lone_laws}
 use Rattle.mt_index.specs.Alone.{pass_0}
-use Rattle.mt_index.proofs.EventLemmas.{begin-does, steps-more, step-happens, ends_alone, turned_away}
+use Rattle.mt_index.proofs.EventLemmas.{steps-more, step-happens, ends_alone, turned_away}
 use Rattle.mt_index.proofs.AloneStands.{runs_from_begin, came, answers_plainly, refuses_plainly, begin_refuses_plainly, never_else, went_on}
 use Rattle.mt_index.proofs.machine.Machine.do_alone.Goals as goal
 
@@ -25,7 +25,7 @@ loop-reply-init c =
       c.admit.ensures.bounds,
       (
         c.admit.new.self,
-        record { does = begin-does c.args.self.now c.admit.new.self (Called c.in-Ok.call) pass_0 c.args.request c.in-Ok.ensures.begins; caused = tt; one_step = tt },
+        c.in-Ok.ensures.begins,
         [],
         refl,
       ),
@@ -57,6 +57,11 @@ pub returns-in-Refused-clause-refused : goal.returns-in-Refused-clause-refused
 returns-in-Refused-clause-refused c =
     refuses_plainly c.args.self.now c.loop-reply.self c.step.new.self c.args.request c.in-Ok.call c.in-Refused.refusal c.loop-reply.invariant.0
     (subst (λ (o : Outcome). Steps c.loop-reply.self c.in-Ok.call.0 o c.step.new.self) c.in-Refused.is c.step.ensures.steps)
+
+pub returns-in-Done-clause-idle : goal.returns-in-Done-clause-idle
+returns-in-Done-clause-idle c =
+    came lone_laws c.args.self.now c.loop-reply.self c.step.new.self c.args.request c.in-Ok.call (Done c.in-Done.reply) c.loop-reply.invariant.0
+    (subst (λ (o : Outcome). Steps c.loop-reply.self c.in-Ok.call.0 o c.step.new.self) c.in-Done.is c.step.ensures.steps)
 
 -- it runs to its end
 pub returns-in-Done-clause-happens : goal.returns-in-Done-clause-happens

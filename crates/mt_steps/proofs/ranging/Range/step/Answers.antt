@@ -1,24 +1,20 @@
--- The node where it stands is lent.
-use Rattle.mt_steps.proofs.RangeLemmas.{range_node}
+use Rattle.mt_steps.proofs.RangeLemmas.{range_fails}
+use Rattle.mt_steps.proofs.RangeSteps.{asks_node, asks_may, asks_keys, steps_on}
 use Rattle.mt_steps.proofs.ranging.Range.step.Goals as goal
 
-pub node-requires : goal.node-requires
-node-requires c = range_node c.args.tree.now c.args.self.now c.requires.0 c.requires.1
+pub read-requires-clause-node : goal.read-requires-clause-node
+read-requires-clause-node c = asks_node c.args.tree.now c.args.self.now c.slice-slice.result c.slice-slice.ensures c.slice-slice.type_inv c.replace-listing.result c.replace-listing.ensures.value c.requires.0 c.requires.1
 
-pub visit-requires : goal.visit-requires
-visit-requires c = record { arena = c.args.tree.now; log = c.requires.0; names = record { named = c.node.ensures.value; sound = c.node.ensures.arena }; may = c.requires.1 }
+pub read-requires-clause-may : goal.read-requires-clause-may
+read-requires-clause-may c = asks_may c.args.tree.now c.args.self.now c.slice-slice.result c.slice-slice.ensures c.slice-slice.type_inv c.replace-listing.result c.replace-listing.ensures.value c.requires.0 c.requires.1
 
-pub returns-clause-steps : goal.returns-clause-steps
-returns-clause-steps c = c.visit.ensures.steps c.args.tree.now (record { named = c.node.ensures.value; sound = c.node.ensures.arena })
+pub follow-requires : goal.follow-requires
+follow-requires c = asks_keys c.args.tree.now c.args.self.now c.slice-slice.result c.slice-slice.ensures c.slice-slice.type_inv c.replace-listing.result c.replace-listing.ensures.value
+    c.read.result c.read.ensures.reads c.requires.0 c.requires.1 c.in-Ok.reading c.in-Ok.is
 
-pub returns-clause-waits : goal.returns-clause-waits
-returns-clause-waits c = c.visit.ensures.waits c.args.tree.now (record { named = c.node.ensures.value; sound = c.node.ensures.arena })
+pub returns-in-Ok-clause-steps : goal.returns-in-Ok-clause-steps
+returns-in-Ok-clause-steps c = steps_on c.args.tree.now c.args.self.now c.slice-slice.result c.slice-slice.ensures c.slice-slice.type_inv c.replace-listing.result c.replace-listing.ensures.value
+    c.read.result c.read.ensures.reads c.in-Ok.reading c.in-Ok.is c.replace-listing.new.dest c.replace-listing.ensures.after c.follow.result c.follow.new.self c.follow.ensures.does
 
-pub returns-clause-fails : goal.returns-clause-fails
-returns-clause-fails c = c.visit.ensures.fails c.args.tree.now (record { named = c.node.ensures.value; sound = c.node.ensures.arena })
-
-pub returns-clause-gets_on : goal.returns-clause-gets_on
-returns-clause-gets_on c = c.visit.ensures.gets_on c.args.tree.now (record { named = c.node.ensures.value; sound = c.node.ensures.arena })
-
-pub returns-clause-stays : goal.returns-clause-stays
-returns-clause-stays c = c.visit.ensures.stays c.args.tree.now (record { named = c.node.ensures.value; sound = c.node.ensures.arena })
+pub returns-in-Err-clause-steps : goal.returns-in-Err-clause-steps
+returns-in-Err-clause-steps c = λ C log. range_fails c.args.tree.now c.args.self.now _ log C

@@ -4,10 +4,11 @@ use Rattle.mt_scan.specs.declared.scan.ScanMove.{ScanMove}
 use Rattle.mt_scan.specs.declared.scan.ScanMove.TheVariants.{Done}
 use Rattle.mt_steps.specs.Way.{start}
 use Rattle.mt_build.specs.Build.{BuildView, VisitsOn, build_cursor}
+use Rattle.mt_steps.specs.declared.listing.Listing.TheVariants.{Begins}
 use Rattle.mt_steps.proofs.WayLemmas.{names_border, names_some, names_marked}
 use Rattle.mt_steps.proofs.RangeLemmas.{scans_on, scans_top}
 use Rattle.mt_steps.specs.Ranging.{Seeks, IsThen}
-use Rattle.mt_works.proofs.BuildingLemmas.{build_may_visit, keys_of, alive_for, scan_again, scan_moves, scan_goes, scan_tops, scan_ends, scans_all, as_scanning, as_ended, has_scanned, build_fails, scan_follows, scan_ended, scans_border}
+use Rattle.mt_works.proofs.BuildingLemmas.{build_may_visit, keys_of, alive_for, scan_again, scan_moves, scan_goes, scan_tops, scan_ends, scans_all, as_scanning, as_ended, all_scanned, has_scanned, build_fails, scan_follows, scan_ended, scans_border}
 use Rattle.mt_works.proofs.building.Building.scan.Goals as goal
 
 pub seek_node-requires : goal.seek_node-requires
@@ -32,37 +33,37 @@ returns-in-Err-clause-fails c = λ a names. (refl, names_some a c.args.self.now.
 
 pub returns-in-Again-clause-steps : goal.returns-in-Again-clause-steps
 returns-in-Again-clause-steps c = λ a names C.
-    as_scanning a c.args.log.now c.args.self.now c.requires.scans C _ _ _
+    as_scanning a c.args.log.now c.args.self.now c.requires.scans c.requires.begins C _ _ _
     (scan_again a c.args.log.now c.args.self.now.build c.args.self.now.node c.restart.new.self c.restart.ensures C)
 
 pub returns-in-To-clause-steps : goal.returns-in-To-clause-steps
 returns-in-To-clause-steps c = λ a names C.
-    as_scanning a c.args.log.now c.args.self.now c.requires.scans C _ _ _
+    as_scanning a c.args.log.now c.args.self.now c.requires.scans c.requires.begins C _ _ _
     (scan_moves a c.args.log.now c.args.self.now.build c.args.self.now.node c.seek_node.result (subst (λ (s : ℕ). Seeks a c.args.self.now.node.0 s c.seek_node.result) c.slice.ensures (c.seek_node.ensures.seeks a c.args.self.now.node.0 names)) c.in-To.next c.in-To.is C)
 
 pub returns-in-Ok-To-clause-steps : goal.returns-in-Ok-To-clause-steps
 returns-in-Ok-To-clause-steps c = λ a names C.
-    as_scanning a c.args.log.now c.args.self.now c.requires.scans C _ _ _
+    as_scanning a c.args.log.now c.args.self.now c.requires.scans c.requires.begins C _ _ _
     (scan_goes a c.args.log.now c.args.self.now.build c.args.self.now.node c.seek_node.result (subst (λ (s : ℕ). Seeks a c.args.self.now.node.0 s c.seek_node.result) c.slice.ensures (c.seek_node.ensures.seeks a c.args.self.now.node.0 names))
     c.as_border.result.now (names_border a c.args.self.now.node.0 c.args.node.now c.as_border.result.now names c.as_border.ensures.value) c.in-Here.is c.as_border.ensures.sound c.in-Ok-To.field-0 c.visit.new.self c.in-Ok-To.ensures.visited c.in-Ok-To.next c.in-Ok-To.field-0-is C)
 
 pub returns-in-Ok-Top-clause-steps : goal.returns-in-Ok-Top-clause-steps
 returns-in-Ok-Top-clause-steps c = λ a names C.
-    as_scanning a c.args.log.now c.args.self.now c.requires.scans C _ _ _
+    as_scanning a c.args.log.now c.args.self.now c.requires.scans c.requires.begins C _ _ _
     (scan_tops a c.args.log.now c.args.self.now.build c.args.self.now.node c.seek_node.result (subst (λ (s : ℕ). Seeks a c.args.self.now.node.0 s c.seek_node.result) c.slice.ensures (c.seek_node.ensures.seeks a c.args.self.now.node.0 names))
     c.as_border.result.now (names_border a c.args.self.now.node.0 c.args.node.now c.as_border.result.now names c.as_border.ensures.value) c.in-Here.is c.as_border.ensures.sound c.in-Ok-Top.field-0 c.visit.new.self c.in-Ok-Top.ensures.visited c.in-Ok-Top.field-0-is C)
 
 pub returns-in-Ok-Done-clause-steps : goal.returns-in-Ok-Done-clause-steps
 returns-in-Ok-Done-clause-steps c = λ a names C.
-    as_ended a c.args.log.now c.args.self.now c.requires.scans C _ (record { build = c.visit.new.self; node = c.args.self.now.node; upto = Some c.number.result })
+    as_ended a c.args.log.now c.args.self.now c.requires.scans c.requires.begins C _ (record { build = c.visit.new.self; node = c.args.self.now.node; upto = Some c.number.result; listing = Begins })
     (scan_ends a c.args.log.now c.args.self.now.build c.args.self.now.node c.seek_node.result (subst (λ (s : ℕ). Seeks a c.args.self.now.node.0 s c.seek_node.result) c.slice.ensures (c.seek_node.ensures.seeks a c.args.self.now.node.0 names))
     c.as_border.result.now (names_border a c.args.self.now.node.0 c.args.node.now c.as_border.result.now names c.as_border.ensures.value) c.in-Here.is c.as_border.ensures.sound c.in-Ok-Done.field-0 c.visit.new.self c.in-Ok-Done.ensures.visited c.number.result C)
 
 pub returns-in-Ok-Done-clause-builds : goal.returns-in-Ok-Done-clause-builds
 returns-in-Ok-Done-clause-builds c = λ a names.
     has_scanned a c.args.log.now c.args.self.now c.requires.scans c.number.result c.visit.new.self c.number.ensures.value c.visit.ensures.state
-    (scans_all a c.args.log.now c.args.self.now.build c.args.self.now.node c.seek_node.result (subst (λ (s : ℕ). Seeks a c.args.self.now.node.0 s c.seek_node.result) c.slice.ensures (c.seek_node.ensures.seeks a c.args.self.now.node.0 names))
-    c.as_border.result.now (names_border a c.args.self.now.node.0 c.args.node.now c.as_border.result.now names c.as_border.ensures.value) c.in-Here.is c.as_border.ensures.sound c.in-Ok-Done.field-0 c.visit.new.self c.in-Ok-Done.ensures.visited c.in-Ok-Done.field-0-is)
+    (all_scanned a c.args.log.now c.args.self.now c.requires.scans c.requires.begins c.visit.new.self (scans_all a c.args.log.now c.args.self.now.build c.args.self.now.node c.seek_node.result (subst (λ (s : ℕ). Seeks a c.args.self.now.node.0 s c.seek_node.result) c.slice.ensures (c.seek_node.ensures.seeks a c.args.self.now.node.0 names))
+    c.as_border.result.now (names_border a c.args.self.now.node.0 c.args.node.now c.as_border.result.now names c.as_border.ensures.value) c.in-Here.is c.as_border.ensures.sound c.in-Ok-Done.field-0 c.visit.new.self c.in-Ok-Done.ensures.visited c.in-Ok-Done.field-0-is))
 
 pub returns-in-Err-clause-steps : goal.returns-in-Err-clause-steps
 returns-in-Err-clause-steps c = λ a names C. build_fails a c.args.log.now c.args.self.now _ C
@@ -95,4 +96,4 @@ returns-in-Ok-Done-clause-gets_on c = λ a names.
     (subst (λ (move : ScanMove). VisitsOn c.args.self.now.build (list_of c.as_border.result.now) move c.visit.new.self) c.in-Ok-Done.field-0-is c.in-Ok-Done.ensures.visited))
 
 pub returns-in-Again-clause-gets_on : goal.returns-in-Again-clause-gets_on
-returns-in-Again-clause-gets_on c = λ a names. ap (λ (build : BuildView). record { build = build; node = start.node; upto = c.args.self.now.upto }) c.restart.ensures
+returns-in-Again-clause-gets_on c = λ a names. ap (λ (build : BuildView). record { build = build; node = start.node; upto = c.args.self.now.upto; listing = Begins }) c.restart.ensures

@@ -2,7 +2,7 @@
 use Rattle.std.proofs.Common.{ℕ, Option, sym, subst}
 use Rattle.mt_works.specs.Building.{WaitsBy, FailsAt}
 use Rattle.mt_works.proofs.BuildingLemmas.{build_node}
-use Rattle.mt_works.proofs.building.Building.step.Goals as goal
+use Rattle.mt_works.proofs.building.Building.step_whole.Goals as goal
 
 pub node-requires : goal.node-requires
 node-requires c = build_node c.args.tree.now c.args.log.now c.args.self.now c.in-None.is c.requires.may

@@ -8,18 +8,18 @@ use Rattle.mt_scan.proofs.LeadLemmas.{visit_leads}
 use Rattle.mt_steps.specs.Way.{start}
 use Rattle.mt_steps.proofs.WayLemmas.{names_border, names_some, names_marked}
 use Rattle.mt_steps.specs.Ranging.{Seeks, IsThen}
-use Rattle.mt_steps.proofs.RangeLemmas.{range_may_visit, range_keys_of, alive_for, range_waits, range_moves, range_goes, range_tops, range_answers, range_fails, range_moves_stays, range_goes_stays, range_tops_stays, scans_on, scans_top}
-use Rattle.mt_steps.proofs.ranging.Range.visit.Goals as goal
+use Rattle.mt_steps.proofs.RangeLemmas.{range_may_visit, range_keys_of, alive_for, range_waits, range_moves, comes, goes_by, tops_by, answers_by, range_fails, range_moves_stays, goes_by_stays, tops_by_stays, scans_on, scans_top}
+use Rattle.mt_steps.proofs.ranging.Range.visit_whole.Goals as goal
 
 pub seek_node-requires : goal.seek_node-requires
-seek_node-requires c = range_may_visit c.args.self.now c.args.node.now c.requires c.slice.result c.slice.ensures
+seek_node-requires c = range_may_visit c.args.self.now c.args.node.now c.requires.may c.slice.result c.slice.ensures
 
 pub as_border-requires : goal.as_border-requires
 as_border-requires c = c.seek_node.ensures.here c.in-Here.is
 
 pub visit-requires : goal.visit-requires
 visit-requires c =
-    range_keys_of c.args.self.now c.args.node.now c.requires c.seek_node.result c.slice.result c.seek_node.ensures.seeks c.slice.ensures
+    range_keys_of c.args.self.now c.args.node.now c.requires.may c.seek_node.result c.slice.result c.seek_node.ensures.seeks c.slice.ensures
     c.as_border.result.now c.as_border.ensures.value c.in-Here.is
 
 pub returns-in-Again-clause-waits : goal.returns-in-Again-clause-waits
@@ -37,18 +37,15 @@ returns-in-To-clause-steps c = λ a names C log.
 
 pub returns-in-Ok-To-clause-steps : goal.returns-in-Ok-To-clause-steps
 returns-in-Ok-To-clause-steps c = λ a names C log.
-    range_goes a c.args.self.now c.seek_node.result (subst (λ (s : ℕ). Seeks a c.args.self.now.node.0 s c.seek_node.result) c.slice.ensures (c.seek_node.ensures.seeks a c.args.self.now.node.0 names))
-    c.as_border.result.now (names_border a c.args.self.now.node.0 c.args.node.now c.as_border.result.now names c.as_border.ensures.value) c.in-Here.is c.as_border.ensures.sound c.in-Ok-To.field-0 c.visit.new.self c.in-Ok-To.ensures.visited c.in-Ok-To.ensures.limit c.in-Ok-To.ensures.asked c.in-Ok-To.next c.in-Ok-To.field-0-is log C
+    goes_by a c.args.self.now c.in-Ok-To.field-0 c.visit.new.self (comes a c.args.self.now c.seek_node.result (subst (λ (s : ℕ). Seeks a c.args.self.now.node.0 s c.seek_node.result) c.slice.ensures (c.seek_node.ensures.seeks a c.args.self.now.node.0 names)) c.as_border.result.now (names_border a c.args.self.now.node.0 c.args.node.now c.as_border.result.now names c.as_border.ensures.value) c.in-Here.is c.as_border.ensures.sound c.in-Ok-To.field-0 c.visit.new.self c.in-Ok-To.ensures.visited) c.in-Ok-To.ensures.limit c.in-Ok-To.ensures.asked c.in-Ok-To.next c.in-Ok-To.field-0-is log C
 
 pub returns-in-Ok-Top-clause-steps : goal.returns-in-Ok-Top-clause-steps
 returns-in-Ok-Top-clause-steps c = λ a names C log.
-    range_tops a c.args.self.now c.seek_node.result (subst (λ (s : ℕ). Seeks a c.args.self.now.node.0 s c.seek_node.result) c.slice.ensures (c.seek_node.ensures.seeks a c.args.self.now.node.0 names))
-    c.as_border.result.now (names_border a c.args.self.now.node.0 c.args.node.now c.as_border.result.now names c.as_border.ensures.value) c.in-Here.is c.as_border.ensures.sound c.in-Ok-Top.field-0 c.visit.new.self c.in-Ok-Top.ensures.visited c.in-Ok-Top.ensures.limit c.in-Ok-Top.ensures.asked c.in-Ok-Top.ensures.home c.in-Ok-Top.field-0-is log C
+    tops_by a c.args.self.now c.in-Ok-Top.field-0 c.visit.new.self (comes a c.args.self.now c.seek_node.result (subst (λ (s : ℕ). Seeks a c.args.self.now.node.0 s c.seek_node.result) c.slice.ensures (c.seek_node.ensures.seeks a c.args.self.now.node.0 names)) c.as_border.result.now (names_border a c.args.self.now.node.0 c.args.node.now c.as_border.result.now names c.as_border.ensures.value) c.in-Here.is c.as_border.ensures.sound c.in-Ok-Top.field-0 c.visit.new.self c.in-Ok-Top.ensures.visited) c.in-Ok-Top.ensures.limit c.in-Ok-Top.ensures.asked c.in-Ok-Top.ensures.home c.in-Ok-Top.field-0-is log C
 
 pub returns-in-Ok-Done-clause-steps : goal.returns-in-Ok-Done-clause-steps
 returns-in-Ok-Done-clause-steps c = λ a names C log.
-    range_answers a c.args.self.now c.seek_node.result (subst (λ (s : ℕ). Seeks a c.args.self.now.node.0 s c.seek_node.result) c.slice.ensures (c.seek_node.ensures.seeks a c.args.self.now.node.0 names))
-    c.as_border.result.now (names_border a c.args.self.now.node.0 c.args.node.now c.as_border.result.now names c.as_border.ensures.value) c.in-Here.is c.as_border.ensures.sound c.in-Ok-Done.field-0 c.visit.new.self c.in-Ok-Done.ensures.visited c.in-Ok-Done.field-0-is c.take_pairs.result c.take_pairs.ensures.value c.take_pairs.ensures.bytes _ log C
+    answers_by a c.args.self.now c.in-Ok-Done.field-0 c.visit.new.self (comes a c.args.self.now c.seek_node.result (subst (λ (s : ℕ). Seeks a c.args.self.now.node.0 s c.seek_node.result) c.slice.ensures (c.seek_node.ensures.seeks a c.args.self.now.node.0 names)) c.as_border.result.now (names_border a c.args.self.now.node.0 c.args.node.now c.as_border.result.now names c.as_border.ensures.value) c.in-Here.is c.as_border.ensures.sound c.in-Ok-Done.field-0 c.visit.new.self c.in-Ok-Done.ensures.visited) c.in-Ok-Done.field-0-is c.take_pairs.result c.take_pairs.ensures.value c.take_pairs.ensures.bytes _ log C
 
 pub returns-in-Err-clause-steps : goal.returns-in-Err-clause-steps
 returns-in-Err-clause-steps c = λ a names C log. range_fails a c.args.self.now _ log C
@@ -61,12 +58,11 @@ returns-in-To-clause-gets_on c = λ a names. (inl (record { fits = omega (arith,
 
 pub returns-in-Ok-To-clause-stays : goal.returns-in-Ok-To-clause-stays
 returns-in-Ok-To-clause-stays c = λ a names.
-    range_goes_stays a c.args.self.now c.seek_node.result (subst (λ (s : ℕ). Seeks a c.args.self.now.node.0 s c.seek_node.result) c.slice.ensures (c.seek_node.ensures.seeks a c.args.self.now.node.0 names))
-    c.as_border.result.now (names_border a c.args.self.now.node.0 c.args.node.now c.as_border.result.now names c.as_border.ensures.value) c.in-Here.is c.as_border.ensures.sound c.in-Ok-To.field-0 c.visit.new.self c.in-Ok-To.ensures.visited c.in-Ok-To.ensures.limit c.in-Ok-To.ensures.asked c.in-Ok-To.next c.in-Ok-To.field-0-is
+    goes_by_stays a c.args.self.now c.in-Ok-To.field-0 c.visit.new.self (comes a c.args.self.now c.seek_node.result (subst (λ (s : ℕ). Seeks a c.args.self.now.node.0 s c.seek_node.result) c.slice.ensures (c.seek_node.ensures.seeks a c.args.self.now.node.0 names)) c.as_border.result.now (names_border a c.args.self.now.node.0 c.args.node.now c.as_border.result.now names c.as_border.ensures.value) c.in-Here.is c.as_border.ensures.sound c.in-Ok-To.field-0 c.visit.new.self c.in-Ok-To.ensures.visited) c.in-Ok-To.ensures.limit c.in-Ok-To.ensures.asked c.in-Ok-To.next c.in-Ok-To.field-0-is
 
 pub returns-in-Ok-To-clause-gets_on : goal.returns-in-Ok-To-clause-gets_on
 returns-in-Ok-To-clause-gets_on c = λ a names.
-    let alive = alive_for c.args.self.now c.args.node.now c.requires c.seek_node.result c.slice.result c.seek_node.ensures.seeks c.slice.ensures c.as_border.result.now c.as_border.ensures.value c.in-Here.is in (
+    let alive = alive_for c.args.self.now c.args.node.now c.requires.may c.seek_node.result c.slice.result c.seek_node.ensures.seeks c.slice.ensures c.as_border.result.now c.as_border.ensures.value c.in-Here.is in (
       inr (scans_on a c.args.self.now.node.0 c.as_border.result.now (cursor_in c.args.self.now.scan) (cursor_in c.visit.new.self) c.in-Ok-To.field-0 (names_border a c.args.self.now.node.0 c.args.node.now c.as_border.result.now names c.as_border.ensures.value) c.as_border.ensures.sound alive
           (visit_leads c.args.self.now.scan (list_of c.as_border.result.now) c.in-Ok-To.field-0 c.visit.new.self c.in-Ok-To.ensures.visited) c.in-Ok-To.ensures.onward c.in-Ok-To.ensures.within names.sound c.in-Ok-To.next c.in-Ok-To.field-0-is),
       inr (c.in-Ok-To.field-0, record { border = c.as_border.result.now; stands = (names_border a c.args.self.now.node.0 c.args.node.now c.as_border.result.now names c.as_border.ensures.value); visits = c.in-Ok-To.ensures.visited }, subst (λ (move : ScanMove). IsThen move c.in-Ok-To.next.0) (sym c.in-Ok-To.field-0-is) refl),
@@ -74,12 +70,11 @@ returns-in-Ok-To-clause-gets_on c = λ a names.
 
 pub returns-in-Ok-Top-clause-stays : goal.returns-in-Ok-Top-clause-stays
 returns-in-Ok-Top-clause-stays c = λ a names.
-    range_tops_stays a c.args.self.now c.seek_node.result (subst (λ (s : ℕ). Seeks a c.args.self.now.node.0 s c.seek_node.result) c.slice.ensures (c.seek_node.ensures.seeks a c.args.self.now.node.0 names))
-    c.as_border.result.now (names_border a c.args.self.now.node.0 c.args.node.now c.as_border.result.now names c.as_border.ensures.value) c.in-Here.is c.as_border.ensures.sound c.in-Ok-Top.field-0 c.visit.new.self c.in-Ok-Top.ensures.visited c.in-Ok-Top.ensures.limit c.in-Ok-Top.ensures.asked c.in-Ok-Top.ensures.home c.in-Ok-Top.field-0-is
+    tops_by_stays a c.args.self.now c.in-Ok-Top.field-0 c.visit.new.self (comes a c.args.self.now c.seek_node.result (subst (λ (s : ℕ). Seeks a c.args.self.now.node.0 s c.seek_node.result) c.slice.ensures (c.seek_node.ensures.seeks a c.args.self.now.node.0 names)) c.as_border.result.now (names_border a c.args.self.now.node.0 c.args.node.now c.as_border.result.now names c.as_border.ensures.value) c.in-Here.is c.as_border.ensures.sound c.in-Ok-Top.field-0 c.visit.new.self c.in-Ok-Top.ensures.visited) c.in-Ok-Top.ensures.limit c.in-Ok-Top.ensures.asked c.in-Ok-Top.ensures.home c.in-Ok-Top.field-0-is
 
 pub returns-in-Ok-Top-clause-gets_on : goal.returns-in-Ok-Top-clause-gets_on
 returns-in-Ok-Top-clause-gets_on c = λ a names.
-    let alive = alive_for c.args.self.now c.args.node.now c.requires c.seek_node.result c.slice.result c.seek_node.ensures.seeks c.slice.ensures c.as_border.result.now c.as_border.ensures.value c.in-Here.is in (
+    let alive = alive_for c.args.self.now c.args.node.now c.requires.may c.seek_node.result c.slice.result c.seek_node.ensures.seeks c.slice.ensures c.as_border.result.now c.as_border.ensures.value c.in-Here.is in (
       inr (scans_top a c.args.self.now.node.0 c.as_border.result.now (cursor_in c.args.self.now.scan) (cursor_in c.visit.new.self) c.in-Ok-Top.field-0 (names_border a c.args.self.now.node.0 c.args.node.now c.as_border.result.now names c.as_border.ensures.value) c.as_border.ensures.sound alive
           (visit_leads c.args.self.now.scan (list_of c.as_border.result.now) c.in-Ok-Top.field-0 c.visit.new.self c.in-Ok-Top.ensures.visited) c.in-Ok-Top.ensures.onward c.in-Ok-Top.ensures.within names.sound c.in-Ok-Top.field-0-is),
       inr (c.in-Ok-Top.field-0, record { border = c.as_border.result.now; stands = (names_border a c.args.self.now.node.0 c.args.node.now c.as_border.result.now names c.as_border.ensures.value); visits = c.in-Ok-Top.ensures.visited }, subst (λ (move : ScanMove). IsThen move start.node.0) (sym c.in-Ok-Top.field-0-is) refl),

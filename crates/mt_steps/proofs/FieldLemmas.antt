@@ -1,0 +1,517 @@
+-- A get that reads a field of a border: what it knows then, and where that leads.
+use Rattle.std.proofs.Common.{ℕ, suc, ◌≡◌, ◌≢◌, ◌<◌, ◌≤◌, ◌+◌, ◌⊎◌, inl, inr, Bool, true, false, cond, ◌||◌, ◌&&◌, ◌==◌, List, [], ◌∷◌, length, map, drop, slice_get, Option, Some, None, refl, sym, ap, subst, ◌∙◌, add-one, arith}
+use Rattle.std.specs.Prelude.{slice_index, nat_lt, nat_le}
+use Rattle.std.specs.Option.{option_map}
+use Rattle.std.proofs.lemmas.Bool.{lt-ltb, le-ltb, ltb-true, ltb-false, leb-true, leb-false, le-leb, eq-eqb, or_right, cases_lt, cases_Bool, cond-true, cond-false}
+use Rattle.std.proofs.lemmas.List.{drop_all}
+use Rattle.std.proofs.lemmas.Bool.Decides.{eqb_tells}
+use Rattle.mt_types.specs.Rows.{shown}
+use Rattle.mt_types.specs.declared.numbers.NodeNo.{NodeNo}
+use Rattle.mt_slice.specs.Place.{Place, last, deeper, AreBytes, place_of, first_slice, first_class, slice_number}
+use Rattle.mt_slice.specs.Classes.{class_number, class_of, place_at}
+use Rattle.mt_slice.specs.declared.slice_class.Class.{Class}
+use Rattle.mt_slice.specs.declared.slice_class.Class.TheVariants.{Len, Long as LongClass}
+use Rattle.mt_slice.proofs.PlaceOn.{place_of-place_at, place_of-short, place_of-long}
+use Rattle.mt_border.specs.Border.{BorderView}
+use Rattle.mt_border.specs.Entry.{content_class}
+use Rattle.mt_border.specs.Slots.{slot_at}
+use Rattle.mt_border.specs.declared.entry.Content.{Content}
+use Rattle.mt_border.specs.declared.entry.Content.TheVariants.{Short, Long, Link}
+use Rattle.mt_border.specs.Order.{IsBorder}
+use Rattle.mt_border.specs.declared.entry.RightLink.{RightLink}
+use Rattle.mt_arena.specs.Arena.{ArenaView}
+use Rattle.mt_arena.specs.Node.{border_at}
+use Rattle.mt_chart.specs.Tree.{Arena, Right, Below, no_right, before_right}
+use Rattle.mt_chart.specs.Chart.{class, Holds}
+use Rattle.mt_chart.specs.Walk.{Trail}
+use Rattle.mt_chart.proofs.ReadingStay.{right_held, climbs_right}
+use Rattle.mt_tree.specs.Seen.{arena_seen, border_seen, right_seen, entry_seen, content_seen}
+use Rattle.mt_tree.specs.Fields.{fields_seen}
+use Rattle.mt_tree.proofs.DescentLemmas.{slice_of_place}
+use Rattle.mt_steps.specs.declared.way.Way.{Way}
+use Rattle.mt_steps.specs.declared.finding.Counters.{Counters}
+use Rattle.mt_steps.specs.declared.finding.Finding.{Finding}
+use Rattle.mt_steps.specs.declared.finding.Finding.TheVariants.{Begins, Looked, Bounded, Reads, AtValue, Settles}
+use Rattle.mt_steps.specs.declared.finding.Reading.{Reading}
+use Rattle.mt_steps.specs.declared.finding.Reading.TheVariants.{Restarts, Repeats, GoesOn, To, Below as BelowReading, Answers}
+use Rattle.mt_types.specs.declared.event.Request.TheVariants.{Get as GetRequest}
+use Rattle.mt_steps.specs.Finding.{counters_of, is_flagged, looked, bounded, is_before}
+use Rattle.mt_steps.specs.Getting.{AtBorder, HasBound, FindingIsTrue, reads_made}
+use Rattle.mt_steps.specs.Standing.{counters_seen, Still}
+use Rattle.mt_steps.proofs.StandLemmas.{looks_at, holds_on, bound, there_now, few_live, orders_now, still_so}
+use Rattle.mt_steps.specs.World.{World, IsWorld}
+use Rattle.mt_steps.specs.Way.{IsOnWay, prefix_of, rest_of}
+use Rattle.mt_steps.specs.Step.{IsRight}
+use Rattle.mt_types.specs.declared.row.Row.{Row}
+use Rattle.mt_word.specs.Slots.{Slots}
+use Rattle.mt_chart.specs.Tree.{border}
+use Rattle.mt_chart.specs.ScanRun.{Stood, Lacked}
+use Rattle.mt_chart.specs.Noted.{FieldsSeen}
+use Rattle.mt_chart.specs.Reading.{Searches, Stops}
+use Rattle.mt_chart.proofs.HeldNodes.{evolves_same}
+use Rattle.mt_chart.proofs.ReadingLemmas.{lacks}
+use Rattle.mt_chart.proofs.ReadingKeys.{stops_at_end}
+use Rattle.mt_chart.proofs.ReadingStay.{searches_stay, ages_none}
+use Rattle.mt_tree.proofs.AgeLemmas.{are_slots}
+use Rattle.mt_steps.specs.declared.finding.Sight.TheVariants.{Absent as AbsentSight}
+use Rattle.mt_steps.specs.Finding.{settles, next_key, ordered}
+use Rattle.std.specs.Prelude.{unwrap_or}
+use Rattle.std.specs.Str.{bytes_eq}
+use Rattle.std.proofs.lemmas.Slice.Eq.{bytes_eq-Decides}
+use Rattle.std.proofs.lemmas.Option.{slice_get-get_or}
+use Rattle.mt_slice.proofs.Slices.{bytes-drop}
+use Rattle.mt_slice.proofs.Canonical.{same_from_place_of}
+use Rattle.mt_border.specs.Entry.{content_suffix, IsContent}
+use Rattle.mt_border.specs.Parts.{IsKeyOf, content_mark as part_mark}
+use Rattle.mt_border.specs.declared.entry.Entry.{Entry}
+use Rattle.mt_border.specs.declared.field.KeyPart.{KeyPart}
+use Rattle.mt_border.specs.declared.field.Mark.{Mark}
+use Rattle.mt_border.specs.declared.field.Mark.TheVariants.{Plain, Layer}
+use Rattle.mt_chart.specs.Tree.{HoldsRow}
+use Rattle.mt_chart.specs.Noted.{plain}
+use Rattle.mt_chart.specs.Reading.{StandsBefore, StandsAfter, HasLinkKey}
+use Rattle.mt_chart.proofs.ReadingKeys.{passes_key, stops_after, stops_other, finds_row, finds_link}
+use Rattle.mt_tree.specs.Fields.{content_mark}
+use Rattle.mt_tree.proofs.DescentLemmas.{class_long}
+use Rattle.mt_steps.specs.declared.finding.Glance.{Glance}
+use Rattle.mt_steps.specs.declared.finding.Kind.TheVariants.{Row as RowKind, Link as LinkKind}
+use Rattle.mt_steps.specs.Finding.{key_found, key_read}
+use Rattle.mt_slice.specs.Place.{rest_at, slices_above}
+use Rattle.mt_border.specs.Parts.{IsValueOf}
+use Rattle.mt_border.specs.declared.field.ValuePart.{ValuePart}
+use Rattle.mt_border.specs.declared.field.ValuePart.TheVariants.{Row as RowPart, Link as LinkPart}
+use Rattle.mt_chart.specs.Tree.{link}
+use Rattle.mt_chart.specs.Walk.{moves as trail_moves}
+use Rattle.mt_chart.specs.Reading.{row_in}
+use Rattle.mt_chart.proofs.ReadingKeys.{row_stood, no_row_under_link, link_held}
+use Rattle.mt_chart.proofs.ReadingStay.{row_key_stays, link_key_stays, climbs_below}
+use Rattle.mt_tree.specs.declared.visit.Visit.{Visit}
+use Rattle.mt_tree.specs.declared.visit.Visit.TheVariants.{Again as VisitAgain, To as VisitTo, Below as VisitBelow, Here as VisitHere}
+use Rattle.mt_steps.specs.declared.finding.Kind.{Kind}
+use Rattle.mt_steps.specs.declared.finding.Sight.{Sight}
+use Rattle.mt_steps.specs.declared.finding.Sight.TheVariants.{Row as RowSight, Link as LinkSight}
+use Rattle.mt_steps.specs.Finding.{value_read, settled, sight_told, same_counters}
+use Rattle.mt_steps.specs.Getting.{IsPlaceOf, GoesDeeper, KeyIsTrue, Fits, SightIsTrue, by_visit}
+use Rattle.mt_steps.specs.Way.{Visits, went_by}
+use Rattle.mt_steps.proofs.WayLemmas.{layer_below}
+
+-- ---- ranks
+class_seen : (content : Content) → class (content_seen content) ≡ class_number (content_class content)
+class_seen (Short bytes row) = refl
+class_seen (Long suffix row) = refl
+class_seen (Link head) = refl
+
+first_class_of : (rest : List ℕ) → first_class (place_of rest) ≡ class_number (class_of (length rest))
+first_class_of rest = ap first_class (place_of-place_at rest) ∙ go (class_of (length rest))
+  where
+    go : (c : Class) → first_class (place_at (slice_number rest) c (place_of (drop 8 rest))) ≡ class_number c
+    go (Len bytes) = refl
+    go LongClass = refl
+
+class_of-short : (n : ℕ) → n ≤ 8 → class_of n ≡ Len n
+class_of-short n most = cond-true (nat_le n 8) (Len n) LongClass (le-leb n 8 most)
+
+class_of-long : (n : ℕ) → 8 < n → class_of n ≡ LongClass
+class_of-long n more = elim (cases_Bool (nat_le n 8)) [
+  | inl h ↦ absurd (let few = leb-true n 8 h in omega (arith, few, more))
+  | inr h ↦ cond-false (nat_le n 8) (Len n) LongClass h
+]
+
+before_tells : (slice number other_slice other : ℕ) → is_before slice number other_slice other ≡ true → (slice < other_slice) ⊎ ((slice ≡ other_slice) × (number < other))
+before_tells slice number other_slice other is = elim (cases_lt slice other_slice) [
+  | inl less ↦ inl less
+  | inr most ↦
+      let here : ((slice == other_slice) && nat_lt number other) ≡ true = sym (ap (λ (b : Bool). b || ((slice == other_slice) && nat_lt number other)) (le-ltb slice other_slice most)) ∙ is in
+      elim (eqb_tells slice other_slice) [
+        | inl q ↦ inr (q.1, ltb-true number other (sym (ap (λ (b : Bool). b && nat_lt number other) q.0) ∙ here))
+        | inr q ↦ absurd (let none : false ≡ true = sym (ap (λ (b : Bool). b && nat_lt number other) q.0) ∙ here in cc)
+      ]
+]
+
+not_before : (slice number other_slice other : ℕ) → is_before slice number other_slice other ≡ false → (slice < other_slice → ⊥) × (slice ≡ other_slice → number < other → ⊥)
+not_before slice number other_slice other is = (
+  (λ less. let yes : is_before slice number other_slice other ≡ true = ap (λ (b : Bool). b || ((slice == other_slice) && nat_lt number other)) (lt-ltb slice other_slice less) in let clash : true ≡ false = sym yes ∙ is in absurd (cc)),
+  (λ same less.
+      let inside : ((slice == other_slice) && nat_lt number other) ≡ true = ap (λ (b : Bool). b && nat_lt number other) (eq-eqb slice other_slice same) ∙ lt-ltb number other less in
+      let yes : is_before slice number other_slice other ≡ true = or_right (nat_lt slice other_slice) ((slice == other_slice) && nat_lt number other) inside in
+      let clash : true ≡ false = sym yes ∙ is in absurd (cc)),
+)
+
+-- it goes on to another node, which stands higher in the order of a descent
+pub record GoesOnTo (begun : ℕ) (key : List ℕ) (way next : Way) (w : World) : Type 0 where
+  pub on : IsOnWay begun key next w
+  pub climbs : (made : ℕ) → Trail begun w.chart way.node.0 made → Trail begun w.chart next.node.0 (suc made)
+
+-- what is true where a reading leads
+abbrev pub LeadsTo : List ℕ → List ℕ → Way → Finding → ℕ → List Arena → ArenaView → World → Reading → Type 0
+LeadsTo key asked way finding begun past a w Restarts = Unit {0}
+LeadsTo key asked way finding begun past a w Repeats = IsOnWay begun key way w
+LeadsTo key asked way finding begun past a w (GoesOn next) =
+    FindingIsTrue key asked way next begun (arena_seen a ∷ (arena_seen a ∷ past)) a w × (reads_made finding < reads_made next)
+LeadsTo key asked way finding begun past a w (To node) = GoesOnTo begun key way (record { node = node; layer = way.layer }) w
+LeadsTo key asked way finding begun past a w (BelowReading head) = GoesOnTo begun key way (record { node = head; layer = way.layer + 1 }) w
+LeadsTo key asked way finding begun past a w (Answers answer) = IsRight past a (GetRequest key asked) None answer
+
+module _ (a : ArenaView) (now : ℕ) (w : World) (world : IsWorld a now w) (begun : ℕ) (key asked : List ℕ) (way : Way) (past : List Arena) where
+  -- it holds the border that it reads
+  pub on_border : (counters : Counters) → AtBorder begun key way counters a w → IsOnWay begun key way w
+  on_border counters at = record { layer = at.layer; held = holds_on a now w world begun (prefix_of key way) (slice_number (rest_of key way)) way.node.0 counters at.here }
+
+  -- ---- the version
+  module _ (b : BorderView) (named : border_at a.nodes way.node.0 ≡ Some b) (sound : IsBorder b) (on : IsOnWay begun key way w) where
+    at_looked : b.version.deleted ≡ false → AtBorder begun key way (counters_of b.version) a w
+    at_looked alive = record { layer = on.layer; here = looks_at a now w world begun (prefix_of key way) (slice_number (rest_of key way)) way.node.0 b named sound on.held alive }
+
+    pub leads_looked : LeadsTo key asked way Begins begun past a w (looked b.version)
+    leads_looked = go b.version.deleted refl (is_flagged b.version)
+      where
+        go : (d : Bool) → b.version.deleted ≡ d → (f : Bool) → LeadsTo key asked way Begins begun past a w (cond d Restarts (cond f Repeats (GoesOn (Looked (counters_of b.version)))))
+        go true is f = tt
+        go false alive true = on
+        go false alive false = (at_looked alive, omega arith)
+
+  module _ (counters : Counters) (at : AtBorder begun key way counters a w) where
+    abbrev slice : ℕ
+    slice = slice_number (rest_of key way)
+
+    -- ---- the right link
+    pub leads_bounded : LeadsTo key asked way (Looked counters) begun past a w (bounded slice counters at.here.b.right)
+    leads_bounded = go at.here.b.right refl
+      where
+        bound_here : (right : Option RightLink) → at.here.b.right ≡ right → Below slice (option_map right_seen right) → HasBound key way counters at.here.b right begun w
+        bound_here right is below = bound a now w world begun (prefix_of key way) slice way.node.0 counters at.here right is below
+
+        to_right : (neighbour : RightLink) → at.here.b.right ≡ Some neighbour → (b : Bool) → nat_le neighbour.low slice ≡ b → LeadsTo key asked way (Looked counters) begun past a w (cond b (To neighbour.node) (GoesOn (Bounded counters (Some neighbour))))
+        to_right neighbour is true le =
+            let (above, known) = at.here.looked.right (right_seen neighbour) (ap (option_map right_seen) is) in
+            record {
+              on = record { layer = record { within = at.layer.within; under = at.layer.under }; held = right_held w.chart begun way.node.0 (prefix_of key way) at.here.b.low at.here.looked.known (right_seen neighbour) known slice (leb-true neighbour.low slice le) };
+              climbs = λ made trail. climbs_right w.chart begun way.node.0 (prefix_of key way) at.here.b.low at.here.looked.known (right_seen neighbour) known above made trail;
+            }
+        to_right neighbour is false le = ((at, bound_here (Some neighbour) is (before_right (leb-false neighbour.low slice le))), omega arith)
+
+        go : (right : Option RightLink) → at.here.b.right ≡ right → LeadsTo key asked way (Looked counters) begun past a w (bounded slice counters right)
+        go None is = ((at, bound_here None is no_right), omega arith)
+        go (Some neighbour) is = to_right neighbour is (nat_le neighbour.low slice) refl
+
+    -- ---- what it has read of slots, one moment later: it changes nothing
+    abbrev arenas : List Arena
+    arenas = arena_seen a ∷ past
+
+    abbrev f : FieldsSeen
+    f = fields_seen at.here.b
+
+    abbrev rest : List ℕ
+    rest = rest_of key way
+
+    abbrev prefix : List ℕ
+    prefix = prefix_of key way
+
+    there : arena_seen a way.node.0 ≡ Some (border (border_seen at.here.b))
+    there = there_now a now w world begun prefix slice way.node.0 counters at.here
+
+    searches_later : (noted : Option Right) (numbers : List ℕ) (place : ℕ) → (Still counters at.here.b → Searches (shown asked) w.chart begun arenas prefix f noted numbers (place_of rest) place)
+        → Still counters at.here.b → Searches (shown asked) w.chart begun (arena_seen a ∷ arenas) prefix f noted numbers (place_of rest) place
+    searches_later noted numbers place = searches_stay (shown asked) begun way.node.0 w.chart w.chart (arena_seen a) arenas prefix f f (counters_seen counters) (evolves_same begun w.chart) world.index.tree there refl (ages_none f)
+        (are_slots at.here.b at.here.slots) at.here.looked.come at.here.looked.known noted numbers (place_of rest) place
+
+    -- it has no row, where the search has stopped
+    lacks_then : (noted : Option Right) (numbers : List ℕ) (place : ℕ) (arenas : List Arena) → Below slice noted → (searches : Searches (shown asked) w.chart begun arenas prefix f noted numbers (place_of rest) place) → Stops (place_of rest) searches.was place → Lacked arenas (place_of key)
+    lacks_then noted numbers place arenas below searches stops =
+        subst (λ (x : Place). Lacked arenas x) (sym at.layer.under)
+        (lacks (shown asked) w.chart begun arenas prefix f noted numbers searches.was searches.order (place_of rest) (subst (λ (n : ℕ). at.here.b.low ≤ n) (sym (slice_of_place rest)) at.here.looked.from_low)
+        (subst (λ (n : ℕ). Below n noted) (sym (slice_of_place rest)) below) place searches.before stops)
+
+    -- it settles, and has found no row
+    settles_none : (finding : Finding) → reads_made finding < 20 → (Still counters at.here.b → Lacked (arena_seen a ∷ arenas) (place_of key)) → LeadsTo key asked way finding begun past a w (settles counters AbsentSight)
+    settles_none finding few lacked = ((at, tt, lacked), few)
+
+    -- the key at a place is next, if there is one
+    next_leads : (finding : Finding) (right : Option RightLink) (order : Slots) (place : ℕ) → reads_made finding < 3 + place → reads_made finding < 20 → length order.live ≤ 15 → HasBound key way counters at.here.b right begun w
+        → (Still counters at.here.b → Searches (shown asked) w.chart begun (arena_seen a ∷ arenas) prefix f (option_map right_seen right) order.live (place_of rest) place)
+        → LeadsTo key asked way finding begun past a w (next_key (record { counters = counters; right = right; order = order }) place)
+    next_leads finding right order place less few fits bound searches = go (nat_lt place (length order.live)) refl
+      where
+        go : (b : Bool) → nat_lt place (length order.live) ≡ b → LeadsTo key asked way finding begun past a w (cond b (GoesOn (Reads (record { counters = counters; right = right; order = order }) place)) (settles counters AbsentSight))
+        go true is = ((at, bound, (ltb-true place (length order.live) is, fits), searches), less)
+        go false is = settles_none finding few (λ still.
+            let found = searches still in
+            lacks_then (option_map right_seen right) order.live place (arena_seen a ∷ arenas) bound.passes found
+            (stops_at_end (shown asked) w.chart begun (arena_seen a ∷ arenas) prefix f (option_map right_seen right) order.live (place_of rest) place found (ltb-false place (length order.live) is)))
+
+    -- ---- the order
+    pub leads_ordered : IsBorder at.here.b → (right : Option RightLink) → HasBound key way counters at.here.b right begun w → LeadsTo key asked way (Bounded counters right) begun past a w (ordered counters right at.here.b.order)
+    leads_ordered sound right bound = next_leads (Bounded counters right) right at.here.b.order 0 (omega arith) (omega arith) (few_live a now w world begun prefix slice way.node.0 counters at.here sound) bound (λ still. record {
+      was = map f.slot at.here.b.order.live;
+      order = orders_now a now w world begun prefix slice way.node.0 counters at.here (shown asked) arenas sound right bound still;
+      before = λ i slot less is. absurd (omega (arith, less));
+    })
+
+    -- ---- the key of a slot
+    module _ (bytes : AreBytes rest) (right : Option RightLink) (order : Slots) (place : ℕ) (within : place < length order.live) (fits : length order.live ≤ 15) (bound : HasBound key way counters at.here.b right begun w)
+        (searches : Still counters at.here.b → Searches (shown asked) w.chart begun arenas prefix f (option_map right_seen right) order.live (place_of rest) place) where
+      abbrev glance : Glance
+      glance = record { counters = counters; right = right; order = order }
+
+      abbrev number : ℕ
+      number = slice_index order.live place
+
+      abbrev e : Entry
+      e = (slot_at at.here.b number).entry
+
+      number_at_place : slice_get order.live place ≡ Some number
+      number_at_place = slice_get-get_or order.live place 0 within
+
+      later_searches : Still counters at.here.b → Searches (shown asked) w.chart begun (arena_seen a ∷ arenas) prefix f (option_map right_seen right) order.live (place_of rest) place
+      later_searches = searches_later (option_map right_seen right) order.live place searches
+
+      abbrev sought : ℕ
+      sought = class_number (class_of (length rest))
+
+      few : 3 + place < 20
+      few = omega (arith, within, fits)
+
+      -- where its slice and class are those of the key sought
+      module _ (at_slice : e.slice ≡ slice) (part : KeyPart) (is : IsKeyOf e part) where
+        here_slice : e.slice ≡ first_slice (place_of rest)
+        here_slice = at_slice ∙ sym (slice_of_place rest)
+
+        -- a row of the key sought
+        row_here : (row : Row) → HoldsRow e.slice (content_seen e.content) (place_of rest) row → LeadsTo key asked way (Reads glance place) begun past a w (GoesOn (AtValue glance place RowKind))
+        row_here row holds = (
+          (at, (within, fits), tt, (λ still. finds_row (shown asked) w.chart begun (arena_seen a ∷ arenas) prefix f (option_map right_seen right) order.live (place_of rest) place number number_at_place (later_searches still) row holds)),
+          omega arith,
+        )
+
+        -- the row of another
+        other_here : (other : Place) (row : Row) → content_mark e.content ≡ plain → HoldsRow e.slice (content_seen e.content) other row → class (content_seen e.content) ≡ sought → other ≢ place_of rest
+            → LeadsTo key asked way (Reads glance place) begun past a w (settles counters AbsentSight)
+        other_here other row mark holds at_class differs = settles_none (Reads glance place) few (λ still.
+            let found = later_searches still in
+            lacks_then (option_map right_seen right) order.live place (arena_seen a ∷ arenas) bound.passes found
+            (stops_other (shown asked) w.chart begun (arena_seen a ∷ arenas) prefix f (option_map right_seen right) order.live (place_of rest) place number number_at_place found mark other row holds here_slice
+            (at_class ∙ sym (first_class_of rest)) differs))
+
+        long_rest : class (content_seen e.content) ≡ sought → class (content_seen e.content) ≡ 9 → 8 < length rest
+        long_rest at_class nine = class_long (length rest) (sym at_class ∙ nine)
+
+        by_content : (content : Content) → e.content ≡ content → class (content_seen content) ≡ sought → (mark : Mark) → mark ≡ part_mark content → (same : Bool) → bytes_eq part.suffix.now (drop 8 rest) ≡ same
+            → LeadsTo key asked way (Reads glance place) begun past a w (key_found glance place mark same)
+        by_content (Short bytes row) here at_class mark marked same is_same = go mark marked same is_same
+          where
+            most : bytes ≤ 8
+            most = subst (λ (c : Content). IsContent c) here is.whole.content
+
+            short : length rest ≤ 8
+            short = elim (cases_lt 8 (length rest)) [
+              | inl long ↦ absurd (let nine : class_of (length rest) ≡ LongClass = class_of-long (length rest) long in let nine_number : sought ≡ 9 = ap class_number nine in omega (arith, most, at_class, nine_number))
+              | inr few ↦ few
+            ]
+
+            as_long : bytes ≡ length rest
+            as_long = at_class ∙ ap class_number (class_of-short (length rest) short)
+
+            nothing : drop 8 rest ≡ []
+            nothing = drop_all 8 rest short
+
+            no_suffix : part.suffix.now ≡ []
+            no_suffix = is.suffix ∙ ap (λ (c : Content). unwrap_or (content_suffix c) []) here
+
+            holds : HoldsRow e.slice (content_seen e.content) (place_of rest) row
+            holds = subst (λ (c : Content). HoldsRow e.slice (content_seen c) (place_of rest) row) (sym here) (place_of-short rest short ∙ (ap (λ (n : ℕ). last n (length rest)) (sym at_slice) ∙ ap (λ (n : ℕ). last e.slice n) (sym as_long)), refl)
+
+            go : (mark : Mark) → mark ≡ Plain → (same : Bool) → bytes_eq part.suffix.now (drop 8 rest) ≡ same → LeadsTo key asked way (Reads glance place) begun past a w (key_found glance place mark same)
+            go Plain marked true is_same = row_here row holds
+            go Plain marked false is_same = absurd (let equal : bytes_eq part.suffix.now (drop 8 rest) ≡ true = (bytes_eq-Decides part.suffix.now (drop 8 rest)).1 (no_suffix ∙ sym nothing) in cc)
+            go Layer marked same is_same = absurd (cc)
+        by_content (Long suffix row) here at_class mark marked same is_same = go mark marked same is_same
+          where
+            long : 8 < length rest
+            long = long_rest (ap (λ (c : Content). class (content_seen c)) here ∙ at_class) (ap (λ (c : Content). class (content_seen c)) here)
+
+            suffix_is : part.suffix.now ≡ suffix
+            suffix_is = is.suffix ∙ ap (λ (c : Content). unwrap_or (content_suffix c) []) here
+
+            its_place : Place
+            its_place = deeper e.slice (place_of suffix)
+
+            holds : HoldsRow e.slice (content_seen e.content) its_place row
+            holds = subst (λ (c : Content). HoldsRow e.slice (content_seen c) its_place row) (sym here) (refl, refl)
+
+            same_place : suffix ≡ drop 8 rest → its_place ≡ place_of rest
+            same_place same = ap (λ (n : ℕ). deeper n (place_of suffix)) at_slice ∙ (ap (λ (xs : List ℕ). deeper slice (place_of xs)) same ∙ sym (place_of-long rest long))
+
+            differs : (suffix ≡ drop 8 rest → ⊥) → its_place ≢ place_of rest
+            differs apart same =
+                apart (same_from_place_of suffix (drop 8 rest) (subst AreBytes suffix_is is.bytes) (bytes-drop 8 rest bytes) (below_same (same ∙ place_of-long rest long)))
+              where
+                below_same : deeper e.slice (place_of suffix) ≡ deeper slice (place_of (drop 8 rest)) → place_of suffix ≡ place_of (drop 8 rest)
+                below_same is = cc
+
+            go : (mark : Mark) → mark ≡ Plain → (same : Bool) → bytes_eq part.suffix.now (drop 8 rest) ≡ same → LeadsTo key asked way (Reads glance place) begun past a w (key_found glance place mark same)
+            go Plain marked true is_same =
+                row_here row (subst (λ (x : Place). HoldsRow e.slice (content_seen e.content) x row) (same_place (sym suffix_is ∙ (bytes_eq-Decides part.suffix.now (drop 8 rest)).0 is_same)) holds)
+            go Plain marked false is_same = other_here its_place row (ap content_mark here) holds (ap (λ (c : Content). class (content_seen c)) here ∙ at_class)
+                (differs (λ alike. let equal : bytes_eq part.suffix.now (drop 8 rest) ≡ true = (bytes_eq-Decides part.suffix.now (drop 8 rest)).1 (suffix_is ∙ alike) in absurd (cc)))
+            go Layer marked same is_same = absurd (cc)
+        by_content (Link head) here at_class mark marked same is_same = go mark marked
+          where
+            long : 8 < length rest
+            long = long_rest (ap (λ (c : Content). class (content_seen c)) here ∙ at_class) (ap (λ (c : Content). class (content_seen c)) here)
+
+            go : (mark : Mark) → mark ≡ Layer → LeadsTo key asked way (Reads glance place) begun past a w (key_found glance place mark same)
+            go Plain marked = absurd (cc)
+            go Layer marked = (
+              (
+                at,
+                (within, fits),
+                long,
+                (λ still. subst (λ (n : ℕ). HasLinkKey (shown asked) w.chart begun (arena_seen a ∷ arenas) prefix f number n) (slice_of_place rest)
+                    (finds_link (shown asked) w.chart begun (arena_seen a ∷ arenas) prefix f (option_map right_seen right) order.live (place_of rest) place number number_at_place (later_searches still) head.0 here_slice (ap content_seen here))),
+              ),
+              omega arith,
+            )
+
+      pub leads_key : (part : KeyPart) → IsKeyOf e part → LeadsTo key asked way (Reads glance place) begun past a w (key_read rest glance place part)
+      leads_key part is = go (is_before part.slice own slice sought) refl
+        where
+          own : ℕ
+          own = class_number part.class
+
+          own_is : own ≡ class (content_seen e.content)
+          own_is = ap class_number is.class ∙ sym (class_seen e.content)
+
+          fs : first_slice (place_of rest) ≡ slice
+          fs = slice_of_place rest
+
+          fc : first_class (place_of rest) ≡ sought
+          fc = first_class_of rest
+
+          before : is_before part.slice own slice sought ≡ true → StandsBefore (first_slice (place_of rest)) (first_class (place_of rest)) (entry_seen e)
+          before is_less = let own_slice = is.slice in elim (before_tells part.slice own slice sought is_less) [
+            | inl less ↦ inl (omega (arith, less, own_slice, fs))
+            | inr (same, less) ↦ inr (sym own_slice ∙ same ∙ sym fs, omega (arith, less, own_is, fc))
+          ]
+
+          after : is_before slice sought part.slice own ≡ true → StandsAfter (first_slice (place_of rest)) (first_class (place_of rest)) (entry_seen e)
+          after is_more = let own_slice = is.slice in elim (before_tells slice sought part.slice own is_more) [
+            | inl less ↦ inl (omega (arith, less, own_slice, fs))
+            | inr (same, less) ↦ inr (sym own_slice ∙ sym same ∙ sym fs, omega (arith, less, own_is, fc))
+          ]
+
+          neither : is_before part.slice own slice sought ≡ false → is_before slice sought part.slice own ≡ false → (e.slice ≡ slice) × (class (content_seen e.content) ≡ sought)
+          neither no_less no_more =
+              let own_slice = is.slice in
+              let (a1, a2) = not_before part.slice own slice sought no_less in
+              let (b1, b2) = not_before slice sought part.slice own no_more in
+              let same : part.slice ≡ slice = equal part.slice slice a1 b1 in
+              (sym own_slice ∙ same, sym own_is ∙ equal own sought (a2 same) (b2 (sym same)))
+            where
+              equal : (m n : ℕ) → (m < n → ⊥) → (n < m → ⊥) → m ≡ n
+              equal m n not_less not_more = elim (cases_lt m n) [
+                | inl less ↦ absurd (not_less less)
+                | inr most ↦ elim (cases_lt n m) [ inl less ↦ absurd (not_more less) | inr most' ↦ omega (arith, most, most') ]
+              ]
+
+          at_key : (b : Bool) → is_before part.slice own slice sought ≡ false → is_before slice sought part.slice own ≡ b
+              → LeadsTo key asked way (Reads glance place) begun past a w (cond b (settles counters AbsentSight) (key_found glance place part.mark (bytes_eq part.suffix.now (drop 8 rest))))
+          at_key true no_less more = settles_none (Reads glance place) few (λ still.
+              let found = later_searches still in
+              lacks_then (option_map right_seen right) order.live place (arena_seen a ∷ arenas) bound.passes found
+              (stops_after (shown asked) w.chart begun (arena_seen a ∷ arenas) prefix f (option_map right_seen right) order.live (place_of rest) place number number_at_place found (after more)))
+          at_key false no_less no_more =
+              let (at_slice, at_class) = neither no_less no_more in
+              by_content at_slice part is e.content refl at_class part.mark is.mark (bytes_eq part.suffix.now (drop 8 rest)) refl
+
+          go : (b : Bool) → is_before part.slice own slice sought ≡ b
+              → LeadsTo key asked way (Reads glance place) begun past a w (cond b (next_key glance (place + 1)) (cond (is_before slice sought part.slice own) (settles counters AbsentSight) (key_found glance place part.mark (bytes_eq part.suffix.now (drop 8 rest)))))
+          go true less = next_leads (Reads glance place) right order (place + 1) (omega arith) few fits bound (λ still.
+              passes_key (shown asked) w.chart begun (arena_seen a ∷ arenas) prefix f (option_map right_seen right) order.live (place_of rest) place number number_at_place (later_searches still) (before less))
+          go false no_less = at_key (is_before slice sought part.slice own) no_less refl
+
+    -- ---- the value of a slot
+    module _ (order : Slots) (right : Option RightLink) (place : ℕ) (kind : Kind) (fits : IsPlaceOf order place) (deep : GoesDeeper key way kind)
+        (is_true : Still counters at.here.b → KeyIsTrue key asked way kind (slice_index order.live place) at.here.b begun arenas w) where
+      abbrev at_value : Finding
+      at_value = AtValue (record { counters = counters; right = right; order = order }) place kind
+
+      abbrev n : ℕ
+      n = slice_index order.live place
+
+      abbrev here : Entry
+      here = (slot_at at.here.b n).entry
+
+      few_made : 4 + place < 20
+      few_made = let (within, most) = fits in omega (arith, within, most)
+
+      row_later : (Still counters at.here.b → KeyIsTrue key asked way RowKind n at.here.b begun arenas w) → Still counters at.here.b → KeyIsTrue key asked way RowKind n at.here.b begun (arena_seen a ∷ arenas) w
+      row_later = row_key_stays (shown asked) begun way.node.0 w.chart w.chart (arena_seen a) arenas prefix f f (counters_seen counters) (evolves_same begun w.chart) world.index.tree there refl (ages_none f) (are_slots at.here.b at.here.slots) at.here.looked.come at.here.looked.known n (place_of rest)
+
+      link_later : (Still counters at.here.b → KeyIsTrue key asked way LinkKind n at.here.b begun arenas w) → Still counters at.here.b → KeyIsTrue key asked way LinkKind n at.here.b begun (arena_seen a ∷ arenas) w
+      link_later = link_key_stays (shown asked) begun way.node.0 w.chart w.chart (arena_seen a) arenas prefix f f (counters_seen counters) (evolves_same begun w.chart) world.index.tree there refl (ages_none f) (are_slots at.here.b at.here.slots) at.here.looked.come at.here.looked.known n slice
+
+      -- what the value is, as the theory sees it
+      row_seen : (content : Content) (row : _) → IsValueOf content (RowPart row) → row_in (content_seen content) ≡ Some row.now
+      row_seen (Short bytes held) row is = ap Some (sym is)
+      row_seen (Long suffix held) row is = ap Some (sym is)
+      row_seen (Link head) row is = absurd is
+
+      link_seen : (content : Content) (head : NodeNo) → IsValueOf content (LinkPart head) → content_seen content ≡ link head.0
+      link_seen (Short bytes row) head is = absurd is
+      link_seen (Long suffix row) head is = absurd is
+      link_seen (Link held) head is = ap (λ (m : NodeNo). link m.0) (sym is)
+
+      pub leads_value : (part : ValuePart) → IsValueOf here.content part → LeadsTo key asked way at_value begun past a w (value_read asked counters kind part)
+      leads_value part is = go kind part deep is_true is
+        where
+          go : (k : Kind) (p : ValuePart) → GoesDeeper key way k → (Still counters at.here.b → KeyIsTrue key asked way k n at.here.b begun arenas w) → IsValueOf here.content p
+              → LeadsTo key asked way at_value begun past a w (value_read asked counters k p)
+          go RowKind (RowPart row) deep has is = (
+            (
+              at,
+              tt,
+              (λ still. subst (λ (x : Place). Stood (shown asked) (arena_seen a ∷ arenas) x (shown asked row.now)) (sym at.layer.under)
+                  (row_stood (shown asked) w.chart begun (arena_seen a ∷ arenas) prefix f n (place_of rest) (row_later has still) row.now (row_seen here.content row is))),
+            ),
+            few_made,
+          )
+          go LinkKind (RowPart row) deep has is =
+              settles_none at_value few_made (λ still. absurd (no_row_under_link (shown asked) w.chart begun (arena_seen a ∷ arenas) prefix f n slice (link_later has still) row.now (row_seen here.content row is)))
+          go RowKind (LinkPart head) deep has is = on_border counters at
+          go LinkKind (LinkPart head) deep has is = (
+            (at, deep, (λ still sought. link_held (shown asked) w.chart begun (arena_seen a ∷ arenas) prefix f n slice (link_later has still) head.0 (link_seen here.content head is) sought)),
+            few_made,
+          )
+
+    -- ---- the version again
+    pub leads_settled : AreBytes key → (sight : Sight) → Fits key way sight → (Still counters at.here.b → SightIsTrue key asked way sight begun arenas w) → LeadsTo key asked way (Settles counters sight) begun past a w (settled counters sight at.here.b.version)
+    leads_settled bytes sight fits is_true = go at.here.b.version.deleted refl (is_flagged at.here.b.version) refl (same_counters (counters_of at.here.b.version) counters) refl
+      where
+        told : (sight : Sight) → Fits key way sight → SightIsTrue key asked way sight begun arenas w → LeadsTo key asked way (Settles counters sight) begun past a w (sight_told sight)
+        told AbsentSight fits lacked = (bytes, lacked)
+        told (RowSight row) fits stood = (bytes, stood)
+        told (LinkSight head) long held = record {
+          on = record {
+            layer = layer_below key way head long at.layer;
+            held = subst (λ (m : ℕ). Holds w.chart begun head.0 (slices_above m key) (slice_number (rest_at m key))) (sym (add-one way.layer)) (held (slice_number (rest_at (suc way.layer) key)));
+          };
+          climbs = λ made trail. climbs_below w.chart begun way.node.0 prefix at.here.b.low at.here.looked.known at.here.fits head.0 slice (held 0) made trail;
+        }
+
+        go : (d : Bool) → at.here.b.version.deleted ≡ d → (g : Bool) → is_flagged at.here.b.version ≡ g → (c : Bool) → same_counters (counters_of at.here.b.version) counters ≡ c
+            → LeadsTo key asked way (Settles counters sight) begun past a w (cond d Restarts (cond g Repeats (cond c (sight_told sight) Repeats)))
+        go true is g flags c same = tt
+        go false alive true flags c same = on_border counters at
+        go false alive false flags false same = on_border counters at
+        go false alive false flags true same = told sight fits (is_true (still_so counters at.here.b alive flags same))
+
+  -- ---- a head or an interior node, whole
+  pub leads_inner : (visit : Visit) → Visits a key way (went_by way visit) → IsOnWay begun key way w → LeadsTo key asked way Begins begun past a w (by_visit visit)
+  leads_inner VisitAgain visits on = tt
+  leads_inner (VisitTo next) visits on =
+      let (further, move, below) = visits.goes now w begun world on in
+      record { on = further; climbs = λ made trail. trail_moves (arena_seen a) world.index.tree trail move }
+  leads_inner (VisitBelow head) visits on =
+      let (further, move, below) = visits.goes now w begun world on in
+      record { on = further; climbs = λ made trail. trail_moves (arena_seen a) world.index.tree trail move }
+  leads_inner VisitHere visits on = on
