@@ -105,7 +105,7 @@ module _ (a : ArenaView) (log : LogView) (old : Building) (scanning : old.upto �
 
   pub build_reads : (p : Progress) (new : Building) → BuildReads a log old p new → Law p new
   build_reads p new reads = elim reads.does [
-    | inl refused ↦ subst (λ (x : Progress). Law x new) (sym refused) (build_fails a log old new)
+    | inl refused ↦ subst (λ (x : Progress). Law x new) (sym refused.0) (build_fails a log old new)
     | inr done ↦ does p new (list_reading old.listing slice reads.part) (build_leads reads.part reads.lent) done
   ]
 
@@ -127,7 +127,7 @@ module _ (a : ArenaView) (log : LogView) (old : Building) (scanning : old.upto �
   says p new Repeats leads (progress, is) = subst (λ (x : Progress). BuildsOn a log old x new) (sym progress) (subst Says (sym is) (keeps (unread old) refl refl))
   says p new (ReadsOn next) leads (progress, is) = subst (λ (x : Progress). BuildsOn a log old x new) (sym progress) (subst Says (sym is) (keeps (record old { listing = next }) refl refl))
   says p new (To node) leads (progress, is) = subst (λ (x : Progress). BuildsOn a log old x new) (sym progress) (subst Says (sym is) (keeps (record { build = old.build; node = node; upto = old.upto; listing = Begins }) refl refl))
-  says p new (Lists entries right) leads (inl refused) = subst (λ (x : Progress). BuildsOn a log old x new) (sym refused) tt
+  says p new (Lists entries right) leads (inl refused) = subst (λ (x : Progress). BuildsOn a log old x new) (sym refused.0) tt
   says p new (Lists entries right) leads (inr (progress, s)) = subst (λ (x : Progress). BuildsOn a log old x new) (sym progress) (says_lists new entries right leads s)
 
   pub build_says : (p : Progress) (new : Building) → BuildReads a log old p new → BuildsOn a log old p new
