@@ -127,12 +127,12 @@ module _ (a : ArenaView) (log : LogView) (old : Building) (scanning : old.upto �
   says p new Repeats leads (progress, is) = subst (λ (x : Progress). BuildsOn a log old x new) (sym progress) (subst Says (sym is) (keeps (unread old) refl refl))
   says p new (ReadsOn next) leads (progress, is) = subst (λ (x : Progress). BuildsOn a log old x new) (sym progress) (subst Says (sym is) (keeps (record old { listing = next }) refl refl))
   says p new (To node) leads (progress, is) = subst (λ (x : Progress). BuildsOn a log old x new) (sym progress) (subst Says (sym is) (keeps (record { build = old.build; node = node; upto = old.upto; listing = Begins }) refl refl))
-  says p new (Lists entries right) leads (inl refused) = subst (λ (x : Progress). BuildsOn a log old x new) (sym refused.0) tt
+  says p new (Lists entries right) leads (inl refused) = subst (λ (x : Progress). BuildsOn a log old x new) (sym refused) tt
   says p new (Lists entries right) leads (inr (progress, s)) = subst (λ (x : Progress). BuildsOn a log old x new) (sym progress) (says_lists new entries right leads s)
 
   pub build_says : (p : Progress) (new : Building) → BuildReads a log old p new → BuildsOn a log old p new
   build_says p new reads = elim reads.does [
-    | inl refused ↦ subst (λ (x : Progress). BuildsOn a log old x new) (sym refused) tt
+    | inl refused ↦ subst (λ (x : Progress). BuildsOn a log old x new) (sym refused.0) tt
     | inr done ↦ says p new (list_reading old.listing slice reads.part) (build_leads reads.part reads.lent) done
   ]
 
