@@ -34,7 +34,7 @@
  *
  * LIMITS
  *     A key has up to 1,024 bytes (ROWANSPAN_MAX_KEY_BYTES). Keys are ordered by their bytes, and a key comes before
- *     those that it is a prefix of. An index has 1 to 16 columns of up to 64 bytes. A call returns 1 to 1000 rows or
+ *     those that it is a prefix of. An index has 1 to 16 columns of up to 64 bytes. A call returns up to 1000 rows or
  *     deltas. An index has up to 64 views, and up to 1,048,576 nodes of up to 15 keys.
  *
  * MEMORY
