@@ -10,36 +10,40 @@
  *     rowanspan_close(&index);
  *
  * HANDLES
- *     A struct rowanspan holds one index or none, and is made by ROWANSPAN_NONE (all bytes 0). Never read, write or
- *     copy what is in it: where two copies are used, memory is freed twice. It stays on the thread that opened it: that
- *     it may go to another one, even under a lock, isn't proved.
+ *     A struct rowanspan is a handle: it holds one index, or none. The caller initializes it with ROWANSPAN_NONE (all
+ *     bytes 0), and from then on must not read, write or copy its members: if two copies of a handle are used, memory
+ *     is freed twice. The library owns the index from rowanspan_open to rowanspan_close. A handle stays on the thread
+ *     that opened it. It isn't proved that another thread may use it, even under a lock.
  *
  * STATUSES
- *     Each call answers a status. ROWANSPAN_DONE, which is 0: it was done. From 1 to 16: it was refused, has changed no
- *     row, no commit and no view, and the index works on. From 100 on: see there.
+ *     Each call returns a status. ROWANSPAN_DONE, which is 0, means that the call was done. A status from 1 to 16 means
+ *     that the call was refused: it has changed no row, no commit and no view, and the index can still be used. The
+ *     statuses from 100 on are described with their constants. The comments below leave out the prefix ROWANSPAN_.
  *
  * TOLD
- *     Most calls tell a number besides, through their last parameter: it is always written. Each says below what it
- *     tells where it is done. Where it is refused, it tells the number of a commit that goes with the refusal
- *     (ROWANSPAN_FEED_FULL, ROWANSPAN_BEHIND, ROWANSPAN_OTHER_VERSION), or else 0.
+ *     Most calls have a last parameter `told`, and always write a number to *told. The comment of a call says what the
+ *     number is if the status is DONE. If the status is FEED_FULL, BEHIND or OTHER_VERSION, it is the number of a
+ *     commit, and if it is NO_ROOM, a number of bytes. For all other statuses it is 0.
  *
  * BUFFERS
- *     A call that answers with bytes writes them at the front of the caller's buffer, and tells how many there are.
- *     Where they have no room it writes none, answers ROWANSPAN_NO_ROOM, and tells how many bytes are wanted: ask
- *     again with as many. No more than the answer is written, and never past the room. struct rowanspan_reader, at the
- *     end, reads answers. A buffer and what else is passed may not overlap.
+ *     A call whose answer is bytes writes them to the start of the buffer `into`, which the caller owns and which has
+ *     `room` bytes, and sets *told to the length of the answer. If the answer doesn't fit, the call writes nothing to
+ *     the buffer and returns NO_ROOM, with *told the length that is needed: call again with as much room. A call never
+ *     writes more than the answer. struct rowanspan_reader, at the end of this file, reads answers. A buffer must not
+ *     overlap any other argument.
  *
  * LIMITS
- *     Keys of up to 1,024 bytes (ROWANSPAN_MAX_KEY_BYTES), in the order of their bytes, a key before those that go on
- *     after it; 1 to 16 columns of up to 64 bytes; 1 to 1000 rows or deltas a call; 64 views; 1,048,576 nodes, of up to
- *     15 keys each.
+ *     A key has up to 1,024 bytes (ROWANSPAN_MAX_KEY_BYTES). Keys are ordered by their bytes, and a key comes before
+ *     those that it is a prefix of. An index has 1 to 16 columns of up to 64 bytes. A call returns up to 1000 rows or
+ *     deltas. An index has up to 64 views, and up to 1,048,576 nodes of up to 15 keys.
  *
  * MEMORY
- *     Each call that keeps or answers something allocates, by malloc; malloc and realloc have to align blocks as ISO C
- *     asks. No call may be made in a signal handler, or in the forked child of a process with threads.
+ *     The library copies the keys, columns and tests that it is passed: they stay the caller's. A call that stores or
+ *     returns something allocates with malloc. malloc and realloc have to align blocks as ISO C requires. No call may
+ *     be made in a signal handler, or in the forked child of a process with threads.
  *
- * What each call does is proved of the library's source; what isn't is that C meets what is asked of it here, and what
- * a compiler makes of it. docs/EMBEDDING.md tells more. */
+ * What each call does is proved of the library's source code. It isn't proved that a caller in C meets the conditions
+ * that are stated here, nor what a compiler makes of the header. See docs/EMBEDDING.md. */
 #ifndef ROWANSPAN_H
 #define ROWANSPAN_H
 
@@ -60,27 +64,27 @@ enum {
     ROWANSPAN_DONE = 0,
     ROWANSPAN_NO_MEMORY = 1,        /* an allocation was refused */
     ROWANSPAN_KEY_TOO_LONG = 2,     /* a key has more than ROWANSPAN_MAX_KEY_BYTES bytes */
-    ROWANSPAN_BAD_COLUMN = 3,       /* a column is not there, or is named twice; or an index was to have none or over 16 */
+    ROWANSPAN_BAD_COLUMN = 3,       /* a column doesn't exist, or is named twice; or not 1 to 16 were asked for */
     ROWANSPAN_COLUMN_TOO_LONG = 4,  /* a column has more than 64 bytes */
-    ROWANSPAN_BAD_LIMIT = 5,        /* a limit is not from 1 to 1000; or feed is not from 1 to 65536, or keep above */
+    ROWANSPAN_BAD_LIMIT = 5,        /* a limit is not from 1 to 1000, or feed not from 1 to 65536, or keep over 65536 */
     ROWANSPAN_ARENA_FULL = 6,       /* no number of a node is free */
-    ROWANSPAN_FEED_FULL = 7,        /* the log is full: views hold it from the commit told on; apply or drop them */
-    ROWANSPAN_TOO_MANY_VIEWS = 10,  /* 64 views stand */
-    ROWANSPAN_NO_SUCH_VIEW = 11,    /* no view that stands has this number */
-    ROWANSPAN_BEHIND = 12,          /* a view stands at the commit told, before its floor; or the log has only what came
-                                       after the commit told */
+    ROWANSPAN_FEED_FULL = 7,        /* the log is full: views hold it from commit *told on; apply or drop them */
+    ROWANSPAN_TOO_MANY_VIEWS = 10,  /* there are 64 views */
+    ROWANSPAN_NO_SUCH_VIEW = 11,    /* no view has this number */
+    ROWANSPAN_BEHIND = 12,          /* the view is at commit *told, before the floor; or the log has only the commits
+                                       after *told */
     ROWANSPAN_BAD_RANGE = 13,       /* the range of a view ends before it begins */
     ROWANSPAN_SPENT = 14,           /* a number is at its greatest value, 2^64 - 1 */
-    ROWANSPAN_OTHER_VERSION = 16,   /* the key's row is of the version told, and not of the one asked; 0: there is none */
+    ROWANSPAN_OTHER_VERSION = 16,   /* the key's row is of version *told, not of the one asked; 0: there is no row */
     ROWANSPAN_CLOSED = 100,         /* the handle holds no index */
     ROWANSPAN_HELD = 101,           /* the handle holds an index already */
     ROWANSPAN_ABSENT = 102,         /* the key has no row */
-    ROWANSPAN_NO_ROOM = 103,        /* the answer has as many bytes as are told, and the buffer has room for fewer */
-    ROWANSPAN_CURRENT = 104,        /* nothing was to do: no view is behind */
-    ROWANSPAN_NO_SUCH_TEST = 105    /* a test of rows is of no kind that there is */
+    ROWANSPAN_NO_ROOM = 103,        /* the answer has *told bytes, and the buffer is smaller */
+    ROWANSPAN_CURRENT = 104,        /* there was nothing to do: no view is behind */
+    ROWANSPAN_NO_SUCH_TEST = 105    /* no test of rows is of this kind */
 };
 
-/* What a tidy did, as it tells it. */
+/* What rowanspan_tidy has done, as it reports in *told. */
 enum {
     ROWANSPAN_TIDIED_NOTHING = 0,
     ROWANSPAN_TIDIED_EMPTY_BORDER = 1,
@@ -89,9 +93,9 @@ enum {
     ROWANSPAN_TIDIED_EMPTY_LAYER = 4
 };
 
-/* ---- what is passed */
+/* ---- arguments */
 
-/* A handle. */
+/* A handle: it holds one index, or none. */
 struct rowanspan {
     void *at;
     bool is_open;
@@ -100,14 +104,15 @@ struct rowanspan {
 /* A handle that holds no index. */
 #define ROWANSPAN_NONE {0, 0}
 
-/* New bytes for a column. Make it by rowanspan_set: `at` may not be null. */
+/* New bytes for a column. Make it with rowanspan_set: `at` must not be null. */
 struct rowanspan_set {
     uint8_t column;
     const uint8_t *at;
     size_t length;
 };
 
-/* What a view asks of a row. Make it by one of the four calls below: `at` may not be null. */
+/* A test of the rows of a view. Make it with rowanspan_any, rowanspan_equals or rowanspan_at_least: `at` must not be
+ * null. */
 struct rowanspan_test {
     uint8_t kind;
     uint8_t column;
@@ -118,18 +123,25 @@ struct rowanspan_test {
 
 /* ---- the handle */
 
-/* rowanspan_open: an empty index of so many columns (1 to 16). Its log holds up to `feed` commits (1 to 65536) for the
- * view that is furthest behind, and keeps the last `keep` (up to 65536) for readers of rowanspan_feed.
- * Costs a few allocations.
- * DONE; or HELD, and nothing changes; or BAD_COLUMN, BAD_LIMIT, NO_MEMORY, and the handle holds none. */
+/* rowanspan_open: opens an empty index whose rows have `columns` columns (1 to 16), and lets the handle hold it. The
+ * index's log holds up to `feed` commits (1 to 65536) for the view that is furthest behind, and keeps the last `keep`
+ * commits (up to 65536) for callers of rowanspan_feed. The caller has to close the handle with rowanspan_close.
+ *
+ * Cost: a few allocations.
+ *
+ * Returns DONE. Returns HELD if the handle holds an index already, which is left as it is. Returns BAD_COLUMN,
+ * BAD_LIMIT or NO_MEMORY if no index can be opened so; the handle then holds none. */
 uint16_t rowanspan_open(struct rowanspan *handle, uint64_t columns, uint64_t feed, uint64_t keep);
 
-/* rowanspan_close: the index ends, and its memory is freed.
- * Costs a visit of each node, row, delta and view.
- * DONE; or CLOSED: a second close does nothing. */
+/* rowanspan_close: closes the index and frees its memory. The handle then holds none, and may be opened again.
+ *
+ * Cost: a visit of each node, row, delta and view.
+ *
+ * Returns DONE. Returns CLOSED if the handle holds no index: a second close does nothing. */
 uint16_t rowanspan_close(struct rowanspan *handle);
 
-/* ---- symbols that may be given no null pointer: call the wrappers of the same names without raw_ */
+/* ---- the library's own symbols, which must not be passed a null pointer: call the functions of the same names without
+ * raw_ instead, which are below */
 
 uint16_t rowanspan_raw_put(struct rowanspan *handle, const uint8_t *key, size_t key_length,
                            const struct rowanspan_set *sets, size_t count, uint64_t *told);
@@ -155,28 +167,37 @@ uint16_t rowanspan_raw_feed(struct rowanspan *handle, uint64_t from, uint16_t li
 
 /* ---- views, nodes and numbers */
 
-/* rowanspan_apply: takes a view on by the delta of the next commit; where `view` is 0, the view that is furthest behind.
- * Tells the number of commits at which it then stands.
- * Costs a way down the view's rows, and of the views' list.
- * DONE; or CURRENT: it stands at the newest commit (or with 0, there is no view, or all do); CLOSED, NO_SUCH_VIEW,
- * NO_MEMORY. */
+/* rowanspan_apply: applies the next commit to a view; if `view` is 0, to the view that is furthest behind. *told is the
+ * number of the commit at which the view then is.
+ *
+ * Cost: a descent of the tree of the view's rows, and one of the tree of views.
+ *
+ * Returns DONE. Returns CURRENT if the view is at the newest commit, or if `view` is 0 and no view is behind. Fails
+ * with CLOSED, NO_SUCH_VIEW or NO_MEMORY; the view is then as it was. */
 uint16_t rowanspan_apply(struct rowanspan *handle, uint64_t view, uint64_t *told);
 
-/* rowanspan_drop: ends a view. Its number isn't used again. Tells 0.
- * Costs the freeing of its rows.
- * DONE; or CLOSED, NO_SUCH_VIEW. */
+/* rowanspan_drop: ends a view and frees its memory. Its number isn't used again. *told is 0.
+ *
+ * Cost: the freeing of its rows.
+ *
+ * Returns DONE. Fails with CLOSED or NO_SUCH_VIEW. */
 uint16_t rowanspan_drop(struct rowanspan *handle, uint64_t view, uint64_t *told);
 
-/* rowanspan_advance: begins the next epoch, and tells its number. rowanspan_collect: frees the nodes that tidies took
- * out, and tells how many. No call of this library is open while another is made, so an advance isn't needed for that.
- * A collect costs O(n) in the nodes that it frees.
- * DONE; or CLOSED; an advance also SPENT. */
+/* rowanspan_advance: begins the next epoch; *told is its number.
+ * rowanspan_collect: frees the nodes that rowanspan_tidy took out; *told is how many. It needs no advance before it,
+ * since no call of this library is open while another is made.
+ *
+ * Cost: of a collect, O(n) in the nodes that it frees.
+ *
+ * Both return DONE, and fail with CLOSED; an advance also fails with SPENT. */
 uint16_t rowanspan_advance(struct rowanspan *handle, uint64_t *told);
 uint16_t rowanspan_collect(struct rowanspan *handle, uint64_t *told);
 
-/* rowanspan_commits: tells how many commits were made: the number of the last one. rowanspan_nodes: how many numbers of
- * nodes are occupied, of 1,048,576. rowanspan_columns: how many columns a row has. They cost nothing to speak of.
- * DONE; or CLOSED. */
+/* rowanspan_commits: *told is how many commits were made, which is the number of the last one.
+ * rowanspan_nodes: *told is how many of the 1,048,576 numbers of nodes are in use.
+ * rowanspan_columns: *told is how many columns a row has.
+ *
+ * They cost next to nothing. All return DONE, and fail with CLOSED. */
 uint16_t rowanspan_commits(struct rowanspan *handle, uint64_t *told);
 uint16_t rowanspan_nodes(struct rowanspan *handle, uint64_t *told);
 uint16_t rowanspan_columns(struct rowanspan *handle, uint64_t *told);
@@ -185,15 +206,16 @@ uint16_t rowanspan_columns(struct rowanspan *handle, uint64_t *told);
 }
 #endif
 
-/* ---- what is passed, made */
+/* ---- how arguments are made */
 
-/* These bytes, at an address that is not null. */
+/* rowanspan_bytes_at: the same address, or another one that isn't null if it is null. */
 static inline const uint8_t *rowanspan_bytes_at(const void *at) {
     static const uint8_t none[1] = {0};
     return at ? (const uint8_t *)at : none;
 }
 
-/* rowanspan_set: these bytes for this column. They are not copied here, and have to be there till the put. */
+/* rowanspan_set: sets a column to `length` bytes at `at`. It doesn't copy them: the caller keeps them unchanged until
+ * the put has returned. */
 static inline struct rowanspan_set rowanspan_set(uint8_t column, const void *at, size_t length) {
     struct rowanspan_set set;
     set.column = column;
@@ -202,7 +224,7 @@ static inline struct rowanspan_set rowanspan_set(uint8_t column, const void *at,
     return set;
 }
 
-/* rowanspan_any: each row. */
+/* rowanspan_any: the test that each row passes. */
 static inline struct rowanspan_test rowanspan_any(void) {
     struct rowanspan_test test;
     test.kind = 0;
@@ -213,7 +235,8 @@ static inline struct rowanspan_test rowanspan_any(void) {
     return test;
 }
 
-/* rowanspan_equals: rows whose column has these bytes. */
+/* rowanspan_equals: the test that a row passes if the column has exactly these bytes. It doesn't copy them: the caller
+ * keeps them unchanged until the build has returned. */
 static inline struct rowanspan_test rowanspan_equals(uint8_t column, const void *at, size_t length) {
     struct rowanspan_test test = rowanspan_any();
     test.kind = 1;
@@ -223,8 +246,8 @@ static inline struct rowanspan_test rowanspan_equals(uint8_t column, const void 
     return test;
 }
 
-/* rowanspan_at_least: rows whose column's amount is at least this. The amount of a column is its bytes as a number, the
- * highest first, where there are at most eight, else 0. */
+/* rowanspan_at_least: the test that a row passes if the amount of the column is at least `least`. The amount of a
+ * column is its bytes as a number, the highest byte first, or 0 if there are more than eight. */
 static inline struct rowanspan_test rowanspan_at_least(uint8_t column, uint64_t least) {
     struct rowanspan_test test = rowanspan_any();
     test.kind = 2;
@@ -235,24 +258,30 @@ static inline struct rowanspan_test rowanspan_at_least(uint8_t column, uint64_t 
 
 /* ---- rows
  *
- * In these calls a pointer may be null where its length is 0. */
+ * In these calls a pointer may be null if its length is 0. */
 
-/* rowanspan_put: sets columns of a key's row. The others stay as they were, those of a new row are empty; with no sets it
- * is a commit too. Tells the number of the commit: commits are numbered from 1 on.
- * Costs the visit of each node on its way (among 100,000 keys six), the split of each that is full, and memory for the
- * key and the columns, which are copied. Each eight bytes at its front that another key has too, where both go on, are a
- * layer of the tree more: seven visits where it is to be made, else two.
- * DONE; or CLOSED, KEY_TOO_LONG, BAD_COLUMN, COLUMN_TOO_LONG, FEED_FULL, ARENA_FULL, SPENT, NO_MEMORY. */
+/* rowanspan_put: sets `count` columns of a key's row. The row's other columns stay as they were; those of a new row are
+ * empty. A put with no sets makes a commit too. *told is the number of the commit: commits are numbered from 1 on.
+ *
+ * Cost: a visit of each node on the way to the key (among 100,000 keys, six), the split of each that is full, and
+ * memory for the key and the columns, which are copied. The tree has one more layer for each eight bytes at the start
+ * of the key that another key has too, if both are longer: seven visits if the put makes the layer, else two.
+ *
+ * Returns DONE. Fails with CLOSED, KEY_TOO_LONG, BAD_COLUMN, COLUMN_TOO_LONG, FEED_FULL, ARENA_FULL, SPENT or
+ * NO_MEMORY; the row is then as it was. */
 static inline uint16_t rowanspan_put(struct rowanspan *handle, const void *key, size_t key_length,
                                      const struct rowanspan_set *sets, size_t count, uint64_t *told) {
     static const struct rowanspan_set none = {0, NULL, 0};
     return rowanspan_raw_put(handle, rowanspan_bytes_at(key), key_length, sets ? sets : &none, count, told);
 }
 
-/* rowanspan_put_if: a put that is done only where the key's row is of this version, or where `version` is 0 and the key
- * has no row. So who has read a row changes it only if nobody else has since. Costs what a put costs.
- * DONE; or OTHER_VERSION, and nothing changes: the version of the row is told, or 0 where there is none; or what else
- * rowanspan_put answers. */
+/* rowanspan_put_if: a rowanspan_put that is done only if the key's row is of this version, or if `version` is 0 and the
+ * key has no row. So a caller that has read a row changes it only if no other put has changed it since.
+ *
+ * Cost: that of a put.
+ *
+ * Returns DONE. Returns OTHER_VERSION if the row is of another version; nothing changes, and *told is the row's
+ * version, or 0 if there is no row. Fails as rowanspan_put does. */
 static inline uint16_t rowanspan_put_if(struct rowanspan *handle, const void *key, size_t key_length,
                                         const struct rowanspan_set *sets, size_t count, uint64_t version,
                                         uint64_t *told) {
@@ -260,26 +289,34 @@ static inline uint16_t rowanspan_put_if(struct rowanspan *handle, const void *ke
     return rowanspan_raw_put_if(handle, rowanspan_bytes_at(key), key_length, sets ? sets : &none, count, version, told);
 }
 
-/* rowanspan_remove: ends a key's row. Tells the number of the commit.
- * Costs the visit of each node on its way.
- * DONE; or ABSENT, and nothing changes; CLOSED, KEY_TOO_LONG, FEED_FULL, SPENT, NO_MEMORY. */
+/* rowanspan_remove: removes a key's row. *told is the number of the commit.
+ *
+ * Cost: a visit of each node on the way to the key.
+ *
+ * Returns DONE. Returns ABSENT if the key has no row; nothing changes, and there is no commit. Fails with CLOSED,
+ * KEY_TOO_LONG, FEED_FULL, SPENT or NO_MEMORY; the row is then as it was. */
 static inline uint16_t rowanspan_remove(struct rowanspan *handle, const void *key, size_t key_length,
                                         uint64_t *told) {
     return rowanspan_raw_remove(handle, rowanspan_bytes_at(key), key_length, told);
 }
 
-/* rowanspan_tidy: takes out at most one node near the place of a key that is no longer wanted, after removes; changes no
- * row. Tells what it did (ROWANSPAN_TIDIED_). A rowanspan_collect frees what was taken out.
- * Costs the visit of each node on its way.
- * DONE; or CLOSED, KEY_TOO_LONG, SPENT, NO_MEMORY. */
+/* rowanspan_tidy: takes at most one node out of the tree near the place of a key, if removes have left one that isn't
+ * needed. It changes no row. *told is what it has done (ROWANSPAN_TIDIED_). rowanspan_collect frees what was taken out.
+ *
+ * Cost: a visit of each node on the way to the key.
+ *
+ * Returns DONE, also if there was nothing to do. Fails with CLOSED, KEY_TOO_LONG, SPENT or NO_MEMORY. */
 static inline uint16_t rowanspan_tidy(struct rowanspan *handle, const void *key, size_t key_length, uint64_t *told) {
     return rowanspan_raw_tidy(handle, rowanspan_bytes_at(key), key_length, told);
 }
 
-/* rowanspan_get: the row of a key (rowanspan_read_row), with the columns of these numbers in this order, or with all
- * where none is named. Tells how many bytes it has.
- * Costs the visit of each node on its way, and memory for the row, which is freed.
- * DONE; or ABSENT, NO_ROOM; CLOSED, KEY_TOO_LONG, BAD_COLUMN, NO_MEMORY. */
+/* rowanspan_get: writes the row of a key to the buffer (rowanspan_read_row reads it), with the columns of these numbers
+ * in this order, or with all columns if `column_count` is 0. *told is the length of the answer in bytes.
+ *
+ * Cost: a visit of each node on the way to the key, and memory for the row, which is freed before the call returns.
+ *
+ * Returns DONE. Returns ABSENT if the key has no row, and NO_ROOM if the answer doesn't fit. Fails with CLOSED,
+ * KEY_TOO_LONG, BAD_COLUMN or NO_MEMORY. Unless it returns DONE the buffer is as it was. */
 static inline uint16_t rowanspan_get(struct rowanspan *handle, const void *key, size_t key_length,
                                      const uint8_t *columns, size_t column_count, void *into, size_t room,
                                      uint64_t *told) {
@@ -288,12 +325,16 @@ static inline uint16_t rowanspan_get(struct rowanspan *handle, const void *key, 
                              into ? (uint8_t *)into : none, into ? room : 0, told);
 }
 
-/* rowanspan_range: the first rows from a key on, in the order of their keys, `limit` at most (rowanspan_read_count, then
- * for each rowanspan_read_bytes of its key and rowanspan_read_row). Columns and what is told as of rowanspan_get.
- * Costs the visit of each border that it reads and of the nodes on the way there, and memory for the rows, which is
- * freed. Behind the last row of a layer its way begins anew at the top: two keys of n slices of eight bytes, of which
- * only the last differ, cost n (n + 1) visits, where the range goes on behind them.
- * DONE; or NO_ROOM; CLOSED, KEY_TOO_LONG, BAD_COLUMN, BAD_LIMIT, NO_MEMORY. */
+/* rowanspan_range: writes the first rows from a key on to the buffer, in the order of their keys, at most `limit` (1 to
+ * 1000). The answer is read by rowanspan_read_count, and then for each row by rowanspan_read_bytes (its key) and
+ * rowanspan_read_row. The columns and *told are as of rowanspan_get.
+ *
+ * Cost: a visit of each border that it reads and of the nodes on the way there, and memory for the rows, which is freed
+ * before the call returns. After the last row of a layer it descends again from the top: two keys of n slices of eight
+ * bytes, of which only the last slices differ, cost n (n + 1) visits if the range continues after them.
+ *
+ * Returns DONE, also if there are no rows. Returns NO_ROOM if the answer doesn't fit. Fails with CLOSED, KEY_TOO_LONG,
+ * BAD_COLUMN, BAD_LIMIT or NO_MEMORY. Unless it returns DONE the buffer is as it was. */
 static inline uint16_t rowanspan_range(struct rowanspan *handle, const void *start, size_t start_length, uint16_t limit,
                                        const uint8_t *columns, size_t column_count, void *into, size_t room,
                                        uint64_t *told) {
@@ -304,17 +345,20 @@ static inline uint16_t rowanspan_range(struct rowanspan *handle, const void *sta
 
 /* ---- views, of keys
  *
- * A view holds the rows whose keys are in its range and that pass its test, with their count and the sums of their
- * amounts, column by column. It stands at a number of commits, and shows the rows as they were after those exactly;
- * rowanspan_apply takes it on. While views are behind, the log holds the commits that they want: a put or remove is
- * refused FEED_FULL once `feed` of them are held. */
+ * A view holds the rows whose keys are in its range and that pass its test, with their count and, for each column, the
+ * sum of their amounts. It is at a number of commits, and shows exactly the rows after those. rowanspan_apply advances
+ * it. While views are behind, the log holds the commits that they still need: once it holds `feed` of them, a put or
+ * remove is refused with FEED_FULL. */
 
-/* rowanspan_build_prefix: a view of the keys that begin so; with no bytes, of all. rowanspan_build_from: of the keys from
- * `lo` on. rowanspan_build_between: of those before `hi` as well. Each tells the number of the view, from 1 on; it stands
- * at the newest commit.
- * They cost what a range over those keys costs, and memory for the view's rows, which share their bytes with the index.
- * DONE; or NO_SUCH_TEST; CLOSED, KEY_TOO_LONG, BAD_COLUMN, COLUMN_TOO_LONG, BAD_RANGE, TOO_MANY_VIEWS, SPENT,
- * NO_MEMORY. */
+/* rowanspan_build_prefix: builds a view of the keys that begin with `prefix`; if it is empty, of all keys.
+ * rowanspan_build_from: builds a view of the keys from `lo` on.
+ * rowanspan_build_between: builds a view of the keys from `lo` on that are before `hi`.
+ * Each view is at the newest commit, and *told is its number, from 1 on. rowanspan_drop ends it.
+ *
+ * Cost: that of a range over those keys, and memory for the view's rows, which share their bytes with the index.
+ *
+ * They return DONE. They fail with NO_SUCH_TEST, CLOSED, KEY_TOO_LONG, BAD_COLUMN, COLUMN_TOO_LONG, BAD_RANGE,
+ * TOO_MANY_VIEWS, SPENT or NO_MEMORY; there is then no new view. */
 static inline uint16_t rowanspan_build_prefix(struct rowanspan *handle, const void *prefix, size_t prefix_length,
                                               struct rowanspan_test test, uint64_t *told) {
     return rowanspan_raw_build_prefix(handle, rowanspan_bytes_at(prefix), prefix_length, &test, told);
@@ -332,12 +376,17 @@ static inline uint16_t rowanspan_build_between(struct rowanspan *handle, const v
                                        &test, told);
 }
 
-/* rowanspan_view: what a view shows that stands at `floor` commits at least: rowanspan_read_number of where it stands and
- * of how many rows it has, rowanspan_read_count of its columns and rowanspan_read_sum for each, and its first rows from
- * a key on, `limit` at most, as of rowanspan_range. Tells how many bytes there are.
- * Costs a way down the view's rows, and memory for those that it gives, which is freed.
- * DONE; or NO_ROOM; BEHIND: it stands at the commit told, before the floor; CLOSED, KEY_TOO_LONG, BAD_LIMIT,
- * NO_SUCH_VIEW, NO_MEMORY. */
+/* rowanspan_view: writes what a view shows to the buffer, if the view is at commit `floor` or later. The answer is read
+ * by rowanspan_read_number (the commit at which it is), rowanspan_read_number (how many rows it has),
+ * rowanspan_read_count (of columns) with rowanspan_read_sum for each column, and then as that of rowanspan_range: the
+ * view's first rows from a key on, at most `limit` (1 to 1000). *told is the length of the answer in bytes.
+ *
+ * Cost: a descent of the tree of the view's rows, and memory for the rows that it returns, which is freed before the
+ * call returns.
+ *
+ * Returns DONE. Returns NO_ROOM if the answer doesn't fit, and BEHIND if the view is at commit *told, before the floor.
+ * Fails with CLOSED, KEY_TOO_LONG, BAD_LIMIT, NO_SUCH_VIEW or NO_MEMORY. Unless it returns DONE the buffer is as it
+ * was. */
 static inline uint16_t rowanspan_view(struct rowanspan *handle, uint64_t view, uint64_t floor, const void *start,
                                       size_t start_length, uint16_t limit, void *into, size_t room, uint64_t *told) {
     uint8_t none[1] = {0};
@@ -345,8 +394,9 @@ static inline uint16_t rowanspan_view(struct rowanspan *handle, uint64_t view, u
                               into ? (uint8_t *)into : none, into ? room : 0, told);
 }
 
-/* rowanspan_keep_views: takes all views on to the newest commit. Tells 0.
- * CURRENT; or what else rowanspan_apply answers. */
+/* rowanspan_keep_views: applies commits to the views that are behind, until all are at the newest commit.
+ *
+ * Returns CURRENT, with *told 0. Fails as rowanspan_apply does; the commits that were applied by then stay applied. */
 static inline uint16_t rowanspan_keep_views(struct rowanspan *handle, uint64_t *told) {
     uint16_t status;
     do {
@@ -357,42 +407,47 @@ static inline uint16_t rowanspan_keep_views(struct rowanspan *handle, uint64_t *
 
 /* ---- commits */
 
-/* rowanspan_feed: what the commits after the first `from` did, in their order, `limit` of them at most:
- * rowanspan_read_count, then rowanspan_read_delta for each. Tells how many bytes there are.
- * Costs memory for the deltas, which is freed.
- * DONE, also where there are none; or NO_ROOM; BEHIND: some of these were trimmed, and those after the commit told are
- * there; CLOSED, BAD_LIMIT, NO_MEMORY. */
+/* rowanspan_feed: writes what the commits after commit `from` did to the buffer, in their order, at most `limit` (1 to
+ * 1000) commits. The answer is read by rowanspan_read_count, and then by rowanspan_read_delta for each. *told is the
+ * length of the answer in bytes.
+ *
+ * Cost: memory for the deltas, which is freed before the call returns.
+ *
+ * Returns DONE, also if there are no such commits. Returns NO_ROOM if the answer doesn't fit, and BEHIND if the log no
+ * longer has some of these commits: it has those after commit *told. Fails with CLOSED, BAD_LIMIT or NO_MEMORY. Unless
+ * it returns DONE the buffer is as it was. */
 static inline uint16_t rowanspan_feed(struct rowanspan *handle, uint64_t from, uint16_t limit, void *into, size_t room,
                                       uint64_t *told) {
     uint8_t none[1] = {0};
     return rowanspan_raw_feed(handle, from, limit, into ? (uint8_t *)into : none, into ? room : 0, told);
 }
 
-/* ---- answers, read
+/* ---- how answers are read
  *
- * A number has eight bytes, the highest first. Before bytes, and before the items of a list, stands a number: how many
- * there are. A row is its version, the number of the commit that wrote it last, and the list of its columns. A reader
- * goes over an answer from its front; past its end it reads numbers as 0 and bytes as none, and is_short is true. */
+ * A number has eight bytes, the highest first. Bytes, and the items of a list, come after a number that counts them. A
+ * row is its version, which is the number of the commit that wrote it last, and the list of its columns. A reader reads
+ * an answer from its start. Past the end it reads numbers as 0 and bytes as none, and is_short is true. What a reader
+ * returns points into the caller's buffer, and is good as long as the buffer is unchanged. */
 struct rowanspan_reader {
     const uint8_t *at;
     size_t left;
     bool is_short;
 };
 
-/* Bytes that stand in an answer. */
+/* Bytes in an answer. */
 struct rowanspan_bytes {
     const uint8_t *at;
     size_t length;
 };
 
-/* A row that stands in an answer: rowanspan_read_bytes of `columns` gives one column after the other. */
+/* A row in an answer: rowanspan_read_bytes of `columns` returns one column after the other. */
 struct rowanspan_row {
     uint64_t version;
     size_t column_count;
     struct rowanspan_reader columns;
 };
 
-/* What a commit did to a key: the row before, if there was one, and after, if there is one. */
+/* What a commit did to a key: the row before it if `had_row`, and the row after it if `has_row`. */
 struct rowanspan_delta {
     uint64_t number;
     struct rowanspan_bytes key;
@@ -424,12 +479,12 @@ static inline uint64_t rowanspan_read_number(struct rowanspan_reader *reader) {
     return number;
 }
 
-/* How many items follow. */
+/* rowanspan_read_count: how many items follow. */
 static inline size_t rowanspan_read_count(struct rowanspan_reader *reader) {
     return (size_t)rowanspan_read_number(reader);
 }
 
-/* A sum, of up to 128 bits, as its upper and its lower half. */
+/* rowanspan_read_sum: a sum of up to 128 bits, as its upper and its lower half. */
 static inline void rowanspan_read_sum(struct rowanspan_reader *reader, uint64_t *upper, uint64_t *lower) {
     *upper = rowanspan_read_number(reader);
     *lower = rowanspan_read_number(reader);
