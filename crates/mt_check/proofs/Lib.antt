@@ -11,4 +11,5 @@ pub mod RangeLemmas
 pub mod VersionLemmas
 pub mod WalkLemmas
 pub mod WorthLemmas
+pub mod BlameLemmas
 pub mod WriteLemmas

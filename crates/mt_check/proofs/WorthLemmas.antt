@@ -26,7 +26,7 @@ use Rattle.mt_check.specs.Worth.{deltas_after, RepliesAreSound, PagesAreSound}
 use Rattle.mt_check.proofs.CommitLemmas.{GoesOnFrom, commits_since, first_commits, fewer_commits, change_stays, take_within, Made, made_stays, calls_kept}
 
 -- the rows after the first deltas of changes are those after the first changes
-rows_taken : (C number : ℕ) (old : Rows) (cs : List Change) (n : ℕ) → rows_after (take n (deltas_from C number old cs)) old ≡ after_from C number old (take n cs)
+pub rows_taken : (C number : ℕ) (old : Rows) (cs : List Change) (n : ℕ) → rows_after (take n (deltas_from C number old cs)) old ≡ after_from C number old (take n cs)
 rows_taken C number old cs zero = refl
 rows_taken C number old [] (suc n) = refl
 rows_taken C number old (c ∷ cs) (suc n) =

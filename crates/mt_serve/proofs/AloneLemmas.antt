@@ -1,11 +1,11 @@
 -- An index of one caller: events that its pass makes, and a call of it, alone, from its begin to its end.
 use Rattle.std.proofs.Common.{ℕ, ◌≡◌, ◌<◌, ◌≤◌, Bool, true, false, inl, inr, List, [], ◌∷◌, ◌++◌, length, Option, Some, None, refl, sym, ap, subst, ◌∙◌, arith, append-nil, length-append}
-use Rattle.std.specs.Prelude.{◌+◌, ◌-◌, ◌==◌, ◌&&◌, ◌||◌, nat_le, not, MatchBool, if◌then◌else◌, max, map, filter, count_by, All, Result, Ok, Err}
+use Rattle.std.specs.Prelude.{◌+◌, ◌-◌, ◌==◌, ◌&&◌, ◌||◌, nat_le, not, MatchBool, MatchOption, if◌then◌else◌, max, map, filter, count_by, All, Result, Ok, Err}
 use Rattle.std.specs.Option.{option_or, option_map}
 use Rattle.std.proofs.lemmas.Bool.{eq-eqb}
 use Rattle.std.proofs.lemmas.Bool.Decides.{eqb_tells, leb_tells}
-use Rattle.std.proofs.lemmas.List.{length-set}
-use Rattle.std.proofs.lemmas.List.Elements.{All-head, All-tail}
+use Rattle.std.proofs.lemmas.List.{length-set, map-append}
+use Rattle.std.proofs.lemmas.List.Elements.{All-head, All-tail, All-nil, All-cons}
 use Rattle.std.proofs.Math.Nat.{max-le}
 use Rattle.mt_types.specs.Numbers.{greatest_number, least}
 use Rattle.mt_types.specs.Limits.{refused_if, request_fault}
@@ -23,12 +23,14 @@ use Rattle.mt_types.specs.declared.event.Answer.{Answer}
 use Rattle.mt_types.specs.declared.event.Answer.TheVariants.{Built}
 use Rattle.mt_types.specs.declared.event.Reply.{Reply}
 use Rattle.mt_types.specs.declared.event.Request.{Request}
-use Rattle.mt_types.specs.declared.event.Request.TheVariants.{Put, PutIf, Remove, Build}
+use Rattle.mt_types.specs.declared.event.Request.TheVariants.{Get, Put, PutIf, Remove, Range, Tidy, Build}
 use Rattle.mt_promise.specs.History.{History, happening, Moment, OpenCall, StandingView, moment, rows, call_of, new_call, replace_call, after_event, after_call_step, after_step, view_built, Sometime, Throughout}
 use Rattle.mt_promise.specs.Legal.{Legal, MayHappen, MayBegin, MayStepAt, MayEnd, begin_fault, view_places, reads_log, held_from, is_build}
+use Rattle.mt_promise.specs.RightAnswers.{RightAnswer}
 use Rattle.mt_promise.specs.Alone.{GoesOnBy, RunsAlone, IsPlainRefusal}
 use Rattle.mt_promise.proofs.AloneLemmas.{lone_calls_are_plain, lone_refusals_do_nothing}
-use Rattle.mt_promise.proofs.HistoryLemmas.{happened_is}
+use Rattle.mt_promise.specs.History.{GoesOn}
+use Rattle.mt_promise.proofs.HistoryLemmas.{happened_is, GoesOn-append}
 use Rattle.mt_index.specs.declared.calls.Call.{Call}
 use Rattle.mt_index.specs.Calls.{pass_at}
 use Rattle.mt_index.specs.Paired.{Paired}
@@ -39,8 +41,13 @@ use Rattle.mt_shared.specs.Passes.{PassView, seen_in}
 use Rattle.mt_shared.specs.Drives.{Runs, Continues, IsStep, whole, IsCut, IsDrive, EndsIn}
 use Rattle.mt_shared.specs.Kept.{KeptView, Does, IsMade, IsUnmade, has_book, is_foreign, is_other, is_wrong, is_spent}
 use Rattle.mt_shared.proofs.HappeningLemmas.{event_grows, event_shows}
-use Rattle.mt_serve.specs.Plain.{IsAlone, CallEnds, MayRefuse, MayLack, slowest_view}
+use Rattle.mt_index.specs.Events.{AllHappen, Happens}
+use Rattle.mt_index.proofs.EventLemmas.{all-more}
+use Rattle.mt_serve.specs.Store.{Store, Leads, ComesTo, EndsBy, MayLack, call_events, fault}
+use Rattle.mt_serve.specs.Plain.{IsAlone, CallEnds, CallIsDone, GivesNext, IsTurnedAway, IsGivenUp, store_of}
 use Rattle.mt_serve.proofs.CauseLemmas.{any_cause, begin_plainly}
+use Rattle.mt_serve.proofs.StageLemmas.{IsWriting}
+use Rattle.mt_serve.proofs.CallLemmas.{Cause, CallSays, Only, only_one, says_on, says_begun, refused_says}
 
 -- ---- events are counted
 pub does_rises : (s t : KeptView) (p q : PassView) (e : Event) (o : Outcome) → Does s p e o t q → s.events ≤ t.events
@@ -99,6 +106,8 @@ pub record Goes (s : KeptView) (p : PassView) (h : History) (e : Event) (o : Out
   pub number : q.number ≡ p.number
   pub columns : t.machine.columns ≡ s.machine.columns
   pub legal : Legal s.machine.columns (happening e o note ∷ h)
+  pub happens : Happens s.machine e o t.machine
+  pub feed : t.machine.log.feed ≡ s.machine.log.feed
 
 pub goes : (s t : KeptView) (p q : PassView) (h : History) (e : Event) (o : Outcome) → Keeping s p h → t.events < greatest_number → is_foreign s.machine p.number e ≡ false → Does s p e o t q → Goes s p h e o t q
 goes s t p q h e o k few foreign d =
@@ -122,7 +131,33 @@ goes s t p q h e o k few foreign d =
       number = made.counts.number;
       columns = made.makes.columns;
       legal = legal;
+      happens = made.makes.happens;
+      feed = made.makes.bounds.0;
     }
+
+-- ---- from store to store
+pub leads_one : (s t : KeptView) (h : History) (e : Event) (o : Outcome) (note : ℕ) → Happens s.machine e o t.machine → Leads (store_of s h) (e ∷ []) (o ∷ []) (store_of t (happening e o note ∷ h))
+leads_one s t h e o note happens = ((t.machine, happens, refl), (note, refl))
+
+pub leads_more : (s : Store) (m t : KeptView) (h : History) (events : List Event) (outcomes : List Outcome) (e : Event) (o : Outcome) (note : ℕ) → Leads s events outcomes (store_of m h) → Happens m.machine e o t.machine
+    → Leads s (events ++ e ∷ []) (outcomes ++ o ∷ []) (store_of t (happening e o note ∷ h))
+leads_more s m t h events outcomes e o note (all, on) happens =
+    (all-more s.machine m.machine t.machine events outcomes e o all happens, GoesOn-append s.past h events outcomes e o note on)
+
+all_push : {X : Type 0} (P : X → Type 0) (xs : List X) (x : X) → All P xs → P x → All P (xs ++ x ∷ [])
+all_push P [] x all p = All-cons P x [] p (All-nil P)
+all_push P (y ∷ xs) x all p = All-cons P y (xs ++ x ∷ []) (All-head P y xs all) (all_push P xs x (All-tail P y xs all) p)
+
+-- a step more of a call
+comes_more : (s : Store) (pass : PassNo) (request : Request) (call : CallNo) (m t : KeptView) (h : History) (o : Outcome) (note : ℕ) → ComesTo s pass request call (store_of m h) → Continues o → Happens m.machine (Step call) o t.machine
+    → ComesTo s pass request call (store_of t (happening (Step call) o note ∷ h))
+comes_more s pass request call m t h o note comes on happens = record {
+  steps = comes.steps ++ o ∷ [];
+  continue = all_push Continues comes.steps o comes.continue on;
+  leads = subst (λ (events : List Event). Leads s events (Called call ∷ comes.steps ++ o ∷ []) (store_of t (happening (Step call) o note ∷ h)))
+      (ap (λ (events : List Event). Begin pass request ∷ events) (sym (map-append (λ (x : Outcome). Step call) comes.steps (o ∷ []))))
+      (leads_more s m t h (call_events pass request call comes.steps) (Called call ∷ comes.steps) (Step call) o note comes.leads happens);
+}
 
 -- ---- moments since a begin
 throughout_none : (began : ℕ) (P : Moment → Type 0) (h : History) → length h < began → Throughout began P h
@@ -141,9 +176,13 @@ sometime_with began P Q (x ∷ h) t s = elim s [
 ]
 
 -- ---- an open call
+-- from which number of commits on views hold the log
+abbrev pub slowest_at : Moment → ℕ
+slowest_at m = least (length m.commits) (map (λ (v : StandingView). v.at) m.views)
+
 -- at each moment of a call that doesn't hold the log, it was held from where views stood at its begin
 abbrev pub HeldSince : History → History → Type 0
-HeldSince before past = Throughout (length before) (λ (m : Moment). held_from m ≡ slowest_view (moment before)) past
+HeldSince before past = Throughout (length before) (λ (m : Moment). held_from m ≡ slowest_at (moment before)) past
 
 -- the call of this number alone is open, since it began when this had happened
 pub record IsUnderWay (request : Request) (pass : PassNo) (call : CallNo) (before past : History) : Type 0 where
@@ -159,14 +198,14 @@ pub record IsUnderWay (request : Request) (pass : PassNo) (call : CallNo) (befor
   pub held : reads_log request ≡ false → one.committed ≡ None → HeldSince before past
   pub run : RunsAlone request call before past
 
-held_none : (m n : Moment) → m.calls ≡ [] → m.commits ≡ n.commits → m.views ≡ n.views → held_from m ≡ slowest_view n
+held_none : (m n : Moment) → m.calls ≡ [] → m.commits ≡ n.commits → m.views ≡ n.views → held_from m ≡ slowest_at n
 held_none m n none commits views =
     ap (λ (l : List OpenCall). least (length m.commits) (map (λ (v : StandingView). v.at) m.views ++ map (λ (c : OpenCall). c.from) (filter (λ (c : OpenCall). reads_log c.request) l))) none
     ∙ ap (λ (l : List ℕ). least (length m.commits) l) (append-nil (map (λ (v : StandingView). v.at) m.views))
     ∙ ap (λ (l : List Change). least (length l) (map (λ (v : StandingView). v.at) m.views)) commits
     ∙ ap (λ (l : List StandingView). least (length n.commits) (map (λ (v : StandingView). v.at) l)) views
 
-held_one : (m n : Moment) (one : OpenCall) → m.calls ≡ one ∷ [] → reads_log one.request ≡ false → m.commits ≡ n.commits → m.views ≡ n.views → held_from m ≡ slowest_view n
+held_one : (m n : Moment) (one : OpenCall) → m.calls ≡ one ∷ [] → reads_log one.request ≡ false → m.commits ≡ n.commits → m.views ≡ n.views → held_from m ≡ slowest_at n
 held_one m n one only reads commits views =
     ap (λ (l : List OpenCall). least (length m.commits) (map (λ (v : StandingView). v.at) m.views ++ map (λ (c : OpenCall). c.from) (filter (λ (c : OpenCall). reads_log c.request) l))) only
     ∙ ap (λ (b : Bool). least (length m.commits) (map (λ (v : StandingView). v.at) m.views ++ map (λ (c : OpenCall). c.from) (if b then one ∷ [] else []))) reads
@@ -193,7 +232,7 @@ begun request pass call before note none =
       quiet = λ pending. refl;
       held = λ reads pending. (
         (λ since. held_one (moment past) (moment before) own only reads refl refl),
-        throughout_now (λ (m : Moment). held_from m ≡ slowest_view (moment before)) before (held_none (moment before) (moment before) none refl refl),
+        throughout_now (λ (m : Moment). held_from m ≡ slowest_at (moment before)) before (held_none (moment before) (moment before) none refl refl),
       );
       run = record { nothing_open = none; pass = pass; note = note; steps = []; are_steps = tt; is_past = refl };
     }
@@ -275,30 +314,33 @@ module _ (request : Request) (pass : PassNo) (call : CallNo) (before past : Hist
   on_by _ note on = absurd on
 
   -- ---- why it may be refused
-  lacks : (C : ℕ) (own : Request) (refusal : Refusal) → own ≡ request → one.committed ≡ None → MayEnd C past (length before) own refusal → MayLack (moment before) own refusal
-  lacks C own NoMemory is pending may = tt
-  lacks C (Put key sets) ArenaFull is pending may = tt
-  lacks C (Put key sets) (FeedFull slowest) is pending may =
-      let (m, held, was) = sometime_with (length before) (λ (m : Moment). held_from m ≡ slowest_view (moment before)) (λ (m : Moment). held_from m ≡ slowest) past (u.held (ap reads_log (sym is)) pending) may in
-      sym was ∙ held
-  lacks C (Put key sets) Spent is pending may = tt
-  lacks C (PutIf key sets version) ArenaFull is pending may = tt
-  lacks C (PutIf key sets version) (FeedFull slowest) is pending may =
-      let (m, held, was) = sometime_with (length before) (λ (m : Moment). held_from m ≡ slowest_view (moment before)) (λ (m : Moment). held_from m ≡ slowest) past (u.held (ap reads_log (sym is)) pending) may in
-      sym was ∙ held
-  lacks C (PutIf key sets version) Spent is pending may = tt
-  lacks C (PutIf key sets version) (OtherVersion found) is pending may = tt
-  lacks C (Remove key) (FeedFull slowest) is pending may =
-      let (m, held, was) = sometime_with (length before) (λ (m : Moment). held_from m ≡ slowest_view (moment before)) (λ (m : Moment). held_from m ≡ slowest) past (u.held (ap reads_log (sym is)) pending) may in
-      sym was ∙ held
-  lacks C (Remove key) Spent is pending may = tt
-  lacks C (Build spec) Spent is pending may = subst (λ (n : ℕ). greatest_number ≤ n) u.built may
-  lacks C _ _ is pending may = absurd may
+  module _ (machine : MachineView) where
+    abbrev from_store : Store
+    from_store = record { machine = machine; past = before }
 
-  pub refused_for : (C note : ℕ) (refusal : Refusal) → MayHappen C past (Step call) (Refused refusal) note → MayLack (moment before) request refusal
-  refused_for C note refusal may =
-      let (pending, ends) = subst (λ (r : Option OpenCall). MayStepAt C past r (Refused refusal) note) found may in
-      lacks C request refusal refl pending (subst (λ (q : Request). MayEnd C past (length before) q refusal) u.asks (subst (λ (n : ℕ). MayEnd C past n one.request refusal) u.began ends))
+    held_then : (own : Request) (slowest : ℕ) → reads_log own ≡ false → own ≡ request → one.committed ≡ None → Sometime (length before) (λ (m : Moment). held_from m ≡ slowest) past → slowest ≡ slowest_at (moment before)
+    held_then own slowest reads is pending may =
+        let (m, held, was) = sometime_with (length before) (λ (m : Moment). held_from m ≡ slowest_at (moment before)) (λ (m : Moment). held_from m ≡ slowest) past (u.held (ap reads_log (sym is) ∙ reads) pending) may in
+        sym was ∙ held
+
+    lacks : (C : ℕ) (own : Request) (refusal : Refusal) → own ≡ request → one.committed ≡ None → MayEnd C past (length before) own refusal → (IsWriting own → Cause from_store pass own call refusal) → MayLack from_store pass own call refusal
+    lacks C own NoMemory is pending may cause = tt
+    lacks C (Put key sets) ArenaFull is pending may cause = cause tt
+    lacks C (Put key sets) (FeedFull slowest) is pending may cause = (held_then (Put key sets) slowest refl is pending may, cause tt)
+    lacks C (Put key sets) Spent is pending may cause = cause tt
+    lacks C (PutIf key sets version) ArenaFull is pending may cause = cause tt
+    lacks C (PutIf key sets version) (FeedFull slowest) is pending may cause = (held_then (PutIf key sets version) slowest refl is pending may, cause tt)
+    lacks C (PutIf key sets version) Spent is pending may cause = cause tt
+    lacks C (PutIf key sets version) (OtherVersion found) is pending may cause = tt
+    lacks C (Remove key) (FeedFull slowest) is pending may cause = (held_then (Remove key) slowest refl is pending may, cause tt)
+    lacks C (Remove key) Spent is pending may cause = cause tt
+    lacks C (Build spec) Spent is pending may cause = subst (λ (n : ℕ). greatest_number ≤ n) u.built may
+    lacks C _ _ is pending may cause = absurd may
+
+    pub refused_for : (C note : ℕ) (refusal : Refusal) → MayHappen C past (Step call) (Refused refusal) note → (IsWriting request → Cause from_store pass request call refusal) → MayLack from_store pass request call refusal
+    refused_for C note refusal may cause =
+        let (pending, ends) = subst (λ (r : Option OpenCall). MayStepAt C past r (Refused refusal) note) found may in
+        lacks C request refusal refl pending (subst (λ (q : Request). MayEnd C past (length before) q refusal) u.asks (subst (λ (n : ℕ). MayEnd C past n one.request refusal) u.began ends)) cause
 
   -- ---- the machine knows it as the pass's own
   own_call : (C now : ℕ) (s : MachineView) (st : Stands s past) → pass_at call.0 s.calls.calls ≡ Some pass
@@ -316,64 +358,81 @@ module _ (request : Request) (pass : PassNo) (call : CallNo) (before past : Hist
 
 -- ---- from its begin through its steps
 -- the call is under way at what was reached
-pub record Reached (C : ℕ) (request : Request) (pass : PassNo) (call : CallNo) (before : History) (m : KeptView) (r : PassView) : Type 0 where
+pub record Reached (s : Store) (request : Request) (pass : PassNo) (call : CallNo) (m : KeptView) (r : PassView) : Type 0 where
   pub past : History
   pub keeps : Keeping m r past
-  pub way : IsUnderWay request pass call before past
+  pub way : IsUnderWay request pass call s.past past
   pub number : r.number ≡ pass
-  pub columns : m.machine.columns ≡ C
+  pub columns : m.machine.columns ≡ s.machine.columns
+  pub comes : ComesTo s pass request call (store_of m past)
+  pub feed : m.machine.log.feed ≡ s.machine.log.feed
+  pub says : CallSays s pass request call m.machine
 
 -- and then the last step is made
-pub record LastOf (C : ℕ) (request : Request) (pass : PassNo) (call : CallNo) (before : History) (last : Entry) (t : KeptView) (q : PassView) : Type 0 where
+pub record LastOf (s : Store) (request : Request) (pass : PassNo) (call : CallNo) (last : Entry) (t : KeptView) (q : PassView) : Type 0 where
   pub m : KeptView
   pub r : PassView
-  pub at : Reached C request pass call before m r
+  pub at : Reached s request pass call m r
   pub does : Does m r last.event last.outcome t q
 
-steps_on : (C : ℕ) (request : Request) (pass : PassNo) (call : CallNo) (before : History) (last : Entry) (t : KeptView) (q : PassView) → t.events < greatest_number
-    → (steps : List Entry) (m : KeptView) (r : PassView) → All (IsStep pass call) steps → Reached C request pass call before m r → Runs Does m r (steps ++ last ∷ []) t q → LastOf C request pass call before last t q
-steps_on C request pass call before last t q few [] m r all at (n, w, does, (is, same)) = record {
+only_call : (s : Store) (request : Request) (pass : PassNo) (call : CallNo) (m : KeptView) (r : PassView) (at : Reached s request pass call m r) → Only s pass request call m.machine at.past at.way.one
+only_call s request pass call m r at = only_one s pass request call m.machine at.past at.way.one at.keeps.stands at.way.calls at.way.number
+
+steps_on : (s : Store) (request : Request) (pass : PassNo) (call : CallNo) (last : Entry) (t : KeptView) (q : PassView) → t.events < greatest_number
+    → (steps : List Entry) (m : KeptView) (r : PassView) → All (IsStep pass call) steps → Reached s request pass call m r → Runs Does m r (steps ++ last ∷ []) t q → LastOf s request pass call last t q
+steps_on s request pass call last t q few [] m r all at (n, w, does, (is, same)) = record {
   m = m;
   r = r;
   at = at;
   does = subst (λ (k : KeptView). Does m r last.event last.outcome k q) (sym is) (subst (λ (v : PassView). Does m r last.event last.outcome n v) (sym same) does);
 }
-steps_on C request pass call before last t q few (x ∷ steps) m r all at (n, w, does, more) =
+steps_on s request pass call last t q few (x ∷ steps) m r all at (n, w, does, more) =
     let step = All-head (IsStep pass call) x steps all in
     let rises = runs_rise n t w q (steps ++ last ∷ []) more in
-    let own : is_foreign m.machine r.number (Step call) ≡ false = subst (λ (p : PassNo). is_foreign m.machine p (Step call) ≡ false) (sym at.number) (own_step request pass call before at.past at.way m.machine at.keeps.stands) in
+    let own : is_foreign m.machine r.number (Step call) ≡ false = subst (λ (p : PassNo). is_foreign m.machine p (Step call) ≡ false) (sym at.number) (own_step request pass call s.past at.past at.way m.machine at.keeps.stands) in
     let went = goes m n r w at.past (Step call) x.outcome at.keeps (omega (arith, rises, few)) own (subst (λ (e : Event). Does m r e x.outcome n w) step.event does) in
-    steps_on C request pass call before last t q few steps n w (All-tail (IsStep pass call) x steps all)
+    steps_on s request pass call last t q few steps n w (All-tail (IsStep pass call) x steps all)
     (record {
       past = happening (Step call) x.outcome went.note ∷ at.past;
       keeps = went.keeps;
-      way = on_by request pass call before at.past at.way x.outcome went.note step.outcome;
+      way = on_by request pass call s.past at.past at.way x.outcome went.note step.outcome;
       number = went.number ∙ at.number;
       columns = went.columns ∙ at.columns;
+      comes = comes_more s pass request call m n at.past x.outcome went.note at.comes step.outcome went.happens;
+      feed = went.feed ∙ at.feed;
+      says = says_on s pass request call (store_of m at.past) n.machine at.way.one (only_call s request pass call m r at) at.comes
+          (λ pending. at.keeps.stands.commits ∙ ap length (at.way.quiet pending)) at.feed x.outcome step.outcome went.happens at.says;
     }) more
 
 own_begin : (m : MachineView) (pass : PassNo) (request : Request) → is_foreign m pass (Begin pass request) ≡ false
 own_begin m pass request = ap not (eq-eqb pass.0 pass.0 refl)
 
--- what its begin tells of the limits
-pub record IsWhole (C : ℕ) (request : Request) (pass : PassNo) (call : CallNo) (before : History) (last : Entry) (t : KeptView) (q : PassView) : Type 0 where
-  pub ends : LastOf C request pass call before last t q
+-- what its begin says of the limits
+pub record IsWhole (s : Store) (request : Request) (pass : PassNo) (call : CallNo) (last : Entry) (t : KeptView) (q : PassView) : Type 0 where
+  pub ends : LastOf s request pass call last t q
   pub note : ℕ
-  pub may : MayHappen C before (Begin pass request) (Called call) note
+  pub may : MayHappen s.machine.columns s.past (Begin pass request) (Called call) note
 
 pub whole_run : (s t : KeptView) (p q : PassView) (h : History) (request : Request) (call : CallNo) (steps : List Entry) (last : Outcome) → IsAlone s p h → t.events < greatest_number
-    → All (IsStep p.number call) steps → Runs Does s p (whole p.number request call steps last) t q → IsWhole s.machine.columns request p.number call h (entry p.number (Step call) last) t q
+    → All (IsStep p.number call) steps → Runs Does s p (whole p.number request call steps last) t q → IsWhole (store_of s h) request p.number call (entry p.number (Step call) last) t q
 whole_run s t p q h request call steps last a few all (m, r, does, more) =
     let rises = runs_rise m t r q (steps ++ entry p.number (Step call) last ∷ []) more in
     let went = goes s m p r h (Begin p.number request) (Called call) (keeping s p h a) (omega (arith, rises, few)) (own_begin s.machine p.number request) does in
     record {
-      ends = steps_on s.machine.columns request p.number call h (entry p.number (Step call) last) t q few steps m r all
+      ends = steps_on (store_of s h) request p.number call (entry p.number (Step call) last) t q few steps m r all
           (record {
             past = happening (Begin p.number request) (Called call) went.note ∷ h;
             keeps = went.keeps;
             way = begun request p.number call h went.note a.ended;
             number = went.number;
             columns = went.columns;
+            comes = record {
+              steps = [];
+              continue = All-nil Continues;
+              leads = leads_one s m h (Begin p.number request) (Called call) went.note went.happens;
+            };
+            feed = went.feed;
+            says = says_begun (store_of s h) p.number request call s.machine m.machine h p.number request a.stands a.ended went.happens;
           }) more;
       note = went.note;
       may = went.may;
@@ -413,27 +472,69 @@ room C begun views (Build spec) (Built number) at none few =
 room C begun views _ _ at none few = let long = length-append views [] in omega (arith, few, long)
 
 -- ---- its end
+-- a build that is done gives the next number of a view
+gives_next : (C : ℕ) (past : History) (call : OpenCall) (asked : Request) (answer : Answer) (note : ℕ) (s : Store) → (moment past).built ≡ (moment s.past).built → RightAnswer C past call asked answer note → GivesNext s answer
+gives_next C past call (Build spec) (Built view) note s same right = right.0 ∙ ap (λ (n : ℕ). n + 1) same
+gives_next C past call (Get key asked) (Built view) note s same right = absurd right
+gives_next C past call (Put key sets) (Built view) note s same right = absurd right
+gives_next C past call (PutIf key sets version) (Built view) note s same right = absurd right
+gives_next C past call (Remove key) (Built view) note s same right = absurd right
+gives_next C past call (Range start limit asked) (Built view) note s same right = absurd right
+gives_next C past call (Tidy key) (Built view) note s same right = absurd right
+gives_next C past call asked _ note s same right = tt
+
+-- its last step
+record LastStep (s : Store) (request : Request) (pass : PassNo) (call : CallNo) (last : Outcome) (t : KeptView) (q : PassView) : Type 0 where
+  m : KeptView
+  r : PassView
+  at : Reached s request pass call m r
+  went : Goes m r at.past (Step call) last t q
+  legal : Legal s.machine.columns (happening (Step call) last went.note ∷ at.past)
+  ends : EndsBy s pass request call last (store_of t (happening (Step call) last went.note ∷ at.past))
+
+last_step : (s : Store) (t : KeptView) (q : PassView) (request : Request) (pass : PassNo) (call : CallNo) (last : Outcome) → t.events < greatest_number → IsWhole s request pass call (entry pass (Step call) last) t q → LastStep s request pass call last t q
+last_step s t q request pass call last few w =
+    let at = w.ends.at in
+    let own : is_foreign w.ends.m.machine w.ends.r.number (Step call) ≡ false = subst (λ (n : PassNo). is_foreign w.ends.m.machine n (Step call) ≡ false) (sym at.number) (own_step request pass call s.past at.past at.way w.ends.m.machine at.keeps.stands) in
+    let went = goes w.ends.m t w.ends.r q at.past (Step call) last at.keeps few own w.ends.does in
+    record {
+      m = w.ends.m;
+      r = w.ends.r;
+      at = at;
+      went = went;
+      legal = subst (λ (C : ℕ). Legal C (happening (Step call) last went.note ∷ at.past)) at.columns went.legal;
+      ends = record {
+        m = store_of w.ends.m at.past;
+        comes = at.comes;
+        ends = leads_one w.ends.m t at.past (Step call) last went.note went.happens;
+      };
+    }
+
 pub drive_ends : (s t : KeptView) (p q : PassView) (h : History) (request : Request) (result : Result Reply Refusal) → IsAlone s p h → t.events < greatest_number → IsDrive Does s p request result t q
-    → (final : History) × IsAlone t q final × (t.machine.columns ≡ s.machine.columns) × CallEnds s.machine.columns h request result (moment final)
+    → (final : History) × IsAlone t q final × (t.machine.columns ≡ s.machine.columns) × CallEnds (store_of s h) request result (store_of t final)
 drive_ends s t p q h request (Ok reply) a few d =
     let w = whole_run s t p q h request reply.call d.driven.steps (Done reply) a few d.driven.are_steps d.driven.runs in
-    let at = w.ends.at in
-    let own : is_foreign w.ends.m.machine w.ends.r.number (Step reply.call) ≡ false = subst (λ (n : PassNo). is_foreign w.ends.m.machine n (Step reply.call) ≡ false) (sym at.number) (own_step request p.number reply.call h at.past at.way w.ends.m.machine at.keeps.stands) in
-    let went = goes w.ends.m t w.ends.r q at.past (Step reply.call) (Done reply) at.keeps few own w.ends.does in
-    let legal = subst (λ (C : ℕ). Legal C (happening (Step reply.call) (Done reply) went.note ∷ at.past)) at.columns went.legal in
-    let ends = lone_calls_are_plain s.machine.columns request reply.call reply went.note h at.past at.way.run legal in
-    let none = sym (fault_alone s.machine.columns (moment h) request a.ended) ∙ no_fault (moment h) (begin_fault s.machine.columns (moment h).begun (length (moment h).calls) (view_places (moment h)) request) reply.call w.may in (
-      happening (Step reply.call) (Done reply) went.note ∷ at.past,
+    let l = last_step (store_of s h) t q request p.number reply.call (Done reply) few w in
+    let ends = lone_calls_are_plain s.machine.columns request reply.call reply l.went.note h l.at.past l.at.way.run l.legal in
+    let none = sym (fault_alone s.machine.columns (moment h) request a.ended) ∙ no_fault (moment h) (begin_fault s.machine.columns (moment h).begun (length (moment h).calls) (view_places (moment h)) request) reply.call w.may in
+    let right = subst (λ (r : Option OpenCall). MayStepAt s.machine.columns l.at.past r (Done reply) l.went.note) (found request p.number reply.call h l.at.past l.at.way) l.legal.1 in
+    let same_pass : p.number ≡ reply.pass = sym (λ i. record { 0 = (right.pass ∙ l.at.way.by) i }) in (
+      happening (Step reply.call) (Done reply) l.went.note ∷ l.at.past,
       record {
-        stands = went.keeps.stands;
+        stands = l.went.keeps.stands;
         ended = ends.closed;
         few_views = subst (λ (l : List StandingView). length l ≤ MAX_VIEWS) (sym ends.views) (room s.machine.columns (moment h).begun (moment h).views request reply.answer (length (moment h).commits) none a.few_views);
-        own = went.keeps.own;
-        seen = went.keeps.seen;
-        counted = went.keeps.counted;
+        own = l.went.keeps.own;
+        seen = l.went.keeps.seen;
+        counted = l.went.keeps.counted;
       },
-      went.columns ∙ at.columns,
-      record { same_pass = refl; same_call = refl; from = ends.from; to = ends.to; made = ends.made; plain = ends.plain; commits = ends.commits; views = ends.views; closed = ends.closed },
+      l.went.columns ∙ l.at.columns,
+      record {
+        within = none;
+        happens = subst (λ (n : PassNo). EndsBy (store_of s h) n request reply.call (Done reply) (store_of t (happening (Step reply.call) (Done reply) l.went.note ∷ l.at.past))) same_pass l.ends;
+        plain = record { same_pass = refl; same_call = refl; from = ends.from; to = ends.to; made = ends.made; plain = ends.plain; commits = ends.commits; views = ends.views; closed = ends.closed };
+        next = gives_next s.machine.columns l.at.past l.at.way.one l.at.way.one.request reply.answer l.went.note (store_of s h) l.at.way.built right.answer;
+      },
     )
 drive_ends s t p q h request (Err refusal) a few d = elim d.refused [
   | inl turned ↦
@@ -442,7 +543,11 @@ drive_ends s t p q h request (Err refusal) a few d = elim d.refused [
         record { stands = went.keeps.stands; ended = a.ended; few_views = a.few_views; own = went.keeps.own; seen = went.keeps.seen; counted = went.keeps.counted },
         went.columns,
         (
-          turned_for (moment h) (begin_fault s.machine.columns (moment h).begun (length (moment h).calls) (view_places (moment h)) request) (fault_alone s.machine.columns (moment h) request a.ended) went.may,
+          inl (
+            p.number,
+            leads_one s t h (Begin p.number request) (Refused refusal) went.note went.happens,
+            turned_for (moment h) (begin_fault s.machine.columns (moment h).begun (length (moment h).calls) (view_places (moment h)) request) (fault (store_of s h) request) (fault_alone s.machine.columns (moment h) request a.ended) went.may,
+          ),
           record {
             plain = turned_plainly (moment h) (begin_fault s.machine.columns (moment h).begun (length (moment h).calls) (view_places (moment h)) request) refl went.may;
             commits = refl;
@@ -454,13 +559,12 @@ drive_ends s t p q h request (Err refusal) a few d = elim d.refused [
   | inr cut ↦ cut_ends cut
 ]
   where
-    turned_for : (m : Moment) (fault : Option Refusal) → fault ≡ begin_fault s.machine.columns (moment h).begun 0 (length (moment h).views) request → MayBegin m fault (Refused refusal)
-        → MayRefuse s.machine.columns (moment h) request refusal
-    turned_for m (Some cause) is may = let same : refusal ≡ cause = cc in inl (sym is ∙ ap (λ (x : Refusal). Some x) (sym same))
-    turned_for m None is may = elim may [
-      | inl call ↦ cc
-      | inr memory ↦ let same : refusal ≡ NoMemory = cc in inr (subst (λ (x : Refusal). MayLack (moment h) request x) (sym same) tt)
-    ]
+    turned_for : (m : Moment) (given due : Option Refusal) → given ≡ due → MayBegin m given (Refused refusal) → MatchOption due (refusal ≡ NoMemory) (λ cause. refusal ≡ cause)
+    turned_for m given due is may = subst (λ (o : Option Refusal). MatchOption o (refusal ≡ NoMemory) (λ cause. refusal ≡ cause)) is (by_fault given may)
+      where
+        by_fault : (o : Option Refusal) → MayBegin m o (Refused refusal) → MatchOption o (refusal ≡ NoMemory) (λ cause. refusal ≡ cause)
+        by_fault (Some cause) may = let same : refusal ≡ cause = cc in same
+        by_fault None may = elim may [ inl call ↦ cc | inr memory ↦ let same : refusal ≡ NoMemory = cc in same ]
 
     turned_plainly : (m : Moment) (fault : Option Refusal) → fault ≡ begin_fault s.machine.columns (moment h).begun (length (moment h).calls) (view_places (moment h)) request → MayBegin m fault (Refused refusal)
         → IsPlainRefusal (rows s.machine.columns (moment h)) request refusal
@@ -473,43 +577,42 @@ drive_ends s t p q h request (Err refusal) a few d = elim d.refused [
     ]
 
     -- a reply from before what the pass had seen: there is none
-    none_stale : (reply : Reply) (c : CallNo) → reply.from < p.seen → IsWhole s.machine.columns request p.number c h (entry p.number (Step c) (Done reply)) t q → ⊥
+    none_stale : (reply : Reply) (c : CallNo) → reply.from < p.seen → IsWhole (store_of s h) request p.number c (entry p.number (Step c) (Done reply)) t q → ⊥
     none_stale reply c stale w =
-        let at = w.ends.at in
-        let own : is_foreign w.ends.m.machine w.ends.r.number (Step c) ≡ false = subst (λ (n : PassNo). is_foreign w.ends.m.machine n (Step c) ≡ false) (sym at.number) (own_step request p.number c h at.past at.way w.ends.m.machine at.keeps.stands) in
-        let went = goes w.ends.m t w.ends.r q at.past (Step c) (Done reply) at.keeps few own w.ends.does in
-        let legal = subst (λ (C : ℕ). Legal C (happening (Step c) (Done reply) went.note ∷ at.past)) at.columns went.legal in
-        let ends = lone_calls_are_plain s.machine.columns request c reply went.note h at.past at.way.run legal in
+        let l = last_step (store_of s h) t q request p.number c (Done reply) few w in
+        let ends = lone_calls_are_plain s.machine.columns request c reply l.went.note h l.at.past l.at.way.run l.legal in
         let from = ends.from in
         let seen = a.seen in
         omega (arith, from, seen, stale)
 
-    refused_end : (c : CallNo) → IsWhole s.machine.columns request p.number c h (entry p.number (Step c) (Refused refusal)) t q
-        → (final : History) × IsAlone t q final × (t.machine.columns ≡ s.machine.columns) × CallEnds s.machine.columns h request (Err refusal) (moment final)
+    refused_end : (c : CallNo) → IsWhole (store_of s h) request p.number c (entry p.number (Step c) (Refused refusal)) t q
+        → (final : History) × IsAlone t q final × (t.machine.columns ≡ s.machine.columns) × CallEnds (store_of s h) request (Err refusal) (store_of t final)
     refused_end c w =
-        let at = w.ends.at in
-        let own : is_foreign w.ends.m.machine w.ends.r.number (Step c) ≡ false = subst (λ (n : PassNo). is_foreign w.ends.m.machine n (Step c) ≡ false) (sym at.number) (own_step request p.number c h at.past at.way w.ends.m.machine at.keeps.stands) in
-        let went = goes w.ends.m t w.ends.r q at.past (Step c) (Refused refusal) at.keeps few own w.ends.does in
-        let legal = subst (λ (C : ℕ). Legal C (happening (Step c) (Refused refusal) went.note ∷ at.past)) at.columns went.legal in
-        let nothing = lone_refusals_do_nothing s.machine.columns request c refusal went.note h at.past at.way.run legal in (
-          happening (Step c) (Refused refusal) went.note ∷ at.past,
+        let l = last_step (store_of s h) t q request p.number c (Refused refusal) few w in
+        let nothing = lone_refusals_do_nothing s.machine.columns request c refusal l.went.note h l.at.past l.at.way.run l.legal in
+        let none = sym (fault_alone s.machine.columns (moment h) request a.ended) ∙ no_fault (moment h) (begin_fault s.machine.columns (moment h).begun (length (moment h).calls) (view_places (moment h)) request) c w.may in (
+          happening (Step c) (Refused refusal) l.went.note ∷ l.at.past,
           record {
-            stands = went.keeps.stands;
+            stands = l.went.keeps.stands;
             ended = nothing.closed;
             few_views = subst (λ (l : List StandingView). length l ≤ MAX_VIEWS) (sym nothing.views) a.few_views;
-            own = went.keeps.own;
-            seen = went.keeps.seen;
-            counted = went.keeps.counted;
+            own = l.went.keeps.own;
+            seen = l.went.keeps.seen;
+            counted = l.went.keeps.counted;
           },
-          went.columns ∙ at.columns,
-          (inr (refused_for request p.number c h at.past at.way w.ends.m.machine.columns went.note refusal went.may), nothing),
+          l.went.columns ∙ l.at.columns,
+          (
+            inr (none, (p.number, c, l.ends, refused_for request p.number c h l.at.past l.at.way s.machine l.m.machine.columns l.went.note refusal l.went.may
+            (refused_says (store_of s h) p.number request c l.m.machine t.machine l.at.past l.at.way.one (only_call (store_of s h) request p.number c l.m l.r l.at) l.at.way.asks refusal l.went.happens l.at.says))),
+            nothing,
+          ),
         )
 
-    by_last : (c : CallNo) (last : Outcome) → EndsIn refusal p.seen last → IsWhole s.machine.columns request p.number c h (entry p.number (Step c) last) t q
-        → (final : History) × IsAlone t q final × (t.machine.columns ≡ s.machine.columns) × CallEnds s.machine.columns h request (Err refusal) (moment final)
-    by_last c (Refused cause) ends w = refused_end c (subst (λ (x : Refusal). IsWhole s.machine.columns request p.number c h (entry p.number (Step c) (Refused x)) t q) ends w)
+    by_last : (c : CallNo) (last : Outcome) → EndsIn refusal p.seen last → IsWhole (store_of s h) request p.number c (entry p.number (Step c) last) t q
+        → (final : History) × IsAlone t q final × (t.machine.columns ≡ s.machine.columns) × CallEnds (store_of s h) request (Err refusal) (store_of t final)
+    by_last c (Refused cause) ends w = refused_end c (subst (λ (x : Refusal). IsWhole (store_of s h) request p.number c (entry p.number (Step c) (Refused x)) t q) ends w)
     by_last c (Done reply) ends w = absurd (none_stale reply c ends.0 w)
     by_last c _ ends w = absurd ends
 
-    cut_ends : IsCut Does s p request refusal t q → (final : History) × IsAlone t q final × (t.machine.columns ≡ s.machine.columns) × CallEnds s.machine.columns h request (Err refusal) (moment final)
+    cut_ends : IsCut Does s p request refusal t q → (final : History) × IsAlone t q final × (t.machine.columns ≡ s.machine.columns) × CallEnds (store_of s h) request (Err refusal) (store_of t final)
     cut_ends cut = by_last cut.call cut.last cut.ends (whole_run s t p q h request cut.call cut.steps cut.last a few cut.are_steps cut.runs)

@@ -3,3 +3,5 @@ pub mod ServingLemmas
 pub mod CauseLemmas
 pub mod AloneLemmas
 pub mod PlainLemmas
+mod StageLemmas
+mod CallLemmas

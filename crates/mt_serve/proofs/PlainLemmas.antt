@@ -3,13 +3,16 @@ use Rattle.std.proofs.Common.{ℕ, ◌≡◌, ◌<◌, ◌≤◌, ◌⊎◌, Boo
 use Rattle.std.specs.Prelude.{◌+◌, ◌-◌, ◌==◌, ◌&&◌, suc, not, nat_le, nat_lt, MatchBool, if◌then◌else◌, map, All, Result, Ok, Err}
 use Rattle.std.proofs.lemmas.Bool.{eq-eqb, cases_Bool}
 use Rattle.std.proofs.lemmas.Bool.Decides.{leb_tells}
+use Rattle.std.proofs.lemmas.List.{map-append}
 use Rattle.std.proofs.lemmas.List.Elements.{All-head, All-tail, All-nil, All-cons}
 use Rattle.mt_types.specs.Numbers.{greatest_number}
 use Rattle.mt_types.specs.declared.limits.TheConstants.{MAX_VIEWS}
 use Rattle.mt_types.specs.declared.numbers.PassNo.{PassNo}
 use Rattle.mt_types.specs.declared.refusal.Refusal.{Refusal}
 use Rattle.mt_types.specs.declared.refusal.Refusal.TheVariants.{NoMemory}
+use Rattle.mt_types.specs.declared.event.Event.{Event}
 use Rattle.mt_types.specs.declared.event.Event.TheVariants.{Begin, ViewRead as ReadOf, ViewDrop as DropOf}
+use Rattle.mt_types.specs.declared.event.Outcome.{Outcome}
 use Rattle.mt_types.specs.declared.event.Outcome.TheVariants.{Done, Applied, Current, Dropped, Refused}
 use Rattle.mt_types.specs.declared.event.Request.{Request}
 use Rattle.mt_types.specs.declared.event.Reply.{Reply}
@@ -28,8 +31,10 @@ use Rattle.mt_serve.specs.Asking.{Asks, Answers, AnswersAll, AnswersFrames, Keep
 use Rattle.mt_serve.specs.declared.fault.SessionFault.{SessionFault}
 use Rattle.mt_serve.specs.declared.fault.SessionFault.TheVariants.{Write, NoMemory as WantsMemory}
 use Rattle.mt_serve.specs.Sessions.{BreaksIn, BreaksAt, requests_of}
-use Rattle.mt_serve.specs.Plain.{IsAlone, PlainlyAsks, PlainlyAnswers, PlainlyAnswersAll, PlainlyAnswersFrames, NoneBehind, TakenOn, KeptUp, FreshIsAlone, AloneAnswersPlainly, AloneAnswersFramesPlainly, AloneServesPlainly, AloneBreaksPlainly, BreaksInPlainly, BreaksAtPlainly}
-use Rattle.mt_serve.proofs.AloneLemmas.{Keeping, keeping, goes, does_rises, runs_rise, drive_ends}
+use Rattle.mt_serve.specs.Plain.{IsAlone, PlainlyAsks, PlainlyAnswers, PlainlyAnswersAll, PlainlyAnswersFrames, NoneBehind, TakenOn, RanOut, KeptUp, store_of, FreshIsAlone, AloneAnswersPlainly, AloneAnswersFramesPlainly, AloneServesPlainly, AloneBreaksPlainly, BreaksInPlainly, BreaksAtPlainly}
+use Rattle.mt_index.specs.Events.{Happens}
+use Rattle.mt_serve.specs.Store.{Store, Leads}
+use Rattle.mt_serve.proofs.AloneLemmas.{Keeping, keeping, goes, leads_one, leads_more, does_rises, runs_rise, drive_ends}
 
 less_tells : (a b : ℕ) → ((nat_lt a b ≡ true) × (a < b)) ⊎ ((nat_lt a b ≡ false) × (b ≤ a))
 less_tells a b = elim (leb_tells (suc a) b) [
@@ -210,7 +215,11 @@ applied_falls m number may = by_view (furthest_of None m.views) refl may
       | inr b ↦ (let clash : Applied number ≡ Current = subst (λ (t : Bool). MatchBool t (IsOrLacksMemory (Applied (v.at + 1)) (Applied number)) (Applied number ≡ Current)) b.0 some in cc)
     ]
 
-current_newest : (m : Moment) → MayApply m 0 (furthest_of None m.views) Current → NoneBehind 0 m
+-- no view is behind at a moment
+abbrev NoneAt : Moment → Type 0
+NoneAt m = All (λ (v : StandingView). length m.commits ≤ v.at + 0) m.views
+
+current_newest : (m : Moment) → MayApply m 0 (furthest_of None m.views) Current → NoneAt m
 current_newest m may = by_view (furthest_of None m.views) refl may
   where
     empty : (views : List StandingView) → furthest_of None views ≡ None → All (λ (v : StandingView). length m.commits ≤ v.at + 0) views
@@ -221,7 +230,7 @@ current_newest m may = by_view (furthest_of None m.views) refl may
         some_furthest best [] e = cc
         some_furthest best (w ∷ views) e = some_furthest (if nat_lt w.at best.at then w else best) views e
 
-    by_view : (v : Option StandingView) → furthest_of None m.views ≡ v → MayApply m 0 v Current → NoneBehind 0 m
+    by_view : (v : Option StandingView) → furthest_of None m.views ≡ v → MayApply m 0 v Current → NoneAt m
     by_view None e none = empty m.views e
     by_view (Some v) e some = elim (less_tells v.at (length m.commits)) [
       | inl b ↦ elim (subst (λ (t : Bool). MatchBool t (IsOrLacksMemory (Applied (v.at + 1)) Current) (Current ≡ Current)) b.0 some) [
@@ -246,68 +255,79 @@ refused_memory m refusal may = by_view (furthest_of None m.views) may
 
 -- ---- turns
 -- so many turns have taken views on since this had happened
-record HasKept (C : ℕ) (pass : PassNo) (before : History) (made : ℕ) (m : KeptView) (r : PassView) : Type 0 where
+record HasKept (s : Store) (pass : PassNo) (made : ℕ) (m : KeptView) (r : PassView) : Type 0 where
   past : History
   keeps : Keeping m r past
   number : r.number ≡ pass
-  columns : m.machine.columns ≡ C
-  commits : (moment past).commits ≡ (moment before).commits
-  views : TakenOn (moment before).views (moment past).views
-  falls : lag (length (moment before).commits) (moment past).views + made ≤ lag (length (moment before).commits) (moment before).views
+  columns : m.machine.columns ≡ s.machine.columns
+  turns : List Outcome
+  leads : Leads s (map (λ (o : Outcome). furthest) turns) turns (store_of m past)
+  commits : (moment past).commits ≡ (moment s.past).commits
+  views : TakenOn (moment s.past).views (moment past).views
+  falls : lag (length (moment s.past).commits) (moment past).views + made ≤ lag (length (moment s.past).commits) (moment s.past).views
   ended : (moment past).calls ≡ []
 
-turned_one : (C : ℕ) (pass : PassNo) (before : History) (made : ℕ) (m n t : KeptView) (r w : PassView) (number : ℕ) → t.events < greatest_number → n.events ≤ t.events
-    → HasKept C pass before made m r → Does m r furthest (Applied number) n w → HasKept C pass before (made + 1) n w
-turned_one C pass before made m n t r w number few rises k does =
+-- a turn more
+leads_turn : (s : Store) (m n : KeptView) (past : History) (turns : List Outcome) (o : Outcome) (note : ℕ) → Leads s (map (λ (x : Outcome). furthest) turns) turns (store_of m past)
+    → Happens m.machine furthest o n.machine → Leads s (map (λ (x : Outcome). furthest) (turns ++ o ∷ [])) (turns ++ o ∷ []) (store_of n (happening furthest o note ∷ past))
+leads_turn s m n past turns o note leads happens =
+    subst (λ (events : List Event). Leads s events (turns ++ o ∷ []) (store_of n (happening furthest o note ∷ past)))
+    (sym (map-append (λ (x : Outcome). furthest) turns (o ∷ []))) (leads_more s m n past (map (λ (x : Outcome). furthest) turns) turns furthest o note leads happens)
+
+turned_one : (s : Store) (pass : PassNo) (made : ℕ) (m n t : KeptView) (r w : PassView) (number : ℕ) → t.events < greatest_number → n.events ≤ t.events
+    → HasKept s pass made m r → Does m r furthest (Applied number) n w → HasKept s pass (made + 1) n w
+turned_one s pass made m n t r w number few rises k does =
     let went = goes m n r w k.past furthest (Applied number) k.keeps (omega (arith, few, rises)) refl does in
     let fell = applied_falls (moment k.past) number went.may in
-    let fell_so : lag (length (moment before).commits) (move_view (furthest_of None (moment k.past).views) (moment k.past).views) + 1 ≤ lag (length (moment before).commits) (moment k.past).views =
+    let fell_so : lag (length (moment s.past).commits) (move_view (furthest_of None (moment k.past).views) (moment k.past).views) + 1 ≤ lag (length (moment s.past).commits) (moment k.past).views =
     subst (λ (l : List _). lag (length l) (move_view (furthest_of None (moment k.past).views) (moment k.past).views) + 1 ≤ lag (length l) (moment k.past).views) k.commits fell in
     record {
       past = happening furthest (Applied number) went.note ∷ k.past;
       keeps = went.keeps;
       number = went.number ∙ k.number;
       columns = went.columns ∙ k.columns;
+      turns = k.turns ++ Applied number ∷ [];
+      leads = leads_turn s m n k.past k.turns (Applied number) went.note k.leads went.happens;
       commits = k.commits;
-      views = taken_more (moment before).views (moment k.past).views (move_view (furthest_of None (moment k.past).views) (moment k.past).views) k.views (taken_moved (furthest_of None (moment k.past).views) (moment k.past).views);
+      views = taken_more (moment s.past).views (moment k.past).views (move_view (furthest_of None (moment k.past).views) (moment k.past).views) k.views (taken_moved (furthest_of None (moment k.past).views) (moment k.past).views);
       falls = (let so_far = k.falls in omega (arith, fell_so, so_far));
       ended = k.ended;
     }
 
 -- and then come these last events
-record KeptThen (C : ℕ) (pass : PassNo) (before : History) (made : ℕ) (last : List Entry) (t : KeptView) (q : PassView) : Type 0 where
+record KeptThen (s : Store) (pass : PassNo) (made : ℕ) (last : List Entry) (t : KeptView) (q : PassView) : Type 0 where
   m : KeptView
   r : PassView
-  kept : HasKept C pass before made m r
+  kept : HasKept s pass made m r
   runs : Runs Does m r last t q
 
-turns_on : (C : ℕ) (pass : PassNo) (before : History) (last : List Entry) (t : KeptView) (q : PassView) → t.events < greatest_number
-    → (turns : List Entry) (made total : ℕ) (m : KeptView) (r : PassView) → made + length turns ≡ total → All (IsTurn pass) turns → HasKept C pass before made m r → Runs Does m r (turns ++ last) t q → KeptThen C pass before total last t q
-turns_on C pass before last t q few [] made total m r many all k runs = record {
+turns_on : (s : Store) (pass : PassNo) (last : List Entry) (t : KeptView) (q : PassView) → t.events < greatest_number
+    → (turns : List Entry) (made total : ℕ) (m : KeptView) (r : PassView) → made + length turns ≡ total → All (IsTurn pass) turns → HasKept s pass made m r → Runs Does m r (turns ++ last) t q → KeptThen s pass total last t q
+turns_on s pass last t q few [] made total m r many all k runs = record {
   m = m;
   r = r;
-  kept = (let same : made ≡ total = omega (arith, many) in subst (λ (n : ℕ). HasKept C pass before n m r) same k);
+  kept = (let same : made ≡ total = omega (arith, many) in subst (λ (n : ℕ). HasKept s pass n m r) same k);
   runs = runs;
 }
-turns_on C pass before last t q few (x ∷ turns) made total m r many all k (n, w, does, more) =
+turns_on s pass last t q few (x ∷ turns) made total m r many all k (n, w, does, more) =
     let (number, is) = All-head (IsTurn pass) x turns all in
     let rises = runs_rise n t w q (turns ++ last) more in
     let one : Does m r furthest (Applied number) n w = subst (λ (y : Entry). Does m r y.event y.outcome n w) is does in
-    turns_on C pass before last t q few turns (made + 1) total n w (let step : made + length (x ∷ turns) ≡ total = many in omega (arith, step)) (All-tail (IsTurn pass) x turns all)
-    (turned_one C pass before made m n t r w number few rises k one) more
+    turns_on s pass last t q few turns (made + 1) total n w (let step : made + length (x ∷ turns) ≡ total = many in omega (arith, step)) (All-tail (IsTurn pass) x turns all)
+    (turned_one s pass made m n t r w number few rises k one) more
 
-has_turned : (s t : KeptView) (p q : PassView) (h : History) (applied : ℕ) (last : List Entry) → IsAlone s p h → t.events < greatest_number → HasTurned Does s p applied last t q → KeptThen s.machine.columns p.number h applied last t q
+has_turned : (s t : KeptView) (p q : PassView) (h : History) (applied : ℕ) (last : List Entry) → IsAlone s p h → t.events < greatest_number → HasTurned Does s p applied last t q → KeptThen (store_of s h) p.number applied last t q
 has_turned s t p q h applied last a few turned =
-    turns_on s.machine.columns p.number h last t q few turned.turns 0 applied s p (let many = turned.count in omega (arith, many)) turned.are_turns
-    (record { past = h; keeps = keeping s p h a; number = refl; columns = refl; commits = refl; views = taken_none (moment h).views; falls = omega arith; ended = a.ended })
+    turns_on (store_of s h) p.number last t q few turned.turns 0 applied s p (let many = turned.count in omega (arith, many)) turned.are_turns
+    (record { past = h; keeps = keeping s p h a; number = refl; columns = refl; turns = []; leads = (refl, refl); commits = refl; views = taken_none (moment h).views; falls = omega arith; ended = a.ended })
     turned.runs
 
 -- what came of keeping views up
-record IsKeptUp (C : ℕ) (h : History) (t : KeptView) (q : PassView) : Type 0 where
+record IsKeptUp (s : Store) (t : KeptView) (q : PassView) : Type 0 where
   final : History
   alone : IsAlone t q final
-  columns : t.machine.columns ≡ C
-  kept : KeptUp h final
+  columns : t.machine.columns ≡ s.machine.columns
+  kept : KeptUp s (store_of t final)
 
 few_still : (a b : List StandingView) → TakenOn a b → length a ≤ MAX_VIEWS → length b ≤ MAX_VIEWS
 few_still a b on few = subst (λ (n : ℕ). n ≤ MAX_VIEWS) (sym (taken_length a b on)) few
@@ -323,14 +343,16 @@ alone_again t q h final k ended on few = record {
 }
 
 -- of so many turns each took a view on, and there were as many as all views were behind
-all_turned : (s t : KeptView) (p q : PassView) (h : History) → IsAlone s p h → t.events < greatest_number → KeptThen s.machine.columns p.number h 64 [] t q → IsKeptUp s.machine.columns h t q
+all_turned : (s t : KeptView) (p q : PassView) (h : History) → IsAlone s p h → t.events < greatest_number → KeptThen (store_of s h) p.number 64 [] t q → IsKeptUp (store_of s h) t q
 all_turned s t p q h a few k =
-    let kept : HasKept s.machine.columns p.number h 64 t q = subst (λ (n : KeptView). HasKept s.machine.columns p.number h 64 n q) (sym k.runs.0) (subst (λ (w : PassView). HasKept s.machine.columns p.number h 64 k.m w) (sym k.runs.1) k.kept) in
+    let kept : HasKept (store_of s h) p.number 64 t q = subst (λ (n : KeptView). HasKept (store_of s h) p.number 64 n q) (sym k.runs.0) (subst (λ (w : PassView). HasKept (store_of s h) p.number 64 k.m w) (sym k.runs.1) k.kept) in
     record {
       final = kept.past;
       alone = alone_again t q h kept.past kept.keeps kept.ended kept.views a.few_views;
       columns = kept.columns;
       kept = record {
+        turns = kept.turns;
+        happens = kept.leads;
         commits = kept.commits;
         views = kept.views;
         newest = λ close.
@@ -343,7 +365,7 @@ all_turned s t p q h a few k =
     }
 
 -- the last turn found all of them at the newest commit
-found_current : (s t : KeptView) (p q : PassView) (h : History) (applied : ℕ) → IsAlone s p h → t.events < greatest_number → KeptThen s.machine.columns p.number h applied (turn p.number Current ∷ []) t q → IsKeptUp s.machine.columns h t q
+found_current : (s t : KeptView) (p q : PassView) (h : History) (applied : ℕ) → IsAlone s p h → t.events < greatest_number → KeptThen (store_of s h) p.number applied (turn p.number Current ∷ []) t q → IsKeptUp (store_of s h) t q
 found_current s t p q h applied a few k =
     let (n, w, does, (is, same)) = k.runs in
     let one : Does k.m k.r furthest Current t q = subst (λ (x : KeptView). Does k.m k.r furthest Current x q) (sym is) (subst (λ (y : PassView). Does k.m k.r furthest Current n y) (sym same) does) in
@@ -353,6 +375,8 @@ found_current s t p q h applied a few k =
       alone = alone_again t q h (happening furthest Current went.note ∷ k.kept.past) went.keeps k.kept.ended k.kept.views a.few_views;
       columns = went.columns ∙ k.kept.columns;
       kept = record {
+        turns = k.kept.turns ++ Current ∷ [];
+        happens = leads_turn (store_of s h) k.m t k.kept.past k.kept.turns Current went.note k.kept.leads went.happens;
         commits = k.kept.commits;
         views = k.kept.views;
         newest = λ close. inl (current_newest (moment k.kept.past) went.may);
@@ -360,8 +384,8 @@ found_current s t p q h applied a few k =
     }
 
 -- a turn was refused
-was_stopped : (s t : KeptView) (p q : PassView) (h : History) (applied : ℕ) (refusal : Refusal) → IsAlone s p h → t.events < greatest_number → KeptThen s.machine.columns p.number h applied (turn p.number (Refused refusal) ∷ []) t q
-    → IsKeptUp s.machine.columns h t q
+was_stopped : (s t : KeptView) (p q : PassView) (h : History) (applied : ℕ) (refusal : Refusal) → IsAlone s p h → t.events < greatest_number → KeptThen (store_of s h) p.number applied (turn p.number (Refused refusal) ∷ []) t q
+    → IsKeptUp (store_of s h) t q
 was_stopped s t p q h applied refusal a few k =
     let (n, w, does, (is, same)) = k.runs in
     let one : Does k.m k.r furthest (Refused refusal) t q = subst (λ (x : KeptView). Does k.m k.r furthest (Refused refusal) x q) (sym is) (subst (λ (y : PassView). Does k.m k.r furthest (Refused refusal) n y) (sym same) does) in
@@ -371,27 +395,29 @@ was_stopped s t p q h applied refusal a few k =
       alone = alone_again t q h (happening furthest (Refused refusal) went.note ∷ k.kept.past) went.keeps k.kept.ended k.kept.views a.few_views;
       columns = went.columns ∙ k.kept.columns;
       kept = record {
+        turns = k.kept.turns ++ Refused refusal ∷ [];
+        happens = leads_turn (store_of s h) k.m t k.kept.past k.kept.turns (Refused refusal) went.note k.kept.leads went.happens;
         commits = k.kept.commits;
         views = k.kept.views;
-        newest = λ close. inr (k.kept.past, went.note, ap (λ (r : Refusal). happening furthest (Refused r) went.note ∷ k.kept.past) (refused_memory (moment k.kept.past) refusal went.may));
+        newest = λ close. inr (k.kept.turns, ap (λ (r : Refusal). k.kept.turns ++ Refused r ∷ []) (refused_memory (moment k.kept.past) refusal went.may));
       };
     }
 
-keeps_up : (s t : KeptView) (p q : PassView) (h : History) → IsAlone s p h → t.events < greatest_number → KeepsViews Does s p t q → IsKeptUp s.machine.columns h t q
+keeps_up : (s t : KeptView) (p q : PassView) (h : History) → IsAlone s p h → t.events < greatest_number → KeepsViews Does s p t q → IsKeptUp (store_of s h) t q
 keeps_up s t p q h a few (inl (applied, kept)) = elim kept.is_last [
   | inl spent ↦ all_turned s t p q h a few
-      (subst (λ (n : ℕ). KeptThen s.machine.columns p.number h n [] t q) spent.0 (subst (λ (l : List Entry). KeptThen s.machine.columns p.number h applied l t q) spent.1 (has_turned s t p q h applied kept.last a few kept.turned)))
-  | inr current ↦ found_current s t p q h applied a few (subst (λ (l : List Entry). KeptThen s.machine.columns p.number h applied l t q) current.1 (has_turned s t p q h applied kept.last a few kept.turned))
+      (subst (λ (n : ℕ). KeptThen (store_of s h) p.number n [] t q) spent.0 (subst (λ (l : List Entry). KeptThen (store_of s h) p.number applied l t q) spent.1 (has_turned s t p q h applied kept.last a few kept.turned)))
+  | inr current ↦ found_current s t p q h applied a few (subst (λ (l : List Entry). KeptThen (store_of s h) p.number applied l t q) current.1 (has_turned s t p q h applied kept.last a few kept.turned))
 ]
 keeps_up s t p q h a few (inr (refusal, stopped)) = was_stopped s t p q h stopped.applied refusal a few (has_turned s t p q h stopped.applied (turn p.number (Refused refusal) ∷ []) a few stopped.turned)
 
 -- ---- a query
 -- what came of what a query asked
-record IsAsked (C : ℕ) (h : History) (query : Query) (response : Response) (t : KeptView) (q : PassView) : Type 0 where
+record IsAsked (s : Store) (query : Query) (response : Response) (t : KeptView) (q : PassView) : Type 0 where
   final : History
   alone : IsAlone t q final
-  columns : t.machine.columns ≡ C
-  plain : PlainlyAsks C h query response final
+  columns : t.machine.columns ≡ s.machine.columns
+  plain : PlainlyAsks s query response (store_of t final)
 
 few_left : (number : ℕ) (views : List StandingView) → length (without_view number views) ≤ length views
 few_left number [] = omega arith
@@ -399,7 +425,7 @@ few_left number (v ∷ views) =
     let rest = few_left number views in
     elim (cases_Bool (v.number == number)) [ inl b ↦ rw b (omega (arith, rest)) | inr b ↦ rw b (omega (arith, rest)) ]
 
-asks_plainly : (s t : KeptView) (p q : PassView) (h : History) (query : Query) (response : Response) → IsAlone s p h → t.events < greatest_number → Asks Does s p query response t q → IsAsked s.machine.columns h query response t q
+asks_plainly : (s t : KeptView) (p q : PassView) (h : History) (query : Query) (response : Response) → IsAlone s p h → t.events < greatest_number → Asks Does s p query response t q → IsAsked (store_of s h) query response t q
 asks_plainly s t p q h (Call request) response a few (result, drive, is) =
     let (final, alone, columns, ends) = drive_ends s t p q h request result a few drive in
     record { final = final; alone = alone; columns = columns; plain = (result, ends, is) }
@@ -409,7 +435,7 @@ asks_plainly s t p q h (ViewRead view floor start limit) response a few (result,
       final = happening (ReadOf view floor start limit) (page_outcome result) went.note ∷ h;
       alone = record { stands = went.keeps.stands; ended = a.ended; few_views = a.few_views; own = went.keeps.own; seen = went.keeps.seen; counted = went.keeps.counted };
       columns = went.columns;
-      plain = (result, (went.note, went.may, refl), is);
+      plain = (result, (leads_one s t h (ReadOf view floor start limit) (page_outcome result) went.note went.happens, (went.note, went.may)), is);
     }
 asks_plainly s t p q h (ViewDrop view) response a few (Ok done, does, is) =
     let went = goes s t p q h (DropOf view) Dropped (keeping s p h a) few refl does in
@@ -424,7 +450,7 @@ asks_plainly s t p q h (ViewDrop view) response a few (Ok done, does, is) =
         counted = went.keeps.counted;
       };
       columns = went.columns;
-      plain = (Ok done, (went.note, went.may, refl), is);
+      plain = (Ok done, (leads_one s t h (DropOf view) Dropped went.note went.happens, (went.note, went.may)), is);
     }
 asks_plainly s t p q h (ViewDrop view) response a few (Err refusal, does, is) =
     let went = goes s t p q h (DropOf view) (Refused refusal) (keeping s p h a) few refl does in
@@ -432,35 +458,35 @@ asks_plainly s t p q h (ViewDrop view) response a few (Err refusal, does, is) =
       final = happening (DropOf view) (Refused refusal) went.note ∷ h;
       alone = record { stands = went.keeps.stands; ended = a.ended; few_views = a.few_views; own = went.keeps.own; seen = went.keeps.seen; counted = went.keeps.counted };
       columns = went.columns;
-      plain = (Err refusal, (went.note, went.may, refl), is);
+      plain = (Err refusal, (leads_one s t h (DropOf view) (Refused refusal) went.note went.happens, (went.note, went.may)), is);
     }
 
-record IsAnswered (C : ℕ) (h : History) (query : Query) (response : Response) (t : KeptView) (q : PassView) : Type 0 where
+record IsAnswered (s : Store) (query : Query) (response : Response) (t : KeptView) (q : PassView) : Type 0 where
   final : History
   alone : IsAlone t q final
-  columns : t.machine.columns ≡ C
-  plain : PlainlyAnswers C h query response final
+  columns : t.machine.columns ≡ s.machine.columns
+  plain : PlainlyAnswers s query response (store_of t final)
 
-answers_plainly : (s t : KeptView) (p q : PassView) (h : History) (query : Query) (response : Response) → IsAlone s p h → t.events < greatest_number → Answers Does s p query response t q → IsAnswered s.machine.columns h query response t q
+answers_plainly : (s t : KeptView) (p q : PassView) (h : History) (query : Query) (response : Response) → IsAlone s p h → t.events < greatest_number → Answers Does s p query response t q → IsAnswered (store_of s h) query response t q
 answers_plainly s t p q h query response a few (m, r, asks, final) =
     let rises = then_rise m t r q (changes response) final in
     let asked = asks_plainly s m p r h query response a (omega (arith, few, rises)) asks in
     by_change asked (changes response) refl final
   where
-    by_change : (asked : IsAsked s.machine.columns h query response m r) (b : Bool) → changes response ≡ b → MatchBool b (KeepsViews Does m r t q) ((t ≡ m) × (q ≡ r)) → IsAnswered s.machine.columns h query response t q
+    by_change : (asked : IsAsked (store_of s h) query response m r) (b : Bool) → changes response ≡ b → MatchBool b (KeepsViews Does m r t q) ((t ≡ m) × (q ≡ r)) → IsAnswered (store_of s h) query response t q
     by_change asked true e kept =
         let up = keeps_up m t r q asked.final asked.alone few kept in
         record {
           final = up.final;
           alone = up.alone;
           columns = up.columns ∙ asked.columns;
-          plain = (asked.final, asked.plain, subst (λ (b : Bool). MatchBool b (KeptUp asked.final up.final) (up.final ≡ asked.final)) (sym e) up.kept);
+          plain = (store_of m asked.final, asked.plain, subst (λ (b : Bool). MatchBool b (KeptUp (store_of m asked.final) (store_of t up.final)) (store_of t up.final ≡ store_of m asked.final)) (sym e) up.kept);
         }
     by_change asked false e (is, same) = record {
       final = asked.final;
       alone = subst (λ (k : KeptView). IsAlone k q asked.final) (sym is) (subst (λ (v : PassView). IsAlone m v asked.final) (sym same) asked.alone);
       columns = ap (λ (k : KeptView). k.machine.columns) is ∙ asked.columns;
-      plain = (asked.final, asked.plain, subst (λ (b : Bool). MatchBool b (KeptUp asked.final asked.final) (asked.final ≡ asked.final)) (sym e) refl);
+      plain = (store_of m asked.final, asked.plain, subst (λ (b : Bool). MatchBool b (KeptUp (store_of m asked.final) (store_of t asked.final)) (store_of t asked.final ≡ store_of m asked.final)) (sym e) (ap (λ (k : KeptView). store_of k asked.final) is));
     }
 
 -- ---- queries and frames
@@ -469,13 +495,13 @@ alone_answers s t p q h [] [] a few (is, same) = (
   h,
   subst (λ (k : KeptView). IsAlone k q h) (sym is) (subst (λ (v : PassView). IsAlone s v h) (sym same) a),
   ap (λ (k : KeptView). k.machine.columns) is,
-  refl,
+  ap (λ (k : KeptView). store_of k h) is,
 )
 alone_answers s t p q h (query ∷ queries) (response ∷ responses) a few (m, r, one, more) =
     let rises = all_rise m t r q queries responses more in
     let answered = answers_plainly s m p r h query response a (omega (arith, few, rises)) one in
     let (final, alone, columns, plain) = alone_answers m t r q answered.final queries responses answered.alone few more in
-    (final, alone, columns ∙ answered.columns, (answered.final, answered.plain, subst (λ (C : ℕ). PlainlyAnswersAll C answered.final queries responses final) answered.columns plain))
+    (final, alone, columns ∙ answered.columns, (store_of m answered.final, answered.plain, plain))
 alone_answers s t p q h [] (response ∷ responses) a few never = absurd never
 alone_answers s t p q h (query ∷ queries) [] a few never = absurd never
 
@@ -484,13 +510,13 @@ alone_answers_frames s t p q h [] [] a few (is, same) = (
   h,
   subst (λ (k : KeptView). IsAlone k q h) (sym is) (subst (λ (v : PassView). IsAlone s v h) (sym same) a),
   ap (λ (k : KeptView). k.machine.columns) is,
-  refl,
+  ap (λ (k : KeptView). store_of k h) is,
 )
 alone_answers_frames s t p q h (frame ∷ frames) (reply ∷ replies) a few (m, r, one, more) =
     let rises = frames_rise m t r q frames replies more in
     let (past, alone, columns, plain) = alone_answers s m p r h frame.messages reply.messages a (omega (arith, few, rises)) one.1 in
     let (final, still, same, rest) = alone_answers_frames m t r q past frames replies alone few more in
-    (final, still, same ∙ columns, (past, (one.0, plain), subst (λ (C : ℕ). PlainlyAnswersFrames C past frames replies final) columns rest))
+    (final, still, same ∙ columns, (store_of m past, (one.0, plain), rest))
 alone_answers_frames s t p q h [] (reply ∷ replies) a few never = absurd never
 alone_answers_frames s t p q h (frame ∷ frames) [] a few never = absurd never
 
@@ -527,7 +553,7 @@ breaks_rise s t p q fault rest unread old new (inl (other, stands, same, is, pas
 breaks_rise s t p q fault rest unread old new (inr (frame, fits, there, breaks)) = breaks_in_rise s t p q fault frame old new breaks
 
 breaks_in_plainly : (s t : KeptView) (p q : PassView) (h : History) (fault : SessionFault) (frame : Frame Query) (old new : Option (List ℕ)) → IsAlone s p h → t.events < greatest_number → BreaksIn Does s p fault frame old new t q
-    → (final : History) × IsAlone t q final × BreaksInPlainly s.machine.columns h fault frame old new final
+    → (final : History) × IsAlone t q final × BreaksInPlainly (store_of s h) fault frame old new (store_of t final)
 breaks_in_plainly s t p q h Write frame old new a few (reply, sent, unsent, answered, is, wrote) =
     let (final, alone, columns, plain) = alone_answers s t p q h frame.messages reply.messages a few answered.1 in
     (final, alone, (reply, sent, unsent, (answered.0, plain), is, wrote))
@@ -537,11 +563,11 @@ breaks_in_plainly s t p q h WantsMemory frame old new a few (done, undone, respo
 breaks_in_plainly s t p q h _ frame old new a few never = absurd never
 
 breaks_plainly : (s t : KeptView) (p q : PassView) (h : History) (fault : SessionFault) (rest : List ℕ) (unread old new : Option (List ℕ)) → IsAlone s p h → t.events < greatest_number → BreaksAt Does s p fault (Some rest) unread old new t q
-    → (final : History) × IsAlone t q final × BreaksAtPlainly s.machine.columns h fault rest unread old new final
+    → (final : History) × IsAlone t q final × BreaksAtPlainly (store_of s h) fault rest unread old new (store_of t final)
 breaks_plainly s t p q h fault rest unread old new a few (inl (other, stands, same, is, pass)) = (
   h,
   subst (λ (k : KeptView). IsAlone k q h) (sym is) (subst (λ (v : PassView). IsAlone s v h) (sym pass) a),
-  inl (other, stands, same, refl),
+  inl (other, stands, same, ap (λ (k : KeptView). store_of k h) is),
 )
 breaks_plainly s t p q h fault rest unread old new a few (inr (frame, fits, (more, front), breaks)) =
     let (final, alone, plain) = breaks_in_plainly s t p q h fault frame old new a few breaks in
@@ -561,12 +587,12 @@ alone_breaks s t p q h input unread old new fault a few broken =
         replies = broken.served.replies;
         rest = more;
         between = broken.between;
-        past = past;
+        then = store_of broken.shared past;
         fit = broken.served.fit;
         read = front;
         written = broken.served.written;
         plain = plain;
-        breaks = subst (λ (C : ℕ). BreaksAtPlainly C past fault more unread broken.between new final) columns breaks;
+        breaks = breaks;
       },
     )
 

@@ -3,4 +3,5 @@ pub mod Faults
 pub mod Asking
 pub mod Sources
 pub mod Sessions
+pub mod Store
 pub mod Plain

@@ -1,24 +1,27 @@
 -- WHAT A PLAIN STORE ANSWERS to queries, one after the other: the meaning of sessions on an index of one caller.
---     After a history in which every call has ended, the store is the changes that were made, and the views that stand,
---     each at a number of them.
-use Rattle.std.specs.Prelude.{ℕ, ◌+◌, ◌≡◌, ◌≢◌, ◌<◌, ◌≤◌, ◌⊎◌, MatchBool, ⊤, Bool, true, List, [], ◌∷◌, ◌++◌, length, map, All}
-use Rattle.std.specs.Prelude.{Result, Ok, Err, Option, Some}
+--     After a history in which every call has ended, the store is the changes that were made, and the views, each at a
+--     number of them.
+use Rattle.std.specs.Prelude.{ℕ, ◌+◌, ◌≡◌, ◌≢◌, ◌<◌, ◌≤◌, ◌⊎◌, MatchBool, MatchOption, ⊤, Bool, true, List, [], ◌∷◌, ◌++◌, length, map, All}
+use Rattle.std.specs.Prelude.{Result, Ok, Err, Option, Some, None}
 use Rattle.std.specs.List.{AllByRecursion}
 use Rattle.std.specs.Io.KnownBytes.{Appends}
-use Rattle.mt_types.specs.Numbers.{greatest_number, least}
+use Rattle.mt_types.specs.Numbers.{greatest_number}
+use Rattle.mt_types.specs.declared.numbers.PassNo.{PassNo}
+use Rattle.mt_types.specs.declared.numbers.CallNo.{CallNo}
 use Rattle.mt_types.specs.declared.refusal.Refusal.{Refusal}
-use Rattle.mt_types.specs.declared.refusal.Refusal.TheVariants.{NoMemory, ArenaFull, FeedFull, Spent, OtherVersion}
+use Rattle.mt_types.specs.declared.refusal.Refusal.TheVariants.{NoMemory}
 use Rattle.mt_types.specs.declared.event.Event.{Event}
-use Rattle.mt_types.specs.declared.event.Event.TheVariants.{ViewRead as ReadOf, ViewDrop as DropOf}
+use Rattle.mt_types.specs.declared.event.Event.TheVariants.{Begin, ViewRead as ReadOf, ViewDrop as DropOf}
 use Rattle.mt_types.specs.declared.event.Outcome.{Outcome}
-use Rattle.mt_types.specs.declared.event.Outcome.TheVariants.{Refused as RefusedOutcome}
+use Rattle.mt_types.specs.declared.event.Outcome.TheVariants.{Done, Refused}
+use Rattle.mt_types.specs.declared.event.Answer.{Answer}
+use Rattle.mt_types.specs.declared.event.Answer.TheVariants.{Built}
 use Rattle.mt_types.specs.declared.event.Request.{Request}
-use Rattle.mt_types.specs.declared.event.Request.TheVariants.{Put, PutIf, Remove, Build}
 use Rattle.mt_types.specs.declared.event.Reply.{Reply}
 use Rattle.mt_types.specs.declared.view.Page.{Page}
 use Rattle.mt_types.specs.declared.limits.TheConstants.{MAX_VIEWS}
-use Rattle.mt_promise.specs.History.{History, Moment, StandingView, happening, moment}
-use Rattle.mt_promise.specs.Legal.{MayHappen, begin_fault}
+use Rattle.mt_promise.specs.History.{History, StandingView, moment}
+use Rattle.mt_promise.specs.Legal.{MayHappen}
 use Rattle.mt_promise.specs.Alone.{EndsPlainly, EndsRefused}
 use Rattle.mt_index.specs.declared.options.Options.{Options}
 use Rattle.mt_index.specs.Stands.{Stands}
@@ -36,67 +39,65 @@ use Rattle.mt_serve.specs.declared.session.Summary.{Summary}
 use Rattle.mt_serve.specs.Asking.{call_response, page_response, drop_response, changes, AnswersAll, AnswersFrames}
 use Rattle.mt_serve.specs.Sources.{FaultIsAt}
 use Rattle.mt_serve.specs.Sessions.{requests_of, replies_of, IsServed, IsBroken}
-
--- ---- why a call is refused
-
--- from which number of commits on the log is held: the least at which a view stands, or that of all commits
-abbrev pub slowest_view : Moment → ℕ
-slowest_view m = least (length m.commits) (map (λ (v : StandingView). v.at) m.views)
-
--- a put, conditional or not, for want of nodes, a put or remove for want of room in the log or of numbers, a build for
--- want of numbers of views, and each for want of memory; and a conditional put for another version
-abbrev pub MayLack : Moment → Request → Refusal → Type 0
-MayLack m request NoMemory = Unit {0}
-MayLack m (Put key sets) ArenaFull = Unit {0}
-MayLack m (Put key sets) (FeedFull slowest) = slowest ≡ slowest_view m
-MayLack m (Put key sets) Spent = Unit {0}
-MayLack m (PutIf key sets version) ArenaFull = Unit {0}
-MayLack m (PutIf key sets version) (FeedFull slowest) = slowest ≡ slowest_view m
-MayLack m (PutIf key sets version) Spent = Unit {0}
--- that its key's row is of this other version, `EndsRefused` says
-MayLack m (PutIf key sets version) (OtherVersion found) = Unit {0}
-MayLack m (Remove key) (FeedFull slowest) = slowest ≡ slowest_view m
-MayLack m (Remove key) Spent = Unit {0}
-MayLack m (Build spec) Spent = greatest_number ≤ m.built
-MayLack m _ _ = ⊥
-
--- or, before it begins, for the first limit that it breaks
-abbrev pub MayRefuse : ℕ → Moment → Request → Refusal → Type 0
-MayRefuse C m request refusal =
-    (begin_fault C m.begun 0 (length m.views) request ≡ Some refusal) ⊎ MayLack m request refusal
+use Rattle.mt_serve.specs.Store.{Store, now, newest, Leads, fault, EndsBy, MayLack}
 
 -- ---- one query
 
--- a call is answered as by a plain map, and makes the change that it asks for; or it is refused, and changes nothing
-abbrev pub CallEnds : ℕ → History → Request → Result Reply Refusal → Moment → Type 0
-CallEnds C before request (Ok reply) m = EndsPlainly C before reply.pass reply.call request reply m
-CallEnds C before request (Err refusal) m = MayRefuse C (moment before) request refusal × EndsRefused C before request refusal m
+-- a build gives the next number of a view
+abbrev pub GivesNext : Store → Answer → Type 0
+GivesNext s (Built view) = view.0 ≡ (now s).built + 1
+GivesNext s _ = Unit {0}
+
+-- A call that breaks no limit is answered as by a plain map, and makes the change that it asks for: what happens is its
+-- begin and its steps.
+pub record CallIsDone (s : Store) (request : Request) (reply : Reply) (t : Store) : Type 0 where
+  pub within : fault s request ≡ None
+  pub happens : EndsBy s reply.pass request reply.call (Done reply) t
+  pub plain : EndsPlainly s.machine.columns s.past reply.pass reply.call request reply (now t)
+  pub next : GivesNext s reply.answer
+
+-- its begin was refused, and nothing else happened: for the first limit that it breaks, or, if it breaks none, since the
+-- store is out of memory
+abbrev pub IsTurnedAway : Store → Request → Refusal → Store → Type 0
+IsTurnedAway s request refusal t = (pass : PassNo) × Leads s (Begin pass request ∷ []) (Refused refusal ∷ []) t
+    × MatchOption (fault s request) (refusal ≡ NoMemory) (λ due. refusal ≡ due)
+
+-- it began, since it breaks no limit, and was refused for what it lacks
+abbrev pub IsGivenUp : Store → Request → Refusal → Store → Type 0
+IsGivenUp s request refusal t = (fault s request ≡ None) × ((pass : PassNo) × (number : CallNo)
+    × EndsBy s pass request number (Refused refusal) t × MayLack s pass request number refusal)
+
+-- a call is answered, or it is refused and changes nothing
+abbrev pub CallEnds : Store → Request → Result Reply Refusal → Store → Type 0
+CallEnds s request (Ok reply) t = CallIsDone s request reply t
+CallEnds s request (Err refusal) t =
+    (IsTurnedAway s request refusal t ⊎ IsGivenUp s request refusal t)
+    × EndsRefused s.machine.columns s.past request refusal (now t)
 
 -- this event happened, and its outcome is one that it may have
-abbrev pub OneHappens : ℕ → History → Event → Outcome → History → Type 0
-OneHappens C before event outcome after =
-    (note : ℕ) × MayHappen C before event outcome note × (after ≡ happening event outcome note ∷ before)
+abbrev pub OneHappens : Store → Event → Outcome → Store → Type 0
+OneHappens s event outcome t =
+    Leads s (event ∷ []) (outcome ∷ []) t × ((note : ℕ) × MayHappen s.machine.columns s.past event outcome note)
 
--- A page is what the view's filter and sums give afresh on the rows after the changes at which it stands; a view that
--- is dropped stands no more; each is refused where there is no such view.
-abbrev pub PlainlyAsks : ℕ → History → Query → Response → History → Type 0
-PlainlyAsks C before (Call request) response after =
-    (result : Result Reply Refusal) × CallEnds C before request result (moment after)
-    × (response ≡ call_response result)
-PlainlyAsks C before (ViewRead view floor start limit) response after =
-    (result : Result Page Refusal) × OneHappens C before (ReadOf view floor start limit) (page_outcome result) after
+-- A page is what the view's filter and sums give afresh on the rows after the changes that it is at; a view that is
+-- dropped is there no more; each is refused if there is no such view.
+abbrev pub PlainlyAsks : Store → Query → Response → Store → Type 0
+PlainlyAsks s (Call request) response t =
+    (result : Result Reply Refusal) × CallEnds s request result t × (response ≡ call_response result)
+PlainlyAsks s (ViewRead view floor start limit) response t =
+    (result : Result Page Refusal) × OneHappens s (ReadOf view floor start limit) (page_outcome result) t
     × (response ≡ page_response result)
-PlainlyAsks C before (ViewDrop view) response after =
-    (result : Result ⊤ Refusal) × OneHappens C before (DropOf view) (drop_outcome result) after
+PlainlyAsks s (ViewDrop view) response t =
+    (result : Result ⊤ Refusal) × OneHappens s (DropOf view) (drop_outcome result) t
     × (response ≡ drop_response result)
 
 -- ---- views are kept up
 
--- no view stands more than so many changes behind
-abbrev pub NoneBehind : ℕ → Moment → Type 0
-NoneBehind many m = All (λ (v : StandingView). length m.commits ≤ v.at + many) m.views
+-- no view is more than this many changes behind
+abbrev pub NoneBehind : ℕ → Store → Type 0
+NoneBehind many s = All (λ (v : StandingView). newest s ≤ v.at + many) (now s).views
 
--- the same views, each where it stood or further on
+-- the same views, each where it was or further on
 abbrev pub TakenOn : List StandingView → List StandingView → Type 0
 TakenOn [] [] = Unit {0}
 TakenOn (v ∷ views) (w ∷ later) =
@@ -104,44 +105,44 @@ TakenOn (v ∷ views) (w ∷ later) =
 TakenOn [] (w ∷ later) = ⊥
 TakenOn (v ∷ views) [] = ⊥
 
--- the last of what happened: a view was to be taken on, and memory was wanting
-abbrev pub WantedMemory : History → Type 0
-WantedMemory after =
-    (past : History) × (note : ℕ) × (after ≡ happening furthest (RefusedOutcome NoMemory) note ∷ past)
+-- the last of these turns, in which a view was to be taken on, was refused: out of memory
+abbrev pub RanOut : List Outcome → Type 0
+RanOut turns = (front : List Outcome) × (turns ≡ front ++ Refused NoMemory ∷ [])
 
--- VIEWS ARE KEPT UP: no change is made; where none stood more than one change behind, none is behind then, unless
--- memory was wanting.
-pub record KeptUp (before after : History) : Type 0 where
-  pub commits : (moment after).commits ≡ (moment before).commits
-  pub views : TakenOn (moment before).views (moment after).views
-  pub newest : NoneBehind 1 (moment before) → NoneBehind 0 (moment after) ⊎ WantedMemory after
+-- VIEWS ARE KEPT UP: what happens are turns, each of which takes on the view that is furthest behind; no change is made;
+-- if no view was more than one change behind, none is behind then, unless a turn ran out of memory.
+pub record KeptUp (s t : Store) : Type 0 where
+  pub turns : List Outcome
+  pub happens : Leads s (map (λ (outcome : Outcome). furthest) turns) turns t
+  pub commits : (now t).commits ≡ (now s).commits
+  pub views : TakenOn (now s).views (now t).views
+  pub newest : NoneBehind 1 s → NoneBehind 0 t ⊎ RanOut turns
 
--- A QUERY IS ANSWERED PLAINLY: as a plain store answers; and where it changed rows or built a view, views are kept up.
-abbrev pub PlainlyAnswers : ℕ → History → Query → Response → History → Type 0
-PlainlyAnswers C before query response after =
-    (asked : History) × PlainlyAsks C before query response asked
-    × MatchBool (changes response) (KeptUp asked after) (after ≡ asked)
+-- A QUERY IS ANSWERED PLAINLY: as a plain store answers; and if it changed rows or built a view, views are kept up.
+abbrev pub PlainlyAnswers : Store → Query → Response → Store → Type 0
+PlainlyAnswers s query response t =
+    (asked : Store) × PlainlyAsks s query response asked × MatchBool (changes response) (KeptUp asked t) (t ≡ asked)
 
 -- these queries, one after the other, each by one answer
-abbrev pub PlainlyAnswersAll : ℕ → History → List Query → List Response → History → Type 0
-PlainlyAnswersAll C before [] [] after = after ≡ before
-PlainlyAnswersAll C before (query ∷ queries) (response ∷ responses) after =
-    (then : History) × PlainlyAnswers C before query response then × PlainlyAnswersAll C then queries responses after
-PlainlyAnswersAll C before [] (response ∷ responses) after = ⊥
-PlainlyAnswersAll C before (query ∷ queries) [] after = ⊥
+abbrev pub PlainlyAnswersAll : Store → List Query → List Response → Store → Type 0
+PlainlyAnswersAll s [] [] t = t ≡ s
+PlainlyAnswersAll s (query ∷ queries) (response ∷ responses) t =
+    (then : Store) × PlainlyAnswers s query response then × PlainlyAnswersAll then queries responses t
+PlainlyAnswersAll s [] (response ∷ responses) t = ⊥
+PlainlyAnswersAll s (query ∷ queries) [] t = ⊥
 
 -- a frame of queries, by one of as many answers, in its version
-abbrev pub PlainlyAnswersFrame : ℕ → History → Frame Query → Frame Response → History → Type 0
-PlainlyAnswersFrame C before frame reply after =
-    (reply.version ≡ frame.version) × PlainlyAnswersAll C before frame.messages reply.messages after
+abbrev pub PlainlyAnswersFrame : Store → Frame Query → Frame Response → Store → Type 0
+PlainlyAnswersFrame s frame reply t =
+    (reply.version ≡ frame.version) × PlainlyAnswersAll s frame.messages reply.messages t
 
 -- these frames, one after the other, each by one frame
-abbrev pub PlainlyAnswersFrames : ℕ → History → List (Frame Query) → List (Frame Response) → History → Type 0
-PlainlyAnswersFrames C before [] [] after = after ≡ before
-PlainlyAnswersFrames C before (frame ∷ frames) (reply ∷ replies) after =
-    (then : History) × PlainlyAnswersFrame C before frame reply then × PlainlyAnswersFrames C then frames replies after
-PlainlyAnswersFrames C before [] (reply ∷ replies) after = ⊥
-PlainlyAnswersFrames C before (frame ∷ frames) [] after = ⊥
+abbrev pub PlainlyAnswersFrames : Store → List (Frame Query) → List (Frame Response) → Store → Type 0
+PlainlyAnswersFrames s [] [] t = t ≡ s
+PlainlyAnswersFrames s (frame ∷ frames) (reply ∷ replies) t =
+    (then : Store) × PlainlyAnswersFrame s frame reply then × PlainlyAnswersFrames then frames replies t
+PlainlyAnswersFrames s [] (reply ∷ replies) t = ⊥
+PlainlyAnswersFrames s (frame ∷ frames) [] t = ⊥
 
 -- ---- the laws
 
@@ -155,6 +156,10 @@ pub record IsAlone (s : KeptView) (p : PassView) (h : History) : Type 0 where
   pub seen : p.seen ≤ length (moment h).commits
   pub counted : p.events ≤ s.events
 
+-- the store that it is
+abbrev pub store_of : KeptView → History → Store
+store_of s h = record { machine = s.machine; past = h }
+
 -- so is one on which nothing has happened
 abbrev pub FreshIsAlone : Type 0
 FreshIsAlone =
@@ -167,67 +172,66 @@ AloneAnswersPlainly =
     (s t : KeptView) (p q : PassView) (h : History) (queries : List Query) (responses : List Response)
     → IsAlone s p h → t.events < greatest_number → AnswersAll Does s p queries responses t q
     → (then : History) × IsAlone t q then × (t.machine.columns ≡ s.machine.columns)
-    × PlainlyAnswersAll s.machine.columns h queries responses then
+    × PlainlyAnswersAll (store_of s h) queries responses (store_of t then)
 
 abbrev pub AloneAnswersFramesPlainly : Type 0
 AloneAnswersFramesPlainly =
     (s t : KeptView) (p q : PassView) (h : History) (frames : List (Frame Query)) (replies : List (Frame Response))
     → IsAlone s p h → t.events < greatest_number → AnswersFrames Does s p frames replies t q
     → (then : History) × IsAlone t q then × (t.machine.columns ≡ s.machine.columns)
-    × PlainlyAnswersFrames s.machine.columns h frames replies then
+    × PlainlyAnswersFrames (store_of s h) frames replies (store_of t then)
 
 -- A SESSION ALONE: the input spells frames; what was written is the spelling of as many frames of answers, each in the
 -- version of its frame, and they are those of a plain store, in order.
-pub record ServesPlainly (C : ℕ) (h : History) (input : List ℕ) (old new : Option (List ℕ))
-    (then : History) : Type 0 where
+pub record ServesPlainly (s : Store) (input : List ℕ) (old new : Option (List ℕ)) (t : Store) : Type 0 where
   pub frames : List (Frame Query)
   pub replies : List (Frame Response)
   pub fit : AllByRecursion RequestsFit frames
   pub read : input ≡ requests_of frames
   pub written : Appends old new (replies_of replies)
-  pub plain : PlainlyAnswersFrames C h frames replies then
+  pub plain : PlainlyAnswersFrames s frames replies t
 
 abbrev pub AloneServesPlainly : Type 0
 AloneServesPlainly =
     (s t : KeptView) (p q : PassView) (h : History) (input : List ℕ) (old new : Option (List ℕ)) (summary : Summary)
     → IsAlone s p h → t.events < greatest_number → IsServed Does s p (Some input) old summary new t q
-    → (then : History) × IsAlone t q then × ServesPlainly s.machine.columns h input old new then
+    → (then : History) × IsAlone t q then × ServesPlainly (store_of s h) input old new (store_of t then)
 
 -- A SESSION ALONE THAT BREAKS OFF: the frames before are answered plainly; then no frame is there, for this fault, after
 -- which the reader still has the unread bytes; or of the frame that is there all queries are answered plainly, and a
 -- front of the answers was written (a write failed), or some are, and none was written (out of memory).
-abbrev pub BreaksInPlainly : ℕ → History → SessionFault → Frame Query → Option (List ℕ) → Option (List ℕ) → History → Type 0
-BreaksInPlainly C before Write frame old new then =
-    (reply : Frame Response) × (sent : List ℕ) × (unsent : List ℕ) × PlainlyAnswersFrame C before frame reply then
+abbrev pub BreaksInPlainly : Store → SessionFault → Frame Query → Option (List ℕ) → Option (List ℕ) → Store → Type 0
+BreaksInPlainly s Write frame old new t =
+    (reply : Frame Response) × (sent : List ℕ) × (unsent : List ℕ) × PlainlyAnswersFrame s frame reply t
     × (reply_frame reply ≡ sent ++ unsent) × Appends old new sent
-BreaksInPlainly C before WantsMemory frame old new then =
+BreaksInPlainly s WantsMemory frame old new t =
     (done : List Query) × (undone : List Query) × (responses : List Response) × (frame.messages ≡ done ++ undone)
-    × PlainlyAnswersAll C before done responses then × (new ≡ old)
-BreaksInPlainly C before _ frame old new then = ⊥
+    × PlainlyAnswersAll s done responses t × (new ≡ old)
+BreaksInPlainly s _ frame old new t = ⊥
 
 abbrev pub BreaksAtPlainly :
-    ℕ → History → SessionFault → List ℕ → Option (List ℕ) → Option (List ℕ) → Option (List ℕ) → History → Type 0
-BreaksAtPlainly C before fault rest unread old new then =
-    ((fault ≢ Write) × FaultIsAt fault unread rest × (new ≡ old) × (then ≡ before))
+    Store → SessionFault → List ℕ → Option (List ℕ) → Option (List ℕ) → Option (List ℕ) → Store → Type 0
+BreaksAtPlainly s fault rest unread old new t =
+    ((fault ≢ Write) × FaultIsAt fault unread rest × (new ≡ old) × (t ≡ s))
     ⊎ ((frame : Frame Query) × (more : List ℕ) × (rest ≡ request_frame frame ++ more)
-    × BreaksInPlainly C before fault frame old new then)
+    × BreaksInPlainly s fault frame old new t)
 
-pub record BreaksPlainly (C : ℕ) (h : History) (input : List ℕ) (old : Option (List ℕ)) (fault : SessionFault)
-    (unread new : Option (List ℕ)) (then : History) : Type 0 where
+pub record BreaksPlainly (s : Store) (input : List ℕ) (old : Option (List ℕ)) (fault : SessionFault)
+    (unread new : Option (List ℕ)) (t : Store) : Type 0 where
   pub frames : List (Frame Query)
   pub replies : List (Frame Response)
   pub rest : List ℕ
   pub between : Option (List ℕ)
-  pub past : History
+  pub then : Store
   pub fit : AllByRecursion RequestsFit frames
   pub read : input ≡ requests_of frames ++ rest
   pub written : Appends old between (replies_of replies)
-  pub plain : PlainlyAnswersFrames C h frames replies past
-  pub breaks : BreaksAtPlainly C past fault rest unread between new then
+  pub plain : PlainlyAnswersFrames s frames replies then
+  pub breaks : BreaksAtPlainly then fault rest unread between new t
 
 abbrev pub AloneBreaksPlainly : Type 0
 AloneBreaksPlainly =
     (s t : KeptView) (p q : PassView) (h : History) (input : List ℕ) (unread old new : Option (List ℕ))
     (fault : SessionFault)
     → IsAlone s p h → t.events < greatest_number → IsBroken Does s p (Some input) old fault unread new t q
-    → (then : History) × IsAlone t q then × BreaksPlainly s.machine.columns h input old fault unread new then
+    → (then : History) × IsAlone t q then × BreaksPlainly (store_of s h) input old fault unread new (store_of t then)

@@ -1,0 +1,167 @@
+-- Why a put or remove fails, carried from stage to stage: what is said of its failure when it is made ready holds until
+-- it ends.
+use Rattle.std.proofs.Common.{ℕ, ◌≡◌, inl, inr, List, Option, Some, None, refl, sym, ap, subst}
+use Rattle.std.specs.Prelude.{◌⊎◌, IsSomeAnd}
+use Rattle.mt_types.specs.declared.refusal.Refusal.{Refusal}
+use Rattle.mt_types.specs.declared.refusal.Refusal.TheVariants.{NoMemory}
+use Rattle.mt_types.specs.declared.event.Request.{Request}
+use Rattle.mt_types.specs.declared.event.Request.TheVariants.{Get as GetRequest, Put as PutRequest, PutIf as PutIfRequest, Remove as RemoveRequest, Range as RangeRequest, Tidy as TidyRequest, Build as BuildRequest}
+use Rattle.mt_border.specs.Border.{BorderView}
+use Rattle.mt_arena.specs.Arena.{ArenaView}
+use Rattle.mt_arena.specs.Node.{border_at}
+use Rattle.mt_commit.specs.Log.{LogView}
+use Rattle.mt_tree.specs.Descent.{found_for}
+use Rattle.mt_steps.specs.declared.progress.Progress.{Progress}
+use Rattle.mt_steps.specs.declared.progress.Progress.TheVariants.{Moved, Waits, Committed}
+use Rattle.mt_steps.specs.declared.way.Way.{Way}
+use Rattle.mt_steps.specs.Way.{rest_of}
+use Rattle.mt_write.specs.declared.writing.Write.{Write as WriteView}
+use Rattle.mt_write.specs.declared.writing.Edit.{Edit}
+use Rattle.mt_write.specs.declared.writing.Edit.TheVariants.{Put as PutEdit, Remove as RemoveEdit}
+use Rattle.mt_write.specs.declared.writing.Halves.{Halves}
+use Rattle.mt_write.specs.declared.writing.Ending.{Ending}
+use Rattle.mt_write.specs.declared.writing.Ending.TheVariants.{Stored as EndStored, Failed as EndFailed}
+use Rattle.mt_write.specs.declared.writing.Stage.{Stage}
+use Rattle.mt_write.specs.declared.writing.Stage.TheVariants.{Seeks, Locked, Spared, HalfFilled, Halved, Posts, LayerSpared, LayerFilled, LayerReady, Layered, Filled, Made, Taken, Stored, Failed}
+use Rattle.mt_write.specs.Writing.{ending_stage}
+use Rattle.mt_write.specs.Causes.{edit_fault, fill_fault, FailsBy, StageFails, WriteFails}
+use Rattle.mt_write.specs.Follows.{StageFollows, StageRests, Follows, WriteFollows}
+use Rattle.mt_works.specs.declared.work.Pace.{Pace}
+use Rattle.mt_works.specs.declared.work.Work.{Work}
+use Rattle.mt_works.specs.declared.work.Work.TheVariants.{Get, Write, Range, Tidy, Build}
+use Rattle.mt_works.specs.Works.{request_of, IsAtStart, IsBuiltWork}
+use Rattle.mt_works.specs.Follows.{WorkFollows}
+use Rattle.mt_works.specs.Causes.{WorkFails, WorkRefuses}
+
+some_and : {A : Type 0} (o : Option A) (Q : A → Type 0) → IsSomeAnd o Q → (x : A) × (o ≡ Some x) × Q x
+some_and (Some x) Q q = (x, refl, q)
+some_and None Q q = absurd q
+
+module _ (P : Refusal → Type 0) where
+  -- what is said of a failure that a stage carries
+  abbrev pub EndSays : Ending → Type 0
+  EndSays (EndStored commit) = Unit {0}
+  EndSays (EndFailed refusal) = P refusal
+
+  abbrev pub StageSays : Stage → Type 0
+  StageSays (Failed refusal split) = P refusal
+  StageSays (Posts posting ending) = EndSays ending
+  StageSays _ = Unit {0}
+
+  abbrev pub WorkSays : Work → Type 0
+  WorkSays (Write write) = StageSays write.stage
+  WorkSays _ = Unit {0}
+
+  -- it is so of each fault for which a write may fail where it is
+  pub record Explains (a : ArenaView) (log : LogView) (write : WriteView) : Type 0 where
+    pub memory : P NoMemory
+    pub locked : write.stage ≡ Locked → (b : BorderView) → border_at a.nodes write.way.node.0 ≡ Some b → (refusal : Refusal)
+        → edit_fault a log write.edit b (found_for (rest_of write.key write.way) b.live) ≡ Some refusal → P refusal
+    pub halved : (split : Halves) → write.stage ≡ Halved split → (b : BorderView) → (refusal : Refusal) → border_at a.nodes write.way.node.0 ≡ Some b
+        → fill_fault log b ≡ Some refusal → P refusal
+
+  failed_by : (fault : Option Refusal) (refusal : Refusal) (split halves : Option Halves) → FailsBy fault split (Failed refusal halves) → P NoMemory → ((x : Refusal) → fault ≡ Some x → P x) → P refusal
+  failed_by None refusal split halves is memory given = subst P (sym is) memory
+  failed_by (Some x) refusal split halves is memory given = let same : refusal ≡ x = cc is in subst P (sym same) (given x refl)
+
+  end_is : (refusal : Refusal) (halves : Option Halves) (ending : Ending) → Failed refusal halves ≡ ending_stage ending None → EndSays ending → P refusal
+  end_is refusal halves (EndStored commit) is says = let clash : Failed refusal halves ≡ Stored commit None = is in cc
+  end_is refusal halves (EndFailed other) is says = let clash : Failed refusal halves ≡ Failed other None = is in let same : refusal ≡ other = cc clash in subst P (sym same) says
+
+  module _ (a : ArenaView) (log : LogView) (key : List ℕ) (edit : Edit) (way next : Way) where
+    moved : (stage new : Stage) → Explains a log (record { key = key; edit = edit; way = way; head = way.node; stage = stage }) → StageFollows a key way stage next new
+        → StageFails a log key edit way stage Moved new → StageSays stage → StageSays new
+    moved Seeks new e (inl stays) fails says = subst StageSays (sym stays.0) tt
+    moved Seeks new e (inr on) fails says = subst StageSays (sym on.0) tt
+    moved Locked (Failed refusal halves) e ready fails says =
+        let (b, at, by) = some_and (border_at a.nodes way.node.0) (λ b. FailsBy (edit_fault a log edit b (found_for (rest_of key way) b.live)) None (Failed refusal halves)) fails.1 in
+        failed_by (edit_fault a log edit b (found_for (rest_of key way) b.live)) refusal None halves by e.memory (λ x is. e.locked refl b at x is)
+    moved Locked (Posts posting ending) e ready fails says = absurd ready.0
+    moved Locked _ e ready fails says = tt
+    moved (Spared half cut entries) new e stays fails says = subst StageSays (sym stays.0) tt
+    moved (HalfFilled half cut) new e on fails says = subst StageSays (sym on.0) tt
+    moved (Halved split) (Failed refusal halves) e ready fails says =
+        let (b, at, by) = some_and (border_at a.nodes way.node.0) (λ b. FailsBy (fill_fault log b) (Some split) (Failed refusal halves)) fails.1 in
+        failed_by (fill_fault log b) refusal (Some split) halves by e.memory (λ x is. e.halved split refl b x at is)
+    moved (Halved split) (Posts posting ending) e ready fails says = absurd ready.0
+    moved (Halved split) _ e ready fails says = tt
+    moved (LayerSpared layer entries) new e stays fails says = subst StageSays (sym stays.0) tt
+    moved (LayerFilled layer) new e stays fails says = subst StageSays (sym stays.0) tt
+    moved (LayerReady layer) new e stays fails says = subst StageSays (sym stays.0) tt
+    moved (Layered head) new e on fails says = subst StageSays (sym on.0) tt
+    moved (Posts posting ending) (Posts then other) e on fails says = subst EndSays (sym on.0.0) says
+    moved (Posts posting ending) (Failed refusal halves) e on fails says = end_is refusal halves ending on.0 says
+    moved (Posts posting ending) _ e on fails says = tt
+    moved (Stored commit split) (Posts posting other) e on fails says = subst EndSays (sym on.0) tt
+    moved (Stored commit split) _ e on fails says = absurd on.0
+    moved (Failed refusal split) (Posts posting other) e on fails says = subst EndSays (sym on.0) says
+    moved (Failed refusal split) _ e on fails says = absurd on.0
+    moved (Filled place stored logged split) new e never fails says = absurd never
+    moved (Made place stored columns logged) new e never fails says = absurd never
+    moved (Taken place stored before) new e never fails says = absurd never
+
+    rests : (stage new : Stage) → StageRests a way stage next new → StageSays stage → StageSays new
+    rests Seeks new on says = subst StageSays (sym on.0) tt
+    rests (Posts posting ending) (Posts then other) on says = subst EndSays (sym on.0) says
+    rests (Posts posting ending) _ on says = absurd on.0
+    rests _ new never says = absurd never
+
+  -- ---- of a call's work
+  pub work_moved : (a : ArenaView) (log : LogView) (pace : Pace) (work new : Work) → ((write : WriteView) → work ≡ Write write → Explains a log write)
+      → WorkFollows pace a log work Moved new → WorkFails a log work Moved new → WorkSays work → WorkSays new
+  work_moved a log pace (Write write) (Write new) e follows fails says =
+      let x = e write refl in
+      moved a log write.key write.edit write.way new.way write.stage new.stage (record { memory = x.memory; locked = x.locked; halved = x.halved }) follows fails says
+  work_moved a log pace (Get get) (Write new) e follows fails says = absurd follows
+  work_moved a log pace (Range range) (Write new) e follows fails says = absurd follows
+  work_moved a log pace (Tidy tidy) (Write new) e follows fails says = absurd follows
+  work_moved a log pace (Build building) (Write new) e follows fails says = absurd follows
+  work_moved a log pace work (Get new) e follows fails says = tt
+  work_moved a log pace work (Range new) e follows fails says = tt
+  work_moved a log pace work (Tidy new) e follows fails says = tt
+  work_moved a log pace work (Build new) e follows fails says = tt
+
+  pub work_rests : (a : ArenaView) (log : LogView) (pace : Pace) (work new : Work) → WorkFollows pace a log work Waits new → WorkSays work → WorkSays new
+  work_rests a log pace (Write write) (Write new) follows says = rests a log write.key write.edit write.way new.way write.stage new.stage follows says
+  work_rests a log pace (Get get) (Write new) follows says = absurd follows
+  work_rests a log pace (Range range) (Write new) follows says = absurd follows
+  work_rests a log pace (Tidy tidy) (Write new) follows says = absurd follows
+  work_rests a log pace (Build building) (Write new) follows says = absurd follows
+  work_rests a log pace work (Get new) follows says = tt
+  work_rests a log pace work (Range new) follows says = tt
+  work_rests a log pace work (Tidy new) follows says = tt
+  work_rests a log pace work (Build new) follows says = tt
+
+  pub work_commits : (a : ArenaView) (log : LogView) (pace : Pace) (work new : Work) (number : ℕ) → WorkFollows pace a log work (Committed number) new → WorkSays new
+  work_commits a log pace (Write write) (Write new) number follows = subst StageSays (sym follows.1.0) tt
+  work_commits a log pace (Get get) (Write new) number follows = absurd follows
+  work_commits a log pace (Range range) (Write new) number follows = absurd follows
+  work_commits a log pace (Tidy tidy) (Write new) number follows = absurd follows
+  work_commits a log pace (Build building) (Write new) number follows = absurd follows
+  work_commits a log pace work (Get new) number follows = tt
+  work_commits a log pace work (Range new) number follows = tt
+  work_commits a log pace work (Tidy new) number follows = tt
+  work_commits a log pace work (Build new) number follows = tt
+
+  -- one that has just begun has not failed
+  pub work_begins : (work : Work) → IsAtStart work → WorkSays work
+  work_begins (Write write) start = subst StageSays (sym start.1) tt
+  work_begins (Get get) start = tt
+  work_begins (Range range) start = tt
+  work_begins (Tidy tidy) start = tt
+  work_begins (Build building) start = tt
+
+  -- a put or remove is refused for what is said of its failure
+  abbrev pub IsWriting : Request → Type 0
+  IsWriting (PutRequest key sets) = Unit {0}
+  IsWriting (PutIfRequest key sets version) = Unit {0}
+  IsWriting (RemoveRequest key) = Unit {0}
+  IsWriting _ = ⊥
+
+  pub work_refused : (a : ArenaView) (work : Work) (refusal : Refusal) → IsWriting (request_of work) → (WorkRefuses a work refusal ⊎ IsBuiltWork work) → WorkSays work → P refusal
+  work_refused a (Write write) refusal writing (inl is) says = subst StageSays is says
+  work_refused a (Write write) refusal writing (inr never) says = absurd never
+  work_refused a (Get get) refusal writing refuses says = absurd writing
+  work_refused a (Range range) refusal writing refuses says = absurd writing
+  work_refused a (Tidy tidy) refusal writing refuses says = absurd writing
+  work_refused a (Build building) refusal writing refuses says = absurd writing
