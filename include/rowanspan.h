@@ -9,6 +9,17 @@
  *     rowanspan_put(&index, "apple", 5, &set, 1, &told);    // told: the number of the commit
  *     rowanspan_close(&index);
  *
+ * PROOFS
+ *     What is proved is what the exported symbols do, each by its contract in crates/rowanspan_c/src/exports.rt: those
+ *     named rowanspan_raw_*, and rowanspan_open, _close, _apply, _drop, _advance, _collect, _commits, _nodes and
+ *     _columns. The inline functions of this header are only tested: those that call a raw function, as rowanspan_put
+ *     calls rowanspan_raw_put, and all others.
+ *
+ * ORDER OF REFUSALS
+ *     Limits are answered before memory. A call that breaks a limit of its keys, its columns, its test, its range or
+ *     its number of rows or deltas is refused for the first that it breaks, and a page then for its view and a feed for
+ *     its log (ROWANSPAN_NO_SUCH_VIEW, ROWANSPAN_BEHIND). Such a call never answers ROWANSPAN_NO_MEMORY.
+ *
  * HANDLES
  *     A struct rowanspan is a handle: it holds one index, or none. The caller initializes it with ROWANSPAN_NONE (all
  *     bytes 0), and from then on must not read, write or copy its members: if two copies of a handle are used, memory

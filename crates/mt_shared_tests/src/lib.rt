@@ -11,4 +11,6 @@ mod machines;
 #[cfg(test)]
 mod passes;
 #[cfg(test)]
+mod through;
+#[cfg(test)]
 mod two_threads;

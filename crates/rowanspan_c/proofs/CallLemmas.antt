@@ -1,7 +1,8 @@
 -- What comes of calls on what a handle holds, case by case.
-use Rattle.std.proofs.Common.{◌≡◌, ℕ, List, [], ◌∷◌, true, refl, sym, ap, subst, inl, inr}
+use Rattle.std.proofs.Common.{◌≡◌, ◌<◌, ◌≤◌, ℕ, suc, List, [], ◌∷◌, Bool, true, refl, sym, ap, subst, inl, inr, arith}
 use Rattle.std.specs.Prelude.{Option, Some, None, Result, Ok, Err, MatchOption}
 use Rattle.std.specs.Option.{option_or}
+use Rattle.std.proofs.lemmas.Bool.Decides.{leb_tells}
 use Rattle.mt_types.specs.declared.event.Event.{Event}
 use Rattle.mt_types.specs.declared.event.Event.TheVariants.{Begin, Step, Apply, ViewRead, ViewDrop, Advance, Collect}
 use Rattle.mt_types.specs.declared.event.Outcome.{Outcome}
@@ -12,7 +13,7 @@ use Rattle.mt_types.specs.declared.numbers.ViewNo.{ViewNo}
 use Rattle.mt_types.specs.declared.refusal.Refusal.{Refusal}
 use Rattle.mt_types.specs.declared.refusal.Refusal.TheVariants.{NoMemory, NoSuchView, Behind}
 use Rattle.mt_types.specs.declared.view.Page.{Page}
-use Rattle.mt_types.specs.Limits.{open_fault}
+use Rattle.mt_types.specs.Limits.{open_fault, refused_if}
 use Rattle.mt_types.specs.RefusalNumbers.{refusal_number}
 use Rattle.mt_view.specs.State.{StateView}
 use Rattle.mt_index.specs.declared.options.Options.{Options}
@@ -20,7 +21,7 @@ use Rattle.mt_index.specs.Alone.{IsIdle}
 use Rattle.mt_index.specs.Events.{EventDoes, Happens, IsOpened}
 use Rattle.mt_index.specs.Stands.{MachineView, ReadsView, ReadsPage}
 use Rattle.rowanspan_c.specs.Kept.{is_nil, is_quiet}
-use Rattle.rowanspan_c.specs.Questions.{IsCausedBy}
+use Rattle.rowanspan_c.specs.Questions.{IsCausedBy, state_refusal}
 use Rattle.rowanspan_c.specs.Told.{TellsEnd, TellsOutcome}
 use Rattle.rowanspan_c.specs.Calls.{Changes, EndsAlone, IsOutside, Meets, Opens, StandsNext}
 
@@ -116,6 +117,47 @@ page_or_refusal None (Some state) floor start limit outcome reads no_page no_ref
       | inr there ↦ elim there.1 [
         | inl shows ↦ no_page _ shows
         | inr wants ↦ no_refusal NoMemory wants
+      ]
+    ]
+
+-- a page that is refused has that cause, and one that is shown has none
+pub page_caused : (fault : Option Refusal) (there : Option StateView) (floor : ℕ) (start : List ℕ) (limit : ℕ)
+    (refusal : Refusal) → ReadsPage fault there floor start limit (Refused refusal)
+    → IsCausedBy (option_or fault (state_refusal there floor)) refusal
+page_caused (Some due) there floor start limit refusal reads =
+    let same : ◌≡◌ {A = Outcome} (Refused refusal) (Refused due) = reads in cc
+page_caused None None floor start limit refusal reads =
+    let same : ◌≡◌ {A = Outcome} (Refused refusal) (Refused NoSuchView) = reads in cc
+page_caused None (Some state) floor start limit refusal reads =
+    elim (leb_tells (suc state.at) floor) [
+      | inl low ↦ subst (λ (b : Bool). IsCausedBy (refused_if b (Behind state.at)) refusal) (sym low.0)
+          (elim reads [
+            | inl behind ↦ let same : ◌≡◌ {A = Outcome} (Refused refusal) (Refused (Behind state.at)) = behind.1 in cc
+            | inr there ↦ absurd (let here : suc state.at ≤ floor = low.1 in let above : floor ≤ state.at = there.0 in omega (arith, here, above))
+          ])
+      | inr high ↦ subst (λ (b : Bool). IsCausedBy (refused_if b (Behind state.at)) refusal) (sym high.0)
+          (elim reads [
+            | inl behind ↦ absurd (let above : floor < suc state.at = high.1 in let under : state.at < floor = behind.0 in omega (arith, above, under))
+            | inr there ↦ elim there.1 [
+              | inl shows ↦ absurd (let clash : ◌≡◌ {A = Outcome} (Refused refusal) (View _) = shows in cc)
+              | inr wants ↦ let same : ◌≡◌ {A = Outcome} (Refused refusal) (Refused NoMemory) = wants in cc
+            ]
+          ])
+    ]
+
+pub page_fits : (fault : Option Refusal) (there : Option StateView) (floor : ℕ) (start : List ℕ) (limit : ℕ)
+    (page : Page) → ReadsPage fault there floor start limit (View page)
+    → option_or fault (state_refusal there floor) ≡ None
+page_fits (Some due) there floor start limit page reads =
+    absurd (let clash : ◌≡◌ {A = Outcome} (View page) (Refused due) = reads in cc)
+page_fits None None floor start limit page reads =
+    absurd (let clash : ◌≡◌ {A = Outcome} (View page) (Refused NoSuchView) = reads in cc)
+page_fits None (Some state) floor start limit page reads =
+    elim reads [
+      | inl behind ↦ absurd (let clash : ◌≡◌ {A = Outcome} (View page) (Refused (Behind state.at)) = behind.1 in cc)
+      | inr there ↦ elim (leb_tells (suc state.at) floor) [
+        | inl low ↦ absurd (let here : suc state.at ≤ floor = low.1 in let above : floor ≤ state.at = there.0 in omega (arith, here, above))
+        | inr high ↦ ap (λ (b : Bool). refused_if b (Behind state.at)) high.0
       ]
     ]
 

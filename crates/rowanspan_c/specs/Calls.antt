@@ -1,6 +1,6 @@
--- What each call does with what a handle holds, and what it tells.
-use Rattle.std.specs.Prelude.{ℕ, ◌≡◌, ◌⊎◌, ◌==◌, if◌then◌else◌, List, ◌∷◌, map, Result, Ok, Err, Option, Some, None}
-use Rattle.mt_types.specs.Limits.{open_fault}
+-- What each call does with what a handle holds, and what it reports.
+use Rattle.std.specs.Prelude.{ℕ, ◌≡◌, ◌⊎◌, List, ◌∷◌, Result, Ok, Err, Option, Some, None}
+use Rattle.mt_types.specs.Limits.{open_fault, request_fault}
 use Rattle.mt_types.specs.RefusalNumbers.{refusal_number}
 use Rattle.mt_types.specs.declared.event.Event.{Event}
 use Rattle.mt_types.specs.declared.event.Event.TheVariants.{Begin, Step}
@@ -8,52 +8,31 @@ use Rattle.mt_types.specs.declared.event.Outcome.{Outcome}
 use Rattle.mt_types.specs.declared.event.Request.{Request}
 use Rattle.mt_types.specs.declared.event.Reply.{Reply}
 use Rattle.mt_types.specs.declared.refusal.Refusal.{Refusal}
-use Rattle.mt_types.specs.declared.refusal.Refusal.TheVariants.{NoMemory}
-use Rattle.mt_types.specs.declared.view.RowTest.{RowTest}
-use Rattle.mt_types.specs.declared.view.RowTest.TheVariants.{Any, Equals, AtLeast}
 use Rattle.mt_promise.specs.History.{History, happening}
 use Rattle.mt_index.specs.declared.options.Options.{Options}
 use Rattle.mt_index.specs.Alone.{AnswersPlainly, RefusesPlainly}
 use Rattle.mt_index.specs.Events.{Happens, HappensAlone, IsOpened, last_outcome}
 use Rattle.mt_index.specs.Stands.{MachineView, Stands}
-use Rattle.rowanspan_c.specs.declared.asking.ColumnSet.{ColumnSet}
-use Rattle.rowanspan_c.specs.declared.asking.ViewTest.{ViewTest}
-use Rattle.rowanspan_c.specs.declared.reading.Question.{Question}
 use Rattle.rowanspan_c.specs.declared.status.TheConstants.{DONE, CLOSED, HELD}
-use Rattle.rowanspan_c.specs.Questions.{IsAnswer, IsCausedBy}
+use Rattle.rowanspan_c.specs.Questions.{IsCausedBy}
 use Rattle.rowanspan_c.specs.Told.{Tells, TellsEnd, TellsOutcome, TellsRead}
 
--- ---- what a caller gives
-abbrev pub set_of : ColumnSet → ℕ × List ℕ
-set_of set = (set.column, set.bytes.now)
-
-abbrev pub sets_of : List ColumnSet → List (ℕ × List ℕ)
-sets_of sets = map set_of sets
-
--- the kinds of tests of rows go up to this one
-abbrev pub greatest_kind : ℕ
-greatest_kind = 2
-
-abbrev pub test_of : ViewTest → RowTest
-test_of test =
-    if test.kind == 0 then Any
-    else (if test.kind == 1 then Equals test.column test.bytes.now else AtLeast test.column test.least)
-
 -- ---- what comes of it
--- A CALL ALONE ENDS SO: it is answered or refused as by a plain map, by its begin and its steps and nothing else; or
--- memory was wanting before it began, and nothing happened.
+-- A CALL ALONE ENDS SO: it is answered or refused as by a plain map, by its begin and its steps and nothing else. Or
+-- the copy of its bytes was refused memory: then it is refused for the first limit that it breaks, or as out of memory
+-- if it breaks none, and nothing happened.
 abbrev pub EndsAlone : MachineView → Request → Result Reply Refusal → MachineView → Type 0
 EndsAlone s request (Ok reply) t =
     AnswersPlainly s request reply t × HappensAlone s request (last_outcome (Ok reply)) t
 EndsAlone s request (Err refusal) t =
     (RefusesPlainly s request refusal t × HappensAlone s request (last_outcome (Err refusal)) t)
-    ⊎ ((refusal ≡ NoMemory) × (t ≡ s))
+    ⊎ (IsCausedBy (request_fault s.columns request) refusal × (t ≡ s))
 
--- a handle that holds no index tells so, and still holds none
+-- a call on a handle that holds no index reports so, and the handle still holds none
 abbrev pub TellsClosed : Option MachineView → ℕ → ℕ → Type 0
 TellsClosed next status told = (next ≡ None) × Tells CLOSED 0 status told
 
--- WHAT IS ASKED FOR IS DONE, as a call alone on the index that the handle holds, and its end is told
+-- WHAT IS ASKED FOR IS DONE, as a call alone on the index that the handle holds, and its end is reported
 abbrev pub Changes : Option MachineView → Request → Option MachineView → ℕ → ℕ → Type 0
 Changes None request next status told = TellsClosed next status told
 Changes (Some s) request next status told =
@@ -61,10 +40,11 @@ Changes (Some s) request next status told =
     × TellsEnd ended status told
 
 -- A QUESTION IS ANSWERED from the index that the handle holds, into a buffer
-abbrev pub Reads : Option MachineView → Question → List ℕ → List ℕ → ℕ → ℕ → Type 0
-Reads None question old new status told = (new ≡ old) × Tells CLOSED 0 status told
-Reads (Some s) question old new status told =
-    (read : Result (Option (List ℕ)) Refusal) × IsAnswer s question read × TellsRead read old new status told
+abbrev pub Reads : Option MachineView → (MachineView → Result (Option (List ℕ)) Refusal → Type 0) → List ℕ → List ℕ
+    → ℕ → ℕ → Type 0
+Reads None is_answer old new status told = (new ≡ old) × Tells CLOSED 0 status told
+Reads (Some s) is_answer old new status told =
+    (read : Result (Option (List ℕ)) Refusal) × is_answer s read × TellsRead read old new status told
 
 -- an event that is no part of a call
 abbrev pub IsOutside : Event → Type 0
@@ -72,24 +52,24 @@ IsOutside (Begin pass request) = ⊥
 IsOutside (Step call) = ⊥
 IsOutside _ = Unit {0}
 
--- wherever the machine stands, it then stands where this has happened too
+-- at each history at which the machine stands, it then stands at that history with this event too
 abbrev pub StandsNext : MachineView → Event → Outcome → MachineView → Type 0
 StandsNext s event outcome t = (h : History) → Stands s h → (opens : ℕ)
     × Stands t (happening event outcome opens ∷ h)
 
--- AN EVENT HAPPENS to the index that the handle holds, and its outcome is told
+-- AN EVENT HAPPENS to the index that the handle holds, and its outcome is reported
 abbrev pub Meets : Option MachineView → Event → Option MachineView → ℕ → ℕ → Type 0
 Meets None event next status told = TellsClosed next status told
 Meets (Some s) event next status told =
     (t : MachineView) × (next ≡ Some t) × (outcome : Outcome) × Happens s event outcome t
     × StandsNext s event outcome t × TellsOutcome outcome status told
 
--- a number of the index is told
+-- a number of the index is reported
 abbrev pub Counts : Option MachineView → (MachineView → ℕ) → ℕ → ℕ → Type 0
 Counts None count status told = Tells CLOSED 0 status told
 Counts (Some s) count status told = Tells DONE (count s) status told
 
--- AN INDEX IS OPENED, where the handle holds none and the options break no limit
+-- AN INDEX IS OPENED if the handle holds none and the options break no limit
 abbrev pub Opens : Option MachineView → Options → Option MachineView → ℕ → Type 0
 Opens (Some s) options next status = (next ≡ Some s) × (status ≡ HELD)
 Opens None options next status =

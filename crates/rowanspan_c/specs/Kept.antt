@@ -1,4 +1,4 @@
--- What a handle owns: the boxed value that it holds, or nothing where it holds none.
+-- What a handle owns: the boxed value that it holds, or nothing if it holds none.
 use Rattle.std.specs.Prelude.{Bool, true, false, List, [], ◌∷◌, Option, Some, None}
 use base.Fml.{Fml, ftrue}
 use denote.RattleType.{RattleType}

@@ -1,28 +1,40 @@
 -- What a reader asks, and which answers are right.
-use Rattle.std.specs.Prelude.{ℕ, ◌≡◌, ◌⊎◌, List, take, drop, Result, Ok, Err, Option, Some, None}
-use Rattle.std.specs.Option.{option_map}
+use Rattle.std.specs.Prelude.{ℕ, ◌≡◌, nat_lt, List, take, drop, Result, Ok, Err, Option, Some, None, MatchOption}
+use Rattle.std.specs.Option.{option_map, option_or}
 use Rattle.std.specs.FinMap.{get}
 use Rattle.mt_types.specs.Rows.{shown}
-use Rattle.mt_types.specs.Limits.{request_fault}
+use Rattle.mt_types.specs.Limits.{request_fault, page_fault, refused_if}
 use Rattle.mt_types.specs.declared.event.Request.TheVariants.{Get, Range}
-use Rattle.mt_types.specs.declared.event.Outcome.TheVariants.{View, Refused}
+use Rattle.mt_types.specs.declared.event.Outcome.TheVariants.{View}
 use Rattle.mt_types.specs.declared.refusal.Refusal.{Refusal}
-use Rattle.mt_types.specs.declared.refusal.Refusal.TheVariants.{NoMemory}
+use Rattle.mt_types.specs.declared.refusal.Refusal.TheVariants.{NoMemory, NoSuchView, Behind}
 use Rattle.mt_types.specs.declared.row.Row.{Row as RowValue}
 use Rattle.mt_types.specs.declared.row.Delta.{Delta}
 use Rattle.mt_types.specs.declared.view.Page.{Page as PageValue}
 use Rattle.mt_promise.specs.History.{History, moment, rows}
 use Rattle.mt_promise.specs.Alone.{IsRangeOfMap}
 use Rattle.mt_commit.specs.Logged.{deltas_of}
+use Rattle.mt_view.specs.State.{StateView}
+use Rattle.mt_views.specs.Views.{state_at}
 use Rattle.mt_index.specs.Stands.{MachineView, Stands, ReadsView}
 use Rattle.mt_index.specs.Feed.{feed_fault}
 use Rattle.rowanspan_c.specs.declared.reading.Question.{Question}
 use Rattle.rowanspan_c.specs.declared.reading.Question.TheVariants.{Row, Rows, Page, Deltas}
 use Rattle.rowanspan_c.specs.Spelling.{row_spelling, pairs_spelling, page_spelling, deltas_spelling}
 
--- a reader is refused for the fault that stands, or for want of memory
+-- THE CAUSE OF A REFUSAL: the fault if there is one, and out of memory only if there is none
 abbrev pub IsCausedBy : Option Refusal → Refusal → Type 0
-IsCausedBy fault refusal = (refusal ≡ NoMemory) ⊎ (fault ≡ Some refusal)
+IsCausedBy fault refusal = MatchOption fault (refusal ≡ NoMemory) (λ due. refusal ≡ due)
+
+-- why a page of a view in this state is refused: there is no such view, or it is at fewer commits than the floor
+abbrev pub state_refusal : Option StateView → ℕ → Option Refusal
+state_refusal None floor = Some NoSuchView
+state_refusal (Some state) floor = refused_if (nat_lt state.at floor) (Behind state.at)
+
+-- why a page is refused: for the first limit that it breaks, and then for its view
+abbrev pub page_refusal : MachineView → ℕ → ℕ → List ℕ → ℕ → Option Refusal
+page_refusal s view floor start limit =
+    option_or (page_fault start limit) (state_refusal (state_at view s.views.views) floor)
 
 -- ---- what is right, at each history at which the machine stands
 -- the row of a key in the plain map of the rows, as it is shown
@@ -30,7 +42,7 @@ abbrev pub IsPlainRow : MachineView → List ℕ → List ℕ → Option RowValu
 IsPlainRow s key asked row = (h : History) → Stands s h
     → row ≡ option_map (shown asked) (get (rows s.columns (moment h)) key)
 
--- the first pairs of that map from a key on
+-- the first pairs of that map from a key
 abbrev pub ArePlainRows : MachineView → List ℕ → ℕ → List ℕ → List (List ℕ × RowValue) → Type 0
 ArePlainRows s start limit asked pairs = (h : History) → Stands s h
     → IsRangeOfMap (rows s.columns (moment h)) asked start limit pairs
@@ -40,7 +52,7 @@ abbrev pub AreDeltas : MachineView → ℕ → ℕ → List Delta → Type 0
 AreDeltas s from limit deltas = (h : History) → Stands s h
     → deltas ≡ take limit (drop from (deltas_of s.columns (moment h).commits))
 
--- ---- the bytes of a right answer, or none where a key has no row; or why the reader is refused
+-- ---- the bytes of a right answer, or none if a key has no row; or why the reader is refused
 abbrev pub ReadsRow : MachineView → List ℕ → List ℕ → Result (Option (List ℕ)) Refusal → Type 0
 ReadsRow s key asked (Ok bytes) =
     (row : Option RowValue) × IsPlainRow s key asked row × (bytes ≡ option_map row_spelling row)
@@ -56,8 +68,7 @@ ReadsRows s start limit asked (Err refusal) = IsCausedBy (request_fault s.column
 abbrev pub ReadsPage : MachineView → ℕ → ℕ → List ℕ → ℕ → Result (Option (List ℕ)) Refusal → Type 0
 ReadsPage s view floor start limit (Ok bytes) =
     (page : PageValue) × ReadsView s view floor start limit (View page) × (bytes ≡ Some (page_spelling page))
-ReadsPage s view floor start limit (Err refusal) =
-    (refusal ≡ NoMemory) ⊎ ReadsView s view floor start limit (Refused refusal)
+ReadsPage s view floor start limit (Err refusal) = IsCausedBy (page_refusal s view floor start limit) refusal
 
 abbrev pub ReadsDeltas : MachineView → ℕ → ℕ → Result (Option (List ℕ)) Refusal → Type 0
 ReadsDeltas s from limit (Ok bytes) =
@@ -67,7 +78,7 @@ ReadsDeltas s from limit (Err refusal) = IsCausedBy (feed_fault s.log from limit
 
 -- WHAT A QUESTION IS ANSWERED
 abbrev pub IsAnswer : MachineView → Question → Result (Option (List ℕ)) Refusal → Type 0
-IsAnswer s (Row key columns) read = ReadsRow s key columns read
-IsAnswer s (Rows start limit columns) read = ReadsRows s start limit columns read
-IsAnswer s (Page view floor start limit) read = ReadsPage s view.0 floor start limit read
+IsAnswer s (Row key columns) read = ReadsRow s key.now columns.now read
+IsAnswer s (Rows start limit columns) read = ReadsRows s start.now limit columns.now read
+IsAnswer s (Page view floor start limit) read = ReadsPage s view.0 floor start.now limit read
 IsAnswer s (Deltas from limit) read = ReadsDeltas s from limit read

@@ -1,4 +1,4 @@
--- What a caller is told: a status, a number beside it, and the bytes in its buffer.
+-- What a call returns to its caller: a status, a number, and the bytes in its buffer.
 use Rattle.std.specs.Prelude.{ℕ, ◌≡◌, ◌<◌, ◌≤◌, ◌⊎◌, List, ◌++◌, length, drop, Result, Ok, Err, Option, Some, None, unwrap_or}
 use Rattle.mt_types.specs.RefusalNumbers.{refusal_number, refusal_detail}
 use Rattle.mt_types.specs.declared.refusal.Refusal.{Refusal}
@@ -50,14 +50,14 @@ TellsOutcome (Freed count) status told = Tells DONE count status told
 TellsOutcome (Refused refusal) status told = TellsRefusal refusal status told
 TellsOutcome _ status told = Tells DONE 0 status told
 
--- BYTES ARE HANDED OUT, where the buffer has room: they stand at its front, and the rest is as it was. Else nothing is
--- written. How many there are is told in both cases.
+-- BYTES ARE HANDED OUT if the buffer has room: they are at its front, and the rest is as it was. Else nothing is
+-- written. How many there are is reported in both cases.
 abbrev pub HandsOut : List ℕ → List ℕ → List ℕ → ℕ → ℕ → Type 0
 HandsOut bytes old new status told =
     ((length bytes ≤ length old) × (new ≡ bytes ++ drop (length bytes) old) × Tells DONE (length bytes) status told)
     ⊎ ((length old < length bytes) × (new ≡ old) × Tells NO_ROOM (length bytes) status told)
 
--- what a reader is told, and what stands in its buffer then
+-- what a question returns, and what is then in the buffer
 abbrev pub TellsRead : Result (Option (List ℕ)) Refusal → List ℕ → List ℕ → ℕ → ℕ → Type 0
 TellsRead (Ok (Some bytes)) old new status told = HandsOut bytes old new status told
 TellsRead (Ok None) old new status told = (new ≡ old) × Tells ABSENT 0 status told

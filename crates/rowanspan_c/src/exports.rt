@@ -9,17 +9,14 @@ ghost use Rattle.mt_types.specs.declared.view.ViewSpec.TheVariants.{Range as Ran
 ghost use Rattle.mt_types.specs.Limits.{open_fault};
 ghost use Rattle.mt_commit.specs.Log.{newest};
 ghost use Rattle.mt_arena.specs.Node.{occupied};
-ghost use Rattle.rowanspan_c.specs.declared.reading.Question.TheVariants.{Row as RowOf, Rows as RowsOf, Page as PageOf, Deltas as DeltasOf};
 ghost use Rattle.mt_index.specs.Alone.{IsIdle};
 ghost use Rattle.mt_index.specs.Events.{IsOpened};
-ghost use Rattle.rowanspan_c.specs.Questions.{IsCausedBy};
+ghost use Rattle.rowanspan_c.specs.Questions.{IsCausedBy, ReadsRow, ReadsRows, ReadsPage, ReadsDeltas};
 ghost use Rattle.rowanspan_c.specs.Told.{Tells};
-ghost use Rattle.rowanspan_c.specs.Calls.{Opens, Changes, Reads, Meets, Counts, close_status, greatest_kind, sets_of, test_of};
+ghost use Rattle.rowanspan_c.specs.Asked.{greatest_kind, sets_of, test_of};
+ghost use Rattle.rowanspan_c.specs.Calls.{Opens, Changes, Reads, Meets, Counts, close_status};
 
-use crate::asking::{
-    ColumnSet, ViewTest, between_request, from_request, page_question, prefix_request,
-    put_if_request, put_request, remove_request, row_question, rows_question, tidy_request,
-};
+use crate::asking::{Asked, ColumnSet, ViewTest};
 use crate::changing::{answer, change, meet};
 use crate::handle::Handle;
 use crate::reading::Question;
@@ -99,10 +96,10 @@ pub extern "C" fn rowanspan_raw_put<'a>(
 ) -> u16
     ensures { Changes handle.old.held (Put key.now (sets_of sets.now)) handle.new.held result told.new }
 {
-    change(handle, alloc, put_request(alloc, key, sets), told)
+    change(handle, alloc, &Asked::Put { key, sets }, told)
 }
 
-/// Sets columns of a key's row, where that is of this version.
+/// Sets columns of a key's row if that is of this version.
 #[unsafe(no_mangle)]
 pub extern "C" fn rowanspan_raw_put_if<'a>(
     handle: &mut Handle,
@@ -114,12 +111,7 @@ pub extern "C" fn rowanspan_raw_put_if<'a>(
 ) -> u16
     ensures { Changes handle.old.held (PutIf key.now (sets_of sets.now) version) handle.new.held result told.new }
 {
-    change(
-        handle,
-        alloc,
-        put_if_request(alloc, key, sets, version),
-        told,
-    )
+    change(handle, alloc, &Asked::PutIf { key, sets, version }, told)
 }
 
 /// Ends a key's row.
@@ -132,10 +124,10 @@ pub extern "C" fn rowanspan_raw_remove(
 ) -> u16
     ensures { Changes handle.old.held (Remove key.now) handle.new.held result told.new }
 {
-    change(handle, alloc, remove_request(alloc, key), told)
+    change(handle, alloc, &Asked::Remove { key }, told)
 }
 
-/// Takes out a node that is no longer wanted.
+/// Removes a node that is no longer needed.
 #[unsafe(no_mangle)]
 pub extern "C" fn rowanspan_raw_tidy(
     handle: &mut Handle,
@@ -145,7 +137,7 @@ pub extern "C" fn rowanspan_raw_tidy(
 ) -> u16
     ensures { Changes handle.old.held (Tidy key.now) handle.new.held result told.new }
 {
-    change(handle, alloc, tidy_request(alloc, key), told)
+    change(handle, alloc, &Asked::Tidy { key }, told)
 }
 
 /// The row of a key.
@@ -158,13 +150,13 @@ pub extern "C" fn rowanspan_raw_get(
     into: &mut [u8],
     told: &mut u64,
 ) -> u16
-    ensures row { Reads handle.old.held (RowOf key.now columns.now) into.old into.new result told.new }
+    ensures row { Reads handle.old.held (λ index. ReadsRow index key.now columns.now) into.old into.new result told.new }
     ensures kept { handle.new.held ≡ handle.old.held }
 {
-    answer(handle, alloc, row_question(alloc, key, columns), into, told)
+    answer(handle, alloc, &Question::Row { key, columns }, into, told)
 }
 
-/// The first rows from a key on.
+/// The first rows from a key.
 #[unsafe(no_mangle)]
 pub extern "C" fn rowanspan_raw_range(
     handle: &mut Handle,
@@ -175,13 +167,18 @@ pub extern "C" fn rowanspan_raw_range(
     into: &mut [u8],
     told: &mut u64,
 ) -> u16
-    ensures rows { Reads handle.old.held (RowsOf start.now limit columns.now) into.old into.new result told.new }
+    ensures rows { Reads handle.old.held (λ index. ReadsRows index start.now limit columns.now) into.old into.new
+        result told.new }
     ensures kept { handle.new.held ≡ handle.old.held }
 {
     answer(
         handle,
         alloc,
-        rows_question(alloc, start, limit, columns),
+        &Question::Rows {
+            start,
+            limit,
+            columns,
+        },
         into,
         told,
     )
@@ -189,7 +186,7 @@ pub extern "C" fn rowanspan_raw_range(
 
 // ---- views
 
-/// Builds a view of the keys that begin so.
+/// Builds a view of the keys that begin with a prefix.
 #[unsafe(no_mangle)]
 pub extern "C" fn rowanspan_raw_build_prefix<'a>(
     handle: &mut Handle,
@@ -207,10 +204,10 @@ pub extern "C" fn rowanspan_raw_build_prefix<'a>(
         *told = 0;
         return NO_SUCH_TEST;
     }
-    change(handle, alloc, prefix_request(alloc, prefix, test), told)
+    change(handle, alloc, &Asked::BuildPrefix { prefix, test }, told)
 }
 
-/// Builds a view of the keys from `lo` on.
+/// Builds a view of the keys from `lo`.
 #[unsafe(no_mangle)]
 pub extern "C" fn rowanspan_raw_build_from<'a>(
     handle: &mut Handle,
@@ -228,10 +225,10 @@ pub extern "C" fn rowanspan_raw_build_from<'a>(
         *told = 0;
         return NO_SUCH_TEST;
     }
-    change(handle, alloc, from_request(alloc, lo, test), told)
+    change(handle, alloc, &Asked::BuildFrom { lo, test }, told)
 }
 
-/// Builds a view of the keys from `lo` on and before `hi`.
+/// Builds a view of the keys from `lo` and before `hi`.
 #[unsafe(no_mangle)]
 pub extern "C" fn rowanspan_raw_build_between<'a>(
     handle: &mut Handle,
@@ -251,10 +248,10 @@ pub extern "C" fn rowanspan_raw_build_between<'a>(
         *told = 0;
         return NO_SUCH_TEST;
     }
-    change(handle, alloc, between_request(alloc, lo, hi, test), told)
+    change(handle, alloc, &Asked::BuildBetween { lo, hi, test }, told)
 }
 
-/// Takes a view on by one commit, or where `view` is 0 the one that is furthest behind.
+/// Advances a view by one commit, or if `view` is 0 the view that is furthest behind.
 #[unsafe(no_mangle)]
 pub extern "C" fn rowanspan_apply(
     handle: &mut Handle,
@@ -279,14 +276,19 @@ pub extern "C" fn rowanspan_raw_view(
     into: &mut [u8],
     told: &mut u64,
 ) -> u16
-    ensures page { Reads handle.old.held (PageOf (record { 0 = view }) floor start.now limit) into.old into.new result
+    ensures page { Reads handle.old.held (λ index. ReadsPage index view floor start.now limit) into.old into.new result
         told.new }
     ensures kept { handle.new.held ≡ handle.old.held }
 {
     answer(
         handle,
         alloc,
-        page_question(alloc, view, floor, start, limit),
+        &Question::Page {
+            view: ViewNo(view),
+            floor,
+            start,
+            limit,
+        },
         into,
         told,
     )
@@ -317,16 +319,10 @@ pub extern "C" fn rowanspan_raw_feed(
     into: &mut [u8],
     told: &mut u64,
 ) -> u16
-    ensures deltas { Reads handle.old.held (DeltasOf from limit) into.old into.new result told.new }
+    ensures deltas { Reads handle.old.held (λ index. ReadsDeltas index from limit) into.old into.new result told.new }
     ensures kept { handle.new.held ≡ handle.old.held }
 {
-    answer(
-        handle,
-        alloc,
-        Ok(Question::Deltas { from, limit }),
-        into,
-        told,
-    )
+    answer(handle, alloc, &Question::Deltas { from, limit }, into, told)
 }
 
 /// Begins the next epoch.

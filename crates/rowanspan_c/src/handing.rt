@@ -1,4 +1,4 @@
-//! What a caller is told: a status, a number beside it, and the bytes in its buffer.
+//! What a call returns to its caller: a status, a number, and the bytes in its buffer.
 
 ghost use Rattle.std.specs.Prelude.{◌≡◌, ◌⊎◌};
 ghost use Rattle.rowanspan_c.specs.Told.{TellsRefusal, TellsAnswer, TellsEnd, TellsOutcome, HandsOut, TellsRead, rule_number};
@@ -108,7 +108,7 @@ pub(crate) fn tell_outcome(outcome: Outcome, told: &mut u64) -> u16
     }
 }
 
-// Hands bytes out where the buffer has room for them.
+// Copies bytes into the buffer if it has room for them.
 fn hand_out(bytes: &[u8], into: &mut [u8], told: &mut u64) -> u16
     ensures { HandsOut bytes.now into.old into.new result told.new }
 {

@@ -1,6 +1,6 @@
-//! The index for C: one owner of a handle, who makes one call at a time.
+//! The index for C: one owner of a handle makes one call at a time.
 //!
-//! What each call does, what it costs and what it answers stands in `include/rowanspan.h`, for those who call it.
+//! `include/rowanspan.h` says what each call does, what it costs and what it answers.
 #![tactic(auto)]
 
 mod asking;
@@ -8,6 +8,7 @@ mod changing;
 mod exports;
 mod handing;
 mod handle;
+mod limiting;
 mod reading;
 mod spelling;
 pub mod status;

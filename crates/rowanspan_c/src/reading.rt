@@ -1,40 +1,45 @@
-//! Questions to an index that change nothing, answered in bytes.
+//! Questions to an index that change nothing, answered in bytes. Limits are checked before bytes are copied.
 
-ghost use Rattle.std.specs.Prelude.{◌≡◌, MatchResult, None};
+ghost use Rattle.std.specs.Prelude.{◌≡◌, MatchResult, OnOk, IfOk, None, []};
 ghost use Rattle.mt_types.specs.Limits.{key_fault};
+ghost use Rattle.mt_types.specs.declared.event.Outcome.TheVariants.{View};
 ghost use Rattle.mt_index.specs.Alone.{IsIdle};
-ghost use Rattle.rowanspan_c.specs.Questions.{IsAnswer, IsCausedBy, ReadsRow, ReadsRows, ReadsPage, ReadsDeltas};
+ghost use Rattle.mt_index.specs.Stands.{ReadsView};
+ghost use Rattle.rowanspan_c.specs.Questions.{IsAnswer, IsCausedBy, ReadsRow, ReadsRows, ReadsPage, ReadsDeltas, page_refusal};
 
+use crate::limiting::{get_fault, range_fault};
 use crate::spelling::{bytes_of, list_bytes_of};
 use bytes::Bytes;
 use mt_index::machine::Machine;
 use mt_types::event::{Event, Outcome};
 use mt_types::items::Items;
 use mt_types::key::Key;
+use mt_types::limits::page_fault;
 use mt_types::numbers::ViewNo;
-use mt_types::refusal::Refusal;
+use mt_types::refusal::{NoMemory, Refusal};
 use mt_types::row::ColumnNumbers;
+use mt_types::view::Page;
 use std::alloc::Global;
 
-/// What a reader asks.
+/// What a reader asks. All bytes are lent.
 #[derive(Drop)]
-pub(crate) enum Question {
+pub(crate) enum Question<'a> {
     /// The row of a key, with the columns asked for; none means all.
     Row {
-        key: Bytes,
-        columns: ColumnNumbers,
+        key: &'a [u8],
+        columns: &'a [u8],
     },
-    /// The first rows from a key on.
+    /// The first rows from a key.
     Rows {
-        start: Bytes,
+        start: &'a [u8],
         limit: u16,
-        columns: ColumnNumbers,
+        columns: &'a [u8],
     },
-    /// A page of a view that stands at `floor` commits at least.
+    /// A page of a view that is at `floor` commits or more.
     Page {
         view: ViewNo,
         floor: u64,
-        start: Bytes,
+        start: &'a [u8],
         limit: u16,
     },
     /// The deltas of the commits after a number.
@@ -44,23 +49,36 @@ pub(crate) enum Question {
     },
 }
 
-fn key_of(bytes: Bytes) -> Result<Key, Refusal>
-    ensures { MatchResult result (λ key. (key ≡ bytes) × (key_fault bytes ≡ None))
-        (λ refusal. IsCausedBy (key_fault bytes) refusal) }
+// The key of bytes that are not too many. Copies them.
+fn key_of(alloc: Global, bytes: &[u8]) -> Result<Key, Refusal>
+    requires { key_fault bytes.now ≡ None }
+    ensures { MatchResult result (λ key. key ≡ bytes.now) (λ refusal. refusal ≡ Refusal.NoMemory) }
 {
-    Key::new(bytes)
+    Key::new(Bytes::copy_from_slice(alloc, bytes)?)
+}
+
+fn numbers_of(alloc: Global, columns: &[u8]) -> Result<ColumnNumbers, NoMemory>
+    ensures { IfOk result (λ numbers. numbers ≡ columns.now) }
+{
+    let mut numbers = Vec::new(alloc);
+    numbers.extend_from_slice(columns)?;
+    Ok(Items::from_vec(numbers))
 }
 
 fn row(
     alloc: Global,
     index: &Machine,
-    key: Bytes,
-    columns: ColumnNumbers,
+    key: &[u8],
+    columns: &[u8],
 ) -> Result<Option<Items<u8>>, Refusal>
     requires { IsIdle index.now }
-    ensures { ReadsRow index.now key columns result }
+    ensures { ReadsRow index.now key.now columns.now result }
 {
-    let key = key_of(key)?;
+    if let Some(refusal) = get_fault(index.columns(), key, columns) {
+        return Err(refusal);
+    }
+    let key = key_of(alloc, key)?;
+    let columns = numbers_of(alloc, columns)?;
     match index.get(alloc, key, columns)? {
         Some(row) => {
             let bytes = bytes_of(alloc, &row)?;
@@ -73,28 +91,35 @@ fn row(
 fn rows(
     alloc: Global,
     index: &Machine,
-    start: Bytes,
+    start: &[u8],
     limit: u16,
-    columns: ColumnNumbers,
+    columns: &[u8],
 ) -> Result<Option<Items<u8>>, Refusal>
     requires { IsIdle index.now }
-    ensures { ReadsRows index.now start limit columns result }
+    ensures { ReadsRows index.now start.now limit columns.now result }
 {
-    let start = key_of(start)?;
+    if let Some(refusal) = range_fault(index.columns(), start, limit, columns) {
+        return Err(refusal);
+    }
+    let start = key_of(alloc, start)?;
+    let columns = numbers_of(alloc, columns)?;
     let pairs = index.range(alloc, start, limit, columns)?;
     let bytes = list_bytes_of(alloc, pairs.as_slice())?;
     Ok(Some(bytes))
 }
 
-fn page(
+// A page by its event.
+fn page_from(
     alloc: Global,
     index: &mut Machine,
     view: ViewNo,
     floor: u64,
     start: Bytes,
     limit: u16,
-) -> Result<Option<Items<u8>>, Refusal>
-    ensures answer { ReadsPage index.old view.0 floor start limit result }
+) -> Result<Page, Refusal>
+    ensures answer { MatchResult result (λ page. ReadsView index.old view.0 floor start limit (View page))
+        (λ refusal. IsCausedBy (page_refusal index.old view.0 floor start limit) refusal) }
+    ensures fits { OnOk result (page_refusal index.old view.0 floor start limit ≡ None) }
     ensures kept { index.new ≡ index.old }
 {
     let event = Event::ViewRead {
@@ -104,13 +129,44 @@ fn page(
         limit,
     };
     match index.event(alloc, &event) {
-        Outcome::View(page) => {
-            let bytes = bytes_of(alloc, &page)?;
-            Ok(Some(bytes))
-        }
+        Outcome::View(page) => Ok(page),
         Outcome::Refused(refusal) => Err(refusal),
         _ => unreachable!(),
     }
+}
+
+// Why a page is refused whose start there was no memory for: its view's cause comes first, and an empty start, which
+// takes no memory, asks for it.
+fn page_cause(alloc: Global, index: &mut Machine, view: ViewNo, floor: u64) -> Refusal
+    ensures cause { IsCausedBy (page_refusal index.old view.0 floor [] 1) result }
+    ensures kept { index.new ≡ index.old }
+{
+    match page_from(alloc, index, view, floor, Bytes::new(), 1) {
+        Ok(_) => Refusal::NoMemory,
+        Err(refusal) => refusal,
+    }
+}
+
+fn page(
+    alloc: Global,
+    index: &mut Machine,
+    view: ViewNo,
+    floor: u64,
+    start: &[u8],
+    limit: u16,
+) -> Result<Option<Items<u8>>, Refusal>
+    ensures answer { ReadsPage index.old view.0 floor start.now limit result }
+    ensures kept { index.new ≡ index.old }
+{
+    if let Some(refusal) = page_fault(start, limit) {
+        return Err(refusal);
+    }
+    let Ok(start) = Bytes::copy_from_slice(alloc, start) else {
+        return Err(page_cause(alloc, index, view, floor));
+    };
+    let page = page_from(alloc, index, view, floor, start, limit)?;
+    let bytes = bytes_of(alloc, &page)?;
+    Ok(Some(bytes))
 }
 
 fn deltas(
@@ -130,10 +186,10 @@ fn deltas(
 pub(crate) fn read(
     alloc: Global,
     index: &mut Machine,
-    question: Question,
+    question: &Question<'_>,
 ) -> Result<Option<Items<u8>>, Refusal>
     requires { IsIdle index.old }
-    ensures answer { IsAnswer index.old question result }
+    ensures answer { IsAnswer index.old question.now result }
     ensures kept { index.new ≡ index.old }
 {
     match question {
@@ -142,13 +198,13 @@ pub(crate) fn read(
             start,
             limit,
             columns,
-        } => rows(alloc, index, start, limit, columns),
+        } => rows(alloc, index, start, *limit, columns),
         Question::Page {
             view,
             floor,
             start,
             limit,
-        } => page(alloc, index, view, floor, start, limit),
-        Question::Deltas { from, limit } => deltas(alloc, index, from, limit),
+        } => page(alloc, index, *view, *floor, start, *limit),
+        Question::Deltas { from, limit } => deltas(alloc, index, *from, *limit),
     }
 }

@@ -1,5 +1,5 @@
 use Rattle.std.proofs.Common.{◌≡◌, map, take}
-use Rattle.rowanspan_c.specs.Calls.{set_of}
+use Rattle.rowanspan_c.specs.Asked.{set_of}
 use Rattle.rowanspan_c.proofs.asking.sets_of.Given as goal
 
 -- the sets so far are copied

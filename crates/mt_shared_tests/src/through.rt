@@ -1,0 +1,116 @@
+//! A `ThroughDoor` that has ended its call holds no lock: another thread's call ends while it is still there.
+
+use crate::audit::OPTIONS;
+use bytes::Bytes;
+use mt_shared::calls::{get, put};
+use mt_shared::index::{Door, Index};
+use mt_shared::pass::Pass;
+use mt_shared::through::ThroughDoor;
+use mt_types::event::Answer;
+use mt_types::items::Items;
+use mt_types::refusal::Refusal;
+use std::alloc::Global;
+use std::rt::Clock;
+use std::sync::Wait;
+use std::sync::atomic::{AtomicBool, Ordering};
+use std::test::Fail;
+use std::thread;
+use std::thread::{Threads, join};
+use std::time::Duration;
+
+const KEY: &[u8] = b"a";
+
+// How often a thread looks at a flag, and the milliseconds between two looks.
+const LOOKS: u32 = 1000;
+
+const PAUSE: u64 = 5;
+
+// Whether the flag is set before a thread has looked often enough.
+fn is_set_soon<C: Clock>(clock: &C, flag: &AtomicBool) -> bool {
+    for _ in 0..LOOKS {
+        if flag.load(Ordering::SeqCst) {
+            return true;
+        }
+        thread::sleep(clock, Duration::from_millis(PAUSE));
+    }
+    false
+}
+
+fn put_key<W: Wait>(
+    alloc: Global,
+    door: &mut ThroughDoor<'_, W>,
+    pass: &mut Pass,
+) -> Result<(), Refusal> {
+    let sets = Vec::from_array(alloc, [(0, Bytes::from_static(b"v"))])?;
+    let key = Bytes::from_static(KEY);
+    let _ = put(alloc, door, pass, key, Items::from_vec(sets))?;
+    Ok(())
+}
+
+// Puts, and keeps the door until the other thread has got, or until it has waited long enough. A lock that the door
+// still holds is given back with it, so that the other thread ends.
+fn put_and_stay<R: Wait + Clock>(
+    rt: &R,
+    alloc: Global,
+    index: &Index,
+    flags: (&AtomicBool, &AtomicBool),
+    mut pass: Pass,
+) -> (Pass, bool) {
+    let mut door = ThroughDoor::new(index, rt, 8);
+    let done = put_key(alloc, &mut door, &mut pass);
+    flags.0.store(true, Ordering::SeqCst);
+    let seen = is_set_soon(rt, flags.1);
+    drop(door);
+    (pass, seen && done.is_ok())
+}
+
+// Gets once the other thread has put.
+fn get_then_tell<R: Wait + Clock>(
+    rt: &R,
+    alloc: Global,
+    index: &Index,
+    flags: (&AtomicBool, &AtomicBool),
+    mut pass: Pass,
+) -> (Pass, bool) {
+    let _ = is_set_soon(rt, flags.0);
+    let mut door = Door::new(index, rt);
+    let key = Bytes::from_static(KEY);
+    let got = get(alloc, &mut door, &mut pass, key, Items::new(alloc));
+    flags.1.store(true, Ordering::SeqCst);
+    let found =
+        matches!(&got, Ok(reply) if matches!(&reply.answer, Answer::Found(row) if row.version == 1));
+    (pass, found)
+}
+
+// Both passes, whether the putter saw that the getter had got, and whether that found the row.
+fn meet<R: Wait + Threads + Clock + Sync>(
+    rt: &R,
+    alloc: Global,
+    index: &Index,
+    one: Pass,
+    two: Pass,
+) -> ((Pass, bool), (Pass, bool)) {
+    let put = AtomicBool::new(false);
+    let got = AtomicBool::new(false);
+    join(
+        rt,
+        || put_and_stay(rt, alloc, index, (&put, &got), one),
+        || get_then_tell(rt, alloc, index, (&put, &got), two),
+    )
+}
+
+#[test]
+fn through_door_lets_go(rt: HostRuntime) -> Result<(), Fail> {
+    let alloc = rt.alloc();
+    let (index, mut passes) = Index::start(alloc, OPTIONS, 2)?;
+    let two = passes.pop().ok_or("two")?;
+    let one = passes.pop().ok_or("one")?;
+    let ((one, seen), (two, found)) = meet(&rt, alloc, &index, one, two);
+    assert!(rt; seen);
+    assert!(rt; found);
+    passes.push(one)?;
+    passes.push(two)?;
+    let totals = index.close(passes)?;
+    assert_eq!(rt; totals.commits, 1);
+    Ok(())
+}

@@ -1,0 +1,151 @@
+//! The first limit that a call from C breaks, found before its bytes are copied.
+
+ghost use Rattle.std.specs.Prelude.{◌≡◌, ◌==◌, nat_lt, length, map, Some as SomeOf};
+ghost use Rattle.std.specs.List.{list_any};
+ghost use Rattle.std.specs.Option.{option_or};
+ghost use Rattle.mt_types.specs.Limits.{request_fault, key_fault, sets_fault, test_fault, end_fault, spec_fault, misnames};
+ghost use Rattle.mt_types.specs.declared.event.Request.TheVariants.{Get, Range};
+ghost use Rattle.mt_types.specs.declared.view.ViewSpec.TheVariants.{Range as RangeOf};
+ghost use Rattle.rowanspan_c.specs.Asked.{sets_of, test_of, request_of};
+
+use crate::asking::{Asked, ColumnSet, ViewTest};
+use mt_types::limits::{MAX_COLUMN_BYTES, MAX_KEY_BYTES, columns_fault, limit_fault};
+use mt_types::refusal::Refusal;
+use std::cmp::Ordering;
+
+fn key_fault(key: &[u8]) -> Option<Refusal>
+    ensures { result ≡ key_fault key.now }
+{
+    (key.len() > MAX_KEY_BYTES).then_some(Refusal::KeyTooLong)
+}
+
+/// The first limit that a get breaks.
+pub(crate) fn get_fault(columns: u8, key: &[u8], asked: &[u8]) -> Option<Refusal>
+    ensures { result ≡ request_fault columns (Get key.now asked.now) }
+{
+    key_fault(key).or_else(|| columns_fault(columns, asked))
+}
+
+/// The first limit that a range breaks.
+pub(crate) fn range_fault(columns: u8, start: &[u8], limit: u16, asked: &[u8]) -> Option<Refusal>
+    ensures { result ≡ request_fault columns (Range start.now limit asked.now) }
+{
+    key_fault(start)
+        .or_else(|| columns_fault(columns, asked))
+        .or_else(|| limit_fault(limit))
+}
+
+// ---- changes
+
+fn names(sets: &[ColumnSet], name: u8) -> bool
+    ensures { result ≡ list_any (λ other. other == name) (map (λ set. set.0) (sets_of sets.now)) }
+{
+    for set in sets {
+        if set.column == name {
+            return true;
+        }
+    }
+    false
+}
+
+// Whether sets name a column that is not below the number of columns, or one twice.
+fn sets_misname(columns: u8, sets: &[ColumnSet]) -> bool
+    ensures { result ≡ misnames columns (map (λ set. set.0) (sets_of sets.now)) }
+{
+    for (i, set) in sets.iter().enumerate() {
+        if columns <= set.column || names(&sets[i + 1..], set.column) {
+            return true;
+        }
+    }
+    false
+}
+
+fn has_long_column(sets: &[ColumnSet]) -> bool
+    ensures { result ≡ list_any (λ set. nat_lt MAX_COLUMN_BYTES (length set.1)) (sets_of sets.now) }
+{
+    for set in sets {
+        if set.bytes.len() > MAX_COLUMN_BYTES {
+            return true;
+        }
+    }
+    false
+}
+
+fn sets_fault(columns: u8, sets: &[ColumnSet]) -> Option<Refusal>
+    ensures { result ≡ sets_fault columns (sets_of sets.now) }
+{
+    if sets_misname(columns, sets) {
+        Some(Refusal::BadColumn)
+    } else {
+        has_long_column(sets).then_some(Refusal::ColumnTooLong)
+    }
+}
+
+fn test_fault(columns: u8, test: &ViewTest) -> Option<Refusal>
+    ensures { result ≡ test_fault columns (test_of test.now) }
+{
+    if test.kind == 0 {
+        return None;
+    }
+    if columns <= test.column {
+        return Some(Refusal::BadColumn);
+    }
+    (test.kind == 1 && test.bytes.len() > MAX_COLUMN_BYTES).then_some(Refusal::ColumnTooLong)
+}
+
+fn end_fault(lo: &[u8], hi: &[u8]) -> Option<Refusal>
+    ensures { result ≡ end_fault lo.now (SomeOf hi.now) }
+{
+    match lo.cmp(hi) {
+        Ordering::Less => None,
+        Ordering::Equal => Some(Refusal::BadRange),
+        Ordering::Greater => Some(Refusal::BadRange),
+    }
+}
+
+fn put_fault(columns: u8, key: &[u8], sets: &[ColumnSet]) -> Option<Refusal>
+    ensures { result ≡ option_or (key_fault key.now) (sets_fault columns (sets_of sets.now)) }
+{
+    if let Some(refusal) = key_fault(key) {
+        return Some(refusal);
+    }
+    sets_fault(columns, sets)
+}
+
+fn bound_fault(columns: u8, bound: &[u8], test: &ViewTest) -> Option<Refusal>
+    ensures { result ≡ option_or (key_fault bound.now) (test_fault columns (test_of test.now)) }
+{
+    if let Some(refusal) = key_fault(bound) {
+        return Some(refusal);
+    }
+    test_fault(columns, test)
+}
+
+fn between_fault(columns: u8, lo: &[u8], hi: &[u8], test: &ViewTest) -> Option<Refusal>
+    ensures { result ≡ spec_fault columns (RangeOf lo.now (SomeOf hi.now) (test_of test.now)) }
+{
+    if let Some(refusal) = key_fault(lo) {
+        return Some(refusal);
+    }
+    if let Some(refusal) = bound_fault(columns, hi, test) {
+        return Some(refusal);
+    }
+    end_fault(lo, hi)
+}
+
+impl<'a> Asked<'a> {
+    /// The first limit that it breaks on an index of `columns` columns.
+    pub(crate) fn fault(&self, columns: u8) -> Option<Refusal>
+        ensures { result ≡ request_fault columns (request_of self.now) }
+    {
+        match self {
+            Asked::Put { key, sets } => put_fault(columns, key, sets),
+            Asked::PutIf { key, sets, .. } => put_fault(columns, key, sets),
+            Asked::Remove { key } => key_fault(key),
+            Asked::Tidy { key } => key_fault(key),
+            Asked::BuildPrefix { prefix, test } => bound_fault(columns, prefix, test),
+            Asked::BuildFrom { lo, test } => bound_fault(columns, lo, test),
+            Asked::BuildBetween { lo, hi, test } => between_fault(columns, lo, hi, test),
+        }
+    }
+}
