@@ -37,6 +37,13 @@ some_and : {A : Type 0} (o : Option A) (Q : A → Type 0) → IsSomeAnd o Q → 
 some_and (Some x) Q q = (x, refl, q)
 some_and None Q q = absurd q
 
+-- a put or remove
+abbrev pub IsWriting : Request → Type 0
+IsWriting (PutRequest key sets) = Unit {0}
+IsWriting (PutIfRequest key sets version) = Unit {0}
+IsWriting (RemoveRequest key) = Unit {0}
+IsWriting _ = ⊥
+
 module _ (P : Refusal → Type 0) where
   -- what is said of a failure that a stage carries
   abbrev pub EndSays : Ending → Type 0
@@ -152,12 +159,6 @@ module _ (P : Refusal → Type 0) where
   work_begins (Build building) start = tt
 
   -- a put or remove is refused for what is said of its failure
-  abbrev pub IsWriting : Request → Type 0
-  IsWriting (PutRequest key sets) = Unit {0}
-  IsWriting (PutIfRequest key sets version) = Unit {0}
-  IsWriting (RemoveRequest key) = Unit {0}
-  IsWriting _ = ⊥
-
   pub work_refused : (a : ArenaView) (work : Work) (refusal : Refusal) → IsWriting (request_of work) → (WorkRefuses a work refusal ⊎ IsBuiltWork work) → WorkSays work → P refusal
   work_refused a (Write write) refusal writing (inl is) says = subst StageSays is says
   work_refused a (Write write) refusal writing (inr never) says = absurd never

@@ -5,3 +5,4 @@ pub mod Sources
 pub mod Sessions
 pub mod Store
 pub mod Plain
+pub mod Ample
