@@ -5,3 +5,5 @@ pub mod AloneLemmas
 pub mod PlainLemmas
 mod StageLemmas
 mod CallLemmas
+mod RangeOnce
+mod AmpleLemmas

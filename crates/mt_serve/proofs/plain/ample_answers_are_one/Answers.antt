@@ -1,0 +1,8 @@
+use Rattle.mt_serve.proofs.AmpleLemmas.{ample_answers, answers_are_one}
+use Rattle.mt_serve.proofs.plain.ample_answers_are_one.Goals as goal
+
+pub returns-clause-theirs : goal.returns-clause-theirs
+returns-clause-theirs c = ample_answers
+
+pub returns-clause-one : goal.returns-clause-one
+returns-clause-one c = answers_are_one
