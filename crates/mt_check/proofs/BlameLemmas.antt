@@ -138,10 +138,11 @@ deltas_sound C h legal i d below at =
     let made = delta_at C 0 empty cs i change there in
     let same : delta_made C (0 + i + 1) change (after_from C 0 empty (take i cs)) ≡ d = same_delta _ d (sym made ∙ at) in
     let rows = rows_taken C 0 empty cs i in
-    subst (λ (x : Delta). (x.number ≡ i + 1) × FitsRow (get (rows_at (deltas_after C h) i) x.key) x) same
-    ((let number : 0 + i + 1 ≡ i + 1 = omega arith in number),
-    subst (λ (r : Rows). FitsRow (get r (key_of change)) (delta_made C (0 + i + 1) change (after_from C 0 empty (take i cs)))) (sym rows)
-    (fits_made C (0 + i + 1) change (take i cs) (all_over C h legal i change there)))
+    subst (λ (x : Delta). (x.number ≡ i + 1) × FitsRow (get (rows_at (deltas_after C h) i) x.key) x) same (
+      (let number : 0 + i + 1 ≡ i + 1 = omega arith in number),
+      subst (λ (r : Rows). FitsRow (get r (key_of change)) (delta_made C (0 + i + 1) change (after_from C 0 empty (take i cs)))) (sym rows)
+          (fits_made C (0 + i + 1) change (take i cs) (all_over C h legal i change there)),
+    )
 
 -- ---- a view was built for one specification
 same_spec : (spec other : ViewSpec) → ◌≡◌ {A = Request} (Build spec) (Build other) → spec ≡ other
@@ -206,9 +207,9 @@ none_again C h receipts legal a i receipt at (number, claims, (j, other, found, 
 pub audits_blame_none : AuditsBlameNone
 audits_blame_none C h receipts legal a fault = (
   λ first. (let within = slice_get_within (deltas_after C h) (fault.index - 1) first.line first.at in
-  sound_clean (deltas_after C h) (length (deltas_after C h)) (deltas_sound C h legal) (fault.index - 1) first.line fault.rule within first.at first.smallest.0),
+      sound_clean (deltas_after C h) (length (deltas_after C h)) (deltas_sound C h legal) (fault.index - 1) first.line fault.rule within first.at first.smallest.0),
   λ first. sound_unbroken C (deltas_after C h) (take (fault.index - 1) receipts) first.1.line fault.rule
-  (given_sound C h legal first.1.line (a.numbers (fault.index - 1)) (a.given (fault.index - 1) first.1.line first.1.at))
-  (none_again C h receipts legal a (fault.index - 1) first.1.line first.1.at)
-  first.1.smallest.0,
+      (given_sound C h legal first.1.line (a.numbers (fault.index - 1)) (a.given (fault.index - 1) first.1.line first.1.at))
+      (none_again C h receipts legal a (fault.index - 1) first.1.line first.1.at)
+      first.1.smallest.0,
 )

@@ -1,5 +1,5 @@
 -- Two finished calls that name one commit are one: each commit was made by a step of one call.
-use Rattle.std.proofs.Common.{◌≡◌, ◌≤◌, ℕ, ◌==◌, ◌+◌, Bool, List, [], ◌∷◌, ◌++◌, length, Option, Some, None, ◌∙◌, ap, sym, subst, refl, inl, inr, ◌⊎◌, arith, append_assoc, length-append}
+use Rattle.std.proofs.Common.{◌≡◌, ◌≤◌, ℕ, ◌==◌, ◌+◌, Bool, List, [], ◌∷◌, ◌++◌, length, Option, Some, None, ◌∙◌, ap, sym, subst, refl, inl, inr, ◌⊎◌, arith, length-append}
 use Rattle.std.specs.Prelude.{if◌then◌else◌}
 use Rattle.std.proofs.lemmas.Bool.Decides.{eqb_tells}
 use Rattle.mt_types.specs.declared.numbers.CallNo.{CallNo}
@@ -9,7 +9,7 @@ use Rattle.mt_types.specs.declared.event.Event.TheVariants.{Begin, Step, Apply, 
 use Rattle.mt_types.specs.declared.event.Outcome.{Outcome}
 use Rattle.mt_types.specs.declared.event.Outcome.TheVariants.{Call, Moved, Again, Commit, Done, Applied, Dropped, Epoch, Refused}
 use Rattle.mt_types.specs.declared.event.Request.{Request}
-use Rattle.mt_types.specs.declared.event.Request.TheVariants.{Get, Put, PutIf, Remove, Range, Tidy, Build}
+use Rattle.mt_types.specs.declared.event.Request.TheVariants.{Put, PutIf, Remove}
 use Rattle.mt_types.specs.declared.event.Answer.{Answer}
 use Rattle.mt_types.specs.declared.event.Answer.TheVariants.{Absent, Found, Stored, Removed, Rows as RowsAnswer, Tidied, Built}
 use Rattle.mt_types.specs.declared.event.Reply.{Reply}
@@ -127,9 +127,9 @@ replaced calls new k y e =
     let r = found_before_map (λ (c : OpenCall). c.number) (λ (c : OpenCall). if c.number == new.number then new else c) (replaced_number new) k calls y e in
     elim (eqb_tells r.0.number new.number) [
       | inl p ↦ inl (
-          r.2 ∙ ap (λ (b : Bool). if b then new else r.0) p.0,
-          sym p.1 ∙ found (λ (c : OpenCall). c.number) k calls r.0 r.1,
-        )
+        r.2 ∙ ap (λ (b : Bool). if b then new else r.0) p.0,
+        sym p.1 ∙ found (λ (c : OpenCall). c.number) k calls r.0 r.1,
+      )
       | inr p ↦ let is : y ≡ r.0 = r.2 ∙ ap (λ (b : Bool). if b then new else r.0) p.0 in inr (r.1 ∙ ap Some (sym is))
     ]
 

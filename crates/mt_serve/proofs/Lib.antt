@@ -7,3 +7,4 @@ mod StageLemmas
 mod CallLemmas
 mod RangeOnce
 mod AmpleLemmas
+mod NewestLemmas

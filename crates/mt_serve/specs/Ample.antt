@@ -1,6 +1,6 @@
 -- WHAT A STORE ANSWERS THAT IS SHORT OF NOTHING: a function of the changes so far, the views and the query (but for the
 -- rule that a tidy names).
-use Rattle.std.specs.Prelude.{ℕ, ◌+◌, ◌≡◌, ◌<◌, ◌⊎◌, ◌==◌, nat_lt, MatchBool, MatchOption, List, length, Option, Some, None}
+use Rattle.std.specs.Prelude.{ℕ, ◌+◌, ◌≡◌, ◌<◌, ◌⊎◌, ◌==◌, nat_lt, MatchBool, MatchOption, List, map, length, Option, Some, None}
 use Rattle.std.specs.FinMap.{get}
 use Rattle.mt_types.specs.Rows.{shown, version_of}
 use Rattle.mt_types.specs.Limits.{page_fault}
@@ -20,8 +20,9 @@ use Rattle.mt_wire.specs.declared.response.Response.{Response}
 use Rattle.mt_wire.specs.declared.response.Response.TheVariants.{Refused, Done, View, Dropped}
 use Rattle.mt_wire.specs.declared.response.End.{End}
 use Rattle.mt_wire.specs.declared.response.End.TheVariants.{Absent, Found, Committed, Rows as RowsEnd, Tidied, Built}
-use Rattle.mt_serve.specs.Store.{Store, now}
-use Rattle.mt_serve.specs.Plain.{PlainlyAnswers, NoneBehind}
+use Rattle.mt_shared.specs.Turns.{furthest}
+use Rattle.mt_serve.specs.Store.{Store, now, Leads}
+use Rattle.mt_serve.specs.Plain.{PlainlyAnswers, NoneBehind, RanOut}
 
 -- nothing was changed, or one change was made
 abbrev pub read_so : Moment → End → Response
@@ -79,6 +80,18 @@ abbrev pub AmpleAnswersAreTheirs : Type 0
 AmpleAnswersAreTheirs =
     (s t : Store) (query : Query) (response : Response) → 0 < s.machine.log.feed → NoneBehind 0 s
     → PlainlyAnswers s query response t → IsAmple response → IsAnswer s.machine.columns (now s) query response
+
+-- the last events that led to this store were turns by which views are taken on, the last of which ran out of memory
+abbrev pub RanOutBefore : Store → Type 0
+RanOutBefore t = (m : Store) × (turns : List Outcome)
+    × Leads m (map (λ (outcome : Outcome). furthest) turns) turns t × RanOut turns
+
+-- After each query the views are at the newest change again, unless memory was refused while one was taken on: only then
+-- can a log become full.
+abbrev pub ViewsStayNewest : Type 0
+ViewsStayNewest =
+    (s t : Store) (query : Query) (response : Response) → NoneBehind 0 s → PlainlyAnswers s query response t
+    → NoneBehind 0 t ⊎ RanOutBefore t
 
 -- two answers to one query are the same, but for the rule that a tidy names
 abbrev pub IsSame : Response → Response → Type 0

@@ -1,7 +1,7 @@
 //! What a session on an index of one caller answers, as laws: what a plain store does. Their bodies do nothing.
 
 ghost use Rattle.mt_serve.specs.Plain.{FreshIsAlone, AloneAnswersPlainly, AloneAnswersFramesPlainly, AloneServesPlainly, AloneBreaksPlainly};
-ghost use Rattle.mt_serve.specs.Ample.{AmpleAnswersAreTheirs, AnswersAreOne};
+ghost use Rattle.mt_serve.specs.Ample.{AmpleAnswersAreTheirs, ViewsStayNewest, AnswersAreOne};
 
 /// Of an index of one caller (a `Lone` and its pass), on which every call has ended, and while its events can be counted
 /// (fewer than 18,446,744,073,709,551,615): whatever `answer` and `session` did is what a plain store does. A get gives
@@ -20,8 +20,10 @@ pub fn sessions_alone_are_plain()
 
 /// A store that is not short of memory, of nodes or of numbers, whose views are at its newest change, answers by a
 /// function of the changes so far, its views and the query: `IsAnswer` is its graph, and can be read aloud. There is one
-/// answer, except that the rule is open that a tidy names. A log that no view holds back is never full.
+/// answer, except that the rule is open that a tidy names. Views stay at the newest change, unless memory was refused
+/// while one was taken on; a log that no view holds back is never full.
 pub fn ample_answers_are_one()
     ensures theirs { AmpleAnswersAreTheirs }
+    ensures newest { ViewsStayNewest }
     ensures one { AnswersAreOne }
 {}
