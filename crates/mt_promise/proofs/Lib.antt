@@ -8,6 +8,7 @@ pub mod KeepLemmas
 pub mod LimitedLemmas
 pub mod NumberedLemmas
 pub mod OnceLemmas
+pub mod CommitLemmas
 pub mod PageExamples
 pub mod PageLemmas
 pub mod RangeLemmas

@@ -239,7 +239,7 @@ knows_moved m call new from committed request knows = (
 )
 
 -- what a commit may be
-commit_next : (C : ℕ) (past : History) (call : OpenCall) (request : Request) (number note : ℕ) → MayStep C past (record call { request = request }) (Commit number) note
+pub commit_next : (C : ℕ) (past : History) (call : OpenCall) (request : Request) (number note : ℕ) → MayStep C past (record call { request = request }) (Commit number) note
     → (number ≡ length (moment past).commits + 1) × ((change : Change) × (change_of request ≡ change ∷ []))
 commit_next C past call (Put key sets) number note may = (may.0, (PutChange key sets, refl))
 commit_next C past call (PutIf key sets version) number note may = (may.0, (PutChange key sets, refl))
@@ -256,7 +256,7 @@ none_added (x ∷ commits) = ap (λ (l : List Change). x ∷ l) (none_added comm
 abbrev AllKnow : Moment → Type 0
 AllKnow m = (n : ℕ) (call : OpenCall) → call_of n m.calls ≡ Some call → Knows m.commits call
 
-replaced_number : (new call : OpenCall) → (if call.number == new.number then new else call).number ≡ call.number
+pub replaced_number : (new call : OpenCall) → (if call.number == new.number then new else call).number ≡ call.number
 replaced_number new call = elim (eqb_tells call.number new.number) [ inl p ↦ rw p.0 (sym p.1) | inr p ↦ rw p.0 ]
 
 -- after one call was replaced

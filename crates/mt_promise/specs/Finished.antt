@@ -1,10 +1,11 @@
 -- What each legal history says of a call that has finished: it began once and ended once; its reply carries its pass, its
---     number and how many commits there were when it began and when it ended; the change that it made is its own, and
---     was made in between; the view that a build gives is its own.
-use Rattle.std.specs.Prelude.{ℕ, ◌+◌, ◌≡◌, ◌<◌, ◌≤◌, ◌⊎◌, slice_get, length, Some}
+--     number and how many commits there were when it began and when it ended; the change that it made was made in
+--     between; the commit that it names is its own, and so is the view that a build gives.
+use Rattle.std.specs.Prelude.{ℕ, ◌+◌, ◌≡◌, ◌<◌, ◌≤◌, ◌⊎◌, slice_get, length, Option, Some, None}
 use Rattle.mt_types.specs.declared.numbers.ViewNo.{ViewNo}
 use Rattle.mt_types.specs.declared.row.Change.{Change}
 use Rattle.mt_types.specs.declared.row.Change.TheVariants.{Put as PutChange, Drop}
+use Rattle.mt_types.specs.declared.event.Answer.{Answer}
 use Rattle.mt_types.specs.declared.event.Answer.TheVariants.{Absent, Stored, Removed, Built}
 use Rattle.mt_types.specs.declared.event.Reply.{Reply}
 use Rattle.mt_types.specs.declared.event.Request.{Request}
@@ -64,3 +65,18 @@ ViewsAreBuiltOnce =
     (view : ViewNo) → Legal C h
     → (f : IsFinished h request reply before past) → (g : IsFinished h other again early late)
     → reply.answer ≡ Built view → again.answer ≡ Built view → (past ≡ late) × (reply ≡ again)
+
+-- the commit that an answer names
+abbrev pub commit_named : Answer → Option ℕ
+commit_named (Stored number) = Some number
+commit_named (Removed number) = Some number
+commit_named _ = None
+
+-- two calls that named one commit are one call
+abbrev pub CommitsAreNamedOnce : Type 0
+CommitsAreNamedOnce =
+    (C : ℕ) (h : History) (request other : Request) (reply again : Reply) (before early past late : History)
+    (number : ℕ) → Legal C h
+    → IsFinished h request reply before past → IsFinished h other again early late
+    → commit_named reply.answer ≡ Some number → commit_named again.answer ≡ Some number
+    → (before ≡ early) × (past ≡ late) × (request ≡ other) × (reply ≡ again)

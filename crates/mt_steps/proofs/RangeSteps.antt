@@ -109,7 +109,7 @@ module _ (a : ArenaView) (range : Range) (fits : first_slice range.scan.at < 2 ^
 
   pub range_reads : (log : LogView) (p : Progress) (new : Range) → RangeReads a range p new → Law log p new
   range_reads log p new reads = elim reads.does [
-    | inl refused ↦ subst (λ (x : Progress). Law log x new) (sym refused) (range_fails a range new log)
+    | inl refused ↦ subst (λ (x : Progress). Law log x new) (sym refused.0) (range_fails a range new log)
     | inr done ↦ does log p new (list_reading range.listing slice reads.part) (range_leads reads.part reads.lent) done
   ]
 

@@ -1,9 +1,13 @@
--- Why a call waits, and why a get or range is refused: what a history doesn't show.
+-- Why a call waits, and why a get, range or build is refused: what a history doesn't show.
 use Rattle.std.specs.Prelude.{ℕ, ◌≡◌, IsSome, IsSomeAnd, true}
 use Rattle.mt_types.specs.declared.refusal.Refusal.TheVariants.{NoMemory}
 use Rattle.mt_arena.specs.Node.{node_at, border_at}
 use Rattle.mt_arena.specs.Arena.{ArenaView}
 use Rattle.mt_tree.specs.Descent.{is_marked}
+use Rattle.mt_steps.specs.declared.finding.Finding.{Finding}
+use Rattle.mt_steps.specs.declared.finding.Finding.TheVariants.{AtValue}
+use Rattle.mt_steps.specs.declared.listing.Listing.{Listing}
+use Rattle.mt_steps.specs.declared.listing.Listing.TheVariants.{Reads as ReadsKey, AtValue as ReadsValue}
 use Rattle.mt_steps.specs.declared.progress.Progress.{Progress}
 use Rattle.mt_steps.specs.declared.progress.Progress.TheVariants.{Waits, Refused}
 
@@ -15,12 +19,26 @@ IsMarkedAt a number = IsSomeAnd (node_at a.nodes number) (λ node. is_marked nod
 abbrev pub IsLockedAlready : ArenaView → ℕ → Type 0
 IsLockedAlready a number = IsSomeAnd (border_at a.nodes number) (λ b. b.version.locked ≡ true)
 
--- a get or range waits only where the node that it visits is marked deleted: never at a lock
+-- a get or range that visits nodes whole waits only if the node is marked deleted: never at a lock
 abbrev pub ReadWaits : ArenaView → ℕ → Progress → Type 0
 ReadWaits a number Waits = IsMarkedAt a number
 ReadWaits a number _ = Unit {0}
 
--- a get or range is refused only for want of memory, and only at a border: a visit of a head or an interior takes none
+-- a get or range is refused only when it is out of memory, and only at a border: a visit of a head or an interior takes
+-- none
 abbrev pub ReadFails : ArenaView → ℕ → Progress → Type 0
 ReadFails a number (Refused refusal) = (refusal ≡ NoMemory) × IsSome (border_at a.nodes number)
 ReadFails a number _ = Unit {0}
+
+-- Among the fields of a border, a get takes memory for a value alone: for the row that it answers. The version, the right
+-- link, the order and the keys take none.
+abbrev pub TakesMemory : Finding → Type 0
+TakesMemory (AtValue glance place kind) = Unit {0}
+TakesMemory _ = ⊥
+
+-- A range or build takes memory for a key and for a value, since it keeps what it reads of a slot. The version, the right
+-- link and the order take none.
+abbrev pub KeepsSlot : Listing → Type 0
+KeepsSlot (ReadsKey notes) = Unit {0}
+KeepsSlot (ReadsValue notes slice key) = Unit {0}
+KeepsSlot _ = ⊥

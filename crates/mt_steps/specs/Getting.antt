@@ -46,6 +46,7 @@ use Rattle.mt_steps.specs.declared.progress.Progress.{Progress}
 use Rattle.mt_steps.specs.declared.progress.Progress.TheVariants.{Moved, Waits, Answered, Refused}
 use Rattle.mt_steps.specs.Finding.{counters_of, is_flagged, at_version, at_right, at_order, at_key, at_value}
 use Rattle.mt_steps.specs.declared.way.Went.TheVariants.{To as WentTo, Here as WentHere}
+use Rattle.mt_steps.specs.Causes.{TakesMemory}
 use Rattle.mt_steps.specs.World.{World, IsWorld}
 use Rattle.mt_steps.specs.Standing.{Lends, StandsAt, Still, IsBounded}
 use Rattle.mt_steps.specs.Way.{IsLayerOf, IsOnWay, IsAtPlace, Visits, VisitIs, prefix_of, rest_of, start}
@@ -195,11 +196,13 @@ abbrev pub GetWaits : ArenaView → Get → Progress → Type 0
 GetWaits a get Waits = IsSomeAnd (node_at a.nodes get.way.node.0) (ReadingWaits get.finding)
 GetWaits a get _ = Unit {0}
 
--- A STEP READS ONE FIELD of one border, or visits one head or interior: it is lent that, and does what follows from it
+-- A STEP READS ONE FIELD of one border, or visits one head or interior: it is lent that, and does what follows from it;
+-- or it is out of memory, at a field that takes some
 pub record GetFollows (a : ArenaView) (get : Get) (p : Progress) (new : Get) : Type 0 where
   pub part : Part
   pub lent : Lends a get.way.node.0 (wants get.finding) part
-  pub does : (p ≡ Refused NoMemory) ⊎ ((p ≡ progress_of (reading_of get part)) × (new ≡ get_after get (reading_of get part)))
+  pub does : ((p ≡ Refused NoMemory) × TakesMemory get.finding)
+      ⊎ ((p ≡ progress_of (reading_of get part)) × (new ≡ get_after get (reading_of get part)))
 
 -- ---- whole visits, of a get alone: what is read at the place of a key is right at that moment
 pub record ReadsWhole (a : ArenaView) (key : List ℕ) (way : Way) (asked : List ℕ) (answer : Answer) : Type 0 where

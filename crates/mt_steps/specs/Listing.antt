@@ -1,5 +1,5 @@
 -- What a range or build does after each field of a border that it reads, and what is true of it meanwhile.
-use Rattle.std.specs.Prelude.{ℕ, ◌≡◌, ◌≢◌, ◌≤◌, ◌<◌, ◌+◌, ◌⊎◌, nat_lt, nat_le, Bool, if◌then◌else◌, List, [], ◌∷◌, ◌++◌, length, slice_index, Option, Some, None, Result, IsSome, IsSomeAnd, IfOk, true, false}
+use Rattle.std.specs.Prelude.{ℕ, ◌≡◌, ◌≢◌, ◌≤◌, ◌<◌, ◌+◌, ◌⊎◌, nat_lt, nat_le, Bool, if◌then◌else◌, List, [], ◌∷◌, ◌++◌, length, slice_index, Option, Some, None, Result, IsSome, IsSomeAnd, IfOk, IsErr, true, false}
 use Rattle.std.specs.Option.{option_map}
 use Rattle.mt_types.specs.declared.row.Row.{Row}
 use Rattle.mt_types.specs.declared.refusal.NoMemory.{NoMemory}
@@ -51,6 +51,7 @@ use Rattle.mt_steps.specs.declared.progress.Progress.{Progress}
 use Rattle.mt_steps.specs.declared.progress.Progress.TheVariants.{Waits}
 use Rattle.mt_steps.specs.Finding.{counters_of, is_flagged, same_counters}
 use Rattle.mt_steps.specs.Standing.{Lends, StandsAt, Still, IsBounded}
+use Rattle.mt_steps.specs.Causes.{KeepsSlot}
 use Rattle.mt_steps.specs.World.{World}
 
 -- ---- what it does
@@ -213,11 +214,13 @@ pub record MayRead (a : ArenaView) (number slice : ℕ) (listing : Listing) : Ty
   pub child : (i : InteriorView) → interior_at a.nodes number ≡ Some i → i.version.deleted ≡ false
       → (0 < length i.children) × (i.low ≤ slice)
 
--- it is lent one field of a border, or a head or interior, and does what follows from it
+-- it is lent one field of a border, or a head or interior, and does what follows from it; or it is out of memory, at a
+-- field that takes some
 pub record ReadsField (a : ArenaView) (number slice : ℕ) (listing : Listing) (result : Result ListReading NoMemory) : Type 0 where
   pub part : Part
   pub lent : Lends a number (list_wants listing) part
   pub does : IfOk result (λ reading. reading ≡ list_reading listing slice part)
+  pub takes : IsErr result → KeepsSlot listing
 
 -- ---- why it waits
 -- the node is marked deleted; or the border has a flag set, or has other counters than were noted; or the slot of a key
@@ -240,7 +243,7 @@ abbrev pub WaitsForField : ArenaView → ℕ → Listing → Progress → Type 0
 WaitsForField a number listing Waits = IsSomeAnd (node_at a.nodes number) (ListingWaits listing)
 WaitsForField a number listing _ = Unit {0}
 
--- memory is wanting only at a border
+-- it is out of memory only at a border
 abbrev pub ListFails : ArenaView → ℕ → Type 0
 ListFails a number = IsSome (border_at a.nodes number)
 

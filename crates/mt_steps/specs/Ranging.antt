@@ -35,6 +35,7 @@ use Rattle.mt_steps.specs.declared.listing.ListReading.TheVariants.{Restarts, Re
 use Rattle.mt_steps.specs.declared.ranging.Range.{Range}
 use Rattle.mt_steps.specs.declared.ranging.Sought.{Sought}
 use Rattle.mt_steps.specs.declared.ranging.Sought.TheVariants.{Again, To, Here}
+use Rattle.mt_steps.specs.Causes.{KeepsSlot}
 use Rattle.mt_steps.specs.Way.{start, Names}
 use Rattle.mt_steps.specs.Step.{MayStep, nothing}
 use Rattle.mt_steps.specs.Standing.{Lends}
@@ -187,11 +188,12 @@ ListHasKeys prefix _ = Unit {0}
 abbrev pub unread : Range → Range
 unread range = record range { listing = Begins }
 
--- A STEP READS ONE FIELD of one border, or visits one head or interior: it is lent that, and does what follows from it
+-- A STEP READS ONE FIELD of one border, or visits one head or interior: it is lent that, and does what follows from it;
+-- or it is out of memory, at a field that takes some
 pub record RangeReads (a : ArenaView) (range : Range) (p : Progress) (new : Range) : Type 0 where
   pub part : Part
   pub lent : Lends a range.node.0 (list_wants range.listing) part
-  pub does : (p ≡ Refused NoMemory)
+  pub does : ((p ≡ Refused NoMemory) × KeepsSlot range.listing)
       ⊎ RangeDoes (unread range) (list_reading range.listing (first_slice range.scan.at) part) p new
 
 -- it waits for what it has read of the border

@@ -1,6 +1,7 @@
 //! A get at a border, one field a step: what it has read, and what each field that it is lent leads to.
 
-ghost use Rattle.std.specs.Prelude.{◌≡◌, ◌<◌, length, IfOk};
+ghost use Rattle.std.specs.Prelude.{◌≡◌, ◌<◌, length, IfOk, IsErr};
+ghost use Rattle.mt_steps.specs.Causes.{TakesMemory};
 ghost use Rattle.mt_steps.specs.declared.finding.Finding.TheVariants.{Reads};
 ghost use Rattle.mt_steps.specs.Finding.{counters_of, is_flagged, settles, looked, bounded, ordered, next_key, key_found, is_before, key_read, value_read, settled, WantsVersion, WantsRight, WantsOrder, WantsKey, WantsValue, at_version, at_right, at_order, at_key, at_value};
 
@@ -288,7 +289,8 @@ pub fn at_value(
     asked: &ColumnNumbers,
 ) -> Result<Reading, NoMemory>
     requires { WantsValue finding }
-    ensures { IfOk result (λ reading. reading ≡ at_value finding part.now asked.now) }
+    ensures reading { IfOk result (λ reading. reading ≡ at_value finding part.now asked.now) }
+    ensures takes { IsErr result → TakesMemory finding }
 {
     match finding {
         Finding::AtValue(glance, _, kind) => value(alloc, asked, glance.counters, kind, part),

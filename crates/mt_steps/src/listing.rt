@@ -6,6 +6,7 @@ ghost use Rattle.mt_border.specs.declared.field.Mark.TheVariants.{Plain};
 ghost use Rattle.mt_arena.specs.Node.{node_at};
 ghost use Rattle.mt_arena.specs.Parts.{IsField};
 ghost use Rattle.mt_tree.specs.Descent.{visit_head, visit_interior};
+ghost use Rattle.mt_steps.specs.Causes.{KeepsSlot};
 ghost use Rattle.mt_steps.specs.declared.listing.Listing.TheVariants.{Reads};
 ghost use Rattle.mt_steps.specs.declared.listing.ListReading.TheVariants.{Restarts};
 ghost use Rattle.mt_steps.specs.Listing.{list_looked, list_bounded, list_next, list_ordered, key_read_of, entry_for, is_before_link, kept_with, one_more, list_key, list_value, list_settled, list_visit, list_wants, IsListing, WantsVersion, WantsRight, WantsOrder, WantsKey, WantsValue, list_at_version, list_at_right, list_at_order, list_at_key, list_at_value, MayRead, ReadsField, ListWaits, ListFails};
@@ -123,20 +124,37 @@ fn order(
     counters: Counters,
     right: Option<RightLink>,
     order: Permutation,
-) -> Result<ListReading, NoMemory>
-    ensures { IfOk result (λ reading. reading ≡ list_ordered counters right order) }
+) -> ListReading
+    ensures { result ≡ list_ordered counters right order }
 {
-    let entries = Items::from_vec(Vec::with_capacity(alloc, order.len())?);
     let glance = Glance {
         counters,
         right,
         order,
     };
-    Ok(next(Notes {
+    next(Notes {
+        glance,
+        entries: Items::new(alloc),
+        place: 0,
+    })
+}
+
+// Room for what the slots from the next place on hold: so it is made once, at the first key.
+fn with_room(notes: Notes) -> Result<Notes, NoMemory>
+    ensures { IfOk result (λ roomy. roomy ≡ notes) }
+{
+    let Notes {
         glance,
         entries,
-        place: 0,
-    }))
+        place,
+    } = notes;
+    let mut entries = entries.into_vec();
+    entries.reserve(glance.order.len().saturating_sub(place))?;
+    Ok(Notes {
+        glance,
+        entries: Items::from_vec(entries),
+        place,
+    })
 }
 
 // What a slot's key is, beside its slice.
@@ -310,10 +328,10 @@ fn at_right(listing: Listing, right: Option<RightLink>, slice: u64) -> ListReadi
     }
 }
 
-// Where the order was. Takes room for what its slots hold.
-fn at_order(alloc: Global, listing: Listing, ordered: Permutation) -> Result<ListReading, NoMemory>
+// Where the order was. Takes no memory.
+fn at_order(alloc: Global, listing: Listing, ordered: Permutation) -> ListReading
     requires { WantsOrder listing }
-    ensures { IfOk result (λ reading. reading ≡ list_at_order listing ordered) }
+    ensures { result ≡ list_at_order listing ordered }
 {
     match listing {
         Listing::Bounded(counters, right) => order(alloc, counters, right, ordered),
@@ -321,14 +339,17 @@ fn at_order(alloc: Global, listing: Listing, ordered: Permutation) -> Result<Lis
     }
 }
 
-// Where the key of a slot was. Costs a copy of what follows its slice.
+// Where the key of a slot was. Costs a copy of what follows its slice, and at the first key the room for what the slots
+// hold.
 fn at_key(alloc: Global, listing: Listing, part: &KeyPart<'_>) -> Result<ListReading, NoMemory>
     requires wants { WantsKey listing }
     requires whole { part.now.mark ≡ Plain → part.now.class ≡ LongClass → 0 < length part.now.suffix.now }
-    ensures { IfOk result (λ reading. reading ≡ list_at_key listing part.now) }
+    ensures reading { IfOk result (λ reading. reading ≡ list_at_key listing part.now) }
+    ensures takes { IsErr result → KeepsSlot listing }
 {
     match listing {
         Listing::Reads(notes) => {
+            let notes = with_room(notes)?;
             let key = key_read(alloc, part)?;
             Ok(ListReading::GoesOn(Listing::AtValue(notes, part.slice, key)))
         }
@@ -339,7 +360,8 @@ fn at_key(alloc: Global, listing: Listing, part: &KeyPart<'_>) -> Result<ListRea
 // Where the value of a slot was. Costs a copy of the row, which shares the bytes of its columns.
 fn at_value(alloc: Global, listing: Listing, part: &ValuePart<'_>) -> Result<ListReading, NoMemory>
     requires { WantsValue listing }
-    ensures { IfOk result (λ reading. reading ≡ list_at_value listing part.now) }
+    ensures reading { IfOk result (λ reading. reading ≡ list_at_value listing part.now) }
+    ensures takes { IsErr result → KeepsSlot listing }
 {
     match listing {
         Listing::AtValue(notes, slice, key) => value(alloc, notes, slice, key, part),
@@ -364,8 +386,9 @@ impl Listing {
     }
 
     /// Reads the next field of the border under a number, or visits the head or interior node there, on the way to a
-    /// slice of its layer: it is lent that alone, and this is what follows. Costs, of an order, the room for what its
-    /// slots hold; of a key, a copy of what follows its slice; of a row, a copy that shares the bytes of its columns.
+    /// slice of its layer: it is lent that alone, and this is what follows. Costs, of a key, a copy of what follows its
+    /// slice, and of the first key also the room for what the slots hold; of a row, a copy that shares the bytes of its
+    /// columns. The version, the right link and the order take no memory.
     ///
     /// # Errors
     ///
@@ -389,7 +412,7 @@ impl Listing {
             Part::Interior(interior) => Ok(at_interior(interior, slice)),
             Part::Version(version) => Ok(at_version(self, version)),
             Part::Right(right) => Ok(at_right(self, right, slice)),
-            Part::Order(order) => at_order(alloc, self, order),
+            Part::Order(order) => Ok(at_order(alloc, self, order)),
             Part::Key(key) => at_key(alloc, self, &key),
             Part::Value(value) => at_value(alloc, self, &value),
         }

@@ -105,7 +105,7 @@ module _ (a : ArenaView) (log : LogView) (old : Building) (scanning : old.upto �
 
   pub build_reads : (p : Progress) (new : Building) → BuildReads a log old p new → Law p new
   build_reads p new reads = elim reads.does [
-    | inl refused ↦ subst (λ (x : Progress). Law x new) (sym refused) (build_fails a log old new)
+    | inl refused ↦ subst (λ (x : Progress). Law x new) (sym refused.0) (build_fails a log old new)
     | inr done ↦ does p new (list_reading old.listing slice reads.part) (build_leads reads.part reads.lent) done
   ]
 
@@ -132,7 +132,7 @@ module _ (a : ArenaView) (log : LogView) (old : Building) (scanning : old.upto �
 
   pub build_says : (p : Progress) (new : Building) → BuildReads a log old p new → BuildsOn a log old p new
   build_says p new reads = elim reads.does [
-    | inl refused ↦ subst (λ (x : Progress). BuildsOn a log old x new) (sym refused) tt
+    | inl refused ↦ subst (λ (x : Progress). BuildsOn a log old x new) (sym refused.0) tt
     | inr done ↦ says p new (list_reading old.listing slice reads.part) (build_leads reads.part reads.lent) done
   ]
 

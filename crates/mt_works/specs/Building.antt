@@ -31,7 +31,7 @@ use Rattle.mt_steps.specs.Standing.{Lends}
 use Rattle.mt_steps.specs.Listing.{list_wants, list_reading, ListingIsTrue, WaitsForField}
 use Rattle.mt_steps.specs.Way.{start, Names}
 use Rattle.mt_steps.specs.Ranging.{ScanGoes, IsThen}
-use Rattle.mt_steps.specs.Causes.{ReadWaits, ReadFails}
+use Rattle.mt_steps.specs.Causes.{ReadWaits, ReadFails, KeepsSlot}
 use Rattle.mt_steps.specs.Step.{StepLaw, MayStep, nothing}
 use Rattle.mt_works.specs.declared.building.Building.{Building}
 
@@ -163,11 +163,11 @@ abbrev pub unread : Building → Building
 unread building = record building { listing = Begins }
 
 -- WHILE IT SCANS, A STEP READS ONE FIELD of one border, or visits one head or interior: it is lent that, and does what
--- follows from it
+-- follows from it; or it is out of memory, at a field that takes some
 pub record BuildReads (a : ArenaView) (log : LogView) (old : Building) (p : Progress) (new : Building) : Type 0 where
   pub part : Part
   pub lent : Lends a old.node.0 (list_wants old.listing) part
-  pub does : (p ≡ Refused NoMemory)
+  pub does : ((p ≡ Refused NoMemory) × KeepsSlot old.listing)
       ⊎ BuildDoes log (unread old) (list_reading old.listing (first_slice old.build.at) part) p new
 
 -- then it takes a delta

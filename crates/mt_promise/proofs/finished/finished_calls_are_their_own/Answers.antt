@@ -1,5 +1,6 @@
 use Rattle.mt_promise.proofs.finished.finished_calls_are_their_own.Goals as goal
 use Rattle.mt_promise.proofs.OnceLemmas.{carries, have_made, calls_finish_once, views_are_built_once}
+use Rattle.mt_promise.proofs.CommitLemmas.{commits_are_named_once}
 
 pub returns-clause-carries : goal.returns-clause-carries
 returns-clause-carries c = carries
@@ -12,3 +13,6 @@ returns-clause-once c = calls_finish_once
 
 pub returns-clause-views : goal.returns-clause-views
 returns-clause-views c = views_are_built_once
+
+pub returns-clause-commits : goal.returns-clause-commits
+returns-clause-commits c = commits_are_named_once

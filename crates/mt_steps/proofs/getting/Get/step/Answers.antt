@@ -58,7 +58,7 @@ returns-in-Key-clause-gets_on c = follows c.args.tree.now c.args.self.now c.part
 
 pub returns-in-Ok-clause-steps : goal.returns-in-Ok-clause-steps
 returns-in-Ok-clause-steps c = step_law c.args.tree.now c.args.self.now c.part.result c.wants-field.result c.wants-field.ensures.value c.part.ensures.value c.part.ensures.sound c.part.ensures.arena
-    c.replace-finding.new.dest c.in-Ok.reading (c.in-Ok.ensures ∙ (ap (λ (f : Finding). at_value f c.in-Value.value c.args.self.now.columns) c.replace-finding.ensures.value ∙ sym (ap (reading_of c.args.self.now) c.in-Value.is)))
+    c.replace-finding.new.dest c.in-Ok.reading (c.in-Ok.ensures.reading ∙ (ap (λ (f : Finding). at_value f c.in-Value.value c.args.self.now.columns) c.replace-finding.ensures.value ∙ sym (ap (reading_of c.args.self.now) c.in-Value.is)))
     c.follow-in-Ok.result c.follow-in-Ok.ensures.progress c.follow-in-Ok.new.self c.follow-in-Ok.ensures.after c.follow-in-Ok.ensures.bytes
 
 pub returns-in-Err-clause-steps : goal.returns-in-Err-clause-steps
