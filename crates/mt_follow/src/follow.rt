@@ -1,4 +1,4 @@
-//! The loop that feeds a publisher from an index, one turn of it.
+//! One turn of the loop by which a publisher follows an index.
 
 ghost use Rattle.std.specs.Prelude.{◌≡◌, ◌⊎◌, ◌++◌, Err, IfOk, IfErr, MatchResult};
 ghost use Rattle.mt_shared.specs.Feeds.{FeedsSomewhere};
@@ -26,15 +26,18 @@ fn append_all<R: Wait + Drop>(publisher: &mut Publisher<R>, deltas: &[Delta]) ->
     Ok(())
 }
 
-/// Publishes what the log of an index has of the commits after the number at which the publisher stands, `most` deltas
-/// at most; gives how many they were. The index's lock is held once. Call it again and again, in a thread of its own: a
-/// publisher of which nothing else is asked so follows the index. Where nothing is new, it waits for no reader.
+/// Publishes the deltas of the commits after the publisher's number, at most `most`, from the log of an index, and
+/// returns how many these were. Deltas that were pending are published first. Holds the lock of the index once, for the
+/// feed.
+///
+/// A thread that calls this again and again keeps the published view up to date, if nothing else is asked of the
+/// publisher. If there is nothing new, the call waits for no reader. Costs a feed of these deltas, and their publish.
 ///
 /// # Errors
 ///
-/// `Behind` where the log doesn't hold those commits any more: the publisher can't follow, and another is to be started
-/// from a copy of a view. `BadLimit` where `most` is not 1 to 1000. `NoMemory`: what was appended by then stays pending,
-/// and the next turn publishes it first.
+/// `Behind` if the log no longer has some of these deltas: then the publisher can't follow, and a caller has to start
+/// another from a copy of a view. `BadLimit` unless `most` is from 1 to `MAX_RANGE`. `NoMemory` if an allocation is
+/// refused: then what was appended stays pending, and the next turn publishes it first.
 pub fn follow<W: Wait, R: Wait + Drop>(
     alloc: Global,
     door: &Door<'_, W>,

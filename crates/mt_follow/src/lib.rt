@@ -1,4 +1,5 @@
-//! A publisher that follows an index: what its log has of the commits after those that the publisher took is published.
+//! A publisher that follows an index: it publishes the deltas that the index's log has of the commits after its own
+//! number.
 #![tactic(auto)]
 
 pub mod follow;

@@ -1,4 +1,4 @@
-//! Calls alone: from begin to end while no other call is open, as on a plain map.
+//! Calls alone: from begin to end while no other call is open, with the answers of a plain map.
 
 ghost use Rattle.std.specs.Prelude.{◌≡◌, IfOk, IfErr, MatchOption, Err};
 ghost use Rattle.std.specs.Option.{option_map, option_or};
@@ -30,13 +30,15 @@ use mt_works::work::Pace;
 use std::alloc::Global;
 
 impl Machine {
-    /// The row of a key with some of its columns, or with all where none is named, while no call is open: what a plain
-    /// map has. Begins no call, and changes nothing. Costs the visit of each node on the way to the key, and memory for
-    /// the row alone; shares the bytes.
+    /// Returns the row of `key`, with the columns that are asked for, or with all if none is asked for. `None` if the
+    /// key has no row. No call may be open. The result is that of a plain map. Begins no call, and changes nothing.
+    ///
+    /// Costs the visit of each node on the way to the key. Allocates for the row only, and shares the bytes of its
+    /// columns.
     ///
     /// # Errors
     ///
-    /// `BadColumn` for columns that aren't there or stand twice; `NoMemory` where an allocation is refused.
+    /// `BadColumn` if a column does not exist or is named twice; `NoMemory` if an allocation is refused.
     pub fn get(
         &self,
         alloc: Global,
@@ -65,15 +67,17 @@ impl Machine {
         }
     }
 
-    /// The first pairs from a key on, up to a limit, with some columns of each row, or with all where none is named,
-    /// while no call is open: those of a plain map. Begins no call, and changes nothing. Costs the visit of each border
-    /// that it reads and of the nodes on the way there, and for each pair the memory of its key and row; shares the
-    /// columns' bytes.
+    /// Returns the first rows whose keys are at or after `start`, at most `limit`, in the order of keys, each with the
+    /// columns that are asked for, or with all if none is asked for. No call may be open. The result is that of a plain
+    /// map. Begins no call, and changes nothing.
+    ///
+    /// Costs the visit of each border that it reads, and of the nodes on the way to it. Allocates for the key and the
+    /// row of each pair, and shares the bytes of the columns.
     ///
     /// # Errors
     ///
-    /// `BadColumn` for columns that aren't there or stand twice; `BadLimit` for a limit of 0 or of more than
-    /// `MAX_RANGE`; `NoMemory` where an allocation is refused.
+    /// `BadColumn` if a column does not exist or is named twice; `BadLimit` if `limit` is 0 or more than `MAX_RANGE`;
+    /// `NoMemory` if an allocation is refused.
     pub fn range(
         &self,
         alloc: Global,
@@ -105,19 +109,20 @@ impl Machine {
         Ok(call.run_alone(alloc, &self.tree)?)
     }
 
-    /// Does what is asked for as a call of pass 0, from its begin to its end, while no other call is open: its answer
-    /// is that of a plain map, and a put or remove has made its one commit. It ends: each of its steps brings it nearer.
-    /// What happens is its begin and its steps, each with its cause (`happens`).
+    /// Does what is asked for, as a call of pass 0 from its begin to its end. No other call may be open. The answer is
+    /// that of a plain map, and a put or remove has made its one commit. The call ends, because each of its steps
+    /// brings it nearer to its end. What happens is its begin and its steps, each with its cause (`happens`).
     ///
-    /// A get, put, remove or tidy costs the visit of each node on its way, a get at most as many as `nodes` tells, and
-    /// a put the steps of its splits; a range and a build besides each border that they read. It takes memory for its
-    /// answer and what it stores, a range and a build for what they read, and a get, a range and a build to hold the
-    /// log: what the request has is taken over, and no entry is made in the map of open calls.
+    /// A get, put, remove or tidy costs the visit of each node on its way: a get visits at most as many as `nodes`
+    /// returns, and a put makes the steps of its splits too. A range or build also visits each border that it reads.
+    /// Each border is visited whole, in one step. A call allocates for its answer and for what it stores. A range or
+    /// build also allocates for what it reads, and a get, range or build to hold the log. The request is moved into the
+    /// call, not copied. No entry is made in the map of open calls.
     ///
     /// # Errors
     ///
-    /// Exactly what refuses its begin (a limit that the request breaks, spent numbers, too many views); and else what a
-    /// call may be refused for. Then nothing has come of it.
+    /// If something refuses the begin, exactly that: a limit that the request breaks, `Spent`, or `TooManyViews`.
+    /// Otherwise what a call may be refused for. A refused call has changed no rows, commits or views.
     pub fn do_alone(&mut self, alloc: Global, request: Request) -> Result<Reply, Refusal>
         requires { IsIdle self.old }
         ensures answered { IfOk result (λ reply. AnswersPlainly self.old request reply self.new) }

@@ -1,4 +1,4 @@
-//! The calls that are open, by their numbers.
+//! The open calls, by their numbers.
 
 ghost use Rattle.std.specs.Prelude.{◌≡◌, ◌+◌, ◌-◌, ◌^◌, ◌<◌, ◌++◌, [], ◌∷◌, length, IfOk, OnOk, OnErr, None, Some};
 ghost use Rattle.std.specs.Option.{option_copied};
@@ -20,40 +20,40 @@ use std::marker::Model;
 #[derive(Drop)]
 pub(crate) struct Call {
     pub(crate) pass: PassNo,
-    /// How many commits there were when it began.
+    /// The number of commits when it began.
     pub(crate) from: u64,
     /// The epoch in which it began.
     pub(crate) epoch: u64,
-    /// How much of a border a step of it reads.
+    /// How much of a border each of its steps reads.
     pub(crate) pace: Pace,
     pub(crate) work: Work,
 }
 
-/// A call that was taken one step on.
+/// A call that has made a step.
 #[derive(Drop)]
 pub(crate) struct Stepped {
     pub(crate) pass: PassNo,
     pub(crate) from: u64,
-    /// Whether it holds the log from the commits of its begin on.
+    /// Whether it holds the log from the number of commits at its begin.
     pub(crate) reads: bool,
-    /// Whether it is a build, which keeps a place among the views.
+    /// Whether it is a build, which occupies a place among the views.
     pub(crate) builds: bool,
     pub(crate) progress: Progress,
 }
 
-/// What was found of a call that is to take a step.
+/// What was found under the number of a call that is to make a step.
 #[derive(Drop)]
 pub(crate) enum Found {
-    /// It isn't open.
+    /// No open call has this number.
     Missing,
-    /// It is a build that has taken all, whose view is to be opened. Nothing has changed.
+    /// It is a build that has taken all that it has to take, and its view is to be opened. Nothing has changed.
     Built,
-    /// It was taken one step on.
+    /// It has made a step.
     Stepped(Stepped),
 }
 
-/// The open calls, and how many calls have begun. A call that begins while no other is open stands by itself, before
-/// all others; those that begin beside others stand in a B-tree by their numbers.
+/// The open calls, and how many calls have begun. A call that begins while no other is open is kept in `first`, before
+/// all others. A call that begins while others are open is kept in a B-tree, by its number.
 #[derive(Drop)]
 pub(crate) struct Calls {
     begun: u64,
@@ -82,7 +82,7 @@ impl Model for Calls {
         × (length (with_first c.first.value c.others.entries) ≤ MAX_OPEN_CALLS) };
 }
 
-// Whether this is the call of the number.
+// Whether this is the call of this number.
 fn is_of(call: &Option<(u64, Call)>, number: u64) -> bool
     ensures { result ≡ is_of number call.now }
 {
@@ -93,7 +93,7 @@ fn is_of(call: &Option<(u64, Call)>, number: u64) -> bool
 }
 
 impl Call {
-    // Takes it one step on, in this epoch, the present one, unless it is a build that has taken all.
+    // Makes a step of the call, unless it is a build that has taken all. `epoch` is the present epoch.
     fn step(
         &mut self,
         alloc: Global,
@@ -120,7 +120,8 @@ impl Call {
 }
 
 impl Calls {
-    /// No call has begun. Takes the memory of one call, in which each stands that begins while no other is open.
+    /// Returns the calls of a machine on which none has begun. Allocates the room of one call, which is used for each
+    /// call that begins while no other is open.
     pub(crate) fn new(alloc: Global) -> Result<Calls, NoMemory>
         ensures { IfOk result (λ calls. calls ≡ record { begun = 0; calls = [] }) }
     {
@@ -134,14 +135,14 @@ impl Calls {
         })
     }
 
-    /// How many calls have begun.
+    /// Returns how many calls have begun.
     pub(crate) fn begun(&self) -> u64
         ensures { result ≡ self.now.begun }
     {
         self.begun
     }
 
-    /// How many calls are open.
+    /// Returns how many calls are open.
     pub(crate) fn len(&self) -> usize
         ensures { result ≡ length self.now.calls }
     {
@@ -151,7 +152,7 @@ impl Calls {
         }
     }
 
-    /// The epoch in which the call began that has been open longest, if one is open.
+    /// Returns the epoch in which the oldest open call began, if a call is open.
     pub(crate) fn oldest(&self) -> Option<u64>
         ensures { result ≡ oldest_epoch self.now.calls }
     {
@@ -162,7 +163,7 @@ impl Calls {
         Some(call.epoch)
     }
 
-    // The call of this number, if it is open.
+    // Returns the call of this number, if it is open. O(log n) in the open calls; O(1) for `first`.
     fn call(&self, number: u64) -> Option<&Call>
         ensures { option_copied result ≡ call_at number self.now.calls }
     {
@@ -173,14 +174,19 @@ impl Calls {
         self.others.get(&number)
     }
 
-    /// The pass of the call of this number, if it is open.
+    /// Returns the pass of the call of this number, if it is open. O(log n) in the open calls; O(1) for `first`.
     pub(crate) fn pass_of(&self, number: u64) -> Option<PassNo>
         ensures { result ≡ pass_at number self.now.calls }
     {
         Some(self.call(number)?.pass)
     }
 
-    /// A call begins, and its number is given. Takes memory only where others are open. On an error nothing changes.
+    /// Begins a call, and returns its number. O(log n) in the open calls. Allocates only if others are open. On an
+    /// error nothing changes.
+    ///
+    /// # Errors
+    ///
+    /// `NoMemory` if an allocation is refused.
     pub(crate) fn begin(&mut self, call: Call) -> Result<u64, NoMemory>
         requires unspent { self.old.begun < 2 ^ 64 - 1 }
         requires few { length self.old.calls < MAX_OPEN_CALLS }
@@ -202,8 +208,8 @@ impl Calls {
         Ok(number)
     }
 
-    /// Takes the call of this number one step on, if it is open, in this epoch, the present one; a build that has taken
-    /// all is only told. Finds the call once.
+    /// Makes a step of the call of this number, if it is open. Returns `Built` instead if it is a build that has taken
+    /// all. `epoch` is the present epoch. Finds the call once: O(log n) in the open calls, or O(1) for `first`.
     pub(crate) fn step(
         &mut self,
         alloc: Global,
@@ -229,7 +235,7 @@ impl Calls {
         call.step(alloc, columns, epoch, tree, log)
     }
 
-    /// The call of this number ends, and is given back if it was open.
+    /// Ends the call of this number, and returns it if it was open. O(log n) in the open calls; O(1) for `first`.
     #[inline(never)]
     pub(crate) fn remove(&mut self, number: u64) -> Option<Call>
         ensures value { result ≡ call_at number self.old.calls }
@@ -242,7 +248,7 @@ impl Calls {
         self.others.remove(&number)
     }
 
-    /// The call of this number ends.
+    /// Ends the call of this number, if it is open. O(log n) in the open calls; O(1) for `first`.
     pub(crate) fn end(&mut self, number: u64)
         ensures { self.new ≡ record self.old { calls = without number self.old.calls } }
     {

@@ -1,4 +1,5 @@
-//! The epochs of the machine: the next one begins, and what was retired before each open call began is freed.
+//! The epochs of the machine: how the next one begins, and how the nodes that were retired before each open call began
+//! are freed (Masstree, EuroSys 2012, section 4.6.1).
 
 ghost use Rattle.std.specs.Prelude.{◌≡◌, ◌+◌, MatchOption, Some};
 ghost use Rattle.mt_types.specs.declared.event.Event.TheVariants.{Collect};
@@ -10,8 +11,8 @@ use mt_steps::collecting::collect;
 use mt_types::event::Outcome;
 use mt_types::refusal::Refusal;
 
-// The last epoch before that in which the oldest open call began, or where none is open, the present one. There is none
-// before epoch 0.
+// The last epoch before the one in which the oldest open call began, or the present one if no call is open. `None` if
+// that call began in epoch 0.
 fn last_before(oldest: Option<u64>, now: u64) -> Option<u64>
     ensures { MatchOption result (oldest ≡ Some 0) (λ upto. IsOldest now (upto + 1) oldest) }
 {
@@ -22,7 +23,7 @@ fn last_before(oldest: Option<u64>, now: u64) -> Option<u64>
 }
 
 impl Machine {
-    // The next epoch begins.
+    // Begins the next epoch.
     pub(crate) fn advance(&mut self) -> Outcome
         ensures advances { Advances self.old result self.new }
         ensures bounds { HasBounds self.old.log.feed self.old.log.keep self.new.log }
@@ -34,7 +35,7 @@ impl Machine {
         Outcome::Epoch(next)
     }
 
-    // Frees what was retired before each open call began.
+    // Frees the nodes that were retired before each open call began. O(n) in the nodes that it frees.
     pub(crate) fn collect(&mut self) -> Outcome
         ensures collects { Collects self.old result self.new }
         ensures caused { IsCaused self.old Collect result self.new }

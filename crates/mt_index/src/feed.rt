@@ -1,4 +1,4 @@
-//! The feed: what a reader of the log is given, the deltas of the commits after a number.
+//! The feed: the deltas of the commits after a number, for a reader of the log.
 
 ghost use Rattle.std.specs.Prelude.{◌≡◌, IfOk, IfErr, MatchOption, Err};
 ghost use Rattle.mt_index.specs.Feed.{feed_fault, deltas_after};
@@ -10,7 +10,7 @@ use mt_types::refusal::Refusal;
 use mt_types::row::Delta;
 use std::alloc::Global;
 
-// Why a feed is refused, unless memory is wanting.
+// Why a feed is refused, if it is refused for something else than lack of memory.
 fn feed_fault(log: &Log, from: u64, limit: u16) -> Option<Refusal>
     ensures { result ≡ feed_fault log.now from limit }
 {
@@ -21,7 +21,13 @@ fn feed_fault(log: &Log, from: u64, limit: u16) -> Option<Refusal>
     (from < held_after).then_some(Refusal::Behind(held_after))
 }
 
-/// The deltas that the log has of the commits after a number, `limit` at most.
+/// Returns the deltas of the commits after the first `from`, at most `limit`, in their order. O(n) in these deltas,
+/// with an allocation or two for each; their list grows by doubling.
+///
+/// # Errors
+///
+/// `BadLimit` unless `limit` is from 1 to `MAX_RANGE`; `Behind` if the log lacks the delta after `from` or a later one,
+/// with the number after which it has them; `NoMemory` if an allocation is refused.
 pub(crate) fn deltas_after(
     alloc: Global,
     log: &Log,

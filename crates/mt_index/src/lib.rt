@@ -1,5 +1,5 @@
-//! The index as a machine of atomic steps: calls begin, each goes on by steps of one node or one field, and any number
-//! of them are interleaved in any order.
+//! The index as a machine of atomic steps. Calls begin, and each advances by steps that visit one node or read one
+//! field of a border. The steps of any number of calls are interleaved in any order.
 #![tactic(auto)]
 
 mod alone;

@@ -1,4 +1,4 @@
-//! The machine over the whole tree: events in, outcomes out, one visit of one node, or of one field of it, an event.
+//! The machine over the whole tree: events in, outcomes out. A step of a call is one event.
 
 ghost use Rattle.std.specs.Prelude.{ℕ, ◌≡◌, ◌↔◌, [], ◌∷◌, take, drop, IsTrue, length, IfOk, IfErr, MatchOption, Err};
 ghost use Rattle.std.specs.Option.{option_map};
@@ -72,7 +72,7 @@ impl Model for Machine {
         }) h };
 }
 
-// By hand, so that it is proved here alone, and not again in each crate that drops a machine.
+// Written out so that its proof is made here only, and not again in each crate that drops a machine.
 impl Drop for Machine {
     fn drop(self) {
         let Machine {
@@ -87,12 +87,12 @@ impl Drop for Machine {
 }
 
 impl Machine {
-    /// An empty index: a head and a border without entries.
+    /// Opens an empty index: the tree is a head and a border without entries. A few allocations.
     ///
     /// # Errors
     ///
-    /// `BadColumn` where there are to be no columns or more than 16, `BadLimit` where `feed` or `keep` is out of its
-    /// bounds, and else `NoMemory` for want of it.
+    /// `BadColumn` unless `columns` is from 1 to `MAX_COLUMNS`; `BadLimit` unless `feed` is from 1 to `MAX_FEED` and
+    /// `keep` is at most `MAX_KEEP`; `NoMemory` if an allocation is refused. The first of these that applies.
     pub fn open(alloc: Global, options: Options) -> Result<Machine, Refusal>
         ensures opened { IfOk result
             (λ machine. (machine.columns ≡ options.columns) × HasBounds options.feed options.keep machine.log
@@ -114,7 +114,7 @@ impl Machine {
         })
     }
 
-    /// How many calls are open.
+    /// Returns how many calls are open.
     pub fn open_calls(&self) -> usize
         ensures idle { result ≡ 0 → IsIdle self.now }
         ensures told { (h : History) → Stands self.now h → result ≡ length (moment h).calls }
@@ -122,14 +122,14 @@ impl Machine {
         self.calls.len()
     }
 
-    /// How many columns a row has.
+    /// Returns how many columns a row has.
     pub fn columns(&self) -> u8
         ensures { result ≡ self.now.columns }
     {
         self.columns
     }
 
-    /// How many commits were made.
+    /// Returns how many commits have been made.
     pub fn commits(&self) -> u64
         ensures number { result ≡ newest self.now.log }
         ensures told { (h : History) → Stands self.now h → result ≡ length (moment h).commits }
@@ -137,7 +137,7 @@ impl Machine {
         self.log.number()
     }
 
-    /// The pass of the open call of this number, if it is open. Costs a way down the tree of open calls.
+    /// Returns the pass of the call of this number, if it is open. O(log n) in the open calls.
     pub fn pass_of(&self, call: CallNo) -> Option<PassNo>
         ensures pass { result ≡ pass_at call.0 self.now.calls.calls }
         ensures told { (h : History) → Stands self.now h
@@ -146,23 +146,24 @@ impl Machine {
         self.calls.pass_of(call.0)
     }
 
-    /// How many node numbers are occupied: by the nodes of the tree, by retired ones, and by the spares of open calls.
+    /// Returns how many node numbers are occupied: by the nodes of the tree, by retired nodes, and by the spares of
+    /// open calls.
     pub fn nodes(&self) -> usize
         ensures { result ≡ occupied self.now.tree.nodes }
     {
         MAX_NODES as usize - self.tree.free_numbers()
     }
 
-    /// The deltas of the commits after the first `from`, in their order, `limit` at most: each with its number, its
-    /// key, and the rows that the key had before and has after it. None where there are none.
+    /// Returns the deltas of the commits after the first `from`, at most `limit`, in their order. Each has its number,
+    /// its key, and the rows that the key had before and after it. The list is empty if there are no such commits.
     ///
-    /// Costs an allocation or two for each of them; a list of them grows by doubling.
+    /// O(n) in these deltas, with an allocation or two for each. Their list grows by doubling.
     ///
     /// # Errors
     ///
-    /// `BadLimit` unless `limit` is from 1 to 1000. `Behind` where some of these deltas were trimmed, with the number
-    /// from which on they are there: the log keeps what views and open gets, ranges and builds hold, and the last
-    /// `keep` of its options. Else `NoMemory` for want of it.
+    /// `BadLimit` unless `limit` is from 1 to `MAX_RANGE`. `Behind` if some of these deltas were trimmed, with the
+    /// number after which the log has them: the log keeps what views and open gets, ranges and builds hold, and the
+    /// last `keep` of its options. `NoMemory` if an allocation is refused.
     pub fn feed(&self, alloc: Global, from: u64, limit: u16) -> Result<Vec<Delta>, Refusal>
         ensures tells { IfOk result (λ deltas. (h : History) → Stands self.now h
             → deltas.items ≡ take limit (drop from (deltas_of self.now.columns (moment h).commits))) }
@@ -172,7 +173,7 @@ impl Machine {
         deltas_after(alloc, &self.log, from, limit)
     }
 
-    /// Whether no call is open.
+    /// Returns whether no call is open.
     pub fn is_idle(&self) -> bool
         ensures idle { IsTrue result ↔ IsIdle self.now }
         ensures stands { (h : History) × Stands self.now h }
@@ -180,16 +181,22 @@ impl Machine {
         self.calls.len() == 0
     }
 
-    /// One event, and what came of it. Wherever the machine stands, it then stands where this has happened too, and
-    /// that is legal: `stands` says so of each history. Three clauses tell what a history doesn't show: `does`, what an
-    /// event of each kind changes, and that it changes nothing else; `caused`, why a call waits, fails or is refused,
-    /// and which nodes a collection frees; and `one_step`, that a step of a call is one step of its kind, by the tree
-    /// before it: it visits one node, of which a get, range or build reads one field where it is a border; or it takes
-    /// one delta. What it answers keeps the limits of an index (`limited`).
+    /// Makes one event, and returns its outcome. Whichever history the machine is at, it is then at that history with
+    /// this event and this outcome, and that history is legal (`stands`). Three clauses state what a history doesn't
+    /// show:
     ///
-    /// A begin costs some allocations, and a step the visit of one node and at most some allocations. A step finds its
-    /// call once, and the last one once more: at the cost of a way down the tree of open calls, or of none for a call
-    /// that began while no other was open. A collection is O(n) in the nodes that it frees.
+    /// - `does`: what an event of each kind changes, and that it changes nothing else;
+    /// - `caused`: why a call waits, fails or is refused, and which nodes a collection frees;
+    /// - `one_step`: that a step of a call is one step of its kind, by the tree before it. It visits one node, of which
+    ///   a get, range or build reads one field if it is a border; or it takes one delta of the log.
+    ///
+    /// What the event answers keeps the limits of an index (`limited`).
+    ///
+    /// A begin copies its request and shares the bytes of it, with a few allocations. A step costs the visit of one
+    /// node, or of one field of a border, and at most a few allocations for each entry of the border. It finds its call
+    /// once, and the last step of a call once more: O(log n) in the open calls, or O(1) for a call that began while no
+    /// other was open. A delta costs a build or view O(log n) in the rows of the view. A page of k rows costs O(log n +
+    /// k). A collection is O(n) in the nodes that it frees.
     pub fn event(&mut self, alloc: Global, event: &Event) -> Outcome
         ensures stands { (h : History) → Stands self.old h → (opens : ℕ)
             × Stands self.new (happening event.now result opens ∷ h) }
@@ -217,13 +224,15 @@ impl Machine {
         }
     }
 
-    /// The outcomes of these events, one for each in their order, on an empty index, and the machine that they lead to.
+    /// Opens an empty index and makes these events on it, one after the other. Returns the machine, and the outcomes in
+    /// the order of the events, one for each.
     ///
-    /// Costs what the events cost, and an allocation for the list of outcomes that doubles as it grows.
+    /// Costs what the events cost. The list of outcomes grows by doubling.
     ///
     /// # Errors
     ///
-    /// Those of `Machine::open`, and `NoMemory` where the list of outcomes can't grow.
+    /// Those of `Machine::open`; `NoMemory` if the list of outcomes can't grow. A refused event is an outcome, and no
+    /// error.
     pub fn run(
         alloc: Global,
         options: Options,

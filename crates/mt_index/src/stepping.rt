@@ -1,4 +1,5 @@
-//! How calls begin, go on step by step and end in the machine, and what they hold of the log and of the views meanwhile.
+//! How calls begin, advance step by step and end in the machine, and what they hold of the log and of the views
+//! meanwhile.
 
 ghost use Rattle.std.specs.Prelude.{◌≡◌, ◌<◌, IsTrue, Contains, OnOk, OnErr, length, IfOk, None};
 ghost use Rattle.mt_promise.specs.Legal.{begin_fault, is_build};
@@ -31,7 +32,8 @@ fn is_build(request: &Request) -> bool
     matches!(request, Request::Build { .. })
 }
 
-// Why a call can't begin, where so many have begun, are open, and so many places of views are taken.
+// Why a call with this request can't begin, if something refuses it: `begun` calls have begun, `opened` are open, and
+// `places` places among the views are occupied.
 fn begin_fault(
     columns: u8,
     begun: u64,
@@ -53,7 +55,7 @@ fn begin_fault(
     (is_build(request) && places >= MAX_VIEWS).then_some(Refusal::TooManyViews)
 }
 
-// A call begins, which keeps a place among the views if it is a build.
+// Reserves a place among the views for a call that begins, if it is a build.
 fn occupy(views: &mut Views, builds: bool)
     requires { IsTrue builds → places views.old < MAX_VIEWS }
     ensures { views.new ≡ placed builds views.old }
@@ -63,7 +65,7 @@ fn occupy(views: &mut Views, builds: bool)
     }
 }
 
-// A call has ended, and keeps a place no longer.
+// Releases the place of a call that has ended, if it was a build.
 fn vacate(views: &mut Views, builds: bool)
     requires { IsTrue builds → 0 < views.old.building }
     ensures { views.new ≡ vacated builds views.old }
@@ -73,7 +75,7 @@ fn vacate(views: &mut Views, builds: bool)
     }
 }
 
-// A call begins, which holds the log if it is of a kind that does. On an error nothing changes.
+// Holds the log for a call that begins, if calls of its kind do. On an error nothing changes.
 fn hold(log: &mut Log, reads: bool) -> Result<(), NoMemory>
     requires few { length log.old.holders < MAX_HOLDERS }
     ensures ok { OnOk result (log.new ≡ pinned reads log.old) }
@@ -86,7 +88,8 @@ fn hold(log: &mut Log, reads: bool) -> Result<(), NoMemory>
     log.pin(number)
 }
 
-// A call that began at this number of commits has ended, and holds the log no longer.
+// Releases the log for a call that has ended, if calls of its kind hold it. `from` is the number of commits at its
+// begin.
 fn release(log: &mut Log, reads: bool, from: u64)
     requires { IsTrue reads → Contains log.old.holders from }
     ensures { log.new ≡ released reads from log.old }
@@ -96,7 +99,7 @@ fn release(log: &mut Log, reads: bool, from: u64)
     }
 }
 
-// What a step came to, as an outcome; a call that has ended is open no longer.
+// Returns the outcome of a step. If the call has ended, it is open no longer, and releases the log and its place.
 fn settle(
     calls: &mut Calls,
     log: &mut Log,
@@ -138,7 +141,7 @@ fn settle(
     outcome
 }
 
-// What the end of a build comes to, as an outcome.
+// Returns the outcome of the end of a build.
 fn built_outcome(
     pass: PassNo,
     number: u64,
@@ -161,7 +164,7 @@ fn built_outcome(
 }
 
 impl Machine {
-    // Why no call can begin that asks for this, if something refuses it.
+    // Returns why no call with this request can begin, if something refuses it.
     pub(crate) fn fault_of(&self, request: &Request) -> Option<Refusal>
         ensures { result ≡ fault_of self.now request.now }
     {
@@ -169,7 +172,7 @@ impl Machine {
         begin_fault(self.columns, begun, opened, places, request)
     }
 
-    // A call begins that nothing refuses, and its number is given. On an error nothing changes.
+    // Begins a call that nothing refuses, and returns its number. On an error nothing changes.
     pub(crate) fn admit(
         &mut self,
         alloc: Global,
@@ -201,7 +204,7 @@ impl Machine {
         Ok(CallNo(number))
     }
 
-    // A call begins, unless something refuses it.
+    // Begins a call, unless something refuses it.
     pub(crate) fn begin(&mut self, alloc: Global, pass: PassNo, request: &Request) -> Outcome
         ensures begins { Begins Pace.Field self.old pass request.now result self.new }
         ensures bounds { HasBounds self.old.log.feed self.old.log.keep self.new.log }
@@ -218,7 +221,7 @@ impl Machine {
         }
     }
 
-    // A step of the call of this number, by which it goes on, waits or ends.
+    // Makes a step of the call of this number, by which it advances, waits or ends.
     pub(crate) fn step(&mut self, alloc: Global, number: u64) -> Outcome
         ensures steps { Steps self.old number result self.new }
         ensures bounds { HasBounds self.old.log.feed self.old.log.keep self.new.log }
@@ -247,7 +250,7 @@ impl Machine {
         outcome
     }
 
-    // A build that has taken all ends, and its view is opened where it stands.
+    // Ends a build that has taken all, and opens its view at the number of commits that the build has reached.
     #[inline(never)]
     fn end_build(&mut self, number: u64) -> Outcome
         requires { IsBuiltCall (call_at number self.old.calls.calls) }

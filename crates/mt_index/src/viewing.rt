@@ -1,4 +1,5 @@
-//! Views in the machine: how one is opened, taken on and read, while it holds the log from where it stands.
+//! Views in the machine: how a view is opened, advanced and read, while it holds the log from the number of commits at
+//! which it is.
 
 ghost use Rattle.std.specs.Prelude.{◌≡◌, ◌+◌, ◌<◌, ◌≤◌, ◌⊎◌, length, IfOk, IfErr, IsSome, OnOk, OnErr, MatchOption, Some, Err, true};
 ghost use Rattle.mt_promise.specs.History.{History, moment};
@@ -28,7 +29,8 @@ use mt_view::state::ViewState;
 use mt_views::views::Views;
 use std::alloc::Global;
 
-// Opens a view in the place of a build; it holds the log from where it stands. On an error nothing changes.
+// Opens a view in the place of a build. It holds the log from the number of commits at which it is. On an error nothing
+// changes.
 fn open_view(log: &mut Log, views: &mut Views, state: ViewState) -> Result<u64, Refusal>
     requires place { 0 < views.old.building }
     requires here { log.old.held_after ≤ state.at }
@@ -56,8 +58,13 @@ fn open_view(log: &mut Log, views: &mut Views, state: ViewState) -> Result<u64, 
     }
 }
 
-/// A build that has taken all ends, which began when there were `from` commits: its view is opened, or it is refused.
-/// The build holds the log no longer.
+/// Ends a build that has taken all, and opens its view with this state. `from` is the number of commits at which the
+/// build began: it holds the log from there no longer, also on an error. Returns the number of the view.
+///
+/// # Errors
+///
+/// `Spent` if no number is left for the view; `NoMemory` if an allocation is refused. The place of the build is then
+/// released.
 pub(crate) fn close_build(
     log: &mut Log,
     views: &mut Views,
@@ -93,7 +100,12 @@ pub(crate) fn close_build(
     }
 }
 
-/// Takes a view on by the delta of the next commit; it then holds the log from there. On an error nothing changes.
+/// Advances the view of this number by the delta of the next commit. `at` is the number of commits at which it is. It
+/// then holds the log from the next one. O(log n) in the rows of the view. On an error nothing changes.
+///
+/// # Errors
+///
+/// `NoMemory` if an allocation is refused.
 pub(crate) fn apply_next(
     log: &mut Log,
     views: &mut Views,
@@ -127,7 +139,12 @@ pub(crate) fn apply_next(
     }
 }
 
-/// A page of a view that stands.
+/// Returns a page of the view of this number, which exists: its count, its sums, and its first rows whose keys are at
+/// or after `start`, at most `limit`. O(log n + k) for k rows, with an allocation for each.
+///
+/// # Errors
+///
+/// `NoMemory` if an allocation is refused.
 pub(crate) fn page(
     alloc: Global,
     views: &Views,
@@ -146,12 +163,13 @@ pub(crate) fn page(
 }
 
 impl Machine {
-    /// The number of commits at which a view stands, and a copy of its state: from there on it can be taken on by
-    /// deltas elsewhere. No event happens. O(n log n) in its rows, with an allocation for each. Shares the bytes.
+    /// Returns the number of commits at which a view is, and a copy of its state. From there on a caller can advance
+    /// the copy by deltas. No event happens. O(n log n) in the rows of the view, with an allocation for each. Shares
+    /// the bytes.
     ///
     /// # Errors
     ///
-    /// `NoSuchView` where no such view stands. Else `NoMemory` for want of it.
+    /// `NoSuchView` if no view has this number; `NoMemory` if an allocation is refused.
     pub fn view_copy(&self, alloc: Global, view: ViewNo) -> Result<(u64, ViewState), Refusal>
         ensures copies { IfOk result
             (λ copy. (state_at view.0 self.now.views.views ≡ Some copy.1) × (copy.0 ≡ copy.1.at)) }
@@ -167,7 +185,7 @@ impl Machine {
         Ok((at, state))
     }
 
-    // A view is taken on by the delta of the next commit, where it is behind.
+    // Advances a view by the delta of the next commit, if there is one.
     pub(crate) fn apply(&mut self, view: u64) -> Outcome
         ensures applies { Applies self.old view result self.new }
         ensures bounds { HasBounds self.old.log.feed self.old.log.keep self.new.log }
@@ -191,7 +209,7 @@ impl Machine {
         Outcome::Applied(at + 1)
     }
 
-    // A page of a view, where it stands at the floor or later.
+    // Returns a page of a view, if it is at `floor` commits or more.
     pub(crate) fn view_read(
         &self,
         alloc: Global,
@@ -217,7 +235,7 @@ impl Machine {
         }
     }
 
-    // A view ends, and holds the log no longer.
+    // Ends a view, which then holds the log no longer.
     pub(crate) fn view_drop(&mut self, view: u64) -> Outcome
         ensures drops { Drops self.old view result self.new }
         ensures bounds { HasBounds self.old.log.feed self.old.log.keep self.new.log }

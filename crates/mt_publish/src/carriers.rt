@@ -1,4 +1,4 @@
-//! What a publisher, a reader and a told are.
+//! The types of this crate: what a publisher, a reader and a `Told` hold.
 
 ghost use Rattle.std.specs.Prelude.{◌≡◌, ◌++◌, drop, Some, IsTrue};
 ghost use Rattle.left_right.specs.Sides.{view};
@@ -14,7 +14,8 @@ use left_right::writer::Writer;
 use std::alloc::Global;
 use std::sync::Wait;
 
-/// The one that publishes. Its drop waits for the readers that are reading: so it keeps the handle `R`.
+/// Publishes a view. Its drop waits for the readers that are reading, so it keeps the handle `R`, which is the
+/// permission to wait.
 pub struct Publisher<R: Wait + Drop> {
     pub(crate) alloc: Global,
     pub(crate) writer: Writer<Shown, Step, Known, Published>,
@@ -56,16 +57,16 @@ impl<R: Wait + Drop> Publisher<R> {
     }
 }
 
-/// One that reads.
+/// Reads what the publisher has published.
 #[derive(Drop)]
 pub struct ViewReader {
     pub(crate) reader: Reader<Shown, Known, Published>,
-    /// The longest list that it was told of.
+    /// The longest list that it has learnt of.
     pub(crate) heard: Mark,
     ghost same: { source_in (view reader.place).opening ≡ Some heard.source },
 }
 
-/// What was published at a tell, to be handed to a reader. Eight bytes, which may go to any thread.
+/// What was published when `tell` was called, to be passed to a reader. It has eight bytes, and may go to any thread.
 #[derive(Drop)]
 pub struct Told {
     pub(crate) mark: Mark,

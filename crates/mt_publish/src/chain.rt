@@ -1,4 +1,4 @@
-//! The chain of all deltas that a publisher was given, as the publisher writes it.
+//! The chain of all deltas that were appended to a publisher, as the publisher writes it.
 
 ghost use Rattle.std.specs.Prelude.{◌≡◌, ◌∷◌, ◌++◌, [], IsTrue, IfSome};
 ghost use Rattle.mt_publish.specs.Book.{end_of};
@@ -6,8 +6,8 @@ ghost use Rattle.mt_publish.specs.Book.{end_of};
 use crate::mark::{End, Mark};
 use mt_types::row::Delta;
 
-/// The chain of a publisher. `last` is the mark of all of it, while it is whole. That it stays whole no contract can
-/// know, since nothing says that nobody else has its end; nobody else has.
+/// The chain of a publisher. While it is `whole`, `last` is the mark of all of it. It always stays whole, because
+/// nobody else has its end; but no contract can state that, since nothing says that nobody else has it.
 #[derive(Drop)]
 pub struct Chain {
     end: End,
@@ -17,7 +17,7 @@ pub struct Chain {
 }
 
 impl Chain {
-    /// An empty chain, which no other has to do with.
+    /// Returns a new, empty chain.
     pub(crate) fn start() -> Chain
         ensures { result.last.list ≡ [] }
     {
@@ -29,7 +29,7 @@ impl Chain {
         }
     }
 
-    /// Adds the delta.
+    /// Adds a delta at the end. If the chain is longer than this publisher knows, it is not whole from then on.
     pub(crate) fn add(&mut self, delta: &Delta)
         ensures source { self.new.last.source ≡ self.old.last.source }
         ensures list { IsTrue self.new.whole
@@ -40,7 +40,7 @@ impl Chain {
         }
     }
 
-    /// The mark of all of it, where it is whole.
+    /// Returns the mark of the whole chain, if it is whole.
     pub(crate) fn reached(&self) -> Option<Mark>
         ensures { IfSome result (λ mark. IsTrue self.now.whole × (mark ≡ self.now.last)) }
     {

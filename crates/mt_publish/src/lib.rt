@@ -1,4 +1,5 @@
-//! A view that one thread publishes and others read without waiting.
+//! A view that one thread publishes, and that other threads read without waiting. A function takes O(1) time unless its
+//! documentation says otherwise.
 #![tactic(auto)]
 
 pub mod carriers;

@@ -1,5 +1,5 @@
-//! Marks: beginnings of the chain of deltas that a publisher was given. Of two marks of one chain the shorter begins the
-//! longer, which is how a reader's list is held against one that it was told of.
+//! Marks: a mark is a beginning of the chain of deltas that were appended to a publisher. Of two marks of one chain,
+//! the shorter is a beginning of the longer. So the list of a reader can be compared with one that it has learnt of.
 
 ghost use Rattle.std.specs.Prelude.{◌≡◌, ◌<◌, ◌⊎◌, ◌∷◌, ◌++◌, [], length, IsTrue, MatchBool};
 ghost use Rattle.mt_publish.specs.Marks.{MarkView, StartsWith};
@@ -30,7 +30,7 @@ impl Rule<Delta, u64> for Law {
     ghost moves = { λ _ _ _ _. Unit {0} };
 }
 
-/// Nothing is gained by adding to a chain.
+/// Adding to a chain gains nothing.
 pub struct Nothing;
 
 impl Gain<Delta, u64> for Nothing {
@@ -59,7 +59,7 @@ impl Plain<Delta, Delta, u64> for Add {
 /// The end of a chain, at which deltas are added. Contracts see it as a word of the chain's book.
 pub(crate) type End = Word<Delta, u64, Law>;
 
-/// A beginning of a chain. Of its deltas only their number takes bytes.
+/// A beginning of a chain. At run time it holds only the number of its deltas.
 #[derive(Drop)]
 pub struct Mark {
     count: u64,
@@ -78,7 +78,7 @@ impl Model for Mark {
 }
 
 impl Mark {
-    /// The mark of a new chain, which is empty, and the chain's end.
+    /// Starts a new, empty chain. Returns its mark and its end.
     pub(crate) fn start() -> (Mark, End)
         ensures empty { result.0.list ≡ [] }
         ensures end { result.1 ≡ end_of result.0.source }
@@ -87,7 +87,7 @@ impl Mark {
         (Mark { count: 0, seen }, Word::tracked(0, &mut first))
     }
 
-    /// A copy.
+    /// Returns a copy.
     pub(crate) fn again(&self) -> Mark
         ensures { result ≡ self.now }
     {
@@ -97,7 +97,7 @@ impl Mark {
         }
     }
 
-    /// Whether it has at least as many deltas as the other. Then the other's begin its own.
+    /// Returns whether it has at least as many deltas as `other`. If so, those of `other` are a beginning of its own.
     pub(crate) fn covers(&self, other: &Mark) -> bool
         requires { other.now.source ≡ self.now.source }
         ensures { MatchBool result (StartsWith self.now.list other.now.list)
@@ -108,7 +108,7 @@ impl Mark {
         other.count <= self.count
     }
 
-    /// The longer of two marks of one chain. Both begin it.
+    /// Returns the longer of two marks of one chain. Both are beginnings of it.
     pub(crate) fn longer(&self, other: &Mark) -> Mark
         requires { other.now.source ≡ self.now.source }
         ensures source { result.source ≡ self.now.source }
@@ -122,7 +122,8 @@ impl Mark {
         }
     }
 
-    /// Adds the delta to all that the mark has, and says whether it did. Only where the chain is longer it can't.
+    /// Adds a delta after all that the mark has, and returns whether it did. It fails only if the chain is longer than
+    /// the mark, or has 2^64 - 1 deltas.
     pub(crate) fn add(&mut self, end: &End, delta: &Delta) -> bool
         requires { end.now ≡ end_of self.old.source }
         ensures added { MatchBool result (self.new ≡ record {

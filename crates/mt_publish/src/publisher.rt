@@ -20,7 +20,7 @@ use mt_view::state::ViewState;
 use std::alloc::Global;
 use std::sync::Wait;
 
-// A publisher of this state that knows it.
+// Opens a publisher of this state, which knows that this is what it published first.
 fn open<R: Wait + Drop>(
     alloc: Global,
     rt: R,
@@ -53,7 +53,7 @@ fn open<R: Wait + Drop>(
     })
 }
 
-// Puts the step behind those that are pending.
+// Appends a step to those that are pending.
 fn push(writer: &mut Writer<Shown, Step, Known, Published>, step: Step) -> Result<(), NoMemory>
     ensures desk { writer.new.desk ≡ writer.old.desk }
     ensures pending { MatchResult result
@@ -64,13 +64,14 @@ fn push(writer: &mut Writer<Shown, Step, Known, Published>, step: Step) -> Resul
 }
 
 impl<R: Wait + Drop> Publisher<R> {
-    /// A publisher of this state, which readers see at once, and as many readers. It publishes once, of no deltas: so
-    /// it may wait, though nobody reads yet. O(n log n) in the rows of the state, for a second copy of it.
+    /// Starts a publisher of this state, with `readers` readers, which see the state at once. It publishes once,
+    /// without a delta: so it needs the permission to wait, although nobody reads yet. O(n log n) in the rows of the
+    /// state, for a second copy of it.
     ///
     /// # Errors
     ///
-    /// `BadLimit` unless there are 1 to 255 readers; `NoMemory`; `NoSuchView` where a reader finds no place. The state
-    /// is dropped.
+    /// `BadLimit` unless `readers` is from 1 to `MAX_PASSES`; `NoMemory` if an allocation is refused; `NoSuchView` if
+    /// there is no place for a reader. On an error the state is dropped.
     pub fn start(
         alloc: Global,
         rt: R,
@@ -95,7 +96,7 @@ impl<R: Wait + Drop> Publisher<R> {
         Ok((publisher, handed))
     }
 
-    // A reader that knows the opening state, where nothing is published yet.
+    // Returns a reader that knows the opening state. Nothing may be published yet besides it.
     fn hand_out(&mut self) -> Result<ViewReader, Refusal>
         requires { list_of self.old ≡ [] }
         ensures kept { PublisherKeeps self.old self.new × (pending_of self.new ≡ pending_of self.old) }
@@ -114,7 +115,12 @@ impl<R: Wait + Drop> Publisher<R> {
         })
     }
 
-    /// Copies the delta behind those that are pending. On an error nothing is appended.
+    /// Appends a copy of `delta` to the deltas that are pending. Readers see it after the next [`Publisher::publish`].
+    /// Shares the bytes. O(n) in the columns of the delta.
+    ///
+    /// # Errors
+    ///
+    /// `NoMemory` if an allocation is refused: then nothing is appended.
     #[tactic(auto, using(crate::proofs::Kept::deltas_one))]
     pub fn append(&mut self, delta: &Delta) -> Result<(), Refusal>
         ensures kept { PublisherKeeps self.old self.new }
@@ -127,13 +133,14 @@ impl<R: Wait + Drop> Publisher<R> {
         Ok(())
     }
 
-    /// What is pending becomes visible at once, or nothing changes. Waits for readers that still read what stood before
-    /// the last publish; where nothing is pending, for nobody. O(log n) for each delta that is pending, on each of the
-    /// two copies.
+    /// Publishes all deltas that are pending: they become visible to readers all at once, or nothing changes. Waits for
+    /// the readers that still read what was shown before the last publish. If nothing is pending, it does nothing and
+    /// waits for nobody. O(log n) in the rows of the view for each delta, on each of the two copies of the state.
     ///
     /// # Errors
     ///
-    /// `NoMemory`: nothing has changed, and it may be tried again.
+    /// `NoMemory` if an allocation is refused: then what is published and what is pending stay, and a caller may try
+    /// again.
     pub fn publish(&mut self) -> Result<(), Refusal>
         ensures opening { opening_of self.new ≡ opening_of self.old }
         ensures source { source_of self.new ≡ source_of self.old }
@@ -151,7 +158,7 @@ impl<R: Wait + Drop> Publisher<R> {
         replace_with(self, (), |publisher, ()| publisher.into_publish())
     }
 
-    // Appends the mark of what will then be published.
+    // Appends the mark of what the next publish shows.
     #[tactic(auto, using(crate::proofs::Kept::deltas_mark))]
     fn mark(&mut self) -> Result<(), Refusal>
         ensures kept { PublisherKeeps self.old self.new × (pending_of self.new ≡ pending_of self.old) }
@@ -189,15 +196,15 @@ impl<R: Wait + Drop> Publisher<R> {
         }
     }
 
-    /// The number at which what is published stands: that of the last delta that was published, or that of the state
-    /// that it began with. O(1).
+    /// Returns the number of commits at which the published state is: the number of the last delta that was published,
+    /// or, if none was, that of the opening state.
     pub fn at(&self) -> u64
         ensures { result ≡ number_of self.now }
     {
         self.writer.published().state.at()
     }
 
-    /// Hands on what is published. O(1).
+    /// Returns a `Told` of what is published now. A reader that learns it reads nothing older.
     pub fn tell(&self) -> Told
         ensures { (told_list result ≡ list_of self.now) × (told_source result ≡ source_of self.now) }
     {

@@ -18,7 +18,7 @@ use mt_types::refusal::Refusal;
 use mt_types::view::Page;
 
 impl Told {
-    /// A copy, for one more reader. O(1).
+    /// Returns a copy, for another reader.
     pub fn again(&self) -> Told
         ensures { result ≡ self.now }
     {
@@ -29,7 +29,8 @@ impl Told {
 }
 
 impl ViewReader {
-    /// What is read from now on begins with what was told. O(1); takes no memory, and waits for nobody.
+    /// Learns what was published when `told` was made: each later read shows that or something newer. Allocates
+    /// nothing, and waits for nobody.
     pub fn learn(&mut self, told: Told)
         requires { told_source told ≡ reader_source self.old }
         ensures kept { (reader_opening self.new ≡ reader_opening self.old) × (reader_list self.new ≡ reader_list self.old)
@@ -40,14 +41,16 @@ impl ViewReader {
         self.heard = self.heard.longer(&told.mark);
     }
 
-    /// What the published state shows from a key on: the page of the opening state after the list of deltas that the
-    /// reader then carries, which begins with the one before and with each that it was told of. Waits for nobody, and
-    /// takes no lock. O(log n + k) for a page of k rows, with an allocation for each.
+    /// Reads a page of what is published: its count, its sums, and its first rows whose keys are at or after `start`,
+    /// at most `limit`. The page is that of the opening state after a list of deltas. This list begins with the list of
+    /// the read before, and with each list that the reader has learnt of. Waits for nobody, and takes no lock. O(log n
+    /// + k) for a page of k rows, with an allocation for each.
     ///
     /// # Errors
     ///
-    /// `BadLimit` where the limit is not 1 to 1000; `NoSuchView` where the publisher is gone; `NoMemory`; `Behind`, with
-    /// the number at which the view stands, where it was told of a longer list than is shown, which never happens.
+    /// `BadLimit` unless `limit` is from 1 to `MAX_RANGE`; `NoSuchView` if the publisher was dropped; `NoMemory` if an
+    /// allocation is refused. `Behind`, with the number of commits at which the published state is, if the reader has
+    /// learnt of a longer list than is shown. That never happens, but no contract says so.
     pub fn read(&mut self, start: &Key, limit: u16) -> Result<Page, Refusal>
         ensures kept { (reader_heard self.new ≡ reader_heard self.old) × (reader_source self.new ≡ reader_source self.old) }
         ensures opening { (o : StateView) → reader_opening self.old ≡ Some o → reader_opening self.new ≡ Some o }

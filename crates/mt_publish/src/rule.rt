@@ -1,4 +1,5 @@
-//! The rule: what is shown is the opening state after a list of deltas, and what each thread knows is a beginning of it.
+//! The rule of a publisher and its readers: what is shown is the opening state after a list of deltas, and what each
+//! thread knows is a beginning of that list.
 
 ghost use Rattle.std.specs.Prelude.{[], None};
 ghost use Rattle.mt_publish.specs.Rule.{Keeps, Opened, Stays, Read, first_of};
@@ -8,11 +9,11 @@ use atomic_table::{Join, Split};
 use crossbeam_utils::rule::{Outcome, Protocol};
 use mt_types::row::Delta;
 
-/// What a thread knows. No value of it is made.
+/// What a thread knows. It exists in contracts only: no value of it is made.
 pub struct Known {
-    /// What was shown first.
+    /// The state that was shown first.
     pub opening: Option<Shown>,
-    /// The deltas after which it saw the state last.
+    /// The deltas after which the thread last saw the state.
     pub list: [Delta; 0],
 }
 
@@ -25,14 +26,14 @@ impl Protocol<Shown, Known> for Published {
     ghost first = { record { opening = None; list = [] } };
 }
 
-/// The first publish, of no deltas.
+/// The first publish, without a delta.
 pub(crate) struct Opens;
 
 impl Outcome<Shown, Known> for Opens {
     ghost then = { Opened };
 }
 
-/// A later publish: what the publisher shows it need not know besides.
+/// A later publish: the publisher knows the same as before.
 pub(crate) struct Publishes;
 
 impl Outcome<Shown, Known> for Publishes {
@@ -46,7 +47,7 @@ impl Outcome<Shown, Known> for Reads {
     ghost then = { Read };
 }
 
-/// What a new reader is told: what was shown first.
+/// What is passed to a new reader: the state that was shown first.
 pub(crate) struct Tells;
 
 impl Split<Known> for Tells {
@@ -55,7 +56,7 @@ impl Split<Known> for Tells {
     ghost right = { λ v. record { opening = v.opening; list = [] } };
 }
 
-/// A new reader takes that in.
+/// A new reader learns that state.
 pub(crate) struct Learns;
 
 impl Join<Known> for Learns {

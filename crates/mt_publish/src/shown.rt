@@ -1,4 +1,5 @@
-//! What readers take: the state of a view, with the mark of the deltas that it took since it was published first.
+//! What readers see: the state of a view, with the mark of the deltas that were applied to it since it was first
+//! published.
 
 ghost use Rattle.std.specs.Prelude.{◌≡◌, ◌<◌, ◌⊎◌, length, IfOk, IfErr};
 ghost use Rattle.mt_publish.specs.Marks.{StartsWith};
@@ -14,19 +15,19 @@ use mt_types::view::Page;
 use mt_view::state::ViewState;
 use std::alloc::AllocError;
 
-/// The state of a view, with the mark of the deltas that it took.
+/// The state of a view, with the mark of the deltas that were applied to it.
 #[derive(Drop)]
 pub struct Shown {
     pub(crate) state: ViewState,
     pub(crate) mark: Mark,
 }
 
-/// What both copies of what is shown take in.
+/// An operation, which is done on both copies of what is shown.
 #[derive(Drop)]
 pub enum Step {
-    /// The state takes the delta.
+    /// Applies this delta to the state.
     Takes(Delta),
-    /// The deltas so far have this mark.
+    /// Sets this mark: it is that of the deltas so far.
     Marks(Mark),
 }
 
@@ -49,7 +50,7 @@ impl Absorb<Step> for Shown {
 }
 
 impl Shown {
-    // Its page from a key on, unless the deltas that were heard of go on beyond its own.
+    // Returns a page, unless `heard` is longer than the list of deltas that were applied.
     pub(crate) fn page(&self, heard: &Mark, start: &Key, limit: u16) -> Result<Page, Refusal>
         requires { heard.now.source ≡ self.now.mark.source }
         ensures page { IfOk result (λ page. page ≡ page_of_state self.now.state start.now limit) }

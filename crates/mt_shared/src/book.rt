@@ -6,19 +6,19 @@ ghost use Rattle.mt_shared.specs.Books.{book_with};
 
 use mt_types::event::Outcome;
 
-/// What the index knows that a pass did.
+/// What the index has noted of the events of a pass.
 #[derive(Debug, Clone, Copy, PartialEq, Eq)]
 pub struct Book {
-    /// How many events it has made.
+    /// How many events the pass has made.
     pub events: u64,
-    /// How many of them were commits.
+    /// How many of these events were commits.
     pub commits: u64,
-    /// The most commits that a reply to it has shown.
+    /// The greatest number of commits that a reply to the pass has shown.
     pub seen: u64,
 }
 
 impl Book {
-    /// The book, with one more event of this outcome.
+    /// Returns the book with one more event, which has this outcome.
     pub(crate) fn with(self, outcome: &Outcome) -> Book
         requires events { self.events + 1 < 2 ^ 64 }
         requires commits { self.commits + commit_count outcome.now < 2 ^ 64 }

@@ -1,4 +1,4 @@
-//! The calls of a pass by their names: each is `drive` with its request, and nothing between its events.
+//! The calls of a pass, by their names. Each is `drive` with its request and [`NoGate`], and costs what that costs.
 
 ghost use Rattle.mt_types.specs.declared.event.Request.TheVariants.{Get, Put, PutIf, Remove, Range, Tidy, Build};
 ghost use Rattle.mt_shared.specs.Drives.{IsDrive};
@@ -12,11 +12,12 @@ use mt_types::row::{ColumnNumbers, Sets};
 use mt_types::view::ViewSpec;
 use std::alloc::Global;
 
-/// The row of a key, with the columns asked for; none means all. The reply's answer is `Found` or `Absent`.
+/// Gets the row of `key`, with the columns that are asked for, or with all if none is asked for. The answer of the
+/// reply is `Found`, or `Absent` if the key has no row.
 ///
 /// # Errors
 ///
-/// Those of `drive`: `KeyTooLong`, `BadColumn`, `TooManyCalls`, `NoMemory` among them.
+/// Those of [`drive`], `KeyTooLong`, `BadColumn`, `TooManyCalls` and `NoMemory` among them.
 pub fn get<S: Shared>(
     alloc: Global,
     shared: &mut S,
@@ -35,12 +36,12 @@ pub fn get<S: Shared>(
     )
 }
 
-/// New bytes for columns of a key's row. The reply's answer is `Stored`, with the number of its commit.
+/// Puts new bytes into columns of the row of `key`. The answer of the reply is `Stored`, with the number of the commit.
 ///
 /// # Errors
 ///
-/// Those of `drive`: `KeyTooLong`, `BadColumn`, `ColumnTooLong`, `ArenaFull`, `FeedFull`, `NoMemory` among them. A put
-/// that has committed is never refused.
+/// Those of [`drive`], `KeyTooLong`, `BadColumn`, `ColumnTooLong`, `ArenaFull`, `FeedFull` and `NoMemory` among them. A
+/// put that has committed is never refused.
 pub fn put<S: Shared>(
     alloc: Global,
     shared: &mut S,
@@ -53,13 +54,15 @@ pub fn put<S: Shared>(
     drive(alloc, shared, pass, &mut NoGate, Request::Put { key, sets })
 }
 
-/// New bytes for columns of a key's row, if the row is of this version, the number of its last commit (0: if the key has
-/// no row). The reply's answer is `Stored`, with the number of its commit. So a caller that has read a row and puts it
-/// changed, by the version that it read, undoes nobody's put: where another came between, it is refused, and reads anew.
+/// Puts new bytes into columns of the row of `key` if the row has this version, the number of its last commit, or, for
+/// version 0, if the key has no row. The answer of the reply is `Stored`, with the number of the commit.
+///
+/// So a caller that reads a row and puts it changed, with the version that it read, never overwrites a put of another
+/// caller: if such a put came between, this one is refused, and the caller reads the row again.
 ///
 /// # Errors
 ///
-/// `OtherVersion`, with the version that the row has, and then nothing has changed; else those of `put`.
+/// `OtherVersion`, with the version that the row has: then no row has changed. Otherwise those of [`put`].
 pub fn put_if<S: Shared>(
     alloc: Global,
     shared: &mut S,
@@ -74,11 +77,13 @@ pub fn put_if<S: Shared>(
     drive(alloc, shared, pass, &mut NoGate, request)
 }
 
-/// The end of a key's row. The reply's answer is `Removed`, with the number of its commit, or `Absent`.
+/// Removes the row of `key`. The answer of the reply is `Removed`, with the number of the commit, or `Absent` if the
+/// key has no row.
 ///
 /// # Errors
 ///
-/// Those of `drive`: `KeyTooLong`, `FeedFull`, `NoMemory` among them. A remove that has committed is never refused.
+/// Those of [`drive`], `KeyTooLong`, `FeedFull` and `NoMemory` among them. A remove that has committed is never
+/// refused.
 pub fn remove<S: Shared>(
     alloc: Global,
     shared: &mut S,
@@ -90,13 +95,13 @@ pub fn remove<S: Shared>(
     drive(alloc, shared, pass, &mut NoGate, Request::Remove { key })
 }
 
-/// Up to `limit` rows from the first key at or after `start` on, with the columns asked for. The reply's answer is
-/// `Rows`.
+/// Gets the first rows whose keys are at or after `start`, at most `limit`, each with the columns that are asked for,
+/// or with all if none is asked for. The answer of the reply is `Rows`, in the order of keys.
 ///
 /// # Errors
 ///
-/// Those of `drive`: `KeyTooLong`, `BadColumn`, `BadLimit` unless `limit` is from 1 to 1000, `NoMemory` among
-/// them.
+/// Those of [`drive`], `KeyTooLong`, `BadColumn`, `BadLimit` unless `limit` is from 1 to `MAX_RANGE`, and `NoMemory`
+/// among them.
 pub fn getrange<S: Shared>(
     alloc: Global,
     shared: &mut S,
@@ -120,12 +125,12 @@ pub fn getrange<S: Shared>(
     )
 }
 
-/// One change that tidies the tree where the key would stand. The reply's answer is `Tidied`, with what was done; no
-/// row changes.
+/// Makes one change that tidies the tree on the way to `key` (Masstree, EuroSys 2012, section 4.6.5). The answer of the
+/// reply is `Tidied`, with what was done. No row changes.
 ///
 /// # Errors
 ///
-/// Those of `drive`: `KeyTooLong`, `TooManyCalls`, `NoMemory` among them.
+/// Those of [`drive`], `KeyTooLong`, `TooManyCalls` and `NoMemory` among them.
 pub fn tidy<S: Shared>(
     alloc: Global,
     shared: &mut S,
@@ -137,12 +142,13 @@ pub fn tidy<S: Shared>(
     drive(alloc, shared, pass, &mut NoGate, Request::Tidy { key })
 }
 
-/// A standing view, built among all other calls. The reply's answer is `Built`, with the number of the view; it stands
-/// at a number of commits from that of the call's begin to that of its end. `keep_views` takes it on.
+/// Builds a view while other calls are open. The answer of the reply is `Built`, with the number of the view. The view
+/// is at a number of commits from that of the call's begin to that of its end. `keep_views` advances it.
 ///
 /// # Errors
 ///
-/// Those of `drive`: `KeyTooLong`, `BadRange`, `BadColumn`, `TooManyViews`, `NoMemory` among them.
+/// Those of [`drive`], `KeyTooLong`, `BadRange`, `BadColumn`, `ColumnTooLong`, `TooManyViews` and `NoMemory` among
+/// them.
 pub fn view_add<S: Shared>(
     alloc: Global,
     shared: &mut S,

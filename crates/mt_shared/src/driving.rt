@@ -1,4 +1,4 @@
-//! A call from its begin to its end, event by event, over whatever shares a machine.
+//! Drives a call from its begin to its end, event by event, on whatever shares a machine.
 
 ghost use Rattle.std.specs.Prelude.{◌≡◌, ◌≤◌, IfOk, IfErr};
 ghost use Rattle.mt_types.specs.declared.event.Event.{Event};
@@ -18,7 +18,7 @@ pub trait Shared {
     /// What an event of a pass does, to what is shared and to the pass.
     ghost does: { Self → PassView → Event → Outcome → Self → PassView → Type 0 };
 
-    /// One event of a pass, and what came of it.
+    /// Makes one event of a pass, and returns its outcome.
     fn event(&mut self, alloc: Global, pass: &mut Pass, event: &Event) -> Outcome
         ensures does { does self.old pass.old event.now result self.new pass.new }
         ensures told { IsTold pass.old event.now result pass.new }
@@ -31,7 +31,7 @@ pub trait Gate {
     fn between(&mut self, outcome: &Outcome);
 }
 
-/// A gate at which nothing is done.
+/// A gate that does nothing.
 #[derive(Debug, Clone, Copy, Default, PartialEq, Eq)]
 pub struct NoGate;
 
@@ -39,18 +39,21 @@ impl Gate for NoGate {
     fn between(&mut self, _outcome: &Outcome) {}
 }
 
-/// One call of a pass, from its begin to its reply: its begin, and steps of it until one is done. After each event the
-/// gate is asked. Where a step answers `Again`, since the call waits for a node that another call has, the thread lets
-/// others run (`thread::yield_now`) before the next.
+/// Makes one call of a pass, from its begin to its reply: its begin, then steps of it until one ends the call. The gate
+/// is called after each event. If a step answers `Again`, the call could not use the node that it visited, because
+/// another call has locked, changed or removed it. The thread then lets others run (`thread::yield_now`) before the
+/// next step.
 ///
-/// Over a `Door` each event is one holding of the lock, so other threads' events come between them; between two the
-/// lock isn't held.
+/// Over a `Door` each event holds the lock once, and the lock isn't held between two events. So events of other threads
+/// can come between them.
+///
+/// Costs what the events cost. Their number isn't bounded while other calls keep changing what this one visits.
 ///
 /// # Errors
 ///
-/// The refusal by which the begin or the call ended. `WrongPass` also where the reply begins at fewer commits than the
-/// pass had seen: it is a pass of another index. `Spent` where the count of events is at its greatest value; the call
-/// is then left open. What the call has done by then stands.
+/// The refusal that ended the begin or the call. `WrongPass` also if the reply begins at fewer commits than the pass
+/// had seen: then the pass is of another index. `Spent` if the count of events is at its greatest value: then the call
+/// stays open. What the call has done until then stays done.
 pub fn drive<S: Shared, G: Gate>(
     alloc: Global,
     shared: &mut S,
@@ -88,8 +91,8 @@ pub fn drive<S: Shared, G: Gate>(
     }
 }
 
-// What the outcome of a step ends its call with, if it does. A reply from before what the pass had seen is of another
-// index.
+// Returns the result with which the outcome of a step ends its call, if it does. A reply that begins before what the
+// pass had seen is of another index.
 fn end_of(outcome: Outcome, seen: u64) -> Option<Result<Reply, Refusal>>
     ensures { Ends seen outcome result }
 {

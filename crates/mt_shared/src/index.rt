@@ -1,4 +1,4 @@
-//! An index that many threads share: one lock round the machine and the books of its passes.
+//! An index that many threads share: one lock around the machine and the books of its passes.
 
 ghost use Rattle.std.specs.Prelude.{◌≡◌, ◌⊎◌, true, false, IfOk, IfErr, All, length};
 ghost use Rattle.mt_shared.specs.Passes.{AreNewPasses, HasItsPart, events_by, commits_by};
@@ -36,7 +36,7 @@ impl Model for Index {
     ghost view = { λ i. i.columns };
 }
 
-// By hand, so that it is proved here alone, and not again in each crate above.
+// Written out so that its proof is made here only, and not again in each crate above.
 impl Drop for Index {
     fn drop(self) {
         let Index {
@@ -46,7 +46,8 @@ impl Drop for Index {
     }
 }
 
-/// The way of one thread to an index. Each event waits for the lock; between two events none is held.
+/// The access of one thread to an index. Each event waits for the lock and holds it once. Between two events the thread
+/// doesn't hold it.
 #[derive(Drop)]
 pub struct Door<'a, W> {
     index: &'a Index,
@@ -54,11 +55,11 @@ pub struct Door<'a, W> {
 }
 
 impl Index {
-    /// An empty index, and as many passes, numbered from 1.
+    /// Opens an empty index, and returns it with `passes` passes, numbered from 1. O(n) in the passes.
     ///
     /// # Errors
     ///
-    /// Those of `Machine::open`; `BadLimit` unless there are 1 to 255 passes.
+    /// Those of `Machine::open`; `BadLimit` unless `passes` is from 1 to `MAX_PASSES`.
     pub fn start(
         alloc: Global,
         options: Options,
@@ -71,12 +72,13 @@ impl Index {
         Index::open(alloc, options, passes, false)
     }
 
-    /// `start`, with a trace: a copy of each event that is made, and of its outcome, is kept under the lock and in its
-    /// pass, for `close_record`. Where memory for a copy is refused the trace is lost, and the calls go on.
+    /// Does what [`Index::start`] does, and keeps a trace: a copy of each event and of its outcome is kept under the
+    /// lock and in its pass, for [`Index::close_record`]. If memory for a copy is refused, the trace is lost, and calls
+    /// still work.
     ///
     /// # Errors
     ///
-    /// Those of `start`.
+    /// Those of [`Index::start`].
     pub fn record(
         alloc: Global,
         options: Options,
@@ -111,12 +113,13 @@ impl Index {
         Ok((index, passes))
     }
 
-    /// The end of an index: how many events were made on it, and how many of them were commits. O(n) in the passes.
+    /// Closes the index, and returns how many events were made on it, and how many of them were commits. O(n) in the
+    /// passes, besides the cost of dropping the index.
     ///
     /// # Errors
     ///
-    /// `WrongPass` where a pass is missing or comes twice, or its counts aren't its book's. The index and the passes are
-    /// dropped.
+    /// `WrongPass` if a pass is missing or comes twice, or if its counts aren't those of its book. The index and the
+    /// passes are dropped in any case.
     pub fn close(self, passes: Vec<Pass>) -> Result<Totals, Refusal>
         ensures events { IfOk result (λ totals. totals.events ≡ events_by passes.items) }
         ensures commits { IfOk result (λ totals. totals.commits ≡ commits_by passes.items) }
@@ -126,13 +129,13 @@ impl Index {
         self.into_kept()?.settle(&passes)
     }
 
-    /// The end of an index from `record`: the trace of all events that were made on it, in the order in which the
-    /// lock was held. O(n) in the events, times the passes; a comparison of each event.
+    /// Closes an index of [`Index::record`], and returns the trace of all events that were made on it, in the order in
+    /// which the lock was held. O(n) in the events, times the passes, with one comparison of each event.
     ///
     /// # Errors
     ///
-    /// `WrongPass` as in `close`, and where no trace was kept or a pass's own trace isn't its part of it; `NoMemory` where
-    /// memory for a copy was refused. The index and the passes are dropped.
+    /// `WrongPass` as of [`Index::close`], and also if no trace was kept, or if the own trace of a pass isn't its part
+    /// of the trace; `NoMemory` if memory for a copy was refused. The index and the passes are dropped in any case.
     pub fn close_record(self, passes: Vec<Pass>) -> Result<Vec<Entry>, Refusal>
         ensures legal { IfOk result (λ trace. IsLegalTrace self trace.items) }
         ensures parts { IfOk result (λ trace. All (HasItsPart trace.items) passes.items) }
@@ -142,7 +145,7 @@ impl Index {
         self.into_kept()?.settle_trace(&passes)
     }
 
-    // What lies under the lock, if it is of this index's columns, as it is.
+    // Returns what the lock guards, if it has this index's number of columns.
     fn into_kept(self) -> Result<Kept, Refusal>
         ensures kept { IfOk result (λ kept. IsKept kept × (kept.machine.columns ≡ self)) }
         ensures refused { IfErr result (λ refusal. refusal ≡ Refusal.WrongPass) }
@@ -156,14 +159,14 @@ impl Index {
     }
 }
 
-// The first limit that an index breaks which is to be opened so.
+// Returns the first limit that these options, or this number of passes, break, if they break one.
 fn start_fault(options: Options, passes: u64) -> Option<Refusal>
     ensures { result ≡ start_fault options passes }
 {
     open_fault(options.columns, options.feed, options.keep).or_else(|| passes_fault(passes))
 }
 
-// So many passes, numbered from 1.
+// Returns `count` passes, numbered from 1.
 fn new_passes(alloc: Global, count: u16, traced: bool) -> Result<Vec<Pass>, Refusal>
     ensures passes { IfOk result (λ passes. AreNewPasses traced count passes.items) }
     ensures memory { IfErr result (λ refusal. refusal ≡ Refusal.NoMemory) }
@@ -176,15 +179,15 @@ fn new_passes(alloc: Global, count: u16, traced: bool) -> Result<Vec<Pass>, Refu
 }
 
 impl<'a, W> Door<'a, W> {
-    /// A door to an index. `wait` is the leave to wait for its lock.
+    /// Returns a door to `index`. `wait` is the permission to wait for its lock.
     pub fn new(index: &'a Index, wait: &'a W) -> Door<'a, W> {
         Door { index, wait }
     }
 }
 
 impl<'a, W: Wait> Door<'a, W> {
-    /// The deltas of the commits after the first `from`, `limit` at most: `Machine::feed`, in one holding of the lock.
-    /// No event.
+    /// Returns the deltas of the commits after the first `from`, at most `limit`, as `Machine::feed` does. Holds the
+    /// lock once. Makes no event.
     ///
     /// # Errors
     ///
@@ -196,8 +199,8 @@ impl<'a, W: Wait> Door<'a, W> {
         index.kept.lock(self.wait).feed(alloc, from, limit)
     }
 
-    /// A copy of a view that stands, with the number of commits at which it stands: `Machine::view_copy`, in one
-    /// holding of the lock. No event.
+    /// Returns the number of commits at which a view is, and a copy of its state, as `Machine::view_copy` does. Holds
+    /// the lock once. Makes no event.
     ///
     /// # Errors
     ///
@@ -214,7 +217,7 @@ impl<'a, W: Wait> Shared for Door<'a, W> {
     // somewhere in the order in which the lock is held it was an event on what lay there
     ghost does = { λ _ p event outcome _ q. DoesSomewhere p event outcome q };
 
-    /// One holding of the lock, and in it one `Kept::event`.
+    /// Holds the lock once, for one `Kept::event`.
     fn event(&mut self, alloc: Global, pass: &mut Pass, event: &Event) -> Outcome {
         let index = self.index;
         index.kept.lock(self.wait).event(alloc, pass, event)

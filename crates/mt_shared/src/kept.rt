@@ -1,4 +1,4 @@
-//! What lies under the lock: the machine with the books of its passes.
+//! What the lock guards: the machine, with the books of its passes.
 
 ghost use Rattle.std.specs.Prelude.{◌≡◌, ◌≤◌, IfOk, All, length};
 ghost use Rattle.mt_types.specs.Limited.{OutcomeIsLimited};
@@ -22,7 +22,7 @@ use mt_view::state::ViewState;
 use std::alloc::{AllocError, Global};
 use std::marker::Model;
 
-/// The machine, how many events were made, and a book for each pass.
+/// The machine, the number of events that were made, a book for each pass, and the trace.
 #[derive(Drop)]
 pub struct Kept {
     pub(crate) machine: Machine,
@@ -48,7 +48,7 @@ impl Model for Kept {
     ghost invariant = { λ k. IsKept (kept_view k) };
 }
 
-// The book of a pass that has done nothing.
+// The book of a pass that has made no event.
 pub(crate) const NOTHING: Book = Book {
     events: 0,
     commits: 0,
@@ -56,11 +56,12 @@ pub(crate) const NOTHING: Book = Book {
 };
 
 impl Kept {
-    /// A machine on which nothing has happened, with a book for each pass.
+    /// Opens a machine on which nothing has happened, with a book for each of `passes` passes, and a trace if `traced`.
+    /// O(n) in the passes.
     ///
     /// # Errors
     ///
-    /// Those of `Machine::open`, and `NoMemory`.
+    /// Those of `Machine::open`; `NoMemory` if an allocation is refused.
     pub fn open(alloc: Global, options: Options, passes: u16, traced: bool) -> Result<Kept, Refusal>
         ensures opened { IfOk result (λ kept. IsFresh options passes kept) }
         ensures trace { IfOk result (λ kept. IsNewTrace traced kept.trace) }
@@ -76,17 +77,18 @@ impl Kept {
         })
     }
 
-    /// One event of a pass, and what came of it: one event of the machine, counted in the pass and in its book, and
-    /// traced where a trace is kept.
+    /// Makes one event of a pass, and returns its outcome: one event of the machine, which is counted in the pass and
+    /// in its book, and added to the trace if one is kept.
     ///
-    /// Costs the event of the machine, and the way down the tree of open calls.
+    /// Costs what the event of the machine costs, and for a step another O(log n) in the open calls. If a trace is
+    /// kept, also two copies of the event and of its outcome.
     ///
     /// # Errors
     ///
-    /// No event is made, and nothing changes, where the outcome is `WrongPass`: the pass has no book here, the begin
-    /// names another pass, or the step is of another pass's open call. Nor where it is `Spent` since the count of
-    /// events, of the index or of the pass, is at its greatest value. Every other refusal is one of the machine, and
-    /// counts as an event.
+    /// If the outcome is `WrongPass`, no event was made and nothing has changed: the pass has no book here, the begin
+    /// names another pass, or the step is of another pass's open call. The same holds if it is `Spent` because the
+    /// count of events of the index or of the pass is at its greatest value. Every other refusal is one of the machine,
+    /// and counts as an event.
     pub fn event(&mut self, alloc: Global, pass: &mut Pass, event: &Event) -> Outcome
         ensures does { Does self.old pass.old event.now result self.new pass.new }
         ensures limited { OutcomeIsLimited result }
@@ -109,7 +111,8 @@ impl Kept {
         outcome
     }
 
-    /// The deltas of the commits after the first `from`, `limit` at most: `Machine::feed`. No event.
+    /// Returns the deltas of the commits after the first `from`, at most `limit`, as `Machine::feed` does. Makes no
+    /// event.
     ///
     /// # Errors
     ///
@@ -121,7 +124,8 @@ impl Kept {
         self.machine.feed(alloc, from, limit)
     }
 
-    /// A copy of a view that stands, with the number of commits at which it stands: `Machine::view_copy`. No event.
+    /// Returns the number of commits at which a view is, and a copy of its state, as `Machine::view_copy` does. Makes
+    /// no event.
     ///
     /// # Errors
     ///
@@ -133,7 +137,7 @@ impl Kept {
         self.machine.view_copy(alloc, view)
     }
 
-    /// How many columns a row has.
+    /// Returns how many columns a row has.
     pub fn columns(&self) -> u8
         ensures columns { result ≡ self.now.machine.columns }
         ensures kept { IsKept self.now }
@@ -141,7 +145,7 @@ impl Kept {
         self.machine.columns()
     }
 
-    // Whether the event isn't one that this pass may make.
+    // Whether the event isn't one that this pass may make. O(log n) in the open calls.
     fn is_wrong(&self, pass: PassNo, event: &Event) -> bool
         ensures { result ≡ is_wrong self.now pass event.now }
     {
@@ -165,7 +169,7 @@ impl Kept {
     }
 }
 
-// The books of passes that have done nothing.
+// Returns the books of `passes` passes that have made no event.
 fn blank_books(alloc: Global, passes: u16) -> Result<Vec<Book>, AllocError>
     ensures count { IfOk result (λ books. length books.items ≡ passes) }
     ensures events { IfOk result (λ books. booked_events books.items ≡ 0) }

@@ -1,4 +1,4 @@
-//! Many threads over one index: a lock round the machine with its books, passes by which callers make events, and calls
+//! Many threads on one index: a lock around the machine and its books, passes by which callers make events, and calls
 //! that are driven to their end step by step.
 #![tactic(auto)]
 

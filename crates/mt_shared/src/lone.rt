@@ -38,7 +38,7 @@ impl Model for Lone {
     ghost view = { λ l. l.kept };
 }
 
-// By hand, so that it is proved here alone, and not again in each crate above.
+// Written out so that its proof is made here only, and not again in each crate above.
 impl Drop for Lone {
     fn drop(self) {
         let Lone { kept: _ } = self;
@@ -46,7 +46,7 @@ impl Drop for Lone {
 }
 
 impl Lone {
-    /// An empty machine, and pass 1, its only one.
+    /// Opens an empty machine, and returns it with pass 1, its only pass.
     ///
     /// # Errors
     ///
@@ -60,7 +60,8 @@ impl Lone {
         Ok((Lone { kept }, Pass::new(alloc, 1, false)))
     }
 
-    /// The deltas of the commits after the first `from`, `limit` at most: `Machine::feed`. No event.
+    /// Returns the deltas of the commits after the first `from`, at most `limit`, as `Machine::feed` does. Makes no
+    /// event.
     ///
     /// # Errors
     ///
@@ -71,7 +72,8 @@ impl Lone {
         self.kept.feed(alloc, from, limit)
     }
 
-    /// A copy of a view that stands, with the number of commits at which it stands: `Machine::view_copy`. No event.
+    /// Returns the number of commits at which a view is, and a copy of its state, as `Machine::view_copy` does. Makes
+    /// no event.
     ///
     /// # Errors
     ///
@@ -86,7 +88,7 @@ impl Lone {
 impl Shared for Lone {
     ghost does = { Does };
 
-    /// `Kept::event`.
+    /// Does what `Kept::event` does.
     fn event(&mut self, alloc: Global, pass: &mut Pass, event: &Event) -> Outcome
         ensures does { Does self.old pass.old event.now result self.new pass.new }
         ensures told { IsTold pass.old event.now result pass.new }

@@ -1,4 +1,4 @@
-//! A pass: the right of one caller to make events on an index, with what it has done and seen.
+//! Passes: a pass is the right of one caller to make events on an index, with what the caller has done and seen.
 
 ghost use Rattle.std.specs.Prelude.{◌≡◌, ◌+◌, ◌<◌, ◌^◌};
 ghost use Rattle.mt_shared.specs.Passes.{Counts, IsNewPass};
@@ -10,7 +10,7 @@ use mt_types::numbers::PassNo;
 use std::alloc::Global;
 use std::marker::Model;
 
-/// The right of one caller. The passes of an index are numbered from 1.
+/// The right of one caller to make events on an index. The passes of an index are numbered from 1.
 #[derive(Debug, Drop)]
 pub struct Pass {
     number: PassNo,
@@ -34,7 +34,7 @@ impl Model for Pass {
 }
 
 impl Pass {
-    // A pass that has done nothing. Only an index and a machine of one caller make passes.
+    // Returns a pass that has made no event. Only an index and a machine of one caller make passes.
     pub(crate) fn new(alloc: Global, number: u16, traced: bool) -> Pass
         ensures { IsNewPass traced number result }
     {
@@ -47,42 +47,43 @@ impl Pass {
         }
     }
 
-    /// Its number.
+    /// Returns the number of the pass.
     pub fn number(&self) -> PassNo
         ensures { result ≡ self.now.number }
     {
         self.number
     }
 
-    /// The most commits that a reply to it has shown: a call that it begins later begins at no fewer.
+    /// Returns the greatest number of commits that a reply to the pass has shown. A call that it begins later begins at
+    /// that number or a greater one.
     pub fn seen(&self) -> u64
         ensures { result ≡ self.now.seen }
     {
         self.seen
     }
 
-    /// How many events it has made.
+    /// Returns how many events the pass has made.
     pub fn events(&self) -> u64
         ensures { result ≡ self.now.events }
     {
         self.events
     }
 
-    /// How many of its events were commits.
+    /// Returns how many of these events were commits.
     pub fn commits(&self) -> u64
         ensures { result ≡ self.now.commits }
     {
         self.commits
     }
 
-    // The events that it has made, if they are kept.
+    // Returns the trace of the pass: the events that it has made, if they are kept.
     pub(crate) fn trace(&self) -> &Trace
         ensures { result.now ≡ self.now.trace }
     {
         &self.trace
     }
 
-    // It has made an event.
+    // Counts an event that the pass has made, and adds it to its trace if one is kept.
     pub(crate) fn count(&mut self, alloc: Global, event: &Event, outcome: &Outcome)
         requires { self.old.events + 1 < 2 ^ 64 }
         ensures { Counts self.old event.now outcome.now self.new }

@@ -1,4 +1,4 @@
-//! The end of an index: what the passes did is held against their books.
+//! The end of an index: the passes are compared with their books.
 
 ghost use Rattle.std.specs.Prelude.{◌≡◌, ◌⊎◌, IfOk, IfErr, IsTrue, All, length};
 ghost use Rattle.mt_commit.specs.Log.{newest};
@@ -13,19 +13,22 @@ use crate::trace::{Entry, Trace, is_part};
 use mt_types::limits::MAX_PASSES;
 use mt_types::refusal::Refusal;
 
-/// How many events an index made, and how many of them were commits.
+/// How many events were made on an index, and how many of them were commits.
 #[derive(Debug, Clone, Copy, PartialEq, Eq)]
 pub struct Totals {
+    /// The number of events.
     pub events: u64,
+    /// The number of those that were commits.
     pub commits: u64,
 }
 
 impl Kept {
-    /// The totals, if the passes are those of the books, each once, with their books' counts. O(n) in the passes.
+    /// Returns the totals, if `passes` are those of the books, each once, with the counts of their books. O(n) in the
+    /// passes.
     ///
     /// # Errors
     ///
-    /// `WrongPass` where they aren't.
+    /// `WrongPass` if they aren't.
     pub fn settle(self, passes: &[Pass]) -> Result<Totals, Refusal>
         ensures made { IfOk result (λ totals. totals.events ≡ self.events) }
         ensures committed { IfOk result (λ totals. totals.commits ≡ newest self.machine.log) }
@@ -47,12 +50,13 @@ impl Kept {
         Ok(Totals { events, commits })
     }
 
-    /// The trace of all events, if the passes are those of the books, each once, with their books' counts, and each has
-    /// in its own trace just its part of this one. O(n) in the events, times the passes; a comparison of each event.
+    /// Returns the trace of all events, if `passes` are those of the books, each once, with the counts of their books,
+    /// and if the own trace of each is exactly its part of this one. O(n) in the events, times the passes, with one
+    /// comparison of each event.
     ///
     /// # Errors
     ///
-    /// `WrongPass` where the passes aren't those, or no trace was kept; `NoMemory` where a trace was lost.
+    /// `WrongPass` if they aren't, or if no trace was kept; `NoMemory` if a trace was lost.
     pub fn settle_trace(self, passes: &[Pass]) -> Result<Vec<Entry>, Refusal>
         ensures legal { IfOk result (λ trace. IsLegalTrace self.machine.columns trace.items) }
         ensures parts { IfOk result (λ trace. All (HasItsPart trace.items) passes.now) }
@@ -76,7 +80,7 @@ impl Kept {
     }
 }
 
-// The entries of a trace that is kept.
+// Returns the entries of a trace that is kept.
 fn kept_entries(trace: Trace) -> Result<Vec<Entry>, Refusal>
     ensures kept { IfOk result (λ entries. Keeps trace entries.items) }
     ensures refused { IfErr result (λ refusal. (refusal ≡ Refusal.WrongPass) ⊎ (refusal ≡ Refusal.NoMemory)) }
@@ -88,7 +92,7 @@ fn kept_entries(trace: Trace) -> Result<Vec<Entry>, Refusal>
     }
 }
 
-// The pass has in its trace just its part of the entries.
+// Succeeds if the trace of the pass is exactly its part of the entries.
 fn has_part(pass: &Pass, entries: &[Entry]) -> Result<(), Refusal>
     ensures part { IfOk result (λ _. Keeps pass.now.trace (part pass.now.number entries.now)) }
     ensures refused { IfErr result (λ refusal. (refusal ≡ Refusal.WrongPass) ⊎ (refusal ≡ Refusal.NoMemory)) }
@@ -100,8 +104,8 @@ fn has_part(pass: &Pass, entries: &[Entry]) -> Result<(), Refusal>
     }
 }
 
-// Whether the passes are those of the books, each once, with their books' counts. The book of each pass that was met
-// becomes that of one that has done nothing; at the end each must be.
+// Whether `passes` are those of the books, each once, with the counts of their books. The book of each pass that was
+// met is replaced by that of a pass that has made no event. At the end each book must be so.
 fn add_up(mut books: Vec<Book>, passes: &[Pass]) -> bool
     ensures events { IsTrue result → booked_events books.items ≡ events_by passes.now }
     ensures commits { IsTrue result → booked_commits books.items ≡ commits_by passes.now }
@@ -125,7 +129,7 @@ fn add_up(mut books: Vec<Book>, passes: &[Pass]) -> bool
     are_blank(&books)
 }
 
-// Whether each is the book of a pass that has done nothing.
+// Whether each is the book of a pass that has made no event.
 fn are_blank(books: &[Book]) -> bool
     ensures events { IsTrue result → booked_events books.now ≡ 0 }
     ensures commits { IsTrue result → booked_commits books.now ≡ 0 }

@@ -1,4 +1,4 @@
-//! A door that makes the events of one call within few holdings of the lock.
+//! A door that holds the lock for several events of one call.
 
 ghost use Rattle.mt_shared.specs.Kept.{DoesSomewhere};
 
@@ -10,12 +10,13 @@ use mt_types::event::{Event, Outcome};
 use std::alloc::Global;
 use std::sync::{MutexGuard, Wait};
 
-/// The way of one thread to an index, for calls that are driven: as a `Door`, but the events of a call are made one after
-/// the other within one holding of the lock, till the call ends, waits for another, or so many events were made. They
-/// are the same events, and each does the same; others come in between fewer of them, and wait longer for their turn.
+/// The access of one thread to an index, for calls that are driven to their end. It is like a `Door`, but makes the
+/// events of a call one after the other while it holds the lock once, until the call ends, waits for another, or `most`
+/// events were made. The events are the same as over a `Door`, and each does the same. But fewer events of other
+/// threads come between them, and other threads wait longer for the lock.
 ///
-/// While a call goes on the lock may be held between two events: so a call that is begun by a door of this kind is to be
-/// driven to its end by it (as `drive` does), and the thread is to use no other door of the index meanwhile.
+/// While a call is open, the lock may be held between two of its events. So a call that was begun by such a door must
+/// be driven to its end by it, as `drive` does, and the thread must not use another door of the index meanwhile.
 #[derive(Drop)]
 pub struct ThroughDoor<'a, W> {
     index: &'a Index,
@@ -26,8 +27,8 @@ pub struct ThroughDoor<'a, W> {
 }
 
 impl<'a, W> ThroughDoor<'a, W> {
-    /// A door to an index, by which a holding of the lock is of at most so many events (one, where `most` is 0). `wait`
-    /// is the leave to wait for the lock.
+    /// Returns a door to `index` that makes at most `most` events while it holds the lock once (one event if `most` is
+    /// 0). `wait` is the permission to wait for the lock.
     pub fn new(index: &'a Index, wait: &'a W, most: u32) -> ThroughDoor<'a, W> {
         ThroughDoor {
             index,
@@ -39,7 +40,7 @@ impl<'a, W> ThroughDoor<'a, W> {
     }
 }
 
-// Whether the call of an event goes on by its next step at once.
+// Whether the call of an event continues at once, with its next step.
 fn goes_on(outcome: &Outcome) -> bool {
     matches!(
         outcome,
@@ -51,7 +52,7 @@ impl<'a, W: Wait> Shared for ThroughDoor<'a, W> {
     // somewhere in the order in which the lock is held it was an event on what lay there
     ghost does = { λ _ p event outcome _ q. DoesSomewhere p event outcome q };
 
-    /// One `Kept::event`, in the holding of the lock that goes on, or in a new one.
+    /// Makes one `Kept::event`, while the lock is held for the events before it, or else takes the lock for it.
     fn event(&mut self, alloc: Global, pass: &mut Pass, event: &Event) -> Outcome {
         let index = self.index;
         let mut kept = match self.held.take() {

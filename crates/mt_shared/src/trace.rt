@@ -1,4 +1,4 @@
-//! A trace: the list of the events that were made, with their outcomes.
+//! Traces: a trace is the list of the events that were made, with their outcomes.
 
 ghost use Rattle.std.specs.Prelude.{◌≡◌, ◌↔◌, ◌++◌, ◌∷◌, [], IsTrue, IfOk};
 ghost use Rattle.mt_shared.specs.Traces.{entry, part, Gains, IsNewTrace};
@@ -13,24 +13,27 @@ use std::alloc::Global;
 /// An event that a pass made, with its outcome.
 #[derive(Debug, Drop)]
 pub struct Entry {
+    /// The number of the pass.
     pub pass: PassNo,
+    /// The event.
     pub event: Event,
+    /// The outcome of the event.
     pub outcome: Outcome,
 }
 
-/// The events that were made, the oldest first.
+/// The events that were made, the oldest first, if they are kept.
 #[derive(Debug, Drop)]
 pub enum Trace {
-    /// None are kept.
+    /// No events are kept.
     Off,
-    /// All are.
+    /// All events are kept.
     On(Vec<Entry>),
-    /// Memory for a copy was refused: what came since isn't known.
+    /// Memory for a copy was refused. What was kept until then is dropped, and no event is kept from then on.
     Lost,
 }
 
 impl Trace {
-    /// A trace without entries, if one is to be kept. Takes no memory.
+    /// Returns a trace without entries: one that keeps events if `traced`, else one that doesn't. Allocates nothing.
     pub(crate) fn new(alloc: Global, traced: bool) -> Trace
         ensures { IsNewTrace traced result }
     {
@@ -41,8 +44,8 @@ impl Trace {
         }
     }
 
-    /// One more event. Where a trace is kept, costs a copy of the event and of its outcome; where memory for it is
-    /// refused the trace is lost.
+    /// Adds an event and its outcome, if events are kept. Costs a copy of each. If memory for a copy is refused, the
+    /// trace is lost.
     pub(crate) fn note(&mut self, alloc: Global, pass: PassNo, event: &Event, outcome: &Outcome)
         ensures { Gains self.old (entry pass event.now outcome.now ∷ []) self.new }
     {
@@ -81,8 +84,8 @@ fn is_same(one: &Entry, other: &Entry) -> bool
         && one.outcome.is_same(&other.outcome)
 }
 
-/// Whether a list is the part of the entries that a pass made, in their order. O(n) in the entries, and a comparison of
-/// each that the pass made.
+/// Returns whether `list` is exactly the entries of this pass, in their order. O(n) in the entries, with one comparison
+/// of each that the pass made.
 pub(crate) fn is_part(list: &[Entry], pass: PassNo, entries: &[Entry]) -> bool
     ensures { IsTrue result → list.now ≡ part pass entries.now }
 {

@@ -1,4 +1,4 @@
-//! What a pass does with views that stand: a page of one, the end of one, and taking them all on.
+//! What a pass does with views: it reads a page of one, drops one, or advances them all.
 
 ghost use Rattle.std.specs.Prelude.{◌≡◌, ◌+◌, ◌≤◌, IfOk, IfErr};
 ghost use Rattle.mt_types.specs.declared.event.Event.TheVariants.{ViewRead, ViewDrop};
@@ -15,14 +15,17 @@ use mt_types::refusal::Refusal;
 use mt_types::view::Page;
 use std::alloc::Global;
 
-/// A page of a view: its count, its sums, and its first rows at or after `start`, up to `limit`. One event. The page
-/// stands at `floor` commits at least; for one that is not before what the pass has seen, give `pass.seen()`. What a
-/// page shows doesn't count as seen.
+/// Reads a page of a view: its count, its sums, and its first rows whose keys are at or after `start`, at most `limit`.
+/// Makes one event. The page is at `floor` commits or more. A caller that wants a page no older than what its pass has
+/// seen passes `pass.seen()`. What a page shows isn't counted as seen.
+///
+/// Costs O(log n + k) for a page of k rows, with an allocation for each.
 ///
 /// # Errors
 ///
-/// `KeyTooLong`; `BadLimit` unless `limit` is from 1 to 1000; `NoSuchView`; `Behind` where the view stands at fewer
-/// commits than `floor`; `NoMemory`. `WrongPass` and `Spent` as of any event of a pass.
+/// `KeyTooLong`; `BadLimit` unless `limit` is from 1 to `MAX_RANGE`; `NoSuchView` if no view has this number; `Behind`
+/// if the view is at fewer than `floor` commits; `NoMemory` if an allocation is refused. `WrongPass` and `Spent` as for
+/// any event of a pass.
 pub fn view_read<S: Shared>(
     alloc: Global,
     shared: &mut S,
@@ -51,11 +54,11 @@ pub fn view_read<S: Shared>(
     }
 }
 
-/// The end of a view: it stands no more. One event.
+/// Drops a view. Makes one event. O(n) in the rows of the view.
 ///
 /// # Errors
 ///
-/// `NoSuchView`. `WrongPass` and `Spent` as of any event of a pass.
+/// `NoSuchView` if no view has this number. `WrongPass` and `Spent` as for any event of a pass.
 pub fn view_drop<S: Shared>(
     alloc: Global,
     shared: &mut S,
@@ -72,16 +75,17 @@ pub fn view_drop<S: Shared>(
     }
 }
 
-/// Takes views on, in each turn the one that is furthest behind by one commit, until all stand at the newest commit or
-/// so many turns are made. Each turn is one event. Gives how many turns took a view on: where they are fewer than
-/// `turns`, all views stood at the newest commit at the last.
+/// Advances views: each turn advances the view at the fewest commits by one commit, until all views are at the newest
+/// commit or `turns` turns were made. Each turn is one event, and costs O(log n) in the rows of its view. Returns how
+/// many turns have advanced a view. If they are fewer than `turns`, all views were at the newest commit at the last
+/// turn.
 ///
-/// Over a `Door` each turn is one holding of the lock, so other threads' events come between them.
+/// Over a `Door` each turn holds the lock once, so events of other threads can come between them.
 ///
 /// # Errors
 ///
-/// The refusal of a turn: `NoMemory`; `WrongPass` and `Spent` as of any event of a pass. What was taken on by then
-/// stands.
+/// The refusal of a turn: `NoMemory` if an allocation is refused; `WrongPass` and `Spent` as for any event of a pass.
+/// The turns before it have advanced their views.
 pub fn keep_views<S: Shared>(
     alloc: Global,
     shared: &mut S,
@@ -106,7 +110,7 @@ pub fn keep_views<S: Shared>(
     Ok(applied)
 }
 
-// An apply of the view that is furthest behind.
+// Advances the view at the fewest commits by one commit.
 fn take_turn<S: Shared>(alloc: Global, shared: &mut S, pass: &mut Pass) -> Outcome
     ensures does { S.does shared.old pass.old furthest result shared.new pass.new }
     ensures told { IsTold pass.old furthest result pass.new }

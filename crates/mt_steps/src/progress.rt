@@ -6,14 +6,16 @@ use mt_types::refusal::Refusal;
 /// What a step of a call comes to.
 #[derive(Drop)]
 pub enum Progress {
-    /// The call goes on.
+    /// The call has advanced.
     Moved,
-    /// It begins its way again, or another call has locked its node.
+    /// The call could not use what it visited: a node that is marked deleted, a node that another call has locked, or a
+    /// border that is being changed or was changed since its first field was read. Its next step begins its way or this
+    /// border again, or tries the same node again.
     Waits,
-    /// It has made the commit of this number.
+    /// The call has made the commit of this number.
     Committed(u64),
-    /// It ends.
+    /// The call has ended with this answer.
     Answered(Answer),
-    /// It ends refused.
+    /// The call has ended, refused for this cause.
     Refused(Refusal),
 }

@@ -1,4 +1,5 @@
-//! A reader or writer that gives or takes little at a time, and fails when it is told to: for tests of what stands on one.
+//! A reader or writer that reads or writes little at a time, and fails when it is asked to: for tests of code that uses
+//! one.
 
 ghost use Rattle.std.specs.Prelude.{◌≡◌, ◌<◌, ◌≤◌};
 ghost use Rattle.std.specs.Io.{ReadsAtMost, WritesAtMost};
@@ -8,7 +9,7 @@ ghost use Rattle.mt_streams.specs.Readers.{faulty_inner};
 use std::io;
 use std::io::{ErrorKind, Read, Write};
 
-/// A reader or writer whose calls give or take at most so many bytes each, and fail from a given call on.
+/// A reader or writer whose calls read or write a bounded number of bytes each, and fail from a given call on.
 #[derive(Drop)]
 pub struct Faulty<T> {
     inner: T,
@@ -17,8 +18,9 @@ pub struct Faulty<T> {
 }
 
 impl<T> Faulty<T> {
-    /// Calls of `inner` that give or take at most `most` bytes each, but one byte where that is 0. None fails, or where
-    /// `good` is given the first so many don't, and all later ones do.
+    /// Returns a reader or writer of `inner` whose calls read or write at most `most` bytes each (one byte if `most` is
+    /// 0). If `good` is `None`, no call fails. Otherwise the first `good` calls don't fail, and all later ones do. A
+    /// flush is not counted, and never fails but as `inner` does.
     pub fn new(inner: T, most: usize, good: Option<u64>) -> Faulty<T>
         ensures { faulty_inner result ≡ inner }
     {
@@ -29,14 +31,14 @@ impl<T> Faulty<T> {
         }
     }
 
-    /// What is in it.
+    /// Returns the inner reader or writer.
     pub fn inner(&self) -> &T
         ensures { result.now ≡ faulty_inner self.now }
     {
         &self.inner
     }
 
-    // Whether this call is to fail; one call fewer is left.
+    // Whether this call is to fail. Counts the call.
     fn fails(&mut self) -> bool
         ensures { self.new.inner ≡ self.old.inner }
     {
@@ -50,7 +52,7 @@ impl<T> Faulty<T> {
         }
     }
 
-    // How many of so many bytes a call gives or takes.
+    // Returns how many of `bytes` bytes a call reads or writes.
     fn part(&self, bytes: usize) -> usize
         ensures within { result ≤ bytes }
         ensures some { 0 < bytes → 0 < result }

@@ -1,4 +1,5 @@
-//! Readers and writers whose calls are counted, and which note that one has failed: what scripts and sessions go by.
+//! Readers whose calls are counted, and readers and writers that note whether the last call failed. Scripts and
+//! sessions use them.
 #![tactic(auto)]
 
 pub mod counted;

@@ -8,12 +8,12 @@ ghost use Rattle.mt_streams.specs.Sinks.{sink_writer, write_failed};
 use std::io::Write;
 use thiserror::Error;
 
-/// A write failed, or took nothing.
+/// A write failed, or wrote no bytes.
 #[derive(Clone, Copy, Debug, PartialEq, Eq, Error)]
 #[error("nothing more could be written")]
 pub struct WriteFailed;
 
-/// A writer. It notes whether its last write failed.
+/// A writer that notes whether its last write failed.
 #[derive(Drop)]
 pub struct Sink<W> {
     writer: W,
@@ -21,7 +21,7 @@ pub struct Sink<W> {
 }
 
 impl<W: Write> Sink<W> {
-    /// A sink that writes to the writer.
+    /// Returns a sink that writes to `writer`.
     pub fn new(writer: W) -> Sink<W>
         ensures writer { sink_writer result ≡ writer }
         ensures fresh { write_failed result ≡ false }
@@ -32,14 +32,14 @@ impl<W: Write> Sink<W> {
         }
     }
 
-    /// The writer, with what it was given so far.
+    /// Returns the inner writer, with what has been written to it.
     pub fn writer(&self) -> &W
         ensures { result.now ≡ sink_writer self.now }
     {
         &self.writer
     }
 
-    // Writes some of the bytes, at least one.
+    // Writes some of the bytes, at least one, and returns how many.
     fn send_some(&mut self, bytes: &[u8]) -> Result<usize, WriteFailed>
         ensures bound { WritesAtMost result bytes.now }
         ensures bytes { WriteAppends (W.contents self.old.writer) (W.contents self.new.writer) result bytes.now }
@@ -55,11 +55,11 @@ impl<W: Write> Sink<W> {
         }
     }
 
-    /// Writes the bytes, or the first of them.
+    /// Writes all bytes, with as many writes as that takes. On an error only the first of them have been written.
     ///
     /// # Errors
     ///
-    /// Where a write failed or took nothing.
+    /// `WriteFailed` if a write failed, or wrote no bytes.
     pub fn send(&mut self, bytes: &[u8]) -> Result<(), WriteFailed>
         ensures sent { (sent : List ℕ) × (unsent : List ℕ) × (bytes.now ≡ sent ++ unsent)
             × Appends (W.contents (sink_writer self.old)) (W.contents (sink_writer self.new)) sent

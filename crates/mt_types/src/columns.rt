@@ -1,4 +1,4 @@
-//! Columns of one row: what a put makes of them, and which of them an answer shows.
+//! The columns of one row: what a put does to them, and which of them an answer shows.
 
 ghost use Rattle.std.specs.Prelude.{◌≡◌, [], replicate, slice_index_or, IfOk};
 ghost use Rattle.mt_types.specs.Rows.{new_columns, chosen, shown};
@@ -10,11 +10,11 @@ use crate::row::{Column, ColumnNumbers, Columns, Row, Sets};
 use bytes::Bytes;
 use std::alloc::Global;
 
-/// `count` columns with no bytes. O(n) in `count`; one allocation.
+/// Returns `count` columns, each empty. O(n) in `count`, with one allocation.
 ///
 /// # Errors
 ///
-/// `NoMemory` where the allocation is refused.
+/// `NoMemory` if the allocation is refused.
 pub fn empty_columns(alloc: Global, count: u8) -> Result<Vec<Column>, NoMemory>
     ensures { IfOk result (λ columns. columns.items ≡ replicate count []) }
 {
@@ -25,12 +25,12 @@ pub fn empty_columns(alloc: Global, count: u8) -> Result<Vec<Column>, NoMemory>
     Ok(columns)
 }
 
-/// Puts the new bytes in the places of the old ones. Of two sets of one column the first wins, and a set of a column
-/// that is not there does nothing. O(n) in the sets; takes no memory and copies no bytes.
+/// Replaces the bytes of each column that `sets` names, as a put does. If `sets` names a column twice, its first set
+/// counts. A set of a column that does not exist does nothing. O(n) in the sets. Allocates nothing and copies no bytes.
 pub fn write_sets(columns: &mut [Column], sets: Sets)
     ensures { columns.new ≡ new_columns sets 0 columns.old }
 {
-    // From the last set on, so that the first of a column is written last.
+    // From the last set to the first, so that the first set of a column is written last.
     let mut sets = sets.into_vec();
     while let Some((number, bytes)) = sets.pop() {
         let column = number as usize;
@@ -40,7 +40,7 @@ pub fn write_sets(columns: &mut [Column], sets: Sets)
     }
 }
 
-// The column of a number, or no bytes. Shares the bytes.
+// The column of this number, or an empty column if there is none. Shares the bytes.
 fn column_or_empty(columns: &[Column], number: u8) -> Result<Column, NoMemory>
     ensures { IfOk result (λ column. column ≡ slice_index_or columns.now number []) }
 {
@@ -63,12 +63,13 @@ fn chosen(alloc: Global, asked: &[u8], columns: &Columns) -> Result<Columns, NoM
     Ok(Items::from_vec(made))
 }
 
-/// The row with the columns that are asked for, in that order; none asked means all. Shares the bytes. O(n) in the
-/// columns that it gives; one allocation.
+/// Returns the row with the columns that `asked` names, in the order of `asked`, or with all columns if `asked` is
+/// empty. A column that does not exist is empty in the result. The version stays. Shares the bytes. O(n) in the columns
+/// of the result, with one allocation.
 ///
 /// # Errors
 ///
-/// `NoMemory` where an allocation is refused.
+/// `NoMemory` if an allocation is refused.
 pub fn shown(alloc: Global, asked: &ColumnNumbers, row: &Row) -> Result<Row, NoMemory>
     ensures { IfOk result (λ made. made ≡ shown asked.now row.now) }
 {

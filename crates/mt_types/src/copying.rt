@@ -1,4 +1,4 @@
-//! Copies that may be refused memory.
+//! Copies that can fail for lack of memory.
 
 ghost use Rattle.std.specs.Prelude.{◌≡◌, Ok, None, IfOk, IsOk};
 
@@ -6,9 +6,13 @@ use crate::refusal::NoMemory;
 use bytes::Bytes;
 use std::alloc::Global;
 
-/// A value of which an equal one can be made, where memory allows.
+/// A value that can be copied, if memory allows.
 pub trait TryCopy {
-    /// An equal value, or want of memory.
+    /// Returns a value equal to this one.
+    ///
+    /// # Errors
+    ///
+    /// `NoMemory` if an allocation is refused.
     fn copy(&self, alloc: Global) -> Result<Self, NoMemory>
     where
         Self: Sized,
@@ -16,7 +20,7 @@ pub trait TryCopy {
 }
 
 impl TryCopy for u8 {
-    /// Takes no memory.
+    /// Allocates nothing, and cannot fail.
     fn copy(&self, _alloc: Global) -> Result<u8, NoMemory>
         ensures { result ≡ Ok self.now }
     {
@@ -25,7 +29,7 @@ impl TryCopy for u8 {
 }
 
 impl TryCopy for u128 {
-    /// Takes no memory.
+    /// Allocates nothing, and cannot fail.
     fn copy(&self, _alloc: Global) -> Result<u128, NoMemory>
         ensures { result ≡ Ok self.now }
     {
@@ -34,20 +38,21 @@ impl TryCopy for u128 {
 }
 
 impl TryCopy for Bytes {
-    /// Shares the bytes: costs no copy of them.
+    /// Shares the bytes, and does not copy them.
     fn copy(&self, _alloc: Global) -> Result<Bytes, NoMemory> {
         Ok(self.clone()?)
     }
 }
 
 impl<A: TryCopy + Drop, B: TryCopy + Drop> TryCopy for (A, B) {
+    /// Copies the first value, then the second.
     fn copy(&self, alloc: Global) -> Result<(A, B), NoMemory> {
         Ok((self.0.copy(alloc)?, self.1.copy(alloc)?))
     }
 }
 
 impl<T: TryCopy> TryCopy for Option<T> {
-    /// Where there is no value, takes no memory.
+    /// Copies the value, if there is one. Else allocates nothing, and cannot fail.
     fn copy(&self, alloc: Global) -> Result<Option<T>, NoMemory>
         ensures value { IfOk result (λ made. made ≡ self.now) }
         ensures free { self.now ≡ None → IsOk result }

@@ -11,133 +11,139 @@ use crate::view::{Page, ViewSpec};
 use bytes::Bytes;
 use std::alloc::Global;
 
-/// What a call asks for. Keys and columns are bytes of any length here: the begin of the call tests them.
+/// What a call asks for. Here keys and columns are bytes of any length: the begin of the call tests them.
 #[derive(Debug, PartialEq, Eq, Drop)]
 pub enum Request {
-    /// The row of a key, with the columns asked for; none means all.
+    /// The row of `key`, with the columns that are asked for, or with all if none is asked for.
     Get {
         key: Bytes,
         columns: ColumnNumbers,
     },
-    /// New bytes for columns of a key's row. A put that names no column commits too.
+    /// New bytes for columns of the row of `key`. A put without sets commits too.
     Put {
         key: Bytes,
         sets: Sets,
     },
-    /// A put that commits only where the key's row is of this version; 0: where the key has no row. Else it is refused,
-    /// with the version that the row has.
+    /// A put that commits only if the row of `key` has this version, or, for version 0, if `key` has no row. Otherwise
+    /// it is refused as `OtherVersion`.
     PutIf {
         key: Bytes,
         sets: Sets,
         version: u64,
     },
-    /// The end of a key's row.
+    /// Removes the row of `key`.
     Remove {
         key: Bytes,
     },
-    /// Up to `limit` rows from the first key at or after `start` on, with the columns asked for.
+    /// The first rows whose keys are at or after `start`, at most `limit`, in the order of keys, each with the columns
+    /// that are asked for, or with all if none is asked for.
     Range {
         start: Bytes,
         limit: u16,
         columns: ColumnNumbers,
     },
-    /// One change that tidies the tree where the key would stand.
+    /// One change that tidies the tree on the way to `key`.
     Tidy {
         key: Bytes,
     },
-    /// A standing view.
+    /// A new view, which is kept from then on.
     Build {
         spec: ViewSpec,
     },
 }
 
-/// One event. Calls go on by steps: each visits one node, and a get, range or build reads one field of it, where it is a
-/// border; or it takes one delta of the log.
+/// One event. A call advances by steps. A step visits one node; at a border, a step of a get, range or build reads one
+/// field only. After its scan, a build takes one delta of the log a step.
 #[derive(Debug, PartialEq, Eq, Drop)]
 pub enum Event {
     /// A pass begins a call.
     Begin(PassNo, Request),
-    /// A call goes one step on.
+    /// A call makes one step.
     Step(CallNo),
-    /// A view goes on by the next commit, if it is behind.
+    /// A view is advanced by the next commit, if it is not at the last one. `ViewNo(0)` means the view at the fewest
+    /// commits.
     Apply(ViewNo),
-    /// A page of a view is asked for: the view has to stand at `floor` commits at least.
+    /// Asks for a page of a view: the first rows whose keys are at or after `start`, at most `limit`. It is refused as
+    /// `Behind` if the view is at fewer than `floor` commits.
     ViewRead {
         view: ViewNo,
         floor: u64,
         start: Bytes,
         limit: u16,
     },
-    /// A view ends.
+    /// Ends a view.
     ViewDrop(ViewNo),
-    /// The next epoch begins.
+    /// Begins the next epoch.
     Advance,
-    /// Retired nodes that no open call can still hold are freed.
+    /// Frees the retired nodes that no open call can still hold.
     Collect,
 }
 
-/// What a call did that tidies the tree.
+/// What a tidy did (Masstree, EuroSys 2012, section 4.6.5).
 #[derive(Clone, Copy, Debug, PartialEq, Eq)]
 pub enum TidyRule {
-    /// Nothing was to do, or the call gave up.
+    /// Nothing: there was nothing to do, or the call gave up.
     Nothing,
-    /// It took an empty border out.
+    /// It removed an empty border.
     EmptyBorder,
-    /// It took an interior with one child out, below the root.
+    /// It removed an interior below the root that had one child.
     LoneChild,
-    /// It took a root with one child out.
+    /// It removed a root that had one child. The child is then the root.
     LoneRootChild,
-    /// It took an empty layer out.
+    /// It removed an empty layer.
     EmptyLayer,
 }
 
 /// The answer of a call.
 #[derive(Debug, PartialEq, Eq, Drop)]
 pub enum Answer {
-    /// The key has no row: of a get, or of a remove that had nothing to do.
+    /// The key has no row. The answer of a get, or of a remove that had nothing to remove.
     Absent,
-    /// The row of a get.
+    /// The row that a get found.
     Found(Row),
     /// The number of a put's commit.
     Stored(u64),
     /// The number of a remove's commit.
     Removed(u64),
-    /// The rows of a range, with their keys.
+    /// The rows of a range, with their keys, in the order of keys.
     Rows(Pairs),
     /// What a tidy did.
     Tidied(TidyRule),
-    /// The view of a build.
+    /// The number of the view that a build opened.
     Built(ViewNo),
 }
 
-/// The end of a call.
+/// How a call ended.
 #[derive(Debug, PartialEq, Eq, Drop)]
 pub struct Reply {
+    /// The pass that began the call.
     pub pass: PassNo,
+    /// The number of the call.
     pub call: CallNo,
     /// The number of commits when the call began.
     pub from: u64,
-    /// The number of commits when it ended.
+    /// The number of commits when the call ended.
     pub to: u64,
+    /// What the call answers.
     pub answer: Answer,
 }
 
-/// What came of an event.
+/// What an event did.
 #[derive(Debug, PartialEq, Eq, Drop)]
 pub enum Outcome {
-    /// A call has begun, under this number.
+    /// A call has begun. This is its number.
     Call(CallNo),
-    /// The call went on.
+    /// The call made a step.
     Moved,
-    /// The call met a node that it couldn't use, and goes on by the next step.
+    /// The call could not use the node that it visited, and continues with its next step.
     Again,
     /// The call has made the commit of this number.
     Commit(u64),
-    /// The call has ended.
+    /// The call has ended with this reply.
     Done(Reply),
-    /// The view stands at this number of commits.
+    /// The view was advanced, and is now at this number of commits.
     Applied(u64),
-    /// There was nothing to apply.
+    /// The view is at the last commit, or, for `ViewNo(0)`, each view is: nothing was applied.
     Current,
     /// What the view shows.
     View(Page),
@@ -145,14 +151,14 @@ pub enum Outcome {
     Dropped,
     /// The number of the epoch that has begun.
     Epoch(u64),
-    /// How many nodes were freed.
+    /// This many nodes were freed.
     Freed(u32),
     /// The event was refused, or the call has ended refused.
     Refused(Refusal),
 }
 
 impl TryCopy for Request {
-    /// Shares the bytes. O(n) in the columns that it names; at most one allocation for them.
+    /// Shares the bytes. O(n) in the columns that it names, with at most one allocation for them.
     fn copy(&self, alloc: Global) -> Result<Request, NoMemory> {
         match self {
             Request::Get { key, columns } => Ok(Request::Get {
@@ -191,7 +197,8 @@ impl TryCopy for Request {
 }
 
 impl TryCopy for Event {
-    /// Shares the bytes. Costs a copy of its request; where it holds no bytes, takes no memory.
+    /// Shares the bytes. Costs what a copy of its request costs. An event without bytes allocates nothing, and its copy
+    /// cannot fail (`free`).
     fn copy(&self, alloc: Global) -> Result<Event, NoMemory>
         ensures value { IfOk result (λ made. made ≡ self.now) }
         ensures free { IsBareEvent self.now → IsOk result }
@@ -219,8 +226,8 @@ impl TryCopy for Event {
 }
 
 impl TryCopy for Answer {
-    /// Shares the bytes. O(n) in the columns that it holds, with an allocation for each row; where it holds none, takes
-    /// no memory.
+    /// Shares the bytes. O(n) in the columns that it holds, with an allocation for each row and one for a list of rows.
+    /// An answer without rows allocates nothing, and its copy cannot fail (`free`).
     fn copy(&self, alloc: Global) -> Result<Answer, NoMemory>
         ensures value { IfOk result (λ made. made ≡ self.now) }
         ensures free { IsBareAnswer self.now → IsOk result }
@@ -238,7 +245,7 @@ impl TryCopy for Answer {
 }
 
 impl TryCopy for Reply {
-    /// Costs a copy of its answer.
+    /// Costs what a copy of its answer costs.
     fn copy(&self, alloc: Global) -> Result<Reply, NoMemory>
         ensures value { IfOk result (λ made. made ≡ self.now) }
         ensures free { IsBareAnswer self.now.answer → IsOk result }
@@ -254,7 +261,8 @@ impl TryCopy for Reply {
 }
 
 impl TryCopy for Outcome {
-    /// Costs a copy of its reply or page; where it holds no rows, takes no memory.
+    /// Costs what a copy of its reply or page costs. An outcome without rows and pages allocates nothing, and its copy
+    /// cannot fail (`free`).
     fn copy(&self, alloc: Global) -> Result<Outcome, NoMemory>
         ensures value { IfOk result (λ made. made ≡ self.now) }
         ensures free { IsBareOutcome self.now → IsOk result }

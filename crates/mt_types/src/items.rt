@@ -1,4 +1,4 @@
-//! Lists that a contract compares: over a `Vec`, seen as the list of their items.
+//! Lists: vectors that a contract sees as the lists of their items, and that can be compared.
 
 ghost use Rattle.std.specs.Prelude.{◌≡◌, [], IfOk};
 ghost use Rattle.std.specs.Cmp.Lexicographic.{pointwise, lists_per, lists_equiv};
@@ -8,7 +8,7 @@ use crate::refusal::NoMemory;
 use std::alloc::Global;
 use std::marker::Model;
 
-/// Items in their order. Two lists are equal where their items are, whatever room their vectors have.
+/// Items in their order. Two lists are equal if their items are equal, whatever the capacity of their vectors.
 #[derive(Debug, Drop)]
 pub struct Items<T> {
     items: Vec<T>,
@@ -23,7 +23,7 @@ impl<T> Model for Items<T> {
 }
 
 impl<T> Items<T> {
-    /// No items. Takes no memory.
+    /// Returns an empty list. Allocates nothing.
     pub fn new(alloc: Global) -> Items<T>
         ensures { result ≡ [] }
     {
@@ -32,14 +32,14 @@ impl<T> Items<T> {
         }
     }
 
-    /// The items of a vector, in its memory.
+    /// Returns the items of `vector`, and keeps its memory.
     pub fn from_vec(vector: Vec<T>) -> Items<T>
         ensures { result ≡ vector.items }
     {
         Items { items: vector }
     }
 
-    /// The vector of these items, in their memory.
+    /// Returns these items as a vector, and keeps their memory.
     pub fn into_vec(self) -> Vec<T>
         ensures { result.items ≡ self }
     {
@@ -47,7 +47,7 @@ impl<T> Items<T> {
         items
     }
 
-    /// The items, to be read.
+    /// Returns the items as a slice.
     pub fn as_slice(&self) -> &[T]
         ensures { result.now ≡ self.now }
     {
@@ -80,7 +80,7 @@ fn copy_items<T: TryCopy + Drop>(alloc: Global, items: &[T]) -> Result<Vec<T>, N
 }
 
 impl<T: TryCopy + Drop> TryCopy for Items<T> {
-    /// O(n) in the items; one allocation.
+    /// Copies each item, in order. O(n) in the items, with one allocation besides those of the items.
     fn copy(&self, alloc: Global) -> Result<Items<T>, NoMemory> {
         Ok(Items {
             items: copy_items(alloc, &self.items)?,

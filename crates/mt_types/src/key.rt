@@ -1,4 +1,4 @@
-//! Keys: bytes, not too many, in lexicographic order.
+//! Keys: byte strings of limited length, in lexicographic order.
 
 ghost use Rattle.std.specs.Prelude.{◌≡◌, ◌<◌, ◌≤◌, ◌↔◌, length, IfOk, IfErr, IsErrOf};
 
@@ -10,7 +10,8 @@ use std::alloc::Global;
 use std::cmp::Ordering;
 use std::marker::Model;
 
-/// A key: up to `MAX_KEY_BYTES` bytes. Keys are ordered by their bytes from the first on, a proper prefix first.
+/// A key: at most `MAX_KEY_BYTES` bytes. Keys are ordered by their bytes from the first on, and a proper prefix of a
+/// key is before it.
 #[derive(Debug, Drop)]
 pub struct Key {
     bytes: Bytes,
@@ -28,7 +29,11 @@ impl Model for Key {
 }
 
 impl Key {
-    /// The key of these bytes. Refused `KeyTooLong` where there are more than `MAX_KEY_BYTES`. Takes no memory.
+    /// Returns the key of `bytes`. Allocates nothing.
+    ///
+    /// # Errors
+    ///
+    /// `KeyTooLong` if there are more than `MAX_KEY_BYTES` bytes.
     pub fn new(bytes: Bytes) -> Result<Key, Refusal>
         ensures kept { IfOk result (λ key. key ≡ bytes) }
         ensures refused { IsErrOf result Refusal.KeyTooLong ↔ (MAX_KEY_BYTES < length bytes) }
@@ -40,7 +45,7 @@ impl Key {
         Ok(Key { bytes })
     }
 
-    /// The bytes, to be read.
+    /// Returns the bytes as a slice, at most `MAX_KEY_BYTES`.
     pub fn as_slice(&self) -> &[u8]
         ensures value { result.now ≡ self.now }
         ensures fits { length self.now ≤ MAX_KEY_BYTES }
@@ -48,7 +53,7 @@ impl Key {
         self.bytes.as_slice()
     }
 
-    /// The bytes of this key.
+    /// Returns the bytes, at most `MAX_KEY_BYTES`. Copies nothing.
     pub fn into_bytes(self) -> Bytes
         ensures value { result ≡ self }
         ensures fits { length self ≤ MAX_KEY_BYTES }
@@ -59,7 +64,7 @@ impl Key {
 }
 
 impl TryCopy for Key {
-    /// Shares the bytes: costs no copy of them.
+    /// Shares the bytes, and does not copy them.
     fn copy(&self, alloc: Global) -> Result<Key, NoMemory> {
         Ok(Key {
             bytes: self.bytes.copy(alloc)?,
@@ -76,6 +81,7 @@ impl PartialEq for Key {
 
     ghost laws = { partial_equiv_from_equiv nat_list_eq_equiv };
 
+    /// O(n) in the bytes.
     fn eq(&self, other: &Key) -> bool {
         self.bytes == other.bytes
     }
@@ -96,6 +102,7 @@ impl PartialOrd for Key {
 
     ghost laws = { texts_po };
 
+    /// O(n) in the bytes. Returns `Some` for any two keys.
     fn partial_cmp(&self, other: &Key) -> Option<Ordering> {
         Some(self.cmp(other))
     }
@@ -114,6 +121,7 @@ impl Ord for Key {
 
     ghost matches_eq = { texts_ties };
 
+    /// Compares the bytes from the first on. A proper prefix is less. O(n) in the bytes of the shorter key.
     fn cmp(&self, other: &Key) -> Ordering {
         self.bytes.cmp(&other.bytes)
     }

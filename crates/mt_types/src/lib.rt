@@ -1,6 +1,6 @@
 //! The values of the index: keys, rows, requests, events and their outcomes, with the model of rows and views.
 //!
-//! A call costs O(1) unless it says otherwise.
+//! A function takes O(1) time unless its documentation says otherwise.
 #![tactic(auto)]
 
 pub mod columns;

@@ -1,4 +1,5 @@
-//! The limits of an index, each with the refusal that guards it, and the tests that no later crate makes again.
+//! The limits of an index, each with the refusal that guards it, and the tests of requests and options against them.
+//! Later crates rely on these tests, and do not repeat them.
 
 ghost use Rattle.std.specs.Prelude.{◌≡◌, ◌==◌, Some, nat_lt, length, map};
 ghost use Rattle.std.specs.List.{list_any};
@@ -23,10 +24,11 @@ pub const MAX_COLUMN_BYTES: usize = 64;
 /// The most rows of a range or a page; the least is 1. Guarded by `BadLimit`.
 pub const MAX_RANGE: u16 = 1000;
 
-/// The most commits that the log may hold for the slowest that reads it; the least is 1. Guarded by `BadLimit`.
+/// The most commits that the log may be opened to hold for the slowest of its readers; the least is 1. Guarded by
+/// `BadLimit`.
 pub const MAX_FEED: u64 = 65_536;
 
-/// The most commits that the log may be told to keep for nobody. Guarded by `BadLimit`.
+/// The most commits that the log may be opened to keep for no reader. Guarded by `BadLimit`.
 pub const MAX_KEEP: u64 = 65_536;
 
 /// The most passes of an index, and the most readers of a published view; the least is 1. Guarded by `BadLimit`.
@@ -35,22 +37,24 @@ pub const MAX_PASSES: u64 = 255;
 /// The most calls that are open at once. Guarded by `TooManyCalls`.
 pub const MAX_OPEN_CALLS: usize = 1024;
 
-/// The most views that stand or are being built at once. Guarded by `TooManyViews`.
+/// The most views at once, those that are being built included. Guarded by `TooManyViews`.
 pub const MAX_VIEWS: usize = 64;
 
-/// How many numbers of nodes there are, retired nodes counted. Guarded by `ArenaFull`.
+/// How many numbers of nodes exist. A retired node still occupies its number. Guarded by `ArenaFull`.
 pub const MAX_NODES: u32 = 1_048_576;
 
-/// The highest level of an interior node; a border node has level 0. A node that would stand higher is not posted.
+/// The highest level of an interior node. A border node has level 0. A node that would get a higher level is not
+/// posted.
 pub const MAX_LEVEL: u8 = 15;
 
-/// The deepest layer: a key of `MAX_KEY_BYTES` has its last slice there. Guarded by `KeyTooLong`.
+/// The number of the deepest layer, counted from 0. A key of `MAX_KEY_BYTES` bytes has its last slice in this layer.
+/// Guarded by `KeyTooLong`.
 pub const MAX_LAYER: usize = 127;
 
-/// The most queries of a frame; the least is 1. A frame outside is a bad frame.
+/// The most queries of a frame; the least is 1. A frame with another number of queries is a bad frame.
 pub const MAX_QUERIES: usize = 64;
 
-/// The most bytes of the body of a frame of requests. A frame outside is a bad frame.
+/// The most bytes of the body of a frame of requests. A frame with a longer body is a bad frame.
 pub const MAX_REQUEST_BODY: u32 = 262_144;
 
 fn key_fault(key: &[u8]) -> Option<Refusal>
@@ -59,7 +63,7 @@ fn key_fault(key: &[u8]) -> Option<Refusal>
     (key.len() > MAX_KEY_BYTES).then_some(Refusal::KeyTooLong)
 }
 
-// Whether a number of a column is not below the number of columns, or stands twice.
+// Whether one of these numbers of columns is not less than `columns`, or is named twice.
 fn misnames(columns: u8, names: &[u8]) -> bool
     ensures { result ≡ misnames columns names.now }
 {
@@ -71,8 +75,8 @@ fn misnames(columns: u8, names: &[u8]) -> bool
     false
 }
 
-/// What refuses these numbers of columns, in an index of `columns` columns: one that isn't there, or that stands twice.
-/// O(n^2) in the numbers.
+/// Returns `BadColumn` if one of these numbers is not less than `columns`, the number of columns of the index, or is
+/// named twice. O(n) in the numbers, times `columns`, since the search ends at the first number that is named twice.
 pub fn columns_fault(columns: u8, names: &[u8]) -> Option<Refusal>
     ensures { result ≡ columns_fault columns names.now }
 {
@@ -90,7 +94,7 @@ fn names(sets: &[(u8, Column)], name: u8) -> bool
     false
 }
 
-// Whether sets name a column that is not below the number of columns, or one twice.
+// Whether the sets name a column that is not less than `columns`, or name one twice.
 fn sets_misname(columns: u8, sets: &[(u8, Column)]) -> bool
     ensures { result ≡ misnames columns (map (λ set. set.0) sets.now) }
 {
@@ -123,7 +127,7 @@ fn sets_fault(columns: u8, sets: &[(u8, Column)]) -> Option<Refusal>
     }
 }
 
-/// `BadLimit` unless the limit of a range, a page or a feed is from 1 to `MAX_RANGE`.
+/// Returns `BadLimit` unless the limit of a range, a page or a feed is from 1 to `MAX_RANGE`.
 pub fn limit_fault(limit: u16) -> Option<Refusal>
     ensures { result ≡ limit_fault limit }
 {
@@ -165,8 +169,9 @@ fn range_fault(columns: u8, lo: &Bytes, hi: &Bytes, test: &RowTest) -> Option<Re
         .or_else(|| end_fault(lo, hi))
 }
 
-/// The first limit that a specification of a view breaks on an index of `columns` columns: of keys, then of its test,
-/// then that its range ends before it begins.
+/// Returns the first limit that the specification of a view breaks in an index of `columns` columns, if it breaks one:
+/// the limits of its keys first, then those of its test, then `BadRange` unless its range ends after its start. O(n) in
+/// the bytes of the ends of a range.
 pub fn spec_fault(columns: u8, spec: &ViewSpec) -> Option<Refusal>
     ensures { result ≡ spec_fault columns spec.now }
 {
@@ -179,8 +184,11 @@ pub fn spec_fault(columns: u8, spec: &ViewSpec) -> Option<Refusal>
     }
 }
 
-/// The first limit that a request breaks on an index of `columns` columns: of keys, then of columns, then of numbers.
-/// O(n) in the columns that it names, times `columns`: the search ends at the first number that stands twice.
+/// Returns the first limit that a request breaks in an index of `columns` columns, if it breaks one: the limits of its
+/// key first, then those of its columns, then those of numbers. A specification of a view is tested as by
+/// [`spec_fault`].
+///
+/// O(n) in the columns that it names, times `columns`, since the search ends at the first number that is named twice.
 pub fn request_fault(columns: u8, request: &Request) -> Option<Refusal>
     ensures { result ≡ request_fault columns request.now }
 {
@@ -204,15 +212,17 @@ pub fn request_fault(columns: u8, request: &Request) -> Option<Refusal>
     }
 }
 
-/// The first limit that is broken where a page of a view is asked for.
+/// Returns the first limit that the request for a page of a view breaks, if it breaks one: that of its key, then that
+/// of its number of rows.
 pub fn page_fault(start: &[u8], limit: u16) -> Option<Refusal>
     ensures { result ≡ page_fault start.now limit }
 {
     key_fault(start).or_else(|| limit_fault(limit))
 }
 
-/// The first limit that an index breaks which is to be opened with `columns` columns and a log that holds at most
-/// `feed` commits for the slowest that reads it, and keeps `keep` for nobody.
+/// Returns the first limit that the options of an index break, if they break one: `BadColumn` for `columns`, the number
+/// of its columns, then `BadLimit` for `feed`, the most commits that its log holds for the slowest of its readers, or
+/// for `keep`, the number of commits that its log keeps for no reader.
 pub fn open_fault(columns: u64, feed: u64, keep: u64) -> Option<Refusal>
     ensures { result ≡ open_fault columns feed keep }
 {
@@ -223,7 +233,8 @@ pub fn open_fault(columns: u64, feed: u64, keep: u64) -> Option<Refusal>
     }
 }
 
-/// `BadLimit` unless an index may have `passes` passes, and a published view as many readers.
+/// Returns `BadLimit` unless `passes` is from 1 to `MAX_PASSES`: the number of passes of an index, or of readers of a
+/// published view.
 pub fn passes_fault(passes: u64) -> Option<Refusal>
     ensures { result ≡ passes_fault passes }
 {

@@ -1,4 +1,4 @@
-//! Why the index refuses: one numbered cause for each, with a message to read.
+//! Why the index refuses: the causes, each with its number and its message.
 
 ghost use Rattle.std.specs.Prelude.{◌≡◌};
 ghost use Rattle.mt_types.specs.RefusalNumbers.{refusal_number, refusal_detail};
@@ -6,67 +6,68 @@ ghost use Rattle.mt_types.specs.RefusalNumbers.{refusal_number, refusal_detail};
 use std::alloc::{AllocError, AllocFailed};
 use thiserror::Error;
 
-/// Want of memory: a growth was refused.
+/// An allocation was refused.
 #[derive(Clone, Copy, Debug, PartialEq, Eq, Error)]
 #[error("out of memory")]
 pub struct NoMemory;
 
-/// The cause for which an event, a call or an opening was refused. A refused event changes no rows, commits or views.
+/// Why an event, a call or an opening was refused. An event that is refused changes no rows, commits or views.
 #[derive(Clone, Copy, Debug, PartialEq, Eq, Error)]
 pub enum Refusal {
-    /// A growth was refused.
+    /// An allocation was refused.
     #[error("out of memory")]
     NoMemory,
-    /// A key has more bytes than a key may have.
+    /// A key has more than `MAX_KEY_BYTES` bytes.
     #[error("a key is too long")]
     KeyTooLong,
-    /// The number of a column is not below the number of columns, or is named twice; or an index was to have no
-    /// columns or too many.
+    /// A number of a column is not less than the number of columns, or is named twice; or an index was to be opened
+    /// with no columns, or with more than `MAX_COLUMNS`.
     #[error("a column is not there, or is named twice")]
     BadColumn,
-    /// A column was to get more bytes than a column may have.
+    /// A column was to get, or to be compared with, more than `MAX_COLUMN_BYTES` bytes.
     #[error("a column is too long")]
     ColumnTooLong,
-    /// A limit is not within its bounds.
+    /// A limit is out of its bounds.
     #[error("a limit is out of its bounds")]
     BadLimit,
-    /// Each number of a node is in use.
+    /// Each number of a node is occupied.
     #[error("no number of a node is free")]
     ArenaFull,
-    /// The log of commits is full: it is held from this number of commits on.
+    /// The log of commits is full. It is held from this number of commits on.
     #[error("the feed is full from commit {0} on")]
     FeedFull(u64),
-    /// As many calls are open as may be.
+    /// `MAX_OPEN_CALLS` calls are open.
     #[error("too many calls are open")]
     TooManyCalls,
     /// No open call has this number.
     #[error("no such call is open")]
     NoSuchCall,
-    /// As many views stand or are built as may be.
+    /// `MAX_VIEWS` views exist, those that are being built included.
     #[error("too many views stand")]
     TooManyViews,
-    /// No view that stands has this number.
+    /// No view has this number.
     #[error("no such view stands")]
     NoSuchView,
-    /// The view stands at this number of commits, which is less than was asked.
+    /// The view is at this number of commits, which is less than what was asked for; or the log has only the deltas
+    /// after this number, and an earlier one was asked for.
     #[error("the view stands only at commit {0}")]
     Behind(u64),
     /// The end of a range is not after its start.
     #[error("a range ends before it begins")]
     BadRange,
-    /// A number that would have to rise is at its greatest value.
+    /// A number that has to rise is at its greatest value.
     #[error("a number is at its greatest value")]
     Spent,
     /// The pass is not one of this index, or not that of the call.
     #[error("this is another pass")]
     WrongPass,
-    /// The row that was to be of a certain version is of this one; 0: the key has no row.
+    /// The row has this version, and not the one that was asked for. 0 means that the key has no row.
     #[error("the row's version is {0}")]
     OtherVersion(u64),
 }
 
 impl Refusal {
-    /// The number of the cause, as texts and frames give it.
+    /// Returns the number of the cause, as texts and frames write it.
     pub fn number(&self) -> u8
         ensures { result ≡ refusal_number self.now }
     {
@@ -90,8 +91,8 @@ impl Refusal {
         }
     }
 
-    /// The number of a commit that goes with the cause: where the log is held from, where the view stands, or the version
-    /// that was found.
+    /// Returns the number of a commit that goes with the cause, if one does: from which the log is held or has its
+    /// deltas, at which the view is, or which version was found.
     pub fn detail(&self) -> Option<u64>
         ensures { result ≡ refusal_detail self.now }
     {

@@ -9,52 +9,54 @@ use crate::refusal::NoMemory;
 use bytes::Bytes;
 use std::alloc::Global;
 
-/// The bytes of one column, at most 64 in a row.
+/// The bytes of one column: in a row at most `MAX_COLUMN_BYTES`.
 pub type Column = Bytes;
 
-/// The columns of a row, by their numbers from 0 on.
+/// The columns of a row, in the order of their numbers, which begin at 0.
 pub type Columns = Items<Column>;
 
-/// Numbers of columns that are asked for, in the order of the answer. None means all.
+/// The numbers of the columns that are asked for, in the order of the answer. An empty list asks for all.
 pub type ColumnNumbers = Items<u8>;
 
-/// New bytes for columns, each with its number.
+/// New bytes for columns, each with the number of its column.
 pub type Sets = Items<(u8, Column)>;
 
-/// Rows with their keys.
+/// Rows, each with its key.
 pub type Pairs = Items<(Key, Row)>;
 
-/// What stands under a key.
+/// The row of a key.
 #[derive(Debug, PartialEq, Eq, Drop)]
 pub struct Row {
     /// The number of the row's last commit.
     pub version: u64,
+    /// The columns: one for each column of the index, or those that were asked for.
     pub columns: Columns,
 }
 
 /// A change of the rows.
 #[derive(Debug, PartialEq, Eq, Drop)]
 pub enum Change {
-    /// The named columns get new bytes. The others keep theirs, or are empty in a new row.
+    /// The named columns get new bytes. The others keep theirs, or are empty if the row is new.
     Put(Key, Sets),
-    /// The key has no row any more.
+    /// The key has no row after this.
     Drop(Key),
 }
 
-/// What one commit did.
+/// What one commit did to the row of one key.
 #[derive(Debug, PartialEq, Eq, Drop)]
 pub struct Delta {
     /// The number of the commit. Commits are numbered from 1.
     pub number: u64,
+    /// The key whose row was changed.
     pub key: Key,
-    /// The row before, if there was one.
+    /// The row before the commit, if there was one.
     pub before: Option<Row>,
-    /// The row after, if there is one.
+    /// The row after the commit, if there is one.
     pub after: Option<Row>,
 }
 
 impl TryCopy for Row {
-    /// Shares the columns' bytes. O(n) in the columns; one allocation.
+    /// Shares the bytes. O(n) in the columns, with one allocation.
     fn copy(&self, alloc: Global) -> Result<Row, NoMemory> {
         Ok(Row {
             version: self.version,
@@ -64,7 +66,7 @@ impl TryCopy for Row {
 }
 
 impl TryCopy for Change {
-    /// Shares the bytes. O(n) in the columns that it names; at most one allocation for them.
+    /// Shares the bytes. O(n) in the columns that it names, with at most one allocation for them.
     fn copy(&self, alloc: Global) -> Result<Change, NoMemory> {
         match self {
             Change::Put(key, sets) => Ok(Change::Put(key.copy(alloc)?, sets.copy(alloc)?)),
@@ -74,7 +76,7 @@ impl TryCopy for Change {
 }
 
 impl TryCopy for Delta {
-    /// Shares the bytes. O(n) in the columns; an allocation for each of the two rows that is there.
+    /// Shares the bytes. O(n) in the columns, with one allocation for each of its rows.
     fn copy(&self, alloc: Global) -> Result<Delta, NoMemory> {
         Ok(Delta {
             number: self.number,

@@ -1,4 +1,4 @@
-//! Standing views: what they show, and a page of what one shows.
+//! Views: which rows they show, and a page of them.
 
 ghost use Rattle.std.specs.Prelude.{◌≡◌, IfOk, IsOk};
 ghost use Rattle.mt_types.specs.Copies.{IsBareTest};
@@ -10,26 +10,26 @@ use crate::row::{Column, Pairs};
 use bytes::Bytes;
 use std::alloc::Global;
 
-/// The sums of a view, one for each column from 0 on.
+/// The sums of a view, one for each column of the index, in their order.
 pub type Sums = Items<u128>;
 
-/// What a view asks of a row.
+/// The test that a row must pass to be shown by a view.
 ///
-/// The amount of a column is its bytes as a big-endian number where there are at most eight, else 0.
+/// The amount of a column is its bytes as a big-endian number if there are at most eight, and else 0.
 #[derive(Debug, PartialEq, Eq, Drop)]
 pub enum RowTest {
     /// Each row passes.
     Any,
-    /// The column of this number has these bytes.
+    /// A row passes if its column of this number has exactly these bytes.
     Equals(u8, Column),
-    /// The amount of the column of this number is at least this.
+    /// A row passes if the amount of its column of this number is at least this.
     AtLeast(u8, u64),
 }
 
 /// Which rows a view shows: those whose key is in the range and that pass the test.
 #[derive(Debug, PartialEq, Eq, Drop)]
 pub enum ViewSpec {
-    /// The keys at or after `lo` and, if there is a `hi`, before it.
+    /// The keys at or after `lo` and, if there is a `hi`, before `hi`.
     Range {
         lo: Bytes,
         hi: Option<Bytes>,
@@ -45,18 +45,18 @@ pub enum ViewSpec {
 /// What a view shows, from a key on.
 #[derive(Debug, PartialEq, Eq, Drop)]
 pub struct Page {
-    /// The number of commits at which the view stands.
+    /// The number of commits at which the view is.
     pub at: u64,
-    /// How many rows the view has, on this page and off it.
+    /// How many rows the view has in all.
     pub count: u64,
-    /// The sum of the amounts of each column, over all rows of the view.
+    /// For each column, the sum of its amounts over all rows of the view.
     pub sums: Sums,
-    /// The first rows from the key on that was asked for, up to the limit that was asked for.
+    /// The first rows at or after the key that was asked for, at most as many as were asked for.
     pub rows: Pairs,
 }
 
 impl TryCopy for RowTest {
-    /// Shares the bytes. Where it holds none, takes no memory.
+    /// Shares the bytes. A test without bytes allocates nothing, and its copy cannot fail (`free`).
     fn copy(&self, alloc: Global) -> Result<RowTest, NoMemory>
         ensures value { IfOk result (λ made. made ≡ self.now) }
         ensures free { IsBareTest self.now → IsOk result }
@@ -87,7 +87,8 @@ impl TryCopy for ViewSpec {
 }
 
 impl TryCopy for Page {
-    /// Shares the bytes. O(n) in the columns that it holds, with an allocation for each row.
+    /// Shares the bytes. O(n) in the columns that it holds, with an allocation for each row and one for each of its two
+    /// lists.
     fn copy(&self, alloc: Global) -> Result<Page, NoMemory> {
         Ok(Page {
             at: self.at,
