@@ -522,9 +522,9 @@ breaks_in_rise s t p q Write frame old new (reply, sent, unsent, answered, is, w
 breaks_in_rise s t p q WantsMemory frame old new (done, undone, responses, is, answered, same) = all_rise s t p q done responses answered
 breaks_in_rise s t p q _ frame old new never = absurd never
 
-breaks_rise : (s t : KeptView) (p q : PassView) (fault : SessionFault) (rest old new : Option (List ℕ)) → BreaksAt Does s p fault rest old new t q → s.events ≤ t.events
-breaks_rise s t p q fault rest old new (inl (other, stands, same, is, pass)) = let equal = ap (λ (k : KeptView). k.events) is in omega (arith, equal)
-breaks_rise s t p q fault rest old new (inr (frame, fits, there, breaks)) = breaks_in_rise s t p q fault frame old new breaks
+breaks_rise : (s t : KeptView) (p q : PassView) (fault : SessionFault) (rest unread old new : Option (List ℕ)) → BreaksAt Does s p fault rest unread old new t q → s.events ≤ t.events
+breaks_rise s t p q fault rest unread old new (inl (other, stands, same, is, pass)) = let equal = ap (λ (k : KeptView). k.events) is in omega (arith, equal)
+breaks_rise s t p q fault rest unread old new (inr (frame, fits, there, breaks)) = breaks_in_rise s t p q fault frame old new breaks
 
 breaks_in_plainly : (s t : KeptView) (p q : PassView) (h : History) (fault : SessionFault) (frame : Frame Query) (old new : Option (List ℕ)) → IsAlone s p h → t.events < greatest_number → BreaksIn Does s p fault frame old new t q
     → (final : History) × IsAlone t q final × BreaksInPlainly s.machine.columns h fault frame old new final
@@ -536,24 +536,24 @@ breaks_in_plainly s t p q h WantsMemory frame old new a few (done, undone, respo
     (final, alone, (done, undone, responses, is, plain, same))
 breaks_in_plainly s t p q h _ frame old new a few never = absurd never
 
-breaks_plainly : (s t : KeptView) (p q : PassView) (h : History) (fault : SessionFault) (rest : List ℕ) (old new : Option (List ℕ)) → IsAlone s p h → t.events < greatest_number → BreaksAt Does s p fault (Some rest) old new t q
-    → (final : History) × IsAlone t q final × BreaksAtPlainly s.machine.columns h fault rest old new final
-breaks_plainly s t p q h fault rest old new a few (inl (other, stands, same, is, pass)) = (
+breaks_plainly : (s t : KeptView) (p q : PassView) (h : History) (fault : SessionFault) (rest : List ℕ) (unread old new : Option (List ℕ)) → IsAlone s p h → t.events < greatest_number → BreaksAt Does s p fault (Some rest) unread old new t q
+    → (final : History) × IsAlone t q final × BreaksAtPlainly s.machine.columns h fault rest unread old new final
+breaks_plainly s t p q h fault rest unread old new a few (inl (other, stands, same, is, pass)) = (
   h,
   subst (λ (k : KeptView). IsAlone k q h) (sym is) (subst (λ (v : PassView). IsAlone s v h) (sym pass) a),
   inl (other, stands, same, refl),
 )
-breaks_plainly s t p q h fault rest old new a few (inr (frame, fits, (more, front), breaks)) =
+breaks_plainly s t p q h fault rest unread old new a few (inr (frame, fits, (more, front), breaks)) =
     let (final, alone, plain) = breaks_in_plainly s t p q h fault frame old new a few breaks in
     (final, alone, inr (frame, more, front, plain))
 
 pub alone_breaks : AloneBreaksPlainly
-alone_breaks s t p q h input old new fault a few broken =
+alone_breaks s t p q h input unread old new fault a few broken =
     let (more, is, front) = broken.served.read in
-    let at : BreaksAt Does broken.shared broken.pass fault (Some more) broken.between new t q = subst (λ (r : Option (List ℕ)). BreaksAt Does broken.shared broken.pass fault r broken.between new t q) is broken.breaks in
-    let rises = breaks_rise broken.shared t broken.pass q fault (Some more) broken.between new at in
+    let at : BreaksAt Does broken.shared broken.pass fault (Some more) unread broken.between new t q = subst (λ (r : Option (List ℕ)). BreaksAt Does broken.shared broken.pass fault r unread broken.between new t q) is broken.breaks in
+    let rises = breaks_rise broken.shared t broken.pass q fault (Some more) unread broken.between new at in
     let (past, between, columns, plain) = alone_answers_frames s broken.shared p broken.pass h broken.frames broken.served.replies a (omega (arith, few, rises)) broken.served.answered in
-    let (final, alone, breaks) = breaks_plainly broken.shared t broken.pass q past fault more broken.between new between few at in (
+    let (final, alone, breaks) = breaks_plainly broken.shared t broken.pass q past fault more unread broken.between new between few at in (
       final,
       alone,
       record {
@@ -566,7 +566,7 @@ alone_breaks s t p q h input old new fault a few broken =
         read = front;
         written = broken.served.written;
         plain = plain;
-        breaks = subst (λ (C : ℕ). BreaksAtPlainly C past fault more broken.between new final) columns breaks;
+        breaks = subst (λ (C : ℕ). BreaksAtPlainly C past fault more unread broken.between new final) columns breaks;
       },
     )
 

@@ -181,9 +181,9 @@ served_all does s t p q input old now new summary h none = record {
 }
 
 -- no frame stood there
-pub broken_before : {S : Type 0} (does : EventLaw S) (s t : S) (p q : PassView) (input old now new : Option (List ℕ)) (summary : Summary) (fault : SessionFault)
-    → Serving does s p input old summary now new t q → fault ≢ Write → IfSome now (FaultIsAt fault) → IsBroken does s p input old fault new t q
-broken_before does s t p q input old now new summary fault h other stands = record {
+pub broken_before : {S : Type 0} (does : EventLaw S) (s t : S) (p q : PassView) (input old now unread new : Option (List ℕ)) (summary : Summary) (fault : SessionFault)
+    → Serving does s p input old summary now new t q → fault ≢ Write → IfSome now (FaultIsAt fault unread) → IsBroken does s p input old fault unread new t q
+broken_before does s t p q input old now unread new summary fault h other stands = record {
   frames = h.frames;
   rest = now;
   between = new;
@@ -198,9 +198,9 @@ front_of frame None next lost = tt
 front_of frame (Some bytes) next lost = (lost.0, lost.2)
 
 -- it broke off in a frame
-pub broken_in : {S : Type 0} (does : EventLaw S) (s m t : S) (p r q : PassView) (input old now new next out : Option (List ℕ)) (summary : Summary) (fault : SessionFault) (frame : Frame Query)
-    → Serving does s p input old summary now new m r → RequestsFit frame → LosesFrame frame now next → BreaksIn does m r fault frame new out t q → IsBroken does s p input old fault out t q
-broken_in does s m t p r q input old now new next out summary fault frame h fits lost breaks = record {
+pub broken_in : {S : Type 0} (does : EventLaw S) (s m t : S) (p r q : PassView) (input old now new next unread out : Option (List ℕ)) (summary : Summary) (fault : SessionFault) (frame : Frame Query)
+    → Serving does s p input old summary now new m r → RequestsFit frame → LosesFrame frame now next → BreaksIn does m r fault frame new out t q → IsBroken does s p input old fault unread out t q
+broken_in does s m t p r q input old now new next unread out summary fault frame h fits lost breaks = record {
   frames = h.frames;
   rest = now;
   between = new;

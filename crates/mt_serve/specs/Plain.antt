@@ -193,9 +193,9 @@ AloneServesPlainly =
     → IsAlone s p h → t.events < greatest_number → IsServed Does s p (Some input) old summary new t q
     → (then : History) × IsAlone t q then × ServesPlainly s.machine.columns h input old new then
 
--- A SESSION ALONE THAT BREAKS OFF: the frames before are answered plainly; then no frame stands there, for this fault; or
--- of the frame that stands there all queries are answered plainly, and a front of the answers was written (a write
--- failed), or some are, and none was written (memory was wanting).
+-- A SESSION ALONE THAT BREAKS OFF: the frames before are answered plainly; then no frame is there, for this fault, after
+-- which the reader still has the unread bytes; or of the frame that is there all queries are answered plainly, and a
+-- front of the answers was written (a write failed), or some are, and none was written (out of memory).
 abbrev pub BreaksInPlainly : ℕ → History → SessionFault → Frame Query → Option (List ℕ) → Option (List ℕ) → History → Type 0
 BreaksInPlainly C before Write frame old new then =
     (reply : Frame Response) × (sent : List ℕ) × (unsent : List ℕ) × PlainlyAnswersFrame C before frame reply then
@@ -206,14 +206,14 @@ BreaksInPlainly C before WantsMemory frame old new then =
 BreaksInPlainly C before _ frame old new then = ⊥
 
 abbrev pub BreaksAtPlainly :
-    ℕ → History → SessionFault → List ℕ → Option (List ℕ) → Option (List ℕ) → History → Type 0
-BreaksAtPlainly C before fault rest old new then =
-    ((fault ≢ Write) × FaultIsAt fault rest × (new ≡ old) × (then ≡ before))
+    ℕ → History → SessionFault → List ℕ → Option (List ℕ) → Option (List ℕ) → Option (List ℕ) → History → Type 0
+BreaksAtPlainly C before fault rest unread old new then =
+    ((fault ≢ Write) × FaultIsAt fault unread rest × (new ≡ old) × (then ≡ before))
     ⊎ ((frame : Frame Query) × (more : List ℕ) × (rest ≡ request_frame frame ++ more)
     × BreaksInPlainly C before fault frame old new then)
 
 pub record BreaksPlainly (C : ℕ) (h : History) (input : List ℕ) (old : Option (List ℕ)) (fault : SessionFault)
-    (new : Option (List ℕ)) (then : History) : Type 0 where
+    (unread new : Option (List ℕ)) (then : History) : Type 0 where
   pub frames : List (Frame Query)
   pub replies : List (Frame Response)
   pub rest : List ℕ
@@ -223,10 +223,11 @@ pub record BreaksPlainly (C : ℕ) (h : History) (input : List ℕ) (old : Optio
   pub read : input ≡ requests_of frames ++ rest
   pub written : Appends old between (replies_of replies)
   pub plain : PlainlyAnswersFrames C h frames replies past
-  pub breaks : BreaksAtPlainly C past fault rest between new then
+  pub breaks : BreaksAtPlainly C past fault rest unread between new then
 
 abbrev pub AloneBreaksPlainly : Type 0
 AloneBreaksPlainly =
-    (s t : KeptView) (p q : PassView) (h : History) (input : List ℕ) (old new : Option (List ℕ)) (fault : SessionFault)
-    → IsAlone s p h → t.events < greatest_number → IsBroken Does s p (Some input) old fault new t q
-    → (then : History) × IsAlone t q then × BreaksPlainly s.machine.columns h input old fault new then
+    (s t : KeptView) (p q : PassView) (h : History) (input : List ℕ) (unread old new : Option (List ℕ))
+    (fault : SessionFault)
+    → IsAlone s p h → t.events < greatest_number → IsBroken Does s p (Some input) old fault unread new t q
+    → (then : History) × IsAlone t q then × BreaksPlainly s.machine.columns h input old fault unread new then

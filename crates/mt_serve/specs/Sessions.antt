@@ -53,23 +53,24 @@ BreaksIn does s p NoMemory frame old new t q =
     × AnswersAll does s p done responses t q × (new ≡ old)
 BreaksIn does s p _ frame old new t q = ⊥
 
--- why it broke off behind the frames that it has served: at the rest of the input stands no frame, for this fault; or
--- in the frame that stands there
+-- why it broke off after the frames that it has served: no frame is at the front of the rest of the input, for this
+-- fault, after which the reader still has the unread bytes; or in the frame that is there
 abbrev pub BreaksAt : {S : Type 0} → EventLaw S → S → PassView → SessionFault → Option (List ℕ) → Option (List ℕ) →
-    Option (List ℕ) → S → PassView → Type 0
-BreaksAt does s p fault rest old new t q =
-    ((fault ≢ Write) × IfSome rest (FaultIsAt fault) × (new ≡ old) × (t ≡ s) × (q ≡ p))
+    Option (List ℕ) → Option (List ℕ) → S → PassView → Type 0
+BreaksAt does s p fault rest unread old new t q =
+    ((fault ≢ Write) × IfSome rest (FaultIsAt fault unread) × (new ≡ old) × (t ≡ s) × (q ≡ p))
     ⊎ ((frame : Frame Query) × RequestsFit frame
     × IfSome rest (λ bytes. (more : List ℕ) × (bytes ≡ request_frame frame ++ more))
     × BreaksIn does s p fault frame old new t q)
 
--- A SESSION BROKE OFF: it has served frames at the front of the input, and then broke off so.
+-- A SESSION BROKE OFF: it has served frames at the front of the input, and then broke off so. The reader still has the
+-- unread bytes: after a read fault, all bytes before them are the frames, and a rest in which no whole frame is.
 pub record IsBroken {S : Type 0} (does : EventLaw S) (s : S) (p : PassView) (input old : Option (List ℕ))
-    (fault : SessionFault) (new : Option (List ℕ)) (t : S) (q : PassView) : Type 0 where
+    (fault : SessionFault) (unread new : Option (List ℕ)) (t : S) (q : PassView) : Type 0 where
   pub frames : List (Frame Query)
   pub rest : Option (List ℕ)
   pub between : Option (List ℕ)
   pub shared : S
   pub pass : PassView
   pub served : HasServed does s p input old frames rest between shared pass
-  pub breaks : BreaksAt does shared pass fault rest between new t q
+  pub breaks : BreaksAt does shared pass fault rest unread between new t q

@@ -1,4 +1,4 @@
-//! A session: frames of queries are answered, one after the other, till the input ends.
+//! A session: frames of queries are answered, one after the other, until the input ends.
 
 ghost use Rattle.std.specs.Prelude.{◌≡◌, ◌≤◌, ◌++◌, List, IfOk, IfErr, OnOk, OnErr, true};
 ghost use Rattle.std.specs.List.{AllByRecursion};
@@ -13,7 +13,7 @@ ghost use Rattle.mt_streams.specs.Sinks.{sink_writer, write_failed};
 ghost use Rattle.mt_serve.specs.declared.fault.SessionFault.TheVariants.{Read as ReadFault, Write as WriteFault, NoMemory};
 ghost use Rattle.mt_serve.specs.declared.frames.TheConstants.{MOST_FRAMES};
 ghost use Rattle.mt_serve.specs.Asking.{AnswersAll, AnswersFrame};
-ghost use Rattle.mt_serve.specs.Sources.{frames_rest, frames_left, GivesNoMore};
+ghost use Rattle.mt_serve.specs.Sources.{frames_rest, frames_unread, frames_left, read_failed};
 ghost use Rattle.mt_serve.specs.Sessions.{IsServed, IsBroken, BreaksIn};
 
 use crate::asking::answer;
@@ -111,19 +111,19 @@ fn answer_frame<W: Write, S: Shared>(
     }
 }
 
-/// Answers the frames of queries that a reader gives, each by one frame of answers in its version, till the input ends.
-/// A frame is read whole before any of its queries is done; its queries are done in order, each as `answer` says; then
-/// its answers are written in one piece.
+/// Answers the frames of queries in what a reader gives, each by one frame of answers in its version, until the input
+/// ends. A frame is read whole before any of its queries is done; its queries are done in order, each as `answer` says;
+/// then its answers are written in one piece.
 ///
 /// Costs the calls and events of the queries, and O(n) in the bytes of the frames. A frame takes the memory of its
 /// bytes, its queries and its answers; the memory of a frame of answers is used again for the next.
 ///
 /// # Errors
 ///
-/// What was done for queries by then stands, after each of them. `Read` where a read failed, or all the frames that the
-/// reader gives are spent; `Write` where a write failed or took nothing; `Cut` where the input ends inside a frame;
-/// `BadLength`, `BadVersion`, `BadBody` where it has a frame that is none: nothing of it is done. `NoMemory` for want of
-/// it.
+/// What was done for queries before the fault stays done. `Read` if a read failed, or all reads were made: every whole
+/// frame that was read is answered then. `Write` if a write failed or took nothing; `Cut` if the input ends inside a
+/// frame; `BadLength`, `BadVersion`, `BadBody` if the next bytes are no frame: nothing of it is done. `NoMemory` if out
+/// of memory.
 pub fn session<R: Read, W: Write, S: Shared>(
     alloc: Global,
     reader: &mut Frames<R>,
@@ -135,8 +135,9 @@ pub fn session<R: Read, W: Write, S: Shared>(
     ensures served { IfOk result (λ summary. IsServed S.does shared.old pass.old (frames_rest R.remaining reader.old)
         (W.contents (sink_writer writer.old)) summary (W.contents (sink_writer writer.new)) shared.new pass.new) }
     ensures broken { IfErr result (λ fault. IsBroken S.does shared.old pass.old (frames_rest R.remaining reader.old)
-        (W.contents (sink_writer writer.old)) fault (W.contents (sink_writer writer.new)) shared.new pass.new) }
-    ensures read { IfErr result (λ fault. fault ≡ ReadFault → GivesNoMore reader.new) }
+        (W.contents (sink_writer writer.old)) fault (frames_unread R.remaining reader.new)
+        (W.contents (sink_writer writer.new)) shared.new pass.new) }
+    ensures read { IfErr result (λ fault. fault ≡ ReadFault → read_failed reader.new ≡ true) }
     ensures write { IfErr result (λ fault. fault ≡ WriteFault → write_failed writer.new ≡ true) }
 {
     let mut summary = Summary {
