@@ -24,7 +24,7 @@ use Rattle.mt_drive.specs.declared.command.Command.{Command}
 use Rattle.mt_drive.specs.declared.command.Command.TheVariants.{Once, Finish, Alone, Feed}
 use Rattle.mt_drive.specs.declared.command.Reply.{Reply}
 use Rattle.mt_drive.specs.declared.command.Reply.TheVariants.{Bad, Busy, Came, Fed, NotFed}
-use Rattle.mt_drive.specs.Lines.{lines_of, line_text}
+use Rattle.mt_drive.specs.Lines.{lines_of, line_text, ReadsLines}
 use Rattle.mt_drive.specs.Commands.{command_of}
 use Rattle.mt_drive.specs.Showing.{outcome_text, refusal_text, delta_text}
 
@@ -158,9 +158,10 @@ pub record Played (C keep : ℕ) (input old : Option (List ℕ)) (bad : ℕ) (ne
   pub written : Appends old new (output_of replies)
   pub counted : bad ≡ bad_lines replies
 
--- The same of the first lines of the input, of which the first bytes of their replies were written: all of them where
--- a read failed.
-pub record Broke (C keep : ℕ) (fault : ScriptFault) (input old new : Option (List ℕ)) : Type 0 where
+-- The same of the first lines of the input, of which the first bytes of their replies were written: all of them if a
+-- read failed. The reader still has the unread bytes: after a read fault, all bytes before them are those lines and the
+-- begin of one more, so that no whole line that was read is left unanswered.
+pub record Broke (C keep : ℕ) (fault : ScriptFault) (input unread old new : Option (List ℕ)) : Type 0 where
   pub lines : List (List ℕ)
   pub more : List (List ℕ)
   pub replies : List Reply
@@ -174,3 +175,4 @@ pub record Broke (C keep : ℕ) (fault : ScriptFault) (input old new : Option (L
   pub written : Appends old new sent
   pub front : output_of replies ≡ sent ++ unsent
   pub whole : fault ≡ Read → unsent ≡ []
+  pub none_lost : fault ≡ Read → IfSome input (ReadsLines lines unread)

@@ -11,7 +11,7 @@ ghost use Rattle.mt_drive.specs.Commands.{command_of};
 ghost use Rattle.mt_drive.specs.Machine.{Leads, IsAsBefore};
 ghost use Rattle.mt_drive.specs.Script.{goes_on, reply_lines, bad_lines, start_fault, Happens, Finishes, DoesAlone, Asks, Feeds, Answers, Played, Broke};
 ghost use Rattle.mt_streams.specs.Sinks.{sink_writer, write_failed};
-ghost use Rattle.mt_drive.specs.Source.{source_rest, GivesNoMore};
+ghost use Rattle.mt_drive.specs.Source.{source_rest, source_unread, read_failed};
 ghost use Rattle.mt_drive.specs.declared.fault.ScriptFault.TheVariants.{Read as ReadFault, Write as WriteFault, Start, NoMemory};
 
 use crate::command::{Command, Reply};
@@ -148,8 +148,9 @@ fn play<R: Read, W: Write>(
         (source_rest R.remaining reader.old)
         (W.contents (sink_writer writer.old)) bad (W.contents (sink_writer writer.new))) }
     ensures err { IfErr result (λ fault. Broke machine.old.columns machine.old.log.keep fault
-        (source_rest R.remaining reader.old) (W.contents (sink_writer writer.old)) (W.contents (sink_writer writer.new))) }
-    ensures read { IfErr result (λ fault. fault ≡ ReadFault → GivesNoMore reader.new) }
+        (source_rest R.remaining reader.old) (source_unread R.remaining reader.new)
+        (W.contents (sink_writer writer.old)) (W.contents (sink_writer writer.new))) }
+    ensures read { IfErr result (λ fault. fault ≡ ReadFault → read_failed reader.new ≡ true) }
     ensures write { IfErr result (λ fault. fault ≡ WriteFault → write_failed writer.new ≡ true) }
     ensures opened { IfErr result (λ fault. (refusal : Refusal) → fault ≢ Start refusal) }
 {
@@ -184,10 +185,10 @@ fn start_fault(refusal: Refusal) -> ScriptFault
 ///
 /// # Errors
 ///
-/// `Start` where the options break a limit, before anything is read. `Read` where a read of the source failed, `Write`
-/// where a write of the sink failed or took nothing, `NoMemory` where there is none for the empty index, to keep a line
-/// or to make its reply. What was written by then are the first bytes of the replies so far, and all of them where a
-/// read failed.
+/// `Start` if the options break a limit, before anything is read. `Read` if a read of the source failed, or all its reads
+/// were made: every whole line that was read is answered then, and its reply is written. `Write` if a write of the sink
+/// failed or took nothing. `NoMemory` if out of memory for the empty index, for a line or for its reply. What was written
+/// are the first bytes of the replies so far.
 pub fn script<R: Read, W: Write>(
     alloc: Global,
     options: Options,
@@ -197,8 +198,9 @@ pub fn script<R: Read, W: Write>(
     ensures answered { IfOk result (λ bad. Played options.columns options.keep (source_rest R.remaining reader.old)
         (W.contents (sink_writer writer.old)) bad (W.contents (sink_writer writer.new))) }
     ensures broke { IfErr result (λ fault. Broke options.columns options.keep fault
-        (source_rest R.remaining reader.old) (W.contents (sink_writer writer.old)) (W.contents (sink_writer writer.new))) }
-    ensures read { result ≡ Err ReadFault → GivesNoMore reader.new }
+        (source_rest R.remaining reader.old) (source_unread R.remaining reader.new)
+        (W.contents (sink_writer writer.old)) (W.contents (sink_writer writer.new))) }
+    ensures read { result ≡ Err ReadFault → read_failed reader.new ≡ true }
     ensures write { result ≡ Err WriteFault → write_failed writer.new ≡ true }
     ensures start { IfSome (open_fault options.columns options.feed options.keep)
         (λ refusal. (result ≡ Err (Start refusal)) × (writer.new ≡ writer.old) × (reader.new ≡ reader.old)) }

@@ -1,12 +1,12 @@
 //! The frames of queries in what a reader gives.
 
-ghost use Rattle.std.specs.Prelude.{◌≡◌, ◌≢◌, ◌⊎◌, ◌<◌, ◌≤◌, ◌++◌, List, ℕ, [], None, Some, IfOk, IfErr, IfSome, IfNone, OnOk, OnSome, true, length};
+ghost use Rattle.std.specs.Prelude.{◌≡◌, ◌≢◌, ◌⊎◌, ◌<◌, ◌≤◌, ◌++◌, List, ℕ, [], None, Some, IfOk, IfErr, IfSome, IfNone, OnOk, OnSome, true};
 ghost use Rattle.std.specs.Io.KnownBytes.{IsAtEnd, Consumes, Keeps};
 ghost use Rattle.mt_types.specs.declared.limits.TheConstants.{MAX_REQUEST_BODY};
 ghost use Rattle.mt_wire.specs.Frames.{IsBegun, RequestsFit};
 ghost use Rattle.mt_streams.specs.Readers.{calls_left};
 ghost use Rattle.mt_serve.specs.Sources.{frames_rest, frames_unread, frames_left, read_failed, LosesFrame, FaultIsAt};
-ghost use Rattle.mt_serve.specs.declared.frames.TheConstants.{MOST_FRAMES, PIECE};
+ghost use Rattle.mt_serve.specs.declared.frames.TheConstants.{MOST_FRAMES};
 ghost use Rattle.mt_serve.specs.declared.fault.SessionFault.TheVariants.{Read as ReadFault, Write as WriteFault, Cut, NoMemory};
 
 use crate::fault::SessionFault;
@@ -49,7 +49,6 @@ impl<R: Read> Frames<R> {
         ensures more { IfOk result (λ count. (piece : List ℕ)
             × (self.new.decoder ≡ record { bytes = self.old.decoder.bytes ++ piece; fault = None })
             × Consumes (frames_unread R.remaining self.old) (frames_unread R.remaining self.new) piece
-            × (length piece ≤ PIECE)
             × (count ≡ 0 → (piece ≡ []) × IsAtEnd (frames_unread R.remaining self.new))) }
         ensures fewer { OnOk result (calls_left self.new.reader < calls_left self.old.reader) }
         ensures left { OnOk result (frames_left self.new ≤ frames_left self.old) }
@@ -81,8 +80,8 @@ impl<R: Read> Frames<R> {
         }
     }
 
-    /// The next frame, its version and its queries, or nothing if the input ends between frames. The input is read only
-    /// as far as the frame. The bytes of keys and columns are the frame's own, shared.
+    /// The next frame, its version and its queries, or nothing if the input ends between frames. The reader is called only
+    /// when no whole frame is there. The bytes of keys and columns are the frame's own, shared.
     ///
     /// # Errors
     ///

@@ -1,8 +1,8 @@
-use Rattle.std.proofs.Common.{◌≡◌, ◌+◌, arith}
+use Rattle.std.proofs.Common.{◌<◌, arith}
 use Rattle.mt_drive.proofs.PlayLemmas.{Playing-none, Playing-more, Played-end, Broke-between, Broke-sending, went_whole}
 use Rattle.std.proofs.lemmas.Result.{err_from_is_err_and}
 use Rattle.mt_drive.specs.Script.{reply_lines}
-use Rattle.mt_drive.specs.Source.{source_rest, lines_left}
+use Rattle.mt_drive.specs.Source.{source_rest, source_unread, lines_left}
 use Rattle.mt_streams.specs.Sinks.{sink_writer}
 use Rattle.mt_drive.proofs.script.play.Goals as goal
 
@@ -18,26 +18,27 @@ returns-clause-ok g c = Played-end (source_rest g.R.Read.remaining c.next_line.n
 pub returns-in_err-line-clause-err : goal.returns-in_err-line-clause-err
 returns-in_err-line-clause-err g c =
     let p = err_from_is_err_and c.from_residual.result c.from_residual.ensures.1 in
-    rw p.1 (Broke-between p.0 c.loop-line.invariant.playing)
+    rw (p.1, p.2) (Broke-between c.in_err-line.field-0.0 (source_unread g.R.Read.remaining c.next_line.new.self) c.loop-line.invariant.playing c.in_err-line.ensures.whole)
 
 pub returns-in_err-reply-clause-err : goal.returns-in_err-reply-clause-err
 returns-in_err-reply-clause-err g c =
     let p = err_from_is_err_and c.from_residual-in_err-reply.result c.from_residual-in_err-reply.ensures.1 in
-    rw p.1 (Broke-between p.0 c.loop-line.invariant.playing)
+    let memory = c.in_err-reply.ensures.err in
+    rw (p.1, p.2) (Broke-between c.in_err-reply.field-0.0 (source_unread g.R.Read.remaining c.next_line.new.self) c.loop-line.invariant.playing (λ read. absurd (cc memory.0)))
 
 pub returns-in_err-send-clause-err : goal.returns-in_err-send-clause-err
 returns-in_err-send-clause-err g c =
     let h = c.in_err-send.ensures.sent in
     let p = err_from_is_err_and c.from_residual-in_err-send.result c.from_residual-in_err-send.ensures.1 in
     rw (p.1, p.2)
-    (Broke-sending c.in_err-send.field-0.0 c.answer.new.machine (source_rest g.R.Read.remaining c.next_line.new.self) (g.W.Write.contents (sink_writer c.send.new.writer))
+    (Broke-sending c.in_err-send.field-0.0 (source_unread g.R.Read.remaining c.next_line.new.self) c.answer.new.machine (source_rest g.R.Read.remaining c.next_line.new.self) (g.W.Write.contents (sink_writer c.send.new.writer))
     c.in-Some.line.items c.in_ok-reply.reply h.0 h.1 c.loop-line.invariant.playing (rw c.in-Some.is at c.in_ok-line.ensures.line)
     (rw c.deref.ensures.value at c.in_ok-reply.ensures.stands) c.answer.ensures.options h.2 h.3 c.in_err-send.ensures.fault)
 
 pub loop-line-preserved : goal.loop-line-preserved
 loop-line-preserved g c =
     let h = c.in_ok-send.ensures.sent in
-    let fewer : lines_left c.next_line.new.self + 1 ≡ lines_left c.loop-line.reader = rw c.in-Some.is at c.in_ok-line.ensures.fewer in record {
+    let fewer : lines_left c.next_line.new.self < lines_left c.loop-line.reader = rw c.in-Some.is at c.in_ok-line.ensures.fewer in record {
       playing = Playing-more c.answer.new.machine (source_rest g.R.Read.remaining c.next_line.new.self) (g.W.Write.contents (sink_writer c.send.new.writer)) c.count-bad.result
           c.in-Some.line.items c.in_ok-reply.reply c.loop-line.invariant.playing (rw c.in-Some.is at c.in_ok-line.ensures.line)
           (rw c.deref.ensures.value at c.in_ok-reply.ensures.stands) c.answer.ensures.options
