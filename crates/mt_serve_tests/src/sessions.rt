@@ -247,6 +247,34 @@ fn long_column_is_answered(rt: HostRuntime) -> Result<(), Fail> {
     Ok(())
 }
 
+// An empty store refuses a get of a key of 1,025 bytes for its length, and gives two builds the views 1 and 2.
+#[test]
+fn empty_store_answers(rt: HostRuntime) -> Result<(), Fail> {
+    let input = joined(
+        rt.alloc(),
+        &[
+            b"\0\0\x04\x07\x01\x01\x01\x04\x01",
+            &[0; 1025],
+            b"\0",
+            b"\0\0\0\x0e\x01\x02\x06\0\0\0\0\0\x06\0\0\0\0\0",
+        ],
+    )?;
+    let ran = run(rt.alloc(), &input, WHOLE)?;
+    assert!(rt;
+        ran.ended
+            == Ok(Summary {
+                frames: 2,
+                queries: 3
+            })
+    );
+    let want = b"\0\0\0\x0c\x01\x01\0\x02\0\0\0\0\0\0\0\0\
+        \0\0\0\x34\x01\x02\
+        \x06\0\0\0\0\0\0\0\0\0\0\0\0\0\0\0\0\0\0\0\0\0\0\0\x01\
+        \x06\0\0\0\0\0\0\0\0\0\0\0\0\0\0\0\0\0\0\0\0\0\0\0\x02";
+    assert_eq!(rt; ran.written.as_slice(), want.as_slice());
+    Ok(())
+}
+
 // The next of a row of numbers that look random.
 fn next_random(state: u64) -> u64 {
     let mut x = state;
