@@ -1,4 +1,4 @@
-use Rattle.std.proofs.Common.{ℕ, List, ◌∙◌, ap, subst, sym, Some}
+use Rattle.std.proofs.Common.{ℕ, List, ◌∙◌, ap, subst, Some}
 use Rattle.mt_types.specs.declared.row.Row.{Row}
 use Rattle.rowanspan_c.specs.Questions.{ArePlainRows}
 use Rattle.rowanspan_c.specs.Spelling.{pairs_spelling}
