@@ -1,9 +1,9 @@
 -- A book that is being read.
 use Rattle.std.proofs.Common.{◌≡◌, ℕ, ◌+◌, ◌-◌, List, [], ◌∷◌, ◌++◌, length, take, refl, ap, sym, subst, ◌∙◌, arith, length-append, append_assoc, Option, Some, None, IfSome}
 use Rattle.std.proofs.Math.Seq.{take-append_seam}
-use Rattle.mt_drive.specs.Lines.{lines_of, LosesLine}
-use Rattle.mt_drive.proofs.PlayLemmas.{Goes, Goes-start, Goes-more, Goes-end, Goes-front}
-use Rattle.mt_audit.specs.Audit.{CanRead, IsVerdictOn}
+use Rattle.mt_drive.specs.Lines.{lines_of, LosesLine, LosesNoLine}
+use Rattle.mt_drive.proofs.PlayLemmas.{Goes, Goes-start, Goes-more, Goes-end, Goes-front, Goes-cut}
+use Rattle.mt_audit.specs.Audit.{CanRead, IsVerdictOn, ReadsSoFar}
 use Rattle.mt_audit.specs.Book.{IsBookOf, IsWholeBook}
 use Rattle.mt_audit.specs.declared.book.Book.{Book}
 use Rattle.mt_audit.specs.declared.verdict.Verdict.TheVariants.{Bad}
@@ -33,6 +33,13 @@ reading_more C input now next number book more line reading lost adds = record {
 pub reading_end : (C : ℕ) (input now next : Option (List ℕ)) (number : ℕ) (book : Book) → IsReading C input now number book → IfSome now (λ xs. LosesLine xs next None) → IsWholeBook C input book
 reading_end C input now next number book reading lost = (reading.lines, Goes-end input now next reading.lines reading.goes lost, reading.holds)
 
+book_can : (C : ℕ) (lines : List (List ℕ)) (book : Book) → IsBookOf C lines book → CanRead C lines
+book_can C lines book is = (book.deltas.items, book.receipts.items, is.reads)
+
+-- a read failed after these lines
+pub reading_cut : (C : ℕ) (input now unread : Option (List ℕ)) (number : ℕ) (book : Book) → IsReading C input now number book → IfSome now (LosesNoLine unread) → ReadsSoFar C input unread
+reading_cut C input now unread number book reading cut = (reading.lines, book_can C reading.lines book reading.holds, Goes-cut input now unread reading.lines reading.goes cut)
+
 pub reading_bad : (C : ℕ) (input now next : Option (List ℕ)) (number : ℕ) (book : Book) (line : List ℕ) → IsReading C input now number book → IfSome now (λ xs. LosesLine xs next (Some line))
     → ((lines : List (List ℕ)) → IsBookOf C lines book → ¬ CanRead C (lines ++ line ∷ [])) → IsVerdictOn C input (Bad (number + 1))
 reading_bad C input now next number book line reading lost cannot =
@@ -48,6 +55,3 @@ reading_bad C input now next number book line reading lost cannot =
       front.1,
       (subst (CanRead C) (sym before) (book_can C reading.lines book reading.holds), λ can. cannot reading.lines reading.holds (subst (CanRead C) with_it can)),
     )
-  where
-    book_can : (C : ℕ) (lines : List (List ℕ)) (book : Book) → IsBookOf C lines book → CanRead C lines
-    book_can C lines book is = (book.deltas.items, book.receipts.items, is.reads)

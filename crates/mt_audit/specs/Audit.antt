@@ -5,7 +5,9 @@ use Rattle.mt_types.specs.declared.row.Delta.{Delta}
 use Rattle.mt_check.specs.Receipts.{IsSoundLog, IsSound, NoneClaimsAgain}
 use Rattle.mt_check.specs.Faults.{rule_number, DeltaBreaks, IsFirstFault, IsFirstReceiptFault}
 use Rattle.mt_check.specs.declared.receipt.Receipt.{Receipt}
-use Rattle.mt_drive.specs.Lines.{lines_of, line_text}
+use Rattle.mt_drive.specs.declared.fault.ScriptFault.{ScriptFault}
+use Rattle.mt_drive.specs.declared.fault.ScriptFault.TheVariants.{Read}
+use Rattle.mt_drive.specs.Lines.{lines_of, line_text, ReadsLines}
 use Rattle.mt_audit.specs.Lines.{line_of}
 use Rattle.mt_audit.specs.declared.line.Line.TheVariants.{Logged, Kept}
 use Rattle.mt_audit.specs.declared.verdict.Verdict.{Verdict}
@@ -59,10 +61,16 @@ pub record Audited (C : ℕ) (input old : Option (List ℕ)) (status : ℕ) (new
   pub written : Appends old new (line_text (verdict_text verdict))
   pub told : status ≡ verdict_status verdict
 
--- nothing was written, or the first bytes of that line
-pub record Unfinished (C : ℕ) (input old new : Option (List ℕ)) : Type 0 where
+-- after a read that failed: all bytes before the unread ones are lines that read, and the begin of one more
+abbrev pub ReadsSoFar : ℕ → Option (List ℕ) → Option (List ℕ) → Type 0
+ReadsSoFar C input unread = (lines : List (List ℕ)) × CanRead C lines × IfSome input (ReadsLines lines unread)
+
+-- Nothing was written, or the first bytes of that line. The reader still has the unread bytes: after a read fault, no
+-- whole line that was read is bad, and none is lost.
+pub record Unfinished (C : ℕ) (fault : ScriptFault) (input unread old new : Option (List ℕ)) : Type 0 where
   pub sent : List ℕ
   pub written : Appends old new sent
   pub front : (sent ≡ [])
       ⊎ ((verdict : Verdict) × (unsent : List ℕ) × IsVerdictOn C input verdict
       × (line_text (verdict_text verdict) ≡ sent ++ unsent))
+  pub none_lost : fault ≡ Read → (sent ≡ []) × ReadsSoFar C input unread

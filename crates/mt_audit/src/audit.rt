@@ -6,9 +6,9 @@ ghost use Rattle.mt_types.specs.declared.refusal.Refusal.{Refusal};
 ghost use Rattle.mt_check.specs.Receipts.{IsAsked};
 ghost use Rattle.mt_drive.specs.Lines.{line_text};
 ghost use Rattle.mt_streams.specs.Sinks.{sink_writer, write_failed};
-ghost use Rattle.mt_drive.specs.Source.{source_rest, GivesNoMore};
+ghost use Rattle.mt_drive.specs.Source.{source_rest, source_unread, read_failed};
 ghost use Rattle.mt_drive.specs.declared.fault.ScriptFault.TheVariants.{Read as ReadFault, Write as WriteFault, Start, NoMemory};
-ghost use Rattle.mt_audit.specs.Audit.{IsVerdict, IsVerdictOn, verdict_text, Audited, Unfinished};
+ghost use Rattle.mt_audit.specs.Audit.{IsVerdict, IsVerdictOn, verdict_text, Audited, ReadsSoFar, Unfinished};
 ghost use Rattle.mt_audit.specs.Book.{IsBookOf, IsWholeBook};
 ghost use Rattle.mt_audit.specs.declared.verdict.Verdict.TheVariants.{Bad};
 
@@ -33,7 +33,9 @@ fn read_book<R: Read>(
     ensures read { IfOk result (λ bad. MatchOption bad
         (IsWholeBook columns (source_rest R.remaining reader.old) book.new)
         (λ number. IsVerdictOn columns (source_rest R.remaining reader.old) (Bad number))) }
-    ensures failed { IfErr result (λ fault. fault ≡ ReadFault → GivesNoMore reader.new) }
+    ensures failed { IfErr result (λ fault. fault ≡ ReadFault → read_failed reader.new ≡ true) }
+    ensures whole { IfErr result (λ fault. fault ≡ ReadFault
+        → ReadsSoFar columns (source_rest R.remaining reader.old) (source_unread R.remaining reader.new)) }
     ensures fault { IfErr result (λ fault. (fault ≡ ReadFault) ⊎ (fault ≡ NoMemory)) }
 {
     let mut number: u64 = 0;
@@ -71,7 +73,9 @@ fn verdict_on<R: Read>(
     reader: &mut Source<R>,
 ) -> Result<Verdict, ScriptFault>
     ensures verdict { IfOk result (IsVerdictOn columns (source_rest R.remaining reader.old)) }
-    ensures failed { IfErr result (λ fault. fault ≡ ReadFault → GivesNoMore reader.new) }
+    ensures failed { IfErr result (λ fault. fault ≡ ReadFault → read_failed reader.new ≡ true) }
+    ensures whole { IfErr result (λ fault. fault ≡ ReadFault
+        → ReadsSoFar columns (source_rest R.remaining reader.old) (source_unread R.remaining reader.new)) }
     ensures fault { IfErr result (λ fault. (fault ≡ ReadFault) ⊎ (fault ≡ NoMemory)) }
 {
     let mut book = Book::new(alloc);
@@ -109,8 +113,9 @@ fn tell<W: Write>(alloc: Global, verdict: &Verdict, writer: &mut Sink<W>) -> Res
 ///
 /// # Errors
 ///
-/// `Read` where a read of the source failed, `Write` where a write of the sink failed or took nothing, `NoMemory` for
-/// want of it. By then nothing was written, or the first bytes of the line.
+/// `Read` if a read of the source failed, or all its reads were made: every whole line that was read reads well then, and
+/// nothing was written. `Write` if a write of the sink failed or took nothing, `NoMemory` if out of memory: nothing was
+/// written then, or the first bytes of the line.
 pub fn audit<R: Read, W: Write>(
     alloc: Global,
     columns: u8,
@@ -119,9 +124,9 @@ pub fn audit<R: Read, W: Write>(
 ) -> Result<u8, ScriptFault>
     ensures audited { IfOk result (λ status. Audited columns (source_rest R.remaining reader.old)
         (W.contents (sink_writer writer.old)) status (W.contents (sink_writer writer.new))) }
-    ensures unfinished { IfErr result (λ fault. Unfinished columns (source_rest R.remaining reader.old)
-        (W.contents (sink_writer writer.old)) (W.contents (sink_writer writer.new))) }
-    ensures read { IfErr result (λ fault. fault ≡ ReadFault → GivesNoMore reader.new) }
+    ensures unfinished { IfErr result (λ fault. Unfinished columns fault (source_rest R.remaining reader.old)
+        (source_unread R.remaining reader.new) (W.contents (sink_writer writer.old)) (W.contents (sink_writer writer.new))) }
+    ensures read { IfErr result (λ fault. fault ≡ ReadFault → read_failed reader.new ≡ true) }
     ensures write { IfErr result (λ fault. fault ≡ WriteFault → write_failed writer.new ≡ true) }
     ensures opened { IfErr result (λ fault. (refusal : Refusal) → fault ≢ Start refusal) }
 {
