@@ -43,16 +43,18 @@ abbrev pub status_of : Result ℕ ScriptFault → ℕ
 status_of (Ok status) = status
 status_of (Err fault) = 3
 
--- how an audit ended on an index of so many columns: what was read of the input, and written after the old bytes
-abbrev pub Ended : ℕ → Result ℕ ScriptFault → Option (List ℕ) → Option (List ℕ) → Option (List ℕ) → Type 0
-Ended C (Ok status) input old new = Audited C input old status new
-Ended C (Err fault) input old new = Unfinished C input old new
+-- how an audit ended on an index of so many columns: what was read of the input, which bytes of it the reader still has,
+-- and what was written after the old bytes
+abbrev pub Ended : ℕ → Result ℕ ScriptFault → Option (List ℕ) → Option (List ℕ) → Option (List ℕ) → Option (List ℕ) →
+    Type 0
+Ended C (Ok status) input unread old new = Audited C input old status new
+Ended C (Err fault) input unread old new = Unfinished C fault input unread old new
 
 -- the input was audited as these words of the command line ask, and ended so
-pub record Answered (words : List (List ℕ)) (ending : Ending) (input old new : Option (List ℕ)) : Type 0 where
+pub record Answered (words : List (List ℕ)) (ending : Ending) (input unread old new : Option (List ℕ)) : Type 0 where
   pub columns : ℕ
   pub audited : Result ℕ ScriptFault
   pub said : IsSaid words columns
-  pub ended : Ended columns audited input old new
+  pub ended : Ended columns audited input unread old new
   pub status : ending.status ≡ status_of audited
   pub fault : ending.fault ≡ result_err audited

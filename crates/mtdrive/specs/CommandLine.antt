@@ -58,17 +58,18 @@ status_of (Err Write) = 3
 status_of (Err NoMemory) = 3
 
 -- how a script ended on an index of so many columns that keeps so many commits for nobody: what was read of the input,
--- and written after the old bytes
-abbrev pub Ended : ℕ → ℕ → Result ℕ ScriptFault → Option (List ℕ) → Option (List ℕ) → Option (List ℕ) → Type 0
-Ended C keep (Ok bad) input old new = Played C keep input old bad new
-Ended C keep (Err fault) input old new = Broke C keep fault input old new
+-- which bytes of it the reader still has, and what was written after the old bytes
+abbrev pub Ended : ℕ → ℕ → Result ℕ ScriptFault → Option (List ℕ) → Option (List ℕ) → Option (List ℕ) →
+    Option (List ℕ) → Type 0
+Ended C keep (Ok bad) input unread old new = Played C keep input old bad new
+Ended C keep (Err fault) input unread old new = Broke C keep fault input unread old new
 
 -- a script was answered as these words of the command line ask, and ended so
-pub record Answered (words : List (List ℕ)) (ending : Ending) (input old new : Option (List ℕ)) : Type 0 where
+pub record Answered (words : List (List ℕ)) (ending : Ending) (input unread old new : Option (List ℕ)) : Type 0 where
   pub options : Options
   pub played : Result ℕ ScriptFault
   pub said : AreSaid words options
   pub opened : IfSome (open_fault options.columns options.feed options.keep) (λ refusal. played ≡ Err (Start refusal))
-  pub ended : Ended options.columns options.keep played input old new
+  pub ended : Ended options.columns options.keep played input unread old new
   pub status : ending.status ≡ status_of played
   pub fault : ending.fault ≡ result_err played

@@ -4,7 +4,7 @@
 ghost use Rattle.std.specs.Prelude.{◌≡◌, false, codes, map, string_bytes, IfOk};
 ghost use Rattle.clap.specs.Words.{app_of, found_of, one_text, rule_of};
 ghost use Rattle.mt_streams.specs.Sinks.{sink_writer};
-ghost use Rattle.mt_drive.specs.Source.{source_rest};
+ghost use Rattle.mt_drive.specs.Source.{source_rest, source_unread};
 ghost use Rattle.mtdrive.specs.CommandLine.{number_rule, mtdrive_app, IsNumber, AreFound, AreSaid, status_of, Answered};
 
 use clap::builder::ValueParser;
@@ -124,7 +124,7 @@ fn answer<R: Read, W: Write>(
     writer: &mut Sink<W>,
 ) -> Result<Ending, Error>
     ensures { IfOk result (λ ending. Answered (map string_bytes words.now) ending (source_rest R.remaining reader.old)
-        (W.contents (sink_writer writer.old)) (W.contents (sink_writer writer.new))) }
+        (source_unread R.remaining reader.new) (W.contents (sink_writer writer.old)) (W.contents (sink_writer writer.new))) }
 {
     let options = options_given(alloc, words)?;
     let played = script(alloc, options, reader, writer);
