@@ -125,7 +125,7 @@ def built_over(over: Path, name: str) -> Path:
     return program
 
 
-# ---- what is asked, and what is told
+# ---- arguments and output
 
 def numbers(word: str) -> List[int]:
     return [int(part) for part in word.split(",") if part]

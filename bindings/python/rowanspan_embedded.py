@@ -314,7 +314,7 @@ _U16, _U64 = ctypes.c_uint16, ctypes.c_uint64
 _BYTES: List[Any] = [ctypes.c_char_p, ctypes.c_size_t]
 _ROOM: List[Any] = [ctypes.c_void_p, ctypes.c_size_t]
 
-# what stands between the handle and what is told, of each symbol
+# of each symbol, the types of the parameters between the handle and the number that the call reports
 _PARAMETERS: Dict[str, List[Any]] = {
     "raw_put": [*_BYTES, ctypes.POINTER(_Set), ctypes.c_size_t],
     "raw_put_if": [*_BYTES, ctypes.POINTER(_Set), ctypes.c_size_t, _U64],

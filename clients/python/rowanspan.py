@@ -3,11 +3,11 @@
     with Index(7070) as index:
         commit = index.put(b"apple", b"red")      # plain bytes are column 0
         row = index.get(b"apple")                 # Row(version=commit, columns=(b"red",)), or None
-        index.put_if(b"apple", b"green", commit)  # only where the row is of this version still; 0: where there is none
+        index.put_if(b"apple", b"green", commit)  # only if the row still has this version; 0: if there is none
         for key, row in index.scan(b"a"):
             print(key, row.columns)
 
-Keys and columns are bytes; keys are in the order of their bytes, and a key stands before those that go on after it.
+Keys and columns are bytes; keys are in the order of their bytes, and a key is before those that it begins.
 Each change of a row is a commit: commits are numbered from 1 on, over all clients. What the server refuses is raised as
 a `Refused`; a connection that broke as a `ConnectionLost`; bytes that are no reply as a `BadReply`.
 
@@ -547,7 +547,7 @@ def read_replies(body: bytes, queries: Sequence[Query[Any]]) -> List[Outcome]:
 
 
 def receive(connection: socket.socket, count: int) -> bytes:
-    """So many bytes of a connection; raises `ConnectionLost` where it ends before."""
+    """Returns `count` bytes of a connection; raises `ConnectionLost` if it ends before."""
     received = bytearray(count)
     rest = memoryview(received)
     while rest:
@@ -570,7 +570,7 @@ def key_after(key: bytes) -> Optional[bytes]:
     """The least key after this one, of at most `MAX_KEY_BYTES` bytes; None where there is none."""
     if len(key) < MAX_KEY_BYTES:
         return key + b"\0"
-    # nothing goes on after it, so the next key is greater in some byte: in the last that can be
+    # no longer key begins with it, so the next key is greater in some byte: in the last one that can be greater
     front = key.rstrip(b"\xff")
     return front[:-1] + bytes((front[-1] + 1,)) if front else None
 

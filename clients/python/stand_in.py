@@ -321,7 +321,7 @@ class PlainIndex:
 # ---- sessions
 
 def receive(connection: socket.socket, count: int, is_first: bool) -> Optional[bytes]:
-    """So many bytes; none where the stream ends before the first of a frame."""
+    """Returns `count` bytes, or none if the stream ends before the first of a frame."""
     received = b""
     while len(received) < count:
         try:

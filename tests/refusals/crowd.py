@@ -240,7 +240,7 @@ def one_crowd(serving: ModuleType, shim: Shim, check: str, seed: int) -> Tuple[i
 
 
 def crowd_by_chance(serving: ModuleType, shim: Shim, check: str, count: int) -> str:
-    """So many servers, one after the other."""
+    """`count` servers, one after the other."""
     came = [one_crowd(serving, shim, check, seed) for seed in range(count)]
     receipts, refused, lost = (sum(one[at] for one in came) for at in range(3))
     return f"{receipts} receipts audited, {refused} queries refused, {lost} sessions lost"

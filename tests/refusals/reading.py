@@ -14,7 +14,7 @@ from lines import (MAX_KEY_BYTES, Columns, Command, Pair, Request, amount_of, ch
                    number_of, pair_of, pair_text, values_of)
 
 Change = Tuple[int, Optional[Columns]]
-# behind each feed, so that it is told from what follows how many deltas it gave; it names no view
+# the line after each feed, whose answer shows where the deltas of the feed end; it names no view
 MARK = "apply 18446744073709551615"
 MARKED = "refused 11"
 

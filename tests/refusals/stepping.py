@@ -12,13 +12,13 @@ from reading import Held, Said, Wrong, said_of, want
 from scripts import Script, ending, growing
 from shim import Run, Shim, is_one_line
 
-# a line that does nothing, in the place of one that was refused; and a call that changes nothing, where its number
-# counts (while it is open it holds the log: where a feed tells that, the plain map judges)
+# a line that does nothing, instead of one that was refused; and a call that changes nothing, if its number counts
+# (while it is open it holds the log: if a feed shows that, the plain map judges)
 NOTHING = "drop 18446744073709551615"
 GET = "get - all"
 LARGE = 1500
 REFUSED = "refused 1"
-# new keys in their order split a border each so many
+# new keys in their order split a border after each 8 of them
 KEYS_OF_A_SPLIT = 8
 KEYS_OF_NODES = 600
 

@@ -39,7 +39,7 @@ retired_among nodes (first ∷ later) named once =
     let fewer = retired_among (set nodes first.node.0 None) later rest (pairs-tail first later once) in
     omega (arith, fewer, occupied-without nodes first.node.0 here)
 
--- and fewer, where one node is not retired
+-- and fewer, if one node is not retired
 pub retired_below : (nodes : Nodes) (retired : List Retired) (number : ℕ) → AreRetired nodes retired → IsSome (node_at nodes number) → All (λ r. r.node.0 ≢ number) retired → length retired < occupied nodes
 retired_below nodes retired number h here apart =
     let rest = still_named nodes (set nodes number None) number retired (updates-without nodes number here) apart h.named in

@@ -21,7 +21,7 @@ named_within nodes number named =
           let clash : false ≡ true = sym (ap is_some none) ∙ named in cc)
     ]
 
--- what a write changes, where the number names a node
+-- what a write changes, if the number names a node
 pub updates-with_node : (nodes : Nodes) (number : ℕ) (node : Node) → IsSome (node_at nodes number) → Updates nodes (with_node nodes number node) number (Some node)
 updates-with_node nodes number node named = record {
   changed = get_or-set_same nodes number (Some node) None (named_within nodes number named);
@@ -45,7 +45,7 @@ count-set nodes number node named =
 pub occupied-without : (nodes : Nodes) (number : ℕ) → IsSome (node_at nodes number) → occupied (set nodes number None) + 1 ≡ occupied nodes
 occupied-without nodes number named = let less : occupied (set nodes number None) + 1 ≡ occupied nodes + 0 = count-set nodes number None named in omega (arith, less)
 
--- another node in place of one
+-- another node instead of one
 pub occupied-with_node : (nodes : Nodes) (number : ℕ) (node : Node) → IsSome (node_at nodes number) → occupied (with_node nodes number node) ≡ occupied nodes
 occupied-with_node nodes number node named = let same : occupied (with_node nodes number node) + 1 ≡ occupied nodes + 1 = count-set nodes number (Some node) named in omega (arith, same)
 

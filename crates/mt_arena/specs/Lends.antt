@@ -1,4 +1,4 @@
--- What a node or the arena ends as, where a part of it is lent to be changed.
+-- What a node or the arena is in the end, when a part of it is lent to be changed.
 use Rattle.std.specs.Prelude.{ℕ}
 use Rattle.std.specs.Borrow.{Lends, Fml, MutBor}
 use Rattle.mt_border.specs.Border.{BorderView}

@@ -1,4 +1,4 @@
-//! What a call is lent of a node, where it reads a border one field at a time.
+//! The part of a node that a call is lent when it reads a border one field at a time.
 
 ghost use Rattle.mt_arena.specs.Node.{IsNode};
 ghost use Rattle.mt_arena.specs.Parts.{IsField, IsPart};
@@ -36,7 +36,7 @@ pub enum Part<'a> {
 }
 
 impl Node {
-    /// The node, to be read: of a border this field alone. Constant cost.
+    /// The part of the node that may be read: only this field of a border, or another node whole. Constant cost.
     pub fn part(&self, field: Field) -> Part<'_>
         requires { IsField field }
         ensures value { IsPart self.now field result }

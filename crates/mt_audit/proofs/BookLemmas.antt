@@ -69,7 +69,7 @@ cannot_read C lines line none can =
     none_in_order (map (line_of C) lines)
     (subst InOrder (sym can.2 ∙ map-append (line_of C) lines (line ∷ []) ∙ ap (λ (o : Option Line). map (line_of C) lines ++ o ∷ []) none) (in_order can.0 can.1))
 
--- a delta behind a receipt
+-- a delta after a receipt
 cannot_place : (C : ℕ) (lines : List (List ℕ)) (line : List ℕ) (ds : List Delta) (rs : List Receipt) (d : Delta) → Reads C lines ds rs → ¬ (rs ≡ []) → line_of C line ≡ Some (Logged d)
     → CanRead C (lines ++ line ∷ []) → ⊥
 cannot_place C lines line ds [] d reads some said can = absurd (some refl)

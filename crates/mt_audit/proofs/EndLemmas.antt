@@ -8,7 +8,7 @@ use Rattle.mt_audit.specs.Book.{IsBookOf, IsWholeBook}
 use Rattle.mt_audit.specs.declared.book.Book.{Book}
 use Rattle.mt_audit.specs.declared.verdict.Verdict.TheVariants.{Bad}
 
--- so many lines were read into it, of which the reader gave the first
+-- this number of lines were read into it, and the first lines of the input are these
 pub record IsReading (C : ℕ) (input now : Option (List ℕ)) (number : ℕ) (book : Book) : Type 0 where
   pub lines : List (List ℕ)
   pub goes : Goes input now lines

@@ -27,8 +27,8 @@ pub record IsAllRight (C : ℕ) (deltas : List Delta) (receipts : List Receipt) 
   pub sound : All (IsSound C deltas) receipts
   pub once : NoneClaimsAgain receipts
 
--- the verdict on lines: all is right, of so many deltas and receipts; or this is the first fault; or this line, counted
---     from 1, is the first that doesn't read
+-- the verdict on lines: all is right, with this many deltas and receipts; or this is the first fault; or this line,
+--     counted from 1, is the first that doesn't read
 abbrev pub IsVerdict : ℕ → List (List ℕ) → Verdict → Type 0
 IsVerdict C lines (Sound commits calls) =
     (deltas : List Delta) × (receipts : List Receipt) × Reads C lines deltas receipts
@@ -49,7 +49,7 @@ verdict_status (Sound commits calls) = 0
 verdict_status (Faulty fault) = 1
 verdict_status (Bad number) = 2
 
--- the verdict on the lines of the input, where it is known
+-- the verdict on the lines of the input, if the input is known
 abbrev pub IsVerdictOn : ℕ → Option (List ℕ) → Verdict → Type 0
 IsVerdictOn C input verdict =
     (lines : List (List ℕ)) × IfSome input (λ bytes. lines_of bytes ≡ lines) × IsVerdict C lines verdict

@@ -17,7 +17,7 @@ abbrev pub IsTaken : ℕ → Line → Type 0
 IsTaken C (Logged delta) = Unit {0}
 IsTaken C (Kept receipt) = IsAsked C receipt
 
--- the line goes to the end of its list, no delta behind a receipt; or it is such a delta
+-- the line is added to the end of its list, and no delta comes after a receipt; or it is a delta that would do so
 abbrev pub Places : Line → Book → Book → Bool → Type 0
 Places (Logged delta) old new true =
     (old.receipts.items ≡ []) × (new.receipts.items ≡ []) × (new.deltas.items ≡ old.deltas.items ++ delta ∷ [])
@@ -26,12 +26,12 @@ Places (Kept receipt) old new true =
 Places (Logged delta) old new false = ¬ (old.receipts.items ≡ [])
 Places (Kept receipt) old new false = ⊥
 
--- a line more was read into it, or with it the lines don't read
+-- one more line was read into it, or the lines with this one don't read
 abbrev pub Adds : ℕ → List ℕ → Book → Book → Bool → Type 0
 Adds C line old new true = (lines : List (List ℕ)) → IsBookOf C lines old → IsBookOf C (lines ++ line ∷ []) new
 Adds C line old new false = (lines : List (List ℕ)) → IsBookOf C lines old → ¬ CanRead C (lines ++ line ∷ [])
 
--- all lines of the input, where it is known, were read into it
+-- if the input is known, all of its lines were read into it
 abbrev pub IsWholeBook : ℕ → Option (List ℕ) → Book → Type 0
 IsWholeBook C input book =
     (lines : List (List ℕ)) × IfSome input (λ bytes. lines_of bytes ≡ lines) × IsBookOf C lines book

@@ -3,5 +3,5 @@ pub mod Audit
 -- what a line says
 pub mod Lines
 pub mod Answers
--- behind it: what the code has read
+-- for the inner functions: what the code has read
 pub mod Book

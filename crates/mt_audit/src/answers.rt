@@ -110,7 +110,7 @@ fn long_answer(alloc: Global, text: &[u8]) -> Result<Answer, LineError>
     }
 }
 
-/// The answer that a text says: `absent`, `row VERSION VALUES`, `put N`, `removed N`, `rows K` and K pairs,
+/// Returns the answer that a text says: `absent`, `row VERSION VALUES`, `put N`, `removed N`, `rows K` and K pairs,
 /// `tidied RULE` or `built VIEW`.
 #[tactic(auto, unfolding(crate::specs::Answers::answer_of))]
 pub(crate) fn read_answer(alloc: Global, text: &[u8]) -> Result<Answer, LineError>
@@ -141,7 +141,7 @@ fn page(alloc: Global, text: &[u8]) -> Result<Page, LineError>
     })
 }
 
-/// The page that a text says: `view AT COUNT SUMS K` and K pairs.
+/// Returns the page that a text says: `view AT COUNT SUMS K` and K pairs.
 #[tactic(auto, unfolding(crate::specs::Answers::shown_of))]
 pub(crate) fn read_shown(alloc: Global, text: &[u8]) -> Result<Page, LineError>
     ensures { Gives (λ p. p) result (shown_of text.now) }

@@ -22,7 +22,7 @@ use mt_streams::sink::Sink;
 use std::alloc::Global;
 use std::io::{Read, Write};
 
-// Reads the lines up to the first bad one, and gives its number.
+// Reads the lines up to the first bad one, and returns its number.
 fn read_book<R: Read>(
     alloc: Global,
     columns: u8,
@@ -100,14 +100,14 @@ fn tell<W: Write>(alloc: Global, verdict: &Verdict, writer: &mut Sink<W>) -> Res
 }
 
 /// Audits a log and the receipts of its calls, of an index of `columns` columns: reads them as lines, writes one line,
-/// and gives its status.
+/// and returns the status of its verdict.
 ///
-/// The lines are `delta N KEY BEFORE AFTER`, one for each commit from the first on, and behind them
-/// `receipt FROM TO REQUEST => ANSWER`. A request is a get, a put, a remove or a range as in a script, or
-/// `view SPEC FLOOR START LIMIT`, whose answer is `view AT COUNT SUMS K` and K rows. What is written is
-/// `ok D R` with the numbers of deltas and receipts, status 0; `fault INDEX RULE`, the first fault, status 1; or
-/// `bad line N`, the first line that doesn't read or whose delta or request breaks a limit, status 2. Nothing is read
-/// behind a bad line.
+/// The lines are `delta N KEY BEFORE AFTER`, one for each commit from the first on, and after them
+/// `receipt FROM TO REQUEST => ANSWER`. A request is a get, a put, a conditional put, a remove or a range as in a
+/// script, or `view SPEC FLOOR START LIMIT`, whose answer is `view AT COUNT SUMS K` and K rows. The line that is
+/// written is `ok D R` with the numbers of deltas and receipts, status 0; `fault INDEX RULE`, the first fault, status
+/// 1; or `bad line N`, the first line that doesn't read or whose delta or request breaks a limit, status 2. Nothing is
+/// read after a bad line.
 ///
 /// Keeps all deltas and receipts in memory; what `check` costs comes on top of the lines. The writer isn't flushed.
 ///

@@ -18,7 +18,7 @@ pub(crate) struct Book {
 }
 
 impl Book {
-    /// An empty one. Takes no memory.
+    /// Returns an empty book. Allocates nothing.
     pub(crate) fn new(alloc: Global) -> Book
         ensures deltas { result.deltas.items ≡ [] }
         ensures receipts { result.receipts.items ≡ [] }
@@ -29,7 +29,7 @@ impl Book {
         }
     }
 
-    // Adds what a line says, and tells whether it is in its place: a delta is not behind a receipt.
+    // Adds what a line says, and returns whether the line may be there: no delta may come after a receipt.
     fn add(&mut self, line: Line) -> Result<bool, AllocError>
         ensures { IfOk result (λ placed. Places line self.old self.new placed) }
     {
@@ -45,7 +45,7 @@ impl Book {
         Ok(true)
     }
 
-    /// Reads a line more, of an index of so many columns, and tells whether the lines so far read.
+    /// Reads one more line, of an index of `columns` columns, and returns whether all lines so far can be read.
     pub(crate) fn add_line(
         &mut self,
         alloc: Global,

@@ -104,7 +104,8 @@ fn kept(alloc: Global, columns: u8, text: &[u8]) -> Result<Line, LineError>
     Ok(Line::Kept(receipt))
 }
 
-/// What a line says, of an index of so many columns: `delta N KEY BEFORE AFTER` or `receipt FROM TO REQUEST => ANSWER`.
+/// Returns what a line says, of an index of `columns` columns: `delta N KEY BEFORE AFTER` or
+/// `receipt FROM TO REQUEST => ANSWER`.
 #[tactic(auto, unfolding(crate::specs::Lines::line_of))]
 pub(crate) fn read_line(alloc: Global, columns: u8, line: &[u8]) -> Result<Line, LineError>
     ensures value { Gives (λ l. l) result (line_of columns line.now) }

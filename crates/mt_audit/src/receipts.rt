@@ -13,7 +13,7 @@ use mt_drive::reading::{read_request, read_spec};
 use mt_drive::words::{bytes_from, cut, cut_last, number};
 use std::alloc::Global;
 
-// What stands before and after ` => `.
+// What is before and after ` => `.
 #[tactic(auto, unfolding(crate::specs::Lines::around_arrow))]
 fn around_arrow(text: &[u8]) -> Result<(&[u8], &[u8]), LineError>
     ensures { Gives (λ x. (x.0.now, x.1.now)) result (around_arrow text.now) }
@@ -103,8 +103,9 @@ fn is_taken(columns: u8, receipt: &Receipt) -> bool
     is_asked(columns, receipt)
 }
 
-/// The receipt of an index of so many columns that a text says: `FROM TO REQUEST => ANSWER`, of a get, put, remove or
-/// range, or of `view SPEC FLOOR START LIMIT` and a page. One that would be refused for a limit isn't read.
+/// Returns the receipt that a text says, of an index of `columns` columns: `FROM TO REQUEST => ANSWER`, of a get, put,
+/// conditional put, remove or range, or of `view SPEC FLOOR START LIMIT` and a page. A request that breaks a limit
+/// isn't read.
 #[tactic(auto, unfolding(crate::specs::Lines::receipt_of))]
 pub(crate) fn read_receipt(alloc: Global, columns: u8, text: &[u8]) -> Result<Receipt, LineError>
     ensures value { Gives (λ r. r) result (receipt_of columns text.now) }

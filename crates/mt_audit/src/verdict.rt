@@ -10,7 +10,7 @@ use std::alloc::{AllocError, Global};
 /// What an audit finds.
 #[derive(Clone, Copy, Debug, PartialEq, Eq)]
 pub enum Verdict {
-    /// All is right, of so many deltas and receipts.
+    /// All is right, with this many deltas and receipts.
     Sound { deltas: u64, receipts: u64 },
     /// The first fault.
     Faulty(Fault),
@@ -19,7 +19,7 @@ pub enum Verdict {
 }
 
 impl Verdict {
-    /// The status of a program that tells it: 0 where all is right, 1 at a fault, 2 at a bad line.
+    /// Returns the status of a program that reports the verdict: 0 if all is right, 1 at a fault, 2 at a bad line.
     pub fn status(&self) -> u8
         ensures { result ≡ verdict_status self.now }
     {

@@ -65,7 +65,7 @@ rank_climbs live d o (suc i) within =
     let step : entry_rank (get_or live i d) < entry_rank (get_or live (suc i) d) = o.pairs i (suc i) d (omega arith) within in
     omega (arith, before, step)
 
--- where no place is a cut, each slice is the first
+-- if no place is a cut, each slice is the first
 one_slice : (live : List Entry) → ((i : ℕ) → IsCut live i → ⊥) → (i : ℕ) → i ≤ 14 → slice_index (slices live) i ≡ slice_index (slices live) 0
 one_slice live none zero h = refl
 one_slice live none (suc i) h =
@@ -75,7 +75,7 @@ one_slice live none (suc i) h =
           absurd (none (suc i) (record { first = omega arith; last = omega (arith, h); apart = rw back apart })))
     ]
 
--- fifteen entries stand at two slices at least, for a slice has ten classes
+-- fifteen entries have at least two slices, since a slice has ten classes
 pub some_cut : (live : List Entry) → length live ≡ 15 → IsOrdered live → AreEntries live → NoneNearer live 8 → ⊥
 some_cut live full o whole h =
     let none : (i : ℕ) → IsCut live i → ⊥ = λ i cut. omega (arith, cut.first, cut.last, h.each i cut) in

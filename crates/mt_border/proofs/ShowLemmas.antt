@@ -36,7 +36,7 @@ past live i x fits o d (suc a) b low before within =
     let high : i ≤ a = omega arith in
     rw (step, get_or-insert_above live i x d a high fits) (o.pairs a b d (omega arith) within)
 
--- the entry at a place of the longer list, against one that stands after the new one
+-- the entry at a place of the longer list, against one that comes after the new one
 after : (live : List Entry) (i : ℕ) (x : Entry) → i ≤ length live → IsOrdered live → ((k : ℕ) (d : Entry) → k < i → entry_rank (get_or live k d) < entry_rank x) → ((k : ℕ) (d : Entry) → i ≤ k → k < length live → entry_rank x < entry_rank (get_or live k d)) → (d : Entry) (a b : ℕ) → a < suc b → b < length live → i ≤ b → entry_rank (get_or (insert live i x) a d) < entry_rank (get_or live b d)
 after live i x fits o below above d a b before within high =
     elim (cases_lt a i) [

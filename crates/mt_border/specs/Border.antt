@@ -153,7 +153,7 @@ with_entries b entries right = record b {
   right = right;
 }
 
--- the border once only the first so many entries are live, and the others are to its right
+-- the border once only the first n entries are live, and the others are to its right
 abbrev pub with_split : BorderView → ℕ → RightLink → BorderView
 with_split b keep right = record b {
   live = take keep b.live;
@@ -172,7 +172,7 @@ with_lock b locked = record b { version = record b.version { locked = locked } }
 abbrev pub with_deleted : BorderView → BorderView
 with_deleted b = record b { version = record b.version { deleted = true } }
 
--- the border to the right, where a slice stands there or beyond
+-- the border to the right, if a slice is there or beyond
 abbrev pub right_for : Option RightLink → ℕ → Option NodeNo
 right_for None slice = None
 right_for (Some link) slice = if nat_le link.low slice then Some link.node else None

@@ -1,4 +1,4 @@
--- Where a full border may be cut in two.
+-- The places at which a full border may be cut in two.
 use Rattle.std.specs.Prelude.{◌≡◌, ◌≢◌, ℕ, ◌+◌, ◌-◌, ◌<◌, ◌≤◌, List, map, slice_index}
 use Rattle.mt_word.specs.declared.permutation_word.TheConstants.{SLOTS}
 use Rattle.mt_border.specs.declared.entry.Entry.{Entry}

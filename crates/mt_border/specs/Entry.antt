@@ -1,4 +1,4 @@
--- Entries: where they stand in their layer, and what they hold.
+-- Entries: their places in their layer, and what they hold.
 use Rattle.std.specs.Prelude.{ℕ, ◌≤◌, ◌<◌, ◌+◌, ◌*◌, ◌^◌, List, length, drop, Option, Some, None}
 use Rattle.mt_types.specs.declared.row.Row.{Row}
 use Rattle.mt_types.specs.declared.numbers.NodeNo.{NodeNo}
@@ -10,7 +10,7 @@ use Rattle.mt_border.specs.declared.entry.Content.{Content}
 use Rattle.mt_border.specs.declared.entry.Content.TheVariants.{Short, Long, Link}
 use Rattle.mt_border.specs.declared.entry.Entry.{Entry}
 
--- the class of what stands at a slice
+-- the class of what is at a slice
 abbrev pub content_class : Content → Class
 content_class (Short bytes row) = Len bytes
 content_class (Long suffix row) = LongClass
@@ -67,7 +67,7 @@ entry_row entry = content_row entry.content
 abbrev pub entry_suffix : Entry → Option (List ℕ)
 entry_suffix entry = content_suffix entry.content
 
--- the content with another row in place of its own
+-- the content with another row instead of its own
 abbrev pub content_with_row : Row → Content → Content
 content_with_row row (Short bytes old) = Short bytes row
 content_with_row row (Long suffix old) = Long suffix row

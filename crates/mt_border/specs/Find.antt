@@ -20,7 +20,7 @@ found_content suffix place (Short bytes row) = RowFound place
 found_content suffix place (Long held row) = if pointwise nat_eq held suffix then RowFound place else OtherSuffix place
 found_content suffix place (Link head) = LinkFound place head
 
--- what the first of these entries, which stands at a place, is to a key of this slice, class and suffix
+-- what the first of these entries, which is at a place, is to a key of this slice, class and suffix
 abbrev pub found_first : ℕ → Class → List ℕ → ℕ → List Entry → Found
 found_first slice class suffix place [] = Absent place
 found_first slice class suffix place (entry ∷ entries) =

@@ -32,7 +32,7 @@ live_slots t = picked t.slots t.order.live
 abbrev pub unused_slots : TableView → List Slot
 unused_slots t = picked t.slots t.order.unused
 
--- there are fifteen slots, and each stands at one place
+-- there are fifteen slots, and each is at one place
 pub record IsSlotTable (slots : List Slot) (s : Slots) : Type 0 where
   pub fifteen : length slots ≡ SLOTS
   pub arranged : IsArranged s
@@ -84,7 +84,7 @@ with_all_filled [] (entry ∷ entries) slots = slots
 with_all_filled (number ∷ numbers) (entry ∷ entries) slots =
     with_all_filled numbers entries (slice_set slots number (left_slot entry))
 
--- the order once the first so many unused slots are live after the others
+-- the order once the first n unused slots are live after the others
 abbrev pub with_more_live : Slots → ℕ → Slots
 with_more_live order count =
     record { live = order.live ++ take count order.unused; unused = drop count order.unused }

@@ -83,7 +83,7 @@ fn version_split(version: Version) -> Version
     }
 }
 
-// Whether the entry stands before this slice and the class of this number.
+// Whether the entry is before this slice and the class of this number.
 fn is_before(entry: &Entry, slice: u64, class: u8) -> bool
     requires { class < 10 }
     ensures { result ≡ nat_lt (entry_rank entry.now) (slice * 10 + class) }
@@ -92,7 +92,7 @@ fn is_before(entry: &Entry, slice: u64, class: u8) -> bool
     entry.slice < slice || entry.slice == slice && own < class
 }
 
-// Whether the entry stands at this slice and the class of this number.
+// Whether the entry is at this slice and the class of this number.
 fn stands_at(entry: &Entry, slice: u64, class: u8) -> bool
     requires { class < 10 }
     ensures { result ≡ (entry_rank entry.now == slice * 10 + class) }
@@ -152,7 +152,7 @@ impl Border {
         self.layer
     }
 
-    /// The least slice that may stand here. Constant cost.
+    /// The least slice that may be in this border. Constant cost.
     pub fn low(&self) -> u64
         ensures value { result ≡ self.now.low }
         ensures sound { IsBorder self.now }
@@ -160,7 +160,7 @@ impl Border {
         self.low
     }
 
-    /// The border to the right, if there is one, and the least slice that may stand there. Constant cost.
+    /// The border to the right, if there is one, and the least slice that may be in it. Constant cost.
     pub fn right(&self) -> Option<RightLink>
         ensures value { result ≡ self.now.right }
         ensures sound { IsBorder self.now }
@@ -267,7 +267,7 @@ impl Border {
         self.table.slot(number).entry.value_part()
     }
 
-    /// The border to the right, where this slice stands there or beyond. Constant cost.
+    /// The border to the right, if this slice is there or beyond. Constant cost.
     pub fn right_for(&self, slice: u64) -> Option<NodeNo>
         ensures value { result ≡ right_for self.now.right slice }
         ensures sound { IsBorder self.now }
@@ -296,7 +296,7 @@ impl Border {
         self.version.unlock();
     }
 
-    /// Marks the border as deleted, which has no live entry. Constant cost.
+    /// Marks the border, which has no live entry, as deleted. Constant cost.
     pub fn mark_deleted(&mut self)
         requires { self.old.live ≡ [] }
         ensures value { self.new ≡ with_deleted self.old }
@@ -320,8 +320,8 @@ impl Border {
         count
     }
 
-    /// Where an entry of this slice and class is or would be inserted, and what is there for a key with this suffix
-    /// after the slice, which counts for the class `Long` alone.
+    /// Returns the place at which an entry of this slice and class is or would be inserted, and what is there for a
+    /// key with this suffix after the slice. The suffix counts only for the class `Long`.
     ///
     /// Looks at each live entry up to that place, compares at most one suffix, and takes no memory (Masstree,
     /// EuroSys 2012, section 4.6).
@@ -341,12 +341,12 @@ impl Border {
         Found::Absent(place)
     }
 
-    /// Writes an entry into the first unused slot, where it shows nothing. Where that slot held a key, the counter of
-    /// insertions rises by one; it then holds none that was live. Constant cost.
+    /// Writes an entry into the first unused slot, in which it isn't visible. If that slot held a key, the counter of
+    /// insertions rises by one. The slot then holds no key that was live. Constant cost.
     ///
     /// # Errors
     ///
-    /// `Spent` where that counter would rise and is at its greatest value, 2^56 - 1. Nothing is then changed.
+    /// `Spent` if that counter would rise and is at its greatest value, 2^56 - 1. Nothing is changed then.
     pub fn fill_slot(&mut self, entry: Entry) -> Result<(), Refusal>
         requires { length self.old.live < SLOTS }
         ensures filled { OnOk result (self.new ≡ with_filled self.old entry) }
@@ -362,8 +362,8 @@ impl Border {
         Ok(())
     }
 
-    /// Makes what the first unused slot holds live at this place, its row made by the commit of this number. It is
-    /// visible by the permutation alone. Constant cost.
+    /// Makes what the first unused slot holds live at this place, with its row as made by the commit of this number.
+    /// The permutation alone makes it visible. Constant cost.
     pub fn show(&mut self, place: usize, version: u64)
         requires room { length self.old.live < SLOTS }
         requires within { place ≤ length self.old.live }
@@ -387,7 +387,7 @@ impl Border {
         self.table.remove_at(place);
     }
 
-    /// Gives the entry at this place, which has a row, another one, and returns the old one. Constant cost.
+    /// Replaces the row of the entry at this place, which has one, and returns the old row. Constant cost.
     pub fn set_value(&mut self, place: usize, row: Row) -> Row
         requires within { place < length self.old.live }
         requires row { IsSome (row_at place self.old.live) }
@@ -414,7 +414,7 @@ impl Border {
     ///
     /// # Errors
     ///
-    /// `NoMemory` where an allocation is refused.
+    /// `NoMemory` if an allocation is refused.
     pub fn copy_upper(&self, alloc: Global, place: usize) -> Result<Items<Entry>, NoMemory>
         requires { place ≤ length self.now.live }
         ensures { IfOk result (λ entries. entries ≡ drop place self.now.live) }
@@ -440,8 +440,8 @@ impl Border {
         self.right = right;
     }
 
-    /// Keeps the first so many entries live, names the border to the right, where the others are, and raises the
-    /// counter of splits by one (Masstree, EuroSys 2012, section 4.6.4). Constant cost.
+    /// Keeps the first `keep` entries live, names the border to the right, which has the others, and raises the counter
+    /// of splits by one (Masstree, EuroSys 2012, section 4.6.4). Constant cost.
     pub fn link_right(&mut self, keep: usize, right: RightLink)
         requires within { keep ≤ length self.old.live }
         requires above_low { self.old.low < right.low }
@@ -473,8 +473,8 @@ impl Border {
         place < SLOTS && self.entry(place - 1).slice != self.entry(place).slice
     }
 
-    /// The place before which a full border is cut in two: from 1 to 14, where the slices on both sides differ, as near
-    /// to 8 as may be, and the smaller of two that are as near. There is one, since a slice has ten classes.
+    /// The place before which a full border is cut in two: of the places from 1 to 14 at which the slices on both sides
+    /// differ, the nearest to 8, or the smaller of the two nearest. There is one, since a slice has ten classes.
     ///
     /// Looks at each entry at most twice, and takes no memory.
     pub fn cut_place(&self) -> usize

@@ -1,4 +1,4 @@
-//! The entries of a layer: what stands at a slice and class.
+//! The entries of a layer: what is at a slice and class.
 
 ghost use Rattle.std.specs.Prelude.{◌≡◌, ◌≤◌, ◌<◌, IfOk, IsOk, length, drop};
 ghost use Rattle.mt_slice.specs.Place.{AreBytes, place_of};
@@ -15,7 +15,7 @@ use mt_types::row::Row;
 use std::alloc::Global;
 use std::marker::Model;
 
-/// What follows a key's slice, where the key is longer than that: bytes, one at least.
+/// What follows the slice of a key that is longer than its slice: at least one byte.
 #[derive(Debug, Drop)]
 pub struct Suffix {
     bytes: Bytes,
@@ -43,7 +43,7 @@ fn each_byte(bytes: &Bytes) -> &[u8]
 }
 
 impl Suffix {
-    /// The suffix of these bytes, of which there is one at least. Constant cost.
+    /// The suffix of these bytes, of which there is at least one. Constant cost.
     pub fn new(bytes: Bytes) -> Suffix
         requires { 0 < length bytes }
         ensures value { result ≡ bytes }
@@ -76,15 +76,15 @@ impl Suffix {
 /// What an entry leads to (Masstree, EuroSys 2012, section 4.2).
 #[derive(Debug, Drop)]
 pub enum Content {
-    /// The row of a key that ends in this slice, after so many bytes of it.
+    /// The row of a key that ends in this slice, and how many bytes of the slice are the key's.
     Short(Length, Row),
     /// The row of a longer key, with what follows the slice.
     Long(Suffix, Row),
-    /// The head of the next layer, where the keys stand that go on past this slice.
+    /// The head of the next layer, which has the keys that continue past this slice.
     Link(NodeNo),
 }
 
-/// One entry of a layer: a slice, and what stands there.
+/// One entry of a layer: a slice, and what is there.
 ///
 /// The entries of a layer are ordered by their slice, then by their class, and no two agree in both.
 #[derive(Debug, Drop)]
@@ -93,7 +93,7 @@ pub struct Entry {
     pub content: Content,
 }
 
-/// The border to the right: its number, and the least slice that may stand in it.
+/// The border to the right: its number, and the least slice that may be in it.
 #[derive(Clone, Copy, Debug, PartialEq, Eq)]
 pub struct RightLink {
     pub low: u64,
@@ -103,11 +103,11 @@ pub struct RightLink {
 impl Entry {
     /// The entry of a key in a layer, from its rest there and its row.
     ///
-    /// Costs no memory where the rest has at most eight bytes. Otherwise it shares the bytes after the eighth.
+    /// Takes no memory if the rest has at most eight bytes. Otherwise it shares the bytes after the eighth.
     ///
     /// # Errors
     ///
-    /// `NoMemory` where the bytes cannot be shared.
+    /// `NoMemory` if the bytes cannot be shared.
     pub fn of_row(rest: Bytes, row: Row) -> Result<Entry, NoMemory>
         ensures value { IfOk result (λ entry. entry ≡ entry_of_row rest row) }
         ensures place { IfOk result (λ entry. place_of rest ≡ place_at entry.slice (entry_class entry)
@@ -123,7 +123,7 @@ impl Entry {
         Ok(Entry { slice, content })
     }
 
-    /// The row, where the entry has one: a link has none. Constant cost.
+    /// The row, if the entry has one: a link has none. Constant cost.
     pub fn row(&self) -> Option<&Row>
         ensures { option_copied result ≡ entry_row self.now }
     {
@@ -134,7 +134,7 @@ impl Entry {
         }
     }
 
-    /// The class at which the entry stands. Constant cost.
+    /// The class of the entry. Constant cost.
     pub fn class(&self) -> Class
         ensures value { result ≡ entry_class self.now }
         ensures whole { IsEntry self.now }

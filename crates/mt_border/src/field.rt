@@ -10,15 +10,15 @@ use mt_slice::Class;
 use mt_types::numbers::NodeNo;
 use mt_types::row::Row;
 
-/// Whether what stands at a slot's key is a row, or leads to the layer below.
+/// Whether a slot's key has a row, or leads to the layer below.
 #[derive(Clone, Copy, Debug, PartialEq, Eq)]
 pub enum Mark {
     Plain,
     Layer,
 }
 
-/// A slot's key: its slice and class, what follows the slice (nothing, where the class is a length or the mark that of a
-/// layer), and its mark.
+/// A slot's key: its slice and class, what follows the slice (nothing if the class is a length, or if the mark is that
+/// of a layer), and its mark.
 #[derive(Clone, Copy)]
 pub struct KeyPart<'a> {
     pub slice: u64,

@@ -2,8 +2,8 @@
 
 use mt_types::numbers::NodeNo;
 
-/// Where an entry of some slice and class stands among a border's live entries, and what it is; or where it would
-/// stand.
+/// The place of an entry of some slice and class among a border's live entries, and what the entry is; or the place
+/// that it would have.
 #[derive(Clone, Copy, Debug, PartialEq, Eq)]
 pub enum Found {
     /// No entry has this slice and class. One would be inserted at this place.

@@ -239,7 +239,7 @@ impl SlotTable {
         self.permutation.remove_at(place);
     }
 
-    /// Keeps the first so many live slots. The others become the first unused ones.
+    /// Keeps the first `count` live slots. The others become the first unused ones.
     pub fn keep_first(&mut self, count: usize)
         requires { count ≤ length (live_slots self.old) }
         ensures { self.new ≡ record self.old { order = with_first self.old.order count } }
@@ -247,7 +247,7 @@ impl SlotTable {
         self.permutation.keep_first(count);
     }
 
-    /// Writes the row of the live slot at a place, and gives back the old one.
+    /// Writes the row of the live slot at a place, and returns the old one.
     pub fn set_row(&mut self, place: usize, row: Row) -> Row
         requires within { place < length (live_slots self.old) }
         requires row { IsSome (row_of_first (drop place (live_slots self.old))) }

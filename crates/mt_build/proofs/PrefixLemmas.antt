@@ -1,4 +1,4 @@
--- Where the keys of a view begin and end.
+-- The begin and the end of the keys of a view.
 use Rattle.std.proofs.Common.{◌≡◌, ℕ, ◌+◌, ◌⊎◌, inl, inr, Bool, true, ◌&&◌, nat_eq, List, [], ◌∷◌, ◌++◌, Some, refl, ap, sym, ◌∙◌, arith}
 use Rattle.std.specs.Prelude.{IsTrue}
 use Rattle.std.specs.Ordering.{is_ge, is_lt}
@@ -61,11 +61,11 @@ less_of key end h = go (key_three key end)
     go (inr (inl e)) = absurd (false≢true (sym (ap is_lt (ap (key_cmp key) (sym e) ∙ cmp_equal key)) ∙ h))
     go (inr (inr less)) = absurd (false≢true (sym (ap is_lt (cmp_greater key end less)) ∙ h))
 
--- each key of a view is before a cursor that is at a place behind them all, or behind it
+-- each key of a view is before a cursor at or after a place that is after all of them
 pub behind_all : (build : BuildView) (end : List ℕ) → AreBytes end → ((key : List ℕ) → IsTrue (is_within build.state.spec key) → IsTrue (is_before key (Some end)))
     → AtMost (place_of end) (under build.prefix build.at) → IsBehindAll build
 behind_all build end bytes ends past key k within = then_most _ _ _ ((place_order key end k bytes).0 (less_of key end (ends key within))) past
 
--- one byte more than the last is behind what begins so
+-- bytes with their last one greater by one are after what begins with these bytes
 pub end_found : (bytes : List ℕ) (last : ℕ) (key : List ℕ) → starts_with nat_eq key (bytes ++ last ∷ []) ≡ true → is_before key (Some (bytes ++ (last + 1) ∷ [])) ≡ true
 end_found bytes last key h = ap is_lt (cmp_less key (bytes ++ (last + 1) ∷ []) (before_next bytes last key h))

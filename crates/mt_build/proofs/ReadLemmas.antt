@@ -76,7 +76,7 @@ has_row (pair ∷ pairs) rows _ first =
 has_row (other ∷ pairs) rows pair (later i) = has_row pairs (map.insert rows other.0 other.1) pair i
 
 -- ---- the visit of a border
--- the pairs with which it ends or goes on
+-- the pairs with which it ends or continues
 abbrev pairs_of : {V : Type 0} → VisitOutcome V → List (Pair V)
 pairs_of (answers taken) = taken
 pairs_of (goes prefix number at taken) = taken
@@ -184,7 +184,7 @@ module _ (scan next : ScanView) (list : ListView) (state then : StateView) (take
   pub visits : (move : ScanMove) → VisitsList scan list move next → (move ≡ Top → next.prefix ≡ []) → VisitsOn before list move then_build
   visits move visit home = record { comes = λ chart begun number low arenas at_top noted ordered from_low below scanning. comes chart begun number low arenas at_top noted ordered from_low below scanning move visit home }
 
--- a visit that leaves the cursor behind each key of the view has come to the scan's end
+-- a visit that leaves the cursor after each key of the view has come to the scan's end
 pub visits_all : (old : BuildView) (list : ListView) (move : ScanMove) (new : BuildView) → VisitsOn old list move new → IsBehindAll new → VisitsOn old list Done new
 visits_all old list move new visit behind = record {
   comes = λ chart begun number low arenas at_top noted ordered from_low below scanning. all chart begun arenas move (visit.comes chart begun number low arenas at_top noted ordered from_low below scanning);

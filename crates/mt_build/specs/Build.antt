@@ -31,8 +31,8 @@ abbrev pub first_key : ViewSpec → List ℕ
 first_key (Range lo hi test) = lo
 first_key (Prefix prefix test) = prefix
 
--- What was read of the keys that are done, where the tree was these arenas, newest first: the state is afresh for rows
--- that stood at some moment, with one of each of those keys of the view that had a row throughout.
+-- What was read of the keys that are done, if the tree was these arenas, newest first: the state is afresh for rows
+-- that were there at some moment, with one of each of those keys of the view that had a row throughout.
 pub record HasRead (arenas : List Arena) (Done : Place → Type 0) (state : StateView) : Type 0 where
   pub read : Rows
   pub afresh : IsAfresh state read
@@ -50,7 +50,7 @@ pub record IsScanning (chart : Chart) (begun : ℕ) (arenas : List Arena) (numbe
 abbrev pub HasScanned : List Arena → BuildView → Type 0
 HasScanned arenas build = HasRead arenas (λ key. Unit {0}) build.state
 
--- its cursor is behind each key of the view
+-- its cursor is after each key of the view
 abbrev pub IsBehindAll : BuildView → Type 0
 IsBehindAll build =
     (key : List ℕ) → AreBytes key → IsTrue (is_within build.state.spec key)

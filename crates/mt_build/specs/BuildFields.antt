@@ -10,7 +10,7 @@ abbrev pub build_of : Inside → BuildView
 build_of build = record { prefix = build.scan.prefix; at = build.scan.at; state = build.state }
 
 -- between two visits the scan has taken nothing; it is to show each column; and no key of the view is at the end or
--- behind it
+-- after it
 pub record IsBuild (build : Inside) : Type 0 where
   pub taken : build.scan.taken ≡ []
   pub asked : build.scan.asked ≡ []

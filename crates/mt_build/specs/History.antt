@@ -1,5 +1,5 @@
--- What a build reads, told by rows alone: which rows there were since its begin, and which deltas led from one to the
--- next.
+-- What a build reads, in terms of rows alone: which rows there were since its begin, and which deltas led from one to
+-- the next.
 use Rattle.std.specs.Prelude.{ℕ, ◌≡◌, ◌⊎◌, ◌&&◌, nat_eq, Bool, IsTrue, if◌then◌else◌, List, [], ◌∷◌, ◌++◌, Option, Some, IsSome}
 use Rattle.std.specs.FinMap.{get}
 use Rattle.std.specs.List.{starts_with}
@@ -45,7 +45,7 @@ pub record IsReadOf (spec : ViewSpec) (moments : List Rows) (read : Rows) : Type
   pub stood : (key : List ℕ) (row : Row) → get read key ≡ Some row → WasAt moments key (Some row)
   pub covered : (key : List ℕ) → IsTrue (is_within spec key) → WasThroughout moments key → IsSome (get read key)
 
--- what stands under a key after these deltas, where this row stood there before, or none
+-- what is under a key after these deltas, if this row was there before, or none
 abbrev pub row_after : List Delta → List ℕ → Option Row → Option Row
 row_after [] key row = row
 row_after (delta ∷ deltas) key row =

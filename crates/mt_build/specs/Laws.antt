@@ -21,7 +21,7 @@ DeltasLeadOn =
     (delta : Delta) (deltas : List Delta) (rows : Rows) (state : StateView) → LeadsTo (delta ∷ deltas) rows state
     → LeadsTo deltas rows (applied delta state)
 
--- and where none is left it is afresh for those rows
+-- and if none is left it is afresh for those rows
 abbrev pub LedIsAfresh : Type 0
 LedIsAfresh = (rows : Rows) (state : StateView) → LeadsTo [] rows state → IsAfresh state rows
 

@@ -40,7 +40,7 @@ const SCAN_LIMIT: u16 = 16;
 #[derive(Drop)]
 pub struct Build {
     scan: Scan,
-    // Behind each key of the view, if there is such a key.
+    // After each key of the view, if there is such a key.
     end: Option<Bytes>,
     state: ViewState,
 }
@@ -61,13 +61,13 @@ impl Model for Build {
 }
 
 impl Build {
-    /// The begin of a build at the number of a commit, the newest one, in layer 0 at the first key of the view. The
-    /// view sums `columns` columns. O(n) in `columns`, with a few allocations.
+    /// Begins a build at the number of a commit, the newest one, in layer 0 at the first key of the view. The view sums
+    /// `columns` columns. O(n) in `columns`, with a few allocations.
     ///
     /// # Errors
     ///
-    /// `KeyTooLong` where the first key of the view has more than `MAX_KEY_BYTES` bytes; `NoMemory` where an allocation
-    /// is refused.
+    /// `KeyTooLong` if the first key of the view has more than `MAX_KEY_BYTES` bytes; `NoMemory` if an allocation is
+    /// refused.
     pub fn new(alloc: Global, columns: u8, spec: ViewSpec, at: u64) -> Result<Build, Refusal>
         ensures prefix { IfOk result (λ build. build.prefix ≡ []) }
         ensures start { IfOk result (λ build. build.at ≡ place_of (first_key spec)) }
@@ -89,14 +89,15 @@ impl Build {
         })
     }
 
-    /// The number of commits at which its view stands so far: that of its begin, or of the last delta that was taken.
+    /// Returns the number of commits at which its view is so far: that of its begin, or of the last delta that was
+    /// taken.
     pub fn at(&self) -> u64
         ensures { result ≡ self.now.state.at }
     {
         self.state.at()
     }
 
-    /// The slice that its scan seeks in its layer: it goes down to the border where that slice would stand.
+    /// Returns the slice that its scan seeks in its layer: it goes down to the border to which that slice belongs.
     pub fn slice(&self) -> u64
         ensures { result ≡ first_slice self.now.at }
     {
@@ -111,16 +112,16 @@ impl Build {
     }
 
     /// Visits what was read of the border in whose interval the slice is, and takes it in: the rows of the keys from
-    /// its cursor on, up to the first link that it goes into. The scan is then at its end, behind all keys of the view,
-    /// or it goes on at the head of the link's layer, at the border to the right, or at the head of layer 0, with its
+    /// its cursor on, up to the first link that it goes into. The scan is then at its end, after all keys of the view,
+    /// or it continues at the head of the link's layer, at the border to the right, or at the head of layer 0, with its
     /// cursor further on.
     ///
     /// O(log n) in the rows of the view for each row that it reads, with a few allocations.
     ///
     /// # Errors
     ///
-    /// `NoMemory` where an allocation is refused. The build is then to be refused too: of what it has read no more is
-    /// said.
+    /// `NoMemory` if an allocation is refused. The build then has to be refused too: nothing more is said of what it
+    /// has read.
     pub fn visit(&mut self, alloc: Global, listed: Listed<'_>) -> Result<ScanMove, NoMemory>
         requires keys { HoldsKeys self.old.prefix (list_in listed).entries }
         requires few { length (list_in listed).entries ≤ SLOTS }
@@ -142,7 +143,7 @@ impl Build {
         Ok(visited)
     }
 
-    // Whether its cursor is behind each key of the view. Where it doesn't answer so, no more is said.
+    // Returns whether its cursor is after each key of the view. If it returns false, no more is said.
     fn is_at_end(&self) -> bool
         ensures { IsTrue result → IsBehindAll self.now }
     {
@@ -156,7 +157,7 @@ impl Build {
     ///
     /// # Errors
     ///
-    /// `NoMemory` where an allocation is refused.
+    /// `NoMemory` if an allocation is refused.
     pub fn take(&mut self, delta: &Delta) -> Result<(), NoMemory>
         ensures leads { OnOk result ((deltas : List DeltaValue) (rows : Rows)
             → LeadsTo (delta.now ∷ deltas) rows self.old.state → LeadsTo deltas rows self.new.state) }
@@ -166,7 +167,7 @@ impl Build {
         self.state.apply(delta)
     }
 
-    /// The state of the view. It stands at the last delta that was taken, or at the begin where there was none.
+    /// Returns the state of the view. It is at the last delta that was taken, or at the begin if there was none.
     pub fn finish(self) -> ViewState
         ensures state { result ≡ self.state }
         ensures afresh { (rows : Rows) → LeadsTo [] rows self.state → IsAfresh result rows }

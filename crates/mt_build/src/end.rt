@@ -1,4 +1,4 @@
-//! Where the keys of a view begin and end.
+//! The begin and the end of the keys of a view.
 
 ghost use Rattle.std.specs.Prelude.{◌≡◌, ℕ, ◌∷◌, ◌++◌, [], List, IfOk, IsTrue, nat_eq, true};
 ghost use Rattle.std.specs.List.{starts_with};
@@ -12,7 +12,7 @@ use mt_types::refusal::NoMemory;
 use mt_types::view::ViewSpec;
 use std::alloc::Global;
 
-/// The first key that a view may have. Shares the bytes.
+/// Returns the first key that a view may have. Shares the bytes.
 pub(crate) fn first_key(alloc: Global, spec: &ViewSpec) -> Result<Bytes, NoMemory>
     ensures { IfOk result (λ key. key ≡ first_key spec.now) }
 {
@@ -22,7 +22,7 @@ pub(crate) fn first_key(alloc: Global, spec: &ViewSpec) -> Result<Bytes, NoMemor
     }
 }
 
-// The least bytes that are behind all that begin with a prefix, if there are such bytes.
+// Returns the least bytes that are after all bytes that begin with a prefix, if there are such bytes.
 fn end_of_prefix(alloc: Global, prefix: &[u8]) -> Result<Option<Bytes>, NoMemory>
     ensures { IfOk result (λ end. (key : List ℕ) → IsTrue (starts_with nat_eq key prefix.now)
         → IsTrue (is_before key end)) }
@@ -37,8 +37,8 @@ fn end_of_prefix(alloc: Global, prefix: &[u8]) -> Result<Option<Bytes>, NoMemory
     Ok(None)
 }
 
-/// A key that is behind each key of a view, if there is one. Shares the bytes of a range's end; of a prefix costs two
-/// allocations.
+/// Returns a key that is after each key of a view, if there is one. Shares the bytes of a range's end; for a prefix it
+/// costs two allocations.
 pub(crate) fn end_of(alloc: Global, spec: &ViewSpec) -> Result<Option<Bytes>, NoMemory>
     ensures { IfOk result (λ end. (key : List ℕ) → IsTrue (is_within spec.now key)
         → IsTrue (is_before key end)) }

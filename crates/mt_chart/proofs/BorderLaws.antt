@@ -97,7 +97,7 @@ module _ (now : ℕ) (twins : List Twin) (arena after : Arena) (chart : Chart) (
 pub hiding : HidingRemovesTheRow
 hiding now twins arena after chart key row index step = (hides_index now twins arena after chart key row index step, hides_content now twins arena after chart key row index step)
 
--- a row is set in place of another
+-- a row replaces another
 module _ (now : ℕ) (twins : List Twin) (arena after : Arena) (chart : Chart) (key : Place) (before row : Row) (index : IsIndex now twins arena chart) (step : SetsRow arena after chart key before row) where
   sets_ok : IsBorderNode chart step.prefix step.old
   sets_ok = index.tree.each_border step.number step.prefix step.old step.writes.stands
@@ -223,7 +223,7 @@ linking now twins arena after chart next index step = record {
         let clash : true ≡ false = sym d ∙ alive in
         cc
 
--- where two numbers have new places
+-- if two numbers have new places
 dated_two : (chart next : Chart) (now one two : ℕ) (p q : Spot) → next one ≡ Some p → next two ≡ Some q → ((other : ℕ) → other ≢ one → other ≢ two → next other ≡ chart other) →
     ((role : Role) (prefix : List ℕ) (low e : ℕ) → p ≡ spot role prefix low (gone e) → e ≤ now) → ((role : Role) (prefix : List ℕ) (low e : ℕ) → q ≡ spot role prefix low (gone e) → e ≤ now) → Dated chart now → Dated next now
 dated_two chart next now one two p q f g rest u v dated m role prefix low e h = go (same_number m one) (same_number m two)

@@ -1,10 +1,10 @@
--- The number of a scan's cursor grows where the scan leaves a border by its right link, and where it leaves a layer.
+-- The number of a scan's cursor grows when the scan leaves a border by its right link, and when it leaves a layer.
 use Rattle.std.proofs.Common.{ℕ, zero, suc, ◌≡◌, ◌<◌, ◌≤◌, ◌+◌, ◌*◌, List, [], ◌∷◌, ◌++◌, length, refl, sym, arith, append_assoc}
 use Rattle.std.proofs.Math.Nat.{mul-le-mul_right}
 use Rattle.mt_slice.specs.Place.{Place, deeper, under}
 use Rattle.mt_chart.specs.CursorNumber.{base_power, digits_number, AreDigits, digit_base, place_digits, digits_above}
 
--- the first part decides, where the second is less than the base
+-- the first part decides if the second is less than the base
 pub less_than_more : (d e x y z : ℕ) → d < e → x < y → d * y + x < e * y + z
 less_than_more d e x y z h w =
     let k : suc d * y ≤ e * y = mul-le-mul_right y h in
@@ -60,7 +60,8 @@ module _ (places : ℕ) where
       let v : digits_above p (e ∷ es) ≡ digits_above p [] ++ (e ∷ es) = above_parts p (e ∷ es) in
       rw u (rw v x)
 
-  -- a scan in the layer of the prefix `p`, its cursor at the slice `s` or behind it, leaves a border by a right link of the greater low `w`
+  -- a scan in the layer of the prefix `p`, with its cursor at or after the slice `s`, leaves a border by a right link
+  -- of the greater low `w`
   pub leaves_border : (p ds : List ℕ) (d s w : ℕ) → length p < places → AreDigits digit_base ds → d ≤ 2 * s + 1 → s < w →
       digits_number digit_base places (digits_above p (d ∷ ds)) < digits_number digit_base places (digits_above p ((2 * w) ∷ []))
   leaves_border p ds d s w l h m q = grows_above p ds [] d (2 * w) l h (omega arith)

@@ -46,7 +46,7 @@ past_layer s u key h = go (outside u key)
     go (inr (inl f)) = absurd (never key (precedes_again key (under u (deeper s (last 0 0))) key (f (deeper s (last 0 0))) (h (last 0 0))))
     go (inr (inr f)) = inr (f (last s 10))
 
--- the cursor behind a prefix is the place `last s 10` beside the link
+-- the cursor after a prefix is the place `last s 10`, next to the link
 pub passes_after : (s : ℕ) (u : List ℕ) (key : Place) → Short key → Passes (after_prefix s u) key ↔ AtMost (under u (last s 10)) key
 passes_after s u key c = (λ h. there h (outside (s ∷ u) key), back)
   where
@@ -88,11 +88,11 @@ passes_at_layer s u key c = (there, back)
     back (inl e, n) = absurd (n (sym e))
     back (inr g, n) = after g (either key (under u (deeper s (last 0 0))))
 
--- where the cursor at a key, set in the layer of that key, is read in the layer above, it is put back to the key
+-- if the cursor at a key, set in the layer of that key, is read in the layer above, it is put back to the key
 pub back_to_key : (s : ℕ) (u : List ℕ) → AtMost (under u (last s 8)) (under (s ∷ u) (last 0 0))
 back_to_key s u = inr (under_precedes u (last s 8) (deeper s (last 0 0)) (inr (refl, omega arith)))
 
--- a slice's bytes without its last zeros: no key of that slice has fewer, so the cursor may have so many
+-- a slice's bytes without its last zeros: no key of that slice has fewer, so the cursor may have that number of bytes
 pub passes_low : (w k : ℕ) (p : List ℕ) (x : Place) → ((j : ℕ) → x ≡ last w j → k ≤ j) → k ≤ 8 → AtMost (under p (last w 0)) (under p x) ↔ AtMost (under p (last w k)) (under p x)
 passes_low w k p x fewest le = (λ h. under_most p (last w k) x (there x fewest (back_under h)), λ h. most_again (under p (last w 0)) (under p (last w k)) (under p x) (under_most p (last w 0) (last w k) low) h)
   where
@@ -121,7 +121,7 @@ passes_low w k p x fewest le = (λ h. under_most p (last w k) x (there x fewest 
         go (deeper t y) f h (inl (inl g)) = absurd (not_both (last w 0) (deeper t y) h (inl g))
         go (deeper t y) f h (inl (inr g)) = absurd (let l : 9 < k = g.1 in omega arith)
 
--- a link is entered where some place under it could pass the cursor
+-- a link is entered if some place under it could pass the cursor
 pub entered_if : (s : ℕ) (at x : Place) → AtMost at (deeper s x) → Precedes at (last s 10)
 entered_if s at x h = most_then at (deeper s x) (last s 10) h (inr (refl, omega arith))
 

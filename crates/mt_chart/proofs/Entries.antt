@@ -76,7 +76,7 @@ among_hidden x xs ys o e = (λ i. ((among_insert e x xs ys).1 (inr i), stands_on
     go ne (inl q) = absurd (ne q)
     go ne (inr i) = i
 
--- an entry in place of another: what `content_set` and the new layer ask
+-- an entry replaces another: what `content_set` and the new layer ask
 pub among_set : (x x' : PlainEntry) (xs ys : List PlainEntry) → InOrder (xs ++ (x ∷ ys)) → (e : PlainEntry) → Among e (xs ++ (x' ∷ ys)) ↔ ((e ≡ x') ⊎ (Among e (xs ++ (x ∷ ys)) × (e ≢ x)))
 among_set x x' xs ys o e = (λ i. there ((among_insert e x' xs ys).0 i), back)
   where

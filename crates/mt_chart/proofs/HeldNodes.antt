@@ -1,4 +1,4 @@
--- What a call knows of a node stays true while others go on, and one step of a descent leads to a node of which it
+-- What a call knows of a node stays true while others continue, and one step of a descent leads to a node of which it
 -- knows the same.
 use Rattle.std.proofs.Common.{ℕ, zero, suc, ◌≡◌, ◌<◌, ◌≤◌, ◌⊎◌, inl, inr, List, [], ◌∷◌, Some, Bool, true, false, refl, ap, arith}
 use Rattle.mt_chart.specs.Tree.{link, Right, HeadNode, BorderNode, PlainChild, InteriorNode, head, border, interior, Arena, Among}
@@ -60,7 +60,7 @@ module _ (arena : Arena) (chart : Chart) (tree : IsTree arena chart) (begun : �
       let same : u.node ≡ t = (let i : arena h ≡ Some (head u.node) = u.is_node in cc) in
       rw same at u.root
 
-  -- what stands at a number has the chart's kind
+  -- the node of a number has the chart's kind
   not_border : (n : ℕ) (p : List ℕ) (l : ℕ) (st : Standing) → chart n ≡ Some (spot (at_level 0) p l st) → (t : BorderNode) × (arena n ≡ Some (border t))
   not_border n p l (on y) g = let (u, i, j) = tree.borders n p l y g in (u, i)
   not_border n p l (gone f) g = let (u, i, j) = tree.gone_borders n p l f g in (u, i)

@@ -90,7 +90,7 @@ module _ (arena new : Arena) (chart more : Chart) (tree : IsTree arena chart) (t
         (λ d o. let (k, n, r) = interior_owns new more i f q m y x' d more_i change.now o in mine d k r (sub k n))
         (children_once c (spot (at_level 0) q l (on true)) charted (λ k p' l' z e. let w : 0 ≡ suc k = (let v : at_level 0 ≡ at_level (suc k) = cc in cc) in omega arith))
       where
-        -- who is named by what is on may be named; the new border might not
+        -- what a node that is on names may be named; the new border may not be
         unnamed : (j : ℕ) → Owns arena chart j c → ⊥
         unnamed j (by_head p' t g e r) = let u = tree.heads j p' 0 true g in
             let same : u.node ≡ t = (let w : arena j ≡ Some (head u.node) = u.is_node in cc) in

@@ -1,4 +1,4 @@
--- A key stands at one place at most, and the border that a call is led to is that place.
+-- A key has at most one place, and the border to which a call is led is that place.
 use Rattle.std.proofs.Common.{ℕ, ◌≡◌, ◌<◌, ◌≤◌, ◌⊎◌, ◌↔◌, inl, inr, List, [], ◌∷◌, ◌++◌, length, refl, sym, ap, ◌∙◌, subst, arith}
 use Rattle.mt_slice.specs.Place.{Place, deeper, under, first_slice, first_class}
 use Rattle.mt_types.specs.declared.row.Row.{Row}

@@ -33,7 +33,7 @@ lists_are_noted show chart begun past prefix moment then right was now kept pass
     as_link : (e : PlainEntry) (slice number : ℕ) → e.slice ≡ slice → e.content ≡ link number → Among e kept → Among (record { slice = slice; content = link number }) kept
     as_link e slice number s c i = subst (λ (x : PlainEntry). Among x kept) (λ j. record { slice = s j; content = c j }) i
 
-    -- a row of a longer key goes on below its slice, as each key whose slot came to hold a link
+    -- a row of a longer key continues below its slice, as does each key whose slot came to hold a link
     covers : (place : Place) → then.low ≤ first_slice place → Below (first_slice place) right → AllHave past (under prefix place) → Goal place
     covers place low below t = go (had_then past moment (under prefix place) passed t).0 (all place (had_then past moment (under prefix place) passed t).0 low (lasts (first_slice place) below) (had_then past moment (under prefix place) passed t).1)
       where

@@ -16,7 +16,7 @@ marked_moves arena new chart more tree marked heads last j p t g e d = go (heads
     go (inl h) = h
     go (inr (g', e')) = last j p t g' e' d (head_root arena chart tree j p t g' e') (marked j p t g' e' d)
 
--- a head under the new chart, where one number stands otherwise
+-- a head under the new chart, in which one number has another place
 pub was_head : (chart more : Chart) (c : ℕ) (z : Spot) → Changes chart more c (Some z) → ((p : List ℕ) → z ≢ spot top p 0 (on true)) → (j : ℕ) (p : List ℕ) → OnHead more j p → OnHead chart j p
 was_head chart more c z charted ne j p g = go (same_number j c)
   where

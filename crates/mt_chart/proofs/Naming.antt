@@ -20,7 +20,7 @@ named_on arena new chart more named kept fresh d k p l y g = go (fresh d k p l y
     go (inl e) = still e (named d k p l y (e ∙ g))
     go (inr u) = u
 
--- an owner that stands as before owns the same
+-- an owner whose node and place are as before owns the same
 pub still_owns : (arena new : Arena) (chart more : Chart) (j d : ℕ) → new j ≡ arena j → more j ≡ chart j → Owns arena chart j d → HasOwner new more d
 still_owns arena new chart more j d e f o = (j, owner_moves new arena more chart j d (sym e) (sym f) o)
 

@@ -1,5 +1,5 @@
--- Where the second descent for a dropped border ends: at a border whose interval holds the slice before the dropped one's low, the right
--- link names the dropped one, so the descent finds the border that it looks for.
+-- The end of the second descent for a dropped border: if a border's interval holds the slice before the dropped one's
+-- low, its right link names the dropped one, so the descent finds the border that it looks for.
 use Rattle.std.proofs.Math.Nat.{mul-le-mul_left}
 use Rattle.std.proofs.Common.{ℕ, List, suc, ◌≡◌, ◌<◌, ◌≤◌, ◌+◌, ◌*◌, ◌⊎◌, inl, inr, Some, Option, sym, arith}
 use Rattle.mt_chart.specs.Tree.{BorderNode, Right, border, Arena, Below, no_right, before_right}

@@ -17,7 +17,7 @@ only_is at value other number g = elim (cases_eq number at) [
   | inr e ↦ absurd (let w = sym (only_elsewhere at value number e) ∙ g in cc)
 ]
 
--- what stands at the border's number
+-- the node of the border's number
 pub at_root : (root : ℕ) (node : BorderNode) → 0 < root → arena_of_two root node root ≡ Some (border node)
 at_root zero node h = elim h [ ]
 at_root (suc k) node h = only_here (suc k) (border node) (suc k) refl
@@ -107,6 +107,6 @@ new_dated root n role p l e g = absurd (go n g)
     go zero h = let c : on true ≡ gone e = cc in cc
     go (suc m) h = let (i, f) = only_is root (spot (at_level 0) [] 0 (on true)) (spot role p l (gone e)) (suc m) h in let c : on true ≡ gone e = cc in cc
 
--- what stands at a border that is on
+-- the node of a border that is on
 pub new_stands : (root : ℕ) → 0 < root → (n : ℕ) (p : List ℕ) (b : BorderNode) → OnBorder (new_arena root) (new_chart root) n p b → b ≡ new_border
 new_stands root positive n p b o = (is_new root positive n p b o).2

@@ -49,7 +49,7 @@ scan_later stood stood_later throughout throughout_later start limit cursor take
   covered = λ key from h t. s.covered key from h (g key t);
 }
 
--- while others go on, whatever they do to the content
+-- while others continue, whatever they do to the content
 pub range_kept : {V : Type 0} (begun : ℕ) (chart new : Chart) (stood stood_later : Place → V → Type 0) (throughout throughout_later : Place → Type 0) (start : Place) (limit : ℕ)
     (p : List ℕ) (n : ℕ) (at : Place) (taken : List (Pair V)) → Evolves begun chart new →
     ((key : Place) (v : V) → stood key v → stood_later key v) → ((key : Place) → throughout_later key → throughout key) →
@@ -81,14 +81,14 @@ pub range_again : {V : Type 0} (arena : Arena) (chart : Chart) → IsTree arena 
     OpenRange chart begun stood throughout start limit [] 0 (under p at) taken
 range_again arena chart tree begun stood throughout start limit p n at taken r = record { held = holds_top arena chart tree begun (first_slice (under p at)); scanned = r.scanned }
 
--- the same with the cursor put back, as where the cursor at a key, set in the layer of that key, is read as the key
+-- the same with the cursor put back, as when the cursor at a key, set in the layer of that key, is read as the key
 pub range_again_at : {V : Type 0} (arena : Arena) (chart : Chart) → IsTree arena chart → (begun : ℕ) (stood : Place → V → Type 0) (throughout : Place → Type 0) (start : Place) (limit : ℕ)
     (p : List ℕ) (n : ℕ) (at back : Place) (taken : List (Pair V)) → AtMost start back → AtMost back (under p at) → OpenRange chart begun stood throughout start limit p n at taken →
     OpenRange chart begun stood throughout start limit [] 0 back taken
 range_again_at arena chart tree begun stood throughout start limit p n at back taken f g r =
     record { held = holds_top arena chart tree begun (first_slice back); scanned = scan_back stood throughout start limit (under p at) back taken f g r.scanned }
 
--- where the limit is reached
+-- if the limit is reached
 pub range_full : {V : Type 0} (stood : Place → V → Type 0) (throughout : Place → Type 0) (start : Place) (limit : ℕ) (cursor : Place) (taken : List (Pair V)) →
     Scanned stood throughout start limit cursor taken → length taken ≡ limit → AnswersRange stood throughout start limit taken
 range_full stood throughout start limit cursor taken s full = record {
@@ -215,7 +215,7 @@ pub scan_stops : {V : Type 0} (stood : Place → V → Type 0) (throughout : Pla
     Scanned stood throughout start limit cursor taken → (end : Place) → AtMost end cursor → (key : Place) → AtMost start key → Precedes key end → throughout key → Listed key taken
 scan_stops stood throughout start limit cursor taken s end g key f h t = s.covered key f (inl (then_most key end cursor h g)) t
 
--- a scan without a limit takes one anew before each visit
+-- a scan without a limit takes a new one before each visit
 pub range_roomier : {V : Type 0} (chart : Chart) (begun : ℕ) (stood : Place → V → Type 0) (throughout : Place → Type 0) (start : Place) (limit more : ℕ) (p : List ℕ) (n : ℕ) (at : Place) (taken : List (Pair V)) →
     length taken ≤ more → OpenRange chart begun stood throughout start limit p n at taken → OpenRange chart begun stood throughout start more p n at taken
 range_roomier chart begun stood throughout start limit more p n at taken le r = record {

@@ -50,7 +50,7 @@ module _ (begun number : ℕ) (chart next : Chart) (after : Arena) (prefix : Lis
     still_known : Known next begun number (at_level 0) prefix g.node.low
     still_known = subst (λ (low : ℕ). Known next begun number (at_level 0) prefix low) (sym same_low) (known_kept begun number (at_level 0) prefix f.node.low chart next evolves looked.known)
 
-    -- where the border is on, the tree tells what its right link names
+    -- if the border is on, the tree says what its right link names
     on_here : IsOn next number → OnBorder after next number prefix g.node
     on_here is = record { posted = is.posted; place = place; node = named }
       where
@@ -179,7 +179,7 @@ in_turn (was ∷ others) ordered zero (suc j) one other less at_i at_j =
 in_turn (was ∷ others) ordered (suc i) zero one other less at_i at_j = absurd (omega (arith, less))
 in_turn (was ∷ others) ordered (suc i) (suc j) one other less at_i at_j = in_turn others ordered.1 i j one other (omega (arith, less)) at_i at_j
 
--- where an entry stands at a slice and class, it isn't before or after them
+-- if an entry is at a slice and class, it isn't before or after them
 not_before : (slice bytes : ℕ) (entry : PlainEntry) → StandsBefore slice bytes entry → entry.slice ≡ slice → class entry.content ≡ bytes → ⊥
 not_before slice bytes entry (inl less) same tie = omega (arith, less, same)
 not_before slice bytes entry (inr (is, less)) same tie = omega (arith, less, tie)

@@ -24,7 +24,7 @@ module _ (arena : Arena) (chart : Chart) (tree : IsTree arena chart) (b : ℕ) w
   on_since : (y : Bool) (e : ℕ) → on y ≡ gone e → b ≤ e
   on_since y e q = absurd cc
 
-  -- what stands at a known number
+  -- the node of a known number
   pub a_head : (n : ℕ) (p : List ℕ) (l : ℕ) (st : Standing) → chart n ≡ Some (spot top p l st) → (t : HeadNode) × (arena n ≡ Some (head t))
   a_head n p l (on y) g = let u = tree.heads n p l y g in (u.node, u.is_node)
   a_head n p l (gone f) g = let (u, i, j) = tree.gone_heads n p l f g in (u, i)
@@ -116,6 +116,6 @@ module _ (arena : Arena) (chart : Chart) (tree : IsTree arena chart) (b : ℕ) w
   rises n m h k (to_right t r e d i q) = subst (λ z. Higher chart b m z) k.is_height (subst (λ z. Higher chart b z (height k.role k.prefix k.low)) q (rise_right n k.role k.prefix k.low k.known t r e d i))
   rises n m h k (to_link t s x e d w i q) = subst (λ z. Higher chart b m z) k.is_height (subst (λ z. Higher chart b z (height k.role k.prefix k.low)) q (rise_link n k.role k.prefix k.low k.known t s x e d w i))
 
-  -- so a run is longer by one, and goes on from the new node
+  -- so a run is longer by one, and continues from the new node
   pub run_move : (ns : List ℕ) (n m h : ℕ) → Run chart b ns h → KnownAt chart b n h → Moves arena n m → (g : ℕ) × Run chart b (n ∷ ns) g × KnownAt chart b m g
   run_move ns n m h r k v = let x = rises n m h k v in (x.height, (h, k, x.rises, r), x.known)

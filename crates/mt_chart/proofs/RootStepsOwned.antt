@@ -86,7 +86,7 @@ module _ (arena new : Arena) (chart next : Chart) (twins : ℕ → ℕ → Type 
     (charted : Changes chart next x (Some (spot (at_level (suc f)) q 0 (on true))))
     (children : node.children ≡ (record { low = 0; number = t.root; level = t.level }) ∷ ((record { low = l; number = c; level = k }) ∷ [])) (once : NoChildTwice node.children) (root : t'.root ≡ x)
     (alone : (j : ℕ) → twins j h → ⊥) where
-  -- who is named by `x`
+  -- what `x` names
   named : (d : ℕ) → Owns arena next x d → (t.root ≡ d) ⊎ (c ≡ d)
   named d o = let (v, n, e) = interior_owns arena next x f q 0 true node d charted.now filled o in which v e (subst (λ (u : List PlainChild). Among v u) children n)
     where

@@ -117,7 +117,7 @@ pub visits_total : {V : Type 0} (show : Row → V) (limit : ℕ) (p : List ℕ) 
 visits_total show limit p at right [] taken few = let (out, h) = end_total p right taken in (out, inr h)
 visits_total show limit p at right (e ∷ es) taken few = at_limit show limit p at right e es taken few (visits_total show limit p at right es)
 
--- what a reading by a scan says of a key that nobody changed: its row where it has one, and nothing where it has none
+-- what a reading by a scan says of a key that nobody changed: its row if it has one, and nothing if it has none
 pub stood_steady : {V : Type 0} (show : Row → V) (past : List Arena) (key : Place) (row : Row) (v : V) → Stood show past key v → Steady past key row → v ≡ show row
 stood_steady show [] key row v h t = elim h [ ]
 stood_steady show (a ∷ past) key row v (inl (r, h, e)) t = sym e ∙ ap show (t.0 r h)

@@ -1,4 +1,4 @@
--- A row is shown, where the entries are two lists put together: the form in which a border tells what it inserted.
+-- A row is shown, and the entries are two lists put together: this is the form in which a border says what it inserted.
 use Rattle.std.proofs.Common.{ℕ, ◌≡◌, ◌≤◌, ◌⊎◌, ◌↔◌, inl, inr, List, ◌∷◌, ◌++◌, Some, true, false, sym, ap, ◌∙◌}
 use Rattle.mt_slice.specs.Place.{Place, under}
 use Rattle.mt_types.specs.declared.row.Row.{Row}

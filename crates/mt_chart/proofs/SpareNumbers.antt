@@ -66,7 +66,7 @@ module _ (arena new : Arena) (chart : Chart) (tree : IsTree arena chart)
     evolves = λ begun le. evolves_same begun chart;
   }
 
--- what stands at numbers that the chart knows is as before
+-- the nodes of the numbers that the chart knows are as before
 pub spares_keep : (now : ℕ) (twins : List Twin) (arena new : Arena) (chart : Chart) → IsIndex now twins arena chart → ((m : ℕ) (x : Spot) → chart m ≡ Some x → new m ≡ arena m) → Keeps now twins arena new chart chart
 spares_keep now twins arena new chart index same =
     rest_keeps arena new chart index.tree (λ m r q v y g. same m (spot r q v (on y)) g) (λ m k q v st g. same m (spot (at_level (suc k)) q v st) g)

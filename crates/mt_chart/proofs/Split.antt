@@ -165,7 +165,7 @@ module _ (arena new : Arena) (chart more : Chart) (tree : IsTree arena chart) (n
       go (inr (inl (e, u, v))) = let k : d.low ≡ b.low = ap (λ z. z.low) v ∙ low in rw k (old b.low (rw (e, u) (tree.from_left n p b o)))
       go (inr (inr (e, y))) = old d.low (tree.from_left m q d y)
 
-  -- where an old border and `n` stand at one slice, they are one
+  -- if the intervals of an old border and of `n` share a slice, they are one border
   clash : (i : ℕ) (q : List ℕ) (d : BorderNode) (s : ℕ) → i ≢ n → OnBorder arena chart i q d → q ≡ p → d.low ≤ s → Below s d.right → b.low ≤ s → Below s b.right → ⊥
   clash i q d s ne x e l h l' h' = ne (same_low_slice arena chart tree i n p d b s (rw e at x) o l h l' h')
 

@@ -6,7 +6,7 @@ use Rattle.mt_chart.specs.Walk.{KnownAt, Run, Bounded, Trail, begins, moves, cli
 use Rattle.mt_chart.proofs.Walk.{one_height, run_kept, known_at_kept, run_bound, run_fits}
 use Rattle.mt_chart.proofs.Rise.{run_move}
 
--- the run that a trail tells of
+-- the run of a trail
 record Told (b : ℕ) (chart : Chart) (n k : ℕ) : Type 0 where
   came : List ℕ
   height : ℕ
@@ -30,7 +30,7 @@ told b (others {chart = chart} {new = new} {number = n} ev t) =
     let u = told b t in
     record { came = u.came; height = u.height; run = run_kept b u.came u.height chart new ev u.run; known = known_at_kept b n u.height chart new ev u.known; as_long = u.as_long }
 
--- where all numbers of the chart are below the bound, a get moves fewer times in a row
+-- if all numbers of the chart are below the bound, a get moves fewer times in a row
 pub trail_bound : (b bound n k : ℕ) (chart : Chart) → Bounded chart bound → Trail b chart n k → k < bound
 trail_bound b bound n k chart w t =
     let u = told b t in
@@ -38,7 +38,7 @@ trail_bound b bound n k chart w t =
     let e : length u.came ≡ k = u.as_long in
     omega arith
 
--- and fewer times than there are nodes, where a list has the numbers of all of them
+-- and fewer times than there are nodes, if a list has the numbers of all of them
 pub trail_fits : (b n k : ℕ) (chart : Chart) (nodes : List ℕ) → ((x : ℕ) (s : Spot) → chart x ≡ Some s → Among x nodes) → Trail b chart n k → k < length nodes
 trail_fits b n k chart nodes w t =
     let u = told b t in

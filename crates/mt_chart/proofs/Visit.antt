@@ -84,7 +84,7 @@ pub in_order_parts : (xs : List PlainEntry) (e : PlainEntry) (ys : List PlainEnt
 in_order_parts [] e ys o f i = o.0 f i
 in_order_parts (x ∷ xs) e ys o f i = in_order_parts xs e ys o.1 f i
 
--- a link is entered where the cursor is before all that comes after its layer: then the cursor is before its layer or in it
+-- a link is entered if the cursor is before all that comes after its layer: then it is before its layer or in it
 pub enters : (s : ℕ) (at : Place) → Precedes at (last s 10) → Precedes at (deeper s (last 0 0)) ⊎ ((x : Place) × (at ≡ deeper s x))
 enters s (last t j) (inl h) = inl (inl h)
 enters s (last t j) (inr h) = inl (inr (h.0, let g : j < 10 = h.1 in omega arith))
@@ -176,7 +176,7 @@ module _ {V : Type 0} (stood : Place → V → Type 0) (throughout : Place → T
   pub link_passed : (e : PlainEntry) (h : ℕ) (taken : List (Pair V)) → e.content ≡ link h → AtMost (last e.slice 10) at → Passed p at taken e
   link_passed e h taken q c = (λ x row k. absurd (row_or_link e.slice e.content x row h q k), λ t r. c)
 
-  -- up to an entry that stands in the border
+  -- up to an entry of the border
   ahead_from : (done : List PlainEntry) (e : PlainEntry) (todo : List PlainEntry) (taken : List (Pair V)) → Visiting stood throughout start limit p b at done (e ∷ todo) taken →
       (z : Place) → first_slice z ≡ e.slice → first_class z ≡ class e.content → From z e → (f : PlainEntry) → Among f (e ∷ todo) → From z f
   ahead_from done e todo taken v z s c h f first = h
@@ -252,7 +252,7 @@ module _ {V : Type 0} (stood : Place → V → Type 0) (throughout : Place → T
         covered = all;
       }
 
-  -- where the next entry is a link to be entered: the scan goes to its head, at the first place of its layer
+  -- if the next entry is a link to be entered, the scan goes to its head, at the first place of its layer
   pub visit_enters : (done : List PlainEntry) (e : PlainEntry) (todo : List PlainEntry) (taken : List (Pair V)) (h : ℕ) → Visiting stood throughout start limit p b at done (e ∷ todo) taken →
       e.content ≡ link h → Precedes at (deeper e.slice (last 0 0)) → Scanned stood throughout start limit (under (e.slice ∷ p) (last 0 0)) taken
   visit_enters done e todo taken h v q c = record {
@@ -349,7 +349,7 @@ module _ {V : Type 0} (stood : Place → V → Type 0) (throughout : Place → T
       go key f (inl g) t = sides key f g t (outside (s ∷ u) key)
       go key f (inr w) t = v.scanned.covered key f (inr w) t
 
-  -- where the range has an end: all before it is done once nothing that is yet to be visited is before it
+  -- if the range has an end, all before it is done once nothing that is yet to be visited is before it
   pub visit_stops : (done : List PlainEntry) (e : PlainEntry) (todo : List PlainEntry) (taken : List (Pair V)) → Visiting stood throughout start limit p b at done (e ∷ todo) taken →
       (z : Place) → first_slice z ≡ e.slice → first_class z ≡ class e.content → From z e → (end : Place) → AtMost end (under p z) →
       (key : Place) → AtMost start key → Precedes key end → throughout key → Listed key taken

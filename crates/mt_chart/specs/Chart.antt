@@ -1,12 +1,12 @@
--- What the proofs know of the tree beside the arena: the chart, which tells where each published node stands, and the
+-- What the proofs know of the tree besides the arena: the chart, which has the place of each published node, and the
 -- invariant between an arena and a chart.
 use Rattle.std.specs.Prelude.{ℕ, suc, ◌≡◌, ◌≢◌, ◌<◌, ◌≤◌, ◌⊎◌, List, [], ◌∷◌, Option, Some, None, Bool, true, false}
 use Rattle.mt_slice.specs.Place.{Place, under}
 use Rattle.mt_types.specs.declared.row.Row.{Row}
 use Rattle.mt_chart.specs.Tree.{PlainContent, short, long, link, PlainEntry, Right, HeadNode, BorderNode, PlainChild, InteriorNode, head, border, interior, Arena, Among, Below, HoldsRow}
 
--- How a node stands. `on true`: it is linked, and a head or an interior may name it. `on false`: a border in its chain
--- that no head or interior names. `gone epoch`: since the epoch no descent that begins anew comes to it.
+-- The standing of a node. `on true`: it is linked, and a head or an interior may name it. `on false`: a border in its
+-- chain that no head or interior names. `gone epoch`: since the epoch no new descent reaches it.
 pub data Standing : Type 0 where
   on : Bool → Standing
   gone : ℕ → Standing
@@ -16,11 +16,11 @@ pub data Role : Type 0 where
   top : Role
   at_level : ℕ → Role
 
--- where a node stands: its role, its layer's prefix (the slices above, the nearest first), its low and its standing
+-- the place of a node: its role, its layer's prefix (the slices above, the nearest first), its low and its standing
 pub data Spot : Type 0 where
   spot : Role → List ℕ → ℕ → Standing → Spot
 
--- where each number stands; a number that no published node has stands nowhere
+-- the place of each number; a number that no published node has is without a place
 abbrev pub Chart : Type 0
 Chart = ℕ → Option Spot
 
@@ -28,7 +28,7 @@ Chart = ℕ → Option Spot
 abbrev pub OnHead : Chart → ℕ → List ℕ → Type 0
 OnHead chart number prefix = chart number ≡ Some (spot top prefix 0 (on true))
 
--- the number is a border that is on, in the layer of the prefix, and `here` is what stands at it
+-- the number is a border that is on, in the layer of the prefix, and `here` is its node
 pub record OnBorder (arena : Arena) (chart : Chart) (number : ℕ) (prefix : List ℕ) (here : BorderNode) : Type 0 where
   pub posted : Bool
   pub place : chart number ≡ Some (spot (at_level 0) prefix here.low (on posted))
@@ -45,8 +45,8 @@ abbrev pub Apart : List PlainEntry → Type 0
 Apart entries = (entry other : PlainEntry) → Among entry entries → Among other entries → entry.slice ≡ other.slice →
     class entry.content ≡ class other.content → entry ≡ other
 
--- what holds of a border that is on: its entries stand in its interval, its links name heads that are on, its right
--- link names a border that is on and stands further right, and it is empty once it is marked deleted
+-- what holds of a border that is on: its entries are in its interval, its links name heads that are on, its right link
+-- names a border that is on and is further right, and it is empty once it is marked deleted
 pub record IsBorderNode (chart : Chart) (prefix : List ℕ) (node : BorderNode) : Type 0 where
   pub apart : Apart node.entries
   pub from_low : (entry : PlainEntry) → Among entry node.entries → node.low ≤ entry.slice
@@ -57,7 +57,8 @@ pub record IsBorderNode (chart : Chart) (prefix : List ℕ) (node : BorderNode) 
       × (chart link.number ≡ Some (spot (at_level 0) prefix link.low (on posted)))
   pub empty : node.deleted ≡ true → node.entries ≡ []
 
--- where the layer of the prefix hangs: the first at number 0, any other at a link of a border of the layer above
+-- the place from which the layer of the prefix hangs: the first from number 0, any other from a link of a border of the
+-- layer above
 abbrev pub Hung : Arena → Chart → ℕ → List ℕ → Type 0
 Hung arena chart number [] = number ≡ 0
 Hung arena chart number (slice ∷ prefix) = (above : ℕ) × (node : BorderNode) × OnBorder arena chart above prefix node
@@ -75,7 +76,7 @@ abbrev pub FirstLow : ℕ → List PlainChild → Type 0
 FirstLow low [] = ⊥
 FirstLow low (child ∷ others) = child.low ≡ low
 
--- what an interior of this level may have as a child, where `namer` is the interior's standing
+-- what an interior of this level may have as a child; `namer` is the interior's standing
 pub record IsChild (chart : Chart) (namer : Standing) (prefix : List ℕ) (level : ℕ) (child : PlainChild) : Type 0 where
   pub standing : Standing
   pub lower : child.level < level
@@ -89,7 +90,7 @@ pub record AreChildren (chart : Chart) (namer : Standing) (prefix : List ℕ) (l
   pub each : (child : PlainChild) → Among child children → IsChild chart namer prefix level child
 
 -- What holds of an interior, of the level `suc below`: its children are right, unless it is gone and marked deleted.
--- Where it is gone it stays locked until it is marked deleted.
+-- If it is gone, it stays locked until it is marked deleted.
 pub record InteriorAt (arena : Arena) (chart : Chart) (number below : ℕ) (prefix : List ℕ) (least : ℕ)
     (standing : Standing) : Type 0 where
   pub node : InteriorNode
@@ -121,7 +122,7 @@ pub record HeadAt (arena : Arena) (chart : Chart) (number : ℕ) (prefix : List 
 -- THE INVARIANT between an arena and its chart.
 pub record IsTree (arena : Arena) (chart : Chart) : Type 0 where
   pub layer_0 : OnHead chart 0 []
-  -- what stands at a number of the chart
+  -- the node of a number of the chart
   pub heads : (number : ℕ) (prefix : List ℕ) (low : ℕ) (posted : Bool) →
       chart number ≡ Some (spot top prefix low (on posted)) → HeadAt arena chart number prefix low posted
   pub borders : (number : ℕ) (prefix : List ℕ) (low : ℕ) (posted : Bool) →
@@ -217,8 +218,8 @@ pub data Later (begun : ℕ) : Standing → Standing → Type 0 where
   still_gone : {epoch : ℕ} → Later begun (gone epoch) (gone epoch)
   went : {posted : Bool} {epoch : ℕ} → begun ≤ epoch → Later begun (on posted) (gone epoch)
 
--- What a call that began in the epoch may rely on while other calls go on: each node keeps its role, its prefix and its
--- low, but for nodes that went before that epoch, whose numbers may be freed and used again.
+-- What a call that began in the epoch may rely on while other calls continue: each node keeps its role, its prefix and
+-- its low, except nodes that went before that epoch, whose numbers may be freed and used again.
 abbrev pub Evolves : ℕ → Chart → Chart → Type 0
 Evolves begun chart new = (number : ℕ) (role : Role) (prefix : List ℕ) (low : ℕ) (standing : Standing) →
     chart number ≡ Some (spot role prefix low standing) →

@@ -8,7 +8,7 @@ abbrev pub base_power : ℕ → ℕ → ℕ
 base_power base zero = 1
 base_power base (suc i) = base * base_power base i
 
--- the number with these digits in so many places; those that are lacking are 0
+-- the number with these digits, in the given number of places; digits that are lacking are 0
 abbrev pub digits_number : ℕ → ℕ → List ℕ → ℕ
 digits_number base zero digits = 0
 digits_number base (suc places) [] = 0
@@ -19,11 +19,12 @@ abbrev pub AreDigits : ℕ → List ℕ → Type 0
 AreDigits base [] = Unit {0}
 AreDigits base (digit ∷ digits) = (digit < base) × AreDigits base digits
 
--- Slices are below 2 ^ 64. A digit is a slice doubled, or one more where the cursor is behind all keys that begin so.
+-- Slices are below 2 ^ 64. A digit is a slice doubled, or one more if the cursor is after all keys that begin with the
+-- slices so far.
 abbrev pub digit_base : ℕ
 digit_base = 36893488147419103232
 
--- the digits of a cursor that stands at a place, of its slices alone: none is the one more
+-- the digits of a cursor at a place, of its slices alone: none of them is one more
 abbrev pub place_digits : Place → List ℕ
 place_digits (last slice bytes) = (2 * slice) ∷ []
 place_digits (deeper slice rest) = (2 * slice) ∷ place_digits rest

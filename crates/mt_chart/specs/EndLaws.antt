@@ -1,4 +1,4 @@
--- The laws by which a call ends: each move of a descent goes on in one order of places, and a call alone has a measure
+-- The laws by which a call ends: each move of a descent advances in one order of places, and a call alone has a measure
 -- that falls.
 use Rattle.std.specs.Prelude.{ℕ, ◌≡◌, ◌<◌, ◌≤◌, ◌+◌, ◌*◌, ◌^◌, List, [], ◌∷◌, length, Some}
 use Rattle.mt_types.specs.declared.limits.TheConstants.{MAX_LAYER}
@@ -46,7 +46,7 @@ PostingsEnd = (free free_after : ℕ) (frame : Frame) (waiting after : List Fram
     Posts free (frame ∷ waiting) free_after after →
     posting_measure free_after after < posting_measure free (frame ∷ waiting)
 
--- the cursor's number grows where a scan, its cursor at the slice or behind it, leaves a border by a right link of a
+-- the cursor's number grows when a scan, with its cursor at or after the slice, leaves a border by a right link of a
 -- greater low
 abbrev pub CursorsGoRight : Type 0
 CursorsGoRight = (prefix digits : List ℕ) (digit slice low : ℕ) → length prefix ≤ MAX_LAYER
@@ -54,7 +54,7 @@ CursorsGoRight = (prefix digits : List ℕ) (digit slice low : ℕ) → length p
     digit ≤ 2 * slice + 1 → slice < low →
     cursor_number (digits_above prefix (digit ∷ digits)) < cursor_number (digits_above prefix ((2 * low) ∷ []))
 
--- the cursor's number grows where a scan leaves the layer of a slice
+-- the cursor's number grows when a scan leaves the layer of a slice
 abbrev pub CursorsLeaveLayers : Type 0
 CursorsLeaveLayers = (prefix digits : List ℕ) (slice : ℕ) → length prefix ≤ MAX_LAYER → AreDigits digit_base digits →
     cursor_number (digits_above (slice ∷ prefix) digits) < cursor_number (digits_above prefix ((2 * slice + 1) ∷ []))

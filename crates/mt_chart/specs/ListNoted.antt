@@ -1,4 +1,4 @@
--- What a range or build has read of a border, once the border is quiet still, is all that a scan needs of it.
+-- What a range or build has read of a border, if the border is still quiet, is all that a scan needs of it.
 use Rattle.std.specs.Prelude.{ℕ, ◌≡◌, ◌≤◌, ◌⊎◌, ◌↔◌, List, Option, Some}
 use Rattle.mt_slice.specs.Place.{Place, deeper, under, first_slice}
 use Rattle.mt_types.specs.declared.row.Row.{Row}

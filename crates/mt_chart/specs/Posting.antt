@@ -2,9 +2,10 @@
 -- since an interior that is full is split, and its new half is posted in turn; and the numbers that are free.
 use Rattle.std.specs.Prelude.{ℕ, suc, ◌≡◌, ◌<◌, ◌≤◌, ◌+◌, ◌*◌, List, [], ◌∷◌}
 
--- Where one posting of the stack stands: at a node that is so many kinds above a border (a head 16, one marked deleted
--- 17); making a new root, with so many steps left of three; or in a step of an interior's split. Late: the head's root
--- is no longer the one that was seen, as others may have left it before the call was alone.
+-- The state of one posting of the stack: it is at a node that is the given number of kinds above a border (a head 16,
+-- one marked deleted 17); or it is making a new root, with the given number of steps left of three; or it is in a step
+-- of an interior's split. Late: the head's root is no longer the one that was seen, as others may have left it before
+-- the call was alone.
 pub data Frame : Type 0 where
   walks : ℕ → Frame
   makes_root : ℕ → Frame
@@ -61,16 +62,16 @@ worth free (waits ∷ waiting) = 64 * free
 worth free (cuts ∷ waiting) = 64 * free
 worth free (goes_again ∷ waiting) = 64 * free
 
--- THE MEASURE of a posting with so many numbers free
+-- THE MEASURE of a posting, by the number of free numbers and the stack
 abbrev pub posting_measure : ℕ → List Frame → ℕ
 posting_measure free waiting = worth free waiting + ranks waiting
 
--- what a posting's end, once_posted or left out, makes of the frames that wait for it
+-- what a posting that was made makes of the frames that wait for it
 abbrev pub once_posted : List Frame → List Frame
 once_posted [] = []
 once_posted (frame ∷ waiting) = cuts ∷ waiting
 
--- what it makes of them where the posting is left out: the innermost of them gives its spare number back
+-- what it makes of them if the posting is left out: the innermost of them gives its spare number back
 abbrev pub once_left_out : List Frame → List Frame
 once_left_out [] = []
 once_left_out (frame ∷ waiting) = gives_back ∷ waiting
@@ -80,8 +81,8 @@ abbrev pub AllWait : List Frame → Type 0
 AllWait [] = Unit {0}
 AllWait (frame ∷ waiting) = (frame ≡ waits) × AllWait waiting
 
--- One step of a posting that runs alone, from so many free numbers and a stack to others. The innermost posting is the
--- first.
+-- One step of a posting that runs alone, from a number of free numbers and a stack to others. The innermost posting is
+-- the first.
 pub data Posts : ℕ → List Frame → ℕ → List Frame → Type 0 where
   goes_down : {free fewer steps : ℕ} {waiting : List Frame} → fewer < steps →
       Posts free (walks steps ∷ waiting) free (walks fewer ∷ waiting)

@@ -9,7 +9,7 @@ use Rattle.mt_chart.specs.ScanRun.{EntriesInOrder}
 use Rattle.mt_chart.specs.Noted.{SlotSeen, FieldsSeen, Counters, IsQuiet, HasComeTo, IsTrueEntry, IsNoted, AreRead, entries_in}
 use Rattle.mt_chart.specs.ListNoted.{HasAllIn}
 
--- AFTER THE VERSION, which showed no mark and no flag, and these counters: the call knows where the border stands, and
+-- AFTER THE VERSION, which showed no mark and no flag, and these counters: the call knows the border's place, and
 -- what its right link names, whatever becomes of the border
 pub record HasLooked (v : Counters) (chart : Chart) (begun number : ℕ) (prefix : List ℕ) (slice : ℕ) (f : FieldsSeen) : Type 0 where
   pub known : Known chart begun number (at_level 0) prefix f.node.low
@@ -33,7 +33,7 @@ AreNoted show chart begun past prefix f (was ∷ others) (number ∷ numbers) =
 AreNoted show chart begun past prefix f [] (number ∷ numbers) = ⊥
 AreNoted show chart begun past prefix f (was ∷ others) [] = ⊥
 
--- AFTER THE ORDER, of a border that is quiet still: at some moment the slots of these numbers were the border's live
+-- AFTER THE ORDER, of a border that is still quiet: at some moment the slots of these numbers were the border's live
 -- ones, in order, and held all that there was in its interval; and each is what it was, or was made a layer since
 pub record HasOrder {V : Type 0} (show : Row → V) (chart : Chart) (begun : ℕ) (past : List Arena) (prefix : List ℕ)
     (f : FieldsSeen) (noted : Option Right) (numbers : List ℕ) (was : List SlotSeen) : Type 0 where
@@ -68,21 +68,21 @@ pub data Stops (key : Place) (was : List SlotSeen) (place : ℕ) : Type 0 where
       slot.entry.slice ≡ first_slice key → class slot.entry.content ≡ first_class key →
       HoldsRow slot.entry.slice slot.entry.content other row → other ≢ key → Stops key was place
 
--- what a get knows while it reads keys, if the border is quiet still: the slots as they were at the order, and that those
--- before a place were before its key
+-- what a get knows while it reads keys, if the border is still quiet: the slots as they were at the order, and that
+-- those before a place were before its key
 pub record Searches {V : Type 0} (show : Row → V) (chart : Chart) (begun : ℕ) (past : List Arena) (prefix : List ℕ)
     (f : FieldsSeen) (noted : Option Right) (numbers : List ℕ) (key : Place) (place : ℕ) : Type 0 where
   pub was : List SlotSeen
   pub order : HasOrder show chart begun past prefix f noted numbers was
   pub before : AreBefore (first_slice key) (first_class key) was place
 
--- the row that what stands at a slice holds
+-- the row that the content of a slice holds, if there is one
 abbrev pub row_in : PlainContent → Option Row
 row_in (short bytes row) = Some row
 row_in (long rest row) = Some row
 row_in (link number) = None
 
--- AFTER A SLOT'S KEY, of a border that is quiet still: the slot is what it was then, or was made a layer since; and it
+-- AFTER A SLOT'S KEY, of a border that is still quiet: the slot is what it was then, or was made a layer since; and it
 -- was then a row of the key sought ..
 pub record HasRowKey {V : Type 0} (show : Row → V) (chart : Chart) (begun : ℕ) (past : List Arena) (prefix : List ℕ)
     (f : FieldsSeen) (number : ℕ) (key : Place) : Type 0 where
@@ -115,8 +115,8 @@ abbrev pub kept_of : Option Right → List SlotSeen → List PlainEntry
 kept_of noted [] = []
 kept_of noted (slot ∷ slots) = if is_below slot.entry.slice noted then slot.entry ∷ kept_of noted slots else kept_of noted slots
 
--- A RANGE, SLOT BY SLOT: what a range or build knows, if the border is quiet still: the slots as they were at the order,
--- and what was read of so many of them, key and value, of which it keeps these entries
+-- A RANGE, SLOT BY SLOT: what a range or build knows, if the border is still quiet: the slots as they were at the
+-- order, and what was read of the first `place` of them, key and value, of which it keeps these entries
 pub record Lists {V : Type 0} (show : Row → V) (chart : Chart) (begun : ℕ) (past : List Arena) (prefix : List ℕ)
     (f : FieldsSeen) (noted : Option Right) (numbers : List ℕ) (place : ℕ) (kept : List PlainEntry) : Type 0 where
   pub was : List SlotSeen

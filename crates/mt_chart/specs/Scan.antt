@@ -77,15 +77,15 @@ pub data VisitOutcome (V : Type 0) : Type 0 where
   answers : List (Pair V) → VisitOutcome V
   goes : List ℕ → ℕ → Place → List (Pair V) → VisitOutcome V
 
--- At the end of a border: to its right neighbour, from its low on; without one back to the first layer, behind all keys
--- of this one; and in the first layer the answer.
+-- At the end of a border, the scan goes to the right neighbour, from its low on. If there is none, it goes back to the
+-- first layer, after all keys of this one; and in the first layer it answers.
 abbrev pub AtEnd : {V : Type 0} → List ℕ → Option Right → List (Pair V) → VisitOutcome V → Type 0
 AtEnd prefix (Some neighbour) taken outcome = outcome ≡ goes prefix neighbour.number (last neighbour.low 0) taken
 AtEnd [] None taken outcome = outcome ≡ answers taken
 AtEnd (slice ∷ above) None taken outcome = outcome ≡ goes [] 0 (under above (last slice 10)) taken
 
--- A link is passed where all of its layer is before the cursor, else it is entered: at the layer's first place, or at
--- the cursor where that is in the layer.
+-- A link is passed if all of its layer is before the cursor; else it is entered: at the layer's first place, or at the
+-- cursor if that is in the layer.
 abbrev pub AtLink : {V : Type 0} → List ℕ → Place → ℕ → ℕ → List (Pair V) → VisitOutcome V → Type 0 → Type 0
 AtLink prefix at slice next taken outcome Rest =
     (AtMost (last slice 10) at × Rest)

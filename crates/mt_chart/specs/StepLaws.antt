@@ -20,7 +20,7 @@ HidingRemovesTheRow = (now : ℕ) (twins : List Twin) (arena after : Arena) (cha
     IsIndex now twins after chart × ((other : Place) (shown : Row) →
     Has after other shown ↔ (Has arena other shown × (other ≢ key)))
 
--- once a row is set in place of another, the index has that row at the key, and all rows that it had at other keys
+-- once a row replaces another, the index has the new row at the key, and all rows that it had at other keys
 abbrev pub SettingReplacesTheRow : Type 0
 SettingReplacesTheRow = (now : ℕ) (twins : List Twin) (arena after : Arena) (chart : Chart) (key : Place)
     (before row : Row) → IsIndex now twins arena chart → SetsRow arena after chart key before row →

@@ -34,7 +34,7 @@ pub record Keeps (now : ℕ) (twins : List Twin) (arena after : Arena) (chart ne
   pub content : SameContent arena after
   pub evolves : (begun : ℕ) → begun ≤ now → Evolves begun chart next
 
--- a border that is on is written: it keeps its low, and is empty where it is marked deleted
+-- a border that is on is written: it keeps its low, and is empty if it is marked deleted
 pub record WritesBorder (arena after : Arena) (chart : Chart) (number : ℕ) (prefix : List ℕ)
     (old new : BorderNode) : Type 0 where
   pub stands : OnBorder arena chart number prefix old
@@ -52,7 +52,7 @@ pub record MarksBorder (arena after : Arena) (chart : Chart) : Type 0 where
   pub right : new.right ≡ old.right
   pub entries : new.entries ≡ old.entries
 
--- a row comes to stand at a key: a border has one entry more, in its interval, of a slice and class that it lacked
+-- a row is shown at a key: a border has one more entry, in its interval, of a slice and class that it lacked
 pub record ShowsRow (arena after : Arena) (chart : Chart) (key : Place) (row : Row) : Type 0 where
   pub number : ℕ
   pub prefix : List ℕ
@@ -70,7 +70,7 @@ pub record ShowsRow (arena after : Arena) (chart : Chart) (key : Place) (row : R
   pub from_low : old.low ≤ entry.slice
   pub to_right : Below entry.slice old.right
 
--- no row stands at a key any more: a border has one entry less
+-- the row at a key is hidden: a border has one entry less
 pub record HidesRow (arena after : Arena) (chart : Chart) (key : Place) (row : Row) : Type 0 where
   pub number : ℕ
   pub prefix : List ℕ
@@ -85,7 +85,7 @@ pub record HidesRow (arena after : Arena) (chart : Chart) (key : Place) (row : R
   pub stood : Among entry old.entries
   pub entries : (each : PlainEntry) → Among each new.entries ↔ (Among each old.entries × (each ≢ entry))
 
--- a row at a key gives place to another: a border has one entry in place of another, of the same slice and class
+-- a row at a key is replaced by another: a border has one entry instead of another, of the same slice and class
 pub record SetsRow (arena after : Arena) (chart : Chart) (key : Place) (before row : Row) : Type 0 where
   pub number : ℕ
   pub prefix : List ℕ
@@ -128,8 +128,8 @@ pub record LinksHalf (arena after : Arena) (chart next : Chart) : Type 0 where
   pub head_alive : (top_number : ℕ) (top_node : HeadNode) → OnHead chart top_number prefix →
       arena top_number ≡ Some (head top_node) → top_node.root ≡ number → top_node.deleted ≡ false
 
--- A new layer: in a border a link stands in place of the row of a longer key. It names a filled head, whose root is a
--- filled border with that row alone, one layer deeper. Head and border come to be on.
+-- A new layer: in a border a link replaces the row of a longer key. The link names a filled head, whose root is a
+-- filled border with that row alone, one layer deeper. The head and that border are then on.
 pub record MakesLayer (arena after : Arena) (chart next : Chart) : Type 0 where
   pub number : ℕ
   pub prefix : List ℕ
@@ -305,7 +305,7 @@ pub record WritesHead (arena after : Arena) (chart : Chart) (number : ℕ) (pref
   pub there : arena number ≡ Some (head old)
   pub written : Changes arena after number (Some (head new))
 
--- a head is locked, unlocked or, where its root is a border with nothing to its right, marked deleted
+-- a head is locked, unlocked or, if its root is a border with nothing to its right, marked deleted
 pub record MarksHead (arena after : Arena) (chart : Chart) : Type 0 where
   pub number : ℕ
   pub prefix : List ℕ
@@ -339,7 +339,7 @@ pub record BypassesRoot (now : ℕ) (twins : List Twin) (arena after : Arena) (c
   pub no_twin : NoTwin twins number
   pub gone_no_twin : NoTwin twins gone_number
 
--- A new root: a head names a filled interior in place of the old root. Its two children are the old root and a border
+-- A new root: a head names a filled interior instead of the old root. Its two children are the old root and a border
 -- that no head or interior may name. Between the two changes of the chart, the border may be named and the interior is
 -- unknown.
 pub record MakesRoot (twins : List Twin) (arena after : Arena) (chart between next : Chart) : Type 0 where
@@ -404,10 +404,10 @@ pub record PostsHalf (twins more_twins : List Twin) (arena after : Arena) (chart
   pub new_twins : (other : ℕ) → (other ≡ number) ⊎ AreTwins twins other number → AreTwins more_twins half_number other
       × AreTwins more_twins other half_number
 
--- A new root over the two halves of the old one: the root, an interior, is split, and a head names a filled interior in
--- its place. The two children of that one are the old root and a filled interior with some of the old root's children.
--- Between the two changes of the chart, the new half may be named and the new root is unknown. Of the twins it is as
--- where a half is posted, and the head is none of them.
+-- A new root over the two halves of the old one: the root, an interior, is split, and a head names a filled interior
+-- instead of it. The two children of that one are the old root and a filled interior with some of the old root's
+-- children. Between the two changes of the chart, the new half may be named and the new root is unknown. The twins
+-- change as they do when a half is posted, and the head is none of them.
 pub record MakesRootOverHalf (twins more_twins : List Twin) (arena after : Arena)
     (chart between next : Chart) : Type 0 where
   pub number : ℕ

@@ -4,19 +4,19 @@ use Rattle.std.specs.Prelude.{ℕ, ◌≡◌, ◌<◌, List, [], ◌∷◌, Opti
 use Rattle.mt_slice.specs.Place.{Place, last, deeper, under}
 use Rattle.mt_types.specs.declared.row.Row.{Row}
 
--- What stands at a slice: a row of a key that ends there after so many bytes; a row of a longer key, with the
--- place of what follows the slice; or a link to the head of the next layer.
+-- The content of a slice: a row of a key that ends there after the given number of bytes; a row of a longer key, with
+-- the place of what follows the slice; or a link to the head of the next layer.
 pub data PlainContent : Type 0 where
   short : ℕ → Row → PlainContent
   long : Place → Row → PlainContent
   link : ℕ → PlainContent
 
--- an entry of a border: what stands at a slice
+-- an entry of a border: a slice and its content
 pub record PlainEntry : Type 0 where
   pub slice : ℕ
   pub content : PlainContent
 
--- a border's right link: the border that it names, and the least slice that stands there
+-- a border's right link: the border that it names, and the least slice that belongs there
 pub record Right : Type 0 where
   pub low : ℕ
   pub number : ℕ
@@ -92,7 +92,7 @@ pub data Attached (arena : Arena) : List ℕ → ℕ → Type 0 where
       Among (record { slice = slice; content = link next_top }) node.entries → Below slice node.right →
       Attached arena (slice ∷ prefix) next_top
 
--- what stands at the slice holds the row, under this place of its layer
+-- the content of the slice holds the row, under this place of its layer
 abbrev pub HoldsRow : ℕ → PlainContent → Place → Row → Type 0
 HoldsRow slice (short bytes here) place row = (place ≡ last slice bytes) × (here ≡ row)
 HoldsRow slice (long rest here) place row = (place ≡ deeper slice rest) × (here ≡ row)

@@ -1,4 +1,4 @@
--- The laws of an index: where its rows stand, and what a call that goes through it may rely on.
+-- The laws of an index: the places of its rows, and what a call that goes through it may rely on.
 use Rattle.std.specs.Prelude.{ℕ, suc, ◌≡◌, ◌≢◌, ◌<◌, ◌≤◌, ◌⊎◌, ◌↔◌, List, [], ◌∷◌, Some, None, Bool, true, false}
 use Rattle.mt_slice.specs.Place.{Place, last, deeper, under, first_slice}
 use Rattle.mt_types.specs.declared.row.Row.{Row}
@@ -30,7 +30,7 @@ abbrev pub KeysHaveOneRow : Type 0
 KeysHaveOneRow = (arena : Arena) (chart : Chart) → IsTree arena chart → (key : Place) (row other : Row) →
     Has arena key row → Has arena key other → row ≡ other
 
--- the border is the one where the place of its layer is to stand: the slice is in its interval
+-- the border is the one to which the place of its layer belongs: the slice is in its interval
 pub record IsWhere (arena : Arena) (chart : Chart) (number : ℕ) (prefix : List ℕ) (node : BorderNode)
     (place : Place) : Type 0 where
   pub stands : OnBorder arena chart number prefix node
@@ -41,12 +41,12 @@ pub record IsWhere (arena : Arena) (chart : Chart) (number : ℕ) (prefix : List
 abbrev pub HasEntry : BorderNode → Place → Row → Type 0
 HasEntry node place row = (entry : PlainEntry) × Among entry node.entries × HoldsRow entry.slice entry.content place row
 
--- the border has a link at the place's slice, and the place goes on past that slice
+-- the border has a link at the place's slice, and the place continues past that slice
 abbrev pub GoesOnAtALink : BorderNode → Place → Type 0
 GoesOnAtALink node place = (rest : Place) × (next : ℕ) × (place ≡ deeper (first_slice place) rest)
     × Among (record { slice = first_slice place; content = link next }) node.entries
 
--- AT ITS PLACE, where no link leads on, a key has a row exactly where the border has an entry with that row
+-- AT ITS PLACE, if no link leads further, a key has a row exactly if the border has an entry with that row
 abbrev pub KeysAreAtTheirPlaces : Type 0
 KeysAreAtTheirPlaces = (arena : Arena) (chart : Chart) (number : ℕ) (prefix : List ℕ) (node : BorderNode)
     (place : Place) → IsTree arena chart → IsWhere arena chart number prefix node place →
@@ -58,7 +58,7 @@ KeysAreInTheirIntervals = (arena : Arena) (chart : Chart) (number : ℕ) (prefix
     (place : Place) → IsTree arena chart → IsWhere arena chart number prefix node place →
     (row : Row) → Has arena (under prefix place) row → HasEntry node place row ⊎ GoesOnAtALink node place
 
--- what a call holds it holds while others go on
+-- what a call holds stays held while others continue
 abbrev pub HoldingLasts : Type 0
 HoldingLasts = (begun number : ℕ) (prefix : List ℕ) (slice : ℕ) (chart next : Chart) → Evolves begun chart next →
     Holds chart begun number prefix slice → Holds next begun number prefix slice
@@ -137,16 +137,16 @@ LeftNeighboursAreFound = (arena : Arena) (chart : Chart) → IsTree arena chart 
 abbrev pub EndsBy : Arena → ℕ → Type 0
 EndsBy arena bound = (number : ℕ) → bound ≤ number → arena number ≡ None
 
--- The root of a head that is on has the greatest level of its layer: all the rest that may be named there is lower. For
--- owners' levels rise, and there are so many nodes at most.
+-- The root of a head that is on has the greatest level of its layer: all the rest that may be named there is lower. The
+-- reason is that the levels of owners rise, and there are at most `bound` nodes.
 abbrev pub RootsAreHighest : Type 0
 RootsAreHighest = (now bound : ℕ) (twins : List Twin) (arena : Arena) (chart : Chart) → IsIndex now twins arena chart →
     EndsBy arena bound → (number : ℕ) (prefix : List ℕ) (node : HeadNode) → OnHead chart number prefix →
     arena number ≡ Some (head node) → (other level low : ℕ) →
     chart other ≡ Some (spot (at_level level) prefix low (on true)) → (node.root ≡ other) ⊎ (level < node.level)
 
--- So an interior that is on is the root of its layer, where the root has no greater level: as where an interior is
--- being split, and its new half is to be posted above it, and the head's root is not above it.
+-- So an interior that is on is the root of its layer if the root has no greater level: for example if an interior is
+-- being split, its new half is to be posted above it, and the head's root is not above it.
 abbrev pub RootOfASplitIsIt : Type 0
 RootOfASplitIsIt = (now bound : ℕ) (twins : List Twin) (arena : Arena) (chart : Chart) → IsIndex now twins arena chart →
     EndsBy arena bound → (number : ℕ) (prefix : List ℕ) (node : HeadNode) → OnHead chart number prefix →
@@ -154,8 +154,8 @@ RootOfASplitIsIt = (now bound : ℕ) (twins : List Twin) (arena : Arena) (chart 
     chart split ≡ Some (spot (at_level (suc below)) prefix low (on posted)) → node.level ≤ suc below →
     node.root ≡ split
 
--- A layer whose head is marked deleted has one border, its root. So in a layer where a border is on that is another,
--- has a greater low, or may not be named yet, the head is not marked deleted: as where a border is to be posted.
+-- A layer whose head is marked deleted has one border, its root. So if a border of a layer is on that is not the root,
+-- has a greater low, or may not be named yet, the head is not marked deleted: for example if a border is to be posted.
 abbrev pub MarkedLayersHaveOneBorder : Type 0
 MarkedLayersHaveOneBorder = (now : ℕ) (twins : List Twin) (arena : Arena) (chart : Chart) →
     IsIndex now twins arena chart → (number : ℕ) (prefix : List ℕ) (node : HeadNode) → OnHead chart number prefix →

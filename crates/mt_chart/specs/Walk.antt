@@ -15,7 +15,7 @@ abbrev pub below_top : Role → ℕ
 below_top top = 0
 below_top (at_level level) = (MAX_LEVEL + 1) - level
 
--- where a node stands in the order of a descent: first by its depth, then by its kind and level, then by its low
+-- the place of a node in the order of a descent: first by its depth, then by its kind and level, then by its low
 abbrev pub height : Role → List ℕ → ℕ → ℕ
 height role prefix low = (length prefix * (MAX_LEVEL + 2) + below_top role) * (2 ^ 64) + low
 
@@ -27,7 +27,7 @@ all_heights = (MAX_LAYER + 1) * (MAX_LEVEL + 2) * 2 ^ 64
 abbrev pub moves_left : ℕ → ℕ
 moves_left height_there = all_heights - height_there
 
--- a call that began in the epoch knows where the node stands, and the node did not go before the call began
+-- a call that began in the epoch knows the node's place, and the node did not go before the call began
 pub record Known (chart : Chart) (begun number : ℕ) (role : Role) (prefix : List ℕ) (low : ℕ) : Type 0 where
   pub standing : Standing
   pub place : chart number ≡ Some (spot role prefix low standing)
@@ -51,8 +51,7 @@ Run chart begun (number ∷ numbers) reached = (height_there : ℕ) × KnownAt c
 abbrev pub Bounded : Chart → ℕ → Type 0
 Bounded chart bound = (number : ℕ) (place : Spot) → chart number ≡ Some place → number < bound
 
--- A visit of a node that goes on to the next. What the nodes' own types keep, bounds on levels and lows, stands here
--- too.
+-- A visit of a node that leads to the next. What the nodes' own types keep, bounds on levels and lows, is here too.
 pub data Moves (arena : Arena) (number next : ℕ) : Type 0 where
   to_root : (node : HeadNode) → arena number ≡ Some (head node) → node.deleted ≡ false → node.level ≤ MAX_LEVEL →
       node.root ≡ next → Moves arena number next
@@ -65,15 +64,15 @@ pub data Moves (arena : Arena) (number next : ℕ) : Type 0 where
       node.low < 2 ^ 64 → Among (record { slice = slice; content = link top_number }) node.entries →
       top_number ≡ next → Moves arena number next
 
--- the call knows where the node stands, and it stands higher than what was reached
+-- the call knows the node's place, and the node is higher than what was reached
 pub record Higher (chart : Chart) (begun number reached : ℕ) : Type 0 where
   pub height : ℕ
   pub known : KnownAt chart begun number height
   pub rises : reached < height
 
--- A run of moves of a get that began in the epoch: it begins at a node that the call knows, the call moves on, and any
--- steps of others come between. A move may also be told by the heights of the two nodes alone: what led to the next node
--- may be gone by then. The run stands at a chart and a node, after so many moves.
+-- A run of moves of a get that began in the epoch: it begins at a node that the call knows, the call moves, and any
+-- steps of others come between. A move may also be given by the heights of the two nodes alone: what led to the next
+-- node may be gone by then. The run is at a chart and a node, after the given number of moves.
 pub data Trail (begun : ℕ) : Chart → ℕ → ℕ → Type 0 where
   begins : {chart : Chart} {number reached : ℕ} → KnownAt chart begun number reached → Trail begun chart number 0
   moves : {chart : Chart} {number next moves_made : ℕ} (arena : Arena) → IsTree arena chart →

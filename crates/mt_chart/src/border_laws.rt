@@ -3,7 +3,7 @@
 
 ghost use Rattle.mt_chart.specs.StepLaws.{ShowingAddsTheRow, HidingRemovesTheRow, SettingReplacesTheRow, MarkingABorderKeeps, MarkingAGoneBorderKeeps, LinkingAHalfKeeps, MakingALayerKeeps, UnlinkingKeeps, DroppingALayerKeeps};
 
-/// Once a border shows one entry more, the index has that row at its key, and all rows that it had.
+/// Once a border shows one more entry, the index has that row at its key, and all rows that it had.
 pub fn showing_adds_the_row()
     ensures { ShowingAddsTheRow }
 {}
@@ -13,8 +13,8 @@ pub fn hiding_removes_the_row()
     ensures { HidingRemovesTheRow }
 {}
 
-/// Once a border has an entry in place of another, the index has the new row at the key, and all rows that it had at
-/// other keys.
+/// Once an entry of a border replaces another, the index has the new row at the key, and all rows that it had at other
+/// keys.
 pub fn setting_replaces_the_row()
     ensures { SettingReplacesTheRow }
 {}
@@ -30,7 +30,7 @@ pub fn linking_a_half_keeps()
     ensures { LinkingAHalfKeeps }
 {}
 
-/// A link stands in place of a row, which stands one layer deeper.
+/// A link replaces a row, which is then one layer deeper.
 pub fn making_a_layer_keeps()
     ensures { MakingALayerKeeps }
 {}

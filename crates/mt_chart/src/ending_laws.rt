@@ -1,4 +1,4 @@
-//! Laws by which a call ends: a descent goes on in one order of places, and a call alone has a measure that falls.
+//! Laws by which a call ends: a descent advances in one order of places, and a call alone has a measure that falls.
 //! Each function does nothing, and its contract is the law.
 
 ghost use Rattle.mt_chart.specs.EndLaws.{MovesLeftFall, MovesGoOn, HeightsAreBounded, RunsAreBounded, LoneGetsEnd, LoneCallsStayOn, PostingsEnd, CursorsGoRight, CursorsLeaveLayers};
@@ -26,7 +26,7 @@ pub fn postings_end()
     ensures { PostingsEnd }
 {}
 
-/// A scan's cursor goes on where the scan leaves a border or a layer.
+/// A scan's cursor advances when the scan leaves a border or a layer.
 pub fn cursors_go_on()
     ensures right { CursorsGoRight }
     ensures layer { CursorsLeaveLayers }

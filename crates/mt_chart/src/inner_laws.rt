@@ -42,7 +42,7 @@ pub fn splitting_an_interior_keeps()
 {}
 
 /// Spare numbers are occupied, filled and given back; the number of a node that is gone is freed; the
-/// epoch goes on.
+/// epoch advances.
 pub fn changing_numbers_keeps()
     ensures spares { ChangingSparesKeeps }
     ensures freed { FreeingKeeps }

@@ -1,4 +1,4 @@
-//! Laws of an index: where its rows stand, and what a call that goes through it may rely on. Each function does
+//! Laws of an index: the places of its rows, and what a call that goes through it may rely on. Each function does
 //! nothing, and its contract is the law.
 
 ghost use Rattle.mt_chart.specs.TreeLaws.{LeftNeighboursAreFound, FreeInteriorsAreOn, FirstRowsCanBeShown, NewIndexIsIndex, NewIndexIsEmpty, RowsAreInBorders, KeysHaveOneRow, KeysAreAtTheirPlaces, KeysAreInTheirIntervals, HoldingLasts, EvolvingGoesOn, LayerZeroIsHeld, RootsAreHeld, ChildrenAreHeld, SomeChildLeadsOn, RightNeighboursAreHeld, LinkedHeadsAreHeld, HeldNodesAreThere, HeldBordersAreOn, RootsAreHighest, RootOfASplitIsIt, MarkedLayersHaveOneBorder};
@@ -15,7 +15,7 @@ pub fn rows_are_in_borders()
     ensures { RowsAreInBorders }
 {}
 
-/// A key has one row at most.
+/// A key has at most one row.
 pub fn keys_have_one_row()
     ensures { KeysHaveOneRow }
 {}
@@ -26,7 +26,7 @@ pub fn keys_are_at_their_places()
     ensures interval { KeysAreInTheirIntervals }
 {}
 
-/// What a call holds it holds while other calls go on.
+/// What a call holds stays held while other calls continue.
 pub fn held_nodes_stay_held()
     ensures lasting { HoldingLasts }
     ensures again { EvolvingGoesOn }
@@ -51,8 +51,8 @@ pub fn held_nodes_are_there()
     ensures left { LeftNeighboursAreFound }
 {}
 
-/// The root of a head has the greatest level of its layer. So an interior node that is being split is the root, where
-/// the root's level is no greater.
+/// The root of a head has the greatest level of its layer. So an interior node that is being split is the root, if the
+/// root's level is no greater.
 pub fn roots_are_highest()
     ensures highest { RootsAreHighest }
     ensures split { RootOfASplitIsIt }

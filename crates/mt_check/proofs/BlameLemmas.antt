@@ -190,7 +190,7 @@ same_claims C h legal (Call request answer from to) (Call asked told start end) 
 same_claims C h legal (Page spec floor start limit page from to) other first second number given also claims claimed = let clash : ◌≡◌ {A = Option ℕ} None (Some number) = claims in cc
 same_claims C h legal one (Page spec floor start limit page from to) first second number given also claims claimed = let clash : ◌≡◌ {A = Option ℕ} None (Some number) = claimed in cc
 
--- a place in the first so many is one of the list, before them
+-- a place in the first i of a list is a place of the list, below i
 in_first : (receipts : List Receipt) (i j : ℕ) (receipt : Receipt) → slice_get (take i receipts) j ≡ Some receipt → (slice_get receipts j ≡ Some receipt) × (j < i)
 in_first receipts zero j receipt e = let clash : ◌≡◌ {A = Option Receipt} None (Some receipt) = e in cc
 in_first [] (suc i) j receipt e = let clash : ◌≡◌ {A = Option Receipt} None (Some receipt) = e in cc

@@ -55,7 +55,7 @@ tells_range deltas versions from to start s asked limit pairs yes_ read span sam
       λ right. is ∙ right_walks deltas versions start limit asked from to pairs told span right,
     )
 
--- what is told of a request and an answer is told of the same ones
+-- what is known of a request and an answer is known of the same ones
 pub of_answer : {E : Type 0} (C : ℕ) (deltas : List Delta) (from to : ℕ) (request q : Request) (answer a : Answer) (r : Result Bool E) → request ≡ q → answer ≡ a
     → IfOk r (λ yes_. IsTrue yes_ ↔ IsRightAnswer C deltas from to q a) → IfOk r (λ yes_. IsTrue yes_ ↔ IsRightAnswer C deltas from to request answer)
 of_answer C deltas from to request q answer a r e f h =

@@ -16,7 +16,7 @@ use Rattle.mt_promise.specs.History.{History, Moment, OpenCall, moment, call_of,
 use Rattle.mt_promise.specs.Legal.{Legal, MayHappen, MayStepAt, MayCommit}
 use Rattle.mt_promise.proofs.NumberedLemmas.{found_before_filter, found_before_map, found_before_append}
 
--- a list goes on from another
+-- a list continues another
 abbrev pub GoesOnFrom : List Change → List Change → Type 0
 GoesOnFrom longer cs = (rest : List Change) × (longer ≡ cs ++ rest)
 
@@ -49,7 +49,7 @@ commits_go_on m Advance o note = same_commits m.commits
 commits_go_on m (ViewRead view floor start limit) o note = same_commits m.commits
 commits_go_on m Collect o note = same_commits m.commits
 
--- the commits of a history go on from those of each past of it
+-- the commits of a history continue those of each past of it
 pub commits_since : (newer past : History) → GoesOnFrom (moment (newer ++ past)).commits (moment past).commits
 commits_since [] past = same_commits (moment past).commits
 commits_since (x ∷ newer) past =

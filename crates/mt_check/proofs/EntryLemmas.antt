@@ -1,4 +1,4 @@
--- The entries of a sorted map, as pairs that stand among them.
+-- The entries of a sorted map, as pairs that are among them.
 use Rattle.std.proofs.Common.{◌≡◌, ℕ, Bool, true, false, cond, List, [], ◌∷◌, filter, Option, Some, refl, ap, sym, ◌∙◌, subst, inl, inr}
 use Rattle.std.specs.Global.{Vec}
 use Rattle.std.specs.BTreeMap as tree
@@ -121,7 +121,7 @@ all_rise : (es : List (List ℕ × Vec Version)) → ((k : List ℕ) (v : Vec Ve
 all_rise [] h = tt
 all_rise (e ∷ es) h = (h e.0 e.1 (inl (refl, refl)), all_rise es (λ k v i. h k v (inr i)))
 
--- where the versions of each key rise, those of the entries do
+-- if the versions of each key rise, those of the entries do
 pub entries_rise : (versions : Versions) (start : List ℕ) → tree.IsOrdered key_cmp versions.of → ((key : List ℕ) → Rising 0 (versions_in versions key)) → AllRise (entries_from start versions)
 entries_rise versions start ordered rising =
     all_rise (entries_from start versions) (λ k v i.

@@ -18,7 +18,7 @@ use Rattle.mt_check.specs.Faults.{BreaksThere, DeltaBreaks, IsSmallest, AreClean
 use Rattle.mt_check.specs.Versions.{version_of, versions_of, versions_in, last_row, AreVersions, AreSound}
 use Rattle.mt_check.proofs.VersionLemmas.{get-rows_after}
 
--- the row that the last version leaves is the one that stands
+-- the row that the last version leaves is the one that the key has
 pub standing_there : (deltas : List Delta) (i : ℕ) (versions : Versions) (key : List ℕ) → AreVersions (take i deltas) versions
     → last_row None (versions_in versions key) ≡ map.get (rows_at deltas i) key
 standing_there deltas i versions key h =

@@ -1,4 +1,4 @@
--- The state of a view that is taken on over a log.
+-- The state of a view that is advanced over a log.
 use Rattle.std.proofs.Common.{◌≡◌, ℕ, ◌+◌, List, [], ◌∷◌, ◌++◌, take, Some, refl, ap, sym, ◌∙◌, subst, arith}
 use Rattle.std.specs.Prelude.{slice_get}
 use Rattle.std.specs.FinMap as map
@@ -25,7 +25,7 @@ pub record TakenOn (C : ℕ) (deltas : List Delta) (spec : ViewSpec) (number : �
   pub at : state.at ≡ number
   pub standing : IsStanding C deltas spec state
 
--- a state that is taken on by the next delta
+-- a state that is advanced by the next delta
 pub standing_next : (C : ℕ) (deltas : List Delta) (spec : ViewSpec) (number : ℕ) (state new : StateView) (d : Delta) → IsSoundLog deltas → state.at ≡ number → IsStanding C deltas spec state
     → slice_get deltas number ≡ Some d → new ≡ applied d state → ((rows : Rows) → IsAfresh state rows → IsAfresh new (redo d rows))
     → TakenOn C deltas spec (number + 1) new

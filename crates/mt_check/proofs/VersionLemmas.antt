@@ -1,4 +1,4 @@
--- The versions of a key tell the row that stands at each number.
+-- The versions of a key show which row it has at each number.
 use Rattle.std.proofs.Common.{◌≡◌, ◌≤◌, ◌<◌, ℕ, zero, suc, ◌+◌, ◌-◌, Bool, true, false, cond, ◌||◌, List, [], ◌∷◌, take, drop, length, get_or, filter, map, Option, Some, None, refl, ap, sym, ◌∙◌, subst, arith, inl, inr, ◌⊎◌}
 use Rattle.std.specs.Prelude.{nat_le, slice_get}
 use Rattle.std.specs.List.Sorted.{IsPartitionedBy, IsPartitionPoint}
@@ -50,7 +50,7 @@ standing_none number low old (v ∷ versions) h r =
     let after : nat_le v.number number ≡ false = search (arith, r.0, h) in
     rw after (standing_none number v.number old versions (omega (arith, r.0, h)) r.1)
 
--- the row that stands at a number is the last that the deltas up to it leave
+-- the row at a number is the last that the deltas up to it leave
 standing_take : (key : List ℕ) (number count : ℕ) (old : Option Row) (deltas : List Delta) → Numbered number deltas
     → standing (number + count) old (versions_of key deltas) ≡ last_row old (versions_of key (take count deltas))
 standing_take key number zero old deltas h = standing_none (number + 0) number old (versions_of key deltas) (omega arith) (rising_versions key number deltas h)
@@ -95,7 +95,7 @@ or_cases false b e = inr e
 abbrev between : (Option Row → Bool) → ℕ → ℕ → Option Row → List Version → Bool
 between test from to old versions = test (standing from old versions) || some_until test to (later from versions)
 
--- a row or none that passes and stands at some number from one to another is told by the versions
+-- if the row, or none, at some number from one to another passes the test, the versions show it
 told : (test : Option Row → Bool) (from to low : ℕ) (old : Option Row) (versions : List Version) → Rising low versions → (number : ℕ) → from ≤ number → number ≤ to
     → test (standing number old versions) ≡ true → between test from to old versions ≡ true
 told test from to low old [] r number f t e = or_left (test old) false e
@@ -124,7 +124,7 @@ told test from to low old (v ∷ versions) r number f t e =
           ]
     ]
 
--- and what they tell stands at some such number
+-- and if they show it, the row, or none, at some such number passes
 tells : (test : Option Row → Bool) (from to low : ℕ) (old : Option Row) (versions : List Version) → from ≤ to → Rising low versions
     → between test from to old versions ≡ true → Sometime from to (λ number. test (standing number old versions) ≡ true)
 tells test from to low old [] h r e =
@@ -180,7 +180,7 @@ last_is old (w ∷ u ∷ versions) v e =
     let place : length (w ∷ u ∷ versions) - 1 ≡ suc (length (u ∷ versions) - 1) = omega arith in
     last_is w.row (u ∷ versions) v (sym (ap (slice_get (w ∷ u ∷ versions)) place) ∙ e)
 
--- where the numbers rise, they don't fall
+-- if the numbers rise, they don't fall
 rising_at : (low : ℕ) (versions : List Version) → Rising low versions → (i : ℕ) (d : Version) → i < length versions → low < (get_or versions i d).number
 rising_at low [] r i d h = absurd (omega arith)
 rising_at low (v ∷ versions) r zero d h = r.0

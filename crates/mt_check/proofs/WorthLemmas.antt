@@ -41,14 +41,14 @@ deltas_length C number old (c ∷ cs) = ap (λ (n : ℕ). suc n) (deltas_length 
 goes_trans : (a b c : List Change) → GoesOnFrom a b → GoesOnFrom b c → GoesOnFrom a c
 goes_trans a b c g k = (k.0 ++ g.0, g.1 ∙ ap (λ (cs : List Change). cs ++ g.0) k.1 ∙ append_assoc c k.0 g.0)
 
--- the commits of a history go on from those of a past of it
+-- the commits of a history continue those of a past of it
 commits_after : (h later past : History) (x : Happening) → h ≡ later ++ x ∷ past → GoesOnFrom (moment h).commits (moment past).commits
 commits_after h later past x e =
     goes_trans (moment h).commits (moment (x ∷ past)).commits (moment past).commits
     (subst (λ (z : History). GoesOnFrom (moment z).commits (moment (x ∷ past)).commits) (sym e) (commits_since later (x ∷ past)))
     (commits_since (x ∷ []) past)
 
--- two ends of one history: the longer goes on from the shorter
+-- two ends of one history: the longer continues the shorter
 ends : (a b x y : History) → a ++ x ≡ b ++ y → length y ≤ length x → (between : History) × (x ≡ between ++ y)
 ends [] b x y e h = (b, e)
 ends (p ∷ a) [] x y e h =

@@ -85,7 +85,7 @@ commit_is C from to number deltas d change sound e =
           subst (λ (x : Delta). MadeBy C x change) (sym same) (is_made C number change rows),
     )
 
--- the commit of a change is told by its delta
+-- whether a commit made a change is known from its delta
 pub told_commit : (C from to number : ℕ) (deltas : List Delta) (d : Delta) (change : Change) (yes_ : Bool) → IsSoundLog deltas
     → Some d ≡ cond (nat_lt from number && nat_le number to) (slice_get deltas (number - 1)) None
     → IsTrue yes_ ↔ MadeBy C d change → IsTrue yes_ ↔ IsCommit C deltas from to number change

@@ -58,7 +58,7 @@ ReceiptBreaks C deltas earlier receipt rule = (rule ≡ rule_of receipt) × ¬ I
 abbrev pub IsSmallest : (Rule → Type 0) → Rule → Type 0
 IsSmallest Breaks rule = Breaks rule × ((other : Rule) → rule_number other < rule_number rule → ¬ Breaks other)
 
--- none of the first so many lines breaks a rule
+-- none of the first n lines breaks a rule
 abbrev pub AreClean : {X : Type 0} → (List X → X → Rule → Type 0) → List X → ℕ → Type 0
 AreClean {X} Breaks lines count =
     (i : ℕ) (line : X) (rule : Rule) → i < count → slice_get lines i ≡ Some line → ¬ Breaks (take i lines) line rule

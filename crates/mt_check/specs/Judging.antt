@@ -50,7 +50,7 @@ AreClaims receipts marks =
     (number : ℕ) → 0 < number → number ≤ length marks
     → (slice_index_or marks (number - 1) false ≡ true) ↔ IsClaimed receipts number
 
--- each of the first so many receipts is sound, and claims no number again
+-- each of the first n receipts is sound, and claims no number again
 abbrev pub AreRight : ℕ → List Delta → List Receipt → ℕ → Type 0
 AreRight C deltas receipts count =
     (i : ℕ) (receipt : Receipt) → i < count → slice_get receipts i ≡ Some receipt

@@ -2,7 +2,7 @@
 pub mod Receipts
 pub mod Faults
 pub mod Worth
--- behind it: what the code computes
+-- after these: what the code computes
 pub mod Versions
 pub mod Ranges
 pub mod Judging

@@ -1,4 +1,4 @@
--- A range's pairs beside the versions of the keys from its start on: one walk over both.
+-- One walk over both a range's pairs and the versions of the keys from its start on.
 use Rattle.std.specs.Prelude.{ℕ, nat_le, Bool, true, false, ◌&&◌, ◌||◌, List, [], ◌∷◌, filter, length}
 use Rattle.std.specs.List.{AllByRecursion}
 use Rattle.std.specs.Option.{is_none}

@@ -55,7 +55,7 @@ Sometime from to P = (number : ℕ) × (from ≤ number) × (number ≤ to) × P
 abbrev pub Throughout : ℕ → ℕ → (ℕ → Type 0) → Type 0
 Throughout from to P = (number : ℕ) → from ≤ number → number ≤ to → P number
 
--- the row that stands under the key at a number of commits, as it is shown
+-- the row that the key has at a number of commits, as it is shown
 abbrev pub Shows : List Delta → List ℕ → List ℕ → Row → ℕ → Type 0
 Shows deltas key asked answer number =
     (row : Row) × (get (rows_at deltas number) key ≡ Some row) × (answer ≡ shown asked row)
@@ -98,7 +98,7 @@ page_of_rows C rows number spec start limit =
     let pairs = afresh spec rows in
     record { at = number; count = length pairs; sums = column_sums 0 C pairs; rows = page_from start limit pairs }
 
--- the page is of a view that stands at a number of commits, not before the floor and not after the last
+-- the page is of a view at a number of commits, not before the floor and not after the last
 abbrev pub IsRightPage : ℕ → List Delta → ℕ → ViewSpec → ℕ → List ℕ → ℕ → PageShown → Type 0
 IsRightPage C deltas to spec floor start limit page =
     (floor ≤ page.at) × (page.at ≤ to) × (page ≡ page_of_rows C (rows_at deltas page.at) page.at spec start limit)

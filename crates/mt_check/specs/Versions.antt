@@ -32,7 +32,7 @@ abbrev pub last_row : Option Row → List Version → Option Row
 last_row old [] = old
 last_row old (version ∷ versions) = last_row version.row versions
 
--- the row that stands at a number, of this one before and these versions
+-- the row at a number, of this one before and these versions
 abbrev pub standing : ℕ → Option Row → List Version → Option Row
 standing number old [] = old
 standing number old (version ∷ versions) =
@@ -69,7 +69,7 @@ versions_in versions key = option_map_or (λ (v : Vec Version). v.items) (tree.g
 abbrev pub AreVersions : List Delta → Versions → Type 0
 AreVersions deltas versions = (key : List ℕ) → versions_in versions key ≡ versions_of key deltas
 
--- each of the first so many deltas has its place as its number, and fits
+-- each of the first n deltas has its place as its number, and fits
 abbrev pub AreSound : List Delta → ℕ → Type 0
 AreSound deltas count =
     (i : ℕ) (delta : Delta) → i < count → slice_get deltas i ≡ Some delta

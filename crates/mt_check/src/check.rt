@@ -49,7 +49,7 @@ pub fn are_asked(columns: u8, receipts: &[Receipt]) -> bool
     true
 }
 
-// No marks, for so many numbers.
+// Marks for `count` numbers, of which none is marked.
 fn new_marks(alloc: Global, count: usize) -> Result<Vec<bool>, NoMemory>
     ensures { IfOk result (λ marks. marks.items ≡ replicate count false) }
 {
@@ -90,17 +90,17 @@ fn judge(alloc: Global, log: &Log<'_>, receipts: &[Receipt]) -> Result<(), Fault
     Ok(())
 }
 
-/// Whether each receipt is sound against a log, from its first commit on, of an index of `columns` columns.
+/// Checks that each receipt is sound against a log, from its first commit on, of an index of `columns` columns.
 ///
 /// Reading the log costs O(n log n) in the deltas. Then a get costs O(log n + m) in the keys and its key's commits
 /// within its span, a put or remove O(1) and the row that it makes, a range O(log n + m) in the keys and those that it
-/// covers with their commits within its span, and a page the deltas from the page of the same view before it (of up to
-/// 64 that are kept), or from the first on where that one stands later.
+/// covers with their commits within its span, and a page the deltas since an earlier state of the same view, of at most
+/// 64 states that are kept, or all deltas up to its number if no state of that view is kept at or before it.
 ///
 /// # Errors
 ///
-/// The first fault in the order of the deltas and then of the receipts, and of one delta or receipt the smallest rule
-/// that it breaks; or want of memory.
+/// The first fault in the order of the deltas and then of the receipts, with the smallest rule that this delta or
+/// receipt breaks; or `Rule::Memory` if out of memory.
 pub fn check(
     alloc: Global,
     columns: u8,

@@ -7,32 +7,33 @@ use mt_types::refusal::NoMemory;
 use std::fmt;
 use std::fmt::{Display, Formatter, Write};
 
-/// What a log and its receipts have to keep, in the order in which the rules of one line are told.
+/// The rules that a log and its receipts have to keep, in the order in which those of one line are reported.
 #[derive(Clone, Copy, Debug, PartialEq, Eq)]
 pub enum Rule {
     /// There is memory for the audit: no rule of a line.
     Memory,
     /// The number of a delta is its place, from 1 on.
     DeltaNumber,
-    /// The row before is the one that stands then, the row after has the delta's number, and one of the two is a row.
+    /// The row before is the key's row then, the row after has the delta's number, and one of the two is a row.
     DeltaRows,
     /// A receipt's first number is not after its last, and its last is at most the number of deltas.
     Span,
     /// The answer of a get is right at some number of the span.
     GetAnswer,
-    /// The number of a put or a remove is within the span, and its delta is that of the change, of a conditional put over
-    /// a row of the version asked; or a remove that found nothing lacked its key at some number of the span.
+    /// The number of a put or a remove is within the span, and its delta is that of the change; that of a conditional
+    /// put is over a row of the version asked. Or a remove found nothing, and its key had no row at some number of the
+    /// span.
     WriteAnswer,
     /// No number is claimed by two receipts.
     ClaimedOnce,
     /// The answer of a range is right over the span.
     RangeAnswer,
-    /// A page stands between its floor and the end of the span, and is what its view shows there.
+    /// A page is at a number from its floor to the end of the span, and is what its view shows there.
     ViewPage,
 }
 
 impl Rule {
-    /// The number of the rule, as an audit tells it; 0 is want of memory.
+    /// The number of the rule, as an audit reports it; 0 means out of memory.
     pub fn number(&self) -> u8
         ensures { result ≡ rule_number self.now }
     {
@@ -61,7 +62,7 @@ impl Display for Rule {
 /// The first fault of an audit.
 #[derive(Clone, Copy, Debug, PartialEq, Eq)]
 pub struct Fault {
-    /// The place of the delta or of the receipt, from 1 on; 0 for want of memory.
+    /// The place of the delta or of the receipt, from 1 on; 0 means out of memory.
     pub index: u64,
     /// The smallest rule that it breaks.
     pub rule: Rule,

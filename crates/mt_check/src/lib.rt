@@ -1,4 +1,4 @@
-//! The checker of receipts: whether each answer of an index was right, told from the deltas of its log.
+//! The checker of receipts: whether each answer of an index was right, judged by the deltas of its log.
 #![tactic(auto)]
 
 mod calls;

@@ -33,7 +33,7 @@ fn has_version(row: &Option<Row>, number: u64) -> bool
     }
 }
 
-// Whether a delta fits the row that stands under its key.
+// Whether a delta fits the row that its key has.
 fn fits(delta: &Delta, standing: Option<&Row>) -> bool
     ensures { IsTrue result ↔ FitsRow (option_copied standing.entry) delta.now }
 {
@@ -60,7 +60,7 @@ fn delta_fault(delta: &Delta, place: u64, standing: Option<&Row>) -> Option<Rule
 ///
 /// # Errors
 ///
-/// The first delta that breaks a rule, or want of memory.
+/// The first delta that breaks a rule, or out of memory.
 pub(crate) fn read_log(alloc: Global, deltas: &[Delta]) -> Result<Versions, Fault>
     ensures sound { IfOk result (λ _. AreSound deltas.now (length deltas.now)) }
     ensures versions { IfOk result (λ versions. AreVersions deltas.now versions) }

@@ -1,4 +1,4 @@
-//! What views show at the numbers of a log, by states that are walked on.
+//! What views show at the numbers of a log, by states that are advanced.
 
 ghost use Rattle.std.specs.Prelude.{◌≡◌, ◌<◌, ◌≤◌, [], length, vec_len, OnOk, IfOk, IfSome};
 ghost use Rattle.std.specs.List.{HoldsAt};
@@ -15,7 +15,7 @@ use mt_types::view::{Page, ViewSpec};
 use mt_view::state::ViewState;
 use std::alloc::Global;
 
-/// How many states are kept at most; as many views stand in an index at most.
+/// The most states that are kept. An index has at most the same number of views.
 const MAX_STATES: usize = 64;
 
 /// The state of a view, with its specification.
@@ -31,7 +31,7 @@ pub(crate) struct Pages {
     pub(crate) states: Vec<Standing>,
 }
 
-// Takes a state on to a number.
+// Advances a state to a number.
 fn walk_on(state: &mut ViewState, deltas: &[Delta], at: u64) -> Result<(), NoMemory>
     requires sound { IsSoundLog deltas.now }
     requires standing { IsStanding state.old.columns deltas.now state.old.spec state.old }
@@ -57,7 +57,7 @@ impl Pages {
         }
     }
 
-    // The place of a state of this view that stands at a number or before it.
+    // The place of a state of this view at a number or before it.
     fn place_of(&self, spec: &ViewSpec, at: u64) -> Option<usize>
         ensures { IfSome result (λ place. (place < vec_len self.now.states)
             × HoldsAt (λ standing. (standing.spec ≡ spec.now) × (standing.state.at ≤ at)) self.now.states.items place) }
@@ -70,7 +70,7 @@ impl Pages {
         None
     }
 
-    // A state of this view that stands at a number or before it: one that is kept, or a new one of no rows.
+    // A state of this view at a number or before it: one that is kept, or a new one of no rows.
     fn take(
         &mut self,
         alloc: Global,
@@ -93,7 +93,7 @@ impl Pages {
         }
     }
 
-    // Keeps a state; of too many, none of those before.
+    // Keeps a state. If there are too many, those before are dropped.
     fn keep(
         &mut self,
         columns: u8,
@@ -112,8 +112,8 @@ impl Pages {
         Ok(())
     }
 
-    /// What a view shows of the rows at a number. Costs the deltas from the last number, not after this one, at which
-    /// the same view was asked for and is kept, and from the first delta where there is none; and O(log n + m) in the
+    /// Returns what a view shows of the rows at a number. Costs the deltas since a state of the same view that is kept,
+    /// of a number that is not after this one, or all deltas up to this number if there is none; and O(log n + m) in the
     /// rows of the view and the columns that are shown.
     pub(crate) fn page(
         &mut self,

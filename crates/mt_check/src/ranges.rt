@@ -34,9 +34,9 @@ fn from_key<'a>(versions: &'a Versions, start: &Key) -> Range<'a, Key, Vec<Versi
     versions.of.range(start..)
 }
 
-/// Walks over the pairs and, beside them, over the keys from the start on: each pair is one of the keys and was shown
+/// Walks over the pairs and over the keys from the start on. Returns whether each pair is one of the keys and was shown
 /// so, and each key that is passed over lacked a row at some number of the span. O(log n + m) in the keys, those walked
-/// over and their versions in the span; past the last pair it goes on only where the limit was not met.
+/// over and their versions in the span. After the last pair it continues only if the limit was not met.
 pub(crate) fn walk(versions: &Versions, asked: &Asked<'_>, span: Span, pairs: &[(Key, Row)]) -> bool
     requires { (key : List ℕ) → Rising 0 (versions_in versions.now key) }
     ensures ordered { IsOrdered key_cmp versions.now.of }

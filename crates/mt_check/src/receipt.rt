@@ -5,7 +5,7 @@ use mt_types::event::{Answer, Request};
 use mt_types::view::{Page as PageShown, ViewSpec};
 
 /// What a caller was answered. `from` and `to` are the numbers of commits at the begin of the call and at its end; of a
-/// page both are the number at which it stands.
+/// page both are the number at which it is.
 #[derive(Debug, PartialEq, Eq, Drop)]
 pub enum Receipt {
     /// Of a call that is done.

@@ -80,7 +80,7 @@ pub(crate) fn last_of(versions: &[Version]) -> Option<&Row>
     }
 }
 
-/// The row that stands at a number, and the versions after it. O(log n) in the versions.
+/// The row at a number, and the versions after that number. O(log n) in the versions.
 fn split(versions: &[Version], number: u64) -> (Option<&Row>, &[Version])
     requires { Rising 0 versions.now }
     ensures standing { option_copied result.0 ≡ standing number None versions.now }
@@ -170,8 +170,8 @@ fn shows_until(versions: &[Version], to: u64, asked: &[u8], answer: &Row) -> boo
     false
 }
 
-/// Whether the row that stands at some number from one to another is shown so. O(log n + m) in the versions of the key
-/// and those between.
+/// Whether the row at some number from one to another is shown so. O(log n + m) in the versions of the key and those
+/// between.
 pub(crate) fn shows_between(
     versions: &[Version],
     from: u64,

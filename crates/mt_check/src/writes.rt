@@ -24,7 +24,7 @@ pub(crate) struct ConditionalPut<'a> {
     pub(crate) version: u64,
 }
 
-// A row's version; 0 where there is none.
+// A row's version; 0 if there is none.
 fn version_of(row: &Option<Row>) -> u64
     ensures { result ≡ version_of row.now }
 {
@@ -97,7 +97,7 @@ fn is_drop(columns: u8, delta: &Delta, key: &Bytes) -> bool
     delta.key.as_slice() == key.as_slice() && delta.after.is_none()
 }
 
-// The delta of a number, where it is after the begin of a span and not after its end.
+// The delta of a number, if the number is after the begin of a span and not after its end.
 fn commit_at(deltas: &[Delta], span: Span, number: u64) -> Option<&Delta>
     ensures { option_copied result ≡ (if nat_lt span.from number && nat_le number span.to
         then slice_get deltas.now (number - 1)

@@ -78,7 +78,7 @@ UnpinningCounts =
 abbrev pub CountedIsHeld : Type 0
 CountedIsHeld = (number : ℕ) (holders : List ℕ) → 0 < times_held number holders → Contains holders number
 
--- the least holder is told by how often each number is held
+-- the least holder follows from how often each number is held
 abbrev pub LeastIsByCounts : Type 0
 LeastIsByCounts =
     (most : ℕ) (holders others : List ℕ)

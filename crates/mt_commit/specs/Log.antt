@@ -27,7 +27,7 @@ slowest log = least (newest log) log.holders
 abbrev pub delta_of : LogView → ℕ → Option Delta
 delta_of log number = slice_get log.deltas (number - log.held_after - 1)
 
--- why there is no room for one more delta, unless memory is wanting
+-- why there is no room for one more delta, unless it is out of memory
 abbrev pub reserve_fault : LogView → Option Refusal
 reserve_fault log =
     option_or (refused_if (nat_le greatest_number (newest log + log.reserved)) Spent)
@@ -37,7 +37,7 @@ reserve_fault log =
 abbrev pub with_delta : LogView → Delta → LogView
 with_delta log delta = record log { deltas = log.deltas ++ delta ∷ []; reserved = log.reserved - 1 }
 
--- what is left is what came after the slowest, and the last ones that are kept for nobody
+-- what is left is what came after the slowest, and the last ones, which are kept in any case
 abbrev pub trimmed : LogView → LogView
 trimmed log =
     let bound = min (slowest log) (newest log - log.keep) in

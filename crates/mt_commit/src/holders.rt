@@ -10,7 +10,7 @@ use std::alloc::Global;
 use std::collections::BTreeMap;
 use std::marker::Model;
 
-/// Numbers in ascending order, each as often as it was added and not taken away: a B-tree of their counts.
+/// Numbers in ascending order, each as often as it was added and not removed: a B-tree of their counts.
 #[derive(Drop)]
 pub(crate) struct Holders {
     counts: BTreeMap<u64, u64>,
@@ -30,7 +30,7 @@ impl Model for Holders {
 }
 
 impl Holders {
-    /// No numbers. Takes no memory.
+    /// Returns an empty collection. Allocates nothing.
     pub(crate) fn new(alloc: Global) -> Holders
         ensures { result ≡ [] }
     {
@@ -39,7 +39,8 @@ impl Holders {
         }
     }
 
-    /// The least of these numbers, or `most`, of which none is above. O(log n) in the numbers that differ.
+    /// Returns the least of these numbers, or `most` if there are none. No number is greater than `most`. O(log n) in
+    /// the numbers that differ.
     pub(crate) fn least(&self, most: u64) -> u64
         requires { All (λ holder. holder ≤ most) self.now }
         ensures { result ≡ least most self.now }
@@ -65,7 +66,7 @@ impl Holders {
         Ok(())
     }
 
-    /// Takes a number away once, if it is there. O(log n) in the numbers that differ.
+    /// Removes a number once, if it is there. O(log n) in the numbers that differ.
     pub(crate) fn remove(&mut self, number: u64)
         ensures { self.new ≡ without_holder number self.old }
     {

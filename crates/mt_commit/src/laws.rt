@@ -1,5 +1,5 @@
-//! What the deltas of a log say of the rows at earlier commits, and its holders of how often each number is held, as
-//! laws. Their bodies do nothing.
+//! Laws of a log: what its deltas say of the rows at earlier commits, and what its holders say of how often each number
+//! is held. Their bodies do nothing.
 
 ghost use Rattle.mt_commit.specs.Laws.{DoneIsUndone, UndoneIsDone, UndoneLeavesBefore, NewestIsPresent, AppendingFits, AppendingKeepsRows, TrimmingFits, TrimmingKeepsRows, EachDeltaMakesRows, PinningCounts, UnpinningCounts, CountedIsHeld, LeastIsByCounts};
 
@@ -28,14 +28,14 @@ pub fn trimming_keeps_the_past()
     ensures rows { TrimmingKeepsRows }
 {}
 
-/// In a log that fits, each delta makes the rows at its number of the rows at the number before: so a view is taken on
-/// by one commit.
+/// In a log that fits, each delta turns the rows at the number before it into the rows at its number. So a view is
+/// advanced by one commit.
 pub fn each_delta_makes_rows()
     ensures { EachDeltaMakesRows }
 {}
 
-/// A number that is pinned is held once more, one that is unpinned once less, and how often each number is held tells
-/// which are holders and which is the least.
+/// A number that is pinned is held once more, and one that is unpinned once less. How often each number is held
+/// determines which numbers are holders and which is the least.
 pub fn holders_are_counted()
     ensures pinned { PinningCounts }
     ensures unpinned { UnpinningCounts }

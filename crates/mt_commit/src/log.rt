@@ -53,8 +53,8 @@ impl Log {
     ghost use Rattle.mt_commit.specs.Log.{LogView, IsLog, newest, slowest, delta_of, reserve_fault, with_delta, trimmed};
     ghost use Rattle.mt_commit.specs.Holders.{with_holder, without_holder};
 
-    /// The log before any commit. It is to hold at most `feed` deltas for the slowest that reads it, and to keep the
-    /// last `keep` for nobody. Takes no memory.
+    /// Returns the log before any commit. It is to hold at most `feed` deltas for its slowest reader, and to keep the
+    /// last `keep` for no reader. Allocates nothing.
     pub fn open(alloc: Global, feed: u64, keep: u64) -> Log
         ensures empty { result ≡ record {
           held_after = 0;
@@ -77,7 +77,7 @@ impl Log {
         }
     }
 
-    /// The number of the newest commit, or 0 before any.
+    /// Returns the number of the newest commit, or 0 before any.
     pub fn number(&self) -> u64
         ensures value { result ≡ newest self.now }
         ensures sound { IsLog self.now }
@@ -85,7 +85,7 @@ impl Log {
         self.held_after + self.deltas.len() as u64
     }
 
-    /// The number after which the deltas are here: those up to it were trimmed.
+    /// Returns the number after which the log has the deltas. Those up to this number were trimmed.
     pub fn held_after(&self) -> u64
         ensures value { result ≡ self.now.held_after }
         ensures sound { IsLog self.now }
@@ -93,8 +93,8 @@ impl Log {
         self.held_after
     }
 
-    /// The least number from which the log is held, or that of the newest commit where nobody holds it. O(log n) in the
-    /// numbers that are held.
+    /// Returns the least number from which the log is held, or the number of the newest commit if no reader holds it.
+    /// O(log n) in the numbers that are held.
     pub fn slowest(&self) -> u64
         ensures value { result ≡ slowest self.now }
         ensures here { self.now.held_after ≤ result }
@@ -104,13 +104,13 @@ impl Log {
         self.holders.least(self.number())
     }
 
-    /// Makes room for one delta more. On an error nothing changes. O(log n) in the numbers that are held, amortized.
+    /// Makes room for one more delta. On an error nothing changes. O(log n) in the numbers that are held, amortized.
     ///
     /// # Errors
     ///
-    /// The first of these that stands: `Spent` where no number is left for the delta; `FeedFull` with the number of the
-    /// slowest where the log would hold more for it than it may; `NoMemory` where an allocation is refused. Nothing is
-    /// allocated before the other two are tested.
+    /// The first of these that applies: `Spent` if no number is left for the delta; `FeedFull`, with the number of the
+    /// slowest reader, if the log would hold more for it than it may; `NoMemory` if an allocation is refused. Nothing
+    /// is allocated before the other two are tested.
     pub fn reserve(&mut self) -> Result<(), Refusal>
         ensures fault { MatchOption (reserve_fault self.old)
             (IfErr result (λ refusal. refusal ≡ Refusal.NoMemory))
@@ -133,7 +133,7 @@ impl Log {
         Ok(())
     }
 
-    /// Gives the room for one delta back.
+    /// Gives up the room that was reserved for one delta.
     pub fn unreserve(&mut self)
         requires { 0 < self.old.reserved }
         ensures after { self.new ≡ record self.old { reserved = self.old.reserved - 1 } }
@@ -142,7 +142,7 @@ impl Log {
         self.reserved -= 1;
     }
 
-    /// Appends the delta of the next commit, in room that was reserved. Takes no memory.
+    /// Appends the delta of the next commit, in room that was reserved. Allocates nothing.
     pub fn append(&mut self, delta: Delta)
         requires reserved { 0 < self.old.reserved }
         requires next { delta.number ≡ newest self.old + 1 }
@@ -153,7 +153,7 @@ impl Log {
         self.reserved -= 1;
     }
 
-    /// The delta of a commit that is here.
+    /// Returns the delta of a commit that the log has.
     pub fn delta(&self, number: u64) -> &Delta
         requires here { self.now.held_after < number }
         requires done { number ≤ newest self.now }
@@ -163,7 +163,7 @@ impl Log {
         &self.deltas[(number - self.held_after - 1) as usize]
     }
 
-    /// Whether one holder more can be counted.
+    /// Returns whether one more holder can be counted.
     pub fn may_pin(&self) -> bool
         ensures value { IsTrue result ↔ (length self.now.holders < MAX_HOLDERS) }
         ensures sound { IsLog self.now }
@@ -176,7 +176,7 @@ impl Log {
     ///
     /// # Errors
     ///
-    /// `NoMemory` where an allocation is refused.
+    /// `NoMemory` if an allocation is refused.
     pub fn pin(&mut self, number: u64) -> Result<(), NoMemory>
         requires here { self.old.held_after ≤ number }
         requires done { number ≤ newest self.old }
@@ -200,8 +200,8 @@ impl Log {
         self.holder_count -= 1;
     }
 
-    /// Drops the deltas that nobody holds, but for the last ones that are kept for nobody. The queue keeps its memory
-    /// for later deltas. O(n + log m) in the deltas that are dropped and the numbers that are held.
+    /// Drops the deltas that no reader holds, except the last ones, which the log keeps in any case. The queue keeps
+    /// its memory for later deltas. O(n + log m) in the deltas that are dropped and the numbers that are held.
     pub fn trim(&mut self)
         ensures after { self.new ≡ trimmed self.old }
         ensures newest_stays { newest self.new ≡ newest self.old }

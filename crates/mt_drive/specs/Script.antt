@@ -47,7 +47,7 @@ is_bad _ = false
 abbrev pub bad_lines : List Reply → ℕ
 bad_lines replies = count_by is_bad replies
 
--- why a script can't start: want of memory, or the limit that the options of the index break
+-- why a script can't start: it is out of memory, or the options of the index break this limit
 abbrev pub start_fault : Refusal → ScriptFault
 start_fault WantOfMemory = NoMemory
 start_fault limit = Start limit
@@ -96,8 +96,8 @@ abbrev pub IsRefusedAlone : Request → History → Refusal → History → Type
 IsRefusedAlone request past refusal h = IsTurnedAway pass_0 request past refusal h
     ⊎ ((number : CallNo) × RunsThrough pass_0 number request past (Refused refusal) h)
 
--- a call alone, of pass 0, from its begin to its end: it is answered as by a plain map, or nothing comes of it; where
--- others are open, nothing happens
+-- a call alone, of pass 0, from its begin to its end: it is answered as by a plain map, or nothing comes of it; if
+-- other calls are open, nothing happens
 abbrev pub DoesAlone : ℕ → Request → History → Reply → History → Type 0
 DoesAlone C request past (Came (Done answered)) h = (open_calls past ≡ 0) × ((number : CallNo)
     × RunsThrough pass_0 number request past (Done answered) h
@@ -107,8 +107,8 @@ DoesAlone C request past (Came (Refused refusal)) h =
 DoesAlone C request past Busy h = (0 < open_calls past) × (h ≡ past)
 DoesAlone C request past _ h = ⊥
 
--- after so many commits the log of an index begins that keeps this many for nobody: it has all that is held, and the
--- last ones
+-- the number of commits after which the log begins, in an index that keeps `keep` commits for no reader: the log has
+-- all that is held, and the last `keep`
 abbrev pub feed_begin : ℕ → History → ℕ
 feed_begin keep past = min (held_from (moment past)) (length (moment past).commits - keep)
 
@@ -117,7 +117,7 @@ abbrev pub feed_refusal : ℕ → ℕ → ℕ → History → Option Refusal
 feed_refusal keep from limit past =
     option_or (limit_fault limit) (refused_if (nat_lt from (feed_begin keep past)) (Behind (feed_begin keep past)))
 
--- what a feed gives: the deltas of the commits so far but for the first ones, so many at most; or why it gives none
+-- what a feed returns: the deltas of the commits after the first `from`, at most `limit`; or why it returns none
 abbrev pub Feeds : ℕ → ℕ → ℕ → ℕ → History → Reply → Type 0
 Feeds C keep from limit past (Fed deltas) =
     (feed_refusal keep from limit past ≡ None) × (deltas ≡ take limit (drop from (deltas_of C (moment past).commits)))
@@ -126,7 +126,7 @@ Feeds C keep from limit past (NotFed refusal) =
     ⊎ ((feed_refusal keep from limit past ≡ None) × (refusal ≡ WantOfMemory))
 Feeds C keep from limit past _ = ⊥
 
--- what a line says was answered so after this past, on an index of C columns that keeps this many commits for nobody,
+-- what a line says was answered so after this past, on an index of C columns that keeps `keep` commits for no reader,
 -- and led to this history
 abbrev pub Answers : ℕ → ℕ → Option Command → History → Reply → History → Type 0
 Answers C keep None past reply h = (reply ≡ Bad) × (h ≡ past)
@@ -144,9 +144,9 @@ AnswersAll C keep past (line ∷ lines) (reply ∷ replies) h =
 AnswersAll C keep past [] (reply ∷ replies) h = ⊥
 AnswersAll C keep past (line ∷ lines) [] h = ⊥
 
--- All lines of the input, where it is known, were answered on an empty index of C columns that keeps so many commits
--- for nobody; what happened there is legal, and so keeps the promise; the lines of the replies were written; and so
--- many lines of the input were bad.
+-- All lines of the input, if it is known, were answered on an empty index of C columns that keeps `keep` commits for no
+-- reader. What happened there is legal, and so keeps the promise. The lines of the replies were written, and `bad` is
+-- the number of lines of the input that were bad.
 pub record Played (C keep : ℕ) (input old : Option (List ℕ)) (bad : ℕ) (new : Option (List ℕ)) : Type 0 where
   pub lines : List (List ℕ)
   pub replies : List Reply

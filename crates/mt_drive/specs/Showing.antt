@@ -58,7 +58,7 @@ answer_text (Rows pairs) = codes "rows " ++ rows_text pairs
 answer_text (Tidied rule) = codes "tidied " ++ rule_text rule
 answer_text (Built view) = codes "built " ++ decimal view.0
 
--- the number of a commit that a refusal says beside its own
+-- the number of a commit that a refusal says after its own number
 abbrev pub detail_text : Option ℕ → List ℕ
 detail_text None = []
 detail_text (Some at) = codes " " ++ decimal at

@@ -30,13 +30,13 @@ pair_of text = do
   row ← row_of 58 word.1
   Some (key, row)
 
--- how many pairs, where there are none
+-- the number of pairs, which is 0
 unfoldable pub no_rows_of : List ℕ → Option (List (List ℕ × Row))
 no_rows_of text = do
   count ← number_of (2 ^ 64 - 1) text
   if count == 0 then Some [] else None
 
--- how many pairs, and then as many
+-- the number of pairs, and then this many pairs
 unfoldable pub some_rows_of : List ℕ → List ℕ → Option (List (List ℕ × Row))
 some_rows_of word text = do
   count ← number_of (2 ^ 64 - 1) word

@@ -171,7 +171,7 @@ fn push_request(alloc: Global, out: &mut String, request: &Request) -> Result<()
     }
 }
 
-/// The text of a request, as `read_request` reads it. Costs what the text is long.
+/// Returns the text of a request, as `read_request` reads it. O(n) in the text.
 pub fn request_text(alloc: Global, request: &Request) -> Result<String, AllocError>
     ensures { IfOk result (λ text. string_bytes text ≡ request_text request.now) }
 {

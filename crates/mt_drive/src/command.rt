@@ -13,9 +13,9 @@ pub enum Command {
     Once(Event),
     /// Steps of a call, until one is neither moved nor a commit.
     Finish(CallNo),
-    /// A call from its begin to its end, where no other is open. It is of pass 0.
+    /// A call from its begin to its end, if no other call is open. It is of pass 0.
     Alone(Request),
-    /// The deltas of the commits after a number, so many at most. No event happens.
+    /// The deltas of the commits after the first `from`, at most `limit`. No event happens.
     Feed { from: u64, limit: u16 },
 }
 

@@ -7,12 +7,12 @@ use mt_types::refusal::Refusal;
 use std::alloc::{AllocError, AllocFailed};
 use thiserror::Error;
 
-/// Why a line gives nothing.
+/// Why a line could not be read.
 #[derive(Clone, Copy, Debug, PartialEq, Eq)]
 pub enum LineError {
-    /// There was no memory for what it says.
+    /// An allocation for what the line says was refused.
     Memory,
-    /// It says nothing.
+    /// The line says nothing.
     Bad,
 }
 
@@ -35,7 +35,7 @@ impl<T: Drop> From<AllocFailed<T>> for LineError {
 /// Why a script ended before its last line was answered.
 #[derive(Clone, Copy, Debug, PartialEq, Eq, Error)]
 pub enum ScriptFault {
-    /// A read failed, or more reads were wanted than may be made.
+    /// A read failed, or all reads that may be made were made.
     #[error("the script could not be read")]
     Read,
     /// A write failed, or took nothing.

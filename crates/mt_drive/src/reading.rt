@@ -190,9 +190,9 @@ fn prefix(alloc: Global, text: &[u8]) -> Result<ViewSpec, LineError>
     Ok(ViewSpec::Prefix { key, test })
 }
 
-/// The specification of a view that a text says: `range LO HI TEST`, where HI is a key or `none`, or `prefix KEY TEST`.
-/// A TEST is `any`, `equals COL BYTES` or `atleast COL NUMBER`. Costs a look at each byte, and an allocation or two for
-/// each key and the bytes.
+/// Returns the specification of a view that a text says: `range LO HI TEST`, in which HI is a key or `none`, or
+/// `prefix KEY TEST`. A TEST is `any`, `equals COL BYTES` or `atleast COL NUMBER`. O(n) in the bytes of the text, with
+/// an allocation or two for each key and the bytes.
 #[tactic(auto, unfolding(crate::specs::Reading::spec_of))]
 pub fn read_spec(alloc: Global, text: &[u8]) -> Result<ViewSpec, LineError>
     ensures { Gives (λ s. s) result (spec_of text.now) }
@@ -228,9 +228,9 @@ fn upkeep(alloc: Global, word: &[u8], text: &[u8]) -> Result<Request, LineError>
     }
 }
 
-/// The request that a text says: `get KEY COLS`, `put KEY SETS`, `putif KEY VERSION SETS`, `remove KEY`,
-/// `range START LIMIT COLS`, `tidy KEY` or `build SPEC`, its words parted by one space. Costs a look at each byte, and
-/// an allocation for each key, each list and each column.
+/// Returns the request that a text says: `get KEY COLS`, `put KEY SETS`, `putif KEY VERSION SETS`, `remove KEY`,
+/// `range START LIMIT COLS`, `tidy KEY` or `build SPEC`, its words parted by one space. O(n) in the bytes of the
+/// text, with an allocation for each key, each list and each column.
 #[tactic(auto, unfolding(crate::specs::Reading::request_of))]
 pub fn read_request(alloc: Global, text: &[u8]) -> Result<Request, LineError>
     ensures { Gives (λ r. r) result (request_of text.now) }

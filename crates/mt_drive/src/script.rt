@@ -68,7 +68,7 @@ fn ask(machine: &mut Machine, alloc: Global, event: &Event) -> Reply
     Reply::Came(machine.event(alloc, event))
 }
 
-// A call by pass 0, where no other is open.
+// A call by pass 0, if no other call is open.
 fn alone(machine: &mut Machine, alloc: Global, request: Request) -> Reply
     ensures stands { Leads machine.old (λ past h. DoesAlone machine.old.columns request past result h) machine.new }
     ensures options { IsAsBefore machine.old machine.new }
@@ -110,7 +110,7 @@ fn answer(machine: &mut Machine, alloc: Global, line: &[u8]) -> Result<Reply, Sc
     }
 }
 
-// One more where the line was bad.
+// One more if the line was bad.
 fn count(bad: u64, reply: &Reply) -> u64
     requires { bad < 2 ^ 64 - 1 }
     ensures value { result ≡ bad + bad_lines (reply.now ∷ []) }
@@ -136,7 +136,7 @@ fn send<W: Write>(writer: &mut Sink<W>, alloc: Global, reply: &Reply) -> Result<
     }
 }
 
-// Answers the lines that the source gives, on an empty index.
+// Answers the lines of the source, on an empty index.
 fn play<R: Read, W: Write>(
     machine: &mut Machine,
     alloc: Global,
@@ -163,7 +163,7 @@ fn play<R: Read, W: Write>(
     Ok(bad)
 }
 
-// Why a script can't start: want of memory, or the limit that the options of the index break.
+// Why a script can't start: it is out of memory, or the options of the index break this limit.
 fn start_fault(refusal: Refusal) -> ScriptFault
     ensures { result ≡ start_fault refusal }
 {
@@ -173,14 +173,14 @@ fn start_fault(refusal: Refusal) -> ScriptFault
     }
 }
 
-/// Answers the lines of a script on an empty index, one after the other, and gives the number of bad lines.
+/// Answers the lines of a script on an empty index, one after the other, and returns the number of bad lines.
 ///
 /// A line is `begin PASS REQUEST`, `step CALL`, `finish CALL` or `alone REQUEST`, `apply VIEW`,
 /// `view VIEW FLOOR START LIMIT` or `drop VIEW`, `advance`, `collect`, or `feed FROM LIMIT`, which is answered by a line
-/// for each delta. A line of other bytes is answered `bad line`. What a line says and how an outcome is written is told
-/// in `commands`, `reading` and `showing`. `finish` makes at most 1,000,000 steps.
+/// for each delta. A line of other bytes is answered `bad line`. The modules `commands`, `reading` and `showing` say
+/// what a line asks for and how an outcome is written. `finish` makes at most 1,000,000 steps.
 ///
-/// The writer is given each reply in one piece, and is not flushed. A line costs its event, its steps or its deltas,
+/// Each reply is written in one piece. The writer isn't flushed. A line costs its event, its steps or its deltas,
 /// and some allocations for its words and its reply.
 ///
 /// # Errors

@@ -76,7 +76,7 @@ fn push_sums(out: &mut String, sums: &[u128]) -> Result<(), AllocError>
     Ok(())
 }
 
-/// Writes the text of an answer at the end. On an error a part of it may stand there. Costs what the text is long.
+/// Writes the text of an answer at the end of `out`. On an error a part of it may be there. O(n) in the text.
 pub fn push_answer(alloc: Global, out: &mut String, answer: &Answer) -> Result<(), AllocError>
     ensures { OnOk result (string_bytes out.new ≡ string_bytes out.old ++ answer_text answer.now) }
 {
@@ -147,8 +147,8 @@ fn push_reply(alloc: Global, out: &mut String, reply: &Reply) -> Result<(), Allo
     push_answer(alloc, out, &reply.answer)
 }
 
-/// Writes the text of an outcome at the end, without a line feed. On an error a part of it may stand there. Costs what
-/// the text is long.
+/// Writes the text of an outcome at the end of `out`, without a line feed. On an error a part of it may be there. O(n)
+/// in the text.
 pub fn push_outcome(alloc: Global, out: &mut String, outcome: &Outcome) -> Result<(), AllocError>
     ensures { OnOk result (string_bytes out.new ≡ string_bytes out.old ++ outcome_text outcome.now) }
 {
@@ -198,8 +198,8 @@ pub(crate) fn push_delta(alloc: Global, out: &mut String, delta: &Delta) -> Resu
     push_row_or_none(alloc, out, &delta.after)
 }
 
-/// The line of a delta, without a line feed: `delta N KEY BEFORE AFTER`, a row as VERSION:VALUES, or `none`. Costs what
-/// the text is long.
+/// Returns the line of a delta, without a line feed: `delta N KEY BEFORE AFTER`, with a row as VERSION:VALUES, or
+/// `none`. O(n) in the text.
 pub fn delta_line(alloc: Global, delta: &Delta) -> Result<String, AllocError>
     ensures { IfOk result (λ text. string_bytes text ≡ delta_text delta.now) }
 {

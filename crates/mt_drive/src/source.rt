@@ -1,4 +1,4 @@
-//! The lines of what a reader gives.
+//! The lines in the bytes of a reader.
 
 ghost use Rattle.std.specs.Prelude.{◌≤◌, vec_len};
 ghost use Rattle.mt_streams.specs.Readers.{calls_left};
@@ -16,8 +16,8 @@ const PIECE: usize = 16384;
 // How often a read is made at most, if each time it is interrupted.
 const MAX_TRIES: usize = 1000;
 
-/// A script that is read line by line from a reader, which is called at most 4,294,967,295 times, for 16 KiB each. It
-/// notes whether the last of these calls failed.
+/// A script that is read line by line from a reader. The reader is called at most 4,294,967,295 times, for 16 KiB each
+/// time. The source notes whether the last of these calls failed.
 #[derive(Drop)]
 pub struct Source<R> {
     reader: Counted<R>,
@@ -37,7 +37,7 @@ impl<R: Read> Source<R> {
     ghost use Rattle.mt_drive.specs.Source.{source_kept, source_unread, source_rest, reads_left, lines_left, read_failed};
     ghost use Rattle.mt_drive.specs.declared.fault.ScriptFault.TheVariants.{Read as ReadFault, NoMemory};
 
-    /// A source of what the reader gives. If out of memory for its buffer, the reader is dropped.
+    /// Returns a source of the bytes that are left in `reader`. If out of memory for its buffer, the reader is dropped.
     pub fn new(alloc: Global, reader: R) -> Result<Source<R>, AllocError>
     where
         R: Drop,
@@ -125,8 +125,8 @@ impl<R: Read> Source<R> {
         Ok(count)
     }
 
-    /// The next line without the line feed at its end, or nothing at the end of the input. The reader is called only when
-    /// all that it gave before is taken.
+    /// Returns the next line without the line feed at its end, or `None` at the end of the input. Calls the reader only
+    /// when all bytes that it returned before are taken.
     ///
     /// # Errors
     ///

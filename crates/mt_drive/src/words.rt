@@ -8,7 +8,7 @@ use bytes::Bytes;
 use hex::FromHexError;
 use std::alloc::Global;
 
-/// What stands before the first stop, and what after it.
+/// Returns what is before the first stop, and what is after it, if there is a stop.
 pub fn halves(text: &[u8], stop: u8) -> Option<(&[u8], &[u8])>
     ensures found { MatchOption result (word_at stop text.now ≡ None)
         (λ x. word_at stop text.now ≡ Some (x.0.now, x.1.now)) }
@@ -22,7 +22,7 @@ pub fn halves(text: &[u8], stop: u8) -> Option<(&[u8], &[u8])>
     None
 }
 
-// What stands before the last stop, and what after it.
+// What is before the last stop, and what is after it, if there is a stop.
 fn last_halves(text: &[u8], stop: u8) -> Option<(&[u8], &[u8])>
     ensures { MatchOption result (last_word_at stop text.now ≡ None)
         (λ x. last_word_at stop text.now ≡ Some (x.0.now, x.1.now)) }
@@ -37,7 +37,7 @@ fn last_halves(text: &[u8], stop: u8) -> Option<(&[u8], &[u8])>
     None
 }
 
-/// What stands before the first stop, and what after it. It is a bad line where there is none.
+/// Returns what is before the first stop, and what is after it. If there is no stop, the line is bad.
 pub fn cut(text: &[u8], stop: u8) -> Result<(&[u8], &[u8]), LineError>
     ensures { Gives (λ x. (x.0.now, x.1.now)) result (word_at stop text.now) }
 {
@@ -47,7 +47,7 @@ pub fn cut(text: &[u8], stop: u8) -> Result<(&[u8], &[u8]), LineError>
     }
 }
 
-/// What stands before the last stop, and what after it. It is a bad line where there is none.
+/// Returns what is before the last stop, and what is after it. If there is no stop, the line is bad.
 pub fn cut_last(text: &[u8], stop: u8) -> Result<(&[u8], &[u8]), LineError>
     ensures { Gives (λ x. (x.0.now, x.1.now)) result (last_word_at stop text.now) }
 {
@@ -94,7 +94,7 @@ pub fn number(word: &[u8], most: u64) -> Result<u64, LineError>
     Ok(n as u64)
 }
 
-/// A key or the bytes of a column: hex of either case, or `-` for none. Takes an allocation or two.
+/// Returns a key or the bytes of a column: hex of either case, or `-` for none. Makes an allocation or two.
 pub fn bytes_from(alloc: Global, word: &[u8]) -> Result<Bytes, LineError>
     ensures { Gives (λ b. b) result (bytes_of word.now) }
 {
@@ -111,14 +111,14 @@ pub fn bytes_from(alloc: Global, word: &[u8]) -> Result<Bytes, LineError>
     }
 }
 
-/// What stands between the stops of a list.
+/// A value that is written between the stops of a list.
 pub trait Part: Drop {
     ghost use Rattle.std.specs.Prelude.{ℕ, List, Option};
 
     /// What a text says.
     ghost part_of: { List ℕ → Option Self };
 
-    /// Reads it.
+    /// Returns what `text` says.
     fn read(alloc: Global, text: &[u8]) -> Result<Self, LineError>
         ensures { Gives (λ x. x) result (part_of text.now) };
 }
@@ -155,7 +155,7 @@ impl Part for Bytes {
     }
 }
 
-// Reads one part more.
+// Reads one more part.
 fn push_part<T: Part>(alloc: Global, read: &mut Vec<T>, text: &[u8]) -> Result<(), LineError>
     ensures { Pushes (T.part_of text.now) read.old.items read.new.items result }
 {
@@ -164,7 +164,7 @@ fn push_part<T: Part>(alloc: Global, read: &mut Vec<T>, text: &[u8]) -> Result<(
     Ok(())
 }
 
-/// The parts between stops. Costs what they cost, and a list of them that doubles as it grows.
+/// Returns the parts between stops. Costs what they cost, and a list of them that doubles as it grows.
 pub fn read_parts<T: Part>(alloc: Global, text: &[u8], stop: u8) -> Result<Vec<T>, LineError>
     ensures { Gives (λ v. v.items) result (each T.part_of (parts stop text.now)) }
 {

@@ -4,8 +4,9 @@ use Rattle.std.specs.Global.{Vec}
 use Rattle.mt_types.specs.declared.row.Delta.{Delta}
 use Rattle.mt_shared.specs.Feeds.{FeedsSomewhere}
 
--- These lists were published before and are after, from this number on: those deltas came behind that the index, where its
--- lock was held once, gave of the commits after that number, `most` at most; so many they are.
+-- `before` and `after` are the lists that were published before and after a follow. `after` is `before`, and then the
+-- deltas that the index returned, while its lock was held once, for the commits after the first `from`, at most `most`.
+-- `count` is the number of these deltas.
 pub record Follows (before after : List Delta) (from most count : ℕ) : Type 0 where
   pub deltas : Vec Delta
   pub fed : FeedsSomewhere from most (Ok deltas)

@@ -58,7 +58,7 @@ use Rattle.mt_index.proofs.PastLemmas.{lacks_now}
 use Rattle.mt_index.proofs.ViewEvents.{steps-stand, steps-columns}
 
 -- ---- the machine
--- the call of this number alone is open, after so many steps
+-- the call of this number is the only open one, after `made` steps
 pub record IsRunning (s : MachineView) (number made : ℕ) : Type 0 where
   pub call : Call
   pub paced : call.pace ≡ Node
@@ -116,7 +116,7 @@ begins_running laws s t h pass request number idle st (none, numbered, work, ask
     free n taken = let (k, i, owned) = st.owned n taken in none_among k (subst (λ (l : List (ℕ × Call)). Among k l) idle i)
 
 -- ---- its steps
--- it goes on by a step: of a get, in the same tree
+-- it advances by a step; a step of a get leaves the tree as it was
 pub record GoesFurther (s : MachineView) (work : Work) (number made : ℕ) (t : MachineView) : Type 0 where
   pub runs : IsRunning t number (made + 1)
   pub falls : machine_left t < machine_left s

@@ -1,4 +1,4 @@
--- Applies, pages and drops of views lead from a machine that stands at a history to one that stands at the next.
+-- Applies, pages and drops of views lead from a machine at a history to a machine at the next one.
 use Rattle.std.proofs.Common.{ℕ, zero, suc, ◌≡◌, ◌≤◌, ◌<◌, ◌+◌, ◌-◌, ◌==◌, ◌⊎◌, inl, inr, Bool, true, false, cond, List, [], ◌∷◌, length, take, map, Option, Some, None, refl, sym, ap, subst, ◌∙◌, arith}
 use Rattle.std.specs.Prelude.{nat_lt, MatchBool, Contains}
 use Rattle.std.proofs.Math.Nat.{min-le_left}
@@ -39,7 +39,7 @@ abbrev Views : Type 0
 Views = List (ℕ × StateView)
 
 -- ---- the view that is meant
--- one that stands is found by its number
+-- a view among these is found by its number
 among_state : (low high : ℕ) (vs : Views) (e : ℕ × StateView) → Rises low high vs → Among e vs → (state_at e.0 vs ≡ Some e.1) × (low < e.0)
 among_state low high [] e rises i = elim i [ ]
 among_state low high (v ∷ vs) e rises first = (ap (λ t. cond t (Some e.1) (state_at e.0 vs)) (eq-eqb e.0 e.0 refl), rises.0)

@@ -1,4 +1,4 @@
--- The next epoch, and a collection: each leads from a machine that stands at a history to one that stands at the next.
+-- The next epoch, and a collection: each leads from a machine at a history to a machine at the next one.
 use Rattle.std.proofs.Common.{ℕ, ◌≡◌, ◌≤◌, ◌<◌, ◌+◌, inl, inr, List, [], ◌∷◌, take, drop, Some, refl, sym, ap, subst, ◌∙◌, arith}
 use Rattle.std.specs.Prelude.{All}
 use Rattle.std.proofs.lemmas.List.Elements.{All-drop, All-nil, All-weaker}

@@ -1,4 +1,4 @@
--- Each event leads from a machine that stands at a history to one that stands at the next.
+-- Each event leads from a machine at a history to a machine at the next one.
 use Rattle.std.proofs.Common.{true, false, ℕ, ◌≡◌, ◌+◌, inl, inr, List, [], ◌∷◌, ◌++◌, length, Option, Some, None, IsSome, refl, sym, ap, subst, ◌∙◌, arith, ◌-◌, ◌==◌, Bool, cond, map, ◌≤◌, ◌<◌}
 use Rattle.std.specs.FinMap.{insert, get-empty}
 use Rattle.std.specs.Prelude.{IsTrue as IsTrueBool}
@@ -114,7 +114,7 @@ held_reaches s h st n kept at reads =
     omega (arith, low, is, trim, less)
 
 -- ---- the pace of a call
--- at its begin it has read nothing, and where it visits nodes none of its steps leaves anything read
+-- at its begin it has read nothing, and if it visits whole nodes, none of its steps leaves anything read
 new_paced : (pace : Pace) (work : Work) → IsAtStart work → MayPace pace work
 new_paced FieldPace work begins = tt
 new_paced NodePace (GetWork get) begins = begins.1
@@ -161,11 +161,11 @@ module _ (s : MachineView) (h : History) (n : ℕ) (st : Stands s h) (kept : Cal
   abbrev Leads : Progress → Type 0
   Leads p = WorkBuilds s.tree s.log kept.work p work → IsLog (settled p) → Stands (record { columns = s.columns; epoch = s.epoch; tree = then_tree; log = trimmed (settled p); calls = calls_after n p (record s.calls { calls = with_changed (with_work work) n s.calls.calls }); views = with_building (building_after builds p s.views.building) s.views }) (happening (step_event n) (outcome_of n pass from (newest left) p) 0 ∷ h)
 
-  -- what is true of a build is true after a step by which it goes on
+  -- what is true of a build is still true after a step by which it continues
   reads_then : (p : Progress) → WorkBuilds s.tree s.log kept.work p work → ((refusal : Refusal) → p ≡ Refused refusal → ⊥) → ReadsOf s.columns (moment h).commits f.call.from work
   reads_then p goes_on goes = reads_on s h st f.call.from f.call.began kept.epoch f.related.past f.related.passed kept.work work p (λ reader. let low = held_reaches s h st n kept at reader in let same = f.related.from in omega (arith, low, same)) goes_on request f.call.moves f.related.true unbuilt goes f.related.reads
 
-  -- for how many builds places are kept, where the call goes on, and where it ends
+  -- the number of builds for which places are kept, if the call continues and if it ends
   building_on : s.views.building ≡ total builds_of (with_changed (with_work work) n s.calls.calls)
   building_on =
       let all = builds_before s h st in
@@ -198,7 +198,7 @@ module _ (s : MachineView) (h : History) (n : ℕ) (st : Stands s h) (kept : Cal
   room_end : left.reserved + (held kept.work).reserves ≡ s.log.reserved + 0 → left.reserved ≡ all_reserved (without n s.calls.calls)
   room_end e = let all = st.reserved in let rest = total_without n kept reserves s.calls.calls at in omega (arith, e, all, rest)
 
-  -- who holds the log, where the call goes on, and where it ends
+  -- what holds the log, if the call continues and if it ends
   before : (number : ℕ) → bounds left ≡ bounds s.log → times_held number left.holders ≡ times_held number (map (λ (v : StandingView). v.at) (moment h).views) + total (holds_from number) s.calls.calls
   before number same = ap (λ (b : List ℕ × ℕ × ℕ). times_held number b.0) same ∙ held_before s h st number
 
@@ -619,7 +619,7 @@ module _ (C epoch : ℕ) (a after_tree : ArenaView) (log left : LogView) (calls 
     subst (λ (g : LogView). Stands (seen C epoch after_tree g final kept_views) (happening (step_event n) (outcome_of n pass from (newest left) p) 0 ∷ h)) (sym done) (step_open _ _ n _ h taken st),
   )
 
--- a begin leaves a machine that stands somewhere
+-- a begin leaves the machine with its call
 pub begun-stands : (pace : Pace) (s : MachineView) (pinned_log : LogView) (new : CallsView) (kept_views : ViewsView) (pass : PassNo) (from : ℕ) (request : Request) (work : Work) → fault_of s request ≡ None → request_of work ≡ request → IsNew s.columns (newest s.log) work → from ≡ newest s.log
     → new ≡ record { begun = s.calls.begun + 1; calls = s.calls.calls ++ (s.calls.begun + 1, record { pass = pass; from = from; epoch = s.epoch; pace = pace; work = work }) ∷ [] } → pinned_log ≡ pinned (reads_log (request_of work)) s.log → kept_views ≡ placed (is_build (request_of work)) s.views
     → seen s.columns s.epoch s.tree pinned_log new kept_views ≡ with_call pace s pass work
@@ -673,7 +673,7 @@ new_alive a new chart = record {
     no_node : {node : Node} → ◌≡◌ {A = Option Node} None (Some node) → is_locked node ≡ false → is_marked node ≡ false
     no_node e = absurd (cc)
 
--- so it is a world, where it is an index without a row
+-- so it is a world, if it is an index without a row
 pub new_world : (a : ArenaView) → IsNewTree a → (chart : Chart) → IsIndexAt a 0 [] chart → ((place : Place) (row : Row) → Has (arena_seen a) place row → ⊥) → IsWorld a 0 (record { twins = []; closing = []; chart = chart })
 new_world a new chart index empty = record { index = index; keys = new_keys a empty; heads = new_heads a new chart; alive = new_alive a new chart; twins = new_twins a chart; retired = new_retired a new 0 chart }
 

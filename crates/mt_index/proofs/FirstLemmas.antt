@@ -1,4 +1,4 @@
--- The call that stands by itself, before those in the map.
+-- The call in `first`, before those in the map.
 use Rattle.std.proofs.Common.{ℕ, ◌≡◌, ◌≤◌, ◌+◌, ◌++◌, true, false, [], ◌∷◌, length, Option, Some, None, inl, inr, refl, sym, ap, subst, ◌∙◌, arith}
 use Rattle.std.proofs.lemmas.Bool.Decides.{eqb_tells}
 use Rattle.mt_index.specs.declared.calls.Call.{Call}
@@ -12,7 +12,7 @@ use Rattle.std.specs.Map.{set_value, remove_entry}
 use Rattle.std.specs.Ordering.{nat_cmp}
 use Rattle.std.specs.BTreeMap.{insert_entry, is_at}
 
--- where it has another number
+-- if it has another number
 pub call_other : (number : ℕ) (first : Option (ℕ × Call)) (others : Entries) → is_of number first ≡ false → call_at number (with_first first others) ≡ call_at number others
 call_other number None others is = refl
 call_other number (Some k) others is = call_at-there number k others is
@@ -25,7 +25,7 @@ pub without_other : (number : ℕ) (first : Option (ℕ × Call)) (others : Entr
 without_other number None others is = refl
 without_other number (Some k) others is = without-there number k others is
 
--- where it has this number
+-- if it has this number
 pub call_first : (number : ℕ) (first : Option (ℕ × Call)) (others : Entries) (k : ℕ × Call) → is_of number first ≡ true → first ≡ Some k → call_at number (with_first first others) ≡ Some k.1
 call_first number first others k is there =
     ap (λ (f : Option (ℕ × Call)). call_at number (with_first f others)) there ∙ call_at-here number k others (sym (ap (is_of number) there) ∙ is)
@@ -43,7 +43,7 @@ without_first number first others k is there =
 pub first_there : (number : ℕ) (first : Option (ℕ × Call)) → is_of number first ≡ true → first ≡ None → (P : Type 0) → P
 first_there number first is none P = absurd (let clash : false ≡ true = sym (ap (is_of number) none) ∙ is in cc)
 
--- one more call stands behind all
+-- one more call comes after all others
 pub append_other : (first : Option (ℕ × Call)) (others : Entries) (new : ℕ × Call) → with_first first (others ++ new ∷ []) ≡ with_first first others ++ new ∷ []
 append_other None others new = refl
 append_other (Some k) others new = refl
@@ -107,7 +107,7 @@ kept_call now C call new a after log left Missing finds = absurd finds
 kept_call now C call new a after log left Built finds = subst (λ (c : Call). new ≡ with_work new.work c) finds.1 refl
 kept_call now C call new a after log left (Stepped stepped) finds = finds.1.same_call
 
--- what is written over by itself stays
+-- a change that leaves a call as it was leaves all calls as they were
 unchanged : (change : Call → Call) (number : ℕ) (calls : Entries) (call : Call) → call_at number calls ≡ Some call → change call ≡ call → with_changed change number calls ≡ calls
 unchanged change number [] call there is = refl
 unchanged change number (k ∷ calls) call there is = elim (eqb_tells k.0 number) [

@@ -59,7 +59,7 @@ all_since s h x st now later commits =
 pub all_later : (s : MachineView) (h : History) (x : Happening) (st : Stands s h) → (moment (x ∷ h)).commits ≡ (moment h).commits → Paired (CallStands s.columns s.epoch s.tree st.w (x ∷ h)) 0 s.calls.begun s.calls.calls (moment h).calls
 all_later s h x st commits = all_since s h x st s.epoch (omega arith) commits
 
--- the rows are the same, where the tree has the same
+-- the tree has the rows of the history, if its content is the same as before
 pub rows_still : (s : MachineView) (h : History) (x : Happening) (st : Stands s h) (tree : ArenaView) → SameContent (arena_seen s.tree) (arena_seen tree) → (moment (x ∷ h)).commits ≡ (moment h).commits → HasRowsOf s.columns tree (x ∷ h)
 rows_still s h x st tree same commits key bytes row =
     let alike : rows s.columns (moment (x ∷ h)) ≡ rows s.columns (moment h) = ap (λ (cs : List Change). after s.columns cs) commits in (
@@ -70,7 +70,7 @@ rows_still s h x st tree same commits key bytes row =
 pub keys_later : (s : MachineView) (h : History) (x : Happening) (st : Stands s h) → (moment (x ∷ h)).commits ≡ (moment h).commits → (key : List ℕ) (row : Row) → get (rows s.columns (moment (x ∷ h))) key ≡ Some row → AreBytes key
 keys_later s h x st commits key row is = st.keys key row (sym (ap (λ (cs : List Change). get (after s.columns cs) key) commits) ∙ is)
 
--- the machine then stands in this epoch, with this tree, in this world
+-- the machine is then in this epoch, with this tree, in this world
 module _ (s : MachineView) (h : History) (x : Happening) (st : Stands s h) (now : ℕ) (tree : ArenaView) (w : World) (may : MayHappen s.columns h x.event x.outcome x.opens) (commits : (moment (x ∷ h)).commits ≡ (moment h).commits)
     (begun : (moment (x ∷ h)).begun ≡ (moment h).begun) (calls : (moment (x ∷ h)).calls ≡ (moment h).calls) (views : (moment (x ∷ h)).views ≡ (moment h).views) (built : (moment (x ∷ h)).built ≡ (moment h).built) (epoch : now ≡ (moment (x ∷ h)).epoch) where
   same_holding : holding (moment h) ≡ holding (moment (x ∷ h))

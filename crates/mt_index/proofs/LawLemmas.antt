@@ -1,4 +1,4 @@
--- What the log of a machine that stands at a history tells.
+-- What the log of a machine at a history determines.
 use Rattle.std.proofs.Common.{◌≡◌, ℕ, zero, suc, [], ◌∷◌, ◌+◌, ◌-◌, List, length, drop, take, reverse, ap, sym, refl, ◌∙◌, subst, arith}
 use Rattle.std.specs.Prelude.{slice_get, min}
 use Rattle.std.specs.FinMap.{get, empty}

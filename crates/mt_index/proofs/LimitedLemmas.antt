@@ -1,4 +1,4 @@
--- What an event answers keeps the limits of an index, wherever the machine then stands.
+-- What an event answers keeps the limits of an index, whichever history the machine is then at.
 use Rattle.std.proofs.Common.{ℕ, ◌∷◌}
 use Rattle.mt_types.specs.declared.event.Event.{Event}
 use Rattle.mt_types.specs.declared.event.Outcome.{Outcome}

@@ -1,4 +1,4 @@
--- The list of open calls: what stands in it after a change, and the sum of a number of each call.
+-- The list of open calls: what is in it after a change, and the sum of a number of each call.
 use Rattle.std.proofs.Common.{ℕ, ◌≡◌, ◌≢◌, ◌≤◌, ◌+◌, ◌⊎◌, inl, inr, [], ◌∷◌, ◌++◌, Some, refl, sym, ap, subst, ◌∙◌, arith}
 use Rattle.std.proofs.lemmas.Bool.Decides.{eqb_tells}
 use Rattle.mt_chart.specs.Tree.{Among, first, later}
@@ -14,7 +14,7 @@ reserves call = (held call.work).reserves
 
 -- ---- a call of the list is changed, or ends
 module _ (n : ℕ) (kept : Call) where
-  -- what stands in it then stood in it, or is the changed call
+  -- what is in it then was in it before, or is the changed call
   pub among_changed : (change : Call → Call) (ks : Entries) → call_at n ks ≡ Some kept → (j : ℕ × Call) → Among j (with_changed change n ks) → Among j ks ⊎ (j ≡ (n, change kept))
   among_changed change [] at j i = elim i [ ]
   among_changed change (k ∷ ks) at j i = elim (eqb_tells k.0 n) [
@@ -81,7 +81,7 @@ module _ (n : ℕ) where
         (elim (among_cases k j ks i) [ inl e ↦ subst (λ (z : ℕ × Call). Among z (j ∷ without n ks)) (sym e) first | inr more ↦ later (among_left ks k more ne) ])
   ]
 
-  -- nothing new stands in it where one has ended
+  -- nothing new is in it after one has ended
   pub among_without : (ks : Entries) (j : ℕ × Call) → Among j (without n ks) → Among j ks
   among_without [] j i = elim i [ ]
   among_without (k ∷ ks) j i = elim (eqb_tells k.0 n) [
@@ -92,7 +92,7 @@ module _ (n : ℕ) where
     ]
   ]
 
--- what stands at the number of a call that is changed
+-- what is at the number of a call that is changed
 pub changed_at : (change : Call → Call) (n : ℕ) (kept new : Call) (ks : Entries) → call_at n ks ≡ Some kept → call_at n (with_changed change n ks) ≡ Some new → new ≡ change kept
 changed_at change n kept new [] at now = absurd (cc)
 changed_at change n kept new (k ∷ ks) at now = elim (eqb_tells k.0 n) [

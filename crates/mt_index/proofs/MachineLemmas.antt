@@ -1,4 +1,4 @@
--- What the calls of the machine do to its fields, as its events are told.
+-- What the functions of the machine do to its fields, as the specifications of its events state it.
 use Rattle.std.proofs.Common.{ℕ, ◌≡◌, ◌≤◌, ◌<◌, ◌+◌, ◌⊎◌, inl, inr, length, true, cond, Option, Some, None, refl, sym, ap, subst, ◌∙◌, arith}
 use Rattle.std.specs.Option.{option_map}
 use Rattle.mt_types.specs.Numbers.{greatest_number}
@@ -36,7 +36,7 @@ use Rattle.mt_index.proofs.LaterStands.{seen}
 use Rattle.mt_index.proofs.ViewEvents.{exact_now}
 use Rattle.mt_index.proofs.ApplyStands.{meant_state}
 
--- where a view stands, it stands in a state
+-- if a view exists, it has a state
 pub state_there : (o : Option StateView) (at : ℕ) → option_map (λ (s : StateView). s.at) o ≡ Some at → (state : StateView) × (o ≡ Some state) × (state.at ≡ at)
 state_there None at is = absurd (let clash : ◌≡◌ {A = Option ℕ} None (Some at) = is in cc)
 state_there (Some state) at is = (state, refl, let both : ◌≡◌ {A = Option ℕ} (Some state.at) (Some at) = is in cc)
@@ -45,7 +45,7 @@ pub no_state : (o : Option StateView) → option_map (λ (s : StateView). s.at) 
 no_state None is = refl
 no_state (Some state) is = absurd (let clash : ◌≡◌ {A = Option ℕ} (Some state.at) None = is in cc)
 
--- the view that is meant stands
+-- the view that is meant exists
 pub meant_found : (s : MachineView) (h : History) → Stands s h → (asked number : ℕ) → meant_number s asked ≡ Some number → state_at number s.views.views ≡ None → ⊥
 meant_found s h st asked number meant none =
     let (state, there) = meant_state asked number s.views.built s.views.views st.views.rises meant in

@@ -72,14 +72,14 @@ lookup-call_at number (entry ∷ entries) =
     ap (λ found. cond found (Some entry.1) (lookup (is_at (nat_cmp number)) entries)) (at_number number entry.0)
     ∙ ap (cond (entry.0 == number) (Some entry.1)) (lookup-call_at number entries)
 
--- what the map leaves where it takes a number out
+-- what is left in the map after a number is taken out
 pub remove-without : (number : ℕ) (entries : Entries) → remove_entry (is_at (nat_cmp number)) entries ≡ without number entries
 remove-without number [] = refl
 remove-without number (entry ∷ entries) =
     ap (λ found. cond found entries (entry ∷ remove_entry (is_at (nat_cmp number)) entries)) (at_number number entry.0)
     ∙ ap (λ rest. cond (entry.0 == number) entries (entry ∷ rest)) (remove-without number entries)
 
--- a greater number stands at the end
+-- a greater number is inserted at the end
 pub insert-next : (number : ℕ) (call : Call) (begun : ℕ) (entries : Entries) → AreBegun begun entries → begun < number → insert_entry nat_cmp entries number call ≡ entries ++ (number, call) ∷ []
 insert-next number call begun [] below less = refl
 insert-next number call begun (entry ∷ entries) below less =

@@ -56,7 +56,7 @@ has_rows C a h content keys = record {
   );
 }
 
--- where the tree has no row at a key, there is none by the history
+-- if the tree has no row at a key, there is none by the history
 pub lacks_now : (C : ℕ) (a : ArenaView) (h : History) → HasRowsOf C a h → (key : List ℕ) → AreBytes key → ((row : Row) → HasRow a key row → ⊥) → Lacks C key (moment h)
 lacks_now C a h content key bytes lacks = none (get (rows C (moment h)) key) refl
   where

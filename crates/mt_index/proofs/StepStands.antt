@@ -1,4 +1,4 @@
--- A step of one call leads from a machine that stands at a history to one that stands at the next.
+-- A step of one call leads from a machine at a history to a machine at the next one.
 use Rattle.std.proofs.Common.{ℕ, ◌≡◌, ◌≢◌, ◌≤◌, ◌+◌, ◌⊎◌, ◌↔◌, inl, inr, cond, List, [], ◌∷◌, ◌++◌, length, Option, Some, None, refl, sym, ap, subst, ◌∙◌, arith, drop, map}
 use Rattle.std.specs.FinMap as fin
 use Rattle.std.specs.FinMap.{get}
@@ -282,7 +282,7 @@ now_held s h x holders entries next after_tree calls views held number =
 abbrev pub next_seen : MachineView → ArenaView → LogView → ViewsView → Entries → MachineView
 next_seen s after left views ks = record { columns = s.columns; epoch = s.epoch; tree = after; log = left; calls = record s.calls { calls = ks }; views = views }
 
--- what the views are that a step leaves: those that stood, with so many places for builds
+-- the views after a step: those before it, with `building` places for builds
 abbrev pub with_building : ℕ → ViewsView → ViewsView
 with_building building views = record views { building = building }
 
@@ -315,7 +315,7 @@ module _ (s : MachineView) (h : History) (n : ℕ) (kept : Call) (st : Stands s 
   then_is : (o : Outcome) (m : Moment) → after_step (moment h) f.call o 0 ≡ m → after_call_step (moment h) (call_of n (moment h).calls) o 0 ≡ m
   then_is o m e = ap (λ r. after_call_step (moment h) r o 0) f.of ∙ e
 
-  -- the calls, where this one goes on
+  -- the calls, if this one continues
   pub calls_on : (o : Outcome) (new : OpenCall) (commits : List Change) → after_step (moment h) f.call o 0 ≡ record (moment h) { commits = commits; calls = replace_call new (moment h).calls }
       → new.number ≡ f.call.number → new.pass ≡ f.call.pass → new.request ≡ f.call.request → new.began ≡ f.call.began → new.from ≡ f.call.from → new.committed ≡ (held work).committed
       → ((held work).blocked ≡ (held kept.work).blocked) ⊎ ((held work).blocked ≡ Some (slowest s.log))
@@ -346,7 +346,7 @@ module _ (s : MachineView) (h : History) (n : ℕ) (kept : Call) (st : Stands s 
         paced = paced;
       }))
 
-  -- the calls, where this one ends
+  -- the calls, if this one ends
   pub calls_end : (o : Outcome) → (after_step (moment h) f.call o 0).calls ≡ without_call f.call.number (moment h).calls → HasRowsOf s.columns after_tree (happening (step_event n) o 0 ∷ h) → HasKeys s.columns (happening (step_event n) o 0 ∷ h) → Grows s.columns (moment h) (moment (happening (step_event n) o 0 ∷ h))
       → Paired (R (happening (step_event n) o 0 ∷ h)) 0 s.calls.begun (without n s.calls.calls) (moment (happening (step_event n) o 0 ∷ h)).calls
   calls_end o makes content keys grows =

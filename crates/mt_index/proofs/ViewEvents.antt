@@ -1,4 +1,4 @@
--- Events of views lead from a machine that stands at a history to one that stands at the next: a build's end, applies, pages and drops.
+-- Events of views lead from a machine at a history to one at the next: a build's end, applies, pages and drops.
 use Rattle.std.proofs.Common.{ℕ, ◌≡◌, ◌≤◌, ◌<◌, ◌+◌, ◌-◌, ◌==◌, ◌⊎◌, ◌↔◌, inl, inr, true, cond, List, [], ◌∷◌, ◌++◌, length, take, drop, map, Option, Some, None, refl, sym, ap, subst, ◌∙◌, arith}
 use Rattle.std.specs.Prelude.{count_by}
 use Rattle.std.proofs.lemmas.Bool.Decides.{eqb_tells}
@@ -279,7 +279,7 @@ ends-stand s t n outcome h ends st = elim ends.comes [
   | inr not_ ↦ (0, opens_not_stands s h st n ends.call ends.building ends.is_open ends.is_build ends.is_built t outcome not_)
 ]
 
--- a step leads from a machine that stands at a history to one that stands at the next
+-- a step leads from a machine at a history to a machine at the next one
 pub steps-stand : (s t : MachineView) (n : ℕ) (outcome : Outcome) (h : History) → Steps s n outcome t → Stands s h → (opens : ℕ) × Stands t (happening (step_event n) outcome opens ∷ h)
 steps-stand s t n outcome h (inl none) st = (
   0,

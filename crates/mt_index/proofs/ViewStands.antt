@@ -1,4 +1,4 @@
--- The views of a machine at a history, after each change: one opened, taken on or dropped, and commits of others.
+-- The views of a machine at a history, after each change: a view is opened, advanced or dropped, or a call commits.
 use Rattle.std.proofs.Common.{ℕ, ◌≡◌, ◌≤◌, ◌<◌, ◌+◌, ◌==◌, Bool, true, false, not, cond, List, [], ◌∷◌, ◌++◌, take, map, Some, refl, sym, ap, subst, ◌∙◌, inl, inr, arith}
 use Rattle.std.specs.Prelude.{count_by, min}
 use Rattle.std.proofs.Math.Nat.{min-le_right}
@@ -111,7 +111,7 @@ exact_next s h st number state delta is reaches behind next =
 abbrev pub places_of : Views → List ℕ
 places_of views = map (λ (v : StandingView). v.at) (all_standing views)
 
--- a view that stands holds it from where it stands
+-- each view holds it from the number of commits at which it is
 pub view_holds : (number : ℕ) (state : StateView) (views : Views) → state_at number views ≡ Some state → 0 < times_held state.at (places_of views)
 view_holds number state [] at = absurd (cc)
 view_holds number state (v ∷ vs) at =

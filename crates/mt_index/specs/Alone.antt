@@ -1,4 +1,4 @@
--- What a call that runs alone leaves, at each history at which the machine stands.
+-- What a call that runs alone leaves, whichever history the machine is at.
 use Rattle.std.specs.Prelude.{ℕ, ◌≡◌, ◌≤◌, ◌+◌, ◌⊎◌, [], length}
 use Rattle.std.proofs.Common.{inl, inr}
 use Rattle.mt_types.specs.declared.numbers.PassNo.{PassNo}
@@ -24,7 +24,7 @@ pass_0 = record { 0 = 0 }
 abbrev pub next_call : MachineView → CallNo
 next_call s = record { 0 = s.calls.begun + 1 }
 
--- a get makes no more steps than so many nodes
+-- a get makes at most `nodes` steps
 abbrev pub IsShort : Request → ℕ → ℕ → Type 0
 IsShort (Get key asked) nodes steps = steps ≤ nodes
 IsShort _ nodes steps = Unit {0}
@@ -39,14 +39,14 @@ pub record AnswersFrom (s : MachineView) (h : History) (request : Request) (repl
   pub plain : EndsPlainly s.columns h pass_0 (next_call s) request reply (moment then)
   pub short : IsShort request (occupied s.tree.nodes) (length ran.run.steps + 1)
 
--- a call that ran till it was refused: a get has visited no more nodes than there were
+-- a call that ran until it was refused: a get has visited no more nodes than there were
 abbrev pub RanShortly : (s : MachineView) (h : History) (request : Request) (refusal : Refusal) (then : History)
     → IsTurnedAway pass_0 request h refusal then ⊎ RunsThrough pass_0 (next_call s) request h (Refused refusal) then
     → Type 0
 RanShortly s h request refusal then (inl turned) = Unit {0}
 RanShortly s h request refusal then (inr ran) = IsShort request (occupied s.tree.nodes) (length ran.run.steps + 1)
 
--- Its begin was refused, or it ran till it was refused; nothing has come of it.
+-- Its begin was refused, or it ran until it was refused; it has changed no rows, commits or views.
 pub record RefusesFrom (s : MachineView) (h : History) (request : Request) (refusal : Refusal)
     (t : MachineView) : Type 0 where
   pub then : History
@@ -56,7 +56,7 @@ pub record RefusesFrom (s : MachineView) (h : History) (request : Request) (refu
   pub short : RanShortly s h request refusal then ran
   pub nothing : EndsRefused s.columns h request refusal (moment then)
 
--- wherever the machine stood
+-- whichever history the machine was at
 abbrev pub AnswersPlainly : MachineView → Request → Reply → MachineView → Type 0
 AnswersPlainly s request reply t = (h : History) → Stands s h → AnswersFrom s h request reply t
 

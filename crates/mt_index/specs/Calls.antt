@@ -21,7 +21,7 @@ pub record CallsView : Type 0 where
   pub begun : ℕ  -- how many calls have begun
   pub calls : List (ℕ × Call)  -- those that are open with their numbers, in the order of their begins
 
--- the call that stands by itself, if there is one, and then the others
+-- the call in `first`, if there is one, and then the others
 abbrev pub with_first : Option (ℕ × Call) → List (ℕ × Call) → List (ℕ × Call)
 with_first None others = others
 with_first (Some first) others = first ∷ others

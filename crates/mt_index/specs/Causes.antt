@@ -17,13 +17,13 @@ use Rattle.mt_index.specs.declared.calls.Call.{Call}
 use Rattle.mt_index.specs.Calls.{call_at}
 use Rattle.mt_index.specs.Stands.{MachineView}
 
--- the call waits for what stands in the tree
+-- the call waits for what is in the tree
 abbrev pub WaitsFor : MachineView → Option Call → Type 0
 WaitsFor s None = ⊥
 WaitsFor s (Some call) = WorkWaits call.pace s.tree call.work Waits
 
--- the call of this number, before its step and after it, where it goes on: a put or remove comes to be failed only for
--- a fault that stands where it makes ready, and for want of memory only where none stands
+-- the call of this number, before and after a step by which it continues: a put or remove fails only for a fault at the
+-- node at which it makes ready, or, if there is none, because it is out of memory
 abbrev pub FailsFor : MachineView → ℕ → MachineView → Type 0
 FailsFor s number t = (before after : Call) → call_at number s.calls.calls ≡ Some before
     → call_at number t.calls.calls ≡ Some after → WorkFails s.tree s.log before.work WentOn after.work
@@ -32,8 +32,8 @@ FailsFor s number t = (before after : Call) → call_at number s.calls.calls ≡
 abbrev pub SpentFor : MachineView → Call → Refusal → Type 0
 SpentFor s call refusal = (refusal ≡ Spent) × (greatest_number ≤ s.views.built) × IsBuiltWork call.work
 
--- the call is refused for what it had failed for; a get or range, for want of memory at a border; a build for that, or
--- for the number of its view
+-- the call is refused for what it had failed for; a get or range, because it is out of memory at a border; a build, for
+-- that too, or for the number of its view
 abbrev pub RefusedFor : MachineView → Option Call → Refusal → Type 0
 RefusedFor s None refusal = refusal ≡ NoSuchCall
 RefusedFor s (Some call) refusal = WorkRefuses s.tree call.work refusal ⊎ SpentFor s call refusal
@@ -45,15 +45,15 @@ AllBeganAfter calls node = (k : ℕ × Call) → Among k calls → node.epoch < 
 abbrev pub OneBeganBy : List (ℕ × Call) → Retired → Type 0
 OneBeganBy calls node = (k : ℕ × Call) × Among k calls × (k.1.epoch ≤ node.epoch)
 
--- WHAT A COLLECTION FREES: exactly the retired nodes since whose retiring each open call began, which are the first so
--- many, of those that there are
+-- WHAT A COLLECTION FREES: exactly the retired nodes since whose retiring each open call began, which are the first
+-- `count` of those that there are
 pub record FreesSo (s : MachineView) (count : ℕ) (t : MachineView) : Type 0 where
   pub few : count ≤ length s.tree.retired
   pub left : t.tree ≡ given_back count s.tree
   pub freed : All (AllBeganAfter s.calls.calls) (take count s.tree.retired)
   pub kept : All (OneBeganBy s.calls.calls) (drop count s.tree.retired)
 
--- WHY A CALL WAITS, FAILS OR IS REFUSED, by the machine before the step and after it. It waits only where the node that
+-- WHY A CALL WAITS, FAILS OR IS REFUSED, by the machine before the step and after it. It waits only if the node that
 -- its step visits is marked deleted; or, for a put or remove, is a border that is locked or, while it posts, an
 -- interior that is; or, for a tidy, is the locked border before the one that it unlinks; or, for a get, range or build
 -- that reads fields, is a border that has a flag set or was changed since it began to read it. So none of these three

@@ -60,7 +60,7 @@ pub record StepsToEnd (s : MachineView) (request : Request) (last : Outcome) (t 
   pub outcomes : List Outcome
   pub steps : StepsHappen begun (next_call s) (outcomes ++ last ∷ []) t
 
--- or its begin, where that is refused
+-- or its begin, if that is refused
 unfoldable pub HappensAlone : MachineView → Request → Outcome → MachineView → Type 0
 HappensAlone s request last t = Happens s (Begin pass_0 request) last t ⊎ StepsToEnd s request last t
 
@@ -72,7 +72,7 @@ pub record IsOpened (options : Options) (s : MachineView) : Type 0 where
 
 -- A RUN: these events, with these outcomes, happened one after the other on an empty index, and led to this machine;
 -- each outcome was one that its event may have; so each get, each range and each page of a view is right; and the
--- machine can go on from there.
+-- machine can continue from there.
 pub record IsRun (options : Options) (events : List Event) (outcomes : List Outcome) (machine : MachineView)
     (h : History) : Type 0 where
   pub told : GoesOn [] events outcomes h

@@ -12,6 +12,6 @@ abbrev pub feed_fault : LogView → ℕ → ℕ → Option Refusal
 feed_fault log from limit =
     option_or (limit_fault limit) (refused_if (nat_lt from log.held_after) (Behind log.held_after))
 
--- the deltas of the commits after a number that a log has, so many at most
+-- the deltas that a log has of the commits after a number, at most `limit`
 abbrev pub deltas_after : LogView → ℕ → ℕ → List Delta
 deltas_after log from limit = take limit (drop (from - log.held_after) log.deltas)

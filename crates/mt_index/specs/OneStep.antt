@@ -13,7 +13,7 @@ use Rattle.mt_index.specs.declared.calls.Call.{Call}
 use Rattle.mt_index.specs.Calls.{call_at}
 use Rattle.mt_index.specs.Stands.{MachineView}
 
--- the call of this number, before its step and after it, where it goes on
+-- the call of this number, before and after a step by which it continues
 abbrev pub GoesSo : MachineView → ℕ → Progress → MachineView → Type 0
 GoesSo s number p t = (before after : Call) → call_at number s.calls.calls ≡ Some before
     → call_at number t.calls.calls ≡ Some after → WorkFollows before.pace s.tree s.log before.work p after.work
@@ -23,8 +23,8 @@ abbrev pub EndsSo : MachineView → ℕ → Progress → Type 0
 EndsSo s number p = (before : Call) → call_at number s.calls.calls ≡ Some before
     → IsBuiltWork before.work ⊎ ((last : Work) × WorkFollows before.pace s.tree s.log before.work p last)
 
--- A STEP OF A CALL IS ONE STEP OF ITS KIND: it visits one node, of which a get, range or build reads one field where it
--- is a border; or it takes one delta; and what it comes to is told by the tree before it
+-- A STEP OF A CALL IS ONE STEP OF ITS KIND: it visits one node, of which a get, range or build reads one field if it is
+-- a border; or it takes one delta. The tree before the step determines what the step comes to.
 abbrev pub IsOneStep : MachineView → Event → Outcome → MachineView → Type 0
 IsOneStep s (Step call) Moved t = GoesSo s call.0 WentOn t
 IsOneStep s (Step call) Again t = GoesSo s call.0 Waits t

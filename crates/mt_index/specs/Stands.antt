@@ -1,4 +1,4 @@
--- The machine as contracts see it, and at which histories it stands.
+-- The machine as contracts see it, and the histories that it is at.
 use Rattle.std.specs.Option.{option_map}
 use Rattle.std.specs.Prelude.{Result, Ok, Err, ℕ, ◌+◌, ◌-◌, ◌≡◌, ◌≤◌, ◌<◌, ◌==◌, ◌⊎◌, ◌↔◌, true, if◌then◌else◌, min, Bool, List, [], ◌∷◌, ◌++◌, length, drop, map, filter, Option, Some, None}
 use Rattle.std.specs.FinMap.{get}
@@ -65,10 +65,10 @@ abbrev pub HasRowsOf : ℕ → ArenaView → History → Type 0
 HasRowsOf C a h = (key : List ℕ) → AreBytes key → (row : Row) → HasRow a key row
     ↔ (get (rows C (moment h)) key ≡ Some row)
 
--- the moments of a call that began when so much had happened, and so many commits there were, as arenas: a row that one
--- of them has was there at some moment since, a key that one of them lacks had no row at some moment since, and a key
--- that was there at each moment since has a row in each of them; and the deltas of the commits since lead from the rows
--- of each to those of the next
+-- the moments of a call that began after `began` events and `from` commits, as arenas: a row that one of them has was
+-- there at some moment since, a key that one of them lacks had no row at some moment since, and a key that was there at
+-- each moment since has a row in each of them; and the deltas of the commits since lead from the rows of each to those
+-- of the next
 pub record IsPast (C began from : ℕ) (h : History) (arenas : List Arena) : Type 0 where
   pub stood : (asked key : List ℕ) (row : Row) → AreBytes key → Stood (shown asked) arenas (place_of key) row
       → Sometime began (Shows C key asked row) h
@@ -79,8 +79,8 @@ pub record IsPast (C began from : ℕ) (h : History) (arenas : List Arena) : Typ
   pub goes : GoesBy (rows C (moment h) ∷ earlier) (drop from (deltas_of C (moment h).commits))
   pub reached : from ≤ length (moment h).commits
 
--- from which numbers of commits the log is held: by each view that stands, from its own; by each open call that holds
--- it, from its begin
+-- the numbers of commits from which the log is held: by each view, from its own; by each open call that holds it, from
+-- the number at its begin
 abbrev pub holding : Moment → List ℕ
 holding m =
     map (λ (v : StandingView). v.at) m.views
@@ -107,7 +107,7 @@ pub record CallStands (C now : ℕ) (a : ArenaView) (w : World) (h : History) (k
   pub reads : ReadsOf C (moment h).commits call.from kept.1.work
   pub paced : MayPace kept.1.pace kept.1.work
 
--- the machine stands at a history: it is one to which this history may have led
+-- the machine is at a history: this history may have led to it
 pub record Stands (s : MachineView) (h : History) : Type 0 where
   -- each outcome was one that its event may have
   pub legal : Legal s.columns h
@@ -122,7 +122,7 @@ pub record Stands (s : MachineView) (h : History) : Type 0 where
   pub content : HasRowsOf s.columns s.tree h
   pub keys : (key : List ℕ) (row : Row) → get (rows s.columns (moment h)) key ≡ Some row → AreBytes key
   -- the log has exactly the deltas of the commits after the least number from which it is held, and of the last ones
-  -- that it keeps for nobody
+  -- that it keeps for no reader
   pub logged : s.log.deltas ≡ drop s.log.held_after (deltas_of s.columns (moment h).commits)
   pub trimmed : s.log.held_after ≡ min (held_from (moment h)) (length (moment h).commits - s.log.keep)
   -- it is held from each number as often as views and open calls hold it from there
@@ -136,7 +136,7 @@ pub record Stands (s : MachineView) (h : History) : Type 0 where
   pub owned : AllOwned s.tree w s.calls.calls
   pub reserved : s.log.reserved ≡ all_reserved s.calls.calls
 
--- how much the log may hold for the slowest, and how much it keeps for nobody
+-- how much the log may hold for the slowest reader, and how much it keeps for no reader
 abbrev pub HasBounds : ℕ → ℕ → LogView → Type 0
 HasBounds feed keep log = (log.feed ≡ feed) × (log.keep ≡ keep)
 
@@ -235,7 +235,7 @@ built_outcome pass number from to (Ok view) =
     })
 built_outcome pass number from to (Err refusal) = Refused refusal
 
--- a build's view is opened, and holds the log from where it stands
+-- a build's view is opened, and holds the log from the number of commits at which it is
 pub record Opens (s : MachineView) (number : ℕ) (call : Call) (state : StateView) (outcome : Outcome)
     (t : MachineView) : Type 0 where
   pub holders : List ℕ
@@ -252,7 +252,7 @@ pub record Opens (s : MachineView) (number : ℕ) (call : Call) (state : StateVi
       })
   pub is_next : t ≡ call_ended number holders (with_view state s.views) s
 
--- or it isn't opened, for want of memory or of a number
+-- or it isn't opened, because it is out of memory or no number is left
 pub record OpensNot (s : MachineView) (number : ℕ) (call : Call) (outcome : Outcome) (t : MachineView) : Type 0 where
   pub refusal : Refusal
   pub why : (refusal ≡ NoMemory) ⊎ ((refusal ≡ Spent) × (greatest_number ≤ s.views.built))
@@ -284,7 +284,7 @@ meant_number s asked = option_map (λ (v : StandingView). v.number) (meant_view 
 abbrev pub none_meant : ℕ → Outcome
 none_meant asked = if asked == 0 then Current else Refused NoSuchView
 
--- a view that is behind is taken on by the delta of the next commit, and holds the log from there
+-- a view that is behind is advanced by the delta of the next commit, and then holds the log from there
 pub record TakesOn (s : MachineView) (number : ℕ) (state : StateView) (outcome : Outcome)
     (t : MachineView) : Type 0 where
   pub behind : state.at < newest s.log
@@ -311,7 +311,7 @@ abbrev pub Applies : MachineView → ℕ → Outcome → MachineView → Type 0
 Applies s asked outcome t =
     ((meant_number s asked ≡ None) × (outcome ≡ none_meant asked) × (t ≡ s)) ⊎ AppliesTo s asked outcome t
 
--- what is answered where a page of a view in this state is asked for
+-- what is answered if a page of a view in this state is asked for
 abbrev pub ReadsState : Option StateView → ℕ → List ℕ → ℕ → Outcome → Type 0
 ReadsState None floor start limit outcome = outcome ≡ Refused NoSuchView
 ReadsState (Some state) floor start limit outcome =
@@ -347,7 +347,7 @@ Advances s outcome t =
     ((greatest_number ≤ s.epoch) × (outcome ≡ Refused Spent) × (t ≡ s))
     ⊎ ((s.epoch < greatest_number) × (outcome ≡ Epoch (s.epoch + 1)) × (t ≡ record s { epoch = s.epoch + 1 }))
 
--- the epoch is that in which the oldest open call began, or where none is open, the one that is to come
+-- the epoch is that in which the oldest open call began, or, if none is open, the next one
 abbrev pub IsOldest : ℕ → ℕ → Option ℕ → Type 0
 IsOldest now before None = before ≡ now + 1
 IsOldest now before (Some began) = before ≡ began

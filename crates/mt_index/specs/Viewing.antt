@@ -1,4 +1,4 @@
--- What is true of views that stand, and of builds that are open, by the commits of the history.
+-- What is true of views, and of open builds, by the commits of the history.
 use Rattle.std.specs.Prelude.{ℕ, ◌+◌, ◌-◌, ◌≡◌, ◌≤◌, List, [], ◌∷◌, length, take, drop, count_by, Option, Some, None}
 use Rattle.mt_types.specs.Rows.{after}
 use Rattle.mt_types.specs.declared.row.Change.{Change}
@@ -16,8 +16,8 @@ use Rattle.mt_works.specs.declared.work.Work.{Work}
 use Rattle.mt_works.specs.declared.work.Work.TheVariants.{Build}
 
 -- ---- views
--- a view stands at a number of commits that there were, and is exactly what its specification gives afresh on the rows
--- after so many
+-- a view is at a number of commits that there were, and its state is exactly what its specification yields on the rows
+-- after these commits
 pub record IsExact (C : ℕ) (m : Moment) (view : ℕ × StateView) : Type 0 where
   pub reached : view.1.at ≤ length m.commits
   pub state : IsStateOf C m (standing view) view.1
@@ -26,13 +26,13 @@ abbrev pub AreExact : ℕ → Moment → List (ℕ × StateView) → Type 0
 AreExact C m [] = Unit {0}
 AreExact C m (view ∷ views) = IsExact C m view × AreExact C m views
 
--- the state is that of the view of this number, which stands: exactly what its specification gives afresh there
+-- the state is that of the view of this number, which exists: exactly what its specification yields there
 pub record CopiesView (C : ℕ) (m : Moment) (number : ℕ) (state : StateView) : Type 0 where
   pub view : StandingView
   pub there : view_of number m.views ≡ Some view
   pub is_its : IsStateOf C m view state
 
--- the views that stand are those of the history, each is exact, and a place is kept for each build that is open
+-- the views are those of the history, each is exact, and a place is kept for each open build
 pub record ViewsStand (C : ℕ) (m : Moment) (views : ViewsView) : Type 0 where
   pub built : views.built ≡ m.built
   pub standing : m.views ≡ all_standing views.views
@@ -46,7 +46,7 @@ pub record ViewsStand (C : ℕ) (m : Moment) (views : ViewsView) : Type 0 where
 abbrev pub deltas_between : ℕ → List Change → ℕ → ℕ → List Delta
 deltas_between C commits from upto = take (upto - from) (drop from (deltas_of C commits))
 
--- while a build scans, its view stands at the commits of its begin; then the deltas that it is still to take lead it to
+-- while a build scans, its view is at the commits of its begin; then the deltas that it is still to take lead it to
 -- the rows after the last of them
 abbrev pub ReadsFrom : ℕ → List Change → ℕ → Option ℕ → StateView → Type 0
 ReadsFrom C commits from None state = state.at ≡ from
@@ -54,13 +54,13 @@ ReadsFrom C commits from (Some upto) state =
     (from ≤ state.at) × (state.at ≤ upto) × (upto ≤ length commits)
     × LeadsTo (deltas_between C commits state.at upto) (after C (take upto commits)) state
 
--- what is true of a build that began at so many commits; of other calls nothing is said
+-- what is true of a build that began after `from` commits; it states nothing of other calls
 abbrev pub ReadsOf : ℕ → List Change → ℕ → Work → Type 0
 ReadsOf C commits from (Build building) =
     (building.build.state.columns ≡ C) × ReadsFrom C commits from building.upto building.build.state
 ReadsOf C commits from _ = Unit {0}
 
--- a view has been taken on by the delta of the next commit
+-- a view has been advanced by the delta of the next commit
 pub record TakesView (number at : ℕ) (log : LogView) (old : ViewsView) (state : StateView)
     (new : ViewsView) : Type 0 where
   pub delta : Delta

@@ -17,7 +17,7 @@ const RIGHT: RightLink = RightLink {
     node: NodeNo(2),
 };
 
-// Where the scan of a view's keys goes from such a border.
+// The next move of the scan of a view's keys, after an empty border with this right link.
 fn from_border(alloc: Global, spec: ViewSpec) -> Result<ScanMove, Refusal> {
     let mut build = Build::new(alloc, 1, spec, 0)?;
     let mut border = Border::new(alloc, 0, 0);
@@ -25,7 +25,7 @@ fn from_border(alloc: Global, spec: ViewSpec) -> Result<ScanMove, Refusal> {
     Ok(build.visit(alloc, Listed::Border(&border))?)
 }
 
-// And where from what was read of it.
+// The next move of that scan, after what was read of that border.
 fn from_what_was_read(alloc: Global, spec: ViewSpec) -> Result<ScanMove, Refusal> {
     let mut build = Build::new(alloc, 1, spec, 0)?;
     Ok(build.visit(alloc, Listed::Entries(&[], Some(RIGHT)))?)

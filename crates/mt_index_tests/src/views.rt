@@ -56,7 +56,7 @@ fn pairs_read(alloc: Global) -> Result<Pairs, Refusal> {
     Ok(Pairs::from_vec(pairs))
 }
 
-// Of the rows from key b on. It stands at commit 7, and key c has its row of commit 3.
+// A state of the rows from key b on. It is at commit 7, and the row of key c is of commit 3.
 #[test]
 fn state_over_rows(rt: HostRuntime) -> Result<(), Fail> {
     let alloc = rt.alloc();

@@ -16,7 +16,7 @@ use Rattle.mt_interior.specs.declared.child.Child.{Child}
 pub lows_part : (slice : ℕ) (children : List Child) → IsRising children → IsPartitionedBy (λ child. nat_le child.low slice) children
 lows_part slice children rising = IsPartitionedBy-leb (λ (child : Child). child.low) children slice rising.lows
 
--- where a search parts them is how many they are
+-- a search parts the list at their number
 pub parted_at : (slice place : ℕ) (children : List Child) (d : Child) → place ≤ length children →
     IsPartitionPoint (λ child. nat_le child.low slice ≡ true) (λ child. nat_le child.low slice ≡ false) children place → place ≡ children_up_to slice children
 parted_at slice place children d within parts =

@@ -50,11 +50,11 @@ renamed place node level [] = []
 renamed zero node level (child ∷ children) = record child { node = node; level = level } ∷ children
 renamed (suc place) node level (child ∷ children) = child ∷ renamed place node level children
 
--- the node once it names another in place of the child at a place
+-- the node once it names another instead of the child at a place
 abbrev pub with_bypass : InteriorView → ℕ → NodeNo → ℕ → InteriorView
 with_bypass i place node level = with_children i (renamed place node level i.children)
 
--- the node once it has only the first so many children
+-- the node once it has only the first n children
 abbrev pub with_first : InteriorView → ℕ → InteriorView
 with_first i count = with_children i (take count i.children)
 

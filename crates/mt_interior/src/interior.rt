@@ -18,13 +18,13 @@ use std::marker::Model;
 /// The most children of an interior node.
 pub const MAX_CHILDREN: usize = 16;
 
-/// A full interior node is split before this place: it keeps so many children, and the others go to a new one.
+/// A full interior node is split before this place: it keeps this many children, and the others go to a new node.
 pub const KEPT_CHILDREN: usize = 8;
 
 /// An interior node: it leads a search for a slice to a child of a lower level (Masstree, EuroSys 2012, section 4.2).
 ///
-/// It has at most sixteen children, in the order of their lows; the first child's low is its own. It is an aid only:
-/// where the child that it leads to is too far to the left, right links do the rest. The children lie in the node
+/// It has at most sixteen children, in the order of their lows; the first child's low is its own. It is only an aid:
+/// if the child to which it leads is too far to the left, right links do the rest. The children are stored in the node
 /// itself.
 #[derive(Drop)]
 pub struct Interior {
@@ -193,7 +193,7 @@ impl Interior {
         self.version.mark_deleted();
     }
 
-    /// Gives a node that has no child these ones. Costs a copy of each.
+    /// Adds these children to a node that has none. Costs a copy of each.
     pub fn fill(&mut self, children: &[Child])
         requires empty { self.old.children ≡ [] }
         requires sound { IsInterior (with_children self.old children.now) }
@@ -229,7 +229,7 @@ impl Interior {
         self.children.remove(place);
     }
 
-    /// Names another node, of this level, in place of the child at a place, whose low stays. Constant cost.
+    /// Names another node, of this level, instead of the child at a place. The child's low stays. Constant cost.
     pub fn bypass(&mut self, place: usize, node: NodeNo, level: u8)
         requires within { place < length self.old.children }
         requires lower { level < self.old.level }
@@ -243,7 +243,7 @@ impl Interior {
     ///
     /// # Errors
     ///
-    /// `NoMemory` where the allocation is refused.
+    /// `NoMemory` if the allocation is refused.
     pub fn copy_upper(&self, alloc: Global, place: usize) -> Result<Items<Child>, NoMemory>
         requires { place ≤ length self.now.children }
         ensures { IfOk result (λ children. children ≡ drop place self.now.children) }
@@ -252,7 +252,7 @@ impl Interior {
         Ok(Items::from_vec(upper))
     }
 
-    /// Keeps the first so many children, one at least. Costs a write of each that goes.
+    /// Keeps the first `count` children, at least one. Costs a write of each child that is dropped.
     pub fn keep_first(&mut self, count: usize)
         requires some { 1 ≤ count }
         requires within { count ≤ length self.old.children }

@@ -1,4 +1,4 @@
--- A posting that runs alone never waits, but where it walks at a node that is marked deleted; and it runs on alone.
+-- A posting that runs alone waits only if it walks at a node that is marked deleted; and it continues alone.
 use Rattle.std.proofs.Common.{ℕ, suc, ◌≡◌, ◌≤◌, ◌<◌, ◌⊎◌, inl, inr, List, [], ◌∷◌, Bool, true, false, Option, Some, None, IsSome, refl, sym, ap, subst, ◌∙◌, arith}
 use Rattle.mt_types.specs.declared.numbers.NodeNo.{NodeNo}
 use Rattle.mt_interior.specs.Head.{HeadView}
@@ -38,7 +38,7 @@ pub unless : (b : Bool) → (b ≡ true → ⊥) → b ≡ false
 unless true not_so = absurd (not_so refl)
 unless false not_so = refl
 
--- stays so where nothing is marked
+-- stays so if nothing is marked
 unmarked_kept : (a after : ArenaView) → MarksNone a after → (number : ℕ) → IsUnmarked a number → IsUnmarked after number
 unmarked_kept a after marks number unmarked = unless (mark_of (node_at after.nodes number)) (λ e. (let clash : false ≡ true = sym unmarked ∙ marks number e in cc))
 
@@ -110,7 +110,8 @@ module _ (a : ArenaView) (posting : Posting) (w : World) (now begun : ℕ) (pref
     at_interior i named (inr (stops, inr (full, inl (below, goes)))) = goes_there after posting then (HalfWanted node) goes tt
     at_interior i named (inr (stops, inr (full, inr (most, (split, some, is))))) = subst (λ (s : PostStage). WalksUnmarked after s) (sym is) tt
 
--- A LONE POSTING NEVER WAITS: where all that is taken is its own, no node that is on and not locked is marked deleted, and the node where it walks is on
+-- A LONE POSTING NEVER WAITS if all that is taken is its own, no node that is on and not locked is marked deleted, and
+-- the node at which it walks is on
 pub lone_posting_never_waits : (a : ArenaView) (posting : Posting) (w : World) (now begun : ℕ) → IsWorld a now w → PostingIsTrue begun posting a w → ((number : ℕ) → IsTaken a w number → Among number (owned posting))
     → UnlockedAreUnmarked a w → ((node : NodeNo) → posting.stage ≡ Walks node → IsOn w.chart node.0) → PostWaits a posting Waits → ⊥
 lone_posting_never_waits a posting w now begun world (prefix, t) taken marks stands waits = go posting.stage refl t.stage taken waits
@@ -169,7 +170,7 @@ module _ (a after : ArenaView) (posting then : Posting) (w : World) (now begun :
   stage_unmarked (HalfPosted posted) marks truth own goes = goes_there after posting then (HalfCut posted.half.node) goes tt
   stage_unmarked (HalfCut half) marks truth own goes = again marks goes
 
-  -- where it waits it walked at a marked node
+  -- if it waits, it walked at a marked node
   pub waits_marked : (stage : PostStage) → PostStageIsTrue begun lone.true.0 posting.half posting.low posting.waiting stage a w → ((number : ℕ) → IsTaken a w number → Among number (stage_owns posting.half.0 posting.waiting stage))
       → PostStageWaits a stage Waits → WalksUnmarked a stage → ⊥
   waits_marked (Walks node) truth own held unmarked = never_waits a posting w now begun lone.true.0 node lone.world lone.true.1.border lone.true.1.waiting truth own unmarked held
@@ -204,7 +205,7 @@ lone_step a after posting Waits then step = λ now begun w before lone.
     )
 lone_step a after posting (Ended end) then step = tt
 
--- A LONE POSTING ENDS: so many steps more are left after each
+-- A LONE POSTING ENDS: if `steps` more steps are left after a step, at least one more was left before it
 one_step : (now begun steps : ℕ) (a after : ArenaView) (posting : Posting) (p : Progressed) (then : Posting) (w : World) → begun ≤ now → RunsAlone now begun posting a w → WalksUnmarked a posting.stage → ((end : PostEnd) → p ≡ Ended end → ⊥) → IsArena a → IsArena after
     → PostStep a after posting p then → ((next : World) → RunsAlone now begun then after next → WalksUnmarked after then.stage → steps ≤ steps_left after then) → suc steps ≤ steps_left a posting
 one_step now begun steps a after posting Moved then w before lone unmarked goes_on sound sound_after one more =

@@ -71,7 +71,7 @@ still_false a head root not_still = go (is_root_still a head root) (λ e. not_st
     go true off = absurd (off refl)
     go false off = refl
 
--- the same where the heads are the same
+-- the same if the heads are the same
 same_still : (a after : ArenaView) (head : NodeNo) (root : Root) → SameHeads a after → is_root_still after head root ≡ is_root_still a head root
 same_still a after head root same = ap (λ (o : Option HeadView). has_root o root) (same head.0)
 
@@ -88,7 +88,7 @@ interior_level (Some (Head h)) i e = absurd (cc)
 interior_level (Some (Interior x)) i e = let same : interior_seen x ≡ i = cc in ap (λ (v : InteriorNode). v.level) same
 interior_level (Some (Border b)) i e = absurd (cc)
 
--- what stands at a level has so many
+-- a node at a level has `level` kinds below it
 kinds_at : (a : ArenaView) (chart : Chart) (number level low : ℕ) (prefix : List ℕ) (standing : Standing) → IsTree (arena_seen a) chart → chart number ≡ Some (spot (at_level level) prefix low standing) → kinds_below (node_at a.nodes number) ≡ level
 kinds_at a chart number zero low prefix (on posted) tree place = let (b, there, low_is) = tree.borders number prefix low posted place in border_level (node_at a.nodes number) b there
 kinds_at a chart number zero low prefix (gone epoch) tree place = let (b, there, marked) = tree.gone_borders number prefix low epoch place in border_level (node_at a.nodes number) b there
@@ -147,25 +147,25 @@ module _ (a after : ArenaView) (posting then : Posting) (w next : World) (now be
       let so : suc free ≡ free_after = omega (arith, fewer, within) in
       falls frame frames is (subst (λ (m : ℕ). Posts free (frame ∷ left) m frames) so posts)
 
-  -- the frames where it goes to a stage
+  -- the frames if it goes to a stage
   goes_there : (stage : PostStage) → GoesTo posting then stage → frames_of after then ≡ stage_frame after posting.head stage ∷ left
   goes_there stage goes = ap (λ (t : Posting). frames_of after t) goes
 
-  -- where a new half that waited is named, or left out
+  -- if a new half that waited is named, or left out
   named_there : IsNamed posting then → frames_of after then ≡ once_posted left
   named_there (split, some, is) = ap (λ (s : PostStage). stage_frame after then.head s ∷ waiting_frames then.waiting) is ∙ ap (λ (l : List Split). once_posted (waiting_frames l)) (sym some)
 
   left_out_there : (why : LeftOutCause) → IsLeftOut posting then why → frames_of after then ≡ once_left_out left
   left_out_there why (split, some, is) = ap (λ (s : PostStage). stage_frame after then.head s ∷ waiting_frames then.waiting) is ∙ ap (λ (l : List Split). once_left_out (waiting_frames l)) (sym some)
 
-  -- where it begins its way again
+  -- if it begins its way again
   at_head : kinds_below (node_at after.nodes posting.head.0) ≡ 16
   at_head = some_head after posting.head.0 (head_there after next begun posting.head.0 prefix now world_after (known_kept begun posting.head.0 top prefix 0 w.chart next.chart evolves known))
 
   walks_again : GoesTo posting then (Walks posting.head) → frames_of after then ≡ walks 16 ∷ left
   walks_again goes = goes_there (Walks posting.head) goes ∙ ap (λ (k : ℕ). walks k ∷ left) at_head
 
-  -- what stands at a level has as many kinds below it after the step
+  -- a node at a level has as many kinds below it after the step
   kept_level : (number level low : ℕ) (standing : Standing) → w.chart number ≡ Some (spot (at_level level) prefix low standing) → kinds_below (node_at after.nodes number) ≡ level
   kept_level number level low standing place =
       let kept = known_kept 0 number (at_level level) prefix low w.chart next.chart all_evolve (record { standing = standing; place = place; since = λ epoch e. omega arith }) in

@@ -237,7 +237,7 @@ module _ (a : ArenaView) (posting : Posting) (interior spare : NodeNo) (is : pos
     abbrev filled : ArenaView
     filled = with_interior_changed a spare.0 fill
 
-    -- whatever follows, where it owns the same numbers, and is true where the split is halved
+    -- whatever follows, if it owns the same numbers, and is true when the split is halved
     fills_so : (after : ArenaView) → after ≡ filled → KeepsTree a after → (then : Posting) → then ≡ record posting { waiting = then.waiting; stage = then.stage } → owned then ≡ spare.0 ∷ interior.0 ∷ split_owns posting.half.0 posting.waiting
         → ((begun : ℕ) (w : World) (prefix : List ℕ) → IsToPost filled w prefix posting.half.0 posting.low → IsHeadOf w begun posting.head.0 prefix → goal_level posting.waiting < i.level → IsHalved filled w prefix split → AreWaiting filled w prefix posting.waiting
         → PostsIn prefix begun then filled w) → WaitsNext posting split then → PostStep a after posting Moved then
@@ -276,7 +276,7 @@ module _ (a : ArenaView) (posting : Posting) (interior spare : NodeNo) (is : pos
       marks = (interior_leaves a after spare.0 fill value (λ i. refl)).marks;
     })
 
-    -- the split waits, and its new half is to be named; or, where no memory is had for that, it is left out
+    -- the split waits, and its new half is to be named; or memory runs out, and the new half is left out
     pub fills_half : (after : ArenaView) → after ≡ filled → KeepsTree a after → (then : Posting) → WaitsNext posting split then → PostStep a after posting Moved then
     fills_half after value keeps then (inl goes) = subst (λ (t : Posting). PostStep a after posting Moved t) (sym goes)
         (fills_so after value keeps (record posting { waiting = split ∷ posting.waiting; stage = Walks posting.head }) refl refl

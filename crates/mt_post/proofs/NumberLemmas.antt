@@ -1,4 +1,5 @@
--- How many numbers name a node after a change, that the heads are as before, and that nothing comes to be marked deleted; and why no number is had.
+-- How many numbers name a node after a change, that the heads are as before, and that nothing comes to be marked
+-- deleted; and why no number can be occupied.
 use Rattle.std.proofs.Common.{ℕ, ◌≡◌, ◌⊎◌, inl, inr, set, Option, Some, None, IsSome, true, false, refl, sym, ap, subst, ◌∙◌}
 use Rattle.std.specs.Prelude.{IsSomeAnd, ◌↔◌, Result, Err}
 use Rattle.std.specs.Option.{option_and_then, option_map}

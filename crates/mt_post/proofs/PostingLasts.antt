@@ -41,7 +41,7 @@ module _ (a after : ArenaView) (w next : World) (begun : ℕ) (evolves : Evolves
   stage_stays prefix half low waiting (HalfPosted posted) same truth = (truth.0, posted_half_stays a after w next prefix posted (same posted.interior.0 (later first)) (same posted.half.node.0 first) truth.1)
   stage_stays prefix half low waiting (HalfCut posted) same truth = let_go_stays a after w next prefix posted.0 _ (same posted.0 first) truth
 
-  -- where it walks, it is at no other head than the layer's
+  -- while it walks, it is at no other head than the layer's
   walks_stay : (prefix : List ℕ) (head half : NodeNo) (low : ℕ) (waiting : List Split) (stage : PostStage) → PostStageIsTrue begun prefix half low waiting stage a w → WalksFrom head stage w → WalksFrom head stage next
   walks_stay prefix head half low waiting (Walks node) truth walks = λ layer least standing at.
       let held = truth.held in
@@ -74,7 +74,7 @@ module _ (a after : ArenaView) (w next : World) (begun : ℕ) (evolves : Evolves
   among_stage half waiting (HalfPosted posted) number i = later (later i)
   among_stage half waiting (HalfCut posted) number i = later i
 
-  -- the law of others' steps: where they leave what a posting owns, what is true of it stays true
+  -- the law of others' steps: if they don't change what a posting owns, what is true of it stays true
   pub posting_stays : (posting : Posting) → ((number : ℕ) → Among number (owned posting) → IsSame a after w next number) → PostingIsTrue begun posting a w → PostingIsTrue begun posting after next
   posting_stays posting same truth =
       let (prefix, t) = truth in

@@ -187,14 +187,14 @@ module _ (a : ArenaView) (posting : Posting) where
 
 -- ---- at a head
 module _ (a : ArenaView) (posting : Posting) (node : NodeNo) (is : posting.stage ≡ Walks node) (wanted : Child) (is_goal : wanted ≡ goal posting.half posting.low posting.waiting) where
-  -- where it is, seen for what is wanted
+  -- its place on its way, seen for what is to be named
   walks_for : (begun : ℕ) (prefix : List ℕ) (number : ℕ) (w : World) → IsWalking begun prefix wanted number w → IsWalking begun prefix (goal posting.half posting.low posting.waiting) number w
   walks_for begun prefix number w at = subst (λ (g : Child). IsWalking begun prefix g number w) is_goal at
 
   walks_wanted : (begun : ℕ) (prefix : List ℕ) (number : ℕ) (w : World) → IsWalking begun prefix (goal posting.half posting.low posting.waiting) number w → IsWalking begun prefix wanted number w
   walks_wanted begun prefix number w at = subst (λ (g : Child). IsWalking begun prefix g number w) (sym is_goal) at
 
-  -- what stands at a level is no head
+  -- a node at a level is no head
   below_head : (w : World) (number level : ℕ) (prefix : List ℕ) (low : ℕ) (standing : Standing) → w.chart number ≡ Some (spot (at_level level) prefix low standing)
       → (layer : List ℕ) (least : ℕ) (other : Standing) → w.chart number ≡ Some (spot top layer least other) → record { 0 = number } ≡ posting.head
   below_head w number level prefix low standing place layer least other at = absurd (let clash : ◌≡◌ {A = Option Spot} (Some (spot (at_level level) prefix low standing)) (Some (spot top layer least other)) = sym place ∙ at in cc)

@@ -16,7 +16,7 @@ use Rattle.mt_post.specs.Posting.{owned, PostingIsTrue}
 use Rattle.mt_post.specs.Follows.{mark_of, PostStep}
 use Rattle.mt_post.specs.Ending.{steps_left}
 
--- what stood at the number is gone
+-- the node of this number is gone
 pub record HasGone (chart : Chart) (number : ℕ) : Type 0 where
   pub role : Role
   pub prefix : List ℕ
@@ -28,7 +28,7 @@ pub record HasGone (chart : Chart) (number : ℕ) : Type 0 where
 abbrev pub IsUnmarked : ArenaView → ℕ → Type 0
 IsUnmarked a number = mark_of (node_at a.nodes number) ≡ false
 
--- where it walks, it is at no such node
+-- while it walks, it is at no such node
 abbrev pub WalksUnmarked : ArenaView → PostStage → Type 0
 WalksUnmarked a (Walks node) = IsUnmarked a node.0
 WalksUnmarked a _ = Unit {0}
@@ -47,13 +47,13 @@ abbrev pub UnlockedAreUnmarked : ArenaView → World → Type 0
 UnlockedAreUnmarked a w = (number : ℕ) → IsOn w.chart number → (IsLocked (node_at a.nodes number) → ⊥) →
     IsUnmarked a number
 
--- where it walks, the node is on
+-- while it walks, its node is on
 abbrev pub WalksOn : World → PostStage → Type 0
 WalksOn w (Walks node) = IsOn w.chart node.0
 WalksOn w _ = Unit {0}
 
--- WHEN A POSTING RUNS ALONE: where all that is taken is its own, its layer's head is on, and what is on and not locked
--- isn't marked; and then it walks at no marked node, if that is on
+-- WHEN A POSTING RUNS ALONE: if all that is taken is its own, its layer's head is on, and what is on and not locked
+-- isn't marked. Then, if the node at which it walks is on, that isn't marked.
 abbrev pub PostingsRunAlone : Type 0
 PostingsRunAlone = (now begun : ℕ) (a : ArenaView) (posting : Posting) (w : World) → IsWorld a now w →
     PostingIsTrue begun posting a w → ((number : ℕ) → IsTaken a w number → Among number (owned posting)) →
@@ -66,8 +66,8 @@ pub record GoesOnAlone (now begun : ℕ) (after : ArenaView) (then : Posting) : 
   pub alone : RunsAlone now begun then after next
   pub unmarked : WalksUnmarked after then.stage
 
--- WHAT A STEP OF A LONE POSTING COMES TO: it goes on alone, and waits only where it walked at a marked node. So only
--- its first step alone may wait.
+-- WHAT A STEP OF A LONE POSTING COMES TO: it continues alone, and waits only if it walked at a marked node. So of the
+-- steps that it makes alone, only the first may wait.
 abbrev pub LoneStep : ArenaView → ArenaView → Posting → Progressed → Posting → Type 0
 LoneStep a after posting Moved then = (now begun : ℕ) (w : World) → begun ≤ now → RunsAlone now begun posting a w →
     GoesOnAlone now begun after then
@@ -75,7 +75,7 @@ LoneStep a after posting Waits then = (now begun : ℕ) (w : World) → begun �
     (WalksUnmarked a posting.stage → ⊥) × GoesOnAlone now begun after then
 LoneStep a after posting (Ended end) then = Unit {0}
 
--- a run of so many steps of a posting, none of them its last, with no step of another call between them
+-- a run of this number of steps of a posting, none of them its last, with no step of another call between them
 pub data Run : ArenaView → Posting → ℕ → Type 0 where
   no_step : {a : ArenaView} {posting : Posting} → Run a posting 0
   one_more : {a after : ArenaView} {posting then : Posting} {p : Progressed} {steps : ℕ} →

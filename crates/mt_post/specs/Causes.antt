@@ -46,7 +46,7 @@ pub record StopsAt (posting : Posting) (interior : InteriorView) : Type 0 where
   pub is_child : slice_get interior.children place ≡ Some child
   pub below : child.level ≤ (goal_of posting).level
 
--- where it is on its way, what is to be named may be left out for these causes alone: at a head, that it is marked
+-- while it is on its way, what is to be named may be left out for these causes only: at a head, that it is marked
 -- deleted; at an interior, that it is full and of the greatest level
 abbrev pub CanLeaveOut : ArenaView → Posting → ℕ → LeftOutCause → Type 0
 CanLeaveOut a posting number HeadDeleted = IsSomeAnd (head_at a.nodes number) (λ head. head.version.deleted ≡ true)
@@ -55,13 +55,13 @@ CanLeaveOut a posting number Highest = IsSomeAnd (interior_at a.nodes number)
     × (interior.level ≡ MAX_LEVEL))
 CanLeaveOut a posting number (Refused refusal) = ⊥
 
--- why no number is had for a new root or a new half: each number names a node; or, where one doesn't, want of memory
+-- why a new root or a new half has no number: each number names a node; or, if one doesn't, memory ran out
 abbrev pub RefusesSpare : ArenaView → Refusal → Type 0
 RefusesSpare a ArenaFull = occupied a.nodes ≡ MAX_NODES
 RefusesSpare a NoMemory = occupied a.nodes ≢ MAX_NODES
 RefusesSpare a _ = ⊥
 
--- the interior is neither marked deleted nor locked, and is full where it is to be named
+-- the interior is neither marked deleted nor locked, is to name what is to be named, and is full
 pub record IsFullAt (a : ArenaView) (posting : Posting) (number : ℕ) : Type 0 where
   pub interior : InteriorView
   pub named : interior_at a.nodes number ≡ Some interior
@@ -70,7 +70,7 @@ pub record IsFullAt (a : ArenaView) (posting : Posting) (number : ℕ) : Type 0 
   pub full : length interior.children ≡ MAX_CHILDREN
   pub stops : StopsAt posting interior
 
--- the same, where it has room
+-- the same, but it has room
 pub record HasRoomAt (a : ArenaView) (posting : Posting) (number : ℕ) : Type 0 where
   pub interior : InteriorView
   pub named : interior_at a.nodes number ≡ Some interior
@@ -87,9 +87,9 @@ pub record IsRootStill (a : ArenaView) (number : ℕ) (root : Root) : Type 0 whe
   pub root_is : head.root ≡ root.node
   pub level_is : head.level ≡ root.level
 
--- A posting ends where an interior that has room, or a new root, names the border; or where the border is left out: on
--- its way for a cause that is seen there, for want of a number for a new root, or where an interior is let go, for the
--- cause for which it is.
+-- A posting ends when an interior that has room, or a new root, names the border; or when the border is left out: on
+-- its way, for a cause that is seen there; because there is no number for a new root; or when an interior is let go,
+-- for the same cause.
 abbrev pub PostStageEnds : ArenaView → ArenaView → Posting → PostStage → Progressed → Type 0
 PostStageEnds a after posting (Walks node) (Ended Posted) = IsPosted a after node.0 posting
 PostStageEnds a after posting (Walks node) (Ended (LeftOut why)) = (after ≡ a) × CanLeaveOut a posting node.0 why

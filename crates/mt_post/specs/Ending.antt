@@ -1,4 +1,4 @@
--- How far a posting is from its end at most, where it runs alone.
+-- How far a posting that runs alone is from its end, at most.
 use Rattle.std.specs.Prelude.{ℕ, ◌-◌, ◌<◌, ◌≤◌, ◌&&◌, nat_eq, not, cond, Bool, false, List, [], ◌∷◌, Option, Some, None}
 use Rattle.mt_types.specs.declared.limits.TheConstants.{MAX_NODES}
 use Rattle.mt_types.specs.declared.numbers.NodeNo.{NodeNo}
@@ -22,7 +22,7 @@ use Rattle.mt_post.specs.Posting.{PostingIsTrue}
 abbrev pub free_numbers : ArenaView → ℕ
 free_numbers a = MAX_NODES - occupied a.nodes
 
--- how many kinds of node stand below a head or an interior in a layer's tree
+-- how many kinds of node are below a head or an interior in a layer's tree
 abbrev pub kinds_below : Option Node → ℕ
 kinds_below None = 0
 kinds_below (Some (Head head)) = 16
@@ -38,7 +38,7 @@ has_root (Some head) root = not head.version.deleted
 abbrev pub is_root_still : ArenaView → NodeNo → Root → Bool
 is_root_still a head root = has_root (head_at a.nodes head.0) root
 
--- Where a posting stands in the theory. What is to be let go is an interior to be unlocked, wherever it comes from.
+-- The frame of a posting's stage, in the theory. An interior to be let go is one to be unlocked, whatever led to that.
 abbrev pub stage_frame : ArenaView → NodeNo → PostStage → Frame
 stage_frame a head (Walks node) = walks (kinds_below (node_at a.nodes node.0))
 stage_frame a head (RootWanted old) = cond (is_root_still a head old) (makes_root 3) late_spare

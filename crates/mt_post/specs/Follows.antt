@@ -1,4 +1,4 @@
--- Where a posting stands after a step: said of the nodes before it, and of the posting before and after it.
+-- The stage of a posting after a step, by the nodes before the step and the posting before and after it.
 use Rattle.std.specs.Prelude.{ℕ, ◌≡◌, ◌⊎◌, ◌<◌, ◌≤◌, ◌+◌, Bool, true, false, [], ◌∷◌, length, slice_get, Option, Some, None, IsSomeAnd}
 use Rattle.mt_types.specs.declared.limits.TheConstants.{MAX_LEVEL}
 use Rattle.mt_types.specs.declared.numbers.NodeNo.{NodeNo}
@@ -24,7 +24,7 @@ use Rattle.mt_post.specs.declared.posting.PostStage.TheVariants.{Walks, RootWant
 use Rattle.mt_post.specs.Posting.{goal_of, PostLaw}
 use Rattle.mt_post.specs.Causes.{StopsAt, IsRootStill, RefusesSpare, PostWaits, PostEnds}
 
--- it stands at this stage, and is as it was else
+-- it is at this stage, and otherwise as it was
 abbrev pub GoesTo : Posting → Posting → PostStage → Type 0
 GoesTo posting then stage = then ≡ record posting { stage = stage }
 
@@ -36,7 +36,7 @@ abbrev pub IsLeftOut : Posting → Posting → LeftOutCause → Type 0
 IsLeftOut posting then why = (split : Split) × (posting.waiting ≡ split ∷ then.waiting)
     × (then.stage ≡ HalfLeftOut split why)
 
--- what is to be named is left out for a cause: the newest new half; or the border, where none waits
+-- what is to be named is left out for a cause: the newest new half; or the border, if none waits
 abbrev pub LeavesOut : Posting → LeftOutCause → Progressed → Posting → Type 0
 LeavesOut posting why Moved then = IsLeftOut posting then why
     × (then ≡ record posting { waiting = then.waiting; stage = then.stage })
@@ -44,24 +44,24 @@ LeavesOut posting why Waits then = ⊥
 LeavesOut posting why (Ended end) then = (end ≡ LeftOut why) × (posting.waiting ≡ [])
     × (then ≡ record posting { waiting = then.waiting })
 
--- for want of a number for a new root
+-- because there is no number for a new root
 abbrev pub IsLeftOutRefused : ArenaView → Posting → Posting → Type 0
 IsLeftOutRefused a posting then = (refusal : Refusal) × RefusesSpare a refusal
     × IsLeftOut posting then (Refused refusal)
 
--- at a head: it goes to the root, where that is above what is to be named; else it wants a new root
+-- at a head: it goes to the root, if that is above what is to be named; otherwise it needs a new root
 abbrev pub FollowsRoot : Posting → Posting → HeadView → Type 0
 FollowsRoot posting then head = ((goal_of posting).level < head.level × GoesTo posting then (Walks head.root))
     ⊎ (head.level ≤ (goal_of posting).level
     × GoesTo posting then (RootWanted (record { node = head.root; level = head.level })))
 
--- so where the head isn't marked deleted
+-- so if the head isn't marked deleted
 abbrev pub FollowsHead : Posting → Posting → HeadView → Type 0
 FollowsHead posting then head =
     ((head.version.deleted ≡ false) × (head.level ≤ MAX_LEVEL) × FollowsRoot posting then head)
     ⊎ ((head.version.deleted ≡ true) × IsLeftOut posting then HeadDeleted)
 
--- at an interior: it goes to the last child whose low is at most that of what is to be named, where that child is above
+-- at an interior: it goes to the last child whose low is at most that of what is to be named, if that child is above
 -- it
 pub record LeadsOn (posting then : Posting) (interior : InteriorView) : Type 0 where
   pub alive : interior.version.deleted ≡ false
@@ -77,13 +77,13 @@ abbrev pub FollowsFull : Posting → Posting → NodeNo → InteriorView → Typ
 FollowsFull posting then node interior = (interior.level < MAX_LEVEL × GoesTo posting then (HalfWanted node))
     ⊎ ((interior.level ≡ MAX_LEVEL) × IsLeftOut posting then Highest)
 
--- where no child leads on, what is to be named is named there, if there is room
+-- if no child leads further, what is to be named is named there, provided that there is room
 abbrev pub FollowsInterior : Posting → Posting → NodeNo → InteriorView → Type 0
 FollowsInterior posting then node interior = LeadsOn posting then interior ⊎ (StopsAt posting interior ×
     ((length interior.children < MAX_CHILDREN × IsNamed posting then)
     ⊎ ((length interior.children ≡ MAX_CHILDREN) × FollowsFull posting then node interior)))
 
--- a split waits from now on, as the newest, and its new half is to be named; or that is left out, for want of memory
+-- a split waits from now on, as the newest, and its new half is to be named; or memory runs out, and that is left out
 abbrev pub WaitsNext : Posting → Split → Posting → Type 0
 WaitsNext posting split then =
     (then ≡ record posting { waiting = split ∷ posting.waiting; stage = Walks posting.head })
@@ -97,13 +97,13 @@ abbrev pub IsFilled : Posting → Posting → NodeNo → NodeNo → Type 0
 IsFilled posting then interior half = (split : Split) × (split.interior ≡ interior) × (split.half.node ≡ half)
     × WaitsNext posting split then
 
--- for want of a number for a new half the interior is let go
+-- because there is no number for a new half, the interior is let go
 abbrev pub IsLetGoRefused : ArenaView → Posting → Posting → NodeNo → Type 0
 IsLetGoRefused a posting then interior = (refusal : Refusal) × RefusesSpare a refusal
     × GoesTo posting then (LetGo interior (Refused refusal))
 
--- the stage that follows where it goes on: where a new half is left out its interior is let go, and what was to be named
--- there left out, for the same cause
+-- the stage that follows if it advances: if a new half is left out, its interior is let go, and what was to be named
+-- there is left out, for the same cause
 abbrev pub StageFollows : ArenaView → Posting → PostStage → Posting → Type 0
 StageFollows a posting (Walks node) then = IsSomeAnd (head_at a.nodes node.0) (FollowsHead posting then)
     ⊎ IsSomeAnd (interior_at a.nodes node.0) (FollowsInterior posting then node)
@@ -121,7 +121,7 @@ StageFollows a posting (LetGo interior why) then = IsLeftOut posting then why
 StageFollows a posting (HalfPosted posted) then = GoesTo posting then (HalfCut posted.half.node)
 StageFollows a posting (HalfCut half) then = GoesTo posting then (Walks posting.head)
 
--- Where it waits, it begins its way again; where it has ended, no split waits.
+-- If it waits, it begins its way again; if it has ended, no split waits.
 abbrev pub Follows : ArenaView → Posting → PostStage → Progressed → Posting → Type 0
 Follows a posting stage Moved then = StageFollows a posting stage then
 Follows a posting stage Waits then = GoesTo posting then (Walks posting.head)
@@ -141,8 +141,8 @@ GivesOneBack a after = occupied after.nodes + 1 ≡ occupied a.nodes
 abbrev pub OccupiesAsMany : ArenaView → ArenaView → Type 0
 OccupiesAsMany a after = occupied after.nodes ≡ occupied a.nodes
 
--- How many numbers are free where it moves on from a stage to another: one fewer where a spare was occupied, one more
--- where one was given back, and else as many. What isn't free names a node.
+-- How many numbers are free after it moves from one stage to another: one fewer if a spare was occupied, one more if
+-- one was given back, and otherwise as many. A number that isn't free names a node.
 abbrev pub StageNumbers : ArenaView → PostStage → ArenaView → PostStage → Type 0
 StageNumbers a (RootWanted old) after (RootSpared same root) = OccupiesOne a after
 StageNumbers a (HalfWanted interior) after (HalfSpared same half) = OccupiesOne a after
@@ -150,7 +150,7 @@ StageNumbers a (RootLate root) after _ = GivesOneBack a after
 StageNumbers a (HalfLeftOut left why) after _ = GivesOneBack a after
 StageNumbers a _ after _ = OccupiesAsMany a after
 
--- the same of each step: as many where it waits or has ended
+-- the same of each step: as many if it waits or has ended
 abbrev pub NumbersGo : ArenaView → PostStage → Progressed → ArenaView → PostStage → Type 0
 NumbersGo a stage Moved after next = StageNumbers a stage after next
 NumbersGo a stage Waits after next = OccupiesAsMany a after
@@ -163,7 +163,7 @@ NumbersFollow a posting p after then = NumbersGo a posting.stage p after then.st
 abbrev pub SameHeads : ArenaView → ArenaView → Type 0
 SameHeads a after = (number : ℕ) → head_at after.nodes number ≡ head_at a.nodes number
 
--- the heads are as before, but where a new root may be named
+-- the heads are as before, unless a new root may be named
 abbrev pub HeadsGo : ArenaView → PostStage → ArenaView → Type 0
 HeadsGo a (RootFilled old root) after = Unit {0}
 HeadsGo a _ after = SameHeads a after

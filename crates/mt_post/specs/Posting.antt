@@ -199,7 +199,7 @@ PostStageIsTrue begun prefix half low waiting (HalfPosted posted) a w = (goal_le
     × IsPostedHalf a w prefix posted
 PostStageIsTrue begun prefix half low waiting (HalfCut posted) a w = IsLetGo a w prefix posted.0 (goal_level waiting)
 
--- where it walks, it is at no other head than the layer's
+-- while it walks, it is at no other head than the layer's
 abbrev pub WalksFrom : NodeNo → PostStage → World → Type 0
 WalksFrom head (Walks node) w = (layer : List ℕ) (low : ℕ) (standing : Standing)
     → w.chart node.0 ≡ Some (spot top layer low standing) → node ≡ head

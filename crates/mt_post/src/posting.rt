@@ -33,7 +33,7 @@ pub enum LeftOutCause {
     HeadDeleted,
     /// The interior that is to name it is full, and of the greatest level.
     Highest,
-    /// No number was had for a new root or a new half.
+    /// No number could be occupied for a new root or a new half, or memory ran out.
     Refused(Refusal),
 }
 
@@ -51,13 +51,13 @@ pub enum PostEnd {
 pub enum PostStage {
     /// It is on its way, at a node.
     Walks(NodeNo),
-    /// No root is above what is to be named: a new one is wanted over this one.
+    /// No root is above what is to be named: a new one is needed above this one.
     RootWanted(Root),
     /// A number is occupied for the new root.
     RootSpared { old: Root, root: NodeNo },
     /// The new root has its two children, and is to be named.
     RootFilled { old: Root, root: NodeNo },
-    /// Another root was named first: this number is to be given back.
+    /// The head is marked deleted, or names another root by now: this number is to be given back.
     RootLate(NodeNo),
     /// It has locked a full interior, which is to be split.
     HalfWanted(NodeNo),
@@ -65,7 +65,7 @@ pub enum PostStage {
     HalfSpared { interior: NodeNo, half: NodeNo },
     /// The new half is left out, for this cause: its number is to be given back.
     HalfLeftOut(Split, LeftOutCause),
-    /// The interior is to be unlocked, and what was to be named in it left out, for this cause.
+    /// The interior is to be unlocked, and what was to be named in it is to be left out, for this cause.
     LetGo(NodeNo, LeftOutCause),
     /// The new half is named: the interior is to keep the first of its children.
     HalfPosted(Split),
@@ -76,7 +76,7 @@ pub enum PostStage {
 /// What a step of a posting comes to.
 #[derive(Clone, Copy)]
 pub enum Progressed {
-    /// It goes on.
+    /// It advances.
     Moved,
     /// It begins its way again.
     Waits,
@@ -99,7 +99,7 @@ pub struct Posting {
 }
 
 impl Posting {
-    /// The posting of a border, which has this low, in the layer of a head. Takes no memory.
+    /// Returns the posting of the border `half`, whose low is `low`, in the layer of `head`. Allocates nothing.
     pub fn new(alloc: Global, head: NodeNo, half: NodeNo, low: u64) -> Posting
         ensures head { result.head ≡ head }
         ensures half { result.half ≡ half }
@@ -153,7 +153,7 @@ impl Posting {
         self.left_out(why)
     }
 
-    // At a head: to the root, or to a new one, where the root isn't above what is to be named.
+    // At a head: goes to the root, if that is above what is to be named; otherwise a new root is needed.
     fn visit_head(&mut self, tree: &Tree, node: NodeNo) -> Progressed
         requires walks { self.old.stage ≡ PostStage.Walks node }
         requires head { IsSome (head_at tree.now.nodes node.0) }
@@ -246,7 +246,7 @@ impl Posting {
         }
     }
 
-    // What is to be named is left out, since no number is had for a new root.
+    // What is to be named is left out, because there is no number for a new root.
     fn leave_out_root(&mut self, tree: &Tree, old: Root, refusal: Refusal) -> Progressed
         requires wants { self.old.stage ≡ PostStage.RootWanted old }
         requires refused { RefusesSpare tree.now refusal }
@@ -306,7 +306,7 @@ impl Posting {
         Progressed::Moved
     }
 
-    // The head names the new root, where its root is the old one still.
+    // The head names the new root, if it isn't marked deleted and its root is still the old one.
     fn name_root(&mut self, tree: &mut Tree, old: Root, root: NodeNo) -> Progressed
         requires filled { self.old.stage ≡ PostStage.RootFilled old root }
         requires may { MayPost tree.old self.old }
@@ -321,7 +321,7 @@ impl Posting {
         self.name_over(tree, old, root)
     }
 
-    // Another root was named first: the number is given back, and it begins its way again.
+    // The new root came too late: its number is given back, and the posting begins its way again.
     fn give_back(&mut self, tree: &mut Tree, root: NodeNo) -> Progressed
         requires late { self.old.stage ≡ PostStage.RootLate root }
         requires may { MayPost tree.old self.old }
@@ -352,7 +352,7 @@ impl Posting {
         }
     }
 
-    // The split waits from now on, and its new half is to be named; or is left out, where no memory is had for that.
+    // The split waits from now on, and its new half is to be named; or, if out of memory, the new half is left out.
     fn wait_for(&mut self, split: Split) -> Progressed
         ensures { WaitsFor self.old split result self.new }
     {
@@ -457,7 +457,7 @@ impl Posting {
         }
     }
 
-    /// Visits one node. Constant cost, but for one search among the children of an interior.
+    /// Visits one node. Constant cost, except for one search among the children of an interior.
     pub fn step(&mut self, tree: &mut Tree) -> Progressed
         requires { MayPost tree.old self.old }
         ensures same { self.new ≡ record self.old { waiting = self.new.waiting; stage = self.new.stage } }

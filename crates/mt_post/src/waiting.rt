@@ -7,7 +7,7 @@ use mt_types::refusal::NoMemory;
 use std::alloc::Global;
 use std::marker::Model;
 
-/// The splits that wait, seen as the list of them, the newest first. Takes memory only once one waits.
+/// The splits that wait, seen as the list of them, the newest first. Allocates only once one waits.
 #[derive(Drop)]
 pub struct Waiting {
     splits: Vec<Split>,
@@ -23,7 +23,7 @@ impl Model for Waiting {
 }
 
 impl Waiting {
-    /// None waits. Takes no memory.
+    /// Returns an empty list of splits. Allocates nothing.
     pub fn new(alloc: Global) -> Waiting
         ensures { result ≡ [] }
     {
@@ -32,18 +32,18 @@ impl Waiting {
         }
     }
 
-    /// The newest, if one waits. Constant cost.
+    /// Returns the newest split, if one waits. Constant cost.
     pub fn newest(&self) -> Option<Split>
         ensures { result ≡ slice_get self.now 0 }
     {
         self.splits.as_slice().last().copied()
     }
 
-    /// One more waits. Constant cost, but where its memory grows.
+    /// Adds a split, which is then the newest. Constant cost, except when the list grows.
     ///
     /// # Errors
     ///
-    /// `NoMemory` where an allocation is refused: then nothing changes.
+    /// `NoMemory` if an allocation is refused. Then nothing changes.
     pub fn push(&mut self, split: Split) -> Result<(), NoMemory>
         ensures ok { OnOk result (self.new ≡ split ∷ self.old) }
         ensures err { OnErr result (self.new ≡ self.old) }
@@ -52,7 +52,7 @@ impl Waiting {
         Ok(())
     }
 
-    /// The newest, if one waits, which waits no more. Constant cost.
+    /// Removes and returns the newest split, if one waits. Constant cost.
     pub fn pop(&mut self) -> Option<Split>
         ensures some { IfSome result (λ split. self.old ≡ split ∷ self.new) }
         ensures none { IfNone result ((self.old ≡ []) × (self.new ≡ [])) }

@@ -1,4 +1,4 @@
--- How large the answers of a legal history are: each row that stands was made by puts that kept the limits.
+-- How large the answers of a legal history are: each row of a key was made by puts that kept the limits.
 use Rattle.std.proofs.Common.{◌≡◌, ◌≤◌, ◌<◌, ◌+◌, ◌==◌, ◌&&◌, ◌||◌, ℕ, zero, suc, Bool, true, false, T, cond, not, eqb, List, [], ◌∷◌, ◌++◌, map, length, replicate, Option, Some, None, ◌∙◌, ap, sym, subst, refl, inl, inr, arith}
 use Rattle.std.specs.Prelude.{if◌then◌else◌, nat_lt, nat_le, MatchBool, take, filter, slice_index_or}
 use Rattle.std.specs.List.{AllByRecursion, list_any, IsDistinct}

@@ -1,4 +1,4 @@
--- Where the views of a legal history stand: their numbers rise, and none stands past the commits.
+-- The views of a legal history: their numbers rise, and none is at a number past the commits.
 use Rattle.std.proofs.Common.{◌≡◌, ◌≤◌, ◌<◌, ◌+◌, ◌==◌, ℕ, zero, Bool, not, List, [], ◌∷◌, ◌++◌, map, length, Option, Some, None, ap, sym, subst, refl, inl, inr, ◌⊎◌, ◌∙◌, arith}
 use Rattle.std.specs.Prelude.{filter, if◌then◌else◌, nat_lt, MatchBool}
 use Rattle.std.proofs.lemmas.Bool.{cases_Bool}
@@ -197,7 +197,7 @@ commits_rise m Advance o note = omega arith
 commits_rise m (ViewRead view floor start limit) o note = omega arith
 commits_rise m Collect o note = omega arith
 
--- a view that an Apply takes on was behind
+-- a view that an Apply advances was behind
 was_behind : (m : Moment) (k : ℕ) (v : StandingView) (number : ℕ) → MayApply m k (Some v) (Applied number) → v.at < length m.commits
 was_behind m k v number may =
     elim (cases_Bool (nat_lt v.at (length m.commits))) [
@@ -230,7 +230,7 @@ new_within C past e o note n v may new =
     let within = opens_within C past new.caller new.spec new.reply.answer new.number note new.answer asked in
     omega (arith, new.is_at, within)
 
--- no view of a legal history stands past the commits
+-- no view of a legal history is at a number past the commits
 pub views_within : (C : ℕ) (h : History) → Legal C h → (n : ℕ) (v : StandingView) → view_of n (moment h).views ≡ Some v → v.at ≤ length (moment h).commits
 views_within C [] legal n v e = cc
 views_within C (x ∷ h) legal n v e =

@@ -29,7 +29,7 @@ pub record IsKept (m : Moment) (e : Event) (o : Outcome) (n : ℕ) (v : Standing
   pub undropped : drops_by (record { 0 = n }) e o ≡ false
   pub untaken : takes_on_by (record { 0 = n }) m e o ≡ false
 
--- the view was there, and went on by one commit
+-- the view was there, and advanced by one commit
 pub record IsMoved (m : Moment) (e : Event) (o : Outcome) (n : ℕ) (v : StandingView) : Type 0 where
   pub old : StandingView
   pub found : view_of n m.views ≡ Some old
@@ -174,7 +174,7 @@ view_before_drop m view opens n v e =
     ] in
     kept m (ViewDrop view) Dropped opens n v other refl (found_before_filter (λ (w : StandingView). w.number) view.0 n m.views v e)
 
--- each view that stands after an event stood before, or is built by it
+-- each view that exists after an event existed before, or is built by it
 pub view_before : (m : Moment) (e : Event) (o : Outcome) (opens n : ℕ) (v : StandingView) → view_of n (after_event m e o opens).views ≡ Some v
     → IsKept m e o n v ⊎ (IsMoved m e o n v ⊎ IsNew m e o opens n v)
 view_before m (Begin pass request) (Call number) opens n v e = kept m (Begin pass request) (Call number) opens n v refl refl e

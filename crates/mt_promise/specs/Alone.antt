@@ -31,7 +31,7 @@ abbrev pub IsRangeOfMap : Rows → List ℕ → List ℕ → ℕ → List (List 
 IsRangeOfMap map asked start limit pairs =
     IsRangeAnswer (ShowsRow map asked) (λ key. IsSome (get map key)) start limit pairs
 
--- WHAT A PLAIN MAP ANSWERS, after so many commits; and the changes that it makes by that
+-- WHAT A PLAIN MAP ANSWERS, after a number of commits; and the changes that it makes by that
 abbrev pub IsPlain : Rows → ℕ → Request → Answer → List Change → Type 0
 IsPlain map commits (Get key asked) Absent made = (get map key ≡ None) × (made ≡ [])
 IsPlain map commits (Get key asked) (Found row) made = ShowsRow map asked key row × (made ≡ [])
@@ -57,7 +57,7 @@ abbrev pub IsPlainRefusal : Rows → Request → Refusal → Type 0
 IsPlainRefusal map request (OtherVersion found) = AsksForOther map request found
 IsPlainRefusal map request _ = Unit {0}
 
--- the call goes on
+-- the call continues
 abbrev pub GoesOnBy : Outcome → Type 0
 GoesOnBy Moved = Unit {0}
 GoesOnBy Again = Unit {0}
@@ -103,7 +103,7 @@ pub record EndsPlainly (C : ℕ) (before : History) (pass : PassNo) (number : Ca
   pub made : List Change
   pub plain : IsPlain (rows C (moment before)) (length (moment before).commits) request reply.answer made
   pub commits : after.commits ≡ (moment before).commits ++ made
-  -- a build's view stands at the number of all commits; other calls change no view
+  -- a build's view is at the number of all commits; other calls change no view
   pub views : after.views ≡ (moment before).views
       ++ view_built request reply.answer (length (moment before).commits)
   pub closed : after.calls ≡ []

@@ -1,4 +1,4 @@
--- Where a test tells exactly which items are the same, the tests of lists, pairs and options do.
+-- If a test shows exactly which items are the same, the tests of lists, pairs and options do.
 use Rattle.std.specs.Prelude.{◌≡◌, Bool, true, ◌&&◌, [], ◌∷◌, Some, None}
 use Rattle.std.specs.Option.{option_eq}
 use Rattle.std.specs.Cmp.{first_so, second_so}

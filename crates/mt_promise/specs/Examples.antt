@@ -120,7 +120,7 @@ shows_none at =
 abbrev pub page_after_drop : History
 page_after_drop = told [] (build_first ++ (happening (ViewDrop (record { 0 = 1 })) Dropped 0 ∷ shows_none 0 ∷ []))
 
--- a view is taken on by a commit, and its page still stands before it
+-- a view is advanced by a commit, and its page is still the one from before it
 abbrev pub page_left_behind : History
 page_left_behind =
     told [] (build_first ++ (put_amount 2 1 4

@@ -91,7 +91,7 @@ takes_on_by view m _ _ = false
 abbrev pub drops : ViewNo → Happening → Bool
 drops view x = drops_by view x.event x.outcome
 
--- the event takes the view of this number on by one commit, after what had happened
+-- the event advances the view of this number by one commit, after what had happened
 abbrev pub takes_on : ViewNo → History → Happening → Bool
 takes_on view past x = takes_on_by view (moment past) x.event x.outcome
 
@@ -104,14 +104,14 @@ abbrev pub one_if : Bool → ℕ
 one_if true = 1
 one_if false = 0
 
--- by how many of these events, which came after a past, the view is taken on
+-- how many of these events, which came after a past, advance the view
 abbrev pub applies : ViewNo → History → History → ℕ
 applies view past [] = 0
 applies view past (x ∷ later) = applies view past later + one_if (takes_on view (later ++ past) x)
 
--- A view of this number stands at so many commits: a build that has finished gave it, to this specification; it opened
--- at a number of commits that there were at some moment of the build; it wasn't dropped since; and it stands as many
--- commits further as it was taken on since.
+-- A view of this number is at this number of commits: a build that has finished made it, to this specification; it
+-- opened at a number of commits that there were at some moment of the build; it wasn't dropped since; and each event
+-- that advanced it since brought it one commit further.
 pub record StandsAt (past : History) (view : ViewNo) (spec : ViewSpec) (at : ℕ) : Type 0 where
   pub reply : Reply
   pub before : History
@@ -132,7 +132,7 @@ pub record ShowsAfresh (C : ℕ) (past : History) (spec : ViewSpec) (start : Lis
   pub sums : page.sums ≡ column_sums 0 C (afresh spec (after C (take page.at (moment past).commits)))
   pub rows : page.rows ≡ page_from start limit (afresh spec (after C (take page.at (moment past).commits)))
 
--- Each page is of a view that stands, at some number n of commits, and is exactly its filter and sums over the rows
+-- Each page is of a view that exists, at some number n of commits, and is exactly its filter and sums over the rows
 --     after the first n commits.
 abbrev pub ViewsAreRight : ℕ → History → Type 0
 ViewsAreRight C h =

@@ -14,8 +14,8 @@ use Rattle.mt_types.specs.declared.row.Change.TheVariants.{Put, Drop}
 use Rattle.mt_types.specs.declared.view.ViewSpec.{ViewSpec}
 use Rattle.mt_types.specs.Rows.{Rows, after}
 
--- An event and its outcome. Where the outcome gives a new view, opens is the number of commits at which it opens;
---     else it says nothing.
+-- An event and its outcome. If the outcome is a new view, opens is the number of commits at which the view opens;
+--     otherwise it says nothing.
 pub record Happening : Type 0 where
   pub event : Event
   pub outcome : Outcome
@@ -37,7 +37,7 @@ pub record OpenCall : Type 0 where
   pub committed : Option ℕ  -- the number of its commit
   pub moves : ℕ  -- how often in a row its last steps answered Moved
 
--- a view that stands at a number of commits
+-- a view at a number of commits
 pub record StandingView : Type 0 where
   pub number : ℕ
   pub spec : ViewSpec
@@ -178,7 +178,7 @@ abbrev pub Throughout : ℕ → (Moment → Type 0) → History → Type 0
 Throughout began P [] = began ≤ 0 → P (moment [])
 Throughout began P (x ∷ h) = (began ≤ length (x ∷ h) → P (moment (x ∷ h))) × Throughout began P h
 
--- past goes on to h by these events with these outcomes, one for each, in their order
+-- h continues past by these events with these outcomes, one for each, in their order
 abbrev pub GoesOn : History → List Event → List Outcome → History → Type 0
 GoesOn past [] [] h = h ≡ past
 GoesOn past (e ∷ es) (o ∷ os) h = (opens : ℕ) × GoesOn (happening e o opens ∷ past) es os h

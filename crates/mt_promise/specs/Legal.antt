@@ -38,11 +38,11 @@ is_get (Range start limit columns) = false
 is_get (Tidy key) = false
 is_get (Build spec) = false
 
--- views that stand and builds that are open, together
+-- views that exist and builds that are open, together
 abbrev pub view_places : Moment → ℕ
 view_places m = length m.views + count_by (λ (call : OpenCall). is_build call.request) m.calls
 
--- why a call can't begin, where so many calls have begun, are open, and so many places of views are taken:
+-- why a call can't begin, by how many calls have begun, how many are open, and how many places of views are taken:
 --     the request breaks a limit, the numbers of calls are spent, or there is no room
 abbrev pub begin_fault : ℕ → ℕ → ℕ → ℕ → Request → Option Refusal
 begin_fault C begun opened places request =
@@ -51,7 +51,7 @@ begin_fault C begun opened places request =
     (option_or (refused_if (nat_le MAX_OPEN_CALLS opened) TooManyCalls)
     (if is_build request then refused_if (nat_le MAX_VIEWS places) TooManyViews else None)))
 
--- the outcome is this one, or want of memory
+-- the outcome is this one, or out of memory
 abbrev pub IsOrLacksMemory : Outcome → Outcome → Type 0
 IsOrLacksMemory expected outcome = (outcome ≡ expected) ⊎ (outcome ≡ Refused NoMemory)
 
@@ -114,7 +114,7 @@ pub record RightReply (C : ℕ) (past : History) (call : OpenCall) (reply : Repl
   pub answer : RightAnswer C past call call.request reply.answer opens
 
 abbrev pub MayStep : ℕ → History → OpenCall → Outcome → ℕ → Type 0
--- a get doesn't go on for ever: of moves in a row it makes at most MAX_READS for each number of a node
+-- a get doesn't continue for ever: it makes at most MAX_READS moves in a row for each number of a node
 MayStep C past call Moved opens = IsTrue (is_get call.request) → call.moves < MAX_READS * MAX_NODES
 MayStep C past call Again opens = Unit {0}
 MayStep C past call (Commit number) opens = MayCommit C past call call.request number
@@ -127,14 +127,14 @@ abbrev pub MayStepAt : ℕ → History → Option OpenCall → Outcome → ℕ �
 MayStepAt C past None outcome opens = outcome ≡ Refused NoSuchCall
 MayStepAt C past (Some call) outcome opens = MayStep C past call outcome opens
 
--- a view that is behind is taken on by one, unless memory is wanting
+-- a view that is behind is advanced by one commit, unless out of memory
 abbrev pub MayApply : Moment → ℕ → Option StandingView → Outcome → Type 0
 MayApply m zero None outcome = outcome ≡ Current
 MayApply m (suc n) None outcome = outcome ≡ Refused NoSuchView
 MayApply m view (Some v) outcome =
     MatchBool (nat_lt v.at (length m.commits)) (IsOrLacksMemory (Applied (v.at + 1)) outcome) (outcome ≡ Current)
 
--- what a view shows that stands at a number of commits
+-- what a view shows at its number of commits
 abbrev pub page_of : ℕ → Moment → StandingView → List ℕ → ℕ → Page
 page_of C m v start limit =
     let pairs = afresh v.spec (after C (take v.at m.commits)) in

@@ -7,6 +7,6 @@ pub mod Finished
 pub mod Limited
 pub mod Alone
 pub mod Examples
--- behind it: what equality in code tells
+-- after these: what equality in code says
 pub mod ExactLists
 pub mod ExactValues

@@ -10,7 +10,7 @@ use Rattle.mt_types.specs.declared.event.Request.TheVariants.{Get, Put, PutIf, R
 use Rattle.mt_types.specs.declared.event.Answer.{Answer}
 use Rattle.mt_types.specs.declared.event.Answer.TheVariants.{Absent, Found, Stored, Removed, Rows as RowsAnswer, Tidied, Built}
 
--- the row that stands under the key then, as it is shown
+-- the row that the key has then, as it is shown
 abbrev pub Shows : ℕ → List ℕ → List ℕ → Row → Moment → Type 0
 Shows C key asked answer m = (row : Row) × (get (rows C m) key ≡ Some row) × (answer ≡ shown asked row)
 

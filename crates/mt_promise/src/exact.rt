@@ -1,4 +1,4 @@
-//! Equality that tells exactly whether two values are the same in every contract.
+//! Equality that says exactly whether two values are the same in every contract.
 
 ghost use Rattle.std.specs.Prelude.{◌≡◌, ◌↔◌, IsTrue, true};
 ghost use Rattle.std.proofs.Common.{rules};

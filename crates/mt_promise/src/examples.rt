@@ -24,7 +24,7 @@ pub fn wrong_histories()
     ensures amount_left { AmountLeftIsRefuted }
     // a page of a view that was dropped is shown
     ensures page_after_drop { PageAfterDropIsRefuted }
-    // a view is taken on by a commit, and its page still stands before it
+    // a view is advanced by a commit, and its page is still the one from before it
     ensures page_left_behind { PageLeftBehindIsRefuted }
 {}
 
@@ -32,6 +32,6 @@ pub fn wrong_histories()
 pub fn wrong_pages()
     // one of a view that was dropped
     ensures after_drop { PageAfterDropIsNotRight }
-    // one that stands before a commit by which the view was taken on
+    // one from before a commit by which the view was advanced
     ensures left_behind { PageLeftBehindIsNotRight }
 {}

@@ -81,7 +81,7 @@ reads seat v x views h at =
 agrees_longer : (o : Shown) (l more : List Delta) (v : Known) → Agrees o l v → Agrees o (l ++ more) v
 agrees_longer o l more v h = (h.0, (h.1.0 ++ more, ap (λ (z : List Delta). z ++ more) h.1.1 ∙ append_assoc v.list h.1.0 more))
 
--- what is shown after the deltas of some steps, where it was shown after a list
+-- if x is what is shown after a list, then x with more deltas is what is shown after the list and these deltas
 shown_on : (o x : Shown) (l ds : List Delta) → x ≡ shown_after o l
     → shown_as (applied_all x.state ds) (record { source = x.mark.source; list = x.mark.list ++ ds }) ≡ shown_after o (l ++ ds)
 shown_on o x l ds is =

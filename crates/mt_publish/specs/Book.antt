@@ -1,4 +1,4 @@
--- The rule of a chain's book, and what the step tells that adds a delta.
+-- The rule of a chain's book, and what the step that adds a delta says.
 use Rattle.std.specs.Prelude.{ℕ, ◌≡◌, ◌==◌, true, List, [], ◌∷◌, ◌++◌, length, MatchBool}
 use Rattle.logbook.specs.Pages.{Cell, Step, View, Book, Named}
 use Rattle.mt_types.specs.declared.row.Delta.{Delta}
@@ -11,6 +11,6 @@ IsCounted cells chain = cells ≡ (length chain, true) ∷ (0, true) ∷ []
 abbrev pub end_of : Book → Named
 end_of book = record { tracked = true; key = 0; book = book }
 
--- where the length was found that had been seen, the delta was added to all that had been seen
+-- if the length that was found is the one that had been seen, the delta was added after all that had been seen
 abbrev pub Adds : Step Delta → View Delta ℕ → ℕ → View Delta ℕ → Type 0
 Adds step before found after = MatchBool (found == step.old) (after.0 ≡ before.0 ++ step.ask ∷ []) (Unit {0})

@@ -57,7 +57,7 @@ reader_opening r = state_in (view r.reader.place).opening
 abbrev pub reader_list : ViewReader → List Delta
 reader_list r = (view r.reader.place).list
 
--- the longest list that it was told of
+-- the longest list that it has learnt of
 abbrev pub reader_heard : ViewReader → List Delta
 reader_heard r = r.heard.list
 
@@ -76,8 +76,8 @@ abbrev pub IsReaderOf : Source → StateView → ViewReader → Type 0
 IsReaderOf source o r =
     (reader_opening r ≡ Some o) × (reader_list r ≡ []) × (reader_heard r ≡ []) × (reader_source r ≡ source)
 
--- why a read that the limit allows may be refused: for want of memory; the publisher is gone; or what was shown, after this
--- list, is not as long as what was heard of
+-- why a read that the limit allows may be refused: it is out of memory; the publisher is gone; or the list after which
+-- the state was shown is shorter than the longest that the reader has learnt of
 abbrev pub MayRefuse : List Delta → List Delta → Refusal → Type 0
 MayRefuse list heard refusal =
     (refusal ≡ NoMemory) ⊎ ((refusal ≡ NoSuchView)

@@ -9,7 +9,7 @@ use atomic_table::{Join, Split};
 use crossbeam_utils::rule::{Outcome, Protocol};
 use mt_types::row::Delta;
 
-/// What a thread knows. It exists in contracts only: no value of it is made.
+/// What a thread knows. It exists only in contracts: no value of it is made.
 pub struct Known {
     /// The state that was shown first.
     pub opening: Option<Shown>,

@@ -77,7 +77,7 @@ fn read_all(reader: &mut ViewReader) -> Result<Page, Refusal> {
     reader.read(&first_key()?, 1000)
 }
 
-// The page has at this place a row of this key, version and column.
+// Whether the page has at this place a row of this key, version and column.
 fn has_row(page: &Page, place: usize, key: &[u8], version: u64, column: &[u8]) -> bool {
     match page.rows.as_slice().get(place) {
         Some((at, row)) => {
@@ -90,7 +90,7 @@ fn has_row(page: &Page, place: usize, key: &[u8], version: u64, column: &[u8]) -
     }
 }
 
-// The page stands at this number, and has so many rows and this sum.
+// Whether the page is at the number `at`, and has `count` rows and this sum.
 fn comes_to(page: &Page, at: u64, count: u64, sum: u128) -> bool {
     page.at == at && page.count == count && page.sums.as_slice() == [sum].as_slice()
 }

@@ -45,7 +45,7 @@ fn row_of(alloc: Global, number: u64) -> Result<Row, Refusal> {
 }
 
 impl Changes {
-    /// The change of this number. Where it puts a row, the row's one column is the number.
+    /// Returns the change of this number. If it puts a row, the row's one column is the number.
     pub(crate) fn change(self, alloc: Global, number: u64) -> Result<Delta, Refusal> {
         let key = Bytes::copy_from_slice(alloc, &self.key(number).to_be_bytes())?;
         let after = if self.puts(number) {

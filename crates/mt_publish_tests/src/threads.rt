@@ -1,4 +1,4 @@
-//! A thread that publishes beside one that reads.
+//! One thread publishes while another reads.
 
 ghost use Rattle.std.specs.Prelude.{◌≡◌, IfOk};
 ghost use Rattle.mt_publish.specs.Carried.{reader_source, source_of, told_source};
@@ -18,7 +18,7 @@ const ROUNDS: u64 = 100;
 /// How many changes a round publishes, one by one.
 pub(crate) const CHANGES: u64 = 100;
 
-// How many reads a round makes beside them. One more comes behind them.
+// How many reads a round makes meanwhile. One more read follows when all changes are published.
 const READS: u64 = 10_000;
 
 /// What a reader has seen.
@@ -28,9 +28,9 @@ pub(crate) struct Seen {
     right: u64,
     // How many pages had fewer rows than the one before.
     fallen: u64,
-    // After how many rounds the page stood at just the last change that was published.
+    // After how many rounds the page was at exactly the last change that was published.
     told: u64,
-    // The number at which the last page stood.
+    // The number of changes at which the last page was.
     at: u64,
     // How many rows it had.
     count: u64,
@@ -125,8 +125,8 @@ fn read_all(reader: &mut ViewReader) -> Result<Page, Refusal>
     reader.read(&first_key()?, 1000)
 }
 
-// A round: one thread publishes, and another reads beside it. Then the reader learns what was told last, and reads once
-// more, while nothing is published.
+// A round: one thread publishes while another reads. Then the reader learns of the last publish, and reads once more
+// while nothing is published.
 fn round<R: Threads + Sync, W: Wait + Drop + Send>(
     rt: &R,
     alloc: Global,
@@ -175,7 +175,7 @@ fn start_one<R: Wait>(
     }
 }
 
-/// So many rounds, from this state on, and what the reader has seen in them.
+/// Makes `rounds` rounds from this state on, and returns what the reader has seen in them.
 pub(crate) fn read_beside<R: Threads + Wait + Sync>(
     rt: &R,
     alloc: Global,

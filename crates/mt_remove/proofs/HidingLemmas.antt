@@ -33,7 +33,7 @@ use Rattle.mt_remove.proofs.StageLemmas.{at_stage}
 use Rattle.mt_remove.proofs.LayerFacts.{layer_apart, head_beside}
 use Rattle.mt_remove.proofs.ClosingGoes.{without, among_without, without_among}
 
--- where the head stands once it is gone, and where its root does, in the layer of a prefix
+-- the spot of the head once it is gone, and that of its root, in the layer of a prefix
 abbrev pub gone_head : ℕ → List ℕ → Spot
 gone_head now prefix = spot top prefix 0 (gone now)
 

@@ -77,7 +77,7 @@ stage_left a way _ = 0
 abbrev pub tidy_left : ArenaView → Tidy → ℕ
 tidy_left a tidy = stage_left a tidy.way tidy.stage
 
--- A TIDY THAT BEGINS stands at a node that is on
+-- A TIDY THAT BEGINS is at a node that is on
 pub tidy_begins : (a : ArenaView) (now : ℕ) (w : World) (tidy : Tidy) → IsWorld a now w → tidy.way ≡ start → tidy.stage ≡ Seeks not_noted → tidy_stands w tidy
 tidy_begins a now w tidy world way stage = subst (λ (s : Stage). stage_stands w tidy.key tidy.way s) (sym stage) (
   subst (λ (x : Way). IsOnThere w tidy.key x) (sym way) (starts_on a now w tidy.key world),
@@ -134,7 +134,7 @@ module _ (a : ArenaView) (now begun : ℕ) (w : World) (world : IsWorld a now w)
       apart (owned node.0 (locked_there node.0 locked))
   stage_waits_not _ truth stands owned waits = waits
 
--- A TIDY WAITS FOR NOTHING where all that is taken is its own
+-- A TIDY WAITS FOR NOTHING if all that is taken is its own
 pub lone_tidy_waits_not : (a : ArenaView) (now begun : ℕ) (w : World) (tidy : Tidy) → IsWorld a now w → TidyIsTrue tidy begun a w → tidy_stands w tidy → ((number : ℕ) → IsTaken a w number → Among number (tidy_held tidy).owns) → TidyWaits a tidy Waits → ⊥
 lone_tidy_waits_not a now begun w tidy world truth stands owned waits = stage_waits_not a now begun w world tidy tidy.stage truth stands owned waits
 
@@ -174,7 +174,7 @@ module _ (a after : ArenaView) (now begun : ℕ) (w next : World) (world : IsWor
   stays_on : (number : ℕ) → IsOn w.chart number → next.chart number ≡ w.chart number → IsOn next.chart number
   stays_on number there same = record { role = there.role; prefix = there.prefix; low = there.low; posted = there.posted; place = same ∙ there.place }
 
-  -- what is left of a way is told by where its node stands
+  -- the spot of its node determines what is left of a way
   left_same : (layer number : ℕ) (role : Role) (prefix : List ℕ) (low : ℕ) (posted : Bool) → length prefix ≡ layer → w.chart number ≡ Some (spot role prefix low (on posted)) → next.chart number ≡ w.chart number → way_left after layer number ≡ way_left a layer number
   left_same layer number role prefix low posted deep place same =
       subst (λ (n : ℕ). way_left after n number ≡ way_left a n number) deep

@@ -193,7 +193,7 @@ module _ (a after : ArenaView) (w next : World) (begun : ℕ) (evolves : Evolves
   stage_stays key way (KeepsBorder border) same k = locked_stays border.0 (same border.0 first) k
   stage_stays key way (KeepsInterior interior) same l = single_stays interior.0 (prefix_of key way) (same interior.0 first) l
 
-  -- the law of others' steps: where they leave what a tidy owns, what is true of it stays true
+  -- the law of others' steps: if they don't change what a tidy owns, what is true of it stays true
   pub tidy_stays : (tidy : Tidy) → ((number : ℕ) → Among number (tidy_held tidy).owns → IsSame a after w next number) → TidyIsTrue tidy begun a w → TidyIsTrue tidy begun after next
   tidy_stays tidy same truth = stage_stays tidy.key tidy.way tidy.stage same truth
 

@@ -70,7 +70,7 @@ module _ (epoch : ℕ) (a : ArenaView) (tidy : Tidy) (border head node : NodeNo)
         held = record { role = top; low = 0; standing = u.headed.standing; place = u.headed.place; at_most = omega arith; since = u.headed.since };
       })) tt (inl marked) (inl (marked, refl, refl))
 
-  -- it goes on
+  -- it advances
   pub goes_on : (next : NodeNo) (sought : Sought) → sought ≡ To next → Seeks a n slice sought → ((to : NodeNo) → sought ≡ To to → Moves (arena_seen a) n to.0) → TidyStep epoch a a tidy Moved (record tidy { stage = Marked border head next slice })
   goes_on next sought sought_is seeks moves = at_stage epoch a a tidy (Marked border head node slice) Moved (record tidy { stage = Marked border head next slice }) is refl refl
       (law_same epoch a tidy (Marked border head node slice) Moved (record tidy { stage = Marked border head next slice }) refl (λ begun w world u. record {

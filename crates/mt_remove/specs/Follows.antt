@@ -1,4 +1,4 @@
--- Where a tidy stands after a step: said of the nodes before it, and of the tidy before and after it.
+-- The stage of a tidy after a step, by the nodes before the step and the tidy before and after it.
 use Rattle.std.specs.Prelude.{ℕ, ◌≡◌, ◌<◌, ◌^◌, ◌-◌, ◌⊎◌, Bool, true, false, List, [], ◌∷◌, ◌++◌, Option, Some, None, IsSomeAnd}
 use Rattle.mt_types.specs.declared.numbers.NodeNo.{NodeNo}
 use Rattle.mt_types.specs.declared.event.Answer.TheVariants.{Tidied}
@@ -39,7 +39,7 @@ use Rattle.mt_remove.specs.Tidy.{IsTidied, TidyLaw}
 abbrev pub Did : TidyRule → Progress → Type 0
 Did rule p = p ≡ Answered (Tidied rule)
 
--- it stands at this stage, and is as it was else
+-- it is at this stage, and otherwise as it was
 abbrev pub GoesTo : Tidy → Progress → Tidy → Stage → Type 0
 GoesTo tidy p then stage = (p ≡ Moved) × (then ≡ record tidy { stage = stage })
 
@@ -55,7 +55,7 @@ BeginsBy tidy noted (EmptyBorder parent) p then = GoesTo tidy p then (Locked tid
 BeginsBy tidy noted (LoneChild lone) p then = GoesTo tidy p then (Lonely lone)
 BeginsBy tidy noted (EmptyLayer above) p then = GoesTo tidy p then (RootLocked tidy.way.node noted.head above)
 
--- but where the border is locked, it ends
+-- but if the border is locked, it ends
 abbrev pub Begins : Tidy → Noted → BorderView → Progress → Tidy → Type 0
 Begins tidy noted b p then = ((b.version.locked ≡ true) × Did NoRule p) ⊎ ((b.version.locked ≡ false)
     × BeginsBy tidy noted (sign_of b noted) p then)
@@ -70,13 +70,13 @@ FollowsVisit a tidy noted node Here p then =
     IsSomeAnd (border_at a.nodes tidy.way.node.0) (λ b. Begins tidy noted b p then)
 
 -- ---- an empty border
--- the interior drops the border where it still names it, not as its first child; or the tidy gives up
+-- the interior drops the border, if it still names it, not as its first child; or the tidy gives up
 abbrev pub DropsBy : Tidy → NodeNo → NodeNo → Option ℕ → Progress → Tidy → Type 0
 DropsBy tidy border head None p then = GoesTo tidy p then (KeepsBorder border)
 DropsBy tidy border head (Some place) p then = GoesTo tidy p then (Dropped border head)
 
--- it waits where the node is marked deleted, and begins its way again at the head; or where the border before is
--- locked; else it goes on to a node to which this one leads, or the border is unlinked
+-- it waits if the node is marked deleted, and begins its way again at the head; or if the border before is locked;
+-- otherwise it advances to a node to which this one leads, or the border is unlinked
 abbrev pub FollowsMarked : ArenaView → Tidy → NodeNo → NodeNo → NodeNo → ℕ → Progress → Tidy → Type 0
 FollowsMarked a tidy border head node slice p then =
     (IsMarkedAt a node.0 × (p ≡ Waits) × (then ≡ record tidy { stage = Marked border head head slice }))
@@ -85,7 +85,7 @@ FollowsMarked a tidy border head node slice p then =
     ⊎ GoesTo tidy p then (Unlinked border)))
 
 -- ---- an interior with one child
--- it is locked where it still has the one child that was noted; or the tidy ends
+-- it is locked, if it still has the one child that was noted; or the tidy ends
 abbrev pub LocksBy : Tidy → OneChild → Bool → Progress → Tidy → Type 0
 LocksBy tidy lone true p then = GoesTo tidy p then (LoneLocked lone)
 LocksBy tidy lone false p then = Did NoRule p
@@ -94,7 +94,7 @@ LocksBy tidy lone false p then = Did NoRule p
 abbrev pub IsRootOf : NodeNo → HeadView → Type 0
 IsRootOf node h = (h.version.deleted ≡ false) × (h.root ≡ node)
 
--- what named the interior names its child, where it still names it; or the tidy gives up
+-- what named the interior names its child, if it still names the interior; or the tidy gives up
 abbrev pub BypassesBy : Tidy → NodeNo → Option ℕ → Progress → Tidy → Type 0
 BypassesBy tidy interior None p then = GoesTo tidy p then (KeepsInterior interior)
 BypassesBy tidy interior (Some place) p then = GoesTo tidy p then (Bypassed interior ChildRule)
@@ -111,7 +111,7 @@ FollowsNamer a tidy interior (NamedByHead head) p then = IsSomeAnd (head_at a.no
 abbrev pub rest_above : Tidy → List ℕ
 rest_above tidy = rest_at (tidy.way.layer - 1) tidy.key
 
--- the border above is locked where it still has the link to the layer's head; or the tidy gives up
+-- the border above is locked, if it still has the link to the layer's head; or the tidy gives up
 abbrev pub LocksAbove : Tidy → NodeNo → NodeNo → NodeNo → Option ℕ → Progress → Tidy → Type 0
 LocksAbove tidy root head above None p then = GoesTo tidy p then (KeepsBorder root)
 LocksAbove tidy root head above (Some place) p then =
@@ -121,7 +121,7 @@ abbrev pub FollowsRoot : ArenaView → Tidy → NodeNo → NodeNo → NodeNo →
 FollowsRoot a tidy root head above p then = IsSomeAnd (node_at a.nodes above.0) (λ node.
     LocksAbove tidy root head above (link_place (rest_above tidy) node head) p then)
 
--- the head is marked deleted where the border is still its root; or the tidy gives up
+-- the head is marked deleted, if the border is still its root; or the tidy gives up
 abbrev pub FollowsAbove : ArenaView → Tidy → Layer → Progress → Tidy → Type 0
 FollowsAbove a tidy layer p then = IsSomeAnd (head_at a.nodes layer.head.0) (λ h.
     (IsRootOf layer.root h × GoesTo tidy p then (HeadMarked layer)) ⊎ ((IsRootOf layer.root h → ⊥)

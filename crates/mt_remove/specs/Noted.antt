@@ -50,7 +50,7 @@ noted_at (Interior interior) node next noted =
     }
 noted_at (Border border) node next noted = record noted { came = FromLeft }
 
--- what is noted once a call goes on from a node that it visits
+-- what is noted once a call advances from a node that it visits
 abbrev pub noted_from : Node → Way → Way → Noted → Noted
 noted_from node way next noted =
     if not (next.layer == way.layer) then noted_below way.node next.node else noted_at node way.node next.node noted

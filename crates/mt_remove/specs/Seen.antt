@@ -36,7 +36,7 @@ abbrev pub place_in : Node → NodeNo → Option ℕ
 place_in node child =
     option_and_then (λ i. position (λ (c : Child). c.node.0 == child.0) i.children) (free_interior node)
 
--- the place, where it is not the first
+-- the place, if it is not the first
 abbrev pub not_first : Option ℕ → Option ℕ
 not_first None = None
 not_first (Some place) = if place == 0 then None else Some place

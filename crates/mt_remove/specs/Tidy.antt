@@ -269,7 +269,7 @@ abbrev pub NewTidyIsTrue : Tidy → Type 0
 NewTidyIsTrue tidy = (a : ArenaView) (now begun : ℕ) (w : World) → IsWorld a now w → TidyIsTrue tidy begun a w
 
 -- ---- the law of its step
--- it goes on, waits, or ends with what it did
+-- it advances, waits, or ends with what it did
 abbrev pub IsTidied : Progress → Type 0
 IsTidied Moved = Unit {0}
 IsTidied Waits = Unit {0}

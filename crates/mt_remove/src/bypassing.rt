@@ -14,7 +14,7 @@ use mt_types::event::{Answer, TidyRule};
 use mt_types::numbers::NodeNo;
 
 impl Tidy {
-    // The interior is locked, where it still has one child, that which was noted.
+    // The interior is locked, if it still has one child, the one that was noted.
     pub(crate) fn lock_lone(&mut self, tree: &mut Tree, epoch: u64, lone: OneChild) -> Progress
         requires at { self.old.stage ≡ Stage.Lonely lone }
         requires may { MayTidy epoch tree.old self.old }
@@ -28,7 +28,7 @@ impl Tidy {
         Progress::Moved
     }
 
-    // The interior above names its child, where it still names it.
+    // The interior above names the interior's child, if it still names the interior.
     fn bypass_below(
         &mut self,
         tree: &mut Tree,
@@ -54,7 +54,7 @@ impl Tidy {
         Progress::Moved
     }
 
-    // The head names its child, where it is still the root.
+    // The head names the interior's child, if the interior is still its root.
     fn bypass_root(&mut self, tree: &mut Tree, epoch: u64, lone: OneChild, head: NodeNo) -> Progress
         requires at { self.old.stage ≡ Stage.LoneLocked lone }
         requires named { lone.namer ≡ Namer.Head head }

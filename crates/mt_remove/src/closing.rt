@@ -15,7 +15,7 @@ use mt_types::event::{Answer, TidyRule};
 use mt_types::numbers::NodeNo;
 
 impl Tidy {
-    // The border above is locked, where it still has the link to the head.
+    // The border above is locked, if it still has the link to the head.
     pub(crate) fn lock_above(
         &mut self,
         tree: &mut Tree,
@@ -43,7 +43,7 @@ impl Tidy {
         Progress::Moved
     }
 
-    // The head is marked deleted, where the border is still its root.
+    // The head is marked deleted, if the border is still its root.
     pub(crate) fn mark_head(&mut self, tree: &mut Tree, epoch: u64, layer: Layer) -> Progress
         requires at { self.old.stage ≡ Stage.AboveLocked layer }
         requires may { MayTidy epoch tree.old self.old }

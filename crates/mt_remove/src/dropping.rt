@@ -15,7 +15,7 @@ use mt_types::event::{Answer, TidyRule};
 use mt_types::numbers::NodeNo;
 
 impl Tidy {
-    // The interior drops the border, where it still names it.
+    // The interior drops the border, if it still names it.
     pub(crate) fn drop_border(
         &mut self,
         tree: &mut Tree,

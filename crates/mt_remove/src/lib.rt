@@ -1,4 +1,4 @@
-//! A tidy: one change that makes the tree smaller where a key would stand.
+//! A tidy: one change that makes the tree smaller at the place at which a key would be.
 #![tactic(auto)]
 
 mod bypassing;

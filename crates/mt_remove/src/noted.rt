@@ -10,7 +10,7 @@ use mt_steps::way::Way;
 use mt_tree::{TOP, Tree};
 use mt_types::numbers::NodeNo;
 
-/// How a call came to the node where it stands.
+/// How a call came to the node at which it is.
 #[derive(Clone, Copy)]
 pub enum Came {
     /// From the head of the layer.
@@ -40,7 +40,7 @@ pub struct OneChild {
     pub namer: Namer,
 }
 
-/// What a tidy has noted in the layer where it stands.
+/// What a tidy has noted in the layer in which it is.
 #[derive(Clone, Copy)]
 pub struct Noted {
     /// The head of the layer.
@@ -71,7 +71,7 @@ fn is_first(interior: &Interior, node: NodeNo) -> bool
 }
 
 impl Noted {
-    // What names the interior where the call stands.
+    // Returns what names the interior at which the call is.
     fn namer(&self) -> Namer
         ensures { result ≡ namer_of self.now }
     {
@@ -93,7 +93,8 @@ impl Noted {
         }
     }
 
-    /// Once it goes on from the node where it stands. Looks at each child of an interior, which are sixteen at most.
+    /// Returns what is noted once the call advances from the node of `way` to that of `next`. Looks at each child of an
+    /// interior, of which there are at most sixteen.
     pub fn goes_on(&self, tree: &Tree, way: Way, next: Way) -> Noted
         requires { IsSome (node_at tree.now.nodes way.node.0) }
         ensures { IsSomeAnd (node_at tree.now.nodes way.node.0) (λ node. result ≡ noted_from node way next self.now) }

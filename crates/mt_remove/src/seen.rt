@@ -30,7 +30,8 @@ fn free_interior(node: &Node) -> Option<&Interior>
     }
 }
 
-/// Whether a node is an interior with one child, this one, and is neither marked deleted nor locked. Constant cost.
+/// Returns whether a node is an interior whose only child is `child`, and is neither marked deleted nor locked.
+/// Constant cost.
 pub fn is_lone(tree: &Tree, number: NodeNo, child: NodeNo) -> bool
     requires { IsSome (node_at tree.now.nodes number.0) }
     ensures { IsSomeAnd (node_at tree.now.nodes number.0) (λ node. result ≡ is_lone node child) }
@@ -41,8 +42,8 @@ pub fn is_lone(tree: &Tree, number: NodeNo, child: NodeNo) -> bool
     }
 }
 
-/// The place of a node among the children of an interior, if it is one that is neither marked deleted nor locked. Looks
-/// at each child once.
+/// Returns the place of `child` among the children of a node, if the node is an interior that is neither marked deleted
+/// nor locked, and names it. Looks at each child once.
 pub fn place_in(tree: &Tree, number: NodeNo, child: NodeNo) -> Option<usize>
     requires { IsSome (node_at tree.now.nodes number.0) }
     ensures value { IsSomeAnd (node_at tree.now.nodes number.0) (λ node. result ≡ place_in node child) }
@@ -55,7 +56,7 @@ pub fn place_in(tree: &Tree, number: NodeNo, child: NodeNo) -> Option<usize>
     }
 }
 
-/// The place at which an interior names a child, where that isn't the first place.
+/// Returns the same as `place_in`, but `None` if that is the first place.
 pub fn later_place(tree: &Tree, number: NodeNo, child: NodeNo) -> Option<usize>
     requires { IsSome (node_at tree.now.nodes number.0) }
     ensures value { IsSomeAnd (node_at tree.now.nodes number.0) (λ node. result ≡ later_place node child) }
@@ -86,8 +87,8 @@ fn free_border(node: &Node) -> Option<&Border>
     }
 }
 
-/// The place of the link to a head, for what the layers above have left of a key, if the node is a border that is
-/// neither marked deleted nor locked and has that link. Searches the border.
+/// Returns the place of the link to a head, for what the layers above have left of a key, if the node is a border that
+/// is neither marked deleted nor locked and has that link. Searches the border.
 pub fn link_place(tree: &Tree, number: NodeNo, rest: &[u8], head: NodeNo) -> Option<usize>
     requires { IsSome (node_at tree.now.nodes number.0) }
     ensures value { IsSomeAnd (node_at tree.now.nodes number.0) (λ node. result ≡ link_place rest.now node head) }

@@ -51,7 +51,7 @@ fn lone_sign(lone: Option<OneChild>, otherwise: Sign) -> Sign
     }
 }
 
-/// The first rule whose signs are seen at a border, by what was noted on the way to it. Constant cost.
+/// Returns the first rule whose signs are seen at a border, by what was noted on the way to it. Constant cost.
 pub fn sign_of(border: &Border, noted: &Noted) -> Sign
     ensures { result ≡ sign_of border.now noted.now }
 {

@@ -34,8 +34,8 @@ pub enum Stage {
         border: NodeNo,
         head: NodeNo,
     },
-    /// The border is marked deleted, and is to be unlinked. The call stands at a node on its way to the border
-    /// before it.
+    /// The border is marked deleted, and is to be unlinked. The call is at a node on its way to the border before
+    /// it.
     Marked {
         border: NodeNo,
         head: NodeNo,

@@ -1,4 +1,4 @@
-//! A tidy: on its way to its key's border, where it begins the first rule whose signs are seen.
+//! A tidy: it goes to its key's border, and begins the first rule whose signs are seen.
 
 ghost use Rattle.std.specs.Prelude.{◌≡◌, ℕ, Some, IsSome};
 ghost use Rattle.mt_commit.specs.Log.{LogView};
@@ -18,7 +18,7 @@ use mt_tree::Tree;
 use mt_types::event::{Answer, TidyRule};
 use mt_types::key::Key;
 
-/// A tidy where a key would stand: one change that makes the tree smaller.
+/// A tidy at the place at which a key would be: one change that makes the tree smaller.
 #[derive(Drop)]
 pub struct Tidy {
     pub key: Key,
@@ -26,7 +26,7 @@ pub struct Tidy {
     pub stage: Stage,
 }
 
-/// It ends, and has done nothing.
+/// Returns the end of a tidy that has done nothing.
 pub fn nothing() -> Progress
     ensures { result ≡ Progress.Answered (Answer.Tidied TidyRule.Nothing) }
 {
@@ -34,7 +34,7 @@ pub fn nothing() -> Progress
 }
 
 impl Tidy {
-    /// A tidy that begins, at the head of layer 0, with nothing noted. Takes no memory.
+    /// Returns a tidy that begins, at the head of layer 0, with nothing noted. Allocates nothing.
     pub fn new(key: Key) -> Tidy
         ensures request { tidy_request result ≡ TidyRequest key }
         ensures has { tidy_held result ≡ nothing_held }
@@ -48,7 +48,7 @@ impl Tidy {
         }
     }
 
-    // At its place, which nobody has locked: the first rule whose signs are seen is begun.
+    // At its place: begins the first rule whose signs are seen, unless the border is locked.
     fn begin(&mut self, tree: &mut Tree, epoch: u64, noted: Noted) -> Progress
         requires seeks { self.old.stage ≡ Stage.Seeks noted }
         requires border { IsSome (border_at tree.old.nodes self.old.way.node.0) }
@@ -147,11 +147,12 @@ impl Tidy {
         }
     }
 
-    /// Visits one node, in this epoch, the present one. It never commits, takes no memory and is never refused.
+    /// Visits one node. `epoch` is the present epoch. It never commits, allocates nothing and is never refused.
     ///
     /// At its place it begins the first rule whose signs are seen, unless the border is locked. It ends with `Nothing`
-    /// where none shows; or where, before its first change of a node but by a lock, it finds a node locked by another,
-    /// marked deleted or no longer as it was noted: it then unlocks what it has locked. Searches one node.
+    /// if there are no signs. It also does so if it finds a node that another call has locked, that is marked deleted
+    /// or that is no longer as it was noted, before it has changed any node except by a lock. It then unlocks what
+    /// it has locked. Searches one node.
     pub fn step(&mut self, tree: &mut Tree, epoch: u64) -> Progress
         requires { MayStepIn epoch tree.old (TidyTruth self.old) }
         ensures request { tidy_request self.new ≡ tidy_request self.old }

@@ -1,4 +1,4 @@
--- What a put does, where there is a row and where there is none.
+-- What a put does if there is a row, and if there is none.
 use Rattle.std.proofs.Common.{◌≡◌, ℕ, List, [], replicate, Option, Some, None, ap, sym, ◌∙◌, subst, refl}
 use Rattle.std.specs.BTreeMap as tree
 use Rattle.std.specs.FinMap as map

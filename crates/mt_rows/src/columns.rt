@@ -10,8 +10,8 @@ use mt_types::row::{Row, Sets};
 use std::alloc::Global;
 use std::mem;
 
-/// Makes of a row what a put by the commit of this number makes of it, in place. O(n) in the sets; takes no memory and
-/// copies no bytes.
+/// Changes a row in place, as a put by the commit of this number does. O(n) in the sets. Allocates nothing and copies
+/// no bytes.
 pub fn rewrite(alloc: Global, row: &mut Row, number: u64, sets: Sets)
     ensures { row.new ≡ record { version = number; columns = new_columns sets 0 row.old.columns } }
 {
@@ -21,8 +21,8 @@ pub fn rewrite(alloc: Global, row: &mut Row, number: u64, sets: Sets)
     row.version = number;
 }
 
-/// The row of `count` columns that a put by the commit of this number makes where there was none. O(n) in the columns;
-/// one allocation.
+/// Returns the row of `count` columns that a put by the commit of this number makes if there was no row. O(n) in the
+/// columns, with one allocation.
 pub fn new_row(alloc: Global, count: u8, number: u64, sets: Sets) -> Result<Row, NoMemory>
     ensures { IfOk result (λ row. row ≡ record {
       version = number;

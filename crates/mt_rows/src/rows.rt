@@ -18,7 +18,7 @@ use std::collections::BTreeMap;
 use std::collections::btree_map::Range;
 use std::marker::Model;
 
-/// Which row stands under which key, in a B-tree in the order of the keys.
+/// The rows, each under its key, in a B-tree in the order of the keys.
 #[derive(Drop)]
 pub struct Rows {
     rows: BTreeMap<Key, Row>,
@@ -41,7 +41,7 @@ impl Model for Rows {
 }
 
 impl Rows {
-    /// No rows. Takes no memory.
+    /// Returns an empty map. Allocates nothing.
     pub fn open(alloc: Global) -> Rows
         ensures { result ≡ map.empty }
     {
@@ -50,37 +50,37 @@ impl Rows {
         }
     }
 
-    /// How many rows.
+    /// Returns how many rows there are.
     pub fn len(&self) -> usize
         ensures { result ≡ map.len self.now }
     {
         self.rows.len()
     }
 
-    /// Whether there are no rows.
+    /// Returns whether there are no rows.
     pub fn is_empty(&self) -> bool
         ensures { IsTrue result ↔ (self.now ≡ map.empty) }
     {
         self.rows.is_empty()
     }
 
-    /// The row under a key, if there is one. O(log n) in the rows.
+    /// Returns the row under a key, if there is one. O(log n) in the rows.
     pub fn get(&self, key: &Key) -> Option<&Row>
         ensures { option_copied result ≡ map.get self.now key.now }
     {
         self.rows.get(key)
     }
 
-    /// The rows from a key on, each with its key, in the order of the keys. Takes no memory and copies nothing.
-    /// O(log n) in the rows.
+    /// Returns the rows whose keys are at or after `start`, each with its key, in the order of the keys. Allocates
+    /// nothing and copies nothing. O(log n) in the rows.
     pub fn from_key(&self, start: &Key) -> Range<'_, Key, Row>
         ensures { result ≡ filter (λ pair. is_ge (key_cmp pair.0 start.now)) (map.entries self.now) }
     {
         self.rows.range(start..)
     }
 
-    /// A copy of the first rows from a key on, up to a limit, each with its key. Shares the bytes. O(log n + m) in the
-    /// rows and the columns that it gives, with an allocation for each row that it gives.
+    /// Returns a copy of the first rows whose keys are at or after `start`, at most `limit`, each with its key. Shares
+    /// the bytes. O(log n + m) in the rows and the columns that it returns, with an allocation for each returned row.
     pub fn page(&self, alloc: Global, start: &Key, limit: usize) -> Result<Pairs, NoMemory>
         ensures { IfOk result (λ pairs. pairs ≡ page_from start.now limit (map.entries self.now)) }
     {
@@ -94,11 +94,11 @@ impl Rows {
         Ok(Pairs::from_vec(pairs))
     }
 
-    /// Puts a row under a key, and gives the row that stood there. On an error nothing changes. O(log n) in the rows.
+    /// Puts a row under a key, and returns the row that was there. On an error nothing changes. O(log n) in the rows.
     ///
     /// # Errors
     ///
-    /// `NoMemory` where an allocation is refused, which only a new key asks for.
+    /// `NoMemory` if an allocation is refused. Only a new key needs one.
     pub fn set(&mut self, key: Key, row: Row) -> Result<Option<Row>, NoMemory>
         ensures old { IfOk result (λ old. old ≡ map.get self.old key) }
         ensures ok { OnOk result (self.new ≡ map.insert self.old key row) }
@@ -107,7 +107,7 @@ impl Rows {
         Ok(self.rows.insert(key, row)?)
     }
 
-    /// Takes the row under a key away, and gives it, if there is one. O(log n) in the rows.
+    /// Removes the row under a key, and returns it, if there is one. O(log n) in the rows.
     pub fn remove(&mut self, key: &Key) -> Option<Row>
         ensures old { result ≡ map.get self.old key.now }
         ensures after { self.new ≡ map.remove self.old key.now }
@@ -158,8 +158,8 @@ impl Rows {
     }
 }
 
-/// The rows of an index of `columns` columns after these changes from none on: the i-th is made by the commit of number
-/// i, from 1 on. Refused `NoMemory` alone. O(n log n) in the changes.
+/// Returns the rows of an index of `columns` columns after these changes, if it was empty before: the commit of number
+/// i, from 1 on, makes the i-th change. The only refusal is `NoMemory`. O(n log n) in the changes.
 pub fn after(alloc: Global, columns: u8, changes: &[Change]) -> Result<Rows, Refusal>
     ensures ok { IfOk result (λ rows. rows ≡ after columns changes.now) }
     ensures refused { IfErr result (λ refusal. refusal ≡ Refusal.NoMemory) }

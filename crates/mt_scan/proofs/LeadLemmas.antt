@@ -1,4 +1,4 @@
--- Where the visit of a border leads: to the right neighbour, or to the head of the layer of a link.
+-- The node to which the visit of a border leads: the right neighbour, or the head of the layer of a link.
 use Rattle.std.proofs.Common.{ℕ, ◌≡◌, ◌⊎◌, inl, inr, List, [], ◌∷◌, ◌++◌, Option, Some, None, refl, sym, ap, subst, ◌∙◌}
 use Rattle.mt_types.specs.Rows.{shown}
 use Rattle.mt_types.specs.declared.row.Row.{Row}

@@ -24,7 +24,7 @@ use Rattle.mt_scan.specs.declared.scan.ScanMove.TheVariants.{Done, To, Top}
 use Rattle.mt_scan.specs.declared.cursor.Step.TheVariants.{Enter}
 
 -- ---- digits
--- the last digit, by whether the cursor is behind all keys that begin so
+-- the last digit, by whether the cursor is after all keys that begin so
 bare_digit : (slice class : ℕ) → class ≢ 10 → last_digit slice class ≡ 2 * slice
 bare_digit slice class other = elim (eqb_tells class 10) [
   | inl p ↦ absurd (other p.1)
@@ -111,7 +111,7 @@ module _ (places : ℕ) where
   goes_right prefix (last own class) low layer digits less = leaves_border places prefix [] (last_digit own class) own low layer tt (most_digit own class) less
   goes_right prefix (deeper own rest) low layer digits less = leaves_border places prefix (cursor_digits rest) (2 * own) own low layer digits.1 (omega arith) less
 
-  -- behind all of its layer, and back in layer 0
+  -- after all of its layer, and back in layer 0
   leaves_on : (above : List ℕ) (slice : ℕ) (at : Place) → length (slice ∷ above) < places → HasDigits at → number places (slice ∷ above) at < number places [] (under above (last slice 10))
   leaves_on above slice at layer digits =
       subst (λ (ds : List ℕ). number places (slice ∷ above) at < digits_number digit_base places ds) (sym (digits_under above (last slice 10)))
@@ -125,7 +125,7 @@ module _ (places : ℕ) where
   does_go (answers taken) = false
   does_go (goes prefix node at taken) = true
 
-  -- a scan that goes on from the end of a border goes further on
+  -- a scan that continues from the end of a border advances
   goes_further : (prefix : List ℕ) (at : Place) (right : Option Right) (taken after : List (Pair Row)) (to : List ℕ) (node : ℕ) (place : Place) → length prefix < places → HasDigits at
       → Below (first_slice at) right → AtEnd prefix right taken (goes to node place after) → number places prefix at < number places to place
   goes_further prefix at (Some link) taken after to node place layer digits (before_right less) is =

@@ -1,4 +1,4 @@
--- The cursor of a scan: the layer and the place at which it stands, and what it does at an entry.
+-- The cursor of a scan: the layer and the place at which it is, and what it does at an entry.
 use Rattle.std.specs.Prelude.{ℕ, ◌≡◌, ◌≢◌, ◌<◌, ◌≤◌, ◌==◌, Bool, true, false, if◌then◌else◌, List, [], ◌∷◌, length, take, drop, reverse}
 use Rattle.mt_slice.specs.Place.{Place, last, deeper, under, Precedes, place_of}
 use Rattle.mt_chart.specs.Scan.{AtMost}
@@ -8,7 +8,7 @@ use Rattle.mt_tree.specs.Seen.{content_place}
 use Rattle.mt_scan.specs.declared.cursor.Step.{Step}
 use Rattle.mt_scan.specs.declared.cursor.Step.TheVariants.{Pass, Take, Enter}
 
--- the layer in which a scan stands, by the slices above it, the nearest first, and its place in that layer
+-- the layer in which a scan is, by the slices above it, the nearest first, and its place in that layer
 pub record CursorView : Type 0 where
   pub prefix : List ℕ
   pub at : Place
@@ -27,7 +27,7 @@ cursor_view slices class depth = record {
       (drop depth slices);
 }
 
--- the layer is one of the cursor's, and its class is a number of bytes, or 10 behind all keys that go on
+-- the layer is one of the cursor's, and its class is a number of bytes, or 10, after all keys that continue
 pub record IsCursor (slices : List ℕ) (class depth : ℕ) : Type 0 where
   pub within : depth < length slices
   pub class_fits : class ≤ 10
@@ -38,23 +38,23 @@ abbrev pub is_inside : ℕ → Place → Bool
 is_inside slice (last own class) = false
 is_inside slice (deeper own rest) = own == slice
 
--- where a scan comes to in a layer that it enters at a slice: to the rest of its place, if that is in the layer, or to
--- the layer's first place
+-- the place to which a scan comes in a layer that it enters at a slice: the rest of its place, if that is in the layer,
+-- or the layer's first place
 abbrev pub entered_at : ℕ → Place → Place
 entered_at slice (last own class) = last 0 0
 entered_at slice (deeper own rest) = if own == slice then rest else last 0 0
 
--- the place of this slice and this number of a class, which goes on with the rest where that is 9
+-- the place of this slice and this number of a class, which continues with the rest if that number is 9
 abbrev pub place_with : ℕ → ℕ → Place → Place
 place_with slice class rest = if class == 9 then deeper slice rest else last slice class
 
--- the place of a row's key in its layer, and for a link the place behind all that is deeper
+-- the place of a row's key in its layer, and for a link the place after all that is deeper
 abbrev pub content_end : ℕ → Content → Place
 content_end slice (Short bytes row) = last slice bytes
 content_end slice (Long suffix row) = deeper slice (place_of suffix)
 content_end slice (Link top) = last slice 10
 
--- behind all that begins with the prefix of its layer, and back in layer 0; or in layer 0 as it was
+-- after all that begins with the prefix of its layer, and back in layer 0; or in layer 0 as it was
 abbrev pub Leaves : CursorView → Bool → CursorView → Type 0
 Leaves c true d = (slice : ℕ) × (above : List ℕ) × (c.prefix ≡ slice ∷ above)
     × (d ≡ record { prefix = []; at = under above (last slice 10) })

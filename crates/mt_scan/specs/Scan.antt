@@ -38,7 +38,7 @@ pub record HoldsKey (prefix : List ℕ) (entry : Entry) : Type 0 where
 pub record HoldsKeys (prefix : List ℕ) (live : List Entry) : Type 0 where
   pub each : All (λ entry. IsSome (entry_row entry) → HoldsKey prefix entry) live
 
--- what a visit comes to, where it leaves the scan so
+-- what a visit comes to, if it leaves the scan so
 abbrev pub outcome_of : ScanMove → ScanView → VisitOutcome Row
 outcome_of Done s = answers (as_places s.taken)
 outcome_of (To node) s = goes s.prefix node.0 s.at (as_places s.taken)
@@ -62,7 +62,7 @@ IsNext s key = (pair : Pair Row) → Among pair (as_places s.taken) → Precedes
 abbrev pub with_pair : ScanView → List ℕ → Row → ScanView
 with_pair s key row = record s { taken = s.taken ++ (key, shown s.asked row) ∷ [] }
 
--- the scan takes the entry's pair, or passes it where it is not after those that it took
+-- the scan takes the entry's pair, or passes it if it is not after those that it took
 abbrev pub TakesPair : ScanView → Entry → ScanView → Type 0
 TakesPair s entry t =
     (WasTaken s (under s.prefix (entry_place entry)) × (t ≡ s))

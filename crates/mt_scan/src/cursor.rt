@@ -1,4 +1,4 @@
-//! The cursor of a scan: a place of the tree, and the layer in which the scan stands.
+//! The cursor of a scan: a place of the tree, and the layer in which the scan is.
 
 ghost use Rattle.std.specs.Prelude.{ℕ, ◌≡◌, ◌<◌, ◌≤◌, ◌≢◌, ◌∷◌, ◌++◌, [], length, slice_index, vec_len, take, reverse, IfOk, OnOk};
 ghost use Rattle.std.specs.Ordering.{is_le};
@@ -15,10 +15,10 @@ use std::alloc::Global;
 use std::cmp::Ordering;
 use std::marker::Model;
 
-// The number of the class of what goes on past a slice.
+// The number of the class of what continues past a slice.
 const LONG: u8 = 9;
 
-// The class behind all that goes on past a slice.
+// The class after all that continues past a slice.
 const BEHIND: u8 = 10;
 
 /// What a scan does at an entry.
@@ -28,12 +28,12 @@ pub(crate) enum Step {
     Pass,
     /// It takes its row.
     Take,
-    /// It goes on in the layer of this head.
+    /// It continues in the layer of this head.
     Enter(NodeNo),
 }
 
-/// A place of the tree, by its slices from layer 0 on and the class of the last: so many bytes, or behind all keys that
-/// go on past that slice. The layer in which the scan stands is one of those of its slices.
+/// A place of the tree, by its slices from layer 0 on and the class of the last: a number of bytes, or after all keys
+/// that continue past that slice. The scan is in the layer of one of its slices.
 #[derive(Drop)]
 pub(crate) struct Cursor {
     slices: Vec<u64>,
@@ -56,8 +56,8 @@ impl Model for Cursor {
     ghost invariant = { λ c. IsCursor c.slices.items c.class c.depth };
 }
 
-// How a place compares with a cursor: this slice and this number of a class, and these bytes after it where that is 9,
-// with these slices and the class of their last.
+// How a place compares with a cursor. The place is this slice and this number of a class, with these bytes after it if
+// that number is 9. The cursor is these slices and the class of their last.
 fn compare(slice: u64, class: u8, rest: &[u8], cursor: &[u64], end: u8) -> Ordering
     requires some { 0 < length cursor.now }
     requires no_long { end ≢ 9 }
@@ -125,21 +125,21 @@ impl Cursor {
         let _first = first_of(&self.slices);
     }
 
-    /// The slices above the layer in which the scan stands, from layer 0 on.
+    /// The slices above the layer in which the scan is, from layer 0 on.
     pub(crate) fn above(&self) -> &[u64]
         ensures { reverse result.now ≡ self.now.prefix }
     {
         &self.slices[..self.depth]
     }
 
-    /// Back to layer 0, at the same place of the tree.
+    /// Goes back to layer 0, at the same place of the tree.
     pub(crate) fn restart(&mut self)
         ensures { self.new ≡ record { prefix = []; at = under self.old.prefix self.old.at } }
     {
         self.depth = 0;
     }
 
-    /// Whether it is at or behind the place of these bytes. Costs a look at each slice of them at most.
+    /// Whether it is at or after the place of these bytes. Looks at each slice of them at most once.
     pub(crate) fn is_from(&self, bytes: &[u8]) -> bool
         ensures { result ≡ is_le (place_cmp (place_of bytes.now) (under self.now.prefix self.now.at)) }
     {
@@ -154,7 +154,7 @@ impl Cursor {
         .is_le()
     }
 
-    // How what stands at an entry compares with the cursor: the row's key, or the end of the link's layer.
+    // How an entry compares with the cursor: by its row's key, or by the end of its link's layer.
     fn compare(&self, entry: &Entry) -> Ordering
         ensures { result ≡ place_cmp (content_end entry.now.slice entry.now.content) self.now.at }
     {
@@ -170,7 +170,7 @@ impl Cursor {
         }
     }
 
-    /// What the scan does at an entry. Costs a look at each slice of the cursor at most.
+    /// What the scan does at an entry. Looks at each slice of the cursor at most once.
     pub(crate) fn step(&self, entry: &Entry) -> Step
         ensures { StepsAt self.now.at entry.now.slice entry.now.content result }
     {
@@ -182,7 +182,7 @@ impl Cursor {
         }
     }
 
-    /// To this slice of its layer, at a number of bytes.
+    /// Goes to this slice of its layer, at a number of bytes.
     pub(crate) fn go_to(&mut self, slice: u64, bytes: u8)
         requires { bytes ≤ 8 }
         ensures { self.new ≡ record self.old { at = last slice bytes } }
@@ -198,8 +198,8 @@ impl Cursor {
         self.depth + 1 < self.slices.len() && self.slices[self.depth] == slice
     }
 
-    /// Into the layer below a slice: to the rest of its place, if that is there, or to the layer's first place. Costs
-    /// at most one allocation.
+    /// Goes into the layer below a slice: to the rest of its place, if that is there, or to the layer's first place.
+    /// Costs at most one allocation.
     pub(crate) fn enter(&mut self, slice: u64) -> Result<(), NoMemory>
         ensures { OnOk result (self.new ≡ record {
           prefix = slice ∷ self.old.prefix;
@@ -217,7 +217,7 @@ impl Cursor {
         Ok(())
     }
 
-    /// Behind all of its layer, and back to layer 0. In layer 0 it stays, and the answer is no.
+    /// Goes after all of its layer and back to layer 0, and returns true. In layer 0 it stays, and returns false.
     pub(crate) fn leave(&mut self) -> bool
         ensures { Leaves self.old result self.new }
     {

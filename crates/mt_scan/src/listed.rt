@@ -8,7 +8,7 @@ use mt_border::{Border, Entry, RightLink};
 /// Entries of one layer, in their order, and what is to the right of them.
 #[derive(Clone, Copy)]
 pub enum Listed<'a> {
-    /// Those of a border, as it stands.
+    /// Those of a border, as it is.
     Border(&'a Border),
     /// Those that were read of a border one by one, and the right link that was read with them.
     Entries(&'a [Entry], Option<RightLink>),

@@ -31,16 +31,16 @@ use std::mem;
 pub enum ScanMove {
     /// The scan is at its end.
     Done,
-    /// It goes on at this node.
+    /// It continues at this node.
     To(NodeNo),
-    /// It goes on at the head of layer 0.
+    /// It continues at the head of layer 0.
     Top,
 }
 
-/// A scan of the pairs from a key on, up to a limit: the layer in which it stands, its cursor, and what it has taken.
+/// A scan of the pairs from a key on, up to a limit: the layer in which it is, its cursor, and what it has taken.
 ///
 /// It goes from border to border by their right links, and into the layers of links (Masstree, EuroSys 2012, section
-/// 4.6). Its cursor alone says where it goes on, so it may begin anew at the head of layer 0 at any time.
+/// 4.6). Its cursor alone says where it continues, so it may begin again at the head of layer 0 at any time.
 #[derive(Drop)]
 pub struct Scan {
     cursor: Cursor,
@@ -77,12 +77,12 @@ impl Model for Scan {
 }
 
 impl Scan {
-    /// A scan that begins at a key, in layer 0, and takes up to so many pairs with these columns of each row, or all
-    /// columns where none is named. Costs an allocation for the slices of the key.
+    /// A scan that begins at a key, in layer 0, and takes at most `limit` pairs with these columns of each row, or all
+    /// columns if none is named. Costs an allocation for the slices of the key.
     ///
     /// # Errors
     ///
-    /// `NoMemory` where an allocation is refused.
+    /// `NoMemory` if an allocation is refused.
     pub fn new(
         alloc: Global,
         start: &Key,
@@ -105,7 +105,7 @@ impl Scan {
         })
     }
 
-    /// The slice that the scan seeks in its layer: it goes down to the border where that slice would stand. Constant
+    /// The slice that the scan seeks in its layer: it goes down to the border in which that slice would be. Constant
     /// cost.
     pub fn slice(&self) -> u64
         ensures { result ≡ first_slice self.now.at }
@@ -120,8 +120,8 @@ impl Scan {
         self.cursor.restart();
     }
 
-    /// Whether its cursor is at or behind the place of a key: then it is done with each key before that one. Costs a
-    /// look at each slice of the key at most.
+    /// Whether its cursor is at or after the place of a key: then it is done with each key before that one. Looks at
+    /// each slice of the key at most once.
     pub fn is_from(&self, key: &[u8]) -> bool
         ensures value { IsTrue result ↔ AtMost (place_of key.now) (under self.now.prefix self.now.at) }
         ensures bytes { AreBytes key.now }
@@ -210,19 +210,19 @@ impl Scan {
         }
     }
 
-    /// Visits the entries of a border of the layer in which the scan stands: takes the pairs that are at or after the
+    /// Visits the entries of a border of the layer in which the scan is: takes the pairs that are at or after the
     /// cursor, in their order, up to the limit, up to the first link that it has to enter, or to the end. The scan is
-    /// then at its end, or it goes on at the head of the link's layer, at the border to the right, or at the head of
-    /// layer 0, and its cursor is behind all that it has done. Where it has as many pairs as it may take, it is at
-    /// its end at once. A scan that goes on gets on: its cursor is further on, or it is in the layer below.
+    /// then at its end, or it continues at the head of the link's layer, at the border to the right, or at the head of
+    /// layer 0, and its cursor is after all that it has done. If it has as many pairs as it may take, it is at its end
+    /// at once. A scan that continues advances: its cursor is further on, or it is in the layer below.
     ///
-    /// Costs a look at each entry up to there, and for each pair that it takes the allocations of its key and its
-    /// row. The bytes of the columns are shared.
+    /// Looks at each entry up to there, and allocates the key and the row of each pair that it takes. The bytes of the
+    /// columns are shared.
     ///
     /// # Errors
     ///
-    /// `NoMemory` where an allocation is refused. The call is then to be refused too: of what the scan has done of the
-    /// visit, no more is said than that its limit and its columns stay.
+    /// `NoMemory` if an allocation is refused. The call has to be refused then too: nothing is said of what the scan
+    /// has done of the visit, except that its limit and its columns stay.
     pub fn visit(&mut self, alloc: Global, listed: Listed<'_>) -> Result<ScanMove, NoMemory>
         requires { HoldsKeys self.old.prefix (list_in listed).entries }
         ensures visited { IfOk result (λ visited. VisitsList self.old (list_in listed.entry) visited self.new) }

@@ -91,7 +91,7 @@ module _ (C : ℕ) (s : Store) (reply : Reply) (made : List Change) (from : repl
   reply_is (Build spec) (answers.Built view) nothing next = reading (answers.Built view) (Built (record { 0 = (now s).built + 1 })) nothing (ap (λ (n : ℕ). Built (record { 0 = n })) next)
   reply_is _ _ plain next = absurd plain
 
--- what a call that has begun was refused for, where the store is short of nothing
+-- if the store is short of nothing, a call that has begun is refused only if the refusal is the answer to its request
 given_up : (C : ℕ) (s : Store) (pass : PassNo) (request : Request) (number : CallNo) (refusal : Refusal) → 0 < s.machine.log.feed → NoneBehind 0 s → IsAmple (Refused refusal) → MayLack s pass request number refusal
     → IsPlainRefusal (rows C (now s)) request refusal → IsReply C (now s) request (Refused refusal)
 given_up C s pass request number NoMemory feed close ample lack plain = absurd ample

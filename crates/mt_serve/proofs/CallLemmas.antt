@@ -52,7 +52,7 @@ use Rattle.mt_shared.specs.Drives.{Continues}
 use Rattle.mt_serve.specs.Store.{Store, now, newest, ComesTo, Meets, MeetsSpent, HasFewNodes, HasSpentBorder}
 use Rattle.mt_serve.proofs.StageLemmas.{WorkSays, Explains, IsWriting, work_moved, work_rests, work_commits, work_begins, work_refused}
 
--- ---- why it may fail, where it began at a store
+-- ---- why a call that began at a store may fail
 abbrev pub Cause : Store → PassNo → Request → CallNo → Refusal → Type 0
 Cause s pass request number ArenaFull = Meets s pass request number HasFewNodes
 Cause s pass request number (FeedFull slowest) = s.machine.log.feed ≤ newest s - slowest
@@ -235,7 +235,7 @@ module _ (s : Store) (pass : PassNo) (request : Request) (number : CallNo) where
       work_commits Says m.machine.tree m.machine.log o.kept.pace o.kept.work c.work commit (h.one_step o.kept c (found_one m.machine m.past one o) at)
   says_on m n one o comes quiet feed _ on h says = absurd on
 
-  -- it is so when the call has begun, where no other is open
+  -- it is so when the call has begun, if no other call is open
   begins_of : (m n : MachineView) (own : PassNo) (asked : Request) → EventDoes m (Begin own asked) (Called number) n → Begins Field m own asked (Called number) n
   unfolding EventDoes
   begins_of m n own asked does = does

@@ -27,7 +27,7 @@ use Rattle.mt_serve.specs.Store.{Store, now, newest}
 use Rattle.mt_serve.specs.Plain.{CallEnds, PlainlyAsks, PlainlyAnswers, NoneBehind, KeptUp}
 use Rattle.mt_serve.specs.Ample.{RanOutBefore, ViewsStayNewest}
 
--- no view of these is more than so many behind a number
+-- each of these views is at most this many commits short of the number n
 abbrev Close : ℕ → ℕ → List StandingView → Type 0
 Close many n views = All (λ (v : StandingView). n ≤ v.at + many) views
 

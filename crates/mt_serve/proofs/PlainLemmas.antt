@@ -84,7 +84,7 @@ frames_rise s t p q (frame ∷ frames) (reply ∷ replies) (m, r, one, more) =
 frames_rise s t p q [] (reply ∷ replies) never = absurd never
 frames_rise s t p q (frame ∷ frames) [] never = absurd never
 
--- ---- the views, once one is taken on
+-- ---- the views, once one is advanced
 taken_none : (views : List StandingView) → TakenOn views views
 taken_none [] = tt
 taken_none (v ∷ views) = (refl, refl, omega arith, taken_none views)
@@ -254,7 +254,7 @@ refused_memory m refusal may = by_view (furthest_of None m.views) may
     ]
 
 -- ---- turns
--- so many turns have taken views on since this had happened
+-- since the store s, this many turns have been made, and each has advanced a view
 record HasKept (s : Store) (pass : PassNo) (made : ℕ) (m : KeptView) (r : PassView) : Type 0 where
   past : History
   keeps : Keeping m r past
@@ -267,7 +267,7 @@ record HasKept (s : Store) (pass : PassNo) (made : ℕ) (m : KeptView) (r : Pass
   falls : lag (length (moment s.past).commits) (moment past).views + made ≤ lag (length (moment s.past).commits) (moment s.past).views
   ended : (moment past).calls ≡ []
 
--- a turn more
+-- one more turn
 leads_turn : (s : Store) (m n : KeptView) (past : History) (turns : List Outcome) (o : Outcome) (note : ℕ) → Leads s (map (λ (x : Outcome). furthest) turns) turns (store_of m past)
     → Happens m.machine furthest o n.machine → Leads s (map (λ (x : Outcome). furthest) (turns ++ o ∷ [])) (turns ++ o ∷ []) (store_of n (happening furthest o note ∷ past))
 leads_turn s m n past turns o note leads happens =
@@ -342,7 +342,7 @@ alone_again t q h final k ended on few = record {
   counted = k.counted;
 }
 
--- of so many turns each took a view on, and there were as many as all views were behind
+-- 64 turns were made and each advanced a view: all views together were at most 64 commits behind
 all_turned : (s t : KeptView) (p q : PassView) (h : History) → IsAlone s p h → t.events < greatest_number → KeptThen (store_of s h) p.number 64 [] t q → IsKeptUp (store_of s h) t q
 all_turned s t p q h a few k =
     let kept : HasKept (store_of s h) p.number 64 t q = subst (λ (n : KeptView). HasKept (store_of s h) p.number 64 n q) (sym k.runs.0) (subst (λ (w : PassView). HasKept (store_of s h) p.number 64 k.m w) (sym k.runs.1) k.kept) in

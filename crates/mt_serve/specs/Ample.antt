@@ -81,13 +81,13 @@ AmpleAnswersAreTheirs =
     (s t : Store) (query : Query) (response : Response) → 0 < s.machine.log.feed → NoneBehind 0 s
     → PlainlyAnswers s query response t → IsAmple response → IsAnswer s.machine.columns (now s) query response
 
--- the last events that led to this store were turns by which views are taken on, the last of which ran out of memory
+-- the last events that led to this store were turns that advance views, and the last of them ran out of memory
 abbrev pub RanOutBefore : Store → Type 0
 RanOutBefore t = (m : Store) × (turns : List Outcome)
     × Leads m (map (λ (outcome : Outcome). furthest) turns) turns t × RanOut turns
 
--- After each query the views are at the newest change again, unless memory was refused while one was taken on: only then
--- can a log become full.
+-- After each query the views are at the newest change again, unless memory was refused while a view was advanced. Only
+-- then can a log become full.
 abbrev pub ViewsStayNewest : Type 0
 ViewsStayNewest =
     (s t : Store) (query : Query) (response : Response) → NoneBehind 0 s → PlainlyAnswers s query response t

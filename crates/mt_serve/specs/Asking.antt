@@ -52,12 +52,12 @@ abbrev pub changes : Response → Bool
 changes (Done start stop end) = end_changes end
 changes _ = false
 
--- views are taken on, in at most 64 turns, until all stand at the newest commit or a turn is refused
+-- views are advanced, in at most 64 turns, until all are at the newest commit or a turn is refused
 abbrev pub KeepsViews : {S : Type 0} → EventLaw S → S → PassView → S → PassView → Type 0
 KeepsViews does s p t q =
     ((applied : ℕ) × KeepsUp does s p 64 applied t q) ⊎ ((refusal : Refusal) × IsStopped does s p 64 refusal t q)
 
--- A QUERY IS ANSWERED: it is done, and where it changed rows or built a view, views are then kept up.
+-- A QUERY IS ANSWERED: it is done, and if it changed rows or built a view, views are then kept up.
 abbrev pub Answers : {S : Type 0} → EventLaw S → S → PassView → Query → Response → S → PassView → Type 0
 Answers {S} does s p query response t q =
     (m : S) × (r : PassView) × Asks does s p query response m r

@@ -105,12 +105,12 @@ TakenOn (v ∷ views) (w ∷ later) =
 TakenOn [] (w ∷ later) = ⊥
 TakenOn (v ∷ views) [] = ⊥
 
--- the last of these turns, in which a view was to be taken on, was refused: out of memory
+-- the last of these turns, which was to advance a view, was refused: out of memory
 abbrev pub RanOut : List Outcome → Type 0
 RanOut turns = (front : List Outcome) × (turns ≡ front ++ Refused NoMemory ∷ [])
 
--- VIEWS ARE KEPT UP: what happens are turns, each of which takes on the view that is furthest behind; no change is made;
--- if no view was more than one change behind, none is behind then, unless a turn ran out of memory.
+-- VIEWS ARE KEPT UP: what happens are turns, each of which advances the view that is furthest behind. No change is
+-- made. If no view was more than one change behind, none is behind then, unless a turn ran out of memory.
 pub record KeptUp (s t : Store) : Type 0 where
   pub turns : List Outcome
   pub happens : Leads s (map (λ (outcome : Outcome). furthest) turns) turns t

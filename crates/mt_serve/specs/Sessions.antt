@@ -21,7 +21,7 @@ requests_of frames = flat_map request_frame frames
 abbrev pub replies_of : List (Frame Response) → List ℕ
 replies_of replies = flat_map reply_frame replies
 
--- The session has answered these frames, which stood at the front of the input: one after the other, each by one frame
+-- The session has answered these frames, which were at the front of the input: one after the other, each by one frame
 -- of answers in its version, which were written. What is left of the input is the rest.
 pub record HasServed {S : Type 0} (does : EventLaw S) (s : S) (p : PassView) (input old : Option (List ℕ))
     (frames : List (Frame Query)) (rest new : Option (List ℕ)) (t : S) (q : PassView) : Type 0 where
@@ -31,7 +31,8 @@ pub record HasServed {S : Type 0} (does : EventLaw S) (s : S) (p : PassView) (in
   pub answered : AnswersFrames does s p frames replies t q
   pub written : Appends old new (replies_of replies)
 
--- A SESSION IS DONE: it has served frames that are all of the input, and so many of them, with so many queries.
+-- A SESSION IS DONE: it has served frames that are all of the input, and the summary has their number and the number of
+-- their queries.
 pub record IsServed {S : Type 0} (does : EventLaw S) (s : S) (p : PassView) (input old : Option (List ℕ))
     (summary : Summary) (new : Option (List ℕ)) (t : S) (q : PassView) : Type 0 where
   pub frames : List (Frame Query)
@@ -41,8 +42,8 @@ pub record IsServed {S : Type 0} (does : EventLaw S) (s : S) (p : PassView) (inp
   pub frame_count : summary.frames ≡ length frames
   pub query_count : summary.queries ≡ sum_by (λ frame. length frame.messages) frames
 
--- What became of the next frame: of its queries these were done, and all of them where a write failed; of its reply a
--- front was written then, and else nothing.
+-- What became of the next frame. If a write failed, all of its queries were done, and a front of its reply was written.
+-- If memory ran out, a front of its queries was done, and nothing was written.
 abbrev pub BreaksIn : {S : Type 0} → EventLaw S → S → PassView → SessionFault → Frame Query → Option (List ℕ) →
     Option (List ℕ) → S → PassView → Type 0
 BreaksIn does s p Write frame old new t q =

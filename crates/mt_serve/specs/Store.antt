@@ -41,7 +41,7 @@ Leads s events outcomes t = AllHappen s.machine events outcomes t.machine × Goe
 abbrev pub fault : Store → Request → Option Refusal
 fault s request = begin_fault s.machine.columns (now s).begun 0 (length (now s).views) request
 
--- its begin, and so many steps of it as there are outcomes
+-- its begin, and one step for each of these outcomes
 abbrev pub call_events : PassNo → Request → CallNo → List Outcome → List Event
 call_events pass request number outcomes =
     Begin pass request ∷ map (λ (outcome : Outcome). Step number) outcomes

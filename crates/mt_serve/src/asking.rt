@@ -44,7 +44,7 @@ fn drop_response(dropped: Result<(), Refusal>) -> Response
     }
 }
 
-// A query, done and answered: views are not kept up yet.
+// Does what a query asks, and returns its answer. Views are not kept up yet.
 fn ask<S: Shared>(alloc: Global, shared: &mut S, pass: &mut Pass, query: Query) -> Response
     ensures asks { Asks S.does shared.old pass.old query result shared.new pass.new }
     ensures limited { ResponseIsLimited result }
@@ -74,17 +74,17 @@ fn changes(response: &Response) -> bool
     )
 }
 
-// Views are taken on. What stops it changes nothing: a later commit takes them on too.
+// Advances views. A turn that is refused changes nothing: views are advanced again after a later commit.
 fn keep_up<S: Shared>(alloc: Global, shared: &mut S, pass: &mut Pass)
     ensures { KeepsViews S.does shared.old pass.old shared.new pass.new }
 {
     let _kept = keep_views(alloc, shared, pass, TURNS);
 }
 
-/// Does what a query asks, and gives its answer: a call is driven from its begin to its end, a page is read or a view
-/// dropped by one event. Where it changed rows or built a view, views are then taken on, in at most 64 turns.
+/// Does what a query asks, and returns its answer: a call is driven from its begin to its end, and a page is read or a
+/// view dropped by one event. If the query changed rows or built a view, views are then advanced, in at most 64 turns.
 ///
-/// Over a `Door` each event is one holding of the lock, so other threads' events come between them.
+/// Over a `Door` each event holds the lock once, so events of other threads can come between them.
 pub fn answer<S: Shared>(alloc: Global, shared: &mut S, pass: &mut Pass, query: Query) -> Response
     ensures answers { Answers S.does shared.old pass.old query result shared.new pass.new }
     ensures limited { ResponseIsLimited result }

@@ -10,7 +10,7 @@ use thiserror::Error;
 /// Why a session ended before its input did.
 #[derive(Clone, Copy, Debug, PartialEq, Eq, Error)]
 pub enum SessionFault {
-    /// A read failed, or more reads were wanted than may be made.
+    /// A read failed, or all reads that may be made were made.
     #[error("the input could not be read")]
     Read,
     /// A write failed, or took nothing.
@@ -22,19 +22,19 @@ pub enum SessionFault {
     /// The length of a frame's body is not within its bounds.
     #[error("the length of a frame is out of its bounds")]
     BadLength,
-    /// The first byte of a body is no version.
+    /// The first byte of a frame's body is not a version.
     #[error("a frame has another version")]
     BadVersion,
-    /// A body spells no queries of its version.
+    /// A frame's body does not spell queries of its version.
     #[error("a frame spells no queries")]
     BadBody,
-    /// A growth was refused.
+    /// An allocation was refused.
     #[error("out of memory")]
     NoMemory,
 }
 
 impl SessionFault {
-    /// The number of the fault: 1 to 7.
+    /// Returns the number of the fault, from 1 to 7.
     pub fn number(&self) -> u8
         ensures { result ≡ fault_number self.now }
     {

@@ -1,4 +1,4 @@
-//! The frames of queries in what a reader gives.
+//! The frames of queries in the bytes of a reader.
 
 ghost use Rattle.std.specs.Prelude.{◌≡◌, ◌≢◌, ◌⊎◌, ◌<◌, ◌≤◌, ◌++◌, List, ℕ, [], None, Some, IfOk, IfErr, IfSome, IfNone, OnOk, OnSome, true};
 ghost use Rattle.std.specs.Io.KnownBytes.{IsAtEnd, Consumes, Keeps};
@@ -21,10 +21,11 @@ use std::io::Read;
 // How many bytes a read asks for.
 const PIECE: usize = 16384;
 
-/// How many frames are returned at most: all reads bring fewer bytes.
+/// The most frames that are returned. All reads together return fewer bytes.
 pub const MOST_FRAMES: u64 = 70_368_744_177_664;
 
-/// The frames of queries in what a reader gives, which is called at most 4,294,967,295 times, for 16 KiB each.
+/// The frames of queries in the bytes of a reader. The reader is called at most 4,294,967,295 times, for 16 KiB each
+/// time.
 #[derive(Drop)]
 pub struct Frames<R> {
     reader: Counted<R>,
@@ -32,7 +33,7 @@ pub struct Frames<R> {
 }
 
 impl<R: Read> Frames<R> {
-    /// The frames of what the reader gives.
+    /// Returns the frames of the bytes that are left in `reader`.
     pub fn new(alloc: Global, reader: R) -> Frames<R>
         ensures rest { frames_rest R.remaining result ≡ R.remaining reader }
         ensures left { frames_left result ≤ MOST_FRAMES }
@@ -80,13 +81,13 @@ impl<R: Read> Frames<R> {
         }
     }
 
-    /// The next frame, its version and its queries, or nothing if the input ends between frames. The reader is called only
-    /// when no whole frame is there. The bytes of keys and columns are the frame's own, shared.
+    /// Returns the next frame, with its version and its queries, or `None` if the input ends between frames. Calls
+    /// the reader only while no whole frame is there. The bytes of keys and columns are shared with the frame.
     ///
     /// # Errors
     ///
-    /// `BadLength`, `BadVersion`, `BadBody` if no frame is there; `Cut` if the input ends inside one; `Read` if a read
-    /// failed, or all reads were made, before the frame was whole; `NoMemory` if out of memory.
+    /// `BadLength`, `BadVersion` or `BadBody` if the next bytes are no frame; `Cut` if the input ends inside a frame;
+    /// `Read` if a read failed, or all reads were made, before the frame was whole; `NoMemory` if out of memory.
     pub fn next(&mut self) -> Result<Option<Frame<Query>>, SessionFault>
         ensures frame { IfOk result (λ next. IfSome next (λ frame. RequestsFit frame
             × LosesFrame frame (frames_rest R.remaining self.old) (frames_rest R.remaining self.new))) }

@@ -3,13 +3,14 @@
 ghost use Rattle.mt_serve.specs.Plain.{FreshIsAlone, AloneAnswersPlainly, AloneAnswersFramesPlainly, AloneServesPlainly, AloneBreaksPlainly};
 ghost use Rattle.mt_serve.specs.Ample.{AmpleAnswersAreTheirs, ViewsStayNewest, AnswersAreOne};
 
-/// Of an index of one caller (a `Lone` and its pass), on which every call has ended, and while its events can be counted
-/// (fewer than 18,446,744,073,709,551,615): whatever `answer` and `session` did is what a plain store does. A get gives
-/// the row that the changes so far have made, a range the first rows from its key on, a put or remove makes the next
-/// change; a page is exactly its filter and sums over those rows; each refusal has its cause; after a change no view is
-/// left behind, unless memory was wanting. So what `session` wrote is the spelling of the plain store's answers to the
-/// frames that its input spells, in order, however the input was cut; and where it broke off, the same of the frames
-/// before.
+/// On an index of one caller (a `Lone` and its pass), `answer` and `session` do what a plain store does, if every call
+/// has ended before, and as long as the index has made fewer than 18,446,744,073,709,551,615 events.
+///
+/// A get returns the row that the changes so far have made, and a range the first rows from its key on. A put or remove
+/// makes the next change. A page is exactly its filter and sums over those rows. Each refusal has its cause. After a
+/// change no view is left behind, unless memory was refused. So `session` writes the spelling of the plain store's
+/// answers to the frames that its input spells, in order, however the input is cut. If it breaks off, the same holds
+/// for the frames before.
 pub fn sessions_alone_are_plain()
     ensures fresh { FreshIsAlone }
     ensures queries { AloneAnswersPlainly }
@@ -18,10 +19,10 @@ pub fn sessions_alone_are_plain()
     ensures broken { AloneBreaksPlainly }
 {}
 
-/// A store that is not short of memory, of nodes or of numbers, whose views are at its newest change, answers by a
-/// function of the changes so far, its views and the query: `IsAnswer` is its graph, and can be read aloud. There is one
-/// answer, except that the rule is open that a tidy names. Views stay at the newest change, unless memory was refused
-/// while one was taken on; a log that no view holds back is never full.
+/// If a store is not short of memory, of nodes or of numbers, and its views are at its newest change, its answer is a
+/// function of the changes so far, its views and the query. `IsAnswer` is the graph of this function. There is only one
+/// answer, except that the rule that a tidy names is left open. Views stay at the newest change, unless memory was
+/// refused while a view was advanced. A log that no view holds back is never full.
 pub fn ample_answers_are_one()
     ensures theirs { AmpleAnswersAreTheirs }
     ensures newest { ViewsStayNewest }

@@ -32,16 +32,16 @@ use mt_wire::version::WireVersion;
 use std::alloc::{AllocError, Global};
 use std::io::{Read, Write};
 
-/// What a session has answered.
+/// How much a session has answered.
 #[derive(Clone, Copy, Debug, PartialEq, Eq)]
 pub struct Summary {
-    /// The frames of queries.
+    /// The number of frames of queries.
     pub frames: u64,
-    /// The queries in them.
+    /// The number of queries in these frames.
     pub queries: u64,
 }
 
-// Answers queries, one after the other. Where there is no memory for an answer, its query and those before it are done.
+// Answers queries, one after the other. If there is no memory for an answer, its query and those before it are done.
 fn answer_all<S: Shared>(
     alloc: Global,
     shared: &mut S,
@@ -62,8 +62,8 @@ fn answer_all<S: Shared>(
     Ok(responses)
 }
 
-// Writes the frame of these answers over what `out` has. Answers that keep the limits of an index are never too long for
-// a frame.
+// Replaces what `out` has by the frame of these answers. Answers that keep the limits of an index are never too long
+// for a frame.
 fn encode(
     out: &mut Vec<u8>,
     version: WireVersion,
@@ -111,12 +111,12 @@ fn answer_frame<W: Write, S: Shared>(
     }
 }
 
-/// Answers the frames of queries in what a reader gives, each by one frame of answers in its version, until the input
-/// ends. A frame is read whole before any of its queries is done; its queries are done in order, each as `answer` says;
-/// then its answers are written in one piece.
+/// Answers the frames of queries in the bytes of a reader, each by one frame of answers in its version, until the input
+/// ends. A frame is read whole before any of its queries is done. Then its queries are done in order, each by `answer`,
+/// and its answers are written in one piece.
 ///
-/// Costs the calls and events of the queries, and O(n) in the bytes of the frames. A frame takes the memory of its
-/// bytes, its queries and its answers; the memory of a frame of answers is used again for the next.
+/// Costs what the calls and events of the queries cost, and O(n) in the bytes of the frames. A frame takes the memory
+/// of its bytes, its queries and its answers. The memory of a frame of answers is used again for the next.
 ///
 /// # Errors
 ///

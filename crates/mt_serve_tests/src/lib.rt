@@ -1,5 +1,5 @@
-//! Tests of sessions by the public surface, over memory that gives and takes little at a time, and fails when it is told
-//! to. There is nothing else here: a crate of its own, so that `mt_serve` is proved once.
+//! Tests of sessions by their public functions, over a reader and a writer in memory that take few bytes a call and
+//! fail on demand. The tests are a crate of their own, so that `mt_serve` is proved once.
 #![tactic(auto)]
 
 #[cfg(test)]

@@ -28,7 +28,7 @@ const ANSWERED: &[u8] =
 const ANSWERED_AGAIN: &[u8] =
     b"\0\0\0\x37\x01\x02\x03\0\0\0\0\0\0\0\x01\0\0\0\0\0\0\0\x02\0\0\0\0\0\0\0\x02\x02\0\0\0\0\0\0\0\x02\0\0\0\0\0\0\0\x02\0\0\0\0\0\0\0\x02\x01\x01v";
 
-// In version 2, a put of 76 into column 0 of key 61 where it has no row, and the same of a row of version 7.
+// In version 2, a put of 76 into column 0 of key 61 if it has no row, and the same if its row is of version 7.
 const ASKED_IF: &[u8] =
     b"\0\0\0\x22\x02\x02\x09\0\x01a\0\0\0\0\0\0\0\0\x01\0\x01v\x09\0\x01a\0\0\0\0\0\0\0\x07\x01\0\x01v";
 
@@ -42,7 +42,7 @@ const VIEWED: &[u8] = b"\0\0\0\x43\x01\x05\x06\0\0\0\0\0\x02\0\x01a\x01\0\x01\x0
     \x08\0\0\0\0\0\0\0\x01\
     \x07\0\0\0\0\0\0\0\x01\0\0\0\0\0\0\0\0\0\0\0\x0a";
 
-// How memory gives and takes: at most so many bytes a call, and so many calls before one fails.
+// What the reader and the writer do: the most bytes of a call, and how many calls there are before one fails.
 #[derive(Clone, Copy)]
 struct Plan {
     gives: usize,
@@ -65,7 +65,7 @@ struct Ran {
     written: Vec<u8>,
 }
 
-// A session, over memory that gives and takes as planned.
+// A session, over a reader and a writer that do as planned.
 fn serve(
     alloc: Global,
     lone: &mut Lone,

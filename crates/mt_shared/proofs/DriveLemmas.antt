@@ -1,4 +1,4 @@
--- A drive goes on by an event, and ends by one.
+-- A drive continues with an event, and ends with one.
 use Rattle.std.proofs.Common.{arith, sym, ap, subst, ◌≡◌, ◌≤◌, ◌⊎◌, ◌∙◌, ◌∷◌, ◌++◌, [], List, ℕ, refl, append_assoc, append-nil, inl, inr}
 use Rattle.std.specs.Prelude.{All, Result, Ok, Err, Some, IfOk, IfErr}
 use Rattle.std.proofs.lemmas.List.Elements.{All-push, All-nil}
@@ -103,7 +103,7 @@ module _ {S : Type 0} (does : EventLaw S) where
     ends = ends;
   }
 
--- ---- what a pass is told
+-- ---- what a pass learns
 no_end_refused : (o : Outcome) (refusal : Refusal) → EndsNone o → o ≡ Refused refusal → ⊥
 no_end_refused o refusal none is = subst (λ (w : Outcome). EndsNone w) is none
 

@@ -189,7 +189,7 @@ apply_suits pass view m (suc n) None o may = suits_as pass (Apply view) (Refused
 apply_suits pass view m zero (Some v) o may = takes_suits pass view (nat_lt v.at (length m.commits)) (v.at + 1) o may
 apply_suits pass view m (suc n) (Some v) o may = takes_suits pass view (nat_lt v.at (length m.commits)) (v.at + 1) o may
 
--- where no refusal is due, the view doesn't stand before the floor
+-- if no refusal is due, the view is not before the floor
 not_before : (b : Bool) (refusal : Refusal) → refused_if b refusal ≡ None → b ≡ false
 not_before true refusal is = cc
 not_before false refusal is = refl

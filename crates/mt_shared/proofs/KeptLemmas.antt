@@ -46,7 +46,7 @@ in_books s pass e h =
     let y : leb pass.0 (length s.books) ≡ true = b.1 in
     (grind (arith, nat_tests), a.1)
 
--- a trace goes on
+-- a trace continues with an event
 pub follows : (r t : Trace) (pass : PassNo) (e : Event) (o : Outcome) (opens : ℕ) (h : History) → Gains r (entry pass e o ∷ []) t → IsTraceOf r h → IsTraceOf t (happening e o opens ∷ h)
 follows Off Off pass e o opens h g i = tt
 follows (On v) (On w) pass e o opens h g i =

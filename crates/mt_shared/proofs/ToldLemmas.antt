@@ -1,4 +1,4 @@
--- What a pass is told by an event of Kept.
+-- What a pass learns from an event of Kept.
 use Rattle.std.proofs.Common.{sym, ap, ◌≡◌, ◌∙◌, ℕ, refl, length, Option, Some, None, inl, inr, Bool, true, false, not, eqb}
 use Rattle.std.specs.Prelude.{MatchBool}
 use Rattle.std.specs.Option.{option_map}

@@ -1,4 +1,4 @@
--- Turns that take views on go on by a turn, and end.
+-- Turns that advance views continue with a turn, and end.
 use Rattle.std.proofs.Common.{arith, sym, ap, subst, ◌≡◌, ◌<◌, ◌+◌, ◌∙◌, ◌∷◌, ◌++◌, [], List, ℕ, refl, length, append-nil, inl, inr}
 use Rattle.std.specs.Prelude.{All, max}
 use Rattle.std.proofs.lemmas.List.{length-append}
@@ -14,7 +14,7 @@ use Rattle.mt_shared.specs.Drives.{EventLaw, Runs, EndsNone}
 use Rattle.mt_shared.specs.Turns.{furthest, turn, IsTurn, HasTurned, KeepsUp, IsStopped}
 use Rattle.mt_shared.proofs.DriveLemmas.{gains_none, gains_more, runs_more, counted}
 
--- so many turns were made, each of which took a view on, and the pass has seen no more by them
+-- this many turns were made, each of which advanced a view, and the pass has seen no more by them
 pub record Turned {S : Type 0} (does : EventLaw S) (s : S) (p : PassView) (applied : ℕ) (t : S) (q : PassView) : Type 0 where
   pub turns : List Entry
   pub count : length turns ≡ applied

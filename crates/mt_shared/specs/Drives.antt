@@ -24,14 +24,14 @@ abbrev pub Runs : {S : Type 0} → EventLaw S → S → PassView → List Entry 
 Runs does s p [] t q = (t ≡ s) × (q ≡ p)
 Runs {S} does s p (x ∷ xs) t q = (m : S) × (r : PassView) × does s p x.event x.outcome m r × Runs does m r xs t q
 
--- the call goes on
+-- the call continues
 abbrev pub Continues : Outcome → Type 0
 Continues Moved = Unit {0}
 Continues Again = Unit {0}
 Continues (Commit number) = Unit {0}
 Continues _ = ⊥
 
--- a step of the call, after which it goes on
+-- a step of the call, after which the call continues
 pub record IsStep (p : PassNo) (call : CallNo) (x : Entry) : Type 0 where
   pub pass : x.pass ≡ p
   pub event : x.event ≡ Step call
@@ -42,8 +42,8 @@ abbrev pub whole : PassNo → Request → CallNo → List Entry → Outcome → 
 whole pass request call steps last =
     (entry pass (Begin pass request) (Call call) ∷ steps) ++ (entry pass (Step call) last ∷ [])
 
--- A call of the pass was driven to this reply: by its begin, by steps after which it goes on, and by the step that is
--- done with the reply.
+-- A call of the pass was driven to this reply: by its begin, by steps after which it continues, and by the step that
+-- ends it with the reply.
 pub record IsDriven {S : Type 0} (does : EventLaw S) (s : S) (p : PassView) (request : Request) (reply : Reply)
     (t : S) (q : PassView) : Type 0 where
   pub steps : List Entry
@@ -51,7 +51,7 @@ pub record IsDriven {S : Type 0} (does : EventLaw S) (s : S) (p : PassView) (req
   pub runs : Runs does s p (whole p.number request reply.call steps (Done reply)) t q
   pub traced : Gains p.trace (whole p.number request reply.call steps (Done reply)) q.trace
 
--- the last outcome ends a call so: it is that refusal; or a reply from before what the pass had seen
+-- the last outcome ends a call with this refusal: it is that refusal, or a reply from before what the pass had seen
 abbrev pub EndsIn : Refusal → ℕ → Outcome → Type 0
 EndsIn refusal seen (Refused cause) = cause ≡ refusal
 EndsIn refusal seen (Done reply) = (reply.from < seen) × (refusal ≡ WrongPass)
@@ -63,13 +63,13 @@ EndsNone (Done reply) = ⊥
 EndsNone (Refused refusal) = ⊥
 EndsNone _ = Unit {0}
 
--- what the outcome of a step ends its call with, where the pass had seen so many commits: nothing, a reply, a refusal
+-- what the outcome of a step ends its call with, if the pass had seen this many commits: nothing, a reply or a refusal
 abbrev pub Ends : ℕ → Outcome → Option (Result Reply Refusal) → Type 0
 Ends seen outcome None = EndsNone outcome
 Ends seen outcome (Some (Ok reply)) = (outcome ≡ Done reply) × (seen ≤ reply.from)
 Ends seen outcome (Some (Err refusal)) = EndsIn refusal seen outcome
 
--- a call was driven until a step ended it so
+-- a call was driven until a step ended it with this refusal
 pub record IsCut {S : Type 0} (does : EventLaw S) (s : S) (p : PassView) (request : Request) (refusal : Refusal)
     (t : S) (q : PassView) : Type 0 where
   pub call : CallNo
@@ -79,7 +79,7 @@ pub record IsCut {S : Type 0} (does : EventLaw S) (s : S) (p : PassView) (reques
   pub runs : Runs does s p (whole p.number request call steps last) t q
   pub ends : EndsIn refusal p.seen last
 
--- a call of the pass was refused so: at its begin, or after it
+-- a call of the pass was refused for this, at its begin or after it
 abbrev pub IsRefused : {S : Type 0} → EventLaw S → S → PassView → Request → Refusal → S → PassView → Type 0
 IsRefused does s p request refusal t q =
     does s p (Begin p.number request) (Refused refusal) t q ⊎ IsCut does s p request refusal t q

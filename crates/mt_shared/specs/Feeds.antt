@@ -1,4 +1,4 @@
--- What the feed of a shared index gives, and the copy of one of its views.
+-- What the feed of a shared index returns, and the copy of one of its views.
 use Rattle.std.specs.Prelude.{ℕ, ◌≡◌, List, Result, Err, Some, IfOk, IfErr, MatchOption, take, drop}
 use Rattle.std.specs.Global.{Vec}
 use Rattle.mt_types.specs.declared.row.Delta.{Delta}
@@ -13,12 +13,12 @@ use Rattle.mt_index.specs.Viewing.{CopiesView}
 use Rattle.mt_index.specs.Stands.{MachineView, Stands}
 use Rattle.mt_shared.specs.Kept.{KeptView, IsKept, IsRefusedBy}
 
--- at each history at which the machine stands, these are the deltas of its commits after a number, so many at most
+-- at each history at which the machine is, these are the deltas of its commits after the first `from`, at most `limit`
 abbrev pub AreNext : MachineView → ℕ → ℕ → List Delta → Type 0
 AreNext m from limit deltas =
     (h : History) → Stands m h → deltas ≡ take limit (drop from (deltas_of m.columns (moment h).commits))
 
--- The feed of a machine: the next deltas; or the refusal that is due, or want of memory.
+-- The feed of a machine: the next deltas; or the refusal that is due; or it is out of memory.
 pub record Feeds (m : MachineView) (from limit : ℕ) (result : Result (Vec Delta) Refusal) : Type 0 where
   pub deltas : IfOk result (λ deltas. AreNext m from limit deltas.items)
   pub fault : IsRefusedBy (feed_fault m.log from limit) result
@@ -29,9 +29,9 @@ pub record FeedsSomewhere (from limit : ℕ) (result : Result (Vec Delta) Refusa
   pub keeps : IsKept kept
   pub feeds : Feeds kept.machine from limit result
 
--- The copy of a view of a machine: the state in which it stands, with the number of commits at which it stands; at each
--- history at which the machine stands, exactly what the view's specification gives afresh there. Or no such view
--- stands, or memory is wanting.
+-- The copy of a view of a machine: the state of the view, with the number of commits at which the view is. At each
+-- history at which the machine is, the state is exactly the one that is computed there afresh from the view's
+-- specification. Or the machine has no such view, or it is out of memory.
 pub record Copies (m : MachineView) (view : ℕ) (result : Result (ℕ × StateView) Refusal) : Type 0 where
   pub state : IfOk result (λ copy. (state_at view m.views.views ≡ Some copy.1) × (copy.0 ≡ copy.1.at))
   pub exact : IfOk result (λ copy. (h : History) → Stands m h → CopiesView m.columns (moment h) view copy.1)

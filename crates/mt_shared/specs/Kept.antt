@@ -100,16 +100,16 @@ pub record DoesSomewhere (p : PassView) (event : Event) (outcome : Outcome) (q :
   pub does : Does before p event outcome then q
   pub keeps : IsKept then
 
--- the first limit that an index breaks which is to be opened so, with so many passes
+-- the first limit that these options break, or this number of passes
 abbrev pub start_fault : Options → ℕ → Option Refusal
 start_fault options passes = option_or (open_fault options.columns options.feed options.keep) (passes_fault passes)
 
--- a call is refused for just this fault, and where there is none, for want of memory alone
+-- a call is refused for exactly this fault; if there is none, it is refused only when out of memory
 abbrev pub IsRefusedBy : {T : Type 0} → Option Refusal → Result T Refusal → Type 0
 IsRefusedBy fault result =
     MatchOption fault (IfErr result (λ refusal. refusal ≡ NoMemory)) (λ refusal. result ≡ Err refusal)
 
--- a machine on which nothing has happened, opened so, with a book for each of so many passes
+-- a machine on which nothing has happened, opened with these options, with a book for each of this many passes
 pub record IsFresh (options : Options) (passes : ℕ) (s : KeptView) : Type 0 where
   pub columns : s.machine.columns ≡ options.columns
   pub bounds : HasBounds options.feed options.keep s.machine.log

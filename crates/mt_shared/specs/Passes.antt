@@ -35,9 +35,9 @@ pub record Counts (p : PassView) (event : Event) (outcome : Outcome) (q : PassVi
   pub seen : q.seen ≡ max p.seen (seen_in outcome)
   pub trace : Gains p.trace (entry p.number event outcome ∷ []) q.trace
 
--- a begin gives a call or a refusal; a step gives no call, and a reply that it gives carries its call and its pass; an
--- apply takes a view on, or finds none to take on, or is refused; a page doesn't stand before its floor; a view is
--- dropped, or that is refused
+-- a begin returns a call or a refusal; a step returns no call, and a reply that it returns has its call and its pass;
+-- an apply advances a view, or finds none to advance, or is refused; a page is not before its floor; a view is dropped,
+-- or the drop is refused
 abbrev pub Suits : PassNo → Event → Outcome → Type 0
 Suits pass (Begin named request) (Call call) = Unit {0}
 Suits pass (Begin named request) (Refused refusal) = Unit {0}
@@ -60,8 +60,8 @@ Suits pass (ViewDrop view) (Refused refusal) = Unit {0}
 Suits pass (ViewDrop view) _ = ⊥
 Suits pass _ outcome = Unit {0}
 
--- What a pass is told by an event: either it was refused as one that this pass can't make, and then the pass is as it
--- was; or it was made, and counted.
+-- What a pass learns from an event: either the event was refused as one that this pass can't make, and then the pass is
+-- as it was; or it was made and counted.
 abbrev pub IsTold : PassView → Event → Outcome → PassView → Type 0
 IsTold p event outcome q =
     (((outcome ≡ Refused WrongPass) ⊎ (outcome ≡ Refused Spent)) × (q ≡ p))
@@ -91,7 +91,7 @@ abbrev pub AreNewFrom : Bool → ℕ → List PassView → Type 0
 AreNewFrom traced n [] = Unit {0}
 AreNewFrom traced n (p ∷ passes) = IsNewPass traced n p × AreNewFrom traced (n + 1) passes
 
--- so many passes that have done nothing, numbered from 1
+-- this many passes that have done nothing, numbered from 1
 pub record AreNewPasses (traced : Bool) (many : ℕ) (passes : List PassView) : Type 0 where
   pub count : length passes ≡ many
   pub each : AreNewFrom traced 1 passes

@@ -26,7 +26,7 @@ Tells entries h =
 abbrev pub IsLegalTrace : ℕ → List Entry → Type 0
 IsLegalTrace C entries = (h : History) × Tells entries h × Legal C h × KeepsPromise C h
 
--- there is a legal history of so many events and so many commits
+-- there is a legal history of this many events and this many commits
 abbrev pub HaveHappened : ℕ → ℕ → ℕ → Type 0
 HaveHappened C events commits =
     (h : History) × Legal C h × (length h ≡ events) × (length (moment h).commits ≡ commits)

@@ -12,7 +12,7 @@ use Rattle.mt_shared.specs.Traces.{entry, Gains}
 use Rattle.mt_shared.specs.Passes.{PassView}
 use Rattle.mt_shared.specs.Drives.{EventLaw, Runs}
 
--- the outcome of the event that gave this page, or this refusal
+-- the outcome of the event that returned this page, or this refusal
 abbrev pub page_outcome : Result Page Refusal → Outcome
 page_outcome (Ok page) = View page
 page_outcome (Err refusal) = Refused refusal
@@ -30,11 +30,11 @@ furthest = Apply (record { 0 = 0 })
 abbrev pub turn : PassNo → Outcome → Entry
 turn pass outcome = entry pass furthest outcome
 
--- a turn that took the view on
+-- a turn that advanced the view
 abbrev pub IsTurn : PassNo → Entry → Type 0
 IsTurn pass x = (number : ℕ) × (x ≡ turn pass (Applied number))
 
--- so many turns were made that each took a view on, one after another, and then these events
+-- this many turns that each advanced a view were made, one after another, and then these events
 pub record HasTurned {S : Type 0} (does : EventLaw S) (s : S) (p : PassView) (applied : ℕ) (last : List Entry)
     (t : S) (q : PassView) : Type 0 where
   pub turns : List Entry
@@ -42,13 +42,13 @@ pub record HasTurned {S : Type 0} (does : EventLaw S) (s : S) (p : PassView) (ap
   pub are_turns : All (IsTurn p.number) turns
   pub runs : Runs does s p (turns ++ last) t q
 
--- after so many turns that took a view on there was none, since no more were to be made; or one that found every view
--- at the newest commit
+-- after this many turns that advanced a view there was no other turn, since no more were to be made; or there was one
+-- that found every view at the newest commit
 abbrev pub IsLast : PassNo → ℕ → ℕ → List Entry → Type 0
 IsLast pass most applied last =
     ((applied ≡ most) × (last ≡ [])) ⊎ ((applied < most) × (last ≡ turn pass Current ∷ []))
 
--- of so many turns at most, so many took a view on, and the pass's own trace gained just those that were made
+-- of at most `most` turns, `applied` advanced a view, and the pass's own trace gained exactly the turns that were made
 pub record KeepsUp {S : Type 0} (does : EventLaw S) (s : S) (p : PassView) (most applied : ℕ)
     (t : S) (q : PassView) : Type 0 where
   pub last : List Entry
@@ -56,7 +56,7 @@ pub record KeepsUp {S : Type 0} (does : EventLaw S) (s : S) (p : PassView) (most
   pub turned : HasTurned does s p applied last t q
   pub traced : Gains p.trace (turned.turns ++ last) q.trace
 
--- after fewer turns that took a view on, one was refused so
+-- after fewer than `most` turns that advanced a view, one was refused with this refusal
 pub record IsStopped {S : Type 0} (does : EventLaw S) (s : S) (p : PassView) (most : ℕ) (refusal : Refusal)
     (t : S) (q : PassView) : Type 0 where
   pub applied : ℕ

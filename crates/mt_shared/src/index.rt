@@ -134,7 +134,7 @@ impl Index {
     ///
     /// # Errors
     ///
-    /// `WrongPass` as of [`Index::close`], and also if no trace was kept, or if the own trace of a pass isn't its part
+    /// `WrongPass` as for [`Index::close`], and also if no trace was kept, or if the own trace of a pass isn't its part
     /// of the trace; `NoMemory` if memory for a copy was refused. The index and the passes are dropped in any case.
     pub fn close_record(self, passes: Vec<Pass>) -> Result<Vec<Entry>, Refusal>
         ensures legal { IfOk result (λ trace. IsLegalTrace self trace.items) }

@@ -105,7 +105,7 @@ fn has_part(pass: &Pass, entries: &[Entry]) -> Result<(), Refusal>
 }
 
 // Whether `passes` are those of the books, each once, with the counts of their books. The book of each pass that was
-// met is replaced by that of a pass that has made no event. At the end each book must be so.
+// met is replaced by that of a pass that has made no event. At the end each book must be such a book.
 fn add_up(mut books: Vec<Book>, passes: &[Pass]) -> bool
     ensures events { IsTrue result → booked_events books.items ≡ events_by passes.now }
     ensures commits { IsTrue result → booked_commits books.items ≡ commits_by passes.now }

@@ -19,7 +19,7 @@ const OPTIONS: Options = Options {
     keep: 1,
 };
 
-// A put of column 0 of key a, and a build of a view of all rows, each stepped till it is done.
+// A put of column 0 of key a, and a build of a view of all rows, each stepped until it is done.
 fn put_and_build(alloc: Global) -> Result<Vec<Event>, Refusal> {
     let put = Request::Put {
         key: Bytes::from_static(b"a"),
@@ -86,7 +86,7 @@ fn ranges(alloc: Global, machine: &Machine) -> Result<bool, Refusal> {
     Ok(pairs.as_slice().len() == 1)
 }
 
-// The view stands at commit 1, with one row.
+// Whether the view is at commit 1, with one row.
 fn views(alloc: Global, machine: &Machine) -> Result<bool, Refusal> {
     let (at, state) = machine.view_copy(alloc, ViewNo(1))?;
     Ok(at == 1 && state.count() == 1)

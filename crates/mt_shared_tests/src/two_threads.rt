@@ -37,7 +37,7 @@ fn put_request(alloc: Global) -> Result<Request, Refusal> {
     })
 }
 
-// How often a get looks at a flag in mid-course, and the milliseconds that it pauses between two looks.
+// How often a get looks at a flag in the middle of its call, and the milliseconds that it pauses between two looks.
 const LOOKS: u32 = 1000;
 
 const PAUSE: u64 = 5;
@@ -133,7 +133,7 @@ struct Done {
     receipts: Vec<Receipt>,
 }
 
-// Pass 1 gets, and waits in mid-course till pass 2 has put.
+// Pass 1 gets, and waits in the middle of its call until pass 2 has put.
 fn meet<R: Wait + Threads + Clock + Sync>(
     rt: &R,
     alloc: Global,

@@ -15,7 +15,7 @@ same_from_class_number (Len k) Long h g e = absurd (omega arith)
 same_from_class_number Long (Len j) h g e = absurd (omega arith)
 same_from_class_number Long Long h g e = refl
 
--- What a class tells of the number of bytes.
+-- What a class says of the number of bytes.
 pub class_of-Long : (n : ℕ) → class_of n ≡ Long → 8 < n
 class_of-Long n e = go (cases_Bool (leb n 8))
   where

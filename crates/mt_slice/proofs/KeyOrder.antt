@@ -132,7 +132,7 @@ place_cmp-place_of ks ls b c = go (key_three ks ls)
         ∙ sym (cmp_equal ks) ∙ ap (key_cmp ks) e
     go (inr (inr h)) = place_cmp-greater (place_of ks) (place_of ls) (rises ls ks c b h) ∙ sym (cmp_greater ks ls h)
 
--- One key is before another where its place is.
+-- One key is before another if its place is.
 pub place_order : (ks ls : List ℕ) → AreBytes ks → AreBytes ls → KeyLess ks ls ↔ Precedes (place_of ks) (place_of ls)
 place_order ks ls b c = (rises ks ls b c, λ h. go h (key_three ks ls))
   where

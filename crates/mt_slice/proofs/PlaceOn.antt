@@ -6,12 +6,12 @@ use Rattle.std.specs.Slice.Scan.{big_endian}
 use Rattle.mt_slice.specs.Place.{Place, last, deeper, under, slice_number, place_within, place_of, rest_at, slices_above}
 use Rattle.mt_slice.specs.Classes.{class_of, place_at}
 
--- so many zero bytes more
+-- a number, with the given number of zero bytes after its bytes
 abbrev pub scale : ℕ → ℕ → ℕ
 scale zero v = v
 scale (suc m) v = scale m (v * 256)
 
--- the place of the bytes that follow, where the slice has room for `left` more and `v` is the number of those before
+-- the place of the bytes that follow, if the slice has room for `left` more and `v` is the number of those before
 abbrev pub place_on : ℕ → ℕ → List ℕ → Place
 place_on left v [] = last (scale left v) (8 - left)
 place_on zero v (k ∷ ks) = deeper v (place_on 7 k ks)
@@ -77,7 +77,7 @@ place_of-place_on ks = within (length ks) ks (omega arith)
 pub place_of-short : (ks : List ℕ) → length ks ≤ 8 → place_of ks ≡ last (slice_number ks) (length ks)
 place_of-short ks h = place_of-place_on ks ∙ on_short ks h
 
--- More bytes go on past their first eight.
+-- More than eight bytes continue past their first eight.
 pub place_of-long : (ks : List ℕ) → 8 < length ks → place_of ks ≡ deeper (slice_number ks) (place_of (drop 8 ks))
 place_of-long ks h = place_of-place_on ks ∙ on_long ks h ∙ ap (deeper (slice_number ks)) (sym (place_of-place_on (drop 8 ks)))
 

@@ -18,7 +18,7 @@ abbrev pub IsClass : Class → Type 0
 IsClass (Len bytes) = bytes ≤ 8
 IsClass Long = Unit {0}
 
--- the place with this slice and class in its layer, which goes on with `rest` where the class is Long
+-- the place with this slice and class in its layer, which continues with `rest` if the class is Long
 abbrev pub place_at : ℕ → Class → Place → Place
 place_at slice (Len bytes) rest = last slice bytes
 place_at slice Long rest = deeper slice rest

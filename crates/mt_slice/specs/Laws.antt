@@ -26,12 +26,12 @@ abbrev pub CanonicalPlacesAreOfKeys : Type 0
 CanonicalPlacesAreOfKeys =
     (place : Place) → IsCanonical place → AreBytes (bytes_of_place place) × (place_of (bytes_of_place place) ≡ place)
 
--- a place begins with the slice and the class of its bytes, and goes on with what follows the slice
+-- a place begins with the slice and the class of its bytes, and continues with what follows the slice
 abbrev pub PlacesGoBySlices : Type 0
 PlacesGoBySlices =
     (rest : List ℕ) → place_of rest ≡ place_at (slice_number rest) (class_of (length rest)) (place_of (drop 8 rest))
 
--- a key that goes on past the layers above has its rest there under their slices
+-- a key that continues past the layers above has its rest there under their slices
 abbrev pub PlacesGoByLayers : Type 0
 PlacesGoByLayers =
     (layer : ℕ) (key : List ℕ) → 8 * layer < length key

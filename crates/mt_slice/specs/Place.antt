@@ -16,7 +16,7 @@ abbrev pub first_slice : Place → ℕ
 first_slice (last slice bytes) = slice
 first_slice (deeper slice rest) = slice
 
--- the class of a place in its layer, as a number: the number of bytes where the key ends there, and 9 where it goes on
+-- the class of a place in its layer, as a number: the number of bytes if the key ends there, and 9 if it continues
 abbrev pub first_class : Place → ℕ
 first_class (last slice bytes) = bytes
 first_class (deeper slice rest) = 9
@@ -35,15 +35,15 @@ AreBytes (byte ∷ bytes) = (byte < 256) × AreBytes bytes
 unfoldable pub slice_number : List ℕ → ℕ
 slice_number bytes = big_endian 0 (take 8 (bytes ++ replicate 8 0))
 
--- the place of bytes that go on past at most this number of slices
+-- the place of bytes that continue past at most this number of slices
 abbrev pub place_within : ℕ → List ℕ → Place
 place_within zero bytes = last (slice_number bytes) (length bytes)
 place_within (suc slices) bytes =
     if nat_le (length bytes) 8 then last (slice_number bytes) (length bytes)
     else deeper (slice_number bytes) (place_within slices (drop 8 bytes))
 
--- The place of bytes, in each layer by the slice and the number of bytes there. They go on past no more slices than
--- they are.
+-- The place of bytes, in each layer by the slice and the number of bytes there. Bytes continue past no more slices than
+-- there are bytes.
 unfoldable pub place_of : List ℕ → Place
 place_of bytes = place_within (length bytes) bytes
 
@@ -67,9 +67,9 @@ abbrev pub IsCanonical : Place → Type 0
 IsCanonical (last slice bytes) = (bytes ≤ 8) × (slice < 2 ^ 64) × (slice % 256 ^ (8 - bytes) ≡ 0)
 IsCanonical (deeper slice rest) = (slice < 2 ^ 64) × (0 < first_class rest) × IsCanonical rest
 
--- The order of places: by the slice, then by the class, and of two that go on past one slice by the rest. No key
--- ends after more than eight bytes of a slice, but a scan may stand there: after nine it is before all that goes on
--- past the slice, after ten it is behind it.
+-- The order of places: by the slice, then by the class, and for two that continue past one slice, by the rest. No key
+-- ends after more than eight bytes of a slice, but a scan may be there: after nine bytes it is before all that
+-- continues past the slice, and after ten bytes it is after all of that.
 abbrev pub Precedes : Place → Place → Type 0
 Precedes (last s k) (last t j) = (s < t) ⊎ ((s ≡ t) × (k < j))
 Precedes (last s k) (deeper t y) = (s < t) ⊎ ((s ≡ t) × (k ≤ 9))

@@ -1,4 +1,4 @@
-//! The classes of a slice: how many bytes of a key that ends there, or that the key goes on.
+//! The classes of a slice: the number of bytes of a key that ends there, or that the key continues.
 
 ghost use Rattle.std.specs.Prelude.{◌≡◌, ◌≤◌, length};
 ghost use Rattle.mt_slice.specs.Classes.{IsClass, class_number, class_of};
@@ -38,7 +38,7 @@ impl Length {
         Length { bytes: bytes as u8 }
     }
 
-    /// How many bytes.
+    /// Returns the number of bytes.
     pub fn get(self) -> usize
         ensures value { result ≡ self }
         ensures fits { self ≤ SLICE_BYTES }
@@ -47,8 +47,8 @@ impl Length {
     }
 }
 
-/// What stands at a slice of a layer: a key that ends there, by how many bytes it has there, or one that goes on past
-/// it.
+/// What is at a slice of a layer: a key that ends there, by the number of bytes that it has there, or one that
+/// continues past it.
 ///
 /// One slice has ten classes. They are ordered `Len(0)` to `Len(8)`, then `Long` (Masstree, EuroSys 2012, section 4.2).
 #[derive(Clone, Copy, Debug, PartialEq, Eq, PartialOrd, Ord)]

@@ -44,7 +44,7 @@ pub fn slice_of(bytes: &[u8]) -> (u64, Class)
     (slice_number(bytes), Class::of_length(bytes.len()))
 }
 
-/// What follows the slice of these bytes: nothing where their class is a length.
+/// Returns what follows the slice of these bytes: nothing if their class is a length.
 pub fn rest_of(bytes: &[u8]) -> &[u8]
     ensures { result.now ≡ drop SLICE_BYTES bytes.now }
 {
@@ -81,7 +81,7 @@ pub fn slice_at(key: &Key, layer: usize) -> (u64, Class)
     slice_of(rest_at(key, layer))
 }
 
-/// What follows the slice of the key in a layer: nothing where its class is a length.
+/// Returns what follows the slice of the key in a layer: nothing if its class is a length.
 pub fn rest_after(key: &Key, layer: usize) -> &[u8]
     requires { SLICE_BYTES * layer ≤ length key.now }
     ensures { result.now ≡ rest_at (layer + 1) key.now }

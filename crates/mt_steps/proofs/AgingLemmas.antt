@@ -1,4 +1,4 @@
--- How the borders that the chart knows age in a step: where one border changes, or none that the chart knows.
+-- How the borders that the chart knows age in a step that changes one border, or none that the chart knows.
 use Rattle.std.proofs.Common.{ℕ, ◌≡◌, ◌≢◌, ◌⊎◌, inl, inr, Option, Some, None, IsSome, true, false, refl, sym, ap, subst, ◌∙◌}
 use Rattle.std.specs.Option.{option_and_then}
 use Rattle.mt_border.specs.Border.{BorderView}
@@ -23,7 +23,7 @@ no_border b none is = (let clash : ◌≡◌ {A = Option BorderView} None (Some 
 abbrev pub AgesAt : World → Chart → ℕ → BorderView → BorderView → Type 0
 AgesAt w next n b then = IsSome (w.chart n) → BorderAges b then × (IsOn next n ⊎ (then.right ≡ b.right))
 
--- nothing does, where the chart doesn't know it
+-- nothing is required of a border that the chart doesn't know
 pub unknown_ages : (w : World) (next : Chart) (n : ℕ) (b then : BorderView) → w.chart n ≡ None → AgesAt w next n b then
 unknown_ages w next n b then unknown known = absurd (let clash : false ≡ true = subst (λ (x : Option Spot). IsSome x) unknown known in cc)
 

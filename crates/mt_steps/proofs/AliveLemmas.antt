@@ -48,7 +48,7 @@ WasOn chart next number = (prefix : List ℕ) → IsInLayer next number prefix �
 pub same_on : (chart next : Chart) (number : ℕ) → next number ≡ chart number → WasOn chart next number
 same_on chart next number same prefix stands = record { level = stands.level; low = stands.low; posted = stands.posted; place = sym same ∙ stands.place }
 
--- where one number's place changes, that is on only if it was
+-- if the place of one number changes, and it is on only if it was, so is every number
 pub changed_on : (chart next : Chart) (at : ℕ) (place : Option Spot) → Changes chart next at place → WasOn chart next at → (number : ℕ) → WasOn chart next number
 changed_on chart next at place changes was number = elim (same_number number at) [
   | inl e ↦ subst (λ (m : ℕ). WasOn chart next m) (sym e) was
@@ -68,7 +68,7 @@ alive_beside a after chart next n now others were alive = record {
   ];
 }
 
--- the same, where all places stay
+-- the same, if all places stay
 pub alive_there : (a after : ArenaView) (chart : Chart) (n : ℕ) → IsAliveIfFree after chart n → ((other : ℕ) → other ≢ n → node_at after.nodes other ≡ node_at a.nodes other) → FreeAreAlive a chart → FreeAreAlive after chart
 alive_there a after chart n now others alive = alive_beside a after chart chart n now others (λ other differ prefix stands. stands) alive
 

@@ -66,11 +66,11 @@ interior_kept a after chart next number evolves same locked = record {
 pub no_interior : (a : ArenaView) (chart : Chart) (number : ℕ) → interior_at a.nodes number ≡ None → IsLockedInterior a chart number → ⊥
 no_interior a chart number none locked = subst (λ (o : Option InteriorView). IsSomeAnd o (λ i. i.version.locked ≡ true)) none locked.locked
 
--- the twins are locked still, where each locked interior is
+-- the twins are still locked, if each locked interior is
 pub twins_kept : (a after : ArenaView) (chart next : Chart) (twins : List Twin) → ((number : ℕ) → IsLockedInterior a chart number → IsLockedInterior after next number) → TwinsAreLocked a chart twins → TwinsAreLocked after next twins
 twins_kept a after chart next twins kept all = record { locked = λ one other pair. let both = all.locked one other pair in (kept one both.0, kept other both.1) }
 
--- the same, where one number that is no locked interior comes to name another node
+-- the same, if the one number that comes to name another node is no locked interior
 pub twins_beside : (a after : ArenaView) (chart next : Chart) (twins : List Twin) (number : ℕ) → Evolves 0 chart next → (IsLockedInterior a chart number → ⊥) → ((other : ℕ) → other ≢ number → node_at after.nodes other ≡ node_at a.nodes other) → TwinsAreLocked a chart twins → TwinsAreLocked after next twins
 twins_beside a after chart next twins number evolves free others = twins_kept a after chart next twins (λ other locked. elim (same_number other number) [
   | inl e ↦ absurd (free (subst (λ (m : ℕ). IsLockedInterior a chart m) e locked))
@@ -97,7 +97,7 @@ on_kept a now chart number role prefix low posted stands all =
     not_gone : {one : Role} {other : List ℕ} {least epoch : ℕ} → ◌≡◌ {A = Option Spot} (Some (spot role prefix low (on posted))) (Some (spot one other least (gone epoch))) → ⊥
     not_gone e = cc
 
--- what is retired is gone still, and no other is retired, where one number changes that is not
+-- what is retired is still gone, and no other is retired, if one number changes and it is not retired
 pub retired_kept : (a after : ArenaView) (now : ℕ) (chart next : Chart) (n : ℕ) → Evolves 0 chart next → NotRetired a.retired n → ((other : ℕ) → other ≢ n → node_at after.nodes other ≡ node_at a.nodes other) → after.retired ≡ a.retired → RetiredAreGone a now chart → RetiredAreGone after now next
 retired_kept a after now chart next n evolves apart others same all = record { each = subst (λ (l : List Retired). All (IsGone after now next) l) (sym same) (go a.retired apart all.each) }
   where
@@ -138,7 +138,7 @@ unlocked_root a closing chart number b named unlocked heads i =
     let clash : false ≡ true = sym unlocked ∙ locked in
     cc
 
--- the closing borders are locked still, where one number changes that is none of them, or is locked still
+-- the closing borders are still locked, if one number changes that is none of them or is still locked
 pub roots_kept : (a after : ArenaView) (closing : List ℕ) (n : ℕ) → (Among n closing → IsLockedRoot after n) → ((other : ℕ) → other ≢ n → node_at after.nodes other ≡ node_at a.nodes other) → ((number : ℕ) → Among number closing → IsLockedRoot a number) → (number : ℕ) → Among number closing → IsLockedRoot after number
 roots_kept a after closing n kept others roots number i = elim (same_number number n) [
   | inl e ↦ subst (λ (m : ℕ). IsLockedRoot after m) (sym e) (kept (subst (λ (m : ℕ). Among m closing) e i))
@@ -159,7 +159,7 @@ module _ (a : ArenaView) (n : ℕ) (b : BorderView) (change : BorderView → Bor
   pub others_named : (other : ℕ) → other ≢ n → node_at (with_border_changed a n change).nodes other ≡ node_at a.nodes other
   others_named other apart = updated.others other apart
 
-  -- heads are as they were, and so are the closing borders, where the border is none of them or is locked still
+  -- heads are as they were, and so are the closing borders, if the border is none of them or is still locked
   pub heads_changed : {closing : List ℕ} (chart : Chart) → (Among n closing → (change b).version.locked ≡ true) → HeadsStand a closing chart → HeadsStand (with_border_changed a n change) closing chart
   heads_changed {closing = closing} chart kept heads = record {
     alive = λ number prefix head on is. elim (same_number number n) [

@@ -1,4 +1,5 @@
--- Once the epoch goes on, and once the node that was retired first is freed, the tree is an index still, for all calls that began later.
+-- After the epoch advances, and after the node that was retired first is freed, the tree is still an index for all
+-- calls that began later.
 use Rattle.std.proofs.Common.{ℕ, suc, ◌≡◌, ◌≢◌, ◌<◌, ◌≤◌, ◌+◌, inl, inr, List, [], ◌∷◌, drop, Option, Some, None, IsSome, Bool, true, false, refl, sym, ap, subst, ◌∙◌, arith}
 use Rattle.std.specs.Prelude.{IsSomeAnd, All, AllPairs, if◌then◌else◌}
 use Rattle.std.proofs.Common.{◌==◌, set}
@@ -54,7 +55,7 @@ only_since begun w n so number i below prefix low epoch place = so below prefix 
     one number first = refl
     one number (later i) = elim i [ ]
 
--- ---- the epoch goes on
+-- ---- the epoch advances
 pub advances : (a : ArenaView) (now : ℕ) (w : World) → IsWorld a now w → IsWorld a (now + 1) w
 advances a now w world = record {
   index = record {
@@ -97,8 +98,9 @@ locked_seen (Some (Interior i)) node e locked =
 apart_from_first : (node : Retired) (others : List Retired) → AllPairs (λ (r later : Retired). r.node.0 ≢ later.node.0) (node ∷ others) → All (λ (r : Retired). r.node.0 ≢ node.node.0) others
 apart_from_first node others pairs k d within = λ same. pairs 0 (suc k) d (omega arith) (omega arith) (sym same)
 
--- What a collection leaves that frees the node that was retired first: each call that began after the epoch of its retiring may go on, and
--- each number that is taken is as it was. The number names nothing, and all others what they named, where they stood.
+-- What is left after a collection frees the node that was retired first: each call that began after the epoch in which
+-- it was retired may continue, and each taken number is as it was. The freed number names nothing; all others name what
+-- they named, at the same places.
 pub record Frees (now : ℕ) (a after : ArenaView) (w next : World) (retired_in : ℕ) : Type 0 where
   pub world : IsWorld after now next
   pub content : SameContent (arena_seen a) (arena_seen after)

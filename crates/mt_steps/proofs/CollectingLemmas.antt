@@ -105,7 +105,7 @@ pub none_left : (l : List Retired) → None ≡ slice_get l 0 → l ≡ []
 none_left [] e = refl
 none_left (x ∷ xs) e = absurd (let clash : ◌≡◌ {A = Option Retired} None (Some x) = e in cc)
 
--- where one is left, fewer were freed than there were
+-- if one is left, fewer were freed than there were
 pub some_left : (l : List Retired) (count : ℕ) (node : Retired) (others : List Retired) → drop count l ≡ node ∷ others → count + 1 ≤ length l
 some_left [] zero node others e = absurd (let clash : ◌≡◌ {A = List Retired} [] (node ∷ others) = e in cc)
 some_left [] (suc count) node others e = absurd (let clash : ◌≡◌ {A = List Retired} [] (node ∷ others) = e in cc)

@@ -137,12 +137,12 @@ not_before slice number other_slice other is = (
       let clash : true ≡ false = sym yes ∙ is in absurd (cc)),
 )
 
--- it goes on to another node, which stands higher in the order of a descent
+-- it moves to another node, which is higher in the order of a descent
 pub record GoesOnTo (begun : ℕ) (key : List ℕ) (way next : Way) (w : World) : Type 0 where
   pub on : IsOnWay begun key next w
   pub climbs : (made : ℕ) → Trail begun w.chart way.node.0 made → Trail begun w.chart next.node.0 (suc made)
 
--- what is true where a reading leads
+-- what is true after a reading
 abbrev pub LeadsTo : List ℕ → List ℕ → Way → Finding → ℕ → List Arena → ArenaView → World → Reading → Type 0
 LeadsTo key asked way finding begun past a w Restarts = Unit {0}
 LeadsTo key asked way finding begun past a w Repeats = IsOnWay begun key way w
@@ -215,7 +215,7 @@ module _ (a : ArenaView) (now : ℕ) (w : World) (world : IsWorld a now w) (begu
     searches_later noted numbers place = searches_stay (shown asked) begun way.node.0 w.chart w.chart (arena_seen a) arenas prefix f f (counters_seen counters) (evolves_same begun w.chart) world.index.tree there refl (ages_none f)
         (are_slots at.here.b at.here.slots) at.here.looked.come at.here.looked.known noted numbers (place_of rest) place
 
-    -- it has no row, where the search has stopped
+    -- the key has no row if the search has stopped
     lacks_then : (noted : Option Right) (numbers : List ℕ) (place : ℕ) (arenas : List Arena) → Below slice noted → (searches : Searches (shown asked) w.chart begun arenas prefix f noted numbers (place_of rest) place) → Stops (place_of rest) searches.was place → Lacked arenas (place_of key)
     lacks_then noted numbers place arenas below searches stops =
         subst (λ (x : Place). Lacked arenas x) (sym at.layer.under)
@@ -271,7 +271,7 @@ module _ (a : ArenaView) (now : ℕ) (w : World) (world : IsWorld a now w) (begu
       few : 3 + place < 20
       few = omega (arith, within, fits)
 
-      -- where its slice and class are those of the key sought
+      -- if its slice and class are those of the key sought
       module _ (at_slice : e.slice ≡ slice) (part : KeyPart) (is : IsKeyOf e part) where
         here_slice : e.slice ≡ first_slice (place_of rest)
         here_slice = at_slice ∙ sym (slice_of_place rest)

@@ -24,7 +24,7 @@ pub some_at : {A : Type 0} (P : A → Type 0) (o : Option A) (x : A) → IsSomeA
 some_at P None x h e = absurd h
 some_at P (Some y) x h e = subst P (let same : y ≡ x = cc in same) h
 
--- no row is found where something else is
+-- no row is found if something else is
 pub none_found : (live : List Entry) (found : Found) → ((place : ℕ) × (found ≡ Absent place)) ⊎ (((place : ℕ) × (found ≡ OtherSuffix place)) ⊎ ((place : ℕ) × (top : NodeNo) × (found ≡ LinkFound place top))) → row_found live found ≡ None
 none_found live found (inl (place, e)) = ap (row_found live) e
 none_found live found (inr (inl (place, e))) = ap (row_found live) e

@@ -1,4 +1,4 @@
--- What steps leave: where nothing changes, and where one border does.
+-- What steps leave if nothing changes, and if one border does.
 use Rattle.std.proofs.Common.{ℕ, ◌≡◌, ◌<◌, ◌⊎◌, ◌↔◌, true, inl, inr, List, [], ◌∷◌, Option, Some, None, IsSome, refl, sym, ap, subst, ◌∙◌, arith}
 use Rattle.std.specs.Option.{option_map, option_and_then}
 use Rattle.std.proofs.lemmas.Bool.{cases_lt}
@@ -43,7 +43,7 @@ taken_back a after w next number same (inr (inr head)) = inr (inr (record {
   kept = same.retired.0 head.kept;
 }))
 
--- the same numbers are retired, where the list stays
+-- the same numbers are retired if the list is the same
 pub retired_same : (retired then : List Retired) (number : ℕ) → then ≡ retired → NotRetired then number ↔ NotRetired retired number
 retired_same retired then number same = ((λ h. subst (λ (l : List Retired). NotRetired l number) same h), (λ h. subst (λ (l : List Retired). NotRetired l number) (sym same) h))
 

@@ -135,6 +135,6 @@ may_go a key way now begun w world on = record {
   may = held_may_visit a now w.twins w.chart begun way.node.0 (slice_number (rest_of key way)) (prefix_of key way) world.index on.held;
 }
 
--- and that node, where it is lent it
+-- and so it may visit that node if it is lent the node alone
 pub may_go_at : (a : ArenaView) (key : List ℕ) (way : Way) (node : Node) → Names a way.node.0 node → MayGo a key way → MayGoAt key way node
 may_go_at a key way node names may = record { within = may.within; may = may_visit a way.node.0 (rest_of key way) node names.named may.may }

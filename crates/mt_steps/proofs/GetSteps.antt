@@ -132,7 +132,7 @@ module _ (a : ArenaView) (get : Get) (part : Part) (lent : Lends a get.way.node.
         let most = truth.1.few in
         omega (arith, least, most, few)
 
-    -- and goes on, one move longer
+    -- and continues, one move longer
     one_more : (next : Way) → ((made : ℕ) → Trail begun w.chart get.way.node.0 made → Trail begun w.chart next.node.0 (suc made)) → MovesOn begun (moves + 1) next Begins w
     one_more next climbs = record { came = suc truth.1.came; trail = climbs truth.1.came truth.1.trail; few = let most = truth.1.few in omega (arith, most, few) }
 
@@ -162,7 +162,7 @@ module _ (a : ArenaView) (get : Get) (part : Part) (lent : Lends a get.way.node.
         stepped now begun moves past w world truth (reading_of get part) (leads a now w world begun get.key get.columns get.way past bytes get.finding truth.0 part lent);
   }
 
--- where memory is refused it ends
+-- if memory is refused it ends
 pub get_fails : (a : ArenaView) (get : Get) (dest : Finding) (C : ℕ) (log : LogView) → StepLaw C a a log log (get_request get) nothing (Refused NoMemory) nothing (GetIsTrue get) (GetIsTrue (record get { finding = dest }))
 get_fails a get dest C log = record {
   steps = λ now begun moves past w world before truth. record { goes = goes_same now a w _ [] [] refl world tt; does = (quiet_same a log, refl, tt, tt); reserved = refl; bounds = refl; blocked = refl; may = tt };
@@ -227,7 +227,7 @@ module _ (a : ArenaView) (log : LogView) (get : Get) (may : MayStep a log nothin
       let on = subst (λ (x : Finding). FindingIsTrue get.key get.columns get.way x may.begun (arena_seen a ∷ may.past) a may.w) at.begins may.true.0 in
       (may_go_at a get.key get.way (InteriorNode interior.now) (record { named = at.named; sound = at.sound }) (may_go a get.key get.way may.now may.begun may.w may.world on)).may.has_child interior.now refl
 
-  -- and it waits only where that is marked deleted
+  -- and it waits only if that is marked deleted
   pub waits_interior : (slice : ℕ) (reading : Reading) → reading ≡ by_visit (visit_interior slice interior.now) → (reading ≡ Restarts → interior.now.version.deleted ≡ true) → GetWaits a get (progress_of reading)
   waits_interior slice reading of marked =
       subst (λ (x : Reading). GetWaits a get (progress_of x)) (sym of)

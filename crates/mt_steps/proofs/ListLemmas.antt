@@ -52,7 +52,7 @@ use Rattle.mt_steps.specs.World.{World, IsWorld}
 use Rattle.mt_steps.proofs.StandLemmas.{looks_at, bound, there_now, few_live, orders_now, still_so}
 
 -- ---- an entry that was read key and value apart
--- where a row stands under a key that was read, the entry is that of the key and the row
+-- if a slot has a row under a key that was read, the entry is that of the key and the row
 abbrev with_row : PlainContent → Row → PlainContent
 with_row (short bytes old) row = short bytes row
 with_row (long rest old) row = long rest row

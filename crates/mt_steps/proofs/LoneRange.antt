@@ -80,8 +80,8 @@ layers_fit : (layers : ℕ) → layers < 1048576 → layers < all_layers
 unfolding all_layers
 layers_fit layers few = few
 
--- WHAT IS LEFT of a scan that stands at a node: how far its cursor is from the end of all, then how many layers there may
--- be below it, then what is left of its way in its layer
+-- WHAT IS LEFT of a scan at a node: first how far its cursor is from the end of all, then how many layers there may be
+-- below it, then what is left of its way in its layer
 abbrev pub left_of : ℕ → ℕ → ℕ → ℕ
 left_of cursors layers way = (cursors * (all_layers + 1) + layers) * (all_heights + 1) + way
 
@@ -223,14 +223,14 @@ module _ (a : ArenaView) (now : ℕ) (w : World) (world : IsWorld a now w) where
   pub scan_waits_not : (number : ℕ) (prefix : List ℕ) → ScanStands w.chart number prefix → ((other : ℕ) → IsTaken a w other → ⊥) → ReadWaits a number Waits → ⊥
   scan_waits_not number prefix s free marked = not_marked a now w world number (free number) (is_on w.chart number prefix s) marked
 
--- where the charts are the same, it stands in the next world as in this one
+-- if both charts have the number at the same place, the scan is there in the next world as in this one
 stands_in_next : (chart new : Chart) (number : ℕ) (prefix : List ℕ) → new number ≡ chart number → ScanStands chart number prefix → ScanStands new number prefix
 stands_in_next chart new number prefix same s = record { role = s.role; low = s.low; posted = s.posted; place = same ∙ s.place }
 
 held_before : (chart new : Chart) (begun number slice : ℕ) (prefix : List ℕ) → new number ≡ chart number → Holds new begun number prefix slice → Holds chart begun number prefix slice
 held_before chart new begun number slice prefix same h = record { role = h.role; low = h.low; standing = h.standing; place = sym same ∙ h.place; at_most = h.at_most; since = h.since }
 
--- the same, where the world is another then in which each node stands as it stood
+-- the same, if the next world is another one in which each node has the same place
 pub scan_nearer_in : (a : ArenaView) (now : ℕ) (w next_world : World) → IsWorld a now w → ((number : ℕ) → next_world.chart number ≡ w.chart number)
     → (number next begun then slice : ℕ) (c d : CursorView) → ScanStands w.chart number c.prefix → Holds w.chart begun number c.prefix (first_slice c.at) → ScanGoes a number next c d
     → Holds next_world.chart then next d.prefix slice → ScanStands next_world.chart next d.prefix × (scan_left a next d < scan_left a number c)

@@ -31,7 +31,7 @@ height_in layer (Some (head node)) = layer_height layer top 0
 height_in layer (Some (interior node)) = layer_height layer (at_level node.level) node.low
 height_in layer (Some (border node)) = layer_height layer (at_level 0) node.low
 
--- WHAT IS LEFT of a way on which a call stands at a node of a layer
+-- WHAT IS LEFT of the way of a call that is at a node of a layer
 abbrev pub way_left : ArenaView → ℕ → ℕ → ℕ
 way_left a layer number = all_heights - height_in layer (arena_seen a number)
 
@@ -43,7 +43,7 @@ pub record StandsIn (chart : Chart) (number : ℕ) (prefix : List ℕ) : Type 0 
   pub place : chart number ≡ Some (spot role prefix low (on posted))
   pub fits : low < 2 ^ 64
 
--- its height is told by its node
+-- its node determines its height
 pub height_told : (layer : ℕ) (arena : Arena) (chart : Chart) → IsTree arena chart → (number : ℕ) (role : Role) (prefix : List ℕ) (low : ℕ) (posted : Bool)
     → chart number ≡ Some (spot role prefix low (on posted)) → height_in layer (arena number) ≡ layer_height layer role low
 height_told layer arena chart tree number top prefix low posted place =
@@ -116,7 +116,7 @@ pub record IsOnThere (w : World) (key : List ℕ) (way : Way) : Type 0 where
   pub low : ℕ
   pub place : w.chart way.node.0 ≡ Some (spot role (prefix_of key way) low (on posted))
 
--- where the call holds it for its key's slice, its low is a slice
+-- if the call holds it for its key's slice, its low is a slice
 pub stands_in : (w : World) (begun : ℕ) (key : List ℕ) (way : Way) → AreBytes key → IsOnWay begun key way w → IsOnThere w key way → StandsIn w.chart way.node.0 (prefix_of key way)
 stands_in w begun key way bytes held there = record {
   role = there.role;
@@ -133,7 +133,7 @@ stands_in w begun key way bytes held there = record {
     same_low : (one other : Role) (low least : ℕ) (standing stands : Standing) (prefix layer : List ℕ) → ◌≡◌ {A = Option Spot} (Some (spot one prefix low standing)) (Some (spot other layer least stands)) → low ≡ least
     same_low one other low least standing stands prefix layer e = cc
 
--- with a move of the way it stands at a node that is on, and what is left falls
+-- after a move of the way the call is at a node that is on, and less is left
 pub way_moves : (a : ArenaView) (now begun : ℕ) (w : World) (key : List ℕ) (way next : Way) → IsWorld a now w → AreBytes key → length key ≤ MAX_KEY_BYTES
     → IsOnWay begun key way w → IsOnThere w key way → GoesTo a begun key way w (To next)
     → IsOnThere w key next × (way_left a next.layer next.node.0 < way_left a way.layer way.node.0)

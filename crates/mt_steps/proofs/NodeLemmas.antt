@@ -67,7 +67,7 @@ goes_with now a after w next n owned owns Then world age closing retired evolves
   true = truth;
 }
 
--- the same, where the twins stay
+-- the same, if the twins stay
 pub goes_kept : (now : ℕ) (a after : ArenaView) (w : World) (chart : Chart) (n : ℕ) (owned owns : List ℕ) (Then : World → Type 0)
     → IsWorld a now w → BordersAge a after w (at_chart w chart) → Keeps now w.twins (arena_seen a) (arena_seen after) w.chart chart → after.retired ≡ a.retired → NotRetired a.retired n
     → ((other : ℕ) → other ≢ n → node_at after.nodes other ≡ node_at a.nodes other)
@@ -93,7 +93,7 @@ goes_kept now a after w chart n owned owns Then world age kept retired apart oth
   kept.content,
 )
 
--- the same, where the number is no locked interior
+-- the same, if the number is no locked interior
 pub goes_at : (now : ℕ) (a after : ArenaView) (w : World) (chart : Chart) (n : ℕ) (owned owns : List ℕ) (Then : World → Type 0)
     → IsWorld a now w → BordersAge a after w (at_chart w chart) → Keeps now w.twins (arena_seen a) (arena_seen after) w.chart chart → after.retired ≡ a.retired → NotRetired a.retired n
     → ((other : ℕ) → other ≢ n → node_at after.nodes other ≡ node_at a.nodes other)
@@ -110,7 +110,7 @@ pub goes_at : (now : ℕ) (a after : ArenaView) (w : World) (chart : Chart) (n :
 goes_at now a after w chart n owned owns Then world age kept retired apart others spots heads alive free nobody no_more stays not_taken truth =
     goes_kept now a after w chart n owned owns Then world age kept retired apart others spots heads alive (twins_beside a after w.chart chart w.twins n (kept.evolves 0 (omega arith)) free others world.twins) nobody no_more stays not_taken truth
 
--- twins are locked still, where the one interior that changes is none
+-- twins are still locked, if the one interior that changes is no twin
 pub twins_lone : (a after : ArenaView) (chart next : Chart) (twins : List Twin) (n : ℕ) → Evolves 0 chart next → NoTwin twins n → ((other : ℕ) → other ≢ n → node_at after.nodes other ≡ node_at a.nodes other) → TwinsAreLocked a chart twins → TwinsAreLocked after next twins
 twins_lone a after chart next twins n evolves lone others all = record {
   locked = λ one other pair.
@@ -136,7 +136,7 @@ goes_beside now a after w chart n m place Then world age kept retired apart othe
     goes_at now a after w chart n (m ∷ []) (m ∷ []) Then world age kept retired apart others (λ other out. charted.rest other (λ e. out (subst (λ (k : ℕ). Among k (m ∷ [])) (sym e) first))) heads alive free
     (λ taken out. nobody taken) (λ other taken out k. out k) (λ other k taken. k) (λ out taken. absurd (nobody_then taken)) truth
 
--- ---- heads are as they were, where one number that is no head changes
+-- ---- heads are as they were, if one number that is no head changes
 pub heads_beside : {closing : List ℕ} (a after : ArenaView) (chart next : Chart) (n : ℕ) → ((number : ℕ) (prefix : List ℕ) → OnHead next number prefix → OnHead chart number prefix)
     → head_at after.nodes n ≡ None → border_at a.nodes n ≡ None → ((other : ℕ) → other ≢ n → node_at after.nodes other ≡ node_at a.nodes other) → HeadsStand a closing chart → HeadsStand after closing next
 heads_beside {closing = closing} a after chart next n were none was others heads = record {
@@ -179,13 +179,13 @@ module _ (a : ArenaView) (n : ℕ) (i : InteriorView) (change : InteriorView →
       apart : other ≢ n
       apart e = (let clash : ◌≡◌ {A = Option BorderView} None (Some b) = sym (ap (option_and_then border_of) (node-from_interior a.nodes n i named)) ∙ (ap (λ (m : ℕ). border_at a.nodes m) (sym e) ∙ is) in cc)
 
-  -- the interior is taken where it is locked, or the chart doesn't know it
+  -- the interior is taken if it is locked, or the chart doesn't know it
   pub interior_taken : (w : World) → IsTaken changed w n → ((change i).version.locked ≡ true) ⊎ (w.chart n ≡ None)
   interior_taken w (inl locked) = inl (subst (λ (x : Option Node). IsLocked x) interior_updated.changed locked)
   interior_taken w (inr (inl spare)) = inr spare.1
   interior_taken w (inr (inr m)) = absurd (subst (λ (o : Option HeadView). IsSomeAnd o (λ h. h.version.deleted ≡ true)) interior_no_head m.marked)
 
--- an interior is taken where it is locked, or the chart doesn't know it
+-- an interior is taken if it is locked, or the chart doesn't know it
 pub interior_is_taken : (a : ArenaView) (n : ℕ) (i : InteriorView) (w : World) → interior_at a.nodes n ≡ Some i → IsTaken a w n → (i.version.locked ≡ true) ⊎ (w.chart n ≡ None)
 interior_is_taken a n i w named (inl locked) = inl (subst (λ (x : Option Node). IsLocked x) (node-from_interior a.nodes n i named) locked)
 interior_is_taken a n i w named (inr (inl spare)) = inr spare.1
@@ -210,7 +210,7 @@ known_some w number place is = subst (λ (x : Option Spot). IsSome x) (sym is) r
 no_top : {level low other_low : ℕ} {prefix other : List ℕ} {standing stands : Standing} → ◌≡◌ {A = Option Spot} (Some (spot (at_level level) prefix low standing)) (Some (spot top other other_low stands)) → ⊥
 no_top e = cc
 
--- where another number than a head's is charted, the heads were on
+-- if another number than a head's is charted, the heads were on
 pub heads_were : (chart next : Chart) (at level low : ℕ) (prefix : List ℕ) (standing : Standing) → Changes chart next at (Some (spot (at_level level) prefix low standing)) → (number : ℕ) (layer : List ℕ) → OnHead next number layer → OnHead chart number layer
 heads_were chart next at level low prefix standing changes number layer place = elim (same_number number at) [
   | inl e ↦ absurd (no_top (sym changes.now ∙ (ap next (sym e) ∙ place)))

@@ -21,7 +21,7 @@ use Rattle.mt_arena.specs.declared.part.Part.{Part}
 use Rattle.mt_arena.specs.declared.part.Part.TheVariants.{Head as HeadPart, Interior as InteriorPart, Version as VersionPart, Right as RightPart, Order as OrderPart, Key as KeyPart, Value as ValuePart}
 use Rattle.mt_steps.specs.Standing.{Lends}
 
--- where the number names a border, a field of that border is lent
+-- if the number names a border, a field of that border is lent
 pub record LendsField (b : BorderView) (field : Field) (part : Part) : Type 0 where
   pub sound : IsBorder b
   pub is : IsFieldOf b field part

@@ -117,7 +117,7 @@ module _ (node : Node) (slice : ℕ) (rest : List ℕ) (same : slice_number rest
     node_tells a number names =
         subst (λ (v : Visit). TellsVisit a number rest v) (sym value) (tells_node a number rest node names.named sound (names_may a number node (slice_number rest) names held_may))
 
--- no link leads on from eight bytes
+-- no link leads further from eight bytes
 pub no_link : (node : Node) (slice : ℕ) (rest : List ℕ) (same : slice_number rest ≡ slice) (held : IsHeldNode node slice) → IsNode node → (top : NodeNo) → VisitBelow top ≡ node_visit rest node → length rest ≡ 8 → ⊥
 no_link node slice rest same held sound top value eight =
     let leads = node_leads node slice rest same held sound (VisitBelow top) value held.arena held.number held.names in
@@ -146,13 +146,13 @@ pub in_order : (es : List PlainEntry) → EntriesInOrder es → InOrder es
 in_order [] o = tt
 in_order (e ∷ es) o = (o.0, in_order es o.1)
 
--- ---- a visit of a border gets on
+-- ---- a visit of a border advances
 -- the border is not marked deleted, and the slice stands before its right neighbour
 pub record IsAliveFor (b : BorderView) (slice : ℕ) : Type 0 where
   pub alive : b.version.deleted ≡ false
   pub to_right : Below slice (border_seen b).right
 
--- where a border leads, a move leads
+-- to each node to which a border leads, there is a move
 border_moves : (a : ArenaView) (number : ℕ) (b : BorderView) → border_at a.nodes number ≡ Some b → IsBorder b → b.version.deleted ≡ false → (next : ℕ) → LeadsOn (list_of b) next ⊎ (next ≡ 0)
     → Moves (arena_seen a) number next ⊎ (next ≡ 0)
 border_moves a number b named sound alive next (inl (inl (right, is, same))) = inl (to_right (border_seen b) right (seen-border a number b named) alive is same)
@@ -232,7 +232,7 @@ module _ (a : ArenaView) (range : Range) where
     };
   })
 
-  -- ---- where it goes on to another node of its layer
+  -- ---- it moves to another node of its layer
   pub moves_by : (next : NodeNo) → ((now begun moves : ℕ) (past : List Arena) (w : World) → IsWorld a now w → RangeIsTrue range begun moves past a w → Holds w.chart begun next.0 range.scan.prefix (first_slice range.scan.at))
       → (log : LogView) → RangeLaw log Moved (with_scan range.scan next)
   moves_by next holds log C = record {
@@ -246,7 +246,7 @@ module _ (a : ArenaView) (range : Range) where
     };
   }
 
-  -- where it reads the border again, or reads on
+  -- it reads the border again, or its next field
   pub repeats_by : (log : LogView) → RangeLaw log Waits (with_scan range.scan range.node)
   repeats_by log C = record {
     steps = λ now begun moves past w world before truth. record {
@@ -274,7 +274,7 @@ module _ (a : ArenaView) (range : Range) where
         };
   }
 
-  -- ---- where its scan has visited a border, or what it has read of one
+  -- ---- its scan has visited a border, or what it has read of one
   module _ (visited : ScanMove) (scan : ScanView) (comes : (now begun moves : ℕ) (past : List Arena) (w : World) → IsWorld a now w → RangeIsTrue range begun moves past a w
       → Comes w.chart begun (Stood (shown range.columns) (arena_seen a ∷ past)) (AllHave (arena_seen a ∷ past)) (place_of range.start) range.limit (outcome_of visited scan)) where
     abbrev ComesIf : World → ℕ → List Arena → ScanMove → Type 0
@@ -412,7 +412,7 @@ range_node a range log may =
     let held = range_may a range may.now may.begun may.moves may.past may.w may.world may.true (first_slice range.scan.at) refl in
     (held_may_visit a held.now held.twins held.chart held.begun range.node.0 (first_slice range.scan.at) held.prefix held.index held.holds).named
 
--- ---- where it is lent the node at which it stands
+-- ---- it is lent the node at which it is
 module _ (range : Range) (node : Node) (may : RangeMayVisit range node) where
   pub range_may_visit : (slice : ℕ) → slice ≡ first_slice range.scan.at → IsHeldNode node slice
   range_may_visit slice is =

@@ -1,4 +1,4 @@
--- What a visit on the way to a key tells.
+-- What follows from a visit on the way to a key.
 use Rattle.std.proofs.Common.{ℕ, ◌≡◌, ◌<◌, ◌+◌, ◌-◌, ◌*◌, [], ◌∷◌, List, length, slice_get, Bool, true, false, if◌then◌else◌, inl, inr, refl, sym, ap, subst, ◌∙◌, arith, add-one, length-drop}
 use Rattle.mt_types.specs.declared.numbers.NodeNo.{NodeNo}
 use Rattle.mt_slice.specs.Place.{deeper, under, place_of, rest_at, slices_above, slice_number}

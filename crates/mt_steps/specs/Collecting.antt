@@ -6,12 +6,12 @@ use Rattle.mt_chart.specs.Steps.{SameContent}
 use Rattle.mt_tree.specs.Seen.{arena_seen}
 use Rattle.mt_steps.specs.World.{World, IsWorld, IsTaken, IsSame, BordersAge}
 
--- the arena, once so many of its retired nodes have been given back, from the first on: their numbers name nothing
+-- the arena after the given number of its retired nodes, from the first on, are given back: their numbers name nothing
 abbrev pub given_back : ℕ → ArenaView → ArenaView
 given_back zero a = a
 given_back (suc count) a = without_first_retired (given_back count a)
 
--- EXACTLY THOSE THAT WERE RETIRED BEFORE the epoch are freed, which are the first so many, and nothing else is changed
+-- EXACTLY THE NODES THAT WERE RETIRED BEFORE the epoch are freed, the first `count` ones, and nothing else is changed
 pub record IsCollected (a after : ArenaView) (before count : ℕ) : Type 0 where
   pub few : count ≤ length a.retired
   pub left : after ≡ given_back count a
@@ -24,8 +24,8 @@ abbrev pub TakenSince : ℕ → ArenaView → World → Type 0
 TakenSince before a w = (number : ℕ) → IsTaken a w number → (below : ℕ) (prefix : List ℕ) (low epoch : ℕ) →
     w.chart number ≡ Some (spot (at_level (suc below)) prefix low (gone epoch)) → before ≤ epoch
 
--- what is left, in a next world: each call that began in the epoch or later may go on, each number that is taken is as
--- it was, and each border that the chart knows ages
+-- what is left, in a next world: each call that began in the epoch or later may continue, each number that is taken is
+-- as it was, and each border that the chart knows ages
 pub record Leaves (now before : ℕ) (a after : ArenaView) (w : World) : Type 0 where
   pub next : World
   pub world : IsWorld after now next

@@ -77,7 +77,7 @@ value_read asked counters LinkKind (RowPart row) = settles counters Absent
 value_read asked counters RowKind (LinkPart head) = Repeats
 value_read asked counters LinkKind (LinkPart head) = settles counters (LinkSight head)
 
--- what was found, where the border is as it was
+-- what was found, if the border is as it was
 abbrev pub sight_told : Sight → Reading
 sight_told Absent = Answers AbsentAnswer
 sight_told (RowSight row) = Answers (Found row)

@@ -71,14 +71,14 @@ IsReading (Reads glance place) = place < length glance.order.live
 IsReading (AtValue glance place kind) = place < length glance.order.live
 IsReading _ = Unit {0}
 
--- where a head or an interior node leads
+-- what a visit of a head or an interior node leads to
 abbrev pub by_visit : Visit → Reading
 by_visit VisitAgain = Restarts
 by_visit (VisitTo next) = To next
 by_visit (VisitBelow head) = Below head
 by_visit VisitHere = Repeats
 
--- WHAT IT DOES, by what it is lent of the node where it stands, and by nothing else
+-- WHAT IT DOES, by what it is lent of the node at which it is, and by nothing else
 abbrev pub reading_of : Get → Part → Reading
 reading_of get (HeadPart part) = by_visit (visit_head part.now)
 reading_of get (InteriorPart part) = by_visit (visit_interior (slice_number (rest_of get.key get.way)) part.now)
@@ -105,7 +105,7 @@ get_after get (Below head) = record get { way = record { node = head; layer = ge
 get_after get (Answers answer) = record get { finding = Begins }
 
 -- ---- what is true of it
--- it stands at a border of its key's way, of which it has read the version, with these counters
+-- it is at a border of its key's way, and has read the border's version, with these counters
 pub record AtBorder (begun : ℕ) (key : List ℕ) (way : Way) (counters : Counters) (a : ArenaView) (w : World) : Type 0 where
   pub layer : IsLayerOf key way
   pub here : StandsAt begun (prefix_of key way) (slice_number (rest_of key way)) way.node.0 counters a w
@@ -118,15 +118,15 @@ HasBound key way counters b right begun w = IsBounded (prefix_of key way) (slice
 abbrev pub IsPlaceOf : Slots → ℕ → Type 0
 IsPlaceOf order place = (place < length order.live) × (length order.live ≤ SLOTS)
 
--- what it has found, where the border is quiet still: no row at some moment, the row of some moment, or the held head of
--- the layer where its key goes on
+-- what it has found, if the border is still quiet: no row at some moment, the row of some moment, or the held head of
+-- the layer in which its key continues
 abbrev pub SightIsTrue : List ℕ → List ℕ → Way → Sight → ℕ → List Arena → World → Type 0
 SightIsTrue key asked way AbsentSight begun arenas w = Lacked arenas (place_of key)
 SightIsTrue key asked way (RowSight row) begun arenas w = Stood (shown asked) arenas (place_of key) row
 SightIsTrue key asked way (LinkSight head) begun arenas w = (sought : ℕ)
     → Holds w.chart begun head.0 (slice_number (rest_of key way) ∷ prefix_of key way) sought
 
--- only a key that goes on past its slice leads below
+-- only a key that continues past its slice leads below
 abbrev pub Fits : List ℕ → Way → Sight → Type 0
 Fits key way (LinkSight head) = 8 < length (rest_of key way)
 Fits key way _ = Unit {0}
@@ -144,7 +144,7 @@ GoesDeeper key way RowKind = Unit {0}
 GoesDeeper key way LinkKind = 8 < length (rest_of key way)
 
 -- HOW FAR IT HAS READ is true, by the arenas of its moments, the present one among them: all that it has read of slots
--- is said of a border that is quiet still
+-- is said of a border that is still quiet
 abbrev pub FindingIsTrue : List ℕ → List ℕ → Way → Finding → ℕ → List Arena → ArenaView → World → Type 0
 FindingIsTrue key asked way Begins begun arenas a w = IsOnWay begun key way w
 FindingIsTrue key asked way (Looked counters) begun arenas a w = AtBorder begun key way counters a w
@@ -161,7 +161,7 @@ FindingIsTrue key asked way (AtValue glance place kind) begun arenas a w =
 FindingIsTrue key asked way (Settles counters sight) begun arenas a w = (at : AtBorder begun key way counters a w)
     × Fits key way sight × (Still counters at.here.b → SightIsTrue key asked way sight begun arenas w)
 
--- how many moves it has made at the node where it stands, at most
+-- how many moves it has made at the node at which it is, at most
 abbrev pub reads_made : Finding → ℕ
 reads_made Begins = 0
 reads_made (Looked counters) = 1
@@ -170,7 +170,7 @@ reads_made (Reads glance place) = 3 + place
 reads_made (AtValue glance place kind) = 4 + place
 reads_made (Settles counters sight) = 20
 
--- the run of moves that it is in: through so many nodes, with few moves at each
+-- the run of moves that it is in: through `came` nodes, with few moves at each
 pub record MovesOn (begun moves : ℕ) (way : Way) (finding : Finding) (w : World) : Type 0 where
   pub came : ℕ
   pub trail : Trail begun w.chart way.node.0 came
@@ -209,8 +209,8 @@ pub record ReadsWhole (a : ArenaView) (key : List ℕ) (way : Way) (asked : List
   pub reads : (now : ℕ) (w : World) → IsWorld a now w → IsAtPlace a key way w → (past : List Arena)
       → IsRight past a (GetRequest key asked) None answer
 
--- Where it moves, it goes to the node to which that visit leads; where it waits, it begins its way again; it answers, or
--- is refused, only where the node is its key's border. It has read nothing of the next node.
+-- If it moves, it goes to the node to which that visit leads; if it waits, it begins its way again; it answers, or is
+-- refused, only if the node is its key's border. It has read nothing of the next node.
 abbrev pub GetVisits : ArenaView → Get → Progress → Get → Type 0
 GetVisits a get Moved new = Visits a get.key get.way (WentTo new.way) × (new.finding ≡ Begins)
 GetVisits a get Waits new = (new.way ≡ start) × (new.finding ≡ Begins)

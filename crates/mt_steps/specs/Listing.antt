@@ -79,7 +79,7 @@ list_ordered counters right order = list_next (record {
   place = 0;
 })
 
--- a key, beside its slice
+-- a key, without its slice
 abbrev pub key_read_of : Mark → Class → List ℕ → KeyRead
 key_read_of Layer class suffix = LayerKey
 key_read_of Plain (Len bytes) suffix = ShortKey bytes
@@ -99,12 +99,12 @@ abbrev pub is_before_link : Option RightLink → ℕ → Bool
 is_before_link None slice = true
 is_before_link (Some next) slice = nat_lt slice next.low
 
--- an entry is kept where it is before what is to the right
+-- an entry is kept if it is before what is to the right
 abbrev pub kept_with : Option RightLink → List Entry → Option Entry → List Entry
 kept_with right entries None = entries
 kept_with right entries (Some entry) = if is_before_link right entry.slice then entries ++ entry ∷ [] else entries
 
--- one slot more was read, which holds this entry, or none that can be right
+-- one more slot was read, which holds this entry, or none that can be right
 abbrev pub one_more : Notes → Option Entry → ListReading
 one_more notes entry = list_next (record {
   glance = notes.glance;
@@ -126,7 +126,7 @@ list_settled counters right entries version = if version.deleted then Restarts
     else if is_flagged version then Repeats
     else if same_counters (counters_of version) counters then ListsBorder entries right else Repeats
 
--- where a head or an interior node leads
+-- what a visit of a head or an interior node leads to
 abbrev pub list_visit : Visit → ListReading
 list_visit VisitAgain = Restarts
 list_visit (VisitTo next) = To next
@@ -197,7 +197,7 @@ abbrev pub list_at_value : Listing → ValuePart → ListReading
 list_at_value (AtValue notes slice key) part = list_value notes slice key part
 list_at_value _ part = Repeats
 
--- WHAT IT DOES, by what it is lent of the node where it stands, and by nothing else
+-- WHAT IT DOES, by what it is lent of the node at which it is, and by nothing else
 abbrev pub list_reading : Listing → ℕ → Part → ListReading
 list_reading listing slice (HeadPart part) = list_visit (visit_head part.now)
 list_reading listing slice (InteriorPart part) = list_visit (visit_interior slice part.now)
@@ -248,7 +248,7 @@ abbrev pub ListFails : ArenaView → ℕ → Type 0
 ListFails a number = IsSome (border_at a.nodes number)
 
 -- ---- what is true of it
--- what stands at a slice shows this key, whatever its value
+-- the content of a slice shows this key, whatever its value
 abbrev pub ShowsKey : KeyRead → PlainContent → Type 0
 ShowsKey (ShortKey bytes) content = (row : Row) × (content ≡ short bytes row)
 ShowsKey (LongKey suffix) content = (row : Row) × (content ≡ long (place_of suffix) row)
@@ -262,20 +262,20 @@ pub record HasKey (show : Row → Row) (chart : Chart) (begun : ℕ) (past : Lis
   pub at_slice : read.entry.slice ≡ slice
   pub is : ShowsKey key read.entry.content
 
--- what was read of so many of the slots of these numbers, which were the border's live ones
+-- what was read of the first `place` slots of these numbers, which were the border's live ones
 abbrev pub ListsSlots : (Row → Row) → List ℕ → Option RightLink → List ℕ → ℕ → List Entry → BorderView → ℕ
     → List Arena → World → Type 0
 ListsSlots show prefix right numbers place entries b begun arenas w =
     Lists show w.chart begun arenas prefix (fields_seen b) (option_map right_seen right) numbers place
     (entries_seen entries)
 
--- what is said of slots is said of a border that is quiet still
+-- what is said of slots is said of a border that is still quiet
 abbrev pub NotesAreTrue : (Row → Row) → List ℕ → Notes → BorderView → ℕ → List Arena → World → Type 0
 NotesAreTrue show prefix notes b begun arenas w = Still notes.glance.counters b
     → ListsSlots show prefix notes.glance.right notes.glance.order.live notes.place notes.entries b begun arenas w
 
--- HOW FAR IT HAS READ is true, by the arenas of its moments, the present one among them, where it seeks a slice in the
--- layer below a prefix, and shows rows so
+-- HOW FAR IT HAS READ is true, by the arenas of its moments, the present one among them, of a call that seeks a slice
+-- in the layer below a prefix, and shows rows in this way
 abbrev pub ListingIsTrue : (Row → Row) → List ℕ → ℕ → ℕ → Listing → ℕ → List Arena → ArenaView → World → Type 0
 ListingIsTrue show prefix slice number Begins begun arenas a w = Unit {0}
 ListingIsTrue show prefix slice number (Looked counters) begun arenas a w =
@@ -308,7 +308,7 @@ pub record IsReadList (show : Row → Row) (prefix : List ℕ) (slice begun : �
   pub in_order : EntriesInOrder (entries_seen entries)
   pub few : length entries ≤ SLOTS
 
--- what is true where a reading leads
+-- what is true after a reading
 abbrev pub ListLeads : (Row → Row) → List ℕ → ℕ → ℕ → ℕ → List Arena → ArenaView → World → ListReading → Type 0
 ListLeads show prefix slice number begun past a w Restarts = Unit {0}
 ListLeads show prefix slice number begun past a w Repeats = Unit {0}

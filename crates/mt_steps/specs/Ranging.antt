@@ -45,7 +45,7 @@ use Rattle.mt_steps.specs.World.{World, IsWorld, AreOfKeys}
 abbrev pub range_request : Range → Request
 range_request range = RangeRequest range.start range.limit range.columns
 
--- a range that began in the epoch holds the node where it stands, and all before its cursor is done, by the arenas of
+-- a range that began in the epoch holds the node at which it is, and all before its cursor is done, by the arenas of
 -- its moments; and how far it has read that node is true
 pub record RangeIsTrue (range : Range) (begun moves : ℕ) (past : List Arena) (a : ArenaView) (w : World) : Type 0 where
   pub bytes : AreBytes range.start
@@ -75,7 +75,7 @@ pub record IsHeldNode (node : Node) (slice : ℕ) : Type 0 where
   pub names : Names arena number node
   pub held : IsHeldFor arena number slice
 
--- a range is lent the node where it stands, and may visit it
+-- a range is lent the node at which it is, and may visit it
 pub record RangeMayVisit (range : Range) (node : Node) : Type 0 where
   pub arena : ArenaView
   pub log : LogView
@@ -99,12 +99,12 @@ pub record Seeks (a : ArenaView) (number slice : ℕ) (sought : Sought) : Type 0
   pub leads : (now : ℕ) (twins : List Twin) (chart : Chart) (begun : ℕ) (prefix : List ℕ) → IsIndexAt a now twins chart
       → Holds chart begun number prefix slice → KnowsOfSlice a chart begun number prefix slice sought
 
--- a scan whose cursor is this goes on toward the border of its cursor's slice, which is of 64 bits
+-- a scan with this cursor advances toward the border of its cursor's slice, which is of 64 bits
 pub record SeeksOn (a : ArenaView) (number next : ℕ) (c : CursorView) : Type 0 where
   pub fits : first_slice c.at < 2 ^ 64
   pub moves : Moves (arena_seen a) number next
 
--- A scan has visited the border, and its cursor has got on, by its number in each number of places that are more than
+-- A scan has visited the border, and its cursor has advanced, by its number in each number of places that are more than
 -- the layers above it. It goes where the border leads, or back to the head of layer 0. The arena is sound: so its tree
 -- has few layers.
 pub record ScansOn (a : ArenaView) (number next : ℕ) (c d : CursorView) : Type 0 where
@@ -121,25 +121,25 @@ ScanGoes a number next c d = (SeeksOn a number next c × (d ≡ c)) ⊎ ScansOn 
 abbrev pub restarted : ScanView → ScanView
 restarted scan = record scan { prefix = []; at = under scan.prefix scan.at }
 
--- the visit of the one border where it stands leads its scan on so
+-- the visit of the one border at which it is leads its scan further in this way
 pub record ScansBorder (a : ArenaView) (range : Range) (visited : ScanMove) (scan : ScanView) : Type 0 where
   pub border : BorderView
   pub stands : border_at a.nodes range.node.0 ≡ Some border
   pub visits : VisitsList range.scan (list_of border) visited scan
 
--- a scan that goes on is then at the node of this number
+-- a scan that continues is then at the node of this number
 abbrev pub IsThen : ScanMove → ℕ → Type 0
 IsThen (VisitedTo next) number = number ≡ next.0
 IsThen VisitedTop number = number ≡ start.node.0
 IsThen VisitDone number = ⊥
 
--- on its way its scan is as it was; and else it visits the border where it stands
+-- on its way its scan is as it was; and else it visits the border at which it is
 abbrev pub Scans : ArenaView → Range → Range → Type 0
 Scans a range new = (new.scan ≡ range.scan)
     ⊎ ((visited : ScanMove) × ScansBorder a range visited new.scan × IsThen visited new.node.0)
 
--- A STEP VISITS ONE NODE. Where it moves, its scan gets on; where it waits, it begins its way again; it answers where
--- that node is the border at which its scan ends, with all that this has taken.
+-- A STEP VISITS ONE NODE. If it moves, its scan advances; if it waits, it begins its way again; it answers if that node
+-- is the border at which its scan ends, with all that the scan has taken.
 abbrev pub RangeFollows : ArenaView → Range → Progress → Range → Type 0
 RangeFollows a range Moved new =
     ScanGoes a range.node.0 new.node.0 (cursor_in range.scan) (cursor_in new.scan) × Scans a range new
@@ -148,7 +148,7 @@ RangeFollows a range (Answered answer) new =
     (scan : ScanView) × ScansBorder a range VisitDone scan × (answer ≡ Rows scan.taken)
 RangeFollows a range _ new = Unit {0}
 
--- where it moves, and nothing else happens meanwhile, what was true of it is true again
+-- if it moves, and nothing else happens meanwhile, what was true of it is true again
 abbrev pub RangeStays : ArenaView → Range → Progress → Range → Type 0
 RangeStays a range Moved new = (now begun moves : ℕ) (past : List Arena) (w : World) → IsWorld a now w
     → RangeIsTrue range begun moves past a w → RangeIsTrue new begun (moves + 1) past a w
@@ -184,7 +184,7 @@ abbrev pub ListHasKeys : List ℕ → ListReading → Type 0
 ListHasKeys prefix (Lists entries right) = HoldsKeys prefix entries
 ListHasKeys prefix _ = Unit {0}
 
--- it has read nothing of the node where it stands
+-- it has read nothing of the node at which it is
 abbrev pub unread : Range → Range
 unread range = record range { listing = Begins }
 

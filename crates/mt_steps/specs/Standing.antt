@@ -1,4 +1,4 @@
--- Where a call stands that reads a border field by field, and what it is lent of it.
+-- The state of a call that reads a border field by field, and what it is lent of that border.
 use Rattle.std.specs.Prelude.{ℕ, ◌≡◌, ◌<◌, ◌^◌, List, Option, Some}
 use Rattle.std.specs.Option.{option_map}
 use Rattle.mt_border.specs.Border.{BorderView}
@@ -28,7 +28,7 @@ pub record Lends (a : ArenaView) (number : ℕ) (field : Field) (part : Part) : 
 abbrev pub counters_seen : Counters → NotedCounters
 counters_seen counters = record { inserts = counters.inserts; splits = counters.splits }
 
--- it stands at a border of which it has read the version, with these counters, and seeks this slice of its layer
+-- it is at a border, has read the border's version, with these counters, and seeks this slice of its layer
 pub record StandsAt (begun : ℕ) (prefix : List ℕ) (slice number : ℕ) (counters : Counters) (a : ArenaView) (w : World) : Type 0 where
   pub b : BorderView
   pub named : border_at a.nodes number ≡ Some b
@@ -36,7 +36,7 @@ pub record StandsAt (begun : ℕ) (prefix : List ℕ) (slice number : ℕ) (coun
   pub fits : b.low < 2 ^ 64
   pub looked : HasLooked (counters_seen counters) w.chart begun number prefix slice (fields_seen b)
 
--- the border is quiet still: not marked deleted, without a flag, with these counters
+-- the border is still quiet: not marked deleted, without a flag, with these counters
 abbrev pub Still : Counters → BorderView → Type 0
 Still counters b = IsQuiet (counters_seen counters) (fields_seen b)
 

@@ -26,7 +26,7 @@ use Rattle.mt_steps.specs.declared.progress.Progress.TheVariants.{Moved, Waits, 
 use Rattle.mt_steps.specs.World.{World, IsWorld, Goes}
 
 -- what a call has: the numbers that it owns, for how many deltas it has reserved room, and the number of its commit;
--- and where it has failed for want of room in the log, from which number the log was held
+-- and if it has failed for lack of room in the log, from which number the log was held
 pub record Held : Type 0 where
   pub owns : List ℕ
   pub reserves : ℕ
@@ -44,8 +44,8 @@ left_with Moved held = held
 left_with Waits held = held
 left_with (Committed number) held = held
 
--- what is true of a call that began in an epoch, after so many moves in a row, and since whose begin the tree was these
--- arenas, newest first, before it is what it is now
+-- what is true of a call, by the epoch in which it began, the number of its moves in a row, the arenas that the tree
+-- was since its begin, newest first, without the present one, and the present tree and world
 abbrev pub Truth : Type 1
 Truth = ℕ → ℕ → List Arena → ArenaView → World → Type 0
 
@@ -67,7 +67,7 @@ pub record IsQuiet (a after : ArenaView) (log left : LogView) : Type 0 where
 abbrev pub RowIs : ArenaView → List ℕ → Option Row → Type 0
 RowIs a key there = (row : Row) → HasRow a key row ↔ (there ≡ Some row)
 
--- the columns that a put makes of the row that stands, or of none
+-- the columns that a put makes of the row that was there, or of none
 abbrev pub columns_after : ℕ → List (ℕ × List ℕ) → Option Row → List (List ℕ)
 columns_after C sets old = new_columns sets 0 (columns_before C old)
 
@@ -138,17 +138,17 @@ pub record IsOfVersion (a : ArenaView) (key : List ℕ) (version : ℕ) : Type 0
   pub stands : RowIs a key there
   pub is : version_of there ≡ version
 
--- a conditional put that is refused for another version tells the one of which its key's row is
+-- a conditional put that is refused for another version names the one of which its key's row is
 abbrev pub TellsVersion : ArenaView → Request → Refusal → Type 0
 TellsVersion a (PutIfRequest key sets version) (OtherVersion found) = IsOfVersion a key found
 TellsVersion a _ _ = Unit {0}
 
--- the number that a refusal for want of room in the log names
+-- the number that a refusal for lack of room in the log names
 abbrev pub blocked_by : Refusal → Option ℕ
 blocked_by (FeedFull number) = Some number
 blocked_by _ = None
 
--- a refusal for want of room in the log names the number from which the log is held
+-- a refusal for lack of room in the log names the number from which the log is held
 abbrev pub IsOfLog : LogView → Refusal → Type 0
 IsOfLog log (FeedFull number) = number ≡ slowest log
 IsOfLog log _ = Unit {0}
@@ -204,7 +204,7 @@ pub record StepLaw (C : ℕ) (a after : ArenaView) (log left : LogView) (request
       → Stepped C now moves past a after log left w request held p then
       (λ m next. Then begun m (arena_seen a ∷ past) after next)
 
--- the same in one epoch, of a kind of call whose step is told the present one
+-- the same in one epoch, for a kind of call whose step takes the present epoch
 pub record StepLawIn (now C : ℕ) (a after : ArenaView) (log left : LogView) (request : Request) (held : Held)
     (p : Progress) (then : Held) (True Then : Truth) : Type 0 where
   pub steps : (begun moves : ℕ) (past : List Arena) (w : World) → IsWorld a now w → begun ≤ now

@@ -19,7 +19,7 @@ use Rattle.mt_steps.specs.World.{World, IsWorld}
 abbrev pub start : Way
 start = record { node = record { 0 = 0 }; layer = 0 }
 
--- the slices of the layers above the layer where a call stands, and what they have left of the key
+-- the slices of the layers above the layer in which a call is, and what they have left of the key
 abbrev pub prefix_of : List ℕ → Way → List ℕ
 prefix_of key way = slices_above way.layer key
 
@@ -31,13 +31,13 @@ pub record IsLayerOf (key : List ℕ) (way : Way) : Type 0 where
   pub within : 8 * way.layer ≤ length key - 1
   pub under : place_of key ≡ under (prefix_of key way) (place_of (rest_of key way))
 
--- a call that began in the epoch holds the node where it stands, for its key's slice in the layer
+-- a call that began in the epoch holds the node at which it is, for its key's slice in the layer
 pub record IsOnWay (begun : ℕ) (key : List ℕ) (way : Way) (w : World) : Type 0 where
   pub layer : IsLayerOf key way
   pub held : Holds w.chart begun way.node.0 (prefix_of key way) (slice_number (rest_of key way))
 
--- it stands at the border where its key's entry is, if there is one: the border is not marked deleted, and no link
--- leads on
+-- it is at the border in which its key's entry is, if there is one: the border is not marked deleted, and no link leads
+-- further
 pub record IsAtPlace (a : ArenaView) (key : List ℕ) (way : Way) (w : World) : Type 0 where
   pub layer : IsLayerOf key way
   pub here : IsHere a w.chart way.node.0 (prefix_of key way) (rest_of key way)
@@ -67,31 +67,31 @@ went_by way (VisitTo next) = To (record { node = next; layer = way.layer })
 went_by way (Below below) = To (record { node = below; layer = way.layer + 1 })
 went_by way VisitHere = Here
 
--- what a visit of this node comes to, where a call stands at it
+-- what a visit of this node comes to, for a call that is at it
 abbrev pub went_at : List ℕ → Way → Node → Went
 went_at key way node = went_by way (node_visit (rest_of key way) node)
 
--- a visit of the one node where a call stands comes to this
+-- a visit of the one node at which a call is comes to this
 abbrev pub VisitIs : ArenaView → List ℕ → Way → Went → Type 0
 VisitIs a key way went = IsSomeAnd (node_at a.nodes way.node.0) (λ node. went ≡ went_at key way node)
 
--- what a call must know before it visits the node where it stands
+-- what a call must know before it visits the node at which it is
 pub record MayGo (a : ArenaView) (key : List ℕ) (way : Way) : Type 0 where
   pub within : 8 * way.layer ≤ length key - 1
   pub may : MayVisit a way.node.0 (slice_number (rest_of key way))
 
--- the same of the node itself, where it is lent that node alone
+-- the same of the node itself, for a call that is lent that node alone
 pub record MayGoAt (key : List ℕ) (way : Way) (node : Node) : Type 0 where
   pub within : 8 * way.layer ≤ length key - 1
   pub may : MayVisitNode node (slice_number (rest_of key way))
 
--- A NODE IS LENT: the arena is sound, and the number names this node in it. Who is lent the node alone speaks of each
+-- A NODE IS LENT: the arena is sound, and the number names this node in it. What is lent the node alone speaks of each
 -- arena of which that is so.
 pub record Names (a : ArenaView) (number : ℕ) (node : Node) : Type 0 where
   pub named : node_at a.nodes number ≡ Some node
   pub sound : IsArena a
 
--- what a visit tells, in each world in which the call holds the node
+-- what is known after a visit, in each world in which the call holds the node
 pub record Visits (a : ArenaView) (key : List ℕ) (way : Way) (went : Went) : Type 0 where
   pub goes : (now : ℕ) (w : World) (begun : ℕ) → IsWorld a now w → IsOnWay begun key way w
       → GoesTo a begun key way w went

@@ -20,8 +20,8 @@ use Rattle.mt_tree.specs.Keeping.{IsIndexAt}
 use Rattle.mt_tree.specs.InteriorSteps.{IsInLayer}
 use Rattle.mt_tree.specs.Descent.{is_marked}
 
--- what the proofs know beside the arena: where each node stands, which interiors are being split, and which borders are
--- the roots of layers that are being taken out
+-- what the proofs know besides the arena: the place of each node, which interiors are being split, and which borders
+-- are the roots of layers that are being taken out
 pub record World : Type 0 where
   pub twins : List Twin
   pub closing : List ℕ
@@ -129,7 +129,7 @@ abbrev pub HasSameTwins : List Twin → List Twin → ℕ → Type 0
 HasSameTwins twins then number = (one other : ℕ) → (one ≡ number) ⊎ (other ≡ number) → AreTwins then one other
     ↔ AreTwins twins one other
 
--- the number names the same node, which stands where it stood, has the twins that it had, and is closing or retired
+-- the number names the same node, which is at the same place, has the twins that it had, and is closing or retired
 -- only if it was
 pub record IsSame (a after : ArenaView) (w next : World) (number : ℕ) : Type 0 where
   pub node : node_at after.nodes number ≡ node_at a.nodes number

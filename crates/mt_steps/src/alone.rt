@@ -24,7 +24,7 @@ impl Get {
     ///
     /// # Errors
     ///
-    /// `NoMemory` where an allocation is refused.
+    /// `NoMemory` if an allocation is refused.
     pub fn run_alone(self, alloc: Global, tree: &Tree) -> Result<Answer, NoMemory>
         requires lone { IsLoneTree tree.now }
         requires begins { (self.way ≡ start) × (self.finding ≡ Finding.Begins) }
@@ -56,13 +56,13 @@ fn rows_of(answer: Answer) -> Pairs
 
 impl Range {
     /// Runs it from its begin to its end on a tree on which nothing else is under way. It visits each border in which
-    /// keys from its first on may stand, up to its limit or the end of the tree, and the nodes on the way to them; from
+    /// keys from its first on may be, up to its limit or the end of the tree, and the nodes on the way to them; from
     /// the end of each layer below the first it goes back to the head of layer 0. Takes memory for the pairs, and for
     /// its cursor, and shares the bytes of the columns.
     ///
     /// # Errors
     ///
-    /// `NoMemory` where an allocation is refused.
+    /// `NoMemory` if an allocation is refused.
     pub fn run_alone(self, alloc: Global, tree: &Tree) -> Result<Pairs, NoMemory>
         requires lone { IsLoneTree tree.now }
         requires begins { IsAtBegin self }

@@ -1,4 +1,4 @@
-//! A collection: retired nodes are freed at which no open call can stand.
+//! A collection: it frees retired nodes at which no open call can be.
 
 ghost use Rattle.std.specs.Prelude.{◌≡◌, ◌+◌};
 ghost use Rattle.mt_steps.specs.Collecting.{IsCollected, CollectLaw};
@@ -6,9 +6,9 @@ ghost use Rattle.mt_steps.specs.Collecting.{IsCollected, CollectLaw};
 use mt_tree::Tree;
 use mt_types::limits::MAX_NODES;
 
-/// Frees the nodes that were retired in this epoch or before, and tells how many (Masstree, EuroSys 2012, section
+/// Frees the nodes that were retired in this epoch or before, and returns how many (Masstree, EuroSys 2012, section
 /// 4.6.1).
-/// Where each open call began in a later one, no call can stand at one of them. O(n) in those that are freed.
+/// If each open call began in a later epoch, no call can be at one of them. O(n) in those that are freed.
 pub fn collect(tree: &mut Tree, upto: u64) -> u32
     ensures exactly { IsCollected tree.old tree.new (upto + 1) result }
     ensures keeps { CollectLaw tree.old tree.new (upto + 1) }

@@ -44,11 +44,11 @@ pub enum Sight {
     Absent,
     /// The row of its key, as it is to be answered.
     Row(Row),
-    /// The head of the layer in which its key goes on.
+    /// The head of the layer in which its key continues.
     Link(NodeNo),
 }
 
-/// How far a get has read the border where it stands.
+/// How far a get has read the border at which it is.
 #[derive(Drop)]
 pub enum Finding {
     /// It has read nothing of it. So it is at a head and at an interior node, too.
@@ -72,7 +72,7 @@ pub enum Reading {
     Restarts,
     /// The border is being changed, or was: it begins to read it again.
     Repeats,
-    /// It reads on.
+    /// It reads the next field.
     GoesOn(Finding),
     /// To this node of the same layer.
     To(NodeNo),
@@ -153,8 +153,8 @@ fn order(counters: Counters, right: Option<RightLink>, order: Permutation) -> Re
     next_key(glance, 0)
 }
 
-// What follows, where a slot's key is at the slice and class of the rest of a key, and `is_same` says whether what
-// follows its slice is the same.
+// Returns what the get does if a slot's key is at the slice and class of the rest of the key sought. `is_same` says
+// whether what follows its slice is the same.
 fn found(glance: Glance, place: usize, mark: Mark, is_same: bool) -> Reading
     ensures { result ≡ key_found glance place mark is_same }
 {
@@ -172,7 +172,7 @@ fn is_before(slice: u64, number: u8, other_slice: u64, other: u8) -> bool
     slice < other_slice || slice == other_slice && number < other
 }
 
-// Then the value. Where it isn't of the kind that the key had, the slot was changed since.
+// Then the value. If it isn't of the kind that the key had, the slot was changed since.
 fn value(
     alloc: Global,
     asked: &ColumnNumbers,
@@ -211,7 +211,7 @@ fn settle(counters: Counters, sight: Sight, version: Version) -> Reading
     }
 }
 
-/// What follows, where the version was asked for. Constant cost.
+/// Returns what a get does after it has read the version. Constant cost.
 pub fn at_version(finding: Finding, version: Version) -> Reading
     requires { WantsVersion finding }
     ensures { result ≡ at_version finding version }
@@ -226,7 +226,7 @@ pub fn at_version(finding: Finding, version: Version) -> Reading
     }
 }
 
-/// Where the right link was, for the slice that is sought. Constant cost.
+/// Returns what a get does after it has read the right link, for the slice that it seeks. Constant cost.
 pub fn at_right(finding: Finding, right: Option<RightLink>, slice: u64) -> Reading
     requires { WantsRight finding }
     ensures { result ≡ at_right finding right slice }
@@ -237,7 +237,7 @@ pub fn at_right(finding: Finding, right: Option<RightLink>, slice: u64) -> Readi
     }
 }
 
-/// Where the order was. Constant cost.
+/// Returns what a get does after it has read the order. Constant cost.
 pub fn at_order(finding: Finding, ordered: Permutation) -> Reading
     requires { WantsOrder finding }
     ensures { result ≡ at_order finding ordered }
@@ -259,8 +259,8 @@ fn reads_of(finding: Finding) -> (Glance, usize)
     }
 }
 
-/// Where the key of a slot was, and `rest` is what the layers above have left of the key sought: up to the first slot that
-/// isn't before it. Costs a look at what follows its slice.
+/// Returns what a get does after it has read the key of a slot. `rest` is what the layers above have left of the key
+/// sought. The get reads keys up to the first that isn't before that. Costs a look at what follows its slice.
 pub fn at_key(finding: Finding, part: &KeyPart<'_>, rest: &[u8]) -> Reading
     requires { WantsKey finding }
     ensures { result ≡ at_key finding part.now rest.now }
@@ -277,11 +277,12 @@ pub fn at_key(finding: Finding, part: &KeyPart<'_>, rest: &[u8]) -> Reading
     found(glance, place, part.mark, part.suffix == rest_of(rest))
 }
 
-/// Where the value of a slot was. Costs the allocations of the columns that are asked for, whose bytes it shares.
+/// Returns what a get does after it has read the value of a slot. Costs the allocations of the columns that are asked
+/// for, whose bytes it shares.
 ///
 /// # Errors
 ///
-/// `NoMemory` where an allocation is refused.
+/// `NoMemory` if an allocation is refused.
 pub fn at_value(
     alloc: Global,
     finding: Finding,

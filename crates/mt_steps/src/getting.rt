@@ -1,4 +1,5 @@
-//! A get: on its way to its key's border, where it reads. Among other calls it reads a border one field a step.
+//! A get: its way to its key's border, and what it reads there. Among other calls it reads one field of a border a
+//! step.
 
 ghost use Rattle.std.specs.Prelude.{◌≡◌, ℕ, ◌≤◌, ◌<◌, ◌-◌, ◌*◌, ◌⊎◌, length, IfOk, IsSome, Some, false, true};
 ghost use Rattle.mt_types.specs.declared.refusal.Refusal.TheVariants.{NoMemory as NoMemoryRefusal};
@@ -38,7 +39,7 @@ pub struct Get {
     pub key: Key,
     pub columns: ColumnNumbers,
     pub way: Way,
-    /// How far it has read the border where it stands.
+    /// How far it has read the border at which it is.
     pub finding: Finding,
 }
 
@@ -55,7 +56,7 @@ pub fn row_at(border: &Border, place: usize) -> &Row
     }
 }
 
-// What stands at the place of a key.
+// Reads the row at the place of a key, if there is one.
 fn read(
     alloc: Global,
     border: &Border,
@@ -105,7 +106,7 @@ fn at_interior(interior: &Interior, slice: u64) -> Reading
 }
 
 impl Get {
-    // The field that it reads next, where it stands at a border.
+    // The field that it reads next, if it is at a border.
     fn wants(&self) -> Field
         requires { IsReading self.now.finding }
         ensures value { result ≡ wants self.now.finding }
@@ -120,7 +121,7 @@ impl Get {
         }
     }
 
-    // The slice that it seeks in the layer where it stands.
+    // The slice that it seeks in its layer.
     fn slice(&self) -> u64
         requires { 8 * self.now.way.layer ≤ length self.now.key - 1 }
         ensures { result ≡ slice_number (rest_of self.now.key self.now.way) }
@@ -161,7 +162,7 @@ impl Get {
         }
     }
 
-    // Visits the node where it stands, whole, and is lent no other.
+    // Visits the node at which it is, whole, and is lent no other.
     fn visit_whole(&mut self, alloc: Global, node: &Node) -> Progress
         requires may { MayGoAt self.old.key self.old.way node.now }
         requires begins { self.old.finding ≡ Finding.Begins }
@@ -208,8 +209,8 @@ impl Get {
         self.visit_whole(alloc, tree.node(self.way.node))
     }
 
-    /// Reads one field of the border where it stands, or visits the head or interior node where it does: it is lent that
-    /// alone.
+    /// Reads one field of the border at which it is, or visits the head or interior node at which it is. It is lent
+    /// only that.
     pub fn step(&mut self, alloc: Global, tree: &Tree) -> Progress
         requires { (log : LogView) × MayStep tree.now log nothing (GetIsTrue self.old) }
         ensures request { get_request self.new ≡ get_request self.old }

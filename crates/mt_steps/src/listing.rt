@@ -26,12 +26,12 @@ use mt_types::row::Row;
 use mt_word::{Permutation, Version};
 use std::alloc::Global;
 
-/// What was read of a slot's key, beside its slice.
+/// What was read of a slot's key, without its slice.
 #[derive(Drop)]
 pub enum KeyRead {
-    /// It ends in the slice, after so many bytes of it.
+    /// It ends in the slice, after this number of bytes.
     Short(Length),
-    /// It goes on so past its slice.
+    /// It continues past its slice, with these bytes.
     Long(Suffix),
     /// It leads to the layer below.
     Layer,
@@ -42,13 +42,13 @@ pub enum KeyRead {
 pub struct Notes {
     /// What was read before the keys.
     pub glance: Glance,
-    /// What stood in the slots up to this place, but for what is not before the right link.
+    /// What the slots up to this place held, except what is not before the right link.
     pub entries: Items<Entry>,
     /// The place of the next.
     pub place: usize,
 }
 
-/// How far a range or build has read the border where it stands.
+/// How far a range or build has read the border at which it is.
 #[derive(Drop)]
 pub enum Listing {
     /// It has read nothing of it. So it is at a head and at an interior node, too.
@@ -72,7 +72,7 @@ pub enum ListReading {
     Restarts,
     /// The border is being changed, or was: it begins to read it again.
     Repeats,
-    /// It reads on.
+    /// It reads the next field.
     GoesOn(Listing),
     /// To this node of the same layer.
     To(NodeNo),
@@ -157,7 +157,7 @@ fn with_room(notes: Notes) -> Result<Notes, NoMemory>
     })
 }
 
-// What a slot's key is, beside its slice.
+// What a slot's key is, without its slice.
 fn key_read(alloc: Global, part: &KeyPart<'_>) -> Result<KeyRead, NoMemory>
     requires { part.now.mark ≡ Plain → part.now.class ≡ LongClass → 0 < length part.now.suffix.now }
     ensures { IfOk result (λ key. key ≡ key_read_of part.now.mark part.now.class part.now.suffix.now) }
@@ -196,7 +196,7 @@ fn is_before_link(right: Option<RightLink>, slice: u64) -> bool
     }
 }
 
-// An entry is kept where it is before what is to the right.
+// An entry is kept if it is before what is to the right.
 fn keep(
     right: Option<RightLink>,
     entries: Items<Entry>,
@@ -215,7 +215,7 @@ fn keep(
     Ok(Items::from_vec(kept))
 }
 
-// One slot more was read, which holds this entry, or none that can be right.
+// One more slot was read, which holds this entry, or none that can be right.
 fn one_more(notes: Notes, entry: Option<Entry>) -> Result<ListReading, NoMemory>
     requires { notes.place < length notes.glance.order.live }
     ensures { IfOk result (λ reading. reading ≡ one_more notes entry) }
@@ -233,7 +233,7 @@ fn one_more(notes: Notes, entry: Option<Entry>) -> Result<ListReading, NoMemory>
     }))
 }
 
-// Then the value. Where it isn't of the kind that the key had, the slot was changed since.
+// Then the value. If it isn't of the kind that the key had, the slot was changed since.
 fn value(
     alloc: Global,
     notes: Notes,
@@ -302,7 +302,7 @@ fn at_interior(interior: &Interior, slice: u64) -> ListReading
     by_visit(visit_interior(interior, slice))
 }
 
-// What follows, where the version was asked for.
+// Returns what the call does after it has read the version.
 fn at_version(listing: Listing, version: Version) -> ListReading
     requires { WantsVersion listing }
     ensures { result ≡ list_at_version listing version }
@@ -317,7 +317,7 @@ fn at_version(listing: Listing, version: Version) -> ListReading
     }
 }
 
-// Where the right link was, for the slice that is sought.
+// Returns what the call does after it has read the right link, for the slice that it seeks.
 fn at_right(listing: Listing, right: Option<RightLink>, slice: u64) -> ListReading
     requires { WantsRight listing }
     ensures { result ≡ list_at_right listing right slice }
@@ -328,7 +328,7 @@ fn at_right(listing: Listing, right: Option<RightLink>, slice: u64) -> ListReadi
     }
 }
 
-// Where the order was. Takes no memory.
+// Returns what the call does after it has read the order. Takes no memory.
 fn at_order(alloc: Global, listing: Listing, ordered: Permutation) -> ListReading
     requires { WantsOrder listing }
     ensures { result ≡ list_at_order listing ordered }
@@ -339,8 +339,8 @@ fn at_order(alloc: Global, listing: Listing, ordered: Permutation) -> ListReadin
     }
 }
 
-// Where the key of a slot was. Costs a copy of what follows its slice, and at the first key the room for what the slots
-// hold.
+// Returns what the call does after it has read the key of a slot. Costs a copy of what follows its slice, and at the
+// first key the room for what the slots hold.
 fn at_key(alloc: Global, listing: Listing, part: &KeyPart<'_>) -> Result<ListReading, NoMemory>
     requires wants { WantsKey listing }
     requires whole { part.now.mark ≡ Plain → part.now.class ≡ LongClass → 0 < length part.now.suffix.now }
@@ -357,7 +357,8 @@ fn at_key(alloc: Global, listing: Listing, part: &KeyPart<'_>) -> Result<ListRea
     }
 }
 
-// Where the value of a slot was. Costs a copy of the row, which shares the bytes of its columns.
+// Returns what the call does after it has read the value of a slot. Costs a copy of the row, which shares the bytes of
+// its columns.
 fn at_value(alloc: Global, listing: Listing, part: &ValuePart<'_>) -> Result<ListReading, NoMemory>
     requires { WantsValue listing }
     ensures reading { IfOk result (λ reading. reading ≡ list_at_value listing part.now) }
@@ -370,7 +371,7 @@ fn at_value(alloc: Global, listing: Listing, part: &ValuePart<'_>) -> Result<Lis
 }
 
 impl Listing {
-    // The field that is read next, where it stands at a border.
+    // The field that is read next, if the call is at a border.
     fn wants(&self) -> Field
         requires { IsListing self.now }
         ensures value { result ≡ list_wants self.now }
@@ -386,13 +387,13 @@ impl Listing {
     }
 
     /// Reads the next field of the border under a number, or visits the head or interior node there, on the way to a
-    /// slice of its layer: it is lent that alone, and this is what follows. Costs, of a key, a copy of what follows its
-    /// slice, and of the first key also the room for what the slots hold; of a row, a copy that shares the bytes of its
-    /// columns. The version, the right link and the order take no memory.
+    /// slice of its layer, and returns what the call does then. It is lent only that field or node. For a key it costs
+    /// a copy of what follows its slice, and for the first key also the room for what the slots hold; for a row, a copy
+    /// that shares the bytes of its columns. The version, the right link and the order take no memory.
     ///
     /// # Errors
     ///
-    /// `NoMemory` where an allocation is refused.
+    /// `NoMemory` if an allocation is refused.
     pub fn read(
         self,
         alloc: Global,

@@ -1,4 +1,4 @@
-//! A range: on its way to the border of the slice that its scan seeks, where the scan takes what is there.
+//! A range: its way to the border of the slice that its scan seeks, and what the scan takes there.
 
 ghost use Rattle.std.specs.Prelude.{◌≡◌, ℕ, ◌⊎◌, IsSome, true};
 ghost use Rattle.mt_types.specs.declared.refusal.Refusal.TheVariants.{NoMemory as NoMemoryRefusal};
@@ -49,11 +49,11 @@ pub struct Range {
     pub columns: ColumnNumbers,
     pub scan: Scan,
     pub node: NodeNo,
-    /// How far it has read the border where it stands.
+    /// How far it has read the border at which it is.
     pub listing: Listing,
 }
 
-/// Visits a node on the way to a slice of its layer, and is lent no other. No link leads on from a slice alone.
+/// Visits a node on the way to a slice of its layer, and is lent no other. No link leads further from a slice alone.
 pub fn seek_node(node: &Node, slice: u64) -> Sought
     requires { IsHeldNode node.now slice }
     ensures seeks { (a : ArenaView) (number : ℕ) → Names a number node.now → Seeks a number slice result }
@@ -81,7 +81,7 @@ pub fn seek(tree: &Tree, number: NodeNo, slice: u64) -> Sought
 }
 
 impl Range {
-    // Visits the node where it stands, whole, and is lent no other.
+    // Visits the node at which it is, whole, and is lent no other.
     fn visit_whole(&mut self, alloc: Global, node: &Node) -> Progress
         requires may { RangeMayVisit self.old node.now }
         requires begins { self.old.listing ≡ Listing.Begins }
@@ -192,8 +192,8 @@ impl Range {
         self.visit_whole(alloc, tree.node(self.node))
     }
 
-    /// Reads one field of the border where it stands, or visits the head or interior node where it does: it is lent that
-    /// alone. Once it has read a border, its scan visits what it has read.
+    /// Reads one field of the border at which it is, or visits the head or interior node at which it is. It is lent
+    /// only that. Once it has read a border, its scan visits what it has read.
     pub fn step(&mut self, alloc: Global, tree: &Tree) -> Progress
         requires { (log : LogView) × MayStep tree.now log nothing (RangeIsTrue self.old) }
         ensures request { range_request self.new ≡ range_request self.old }

@@ -14,7 +14,7 @@ use mt_tree::{TOP, Tree, Visit, visit_node};
 use mt_types::key::Key;
 use mt_types::numbers::NodeNo;
 
-/// Where a call stands on its way: at a node, in a layer.
+/// The place of a call on its way: a node, in a layer.
 #[derive(Clone, Copy)]
 pub struct Way {
     pub node: NodeNo,
@@ -27,7 +27,7 @@ pub struct Way {
 pub enum Went {
     /// The node is marked deleted.
     Again,
-    /// The call goes on.
+    /// The call continues at this place.
     To(Way),
     /// It is at the border of its key.
     Here,
@@ -39,7 +39,7 @@ pub const START: Way = Way {
     layer: 0,
 };
 
-/// What the layers above a layer have left of a key.
+/// Returns what the layers above a layer have left of a key.
 pub fn rest_of(key: &Key, layer: usize) -> &[u8]
     requires { 8 * layer ≤ length key.now }
     ensures value { result.now ≡ rest_at layer key.now }
@@ -50,7 +50,7 @@ pub fn rest_of(key: &Key, layer: usize) -> &[u8]
 }
 
 impl Way {
-    /// Visits the node where the call stands, and is lent no other.
+    /// Visits the node at which the call is, and is lent no other.
     pub fn visit_node(&self, node: &Node, key: &Key) -> Went
         requires { MayGoAt key.now self.now node.now }
         ensures value { result ≡ went_at key.now self.now node.now }
@@ -70,7 +70,7 @@ impl Way {
         }
     }
 
-    /// Visits the node where the call stands.
+    /// Visits the node at which the call is.
     pub fn visit(&self, tree: &Tree, key: &Key) -> Went
         requires { MayGo tree.now key.now self.now }
         ensures visits { Visits tree.now key.now self.now result }

@@ -1,4 +1,4 @@
--- What readers and writers show that count their calls, or fail when they are told to.
+-- What contracts see of readers and writers that count their calls, or that are made to fail.
 use Rattle.std.specs.Prelude.{ℕ, Bool}
 use Rattle.mt_streams.specs.declared.counted.Counted.{Counted}
 use Rattle.mt_streams.specs.declared.faulty.Faulty.{Faulty}

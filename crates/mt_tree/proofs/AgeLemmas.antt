@@ -120,7 +120,7 @@ module _ (b : BorderView) (h : IsBorder b) (room : length b.live < 15) where
   abbrev filled_as : Entry → Bool → BorderView
   filled_as entry held = record (with_filled b entry) { version = filled_version held b.version }
 
-  -- THE FIRST UNUSED SLOT IS FILLED: where it held a key, the counter is raised
+  -- THE FIRST UNUSED SLOT IS FILLED: if it held a key, the counter is raised
   fields_filled : (entry : Entry) → Ages (fields_seen b) (fields_seen (with_filled b entry))
   fields_filled entry = go (first_held b.unused) refl
     where

@@ -30,7 +30,7 @@ all_among P [] h x i = elim i [ ]
 all_among P (y ∷ xs) h x first = h 0 x (omega arith)
 all_among P (y ∷ xs) h x (later i) = all_among P xs (λ k d within. h (suc k) d (omega arith)) x i
 
--- the entry at a place, and those before and behind it
+-- the entry at a place, and those before and after it
 pub record Focus (entries : List Entry) (place : ℕ) (entry : Entry) : Type 0 where
   pub before : List Entry
   pub behind : List Entry
@@ -98,7 +98,7 @@ module _ (live : List Entry) (place : ℕ) where
   pub seen_parts : (e : PlainEntry) → Among e (entries_seen live) ↔ (Among e (entries_seen (take place live)) ⊎ Among e (entries_seen (drop place live)))
   seen_parts e = rw (← joined) (among_append e (entries_seen (take place live)) (entries_seen (drop place live)))
 
-  -- where an entry is shown at a place, it stands among the entries, and so does each that stood
+  -- if an entry is shown at a place, it is among the entries, and so is each that was
   module _ (x : Entry) where
     abbrev inserted : List Entry
     inserted = take place live ++ (x ∷ drop place live)
@@ -116,7 +116,7 @@ module _ (live : List Entry) (place : ℕ) where
         let same : e ≡ entry_seen x = in_order_apart (entries_seen inserted) in_order e (entry_seen x) ((seen_inserted e).1 (inr i)) ((seen_inserted (entry_seen x)).1 (inl refl)) slices classes in
         stands_once e (entry_seen x) (entries_seen (take place live)) (entries_seen (drop place live)) (rw around_seen at in_order) (rw joined i) same
 
--- where the entry at a place is hidden, each other stays; where it is changed, it gives place to what it is changed to
+-- if the entry at a place is hidden, each other stays; if it is changed, what it is changed to is there instead
 module _ (live : List Entry) (place : ℕ) (entry : Entry) (ordered : IsOrdered live) (whole : AreEntries live) (there : slice_get live place ≡ Some entry) where
   at : Focus live place entry
   at = focus live place entry there

@@ -9,7 +9,7 @@ use Rattle.mt_chart.specs.Chart.{FirstLow, NoChildTwice}
 use Rattle.mt_tree.specs.Seen.{child_seen, children_seen}
 use Rattle.mt_tree.specs.InteriorSteps.{HasUpperChildren}
 
--- where there is a child, the first has the low
+-- if there is a child, the first has the low
 pub first_low : (low : ℕ) (children : List Child) → 0 < length children → StartsAt low children → FirstLow low (children_seen children)
 first_low low [] some starts = absurd (omega arith)
 first_low low (child ∷ children) some starts = starts

@@ -37,7 +37,7 @@ module _ (a : ArenaView) (number : ℕ) (old new : HeadView) (is : head_at a.nod
   writes : (chart : Chart) (prefix : List ℕ) → OnHead chart number prefix → WritesHead (arena_seen a) after chart number prefix (head_seen old) (head_seen new)
   writes chart prefix place = record { place = place; there = there; written = written }
 
-  -- whatever its standing, where it keeps its root
+  -- whatever its standing, if it keeps its root
   marked_keeps : new.root ≡ old.root → new.level ≡ old.level → (old.version.deleted ≡ true → new.version.deleted ≡ true) →
       (new.version.deleted ≡ true → (old.version.deleted ≡ true) ⊎ IsLastBorder (arena_seen a) old.root.0) → KeepsTree a (with_node_at a number (Head new))
   marked_keeps same_root same_level deleted last = record { keeps = λ now twins chart index. go now twins chart index (chart number) refl }

@@ -280,7 +280,7 @@ marked_keeps a number old new is same_low same_level same now twins chart index 
     write_keeps a number old new is now twins chart index same_low same_level
     (λ prefix stands w. (rw (same_low, same, w.node_low) w.children.leftmost, rw same w.once, λ each i. rw same at i, λ each i. inl (rw same i))) where_gone
 
--- an interior is locked; where it is gone it is marked deleted, since it was unlocked
+-- an interior is locked; if it is gone it is marked deleted, since it was unlocked
 pub lock_keeps : (a : ArenaView) (number : ℕ) (old : InteriorView) → interior_at a.nodes number ≡ Some old → old.version.locked ≡ false → KeepsTree a (with_node_at a number (Interior (with_lock old true)))
 lock_keeps a number old is unlocked = record {
   keeps = λ now twins chart index. marked_keeps a number old (with_lock old true) is refl refl refl now twins chart index

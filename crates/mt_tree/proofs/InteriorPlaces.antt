@@ -1,4 +1,4 @@
--- Where an interior of the arena stands in a chart, and what it is to write one.
+-- The place of an interior of the arena in a chart, and what it is to write one.
 use Rattle.std.proofs.Common.{ℕ, zero, suc, ◌≡◌, ◌≢◌, ◌⊎◌, inl, inr, List, Option, Some, None, true, refl, sym, ap, ◌∙◌, subst}
 use Rattle.mt_interior.specs.Interior.{InteriorView}
 use Rattle.mt_arena.specs.Node.{interior_at}
@@ -15,7 +15,7 @@ use Rattle.mt_tree.proofs.SeenLemmas.{seen-interior, written-interior}
 use Rattle.mt_tree.proofs.ChildLists.{NamesNot}
 use Rattle.mt_tree.proofs.SpareWrites.{spare_written}
 
--- what the invariant says of an interior that stands in a chart
+-- what the invariant says of an interior in a chart
 pub record StandsAs (chart : Chart) (node : InteriorNode) (role : Role) (prefix : List ℕ) (low : ℕ) (standing : Standing) : Type 0 where
   pub below : ℕ
   pub is_role : role ≡ at_level (suc below)
@@ -89,7 +89,7 @@ module _ (a : ArenaView) (number : ℕ) (old new : InteriorView) (is : interior_
   abbrev after : Arena
   after = arena_seen (with_node_at a number (Interior new))
 
-  -- where it is on
+  -- if it is on
   pub writes : (chart : Chart) (prefix : List ℕ) (stands : IsInLayer chart number prefix) (w : IsOnAs chart number prefix stands (interior_seen old)) →
       new.low ≡ old.low → new.level ≡ old.level → FirstLow new.low (children_seen new.children) → NoChildTwice (children_seen new.children) →
       WritesInterior (arena_seen a) after chart number w.below prefix stands.low (interior_seen old) (interior_seen new)
@@ -104,8 +104,8 @@ module _ (a : ArenaView) (number : ℕ) (old new : InteriorView) (is : interior_
     once = once;
   }
 
-  -- Whatever its standing: where it is on, it takes some of the children that it has, and another names the rest; and where it is
-  -- gone, it is marked deleted.
+  -- Whatever its standing: if it is on, its new children are some of those that it has, and another names the rest; and
+  -- if it is gone, it is marked deleted.
   pub write_keeps : (now : ℕ) (twins : List Twin) (chart : Chart) → IsIndexAt a now twins chart → new.low ≡ old.low → new.level ≡ old.level →
       ((prefix : List ℕ) (stands : IsInLayer chart number prefix) → IsOnAs chart number prefix stands (interior_seen old) →
       FirstLow new.low (children_seen new.children) × NoChildTwice (children_seen new.children) × ((each : PlainChild) → Among each (children_seen new.children) → Among each (children_seen old.children)) ×

@@ -1,4 +1,4 @@
--- A new layer in place of a row, and an empty layer that is dropped, keep the tree.
+-- A new layer instead of a row, and an empty layer that is dropped, keep the tree.
 use Rattle.std.proofs.Common.{ℕ, zero, suc, ◌≡◌, List, ◌∷◌, Some, IsSome, IsSomeAnd, true, refl, sym, ap, ◌∙◌, subst}
 use Rattle.std.specs.Option.{option_map}
 use Rattle.mt_slice.specs.Place.{Place, place_of}
@@ -86,7 +86,7 @@ module _ (a : ArenaView) (number place : ℕ) (top_number : NodeNo) (b : BorderV
         rw (new, ← same_head, ← same_slice) (layer_keeps whole (rw new at sound)));
   }
 
--- what stands at a layer's head and at its root, in the chart
+-- what is at a layer's head and at its root, in the chart
 root_on : (a : ArenaView) (now : ℕ) (twins : List Twin) (chart : Chart) (number : ℕ) (prefix : List ℕ) (layer_head : HeadView) (root : BorderView) → IsIndex now twins (arena_seen a) chart → OnHead chart number prefix →
     head_at a.nodes number ≡ Some layer_head → border_at a.nodes layer_head.root.0 ≡ Some root → OnBorder (arena_seen a) chart layer_head.root.0 prefix (border_seen root) × (root.low ≡ 0)
 root_on a now twins chart number prefix layer_head root index on_head is_head is_root =

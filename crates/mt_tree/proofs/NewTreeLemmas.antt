@@ -28,7 +28,7 @@ new_elsewhere : (root number : ℕ) → number ≢ 0 → number ≢ root → new
 new_elsewhere root zero not_top not_root = absurd (not_top refl)
 new_elsewhere root (suc number) not_top not_root = only_elsewhere root (spot (at_level 0) [] 0 (on true)) (suc number) not_root
 
--- what stands at a number of a new chart is what a new tree has there
+-- what is at a number of a new chart is what a new tree has there
 new_seen : (a : ArenaView) (new : IsNewTree a) (number : ℕ) (place : Spot) → new_chart new.root.0 number ≡ Some place → arena_seen a number ≡ new_arena new.root.0 number
 new_seen a new number place known = elim (cases_eq number 0) [
   | inl top ↦ ap (arena_seen a) top ∙ (seen-head a 0 (new_real_head new.root 0 false) new.top ∙ sym (ap (new_arena new.root.0) top))

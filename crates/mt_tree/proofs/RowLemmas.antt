@@ -42,7 +42,7 @@ class_short n h = ap (λ b. class_number (if b then Len n else LongClass)) (le-l
 class_over : (n : ℕ) → 8 < n → class_number (class_of n) ≡ 9
 class_over n h = ap (λ b. class_number (if b then Len n else LongClass)) (lt-leb n 8 h)
 
--- where a content holds a row at the place of a key's rest, it has the rest's slice and class, and a search finds it
+-- if a content holds a row at the place of a key's rest, it has the rest's slice and class, and a search finds it
 record Fits (rest : List ℕ) (slice : ℕ) (content : Content) (row : Row) : Type 0 where
   pub slices : slice ≡ slice_number rest
   pub classes : class_number (content_class content) ≡ class_number (class_of (length rest))
@@ -155,7 +155,7 @@ tells_row a number rest b named sound bytes = record {
       );
 }
 
--- what was found stands at its place
+-- what was found is at its place
 stands_dropped : (place : ℕ) (live : List Entry) (entry : Entry) (more : List Entry) → drop place live ≡ entry ∷ more → slice_get live place ≡ Some entry
 stands_dropped zero [] entry more e = absurd (cc)
 stands_dropped (suc place) [] entry more e = absurd (cc)

@@ -83,7 +83,7 @@ written-border a number old new is = seen-written a number (Border old) (Border 
 abbrev with_nodes : ArenaView → ℕ → Option Node → ArenaView
 with_nodes a number node = record a { nodes = slice_set a.nodes number node }
 
--- a change of the node under a number, where it is known what stands there
+-- a change of the node under a number, if it is known what is there
 pub changed-head : (a : ArenaView) (number : ℕ) (h : HeadView) (change : HeadView → HeadView) → head_at a.nodes number ≡ Some h → with_head_changed a number change ≡ with_node_at a number (Head (change h))
 changed-head a number h change is = ap (λ (n : Option Node). with_nodes a number (option_map (head_changed change) n)) (node-from_head a.nodes number h is)
 

@@ -1,4 +1,4 @@
--- Numbers that no chart of an index knows: what stands there may be changed.
+-- Numbers that no chart of an index knows: what is there may be changed.
 use Rattle.std.proofs.Common.{ℕ, ◌≡◌, ◌≢◌, List, [], ◌∷◌, Option, Some, None, IsSome, Result, Ok, Err, IfOk, OnErr, refl, ap, sym, subst, ◌∙◌, arith}
 use Rattle.std.specs.Option.{option_map}
 use Rattle.std.specs.Prelude.{All, slice_set, slice_get, drop}
@@ -34,11 +34,11 @@ vacant_unknown a number vacant = record { unknown = λ now twins chart index. go
     go chart tree None is = is
     go chart tree (Some place) is = let (node, named) = known_named (arena_seen a) chart tree number place is in absurd (let seen = sym (ap (option_map node_seen) vacant) ∙ named in let clash : ◌≡◌ {A = Option PlainNode} None (Some node) = seen in cc)
 
--- what stands at a number that the chart doesn't know is changed
+-- a change of what is at a number that the chart doesn't know
 pub keeps_unknown : (a after : ArenaView) (number : ℕ) → ((other : ℕ) → other ≢ number → arena_seen after other ≡ arena_seen a other) → KeepsUnknown a after number
 keeps_unknown a after number rest = record { keeps = λ now twins chart index unknown. spare_changed now twins (arena_seen a) (arena_seen after) chart number index rest unknown }
 
--- the same, where a node is put under a number or taken from it
+-- the same, if a node is put under a number or taken from it
 pub keeps_updated : (a after : ArenaView) (number : ℕ) (stands : Option Node) → Updates a.nodes after.nodes number stands → KeepsUnknown a after number
 keeps_updated a after number stands updates = keeps_unknown a after number (λ other apart. ap (option_map node_seen) (updates.others other apart))
 
@@ -64,7 +64,7 @@ frees_node a after number updates = record {
       (kept.index, kept.content, evolves);
 }
 
--- what an occupied number is, and what it keeps, where one was given
+-- what an occupied number is, and what it keeps, if one was returned
 pub given_unknown : (a : ArenaView) (result : Result NodeNo Refusal) → IfOk result (λ number. node_at a.nodes number.0 ≡ None) → IfOk result (λ number. IsUnknown a number.0)
 given_unknown a (Ok number) vacant = vacant_unknown a number.0 vacant
 given_unknown a (Err refusal) vacant = tt

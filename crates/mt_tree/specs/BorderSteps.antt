@@ -27,7 +27,7 @@ pub record MayShowAt (b : BorderView) (place version : ℕ) : Type 0 where
   pub row : IsSome (next_row b.unused)
   pub sound : IsBorder (with_shown b place version)
 
--- the row that the border's first unused slot holds comes to stand at its place, made by the commit of this number
+-- the row that the border's first unused slot holds is then at its place, made by the commit of this number
 pub record ShowsNext (a after : ArenaView) (number version : ℕ) : Type 0 where
   pub shows : (b : BorderView) (slot : Slot) (slots : List Slot) (row : Row) → border_at a.nodes number ≡ Some b →
       b.unused ≡ slot ∷ slots → entry_row slot.entry ≡ Some row →

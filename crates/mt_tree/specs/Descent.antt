@@ -114,7 +114,7 @@ IsLast (RowFound place) = Unit {0}
 IsLast (OtherSuffix place) = Unit {0}
 IsLast (LinkFound place top) = ⊥
 
--- WHAT A VISIT WAS: one that goes on is a move of a descent; where it has come to the key's border, the border is not
+-- WHAT A VISIT WAS: one that continues is a move of a descent; if it has come to the key's border, the border is not
 -- marked deleted, and no link leads on
 abbrev pub TellsVisit : ArenaView → ℕ → List ℕ → Visit → Type 0
 TellsVisit a number rest Again = Unit {0}
@@ -138,7 +138,7 @@ pub record HasOtherSuffix (rest : List ℕ) (live : List Entry) (place : ℕ) : 
   pub goes_on : 8 < length rest
   pub other : suffix ≢ drop 8 rest
 
--- where a row, a row of another suffix or a link was found, such an entry stands at the place
+-- if a row, a row of another suffix or a link was found, such an entry is at the place
 abbrev pub IsFoundAt : List ℕ → List Entry → Found → Type 0
 IsFoundAt rest live (Absent place) = place ≤ length live
 IsFoundAt rest live (RowFound place) = HasRowOf rest live place

@@ -77,7 +77,7 @@ pub record NamesRootOverHalfAt (a : ArenaView) (number root_number : ℕ) (twins
       AreTwins more_twins posted.node.0 other × AreTwins more_twins other posted.node.0
   pub no_twin : NoTwin more_twins number
 
--- Where a new root over a half comes to be named, the tree is an index as before, with the same rows and more twins;
+-- When a new root over a half comes to be named, the tree is an index as before, with the same rows and more twins;
 -- all that calls rely on stays.
 pub record KeepsRootOverHalf (a after : ArenaView) (number root_number : ℕ) : Type 0 where
   pub keeps : (now : ℕ) (twins more_twins : List Twin) (chart next : Chart) → IsIndexAt a now twins chart →
@@ -93,7 +93,7 @@ pub record BypassesRootAt (number gone_number : ℕ) (now : ℕ) (twins : List T
   pub no_twin : NoTwin twins number
   pub gone_no_twin : NoTwin twins gone_number
 
--- WHAT A POSTING MAY TAKE FOR GRANTED at a head: where it is to post the new half of an interior, which is on in the
+-- WHAT A POSTING MAY TAKE FOR GRANTED at a head: if it is to post the new half of an interior, which is on in the
 -- head's layer, and the head's root is not above that interior, the root is that interior.
 abbrev pub HeadNamesTheSplit : Type 0
 HeadNamesTheSplit = (a : ArenaView) (now : ℕ) (twins : List Twin) (chart : Chart) (number split_number : ℕ)
@@ -101,8 +101,8 @@ HeadNamesTheSplit = (a : ArenaView) (now : ℕ) (twins : List Twin) (chart : Cha
     OnHead chart number prefix → head_at a.nodes number ≡ Some head → interior_at a.nodes split_number ≡ Some split →
     IsInLayer chart split_number prefix → head.level ≤ split.level → head.root.0 ≡ split_number
 
--- And the head of the layer, which is on, is not marked deleted: where a border is to be posted, that border is on in
--- the layer, has a low above 0, and may not be named yet.
+-- And the head of the layer, which is on, is not marked deleted if a border is to be posted: that border is on in the
+-- layer, and has a low above 0 or is not named yet.
 abbrev pub HeadOfAPostingIsAlive : Type 0
 HeadOfAPostingIsAlive = (a : ArenaView) (now : ℕ) (twins : List Twin) (chart : Chart) (number posted_number : ℕ)
     (prefix : List ℕ) (head : HeadView) → IsIndexAt a now twins chart → OnHead chart number prefix →

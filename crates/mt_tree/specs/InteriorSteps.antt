@@ -45,8 +45,8 @@ abbrev pub IsNotGone : Chart → ℕ → Type 0
 IsNotGone chart number = (role : Role) (prefix : List ℕ) (low epoch : ℕ) →
     chart number ≢ Some (spot role prefix low (gone epoch))
 
--- An interior may be cut to its first so many children: it is not gone, and its new half, which is on in a layer, has
--- the others.
+-- An interior may be cut to its first n children: it is not gone, and its new half, which is on in a layer, has the
+-- others.
 pub record CutsAt (a : ArenaView) (number count : ℕ) (chart : Chart) : Type 0 where
   pub stays : IsNotGone chart number
   pub split : InteriorView
@@ -58,8 +58,8 @@ pub record CutsAt (a : ArenaView) (number count : ℕ) (chart : Chart) : Type 0 
   pub prefix : List ℕ
   pub half_stands : IsInLayer chart half_number prefix
 
--- A border comes to be named: the interior that is to name it is on in the same layer, where no head or interior names
--- the border so far.
+-- A border comes to be named: the interior that is to name it is on in the same layer, and no head or interior there
+-- names the border so far.
 pub record PostsAt (number posted : ℕ) (now : ℕ) (twins : List Twin) (chart next : Chart) : Type 0 where
   pub prefix : List ℕ
   pub stands : IsInLayer chart number prefix
@@ -103,7 +103,7 @@ pub record PostsHalfAt (a : ArenaView) (number half_number split_number : ℕ) (
   pub new_twins : (other : ℕ) → (other ≡ split_number) ⊎ AreTwins twins other split_number →
       AreTwins more_twins half_number other × AreTwins more_twins other half_number
 
--- Where a half of an interior comes to be named, the tree is an index as before, with the same rows and more twins; all
+-- When a half of an interior comes to be named, the tree is an index as before, with the same rows and more twins; all
 -- that calls rely on stays.
 pub record KeepsHalf (a after : ArenaView) (number half_number : ℕ) : Type 0 where
   pub keeps : (now split_number : ℕ) (twins more_twins : List Twin) (chart next : Chart) → IsIndexAt a now twins chart →

@@ -32,13 +32,13 @@ pub record KeepsWhere (a after : ArenaView) (Where : Chart → Type 0) : Type 0 
 abbrev pub KeepsUnknown : ArenaView → ArenaView → ℕ → Type 0
 KeepsUnknown a after number = KeepsWhere a after (λ chart. chart number ≡ None)
 
--- The tree is an index as before, with the same rows, at each chart that a chart at which it was may go on to; all that
--- calls rely on stays.
+-- The tree is an index as before, with the same rows, at each chart to which a chart at which it was one may advance;
+-- all that calls rely on stays.
 pub record KeepsAlong (a after : ArenaView) (GoesOn : ℕ → List Twin → Chart → Chart → Type 0) : Type 0 where
   pub keeps : (now : ℕ) (twins : List Twin) (chart next : Chart) → IsIndexAt a now twins chart →
       GoesOn now twins chart next → Keeps now twins (arena_seen a) (arena_seen after) chart next
 
--- a row comes to stand at a place of the border's layer: the tree has that row there, and all rows that it had
+-- a row is added at a place of the border's layer: the tree has that row there, and all rows that it had
 pub record AddsRow (a after : ArenaView) (number : ℕ) (place : Place) (row : Row) : Type 0 where
   pub adds : (now : ℕ) (twins : List Twin) (chart : Chart) (prefix : List ℕ) → IsIndexAt a now twins chart →
       IsOnIn chart number prefix →
@@ -46,14 +46,14 @@ pub record AddsRow (a after : ArenaView) (number : ℕ) (place : Place) (row : R
       Has (arena_seen after) key shown ↔ (((key ≡ under prefix place) × (shown ≡ row))
       ⊎ Has (arena_seen a) key shown))
 
--- no row stands at a place of the border's layer any more: the tree has none there, and all rows that it had elsewhere
+-- no row is at a place of the border's layer any more: the tree has none there, and all rows that it had elsewhere
 pub record RemovesRow (a after : ArenaView) (number : ℕ) (place : Place) : Type 0 where
   pub removes : (now : ℕ) (twins : List Twin) (chart : Chart) (prefix : List ℕ) → IsIndexAt a now twins chart →
       IsOnIn chart number prefix →
       IsIndexAt after now twins chart × ((key : Place) (shown : Row) →
       Has (arena_seen after) key shown ↔ (Has (arena_seen a) key shown × (key ≢ under prefix place)))
 
--- another row stands at a place of the border's layer: the tree has it there, and all rows that it had elsewhere
+-- another row is at a place of the border's layer: the tree has it there, and all rows that it had elsewhere
 pub record ReplacesRow (a after : ArenaView) (number : ℕ) (place : Place) (row : Row) : Type 0 where
   pub replaces : (now : ℕ) (twins : List Twin) (chart : Chart) (prefix : List ℕ) → IsIndexAt a now twins chart →
       IsOnIn chart number prefix →
@@ -65,8 +65,8 @@ pub record ReplacesRow (a after : ArenaView) (number : ℕ) (place : Place) (row
 pub record IsUnknown (a : ArenaView) (number : ℕ) : Type 0 where
   pub unknown : (now : ℕ) (twins : List Twin) (chart : Chart) → IsIndexAt a now twins chart → chart number ≡ None
 
--- The node of a number is freed: at each chart where it went in an epoch, and nothing that went by then is still to be
--- marked, the chart goes on without the number. The tree is an index there with the same rows, and calls that began
+-- The node of a number is freed: if it went in an epoch in a chart, and nothing that went by then is still to be
+-- marked, the chart continues without the number. The tree is an index there with the same rows, and calls that began
 -- later may rely on it.
 pub record FreesNode (a after : ArenaView) (number : ℕ) : Type 0 where
   pub frees : (now : ℕ) (twins : List Twin) (chart next : Chart) (went : ℕ) → IsIndexAt a now twins chart →

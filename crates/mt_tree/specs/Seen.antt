@@ -18,7 +18,7 @@ use Rattle.mt_arena.specs.declared.node.Node.TheVariants.{Head, Interior, Border
 use Rattle.mt_chart.specs.Tree.{short, long, link, head, border, interior, Has, Arena}
 use Rattle.mt_chart.specs.Tree.{PlainContent, PlainEntry, Right as PlainRight, PlainChild, PlainNode, HeadNode, BorderNode, InteriorNode}
 
--- what stands at a slice: of a longer key's row, what follows the slice is seen as its place one layer deeper
+-- what is at a slice: of a longer key's row, what follows the slice is seen as its place one layer deeper
 abbrev pub content_seen : Content → PlainContent
 content_seen (Short bytes row) = short bytes row
 content_seen (Long suffix row) = long (place_of suffix) row
@@ -71,8 +71,8 @@ node_seen (Border b) = border (border_seen b)
 abbrev pub arena_seen : ArenaView → Arena
 arena_seen a number = option_map node_seen (node_at a.nodes number)
 
--- where the key of an entry with a row stands in its layer; a link, which has no key of its own, before all that is
--- deeper
+-- the place in its layer of the key of an entry with a row; of a link, which has no key of its own, the place before
+-- all that is deeper
 abbrev pub content_place : ℕ → Content → Place
 content_place slice (Short bytes row) = last slice bytes
 content_place slice (Long suffix row) = deeper slice (place_of suffix)

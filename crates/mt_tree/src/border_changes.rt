@@ -36,7 +36,7 @@ impl Tree {
         self.arena.border_mut(number).unlock();
     }
 
-    /// Marks a border as deleted, which has no live entry. Constant cost.
+    /// Marks a border, which has no live entry, as deleted. Constant cost.
     pub fn mark_border_deleted(&mut self, number: NodeNo)
         requires { IsSomeAnd (border_at self.old.nodes number.0) (λ b. b.live ≡ []) }
         ensures value { self.new ≡ with_border_changed self.old number.0 with_deleted }
@@ -46,12 +46,12 @@ impl Tree {
         self.arena.border_mut(number).mark_deleted();
     }
 
-    /// Writes an entry into the first unused slot of a border, where it shows nothing. Where that slot held a key, the
+    /// Writes an entry into the first unused slot of a border, in which it isn't visible. If that slot held a key, the
     /// border's counter of insertions rises by one. Constant cost.
     ///
     /// # Errors
     ///
-    /// `Spent` where that counter would rise and is at its greatest value, 2^56 - 1. Nothing is then changed.
+    /// `Spent` if that counter would rise and is at its greatest value, 2^56 - 1. Nothing is changed then.
     pub fn fill_slot(&mut self, number: NodeNo, entry: Entry) -> Result<(), Refusal>
         requires { IsSomeAnd (border_at self.old.nodes number.0) (λ b. length b.live < SLOTS) }
         ensures filled { OnOk result (self.new ≡ with_border_changed self.old number.0 (λ b. with_filled b entry)) }
@@ -64,8 +64,8 @@ impl Tree {
         self.arena.border_mut(number).fill_slot(entry)
     }
 
-    /// Makes what the first unused slot of a border holds, a row, live at a place, made by the commit of this number.
-    /// Constant cost.
+    /// Makes the row that the first unused slot of a border holds live at a place, as made by the commit of this
+    /// number. Constant cost.
     pub fn show(&mut self, number: NodeNo, place: usize, version: u64)
         requires { IsSomeAnd (border_at self.old.nodes number.0) (λ b. MayShowAt b place version) }
         ensures value { self.new ≡ with_border_changed self.old number.0 (λ b. with_shown b place version) }
@@ -86,7 +86,7 @@ impl Tree {
         border.hide(place);
     }
 
-    /// Gives the entry at a place of a border, which has a row, another one, and returns the old one. Constant cost.
+    /// Replaces the row of the entry at a place of a border, which has one, and returns the old row. Constant cost.
     pub fn set_value(&mut self, number: NodeNo, place: usize, row: Row) -> Row
         requires { IsSomeAnd (border_at self.old.nodes number.0) (λ b. HasRowAt b place) }
         ensures value { self.new ≡ with_border_changed self.old number.0 (λ b. with_value b place row) }
@@ -97,7 +97,7 @@ impl Tree {
         self.arena.border_mut(number).set_value(place, row)
     }
 
-    /// The link step of a split: a border keeps the first so many entries, and names to its right the half, a border
+    /// The link step of a split: a border keeps the first `keep` entries, and names to its right the half, a border
     /// that was filled with the others. Constant cost.
     pub fn link_half(&mut self, number: NodeNo, half: NodeNo, keep: usize)
         requires { IsSomeAnd (border_at self.old.nodes number.0) (λ b.

@@ -54,7 +54,7 @@ pub fn find(border: &Border, rest: &[u8]) -> Found
     border.find(slice, class, rest_of(rest))
 }
 
-// From a border to the right, where the slice stands there or beyond, or to the layer below, where a link leads on.
+// A descent leaves a border to the right if the slice is there or beyond, or to the layer below if a link leads on.
 fn visit_border(border: &Border, rest: &[u8]) -> Visit
     ensures value { result ≡ visit_border rest.now border.now }
     ensures again { result ≡ Visit.Again → border.now.version.deleted ≡ true }
@@ -73,8 +73,8 @@ fn visit_border(border: &Border, rest: &[u8]) -> Visit
     }
 }
 
-/// What a descent to a key sees at a node, of which `rest` is what the layers above have left (Masstree, EuroSys 2012,
-/// section 4.6). Looks at that node alone, as it stands, locked or not: searches it, and takes no memory.
+/// What a descent to a key sees at a node. `rest` is what the layers above have left of the key (Masstree, EuroSys
+/// 2012, section 4.6). Looks only at that node, as it is, locked or not: searches it, and takes no memory.
 pub fn visit_node(node: &Node, rest: &[u8]) -> Visit
     requires { MayVisitNode node.now (slice_number rest.now) }
     ensures value { result ≡ node_visit rest.now node.now }

@@ -43,7 +43,7 @@ impl Tree {
         self.arena.interior_mut(number).mark_deleted();
     }
 
-    /// Gives an interior that has no child these ones. Costs a copy of each.
+    /// Adds these children to an interior that has none. Costs a copy of each.
     pub fn fill_interior(&mut self, number: NodeNo, children: &[Child])
         requires empty { IsSomeAnd (interior_at self.old.nodes number.0) (λ interior. interior.children ≡ []) }
         requires sound { IsSomeAnd (interior_at self.old.nodes number.0) (λ interior.
@@ -112,7 +112,7 @@ impl Tree {
         self.arena.interior_mut(number).drop_child(place);
     }
 
-    /// Names the only child of an interior in its place, in the interior above. Constant cost.
+    /// Names the only child of an interior instead of it, in the interior above. Constant cost.
     pub fn bypass(&mut self, number: NodeNo, place: usize, gone: NodeNo)
         requires named { IsSomeAnd (child_at self.old.nodes number.0 place) (λ child. child.node ≡ gone) }
         requires one { IsSomeAnd (interior_at self.old.nodes gone.0) HasOneChild }
@@ -130,7 +130,7 @@ impl Tree {
             .bypass(place, child.node, child.level);
     }
 
-    /// Keeps the first so many children of an interior, one at least. Costs a write of each that goes.
+    /// Keeps the first `count` children of an interior, at least one. Costs a write of each child that is dropped.
     pub fn keep_first(&mut self, number: NodeNo, count: usize)
         requires some { 1 ≤ count }
         requires within { IsSomeAnd (interior_at self.old.nodes number.0) (λ interior.

@@ -2,7 +2,7 @@
 
 use mt_types::numbers::NodeNo;
 
-/// Where a descent to a key goes from a node that it visits.
+/// The step of a descent to a key from a node that it visits.
 #[derive(Clone, Copy)]
 pub enum Visit {
     /// The node is marked deleted: it begins again, at the head of layer 0.
@@ -11,6 +11,6 @@ pub enum Visit {
     To(NodeNo),
     /// To this head, of the layer below.
     Below(NodeNo),
-    /// It has come to the border where the key's entry stands, if there is one.
+    /// It has come to the border that has the key's entry, if there is one.
     Here,
 }

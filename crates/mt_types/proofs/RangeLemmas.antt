@@ -1,4 +1,4 @@
--- Pairs whose keys rise: a key that stands among them stands there once.
+-- Pairs whose keys rise: a key that is among them is there once.
 use Rattle.std.proofs.Common.{◌≡◌, ℕ, Bool, true, cond, ◌||◌, List, [], ◌∷◌, ap, sym, ◌∙◌, arith}
 use Rattle.std.specs.Prelude.{count_by, Any}
 use Rattle.std.specs.List.{list_any}
@@ -63,7 +63,7 @@ one_of {V} key (pair ∷ pairs) sorted any =
 same_ties : (key k : List ℕ) → k ≡ key → is_eq (key_cmp key k) ≡ true
 same_ties key k e = ap is_eq (ap (key_cmp key) e ∙ tied_itself nat_list_cmp_total key)
 
--- a key that stands among pairs whose keys rise stands there exactly once
+-- a key that is among pairs whose keys rise is there exactly once
 pub given_once : {V : Type 0} (key : List ℕ) (pairs : List (List ℕ × V)) → is_sorted key_cmp pairs ≡ true → Any (λ pair. pair.0 ≡ key) pairs → count_by (is_of key) pairs ≡ 1
 given_once key pairs rises any =
     let tied : Any (λ pair. is_of key pair ≡ true) pairs = (any.0, any.1, any.2, any.3, same_ties key any.1.0 any.4) in

@@ -27,7 +27,7 @@ const ASKED: &[u8] = b"\0\0\0\x0f\x01\x02\x02\0\x01a\x01\0\x01v\x01\0\x01a\0";
 const ANSWERED: &[u8] =
     b"\0\0\0\x37\x01\x02\x03\0\0\0\0\0\0\0\0\0\0\0\0\0\0\0\x01\0\0\0\0\0\0\0\x01\x02\0\0\0\0\0\0\0\x01\0\0\0\0\0\0\0\x01\0\0\0\0\0\0\0\x01\x01\x01v";
 
-// In version 2, a put of 76 into column 0 of key 61, where it has no row; and what an empty index answers.
+// In version 2, a put of 76 into column 0 of key 61 if it has no row; and what an empty index answers.
 const ASKED_IF: &[u8] = b"\0\0\0\x12\x02\x01\x09\0\x01a\0\0\0\0\0\0\0\0\x01\0\x01v";
 
 const ANSWERED_IF: &[u8] =
@@ -73,7 +73,7 @@ fn asked_if(alloc: Global) -> Result<[Query; 1], Fail> {
     Ok([Query::Call(Request::PutIf { key, sets, version })])
 }
 
-// This frame with the byte of version 2 in its place, the fifth.
+// This frame with the byte of version 2 as its fifth byte, the version.
 fn in_version_two(alloc: Global, frame: &[u8]) -> Result<Vec<u8>, Fail> {
     let mut bytes = Vec::from_slice(alloc, frame)?;
     if bytes.len() > 4 {

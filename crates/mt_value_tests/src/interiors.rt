@@ -24,7 +24,7 @@ fn root() -> Interior {
     root
 }
 
-// Posts a border, where there is room.
+// Posts a border if there is room.
 fn post(interior: &mut Interior, low: u64, node: u32) {
     if 0 < interior.len() && !interior.is_full() && interior.low() <= low {
         let _levels = interior.level();

@@ -13,7 +13,7 @@ use Rattle.mt_types.specs.Keys.{key_cmp}
 use Rattle.mt_types.specs.declared.row.Row.{Row}
 use Rattle.mt_rows.proofs.MapLemmas.{Entries, Tree, key_order, seen, seen-insert}
 
--- a row that is put under a key, where the map takes copies of both
+-- a row that is put under a key, if the map takes copies of both
 pub seen-put : (m n : Tree) (k key : List ℕ) (v row : Row) → tree.IsOrdered key_cmp m → tree.IsOrdered key_cmp n → tree.Updates key_cmp m n k (Some v)
     → k ≡ key → v ≡ row → seen n ≡ map.insert (seen m) key row
 seen-put m n k key v row om on u same alike =

@@ -23,6 +23,6 @@ pub next_small : (number index byte : ℕ) → number < 256 ^ index → byte < 2
 next_small number index byte h b =
     let e : 256 ^ suc index ≡ 256 ^ index * 256 = pow-suc 256 index in rw add-one (omega arith)
 
--- so many bytes are below this number
+-- a number of at most eight bytes is below this number
 pub few_bytes : (index : ℕ) → index ≤ 8 → 256 ^ index ≤ 2 ^ 64
 few_bytes index h = let cap : 256 ^ index ≤ 256 ^ 8 = pow-le-pow_right (omega arith) h in omega arith

@@ -10,8 +10,8 @@ use Rattle.mt_types.specs.declared.row.Delta.{Delta}
 use Rattle.mt_commit.specs.Deltas.{redo}
 use Rattle.mt_view.specs.State.{StateView, IsAfresh, belonging, applied, with_pairs, page_of_state}
 
--- a state is afresh for some rows exactly where it holds, under each key, the row that stands there, if it belongs to
---     the view
+-- a state is afresh for some rows exactly if it holds, under each key, the row that is there, if that belongs to the
+--     view
 abbrev pub AfreshByKey : Type 0
 AfreshByKey =
     (state : StateView) (rows : Rows)
@@ -23,7 +23,7 @@ AppliedIsAfresh =
     (state : StateView) (delta : Delta) (rows : Rows) → IsAfresh state rows
     → IsAfresh (applied delta state) (redo delta rows)
 
--- rows that are told by pairs in the order of their keys are exactly those pairs
+-- the rows that pairs in the order of their keys name are exactly those pairs
 abbrev pub SortedPairsAreRows : Type 0
 SortedPairsAreRows =
     (pairs : List (List ℕ × Row)) → IsTrue (is_sorted key_cmp pairs) → entries (with_pairs pairs empty) ≡ pairs

@@ -12,15 +12,15 @@ use Rattle.mt_commit.specs.Deltas.{with_row}
 pub record StateView : Type 0 where
   pub spec : ViewSpec  -- which rows it is to hold
   pub columns : ℕ  -- how many columns it sums
-  pub at : ℕ  -- the number of the commit at which it stands
+  pub at : ℕ  -- the number of the commit at which it is
   pub rows : Rows  -- the rows that it holds
 
--- the row under a key, where it belongs to the view
+-- the row under a key, if it belongs to the view
 abbrev pub belonging : ViewSpec → List ℕ → Option Row → Option Row
 belonging spec key None = None
 belonging spec key (Some row) = if belongs spec (key, row) then Some row else None
 
--- the state after a delta: its row after stands under its key where it belongs to the view, and else no row does
+-- the state after a delta: the delta's row after is under its key if it belongs to the view, and else no row is
 abbrev pub applied : Delta → StateView → StateView
 applied delta state =
     record state {
@@ -32,7 +32,7 @@ applied delta state =
 abbrev pub IsAfresh : StateView → Rows → Type 0
 IsAfresh state rows = entries state.rows ≡ afresh state.spec rows
 
--- the rows with these, each in place of what stood under its key
+-- the rows with these pairs, each instead of what was under its key
 abbrev pub with_pairs : List (List ℕ × Row) → Rows → Rows
 with_pairs [] rows = rows
 with_pairs (pair ∷ pairs) rows = with_pairs pairs (insert rows pair.0 pair.1)

@@ -2,8 +2,8 @@
 
 ghost use Rattle.mt_view.specs.Laws.{AfreshByKey, AppliedIsAfresh, SortedPairsAreRows, ShowsPage};
 
-/// A state is afresh for some rows exactly where it holds, under each key, the row that stands there, if that belongs
-/// to the view.
+/// A state is afresh for some rows exactly if it holds, under each key, the row that is there, if that belongs to the
+/// view.
 pub fn afresh_is_told_by_key()
     ensures { AfreshByKey }
 {}
@@ -13,7 +13,7 @@ pub fn deltas_keep_afresh()
     ensures { AppliedIsAfresh }
 {}
 
-/// Pairs in the order of their keys are the rows that they tell, one by one.
+/// Pairs in the order of their keys are the rows that they name, one by one.
 pub fn sorted_pairs_are_rows()
     ensures { SortedPairsAreRows }
 {}

@@ -35,7 +35,7 @@ fn column_of(row: &Row, column: usize) -> &[u8]
     }
 }
 
-/// The amount of a column of a row: its bytes as a big-endian number where there are at most eight, else 0.
+/// Returns the amount of a column of a row: its bytes as a big-endian number if there are at most eight, else 0.
 pub(crate) fn amount_of(row: &Row, column: usize) -> u64
     ensures { result ≡ amount (column_of column row.now) }
 {

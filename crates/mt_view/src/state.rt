@@ -52,7 +52,8 @@ impl ViewState {
     ghost use Rattle.mt_commit.specs.Deltas.{redo, with_row};
     ghost use Rattle.mt_view.specs.State.{StateView, IsAfresh, belonging, applied, with_pairs, page_of_state};
 
-    /// The state of a view of no rows, at number 0, which sums `columns` columns. O(n) in `columns`; one allocation.
+    /// Returns the state of a view of no rows, at number 0, which sums `columns` columns. O(n) in `columns`; one
+    /// allocation.
     pub fn open(alloc: Global, columns: u8, spec: ViewSpec) -> Result<ViewState, NoMemory>
         ensures ok { IfOk result (λ state. state ≡ record {
           spec = spec;
@@ -71,13 +72,13 @@ impl ViewState {
         })
     }
 
-    /// The state of a view of these rows, each with its key, at the number of a commit: it holds those that belong to
-    /// the view. Of two rows of one key the later counts. It sums `columns` columns. Shares the bytes. O(n log n) in
-    /// the rows, with an allocation for each.
+    /// Returns the state of a view of these rows, each with its key, at the number of a commit: it holds those that
+    /// belong to the view. Of two rows of one key the later counts. It sums `columns` columns. Shares the bytes.
+    /// O(n log n) in the rows, with an allocation for each.
     ///
     /// # Errors
     ///
-    /// `NoMemory` where an allocation is refused.
+    /// `NoMemory` if an allocation is refused.
     pub fn open_at(
         alloc: Global,
         columns: u8,
@@ -96,21 +97,21 @@ impl ViewState {
         Ok(state)
     }
 
-    /// The number of the commit at which the state stands.
+    /// Returns the number of the commit at which the state is.
     pub fn at(&self) -> u64
         ensures { result ≡ self.now.at }
     {
         self.at
     }
 
-    /// How many rows the state holds.
+    /// Returns how many rows the state holds.
     pub fn count(&self) -> u64
         ensures { result ≡ length (map.entries self.now.rows) }
     {
         self.rows.len() as u64
     }
 
-    /// The sum of the amounts of a column, over all rows that the state holds.
+    /// Returns the sum of the amounts of a column, over all rows that the state holds.
     pub fn sum(&self, column: u8) -> u128
         requires { column < self.now.columns }
         ensures value { result ≡ column_sum column (map.entries self.now.rows) }
@@ -119,10 +120,10 @@ impl ViewState {
         self.sums[column as usize]
     }
 
-    /// Takes the state on by a delta: its row after, where it belongs to the view, takes the place of the row that the
-    /// state holds under its key. On an error nothing changes. What the delta says of the row before is not looked at.
-    /// O(log n + m) in the rows that it holds and the columns. Allocates at most what one row needs, and nothing where
-    /// that row does not belong: then it cannot fail.
+    /// Advances the state by a delta: under the delta's key it then holds the row after, if that belongs to the view,
+    /// and else no row. On an error nothing changes. What the delta says of the row before is not looked at.
+    /// O(log n + m) in the rows that it holds and the columns. Allocates at most what one row needs, and nothing if the
+    /// row after does not belong to the view: then it cannot fail.
     pub fn apply(&mut self, delta: &Delta) -> Result<(), NoMemory>
         ensures afresh { OnOk result ((rows : Rows) → IsAfresh self.old rows
             → IsAfresh self.new (redo delta.now rows)) }
@@ -138,12 +139,12 @@ impl ViewState {
         Ok(())
     }
 
-    /// Takes in rows that were read, each with its key, in place of what the state shows under that key: it holds those
+    /// Takes in rows that were read, each with its key, instead of what the state shows under that key: it holds those
     /// that belong to the view. Its number stays. Shares the bytes. O(m log n) for m rows, with an allocation for each.
     ///
     /// # Errors
     ///
-    /// `NoMemory` where an allocation is refused: some of the rows may then have been taken in.
+    /// `NoMemory` if an allocation is refused: some of the rows may then have been taken in.
     pub fn take_in(&mut self, pairs: &[(Key, Row)]) -> Result<(), NoMemory>
         ensures afresh { OnOk result ((rows : Rows) → IsAfresh self.old rows
             → IsAfresh self.new (with_pairs pairs.now rows)) }
@@ -155,7 +156,7 @@ impl ViewState {
         Ok(())
     }
 
-    // Holds the row under the key where it belongs to the view, and else none.
+    // Holds the row under the key if it belongs to the view, and else none.
     fn hold(&mut self, key: &Key, row: &Row) -> Result<(), NoMemory>
         ensures ok { OnOk result (self.new ≡ record self.old {
           rows = with_row key.now (belonging self.old.spec key.now (Some row.now)) self.old.rows;
@@ -191,9 +192,9 @@ impl ViewState {
         }
     }
 
-    /// What the state shows from a key on: its number, its count, its sums, and a copy of the first rows from that key
-    /// on, up to the limit. Shares the bytes. O(log n + m) in the rows that it holds and the columns that it gives,
-    /// with an allocation for each row that it gives.
+    /// Returns what the state shows from a key on: its number, its count, its sums, and a copy of the first rows from
+    /// that key on, up to the limit. Shares the bytes. O(log n + m) in the rows that it holds and the columns of the
+    /// page, with an allocation for each row of the page.
     pub fn read(&self, start: &Key, limit: u16) -> Result<Page, NoMemory>
         ensures { IfOk result (λ page. page ≡ page_of_state self.now start.now limit) }
     {

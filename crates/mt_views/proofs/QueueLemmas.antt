@@ -1,4 +1,4 @@
--- The queue of the views: what stands in it while views are opened, taken on and ended, and what its first says.
+-- The queue of the views: what is in it while views are opened, advanced and ended, and what its first turn says.
 use Rattle.std.proofs.Common.{◌≡◌, ◌≢◌, ◌<◌, ◌≤◌, ◌⊎◌, ◌==◌, ℕ, IsTrue, Bool, true, false, not, cond, List, [], ◌∷◌, ◌++◌, length, Some, None, Option, subst, sym, ◌∙◌, ap, refl, arith, inl, inr}
 use Rattle.std.specs.declared.cmp.Ordering.{Ordering}
 use Rattle.std.specs.declared.cmp.Ordering.TheVariants.{Less, Equal, Greater}
@@ -91,14 +91,14 @@ then-equal Greater Less = refl
 then-equal Greater Equal = refl
 then-equal Greater Greater = refl
 
--- two turns are one where both their numbers are
+-- two turns are one if both their numbers are
 turn-equal : (at number other_at other : ℕ) → is_eq (turn_cmp (at, number) (other_at, other)) ≡ cond (number == other) (at == other_at) false
 turn-equal at number other_at other =
     then-equal (nat_cmp at other_at) (nat_cmp number other)
     ∙ ap (λ t. cond t (is_eq (nat_cmp at other_at)) false) (at_number number other ∙ nat_eq_equiv.symm other number)
     ∙ ap (λ t. cond (number == other) t false) (at_number at other_at ∙ nat_eq_equiv.symm other_at at)
 
--- where one turn is not after another
+-- if one turn is not after another
 turn-order : (at number other_at other : ℕ) → is_gt (turn_cmp (at, number) (other_at, other)) ≡ false → (at < other_at) ⊎ ((at ≡ other_at) × (number ≤ other))
 turn-order at number other_at other =
     elim (nat_cmp at other_at) as (λ first. MatchOrdering first (at < other_at) (at ≡ other_at) (other_at < at) → is_gt (ordering_then first (nat_cmp number other)) ≡ false → (at < other_at) ⊎ ((at ≡ other_at) × (number ≤ other))) [
@@ -174,7 +174,7 @@ queue-undone at number vs old more new free queued put out =
     (λ other_at other apart. changed-apart at number other_at other false more new out apart ∙ changed-apart at number other_at other true old more put apart)
     (λ other apart. refl)
 
--- a view is taken on to another number of commits
+-- a view advances to another number of commits
 pub queue-moved : (number : ℕ) (state new_state : StateView) (vs : Entries) (old more new : Queue) → (state.at ≢ new_state.at) → state_at number vs ≡ Some state → IsQueueOf vs old
     → Updates turn_cmp old more (new_state.at, number) true → Updates turn_cmp more new (state.at, number) false → IsQueueOf (with_state number new_state vs) new
 queue-moved number state new_state vs old more new moves at queued put out =
@@ -193,7 +193,7 @@ queue-moved number state new_state vs old more new moves at queued put out =
       | inr p ↦ ap (λ t. cond t false (cond (new_state.at == other_at) true t)) p.0 ∙ itself (new_state.at == other_at)
     ]
 
--- a view comes to another state and stands where it stood
+-- a view comes to another state and stays at the same number of commits
 pub queue-stays : (number : ℕ) (state new_state : StateView) (vs : Entries) (queue : Queue) → state.at ≡ new_state.at → state_at number vs ≡ Some state → IsQueueOf vs queue
     → IsQueueOf (with_state number new_state vs) queue
 queue-stays number state new_state vs queue same at queued =
@@ -233,7 +233,7 @@ view-queued number state vs queue queued at = queued state.at number ∙ ap (sta
 pub after-least : (at number : ℕ) (vs : Entries) (queue : Queue) → IsQueueOf vs queue → IsLowerBound turn_cmp queue (at, number) → AllAfter at number vs
 after-least at number vs queue queued least other state found = turn-order at number state.at other (least (state.at, other) (view-queued other state vs queue queued found))
 
--- where the queue is empty no view stands
+-- if the queue is empty, there is no view
 pub empty-queue : (vs : Entries) (queue : Queue) → IsQueueOf vs queue → (0 < length queue.keys → ⊥) → vs ≡ []
 empty-queue [] queue queued none = refl
 empty-queue (v ∷ vs) queue queued none = absurd (some queue.keys none (view-queued v.0 v.1 (v ∷ vs) queue queued (state-first v vs)))

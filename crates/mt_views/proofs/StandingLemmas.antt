@@ -27,7 +27,7 @@ view-of-none number (v ∷ vs) at = elim (eqb_tells v.0 number) [
       ∙ view-of-none number vs (sym (ap (λ t. cond t (Some v.1) (state_at number vs)) p.0) ∙ at)
 ]
 
--- a view that is taken on by one stands one further
+-- a view that advances by one is one further
 abbrev further : ℕ → StandingView → StandingView
 further number v = cond (v.number == number) (record v { at = v.at + 1 }) v
 
@@ -71,7 +71,7 @@ dropped-there number (v ∷ vs) =
       | false ↦ ap (λ (l : List StandingView). standing v ∷ l) (dropped-there number vs)
     ]
 
--- one more view stands at the end there too
+-- one more view is at the end there too
 pub opened-there : (vs : Entries) (new : ℕ × StateView) → all_standing (vs ++ new ∷ []) ≡ all_standing vs ++ standing new ∷ []
 opened-there [] new = refl
 opened-there (v ∷ vs) new = ap (λ (l : List StandingView). standing v ∷ l) (opened-there vs new)

@@ -73,7 +73,7 @@ pub rises-to : (low high : ℕ) (vs : Entries) → Rises low high vs → low ≤
 rises-to low high [] rises = rises
 rises-to low high (v ∷ vs) rises = let first = rises.0 in let rest = rises-to v.0 high vs rises.1 in omega (arith, first, rest)
 
--- the next number stands at the end
+-- the next number is at the end
 pub insert-view : (low high number : ℕ) (state : StateView) (vs : Entries) → high < number → Rises low high vs → insert_entry nat_cmp vs number state ≡ vs ++ (number, state) ∷ []
 insert-view low high number state [] above rises = refl
 insert-view low high number state (v ∷ vs) above rises =
@@ -117,7 +117,7 @@ fewer-without number (v ∷ vs) =
     let rest = fewer-without number vs in
     elim (v.0 == number) as (λ (t : Bool). length (cond (not t) (v ∷ without number vs) (without number vs)) ≤ length (v ∷ vs)) [ true ↦ omega (arith, rest) | false ↦ omega (arith, rest) ]
 
--- a state that is written over by itself
+-- a state that is replaced by the same state
 pub state-itself : (number low high : ℕ) (state : StateView) (vs : Entries) → Rises low high vs → state_at number vs ≡ Some state → with_state number state vs ≡ vs
 state-itself number low high state [] rises at = refl
 state-itself number low high state (v ∷ vs) rises at =

@@ -1,4 +1,4 @@
--- The views that stand, as contracts see them, and as a history has them.
+-- The views of an index, as contracts see them, and as a history has them.
 use Rattle.std.specs.Prelude.{ℕ, ◌+◌, ◌==◌, ◌≤◌, ◌<◌, not, if◌then◌else◌, List, [], ◌∷◌, length, map, filter, Option, Some, None}
 use Rattle.mt_promise.specs.History.{StandingView}
 use Rattle.mt_view.specs.State.{StateView}
@@ -6,7 +6,7 @@ use Rattle.mt_view.specs.State.{StateView}
 pub record ViewsView : Type 0 where
   pub built : ℕ  -- how many views were opened: the number of the last one
   pub building : ℕ  -- for how many builds a place is kept
-  pub views : List (ℕ × StateView)  -- those that stand with their numbers, in the order of these
+  pub views : List (ℕ × StateView)  -- the views with their numbers, in the order of the numbers
 
 -- a view as a history has it
 abbrev pub standing : ℕ × StateView → StandingView

@@ -11,18 +11,18 @@ use Rattle.mt_views.specs.declared.views.Views.TheInside.{Inside}
 abbrev pub views_of : Inside → ViewsView
 views_of views = record { built = views.built; building = views.building; views = views.views.entries }
 
--- The turn of a view is the number of commits at which it stands, and its own number. This is the order of the turns:
+-- The turn of a view is the number of commits at which it is, and its own number. This is the order of the turns:
 --     the view that is further behind comes first, and of two that are as far the one with the lesser number.
 abbrev pub turn_cmp : ℕ × ℕ → ℕ × ℕ → Ordering
 turn_cmp one other = ordering_then (nat_cmp one.0 other.0) (nat_cmp one.1 other.1)
 
--- whether there is a view, and it stands at this number of commits
+-- whether there is a view, and it is at this number of commits
 abbrev pub stands_at : ℕ → Option StateView → Bool
 stands_at at None = false
 stands_at at (Some state) = state.at == at
 
 -- the queue has the turn of each of these views, and no other: a number of commits and the number of a view are in it
---     exactly where there is a view of this number and it stands there
+--     exactly if there is a view of this number and it is there
 abbrev pub IsQueueOf : List (ℕ × StateView) → BTreeSet (ℕ × ℕ) → Type 0
 IsQueueOf views queue = (at number : ℕ) → contains turn_cmp queue (at, number) ≡ stands_at at (state_at number views)
 

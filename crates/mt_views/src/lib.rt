@@ -1,4 +1,4 @@
-//! The views that stand, by their numbers.
+//! The views of an index, by their numbers.
 #![tactic(auto)]
 
 pub mod views;

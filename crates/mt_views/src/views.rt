@@ -1,4 +1,4 @@
-//! The views that stand, by their numbers, and the places that open builds keep among them.
+//! The views of an index, by their numbers, and the places that open builds keep among them.
 
 ghost use Rattle.std.specs.Prelude.{Some, ◌≡◌, ◌+◌, ◌-◌, ◌<◌, ◌≤◌, ◌⊎◌, ◌↔◌, ◌++◌, [], ◌∷◌, IfOk, IfErr, IsErrOf, IsSome, IsTrue, OnOk, OnErr};
 ghost use Rattle.std.specs.Option.{option_map};
@@ -18,9 +18,9 @@ use std::alloc::Global;
 use std::collections::{BTreeMap, BTreeSet};
 use std::marker::Model;
 
-/// The views that stand, in a B-tree by their numbers, and how many places are kept for builds: together at most 64.
-/// Beside them the queue, a B-tree of a turn for each view: the number of commits at which it stands, and its own
-/// number. So the first turn is that of the view that is furthest behind.
+/// The views of an index, in a B-tree by their numbers, and the number of places that are kept for builds: together at
+/// most 64. It also has the queue, a B-tree with a turn for each view: the number of commits at which the view is, and
+/// the view's own number. So the first turn is that of the view that is furthest behind.
 #[derive(Drop)]
 pub struct Views {
     built: u64,
@@ -45,7 +45,7 @@ impl Model for Views {
 }
 
 impl Views {
-    /// No view stands, none was opened. Takes no memory.
+    /// Returns the views of a new index: there are none, and none was ever opened. Takes no memory.
     pub fn new(alloc: Global) -> Views
         ensures { result ≡ record { built = 0; building = 0; views = [] } }
     {
@@ -57,7 +57,7 @@ impl Views {
         }
     }
 
-    /// How many places are taken, by views that stand and by builds.
+    /// Returns how many places are taken, by views and by builds.
     pub fn places(&self) -> usize
         ensures value { result ≡ places self.now }
         ensures few { result ≤ MAX_VIEWS }
@@ -65,7 +65,7 @@ impl Views {
         self.views.len() + self.building
     }
 
-    /// Whether the greatest number was given to a view: then none can be opened any more.
+    /// Returns whether the greatest number was given to a view: then no other view can be opened.
     pub fn is_spent(&self) -> bool
         ensures { IsTrue result ↔ (greatest_number ≤ self.now.built) }
     {
@@ -93,7 +93,7 @@ impl Views {
     ///
     /// # Errors
     ///
-    /// `Spent` where the greatest number was given to a view; else `NoMemory` for want of it.
+    /// `Spent` if the greatest number was given to a view; else `NoMemory` if an allocation is refused.
     pub fn open(&mut self, state: ViewState) -> Result<u64, Refusal>
         requires { 0 < self.old.building }
         ensures number { IfOk result (λ number. number ≡ self.old.built + 1) }
@@ -121,8 +121,8 @@ impl Views {
         Ok(number)
     }
 
-    /// The number of the view that an apply means: 0 stands for the one that is furthest behind, and of several for the
-    /// first of them. O(log n) in the views.
+    /// Returns the number of the view that an apply means: 0 means the one that is furthest behind, or the first of
+    /// them if there are several. O(log n) in the views.
     pub fn meant(&self, asked: u64) -> Option<u64>
         ensures { result ≡ option_map (λ (v : StandingView). v.number) (meant_view asked (all_standing self.now.views)) }
     {
@@ -145,7 +145,7 @@ impl Views {
         }
     }
 
-    /// At which number of commits a view stands. O(log n) in the views.
+    /// Returns the number of commits at which a view is. O(log n) in the views.
     pub fn at(&self, number: u64) -> Option<u64>
         ensures { result ≡ option_map (λ (s : StateView). s.at) (state_at number self.now.views) }
     {
@@ -155,12 +155,12 @@ impl Views {
         }
     }
 
-    /// Takes a view on by the delta of the next commit. O(log n) in the views and in the rows of this one. On an error
+    /// Advances a view by the delta of the next commit. O(log n) in the views and in the rows of this one. On an error
     /// nothing changes.
     ///
     /// # Errors
     ///
-    /// `NoMemory` where an allocation is refused.
+    /// `NoMemory` if an allocation is refused.
     pub fn apply(&mut self, number: u64, delta: &Delta) -> Result<(), NoMemory>
         requires { IsSome (state_at number self.old.views) }
         ensures ok { OnOk result ((state : StateView) → state_at number self.old.views ≡ Some state
@@ -172,7 +172,7 @@ impl Views {
         };
         let at = state.at();
         if at == delta.number {
-            // It stands there already, so its turn stays.
+            // It is there already, so its turn stays.
             return state.apply(delta);
         }
         // What needs memory comes first: to take a turn out of the queue needs none.
@@ -186,12 +186,12 @@ impl Views {
         Ok(())
     }
 
-    /// A page of a view: what it shows from a key on, up to the limit. O(log n + m) in its rows and the columns that it
-    /// gives, with an allocation for each row that it gives. Shares the bytes.
+    /// Returns a page of a view: what it shows from a key on, up to the limit. O(log n + m) in its rows and the columns
+    /// of the page, with an allocation for each row of the page. Shares the bytes.
     ///
     /// # Errors
     ///
-    /// `NoMemory` where an allocation is refused.
+    /// `NoMemory` if an allocation is refused.
     pub fn read(&self, number: u64, start: &Key, limit: u16) -> Result<Page, NoMemory>
         requires { IsSome (state_at number self.now.views) }
         ensures { IfOk result (λ page. (state : StateView) → state_at number self.now.views ≡ Some state
@@ -203,11 +203,11 @@ impl Views {
         }
     }
 
-    /// A copy of a view's state. O(n log n) in its rows, with an allocation for each. Shares the bytes.
+    /// Returns a copy of a view's state. O(n log n) in its rows, with an allocation for each. Shares the bytes.
     ///
     /// # Errors
     ///
-    /// `NoMemory` where an allocation is refused.
+    /// `NoMemory` if an allocation is refused.
     pub fn copy_of(&self, alloc: Global, number: u64) -> Result<ViewState, NoMemory>
         requires { IsSome (state_at number self.now.views) }
         ensures { IfOk result (λ state. state_at number self.now.views ≡ Some state) }
@@ -218,7 +218,7 @@ impl Views {
         }
     }
 
-    /// A view ends. O(log n) in the views.
+    /// Ends a view. O(log n) in the views.
     pub fn end(&mut self, number: u64)
         ensures { self.new ≡ record self.old { views = without number self.old.views } }
     {

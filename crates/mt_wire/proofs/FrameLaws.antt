@@ -168,7 +168,7 @@ same_body frame rest body more is short e =
     let size : length (drop 4 frame) ≡ length body = omega (arith, length-drop 4 frame, is.whole, told) in
     sym (take_at (drop 4 frame) rest (length body) size) ∙ ap (take (length body)) behind ∙ take_at body more (length body) refl
 
--- a frame is its body behind the body's length
+-- a frame is the length of its body, and then the body
 pub frame_of_body : (most : ℕ) (frame body : List ℕ) → IsBytes frame → IsOneFrame most frame → drop 4 frame ≡ body → frame ≡ to_be_bytes w32 (length body) ++ body
 frame_of_body most frame body fits is e =
     let size : length (drop 4 frame) ≡ announced frame = omega (arith, length-drop 4 frame, is.whole) in
@@ -176,7 +176,7 @@ frame_of_body most frame body fits is e =
     let told : announced frame ≡ length body = sym size ∙ ap length e in
     sym (take-append-drop 4 frame) ∙ ap (λ (x : List ℕ). x ++ drop 4 frame) (sym header) ∙ ap (λ (n : ℕ). to_be_bytes w32 n ++ drop 4 frame) told ∙ ap (λ (x : List ℕ). to_be_bytes w32 (length body) ++ x) e
 
--- ---- what stands at the front of a frame of requests
+-- ---- what is at the front of a frame of requests
 
 pub no_two_faults : {A : Type 0} (read : Result A WireFault) → read ≡ Err faults.BadBody → read ≡ Err faults.BadVersion → ⊥
 no_two_faults read e k = cc
@@ -200,7 +200,7 @@ read_so frame rest is other more fits spelled =
     let body = same_body frame rest (body_of query_spelling other) more is (omega (arith, fits.2)) spelled in
     ap (body_at (kind_at query_rest)) body ∙ body_again query_exact other fits.0
 
--- no frame of requests stands there, where the body spells no messages
+-- no frame of requests is there if the body spells no messages
 no_queries : (frame rest : List ℕ) → IsOneFrame MAX_REQUEST_BODY frame → body_at (kind_at query_rest) (drop 4 frame) ≡ Err faults.BadBody
     → (other : Frame Query) (more : List ℕ) → RequestsFit other → frame ++ rest ≡ request_frame other ++ more → ⊥
 no_queries frame rest is e other more fits spelled =

@@ -1,4 +1,4 @@
--- How long the spelling of an answer is at most, where the answer keeps the limits of an index.
+-- How long the spelling of an answer is at most, if the answer keeps the limits of an index.
 use Rattle.std.proofs.Common.{◌≡◌, ℕ, ◌+◌, ◌*◌, ◌/◌, ◌%◌, ◌^◌, ◌<◌, ◌≤◌, List, [], ◌∷◌, ◌++◌, length, All, refl, subst, sym, arith, length-append}
 use Rattle.std.specs.List.{AllByRecursion, flat_map, sum_by}
 use Rattle.std.specs.Int.{w16, w64, to_be_bytes}

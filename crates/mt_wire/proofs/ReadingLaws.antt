@@ -39,7 +39,7 @@ queries_read_one_way = read_one_way query_exact
 pub responses_read_one_way : ResponsesReadOneWay
 responses_read_one_way = read_one_way response_exact
 
--- what stands behind the four bytes of a frame's length
+-- what follows the four bytes of a frame's length
 behind : (body rest : List ℕ) → drop 4 ((to_be_bytes w32 (length body) ++ body) ++ rest) ≡ body ++ rest
 behind body rest = refl
 

@@ -1,4 +1,4 @@
--- Frames: which messages one may hold, and what may stand at the front of bytes.
+-- Frames: which messages one may hold, and what may be at the front of bytes.
 use Rattle.std.specs.Prelude.{◌≡◌, ℕ, ◌+◌, ◌<◌, ◌≤◌, ◌⊎◌, List, ◌++◌, length, take, slice_index, Option, Some, None, IsSome}
 use Rattle.std.specs.List.{AllByRecursion}
 use Rattle.std.specs.Int.{w32, from_be_bytes}
@@ -35,7 +35,7 @@ RequestsLengths frame = Holds QueryLengths frame.messages × InVersion frame
 abbrev pub RepliesLengths : List Response → Type 0
 RepliesLengths responses = Holds ResponseLengths responses
 
--- what may stand in a frame
+-- what may be in a frame
 abbrev pub RequestsFit : Frame Query → Type 0
 RequestsFit frame =
     Holds QueryFits frame.messages × InVersion frame × (length (body_of query_spelling frame) ≤ MAX_REQUEST_BODY)
@@ -69,11 +69,11 @@ pub record IsOneFrame (most : ℕ) (frame : List ℕ) : Type 0 where
   pub fits : LengthFits most (announced frame)
   pub whole : length frame ≡ 4 + announced frame
 
--- the version that the first byte of a body tells
+-- the version that the first byte of a body names
 abbrev pub told_version : List ℕ → Option WireVersion
 told_version bytes = version_of (slice_index bytes 4)
 
--- the fault that stands at the front, where no frame of requests does
+-- the fault that is at the front, if no frame of requests is there
 abbrev pub FaultStands : WireFault → List ℕ → Type 0
 FaultStands faults.BadLength bytes = (4 ≤ length bytes) × ¬ LengthFits MAX_REQUEST_BODY (announced bytes)
 FaultStands faults.BadVersion bytes = IsWhole MAX_REQUEST_BODY bytes × (told_version bytes ≡ None)
@@ -96,7 +96,7 @@ pub record Kept : Type 0 where
   pub bytes : List ℕ
   pub fault : Option WireFault
 
--- the fault at which a decoder stops: want of memory passes
+-- the fault at which a decoder stops: it doesn't stop when out of memory
 abbrev pub stopping : WireFault → Option WireFault
 stopping faults.NoMemory = None
 stopping faults.BadLength = Some faults.BadLength

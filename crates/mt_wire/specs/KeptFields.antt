@@ -15,7 +15,7 @@ kept_of decoder = record {
   fault = decoder.stopped;
 }
 
--- what was cut off is a frame, and the fault at which the decoder has stopped stands at the front
+-- what was cut off is a frame, and the fault at which the decoder has stopped is at the front
 pub record IsKept (decoder : Inside) : Type 0 where
   pub is_frame : IfSome decoder.frame (IsOneFrame MAX_REQUEST_BODY)
   pub stands : IfSome decoder.stopped (λ fault. FaultStands fault (kept_of decoder).bytes)

@@ -29,19 +29,19 @@ RequestFramesReadOneWay = ReadOneWay RequestsFit request_frame
 abbrev pub ReplyFramesReadOneWay : Type 0
 ReplyFramesReadOneWay = ReadOneWay RepliesFit reply_frame
 
--- where a frame of requests stands, none has only begun, and no fault stands
+-- if a frame of requests is at the front, none has only begun there, and no fault is there
 abbrev pub FrameStandsAlone : Type 0
 FrameStandsAlone =
     (frame : Frame Query) (rest : List ℕ) → RequestsFit frame
     → (¬ IsBegun MAX_REQUEST_BODY (request_frame frame ++ rest))
     × ((fault : WireFault) → ¬ FaultStands fault (request_frame frame ++ rest))
 
--- where a frame has only begun, no fault stands
+-- if a frame has only begun, there is no fault
 abbrev pub BegunHasNoFault : Type 0
 BegunHasNoFault =
     (fault : WireFault) (bytes : List ℕ) → FaultStands fault bytes → ¬ IsBegun MAX_REQUEST_BODY bytes
 
--- a fault that stands goes on standing, whatever follows
+-- a fault stays, whatever bytes follow
 abbrev pub FaultStays : Type 0
 FaultStays =
     (fault : WireFault) (bytes more : List ℕ) → FaultStands fault bytes → FaultStands fault (bytes ++ more)

@@ -16,11 +16,11 @@ use mt_types::limits::MAX_REQUEST_BODY;
 use std::alloc::Global;
 use std::marker::Model;
 
-/// Finds the frames of queries in a stream of bytes, however it is cut into pieces. After a fault that is not want of
-/// memory it has stopped: it keeps nothing more, and gives that fault for good.
+/// Finds the frames of queries in a stream of bytes, however it is cut into pieces. After a fault other than `NoMemory`
+/// it has stopped: it keeps no more bytes, and returns that fault at each later call.
 #[derive(Drop)]
 pub struct Decoder {
-    // A frame that was cut off and not read yet, since memory was wanting.
+    // A frame that was cut off and not read yet, since memory was refused.
     frame: Option<Bytes>,
     rest: BytesMut,
     stopped: Option<WireFault>,
@@ -108,7 +108,7 @@ fn queries_of(alloc: Global, frame: &Bytes) -> Result<Frame<Query>, WireFault>
     Ok(found)
 }
 
-// The fault at which a decoder stops: want of memory passes.
+// The fault at which a decoder stops: it doesn't stop when out of memory.
 fn stopping(fault: WireFault) -> Option<WireFault>
     ensures { result ≡ stopping fault }
 {
@@ -119,7 +119,7 @@ fn stopping(fault: WireFault) -> Option<WireFault>
 }
 
 impl Decoder {
-    /// A decoder before any bytes. Takes no memory.
+    /// Returns a decoder that has taken no bytes. Allocates nothing.
     pub fn new(alloc: Global) -> Decoder
         ensures { result ≡ record { bytes = []; fault = None } }
     {
@@ -131,7 +131,7 @@ impl Decoder {
         }
     }
 
-    /// Whether no byte is kept: the stream so far is whole frames, each of them given.
+    /// Returns whether no byte is kept. If so, the stream so far is whole frames, and all of them were returned.
     pub fn is_between_frames(&self) -> bool
         ensures { result ≡ (length self.now.bytes == 0) }
     {
@@ -155,13 +155,13 @@ impl Decoder {
         Ok(())
     }
 
-    /// The next frame, its version and its queries, or `None` where no whole frame stands at the front yet. The bytes of
-    /// keys and columns are the frame's own, shared. O(n) in the bytes of the frame.
+    /// Returns the next frame, with its version and its queries, or `None` if no whole frame is at the front yet. The
+    /// bytes of keys and columns are shared with the frame. O(n) in the bytes of the frame.
     ///
     /// # Errors
     ///
-    /// The fault that stands at the front, as soon as its four bytes of length are there (`BadLength`) or all of its
-    /// frame (`BadVersion`, `BadBody`), and the same for good. On `NoMemory` nothing changed.
+    /// The fault at the front, as soon as the four bytes of the length are there (`BadLength`), or the whole frame
+    /// (`BadVersion`, `BadBody`). Each later call returns the same fault. On `NoMemory` nothing changed.
     pub fn next(&mut self) -> Result<Option<Frame<Query>>, WireFault>
         ensures frame { IfOk result (λ next. IfSome next (λ frame. RequestsFit frame
             × (self.old.bytes ≡ request_frame frame ++ self.new.bytes)

@@ -78,18 +78,18 @@ pub fn requests_fit(version: WireVersion, queries: &[Query]) -> bool
     hold(queries) && version.has_all(queries)
 }
 
-/// Whether a frame may hold these answers: there are 1 to `MAX_QUERIES`, and each length fits its field.
+/// Returns whether a frame may hold these answers: there are 1 to `MAX_QUERIES`, and each length fits its field.
 pub fn replies_fit(responses: &[Response]) -> bool
     ensures { IsTrue result ↔ RepliesLengths responses.now }
 {
     hold(responses)
 }
 
-/// The frame of these queries. O(n) in its bytes.
+/// Returns the frame of these queries. O(n) in its bytes.
 ///
 /// # Errors
 ///
-/// `TooLong` exactly where its body would have more than `MAX_REQUEST_BODY` bytes.
+/// `TooLong` exactly if its body would have more than `MAX_REQUEST_BODY` bytes.
 pub fn encode_requests(
     alloc: Global,
     version: WireVersion,
@@ -106,11 +106,12 @@ pub fn encode_requests(
     Ok(out)
 }
 
-/// Writes the frame of these answers over what `out` has, whose memory is used again. O(n) in its bytes.
+/// Replaces what `out` has by the frame of these answers, and uses the memory of `out` again. O(n) in the bytes of the
+/// frame.
 ///
 /// # Errors
 ///
-/// `TooLong` exactly where its body would have more than `MAX_REPLY_BODY` bytes. What `out` has then is no frame.
+/// `TooLong` exactly if its body would have more than `MAX_REPLY_BODY` bytes. What `out` has then is no frame.
 pub fn encode_replies_into(
     out: &mut Vec<u8>,
     version: WireVersion,
@@ -125,11 +126,11 @@ pub fn encode_replies_into(
     frame(out, version, responses, MAX_REPLY_BODY)
 }
 
-/// The frame of these answers. O(n) in its bytes.
+/// Returns the frame of these answers. O(n) in its bytes.
 ///
 /// # Errors
 ///
-/// `TooLong` exactly where its body would have more than `MAX_REPLY_BODY` bytes.
+/// `TooLong` exactly if its body would have more than `MAX_REPLY_BODY` bytes.
 pub fn encode_replies(
     alloc: Global,
     version: WireVersion,

@@ -7,16 +7,16 @@ use bytes::TryGetError;
 use std::alloc::{AllocError, AllocFailed};
 use thiserror::Error;
 
-/// Why a frame was not read. Only want of memory passes: after it the call can be made again.
+/// Why a frame was not read. After `NoMemory` the call can be made again. The other faults stay.
 #[derive(Clone, Copy, Debug, PartialEq, Eq, Error)]
 pub enum WireFault {
     /// The length of a frame's body is not within its bounds.
     #[error("the length of a frame is out of its bounds")]
     BadLength,
-    /// The first byte of a body is no version.
+    /// The first byte of a frame's body is not a version.
     #[error("a frame has another version")]
     BadVersion,
-    /// A body spells no messages of its version.
+    /// A frame's body does not spell messages of its version.
     #[error("a frame spells no messages")]
     BadBody,
     /// A growth was refused.

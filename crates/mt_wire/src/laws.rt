@@ -22,17 +22,17 @@ pub fn reply_frames_are_read_one_way()
     ensures { ReplyFramesReadOneWay }
 {}
 
-/// Where a frame of requests stands, none has only begun, and no fault stands.
+/// If a frame of requests is at the front, none has only begun there, and no fault is there.
 pub fn a_frame_stands_alone()
     ensures { FrameStandsAlone }
 {}
 
-/// Where a frame has only begun, no fault stands.
+/// If a frame has only begun, there is no fault.
 pub fn a_begun_frame_has_no_fault()
     ensures { BegunHasNoFault }
 {}
 
-/// A fault that stands goes on standing, whatever follows.
+/// A fault stays, whatever bytes follow.
 pub fn a_fault_stays()
     ensures { FaultStays }
 {}

@@ -9,13 +9,13 @@ use mt_types::numbers::ViewNo;
 pub enum Query {
     /// A call, from its begin to its end.
     Call(Request),
-    /// A page of a view, which has to stand at `floor` commits at least.
+    /// A page of a view. The view has to be at `floor` commits or more.
     ViewRead {
         view: ViewNo,
         floor: u64,
         start: Bytes,
         limit: u16,
     },
-    /// A view ends.
+    /// Ends a view.
     ViewDrop(ViewNo),
 }

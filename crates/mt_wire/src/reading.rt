@@ -10,11 +10,11 @@ use mt_types::items::Items;
 use mt_types::row::ColumnNumbers;
 use std::alloc::Global;
 
-/// What stands at the front of bytes.
+/// A value that can be read from the front of bytes.
 pub trait Readable: Sized {
     ghost reading: { Reader Self };
 
-    /// Takes a value from the front. On an error the bytes that are left are of no more use.
+    /// Takes a value from the front of `input`. On an error the bytes that are left are of no further use.
     fn read(alloc: Global, input: &mut Bytes) -> Result<Self, ReadError>
         ensures { Gives (λ x. (x, input.new)) result (reading input.old) };
 }

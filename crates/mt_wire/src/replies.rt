@@ -24,13 +24,13 @@ fn is_one_frame(bytes: &[u8]) -> bool
     2 <= len && len <= MAX_REPLY_BODY as usize && bytes.len() == 4 + len
 }
 
-/// A frame of answers, all of the bytes: its version and its answers. The bytes of keys and columns are the frame's own,
-/// shared. O(n) in the bytes.
+/// Returns the frame of answers that all of the bytes spell: its version and its answers. The bytes of keys and columns
+/// are shared with `bytes`. O(n) in the bytes.
 ///
 /// # Errors
 ///
-/// `BadLength` where the bytes are no frame, or more or less than one; `BadVersion` where its version is none, and
-/// `BadBody` where it spells no answers otherwise.
+/// `BadLength` if the bytes are not exactly one frame; `BadVersion` if the first byte of its body is not a version;
+/// `BadBody` if its body does not spell answers; `NoMemory` if an allocation is refused.
 pub fn decode_replies(alloc: Global, bytes: &Bytes) -> Result<Frame<Response>, WireFault>
     ensures found { IfOk result (λ frame. RepliesFit frame × (bytes.now ≡ reply_frame frame)) }
     ensures only { (frame : Frame Response) → RepliesFit frame → bytes.now ≡ reply_frame frame

@@ -9,7 +9,7 @@ use mt_types::refusal::Refusal;
 use mt_types::row::{Pairs, Row};
 use mt_types::view::Page;
 
-/// One answer of a frame: that to the query in its place.
+/// One answer of a frame: the answer to the query at the same place.
 #[derive(Debug, PartialEq, Eq, Drop)]
 pub enum Response {
     /// The query was refused.
@@ -28,10 +28,10 @@ pub enum Response {
     Dropped,
 }
 
-/// How a call ended. That of a put and that of a remove are told alike: the client knows what it asked.
+/// How a call ended. A put and a remove end alike, since the client knows what it asked for.
 #[derive(Debug, PartialEq, Eq, Drop)]
 pub enum End {
-    /// The key has no row: of a get, or of a remove that had nothing to do.
+    /// The key has no row. The answer of a get, or of a remove that had nothing to remove.
     Absent,
     /// The row of a get.
     Found(Row),
@@ -63,7 +63,7 @@ impl From<Reply> for Response {
 
     ghost from_gives = { λ reply response. response ≡ response_of reply };
 
-    /// What the wire tells of the end of a call.
+    /// What the wire reports of the end of a call.
     fn from(reply: Reply) -> Response {
         let Reply {
             from,

@@ -46,12 +46,12 @@ fn frames_of(alloc: Global, pieces: &[Vec<u8>]) -> Result<Vec<Frame<Query>>, Wir
     Ok(frames)
 }
 
-/// The frames of queries of a stream that came in these pieces, up to a rest that is less than a frame.
-/// O(n) in the bytes.
+/// Returns the frames of queries of a stream that came in these pieces, up to a rest that is less than a frame. O(n) in
+/// the bytes.
 ///
 /// # Errors
 ///
-/// The fault that stands in the stream after whole frames, or `NoMemory`.
+/// The fault that the stream has after whole frames, or `NoMemory`.
 pub fn decode_requests(alloc: Global, pieces: &[Vec<u8>]) -> Result<Vec<Frame<Query>>, WireFault>
     ensures stream { IfOk result (λ frames. IsStream (joined pieces.now) frames.items) }
     ensures only { (frames : List (Frame Query)) → IsStream (joined pieces.now) frames

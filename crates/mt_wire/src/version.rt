@@ -7,17 +7,17 @@ ghost use Rattle.mt_wire.specs.Versions.{version_byte, version_of, HasQuery};
 use crate::query::Query;
 use mt_types::event::Request;
 
-/// A version of the wire. A frame of answers has that of the queries that it answers.
+/// A version of the wire. A frame of answers has the version of the queries that it answers.
 #[derive(Clone, Copy, Debug, PartialEq, Eq)]
 pub enum WireVersion {
-    /// Each query but the conditional put.
+    /// It has each query except the conditional put.
     One,
-    /// Each query.
+    /// It has each query.
     Two,
 }
 
 impl WireVersion {
-    /// The version that the first byte of a body tells.
+    /// Returns the version that the first byte of a body names, if it names one.
     pub fn of(byte: u8) -> Option<WireVersion>
         ensures { result ≡ version_of byte }
     {
@@ -28,7 +28,7 @@ impl WireVersion {
         }
     }
 
-    /// The first byte of a body of this version.
+    /// Returns the first byte of a body of this version.
     pub fn byte(self) -> u8
         ensures { result ≡ version_byte self }
     {
@@ -38,7 +38,7 @@ impl WireVersion {
         }
     }
 
-    /// Whether this version has such a query.
+    /// Returns whether this version has such a query.
     pub fn has(self, query: &Query) -> bool
         ensures { IsTrue result ↔ HasQuery self query.now }
     {

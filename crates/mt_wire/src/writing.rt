@@ -8,18 +8,18 @@ ghost use Rattle.mt_wire.specs.Fits.{KeyFits, ShortFits, CountedFits};
 
 use std::alloc::AllocError;
 
-/// What has a spelling, where its lengths fit their fields.
+/// A value that has a spelling, if its lengths fit their fields.
 pub trait Writable {
     ghost spelling: { Self → List ℕ };
 
     ghost lengths: { Self → Type 0 };
 
-    /// Writes it at the end. On an error some of its bytes may stand there.
+    /// Writes the value at the end of `out`. On an error some of its bytes may be there.
     fn write(&self, out: &mut Vec<u8>) -> Result<(), AllocError>
         requires { lengths self.now }
         ensures { OnOk result (out.new.items ≡ out.old.items ++ spelling self.now) };
 
-    /// Whether its lengths fit.
+    /// Returns whether its lengths fit.
     fn fits(&self) -> bool
         ensures { IsTrue result ↔ lengths self.now };
 }
@@ -36,7 +36,7 @@ pub fn number64(out: &mut Vec<u8>, number: u64) -> Result<(), AllocError>
     out.extend_from_slice(&number.to_be_bytes())
 }
 
-/// Writes a byte that tells a kind, and two numbers.
+/// Writes the byte of a kind, and two numbers.
 pub fn head(out: &mut Vec<u8>, kind: u8, first: u64, second: u64) -> Result<(), AllocError>
     ensures { OnOk result (out.new.items ≡ out.old.items
         ++ (kind ∷ (to_be_bytes w64 first ++ to_be_bytes w64 second))) }

@@ -1,4 +1,4 @@
--- What an arranged permutation gives its callers: no slot stands at two places, and its word names it.
+-- What callers know of an arranged permutation: no slot is at two places, and its word names it.
 use Rattle.std.proofs.Common.{◌≡◌, ◌≢◌, ℕ, ◌+◌, ◌*◌, ◌/◌, ◌%◌, ◌<◌, length, refl, ap, arith, eqb, sym, ◌∙◌}
 use Rattle.std.specs.List.{AllPairs}
 use Rattle.std.proofs.lemmas.Bool.Decides.{Decides-eqb, same_from_decides}

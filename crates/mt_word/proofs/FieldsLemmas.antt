@@ -49,7 +49,7 @@ word_split (suc n) (p ∷ ps) =
     let moved : high * 16 ^ suc n ≡ high * 16 ^ n * 16 = rw (pow-suc 16 n, mul_assoc) in
     omega (arith, rest, moved)
 
--- so many fields of a list of them
+-- the first n fields of a list of them
 pub fit-take : (n : ℕ) (ps : List ℕ) → All (λ field. field < 16) ps → All (λ field. field < 16) (take n ps)
 fit-take n ps h k d l = rw (get_or-take n ps k d (omega (arith, length-take n ps))) (h k d (omega (arith, length-take n ps)))
 

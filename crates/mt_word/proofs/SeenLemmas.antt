@@ -69,7 +69,7 @@ seen_more seen fs k x within read fits h =
       ];
     })
 
--- a slot that stands beside all lower ones stands among the others
+-- a slot that is in a list of all lower ones and others is among the others
 not_below : (k : ℕ) (left : List ℕ) → k < 15 → Contains (take k all_slots ++ left) k → Contains left k
 not_below k left h there =
     elim (Contains-append_cases (take k all_slots) left k there) [

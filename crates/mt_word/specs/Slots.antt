@@ -16,7 +16,7 @@ places s = s.live ++ s.unused
 abbrev pub all_slots : List ℕ
 all_slots = 0 ∷ 1 ∷ 2 ∷ 3 ∷ 4 ∷ 5 ∷ 6 ∷ 7 ∷ 8 ∷ 9 ∷ 10 ∷ 11 ∷ 12 ∷ 13 ∷ 14 ∷ []
 
--- each slot stands at one place
+-- each slot is at one place
 pub record IsArranged (s : Slots) : Type 0 where
   pub each_once : IsPermutation all_slots (places s)
 

@@ -62,7 +62,7 @@ module _ (a : ArenaView) (log : LogView) (old : Building) (scanning : old.upto �
   at : (p q : Progress) (new then : Building) → p ≡ q → new ≡ then → Law q then → Law p new
   at p q new then progress is law = subst (λ (x : Progress). Law x new) (sym progress) (subst (λ (x : Building). Law q x) (sym is) law)
 
-  -- where it scans on, its truth is by its listing
+  -- while it scans, its truth is that of its scan and its listing
   scanning_true : (view : BuildView) (node : NodeNo) (listing : Listing) (begun : ℕ) (past : List Arena) (w : World) → ScanIsTrue view node.0 listing begun (arena_seen a ∷ past) a w
       → BuildingIsTrue (record { build = view; node = node; upto = old.upto; listing = listing }) begun 0 (arena_seen a ∷ past) a w
   scanning_true view node listing begun past w truth = subst (λ (u : Option ℕ). ScansOn u view node.0 listing begun (arena_seen a ∷ past) a w) (sym scanning) truth

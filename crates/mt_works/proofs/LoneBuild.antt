@@ -14,7 +14,7 @@ use Rattle.mt_steps.specs.declared.listing.Listing.{Listing}
 use Rattle.mt_works.specs.declared.building.Building.{Building}
 use Rattle.mt_works.specs.Building.{ScansOn, BuildingIsTrue, GoesOn, BuildsOn, BuildMoves, BuildFollows}
 
--- while it scans, the node where it stands is on, in the layer of its scan
+-- while it scans, its node is on, in the layer of its scan
 abbrev pub StandsBy : Option ℕ → World → ℕ → BuildView → Type 0
 StandsBy None w number build = ScanStands w.chart number build.prefix
 StandsBy (Some upto) w number build = Unit {0}

@@ -44,7 +44,7 @@ pub get_waits_not : (a : ArenaView) (now : ℕ) (w : World) (get : Get) → IsWo
 get_waits_not a now w get world there free marked =
     not_marked a now w world get.way.node.0 (free get.way.node.0) (record { role = there.role; prefix = prefix_of get.key get.way; low = there.low; posted = there.posted; place = there.place }) marked
 
--- it is on its way alone: where it stands is its own, and it has read nothing of it
+-- it is on its way alone: its node is on, and it has read nothing of that node
 abbrev pub GetStands : World → Get → Type 0
 GetStands w get = IsOnThere w get.key get.way × (get.finding ≡ Begins)
 
@@ -75,7 +75,7 @@ range_nearer a after now begun moves then made past since w next range new world
     (further, subst (λ (x : ArenaView). range_left x new < range_left a range) (sym same_tree) falls)
 
 -- ---- a build
--- how many commits it stands at: while it scans, no more than there are; then, no more than it is to come to
+-- at how many commits it is: while it scans, at most as many as there are; then, at most as many as it is to reach
 abbrev pub StandsWithin : Option ℕ → ℕ → ℕ → Type 0
 StandsWithin None at commits = at ≤ commits
 StandsWithin (Some upto) at commits = at ≤ upto

@@ -36,7 +36,7 @@ use Rattle.mt_works.specs.Works.{request_of, held, IsTrue, AsksForKey, IsNew, Is
 use Rattle.mt_works.specs.Causes.{WorkWaits}
 use Rattle.mt_works.specs.Follows.{WorkFollows, WorkReads, WorkPosts}
 
--- what else is true of a call that runs alone, in a world, where there are so many commits
+-- what else is true of a call that runs alone, in a world, after `commits` commits
 abbrev pub work_stands : ArenaView → ℕ → World → Work → Type 0
 work_stands a commits w (Get get) = GetStands w get
 work_stands a commits w (Write write) = write_stands a w write
@@ -56,13 +56,13 @@ work_left a commits (Build building) = build_left a commits building
 abbrev pub OwnsAll : ArenaView → World → List ℕ → Type 0
 OwnsAll a w owned = (number : ℕ) → IsTaken a w number → Among number owned
 
--- it goes on
+-- it continues
 abbrev pub GoesOn : Progress → Type 0
 GoesOn Moved = Unit {0}
 GoesOn (Committed number) = Unit {0}
 GoesOn _ = ⊥
 
--- a call alone in a world, where there are so many commits
+-- a call alone in a world, after `commits` commits
 pub record IsLone (C now begun moves : ℕ) (past : List Arena) (a : ArenaView) (commits : ℕ) (w : World) (work : Work) : Type 0 where
   pub world : IsWorld a now w
   pub before : begun ≤ now
@@ -70,7 +70,7 @@ pub record IsLone (C now begun moves : ℕ) (past : List Arena) (a : ArenaView) 
   pub owns : OwnsAll a w (held work).owns
   pub stands : work_stands a commits w work
 
--- a get has come through so many nodes
+-- a get has come through `made` nodes
 abbrev pub CameBy : ℕ → World → ℕ → Work → Type 0
 CameBy begun w made (Get get) = Trail begun w.chart get.way.node.0 made
 CameBy begun w made _ = Unit {0}
@@ -80,7 +80,7 @@ abbrev pub IsGet : Work → Type 0
 IsGet (Get get) = Unit {0}
 IsGet _ = ⊥
 
--- the same in some world, after so many steps, and what it asks for is a key; a get has come through as many nodes
+-- the same in some world, after `made` steps, and what it asks for is a key; a get has come through as many nodes
 pub record RunsLone (C now made : ℕ) (a : ArenaView) (commits : ℕ) (work : Work) : Type 0 where
   pub begun : ℕ
   pub moves : ℕ
@@ -90,7 +90,7 @@ pub record RunsLone (C now made : ℕ) (a : ArenaView) (commits : ℕ) (work : W
   pub key : AsksForKey (request_of work)
   pub came : CameBy begun w made work
 
--- what its step says, where it goes on, and the next world
+-- what its step states if it continues, and the next world
 pub record StepsOn (C now begun moves : ℕ) (before : List Arena) (a after : ArenaView) (log left : LogView) (w next : World) (work : Work) (p : Progress) (new : Work) : Type 0 where
   pub goes : GoesOn p
   pub world : IsWorld after now next
@@ -230,7 +230,7 @@ came_none a now w world (Range range) at_start = tt
 came_none a now w world (Tidy tidy) at_start = tt
 came_none a now w world (Build building) at_start = tt
 
--- from its begin on, where nothing is taken
+-- from its begin on, if nothing is taken
 pub lone_begins : (laws : LoneLaws) (C now number : ℕ) (a : ArenaView) (w : World) → IsWorld a now w → ((n : ℕ) → IsTaken a w n → ⊥) → (work : Work) → IsNew C number work → RunsLone C now 0 a number work
 lone_begins laws C now number a w world free work new = record {
   begun = now;

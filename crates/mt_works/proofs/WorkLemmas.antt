@@ -88,7 +88,7 @@ pub may_build : (now C : ℕ) (a : ArenaView) (log : LogView) (work : Work) (bui
 may_build now C a log work building is m = subst (λ (x : Work). MayStep a log (held x) (IsTrue C x)) is (may_step now C a log work m)
 
 -- ---- what others' steps leave
--- the law of others' steps: where they leave what a call owns, and each border ages, what is true of it stays true
+-- the law of others' steps: if they don't change what a call owns, and each border ages, what is true of it stays true
 module _ (a after : ArenaView) (w next : World) (C begun moves : ℕ) (past : List Arena) (evolves : Evolves begun w.chart next.chart) where
   scan_stays : (now : ℕ) → IsWorld after now next → BordersAge a after w next → (upto : Option ℕ) (build : BuildView) (number : ℕ) (listing : Listing) → ScansOn upto build number listing begun past a w → ScansOn upto build number listing begun (arena_seen a ∷ past) after next
   scan_stays now world age None build number listing truth = record {

@@ -55,7 +55,7 @@ abbrev pub BuildingIsTrue : Building → ℕ → ℕ → List Arena → ArenaVie
 BuildingIsTrue building begun moves past a w =
     ScansOn building.upto building.build building.node.0 building.listing begun past a w
 
--- it is lent the node where it stands, and may visit it
+-- it is lent the node at which it is, and may visit it
 pub record BuildMayVisit (log : LogView) (building : Building) (node : Node) : Type 0 where
   pub arena : ArenaView
   pub names : Names arena building.node.0 node
@@ -90,7 +90,7 @@ pub record TakesNext (log : LogView) (old new : StateView) : Type 0 where
   pub is_next : delta_of log (old.at + 1) ≡ Some delta
   pub taken : new ≡ applied delta old
 
--- A step of a build that goes on: it scans; or its scan ends, and it is to take the deltas up to that of the newest
+-- A step of a build that continues: it scans; or its scan ends, and it is to take the deltas up to that of the newest
 -- commit; or it takes the next of them.
 abbrev pub GoesOn : ArenaView → LogView → Option ℕ → BuildView → ℕ → Listing → Option ℕ → BuildView → Type 0
 GoesOn a log None old number listing None new = KeepsView old.state new.state
@@ -106,24 +106,24 @@ BuildsOn a log old p new = GoesOn a log old.upto old.build old.node.0 old.listin
 abbrev pub resumed : BuildView → BuildView
 resumed build = record build { prefix = []; at = under build.prefix build.at }
 
--- the visit of the one border where it stands leads its scan on so
+-- the visit of the one border at which it is advances its scan in this way
 abbrev pub BuildVisits : ArenaView → ℕ → BuildView → ScanMove → BuildView → Type 0
 BuildVisits a number old visited new = IsSomeAnd (border_at a.nodes number) (λ b. VisitsOn old (list_of b) visited new)
 
--- on its way it is as it was; and else it visits the border where it stands
+-- on its way it is as it was; otherwise it visits the border at which it is
 abbrev pub BuildScans : ArenaView → ℕ → BuildView → ℕ → BuildView → Type 0
 BuildScans a number old next new = (new ≡ old)
     ⊎ ((visited : ScanMove) × BuildVisits a number old visited new × IsThen visited next)
 
--- A STEP VISITS ONE NODE: where it scans and moves, its scan gets on, or has ended there. Or it takes a delta: its view
--- then stands one commit later.
+-- A STEP VISITS ONE NODE: if it scans and moves, its scan advances, or has ended there. Or it takes a delta: its view
+-- is then at the next commit.
 abbrev pub BuildMoves : ArenaView → Option ℕ → Option ℕ → ℕ → BuildView → ℕ → BuildView → Type 0
 BuildMoves a None None number old next new =
     ScanGoes a number next (build_cursor old) (build_cursor new) × BuildScans a number old next new
 BuildMoves a None (Some upto) number old next new = BuildVisits a number old VisitDone new
 BuildMoves a (Some upto) then number old next new = (then ≡ Some upto) × (new.state.at ≡ old.state.at + 1)
 
--- where it waits, it begins its way again, its cursor as it was
+-- if it waits, it begins its way again, with its cursor as it was
 abbrev pub BuildFollows : ArenaView → Building → Progress → Building → Type 0
 BuildFollows a old Moved new = BuildMoves a old.upto new.upto old.node.0 old.build new.node.0 new.build
 BuildFollows a old Waits new =
@@ -158,7 +158,7 @@ abbrev pub MayScan : List ℕ → ListReading → Type 0
 MayScan prefix (Lists entries right) = HoldsKeys prefix entries × (length entries ≤ SLOTS)
 MayScan prefix _ = Unit {0}
 
--- it has read nothing of the node where it stands
+-- it has read nothing of the node at which it is
 abbrev pub unread : Building → Building
 unread building = record building { listing = Begins }
 
@@ -183,7 +183,7 @@ abbrev pub BuildingLaw : ℕ → ArenaView → LogView → Building → Progress
 BuildingLaw C a log old p new =
     StepLaw C a a log log (building_request old) nothing p nothing (BuildingIsTrue old) (BuildingIsTrue new)
 
--- it waits only while it scans, where the node that its scan visits is marked deleted
+-- it waits only while it scans, if the node that its scan visits is marked deleted
 abbrev pub WaitsBy : ArenaView → ℕ → Option ℕ → Progress → Type 0
 WaitsBy a number None p = ReadWaits a number p
 WaitsBy a number (Some upto) Waits = ⊥
@@ -192,7 +192,7 @@ WaitsBy a number (Some upto) _ = Unit {0}
 abbrev pub BuildWaits : ArenaView → Building → Progress → Type 0
 BuildWaits a building p = WaitsBy a building.node.0 building.upto p
 
--- or, where it reads one field a step, for what it has read of a border
+-- or, if it reads one field per step, for what it has read of a border
 abbrev pub FieldWaitsBy : ArenaView → ℕ → Listing → Option ℕ → Progress → Type 0
 FieldWaitsBy a number listing None p = WaitsForField a number listing p
 FieldWaitsBy a number listing (Some upto) p = WaitsBy a number (Some upto) p
@@ -204,7 +204,7 @@ abbrev pub OnlyForMemory : Progress → Type 0
 OnlyForMemory (Refused refusal) = refusal ≡ NoMemory
 OnlyForMemory p = Unit {0}
 
--- it is refused only for want of memory: at a border, or for the row of a delta
+-- it is refused only if out of memory: at a border, or for the row of a delta
 abbrev pub FailsAt : ArenaView → ℕ → Option ℕ → Progress → Type 0
 FailsAt a number None p = ReadFails a number p
 FailsAt a number (Some upto) p = OnlyForMemory p

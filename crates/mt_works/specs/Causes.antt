@@ -21,7 +21,7 @@ use Rattle.mt_works.specs.declared.work.Work.{Work}
 use Rattle.mt_works.specs.declared.work.Work.TheVariants.{Get, Write, Range, Tidy, Build}
 use Rattle.mt_works.specs.Building.{BuildWaits, BuildFieldWaits, BuildFails}
 
--- a get waits for what it has read of a border, or, where it reads all of it at once, where that is marked deleted
+-- a get waits for what it has read of a border, or, if it reads whole nodes, for a node that is marked deleted
 abbrev pub GetWaitsBy : Pace → ArenaView → GetView → Progress → Type 0
 GetWaitsBy Field a get p = GetWaits a get p
 GetWaitsBy Node a get p = ReadWaits a get.way.node.0 p

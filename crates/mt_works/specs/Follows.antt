@@ -30,7 +30,7 @@ abbrev pub BuildFollowsBy : Pace → ArenaView → LogView → Building → Prog
 BuildFollowsBy Field a log building p new = BuildStepsOn a log building p new
 BuildFollowsBy Node a log building p new = BuildFollows a building p new × (new.listing ≡ Begins)
 
--- where a get, range or build moves, it goes on; of a put, remove or tidy, which stage follows
+-- if a get, range or build moves, it advances; for a put, remove or tidy, which stage follows
 abbrev pub WorkFollows : Pace → ArenaView → LogView → Work → Progress → Work → Type 0
 WorkFollows pace a log (Get get) p (Get new) = GetFollowsBy pace a get p new
 WorkFollows pace a log (Get get) p _ = ⊥
@@ -51,7 +51,7 @@ WorkReads a after (Range range) = after ≡ a
 WorkReads a after (Tidy tidy) = Unit {0}
 WorkReads a after (Build building) = after ≡ a
 
--- of a put or remove, which head it then has, and with which posting it goes on; and the tree is an arena of nodes
+-- for a put or remove, which head it then has, and with which posting it continues; and the tree is an arena of nodes
 abbrev pub WorkPosts : ArenaView → ArenaView → Work → Progress → Work → Type 0
 WorkPosts a after (Write write) p (Write new) = HeadFollows write p new × PostsFollow a after write p new
     × IsArena a × IsArena after

@@ -83,7 +83,7 @@ WorkBuilds a log (Build old) p (Build new) = BuildsOn a log old p new
 WorkBuilds a log (Build old) p _ = ⊥
 WorkBuilds a log _ p new = Unit {0}
 
--- a build that begins at this number of commits is to scan, and its view, of so many columns, opens there
+-- a build that begins at this number of commits is to scan, and its view, of `C` columns, opens there
 abbrev pub OpensAt : ℕ → ℕ → Work → Type 0
 OpensAt C number (Build building) =
     (building.upto ≡ None) × (building.build.state.at ≡ number) × (building.build.state.columns ≡ C)
@@ -102,7 +102,7 @@ AsksForKey (RangeRequest start limit asked) = IsKey start
 AsksForKey (TidyRequest key) = IsKey key
 AsksForKey (BuildRequest spec) = Unit {0}
 
--- it stands at the head of layer 0, and has done nothing
+-- it is at the head of layer 0, and has done nothing
 abbrev pub IsAtStart : Work → Type 0
 IsAtStart (Get get) = (get.way ≡ start) × (get.finding ≡ Begins)
 IsAtStart (Write write) = (write.way ≡ start) × (write.stage ≡ WriteSeeks) × (write.head ≡ start.node)

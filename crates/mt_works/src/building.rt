@@ -32,16 +32,16 @@ use std::mem;
 #[derive(Drop)]
 pub struct Building {
     pub build: Build,
-    /// The node where its scan is.
+    /// The node at which its scan is.
     pub node: NodeNo,
     /// Once it has scanned all: the number of the last commit whose delta it is to take.
     pub upto: Option<u64>,
-    /// How far it has read the border where it stands.
+    /// How far it has read the border at which it is.
     pub listing: Listing,
 }
 
 impl Building {
-    /// Whether it has taken all that it was to take: then its view is to be opened, by the machine.
+    /// Returns whether it has taken all that it was to take. The machine is then to open its view.
     pub fn is_built(&self) -> bool
         ensures { IsTrue result ↔ IsBuilt self.now }
     {
@@ -51,8 +51,8 @@ impl Building {
         }
     }
 
-    /// Reads one field of the border where it stands, or visits the head or interior node where it does, and is lent that
-    /// alone; or takes the next delta, once it has scanned all.
+    /// Reads one field of the border at which it is, or visits the head or interior node at which it is, and is lent
+    /// that node only; or takes the next delta, once it has scanned all.
     pub fn step(&mut self, alloc: Global, tree: &Tree, log: &Log) -> Progress
         requires may { MayStep tree.now log.now nothing (BuildingIsTrue self.old) }
         requires next { IsInLog log.now self.old.build.state.at self.old.upto }
@@ -148,7 +148,7 @@ impl Building {
         }
     }
 
-    // Reads the next field of the border where it stands, or visits the head or interior node where it does.
+    // Reads the next field of the border at which it is, or visits the head or interior node at which it is.
     fn read(&mut self, alloc: Global, tree: &Tree, log: &Log) -> Progress
         requires may { MayStep tree.now log.now nothing (BuildingIsTrue self.old) }
         requires scans { self.old.upto ≡ None }
@@ -167,7 +167,7 @@ impl Building {
         }
     }
 
-    // Visits the node where it stands, on the way to the border where its cursor is, or that border. It is lent no other.
+    // Visits the node at which it is: one on the way to the border of its cursor, or that border. It is lent no other.
     fn scan(&mut self, alloc: Global, node: &Node, log: &Log) -> Progress
         requires may { BuildMayVisit log.now self.old node.now }
         requires scans { self.old.upto ≡ None }

@@ -52,21 +52,21 @@ pub enum Work {
 }
 
 impl Work {
-    /// Whether it holds the log from the commits of its begin on, as a get, a range and a build do.
+    /// Returns whether it holds the log from the commits of its begin on, as a get, a range and a build do.
     pub fn reads_log(&self) -> bool
         ensures { result ≡ reads_log (request_of self.now) }
     {
         matches!(self, Work::Get(_) | Work::Range(_) | Work::Build(_))
     }
 
-    /// Whether it is a build.
+    /// Returns whether it is a build.
     pub fn is_build(&self) -> bool
         ensures { result ≡ is_build (request_of self.now) }
     {
         matches!(self, Work::Build(_))
     }
 
-    /// Whether it is a build that has taken all that it was to take: its view is then to be opened.
+    /// Returns whether it is a build that has taken all that it was to take. Its view is then to be opened.
     pub fn is_built(&self) -> bool
         ensures { IsTrueBool result ↔ IsBuiltWork self.now }
     {
@@ -76,8 +76,8 @@ impl Work {
         }
     }
 
-    /// Visits one node, in this epoch, the present one: of a border a get, range or build reads one field, or all, by the
-    /// pace. A build that has scanned its keys takes one delta.
+    /// Visits one node. `epoch` is the present epoch. A get, range or build reads one field of a border, or all of it,
+    /// as `pace` states. A build that has scanned its keys takes one delta.
     pub fn step(
         &mut self,
         alloc: Global,
@@ -124,7 +124,7 @@ impl Work {
     }
 }
 
-// The key of these bytes, which are few enough: the begin of a call tests that.
+// Returns the key of these bytes, which are few enough: the begin of a call tests that.
 fn key_of(bytes: Bytes) -> Result<Key, NoMemory>
     ensures value { IfOk result (λ key. key ≡ bytes) }
     ensures key { IfOk result IsKey }
@@ -195,12 +195,12 @@ fn new_building(
     })
 }
 
-/// The work of a call that asks for this, and whose keys are not too long; it begins when there are so many commits.
-/// Takes over what the request has: for a get, put, remove or tidy it takes no memory.
+/// Returns the work of a call with this request, whose keys are not too long, and which begins after `number` commits.
+/// The request is moved into the work: for a get, put, remove or tidy nothing is allocated.
 ///
 /// # Errors
 ///
-/// `NoMemory` for want of it, or where a key is too long: the begin of a call tests that.
+/// `NoMemory` if an allocation is refused, or if a key is too long: the begin of a call tests that.
 pub fn work_of(alloc: Global, columns: u8, number: u64, request: Request) -> Result<Work, NoMemory>
     ensures request { IfOk result (λ work. request_of work ≡ request) }
     ensures new { IfOk result (IsNew columns number) }

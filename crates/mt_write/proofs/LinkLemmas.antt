@@ -1,4 +1,4 @@
--- What the link to a new layer tells of the layer's head: it is on.
+-- What follows from the link to a new layer: the layer's head is on.
 use Rattle.std.proofs.Common.{ℕ, ◌≡◌, List, ◌∷◌, slice_get, Some, true, inl, refl, sym, ap, subst, ◌∙◌}
 use Rattle.mt_types.specs.declared.numbers.NodeNo.{NodeNo}
 use Rattle.mt_border.specs.Entry.{with_link}

@@ -47,12 +47,12 @@ use Rattle.mt_write.specs.Follows.{IsMadeReady, IsReadyIn, IsReady, PostsOn, Sta
 abbrev pub layer_left : ℕ → ℕ
 layer_left layer = all_heights - layer_height (layer + 1) top 0
 
--- what is left of a way, so many times over: more than all the steps that a write takes at one node, where a posting
--- takes at most so many
+-- what is left of a way, multiplied by more than all the steps that a write takes at one node, if a posting takes at
+-- most `most` steps
 abbrev pub times : ℕ → ℕ → ℕ
 times most left = (most + 64) * left
 
--- WHAT IS LEFT of a put or remove at a stage, at most, where a posting's steps are told
+-- WHAT IS LEFT of a put or remove at a stage, at most, given the steps that are left of a posting
 abbrev pub stage_left : (ArenaView → Posting → ℕ) → ℕ → ArenaView → Way → Stage → ℕ
 stage_left posting_left most a way Seeks = times most (way_left a way.layer way.node.0)
 stage_left posting_left most a way Locked = times most (layer_left way.layer) + (most + 40)
@@ -75,7 +75,7 @@ stage_left posting_left most a way (Posts posting ending) = posting_left a posti
 abbrev pub write_left : (ArenaView → Posting → ℕ) → ℕ → ArenaView → Write → ℕ
 write_left posting_left most a write = stage_left posting_left most a write.way write.stage
 
--- WHAT ELSE IS TRUE of a put or remove that runs alone, where it is told of a posting
+-- WHAT ELSE IS TRUE of a put or remove that runs alone, given what else is true of a posting
 abbrev pub stage_stands : (ArenaView → World → Posting → Type 0) → ArenaView → World → List ℕ → Way → Stage → Type 0
 stage_stands post_stands a w key way Seeks = IsOnThere w key way
 stage_stands post_stands a w key way (Posts posting ending) = post_stands a w posting
@@ -88,7 +88,7 @@ write_stands post_stands a w write = stage_stands post_stands a w write.key writ
 abbrev pub OnlyOwn : ArenaView → World → List ℕ → Type 0
 OnlyOwn a w owns = (number : ℕ) → IsTaken a w number → Among number owns
 
--- what the call didn't own and doesn't own stands where it stood
+-- what the call didn't own and doesn't own has the spot that it had
 abbrev pub KeepsSpots : World → World → List ℕ → List ℕ → Type 0
 KeepsSpots w next owned owns = (number : ℕ) → NotAmong number owned → NotAmong number owns → next.chart number ≡ w.chart number
 
@@ -111,12 +111,12 @@ moves_times most less left h = omega (arith, falls_times most less left h)
 ends_times : (most here there : ℕ) → here ≡ there → times most here < times most there + 2
 ends_times most here there same = let both : times most here ≡ times most there = ap (times most) same in omega (arith, both)
 
--- a node of a layer stands before the head of the layer below
+-- a node of a layer is before the head of the layer below
 before_below : (layer : ℕ) (role : Role) (low : ℕ) → layer ≤ MAX_LAYER → low < 2 ^ 64 → layer_left layer < all_heights - layer_height layer role low
 before_below layer top low deep fits = omega arith
 before_below layer (at_level level) low deep fits = omega arith
 
--- ---- in a world: what is left of a way is told by the spot of its node
+-- ---- in a world: the spot of its node determines what is left of a way
 left_by_spot : (a : ArenaView) (now : ℕ) (w : World) → IsWorld a now w → (key : List ℕ) (way : Way) (there : IsOnThere w key way)
     → way_left a way.layer way.node.0 ≡ all_heights - layer_height way.layer there.role there.low
 left_by_spot a now w world key way there =
@@ -156,7 +156,7 @@ not_only number other apart (later i) = elim i [ ]
 not_none : (number : ℕ) → NotAmong number []
 not_none number i = elim i [ ]
 
--- what is on, where a call knows it as the head of a layer, is on as that
+-- what is on and known to a call as the head of a layer is on as that head
 pub head_place : (w : World) (number : ℕ) (prefix : List ℕ) (standing : Standing) → w.chart number ≡ Some (spot top prefix 0 standing) → (stands : IsOn w.chart number)
     → w.chart number ≡ Some (spot top prefix 0 (on stands.posted))
 head_place w number prefix standing place stands = place ∙ ap (λ (s : Standing). Some (spot top prefix 0 s)) (same top stands.role 0 stands.low standing (on stands.posted) prefix stands.prefix (sym place ∙ stands.place))
@@ -171,7 +171,7 @@ locked_node (Some (Head x)) h = absurd h
 locked_node (Some (Interior x)) h = absurd h
 locked_node (Some (Border x)) h = h
 
--- where a call is on its way, nothing is taken
+-- a call on its way doesn't wait, if nothing is taken
 seeks_waits_not : (a : ArenaView) (now : ℕ) (w : World) (key : List ℕ) (way : Way) → IsWorld a now w → IsOnThere w key way → OnlyOwn a w []
     → StageWaits a way.node.0 Seeks Waits → ⊥
 seeks_waits_not a now w key way world there only (inl marked) = not_marked a now w world way.node.0 (λ taken. not_none way.node.0 (only way.node.0 taken))
@@ -185,7 +185,7 @@ GetsOn Moved = Unit {0}
 GetsOn (Committed number) = Unit {0}
 GetsOn _ = ⊥
 
--- what is told of its posting after a step: where a write that was to end begins to post, and while it posts
+-- what is true of its posting after a step: when a write that was to end begins to post, and while it posts
 abbrev pub PostingGoesOn : (ArenaView → World → Posting → Type 0) → (ArenaView → Posting → ℕ) → ℕ → ArenaView → ArenaView → World → Stage → Stage → Type 0
 PostingGoesOn post_stands posting_left most a after w (Stored commit split) (Posts posting ending) = post_stands after w posting × (posting_left after posting ≤ most)
 PostingGoesOn post_stands posting_left most a after w (Failed refusal split) (Posts posting ending) = post_stands after w posting × (posting_left after posting ≤ most)
@@ -222,7 +222,7 @@ module _ (post_stands : ArenaView → World → Posting → Type 0) (posting_lef
       → Nearer a after next key way stage way new → Nearer a after next key way stage goal new
   stays a after next key way goal stage new same there = subst (λ (g : Way). Nearer a after next key way stage g new) (sym same) there
 
-  -- a step that leads to a stage that is told
+  -- a step that leads to a given stage
   leads : (a after : ArenaView) (next : World) (key : List ℕ) (way goal : Way) (stage new then : Stage) → new ≡ then
       → Nearer a after next key way stage goal then → Nearer a after next key way stage goal new
   leads a after next key way goal stage new then is there = subst (λ (s : Stage). Nearer a after next key way stage goal s) (sym is) there
@@ -306,7 +306,7 @@ module _ (post_stands : ArenaView → World → Posting → Type 0) (posting_lef
     posts_on posting ending new goes is to = leads a after next key way goal (Posts posting ending) new (ending_stage ending None) is
         (stays a after next key way goal (Posts posting ending) (ending_stage ending None) to (posted a after next key way posting ending))
 
-    -- where it moves
+    -- if it moves
     moved : (stage new : Stage) → StageIsTrue C key edit way stage begun a w
         → stage_stands post_stands a w key way stage → KeepsSpots w next (stage_held way.node.0 stage).owns (stage_held goal.node.0 new).owns
         → PostingGoesOn post_stands posting_left most a after next stage new → StageFollows a key way stage goal new → Nearer a after next key way stage goal new
@@ -331,7 +331,7 @@ module _ (post_stands : ArenaView → World → Posting → Type 0) (posting_lef
     moved (Made place stored columns logged) new truth stands spots goes follows = absurd follows
     moved (Taken place stored before) new truth stands spots goes follows = absurd follows
 
-    -- where it moves or commits
+    -- if it moves or commits
     got_on : (stage new : Stage) (p : Progress) → StageIsTrue C key edit way stage begun a w
         → stage_stands post_stands a w key way stage → KeepsSpots w next (stage_held way.node.0 stage).owns (stage_held goal.node.0 new).owns
         → PostingGoesOn post_stands posting_left most a after next stage new → GetsOn p → Follows a key way stage p goal new → Nearer a after next key way stage goal new
@@ -385,7 +385,7 @@ has_key key RemoveEdit = refl
 pub request_key : (one other : List ℕ) (edit then : Edit) → edit_request one edit ≡ edit_request other then → one ≡ other
 request_key one other edit then e = sym (has_key one edit) ∙ ap key_asked e ∙ has_key other then
 
--- the law of a step tells the next world
+-- the law of a step determines the next world
 pub lone_step : (post_stands : ArenaView → World → Posting → Type 0) (posting_left : ArenaView → Posting → ℕ) (most C now begun moves : ℕ) (past : List Arena) (a after : ArenaView) (log left : LogView) (w : World) (write new : Write) (p : Progress)
     → WriteFollows a write p new → GetsOn p → write_request new ≡ write_request write
     → (s : Stepped C now moves past a after log left w (write_request write) (write_held write) p (write_held new) (λ m next. WriteIsTrue C new begun m (arena_seen a ∷ past) after next))

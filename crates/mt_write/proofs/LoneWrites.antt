@@ -136,7 +136,7 @@ module _ (a : ArenaView) (w : World) where
 abbrev pub post_stands : ArenaView → World → Posting → Type 0
 post_stands a w posting = ((number : ℕ) → mark_of (node_at a.nodes number) ≡ true → HasGone w.chart number) × IsUnmarked a posting.head.0 × WalksUnmarked a posting.stage
 
--- a posting that begins takes at most so many steps
+-- the most steps that a posting takes from its begin on
 abbrev pub most_steps : ℕ
 most_steps = 64 * MAX_NODES + 18
 
@@ -150,7 +150,7 @@ module _ (a : ArenaView) (now begun : ℕ) (w : World) (posting : Posting) (worl
   own_unmarked : (number : ℕ) → IsTaken a w number → IsUnmarked a number
   own_unmarked number taken = stage_own_unmarked a w truth.0 begun posting.half posting.low posting.waiting truth.1.border truth.1.waiting posting.stage truth.1.stage number (only number taken)
 
-  -- where all that is taken is its own, what is on isn't marked
+  -- if all that is taken is its own, what is on isn't marked
   on_unmarked : (number : ℕ) → IsOn w.chart number → IsUnmarked a number
   on_unmarked number stands = unless (mark_of (node_at a.nodes number)) (λ marked.
       let free : IsTaken a w number → ⊥ = λ taken. (let clash : false ≡ true = sym (own_unmarked number taken) ∙ marked in cc) in
@@ -247,7 +247,7 @@ module _ (C now begun : ℕ) (a after : ArenaView) (w next : World) (key : List 
       go (Stored commit split) p truth stands gets goes follows = same goes
       go (Failed refusal split) p truth stands gets goes follows = same goes
 
--- what is told of its posting after the step
+-- what is true of its posting after the step
 module _ (now begun : ℕ) (a after : ArenaView) (w next : World) (key : List ℕ) (way goal : Way) (head : NodeNo) (world : IsWorld a now w) (then_world : IsWorld after now next) (before : begun ≤ now)
     (evolves : Evolves 0 w.chart next.chart) (sound : IsArena a) (sound_after : IsArena after) (head_on : HeadIsOn next.chart head.0) (C : ℕ) (edit new_edit : Edit) where
   begins_posting : (half : NodeNo) (posting : Posting) (ending : Ending) → StageIsTrue C key new_edit goal (Posts posting ending) begun after next → OnlyOwn after next (posting_owned posting) → IsNewPosting head half posting

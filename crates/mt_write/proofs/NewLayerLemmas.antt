@@ -1,5 +1,5 @@
 -- The steps of a new layer in a put: its head and root are spared, the root is filled, the head is unlocked, the link is made, and the put
--- goes on there.
+-- continues there.
 use Rattle.std.proofs.Common.{ℕ, zero, suc, ◌≡◌, ◌≢◌, ◌≤◌, ◌<◌, ◌+◌, List, [], ◌∷◌, length, drop, replicate, slice_index_or, Option, Some, None, IsSome, true, false, refl, sym, ap, subst, ◌∙◌, arith, add-one, inl, inr}
 use Rattle.std.specs.Prelude.{IsSomeAnd}
 use Rattle.std.proofs.lemmas.List.Elements.{All-drop, All-replicate}
@@ -204,7 +204,7 @@ module _ (C : ℕ) (a : ArenaView) (log : LogView) (key : List ℕ) (edit : Edit
         });
   }
 
--- the border is unlocked, and the call goes on in the layer, whose head it knows
+-- the border is unlocked, and the call continues in the layer, whose head it knows
 pub goes_below : (C : ℕ) (a : ArenaView) (log : LogView) (key : List ℕ) (edit : Edit) (way : Way) (old_head head : NodeNo) (after : ArenaView) → after ≡ with_border_changed a way.node.0 (λ b. with_lock b false) → KeepsTree a after
     → StepLaw C a after log log (edit_request key edit) (stage_held way.node.0 (Layered head)) Moved (stage_held head.0 Seeks) (λ begun moves past x w. HeadedStage C key edit way old_head (Layered head) begun x w) (λ begun moves past x w. HeadedStage C key edit (way_below way head) head Seeks begun x w)
 goes_below C a log key edit way old_head head after is keeps = record {

@@ -70,7 +70,7 @@ module _ (C : ℕ) (a after : ArenaView) (log left : LogView) (request : Request
         };
   }
 
--- where the call ends nothing is to be true of it then
+-- if the call ends, nothing need be true of it then
 pub headed_end : (C : ℕ) (a after : ArenaView) (log left : LogView) (request : Request) (key : List ℕ) (edit : Edit) (way : Way) (head : NodeNo) (stage : Stage) (held then : Held) (p : Progress) (Then : Truth)
     → StepLaw C a after log left request held p then (λ begun moves past x w. StageIsTrue C key edit way stage begun x w) Then → StepLaw C a after log left request held p then (λ begun moves past x w. HeadedStage C key edit way head stage begun x w) Then
 headed_end C a after log left request key edit way head stage held then p Then law = record { steps = λ now begun moves past w world before truth. law.steps now begun moves past w world before truth.0 }

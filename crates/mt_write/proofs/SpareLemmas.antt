@@ -24,7 +24,7 @@ use Rattle.mt_write.proofs.WorkLemmas.{locked_at_stays}
 pub vacant_border : (a : ArenaView) (n : ℕ) (b : BorderView) → node_at a.nodes n ≡ None → border_at a.nodes n ≡ Some b → ⊥
 vacant_border a n b vacant named = (let clash : ◌≡◌ {A = Option BorderView} None (Some b) = sym (ap (option_and_then border_of) vacant) ∙ named in cc)
 
--- what the call has locked, where a spare was occupied and given back
+-- what the call has locked, after a spare was occupied and given back
 pub has_locked_back : (prefix : List ℕ) (a between after : ArenaView) (w : World) (n : ℕ) (split : Option Halves) (number : ℕ) (node : Node) → node_at a.nodes number ≡ None → Updates a.nodes between.nodes number (Some node) → Updates between.nodes after.nodes number None
     → HasLocked prefix a w n split → HasLocked prefix after w n split
 has_locked_back prefix a between after w n split number node vacant updates back has = record {

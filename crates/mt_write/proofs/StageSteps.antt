@@ -156,7 +156,7 @@ module _ (a : ArenaView) (write : Write) where
       let (less, row) = row_there b.live place e.entry e.stands e.row in
       subst (λ (o : Option BorderView). IsSomeAnd o (λ x. HasRowAt x place)) (sym at.named) (record { within = less; row = row })
 
-  -- the same stage, where the halves are known
+  -- the same stage, if the halves are known
   pub with_halves : (stage : Option Halves → Stage) (split : Option Halves) (halves : Halves) → split ≡ Some halves → MayBeAt a write (stage split) → MayBeAt a write (stage (Some halves))
   with_halves stage split halves is may = subst (λ (s : Option Halves). MayBeAt a write (stage s)) is may
 
@@ -419,7 +419,7 @@ module _ (a after : ArenaView) (write : Write) where
       posts = new;
     }
 
-  -- the same stage, where the halves are known
+  -- the same stage, if the halves are known
   pub of_halves : (stage : Option Halves → Stage) (split : Option Halves) (halves : Halves) (p : Progress) (then : Write) → split ≡ Some halves → TreeStep a after write (stage (Some halves)) p then → TreeStep a after write (stage split) p then
   of_halves stage split halves p then is steps = subst (λ (s : Option Halves). TreeStep a after write (stage s) p then) (sym is) steps
 

@@ -124,7 +124,7 @@ module _ (a after : ArenaView) (w next : World) where
     stage_stays key edit way (Stored number split) same truth = has_locked_stays (prefix_of key way) way.node.0 split same truth
     stage_stays key edit way (Failed refusal split) same truth = (has_locked_stays (prefix_of key way) way.node.0 split same truth.0, truth.1, tells_stays key way refusal split (λ none. same way.node.0 (alone_owned way.node.0 split none)) truth.2)
 
-    -- the law of others' steps: where they leave what a put or remove owns, what is true of it stays true
+    -- the law of others' steps: if they don't change what a put or remove owns, what is true of it stays true
     pub write_stays : (write : Write) → ((number : ℕ) → Among number (write_held write).owns → IsSame a after w next number) → WriteIsTrue C write begun moves past a w → WriteIsTrue C write begun moves (arena_seen a ∷ past) after next
     write_stays write same truth = (stage_stays write.key write.edit write.way write.stage same truth.0, known_kept begun write.head.0 top (prefix_of write.key write.way) 0 w.chart next.chart evolves truth.1)
 

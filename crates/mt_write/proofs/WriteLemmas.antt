@@ -86,7 +86,7 @@ fails_at log _ is = inl refl
 
 -- ---- on its way
 module _ (C : ℕ) (a : ArenaView) (key : List ℕ) (edit : Edit) (way : Way) (log : LogView) where
-  -- the law of a step that stays on its way, where it waits
+  -- the law of a step that stays on its way and waits
   abbrev SeekLaw : Way → Type 0
   SeekLaw next = StepLaw C a a log log (edit_request key edit) (stage_held way.node.0 Seeks) Waits (stage_held next.node.0 Seeks) (λ begun moves past x w. StageIsTrue C key edit way Seeks begun x w) (λ begun moves past x w. StageIsTrue C key edit next Seeks begun x w)
 
@@ -481,7 +481,7 @@ module _ (C : ℕ) (a : ArenaView) (log : LogView) (key : List ℕ) (edit : Edit
   abbrev CommitLaw : ArenaView → LogView → ℕ → Option Halves → Stage → Type 0
   CommitLaw after left number split stage = StepLaw C a after log left (edit_request key edit) (stage_held way.node.0 stage) (Committed number) (stage_held way.node.0 (Stored number split)) (λ begun moves past x w. StageIsTrue C key edit way stage begun x w) (λ begun moves past x w. StageIsTrue C key edit way (Stored number split) begun x w)
 
-  -- another row at the key, or none, in place of what stood there
+  -- another row at the key, or none, instead of what was there
   changes : (after : ArenaView) (before then : Option Row) (place : Place) (number : ℕ) (left : LogView) → AreBytes key → length key ≤ MAX_KEY_BYTES → IsLayerOf key way → RowIs a key before → place ≡ place_of rest
       → ((other : Place) (shown : Row) → Has (arena_seen after) other shown ↔ (((other ≡ under (prefix_of key way) place) × (then ≡ Some shown)) ⊎ (Has (arena_seen a) other shown × (other ≢ under (prefix_of key way) place))))
       → number ≡ newest log + 1 → left ≡ with_delta log (record { number = number; key = key; before = before; after = then })
@@ -496,7 +496,7 @@ module _ (C : ℕ) (a : ArenaView) (log : LogView) (key : List ℕ) (edit : Edit
     logged = appended;
   }
 
-  -- a row is there exactly where it is the new one, or stands elsewhere
+  -- a row is there exactly if it is the new one, or is at another place
   replaced_content : (after : ArenaView) (place : Place) (row : Row)
       → ((other : Place) (shown : Row) → Has (arena_seen after) other shown ↔ (((other ≡ place) × (shown ≡ row)) ⊎ (Has (arena_seen a) other shown × (other ≢ place))))
       → (other : Place) (shown : Row) → Has (arena_seen after) other shown ↔ (((other ≡ place) × (Some row ≡ Some shown)) ⊎ (Has (arena_seen a) other shown × (other ≢ place)))

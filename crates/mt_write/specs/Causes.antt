@@ -101,12 +101,12 @@ abbrev pub IsNotRefused : Progress → Type 0
 IsNotRefused (Refused refusal) = ⊥
 IsNotRefused _ = Unit {0}
 
--- what is to be made ready is refused for a fault, if there is one, and else only for want of memory
+-- what is to be made ready is refused for a fault, if there is one, and otherwise only if out of memory
 abbrev pub ReadyFor : Option Refusal → Result Stage Refusal → Type 0
 ReadyFor None result = MatchResult result IsNotFailed (λ refusal. refusal ≡ NoMemory)
 ReadyFor (Some fault) result = result ≡ Err fault
 
--- a write fails for a fault, if there is one, and else only for want of memory
+-- a write fails for a fault, if there is one, and otherwise only if out of memory
 abbrev pub FailsBy : Option Refusal → Option Halves → Stage → Type 0
 FailsBy None split (Failed refusal halves) = refusal ≡ NoMemory
 FailsBy None split stage = Unit {0}
@@ -128,8 +128,8 @@ EndsWith (EndFailed refusal) (Failed failed split) = failed ≡ refusal
 EndsWith (EndFailed refusal) _ = Unit {0}
 
 -- WHY A PUT OR REMOVE FAILS. It fails only in the step that makes ready at the border that it has locked, or at the
--- half where its key belongs, for a fault there, and for want of memory only where there is none. It is refused only
--- where it had failed, for that.
+-- half to which its key belongs: for a fault there, or, if there is none, only if out of memory. It is refused only if
+-- it had failed, for the same reason.
 abbrev pub StageFails : ArenaView → LogView → List ℕ → Edit → Way → Stage → Progress → Stage → Type 0
 StageFails a log key edit way Locked (Answered answer) new =
     IsSomeAnd (border_at a.nodes way.node.0) (λ b. edit_fault a log edit b (found_for (rest_of key way) b.live) ≡ None)

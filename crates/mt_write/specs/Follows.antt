@@ -29,7 +29,7 @@ use Rattle.mt_commit.specs.Log.{LogView}
 use Rattle.mt_write.specs.Writing.{write_request, ending_stage, MayStage, StageLaw}
 use Rattle.mt_write.specs.Causes.{IsPosting, StageWaits, StageFails}
 
--- it stands at this stage, where it stood
+-- it is at this stage, and at the node at which it was
 abbrev pub StaysAt : Way → Way → Stage → Stage → Type 0
 StaysAt way next new stage = (new ≡ stage) × (next ≡ way)
 
@@ -53,12 +53,12 @@ IsReadyIn halves (Filled place stored logged split) = split ≡ Some halves
 IsReadyIn halves (Failed refusal split) = split ≡ Some halves
 IsReadyIn halves _ = ⊥
 
--- its posting goes on, or has ended
+-- its posting advances, or has ended
 abbrev pub PostsOn : ArenaView → Posting → Ending → Stage → Type 0
 PostsOn a posting ending (Posts then other) = (other ≡ ending) × PostFollows a posting PostMoved then
 PostsOn a posting ending new = new ≡ ending_stage ending None
 
--- where it moves: on its way it goes to the next node, or locks its border; each other stage leads to the next one
+-- if it moves: on its way it goes to the next node, or locks its border; each other stage leads to the next one
 abbrev pub StageFollows : ArenaView → List ℕ → Way → Stage → Way → Stage → Type 0
 StageFollows a key way Seeks next new = StaysAt way next new Locked ⊎ ((new ≡ Seeks) × Visits a key way (To next))
 StageFollows a key way Locked next new = IsMadeReady a way new × (next ≡ way)
@@ -80,30 +80,30 @@ abbrev pub halves_of : Stage → Option Halves
 halves_of (Filled place stored logged split) = split
 halves_of _ = None
 
--- where it waits: on its way it begins again where the node is marked deleted, and stays where the border is locked; or
--- its posting waits
+-- if it waits: on its way it begins again if the node is marked deleted, and stays if the border is locked; or its
+-- posting waits
 abbrev pub StageRests : ArenaView → Way → Stage → Way → Stage → Type 0
 StageRests a way Seeks next new = (new ≡ Seeks)
     × ((IsMarkedAt a way.node.0 × (next ≡ start)) ⊎ (IsLockedAlready a way.node.0 × (next ≡ way)))
 StageRests a way (Posts posting ending) next new = IsPosting ending new × (next ≡ way)
 StageRests a way _ next new = ⊥
 
--- it commits only where all is ready
+-- it commits only if all is ready
 abbrev pub IsReady : Stage → Type 0
 IsReady (Filled place stored logged split) = Unit {0}
 IsReady (Made place stored columns logged) = Unit {0}
 IsReady (Taken place stored before) = Unit {0}
 IsReady _ = ⊥
 
--- it answers where it has locked its border, and there is no row to remove; or when it has stored, and nothing is to be
+-- it answers when it has locked its border and there is no row to remove; or when it has stored, and nothing is to be
 -- posted
 abbrev pub MayAnswer : Stage → Type 0
 MayAnswer Locked = Unit {0}
 MayAnswer (Stored commit split) = split ≡ None
 MayAnswer _ = ⊥
 
--- A STEP VISITS ONE NODE, and leads from stage to stage: where it commits, it is then to unlock; it is refused only where
--- it had failed
+-- A STEP VISITS ONE NODE, and leads from stage to stage: if it commits, it is then to unlock; it is refused only if it
+-- had failed
 abbrev pub Follows : ArenaView → List ℕ → Way → Stage → Progress → Way → Stage → Type 0
 Follows a key way stage Moved next new = StageFollows a key way stage next new
 Follows a key way stage Waits next new = StageRests a way stage next new
@@ -115,14 +115,14 @@ Follows a key way stage (Refused refusal) next new = stage ≡ Failed refusal No
 abbrev pub WriteFollows : ArenaView → WriteView → Progress → WriteView → Type 0
 WriteFollows a write p new = Follows a write.key write.way write.stage p new.way new.stage
 
--- ---- the head of the layer where it is
--- on its way: the same head in the same layer, and else the node to which it goes; where it waits it may begin again
+-- ---- the head of the layer in which it is
+-- on its way: the same head in the same layer, and otherwise the node to which it goes; if it waits, it may begin again
 abbrev pub HeadOnWay : NodeNo → Way → Progress → Way → NodeNo → Type 0
 HeadOnWay head way Waits next then = Unit {0}
 HeadOnWay head way p next then = ((next.layer ≡ way.layer) × (then ≡ head)) ⊎ ((next.layer ≢ way.layer)
     × (then ≡ next.node))
 
--- where it goes into a layer that it has linked it is that layer's head; else it stays
+-- if it goes into a layer that it has linked, it is that layer's head; otherwise it stays the same
 abbrev pub HeadGoes : NodeNo → Way → Stage → Progress → Way → NodeNo → Type 0
 HeadGoes head way Seeks p next then = HeadOnWay head way p next then
 HeadGoes head way (Layered below) p next then = then ≡ below
@@ -154,7 +154,7 @@ PostingGoes a after posting Moved then = PostingSteps a after posting PostMoved 
 PostingGoes a after posting Waits then = PostingSteps a after posting PostAgain then
 PostingGoes a after posting _ then = Unit {0}
 
--- the posting with which it goes on: a new one of its right half, or the one that it had, after a step; or this has
+-- the posting with which it continues: a new one of its right half, or the one that it had, after a step; or this has
 -- ended in the step, posted or left out
 abbrev pub PostsGo : ArenaView → ArenaView → NodeNo → Stage → Progress → Stage → Type 0
 PostsGo a after head (Stored commit (Some split)) p (Posts posting ending) = IsNewPosting head split.half posting

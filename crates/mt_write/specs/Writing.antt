@@ -132,7 +132,7 @@ stage_held number (Failed refusal split) =
 abbrev pub write_held : Write → Held
 write_held write = stage_held write.way.node.0 write.stage
 
--- the call has locked the border of its key, and this is what stands there
+-- the call has locked the border of its key, and this is what is there
 pub record IsLockedAt (a : ArenaView) (key : List ℕ) (way : Way) (b : BorderView) (w : World) : Type 0 where
   pub layer : IsLayerOf key way
   pub named : border_at a.nodes way.node.0 ≡ Some b
@@ -191,12 +191,12 @@ empty_half b middle = new_border b.layer middle.slice true
 abbrev pub upper_half : BorderView → ℕ → Entry → BorderView
 upper_half b cut middle = with_entries (empty_half b middle) (drop cut b.live) b.right
 
--- the half of a border where the key belongs has room, and no entry of the key
+-- the half of a border to which the key belongs has room, and no entry of the key
 pub record IsHalf (key : List ℕ) (way : Way) (b : BorderView) : Type 0 where
   pub room : length b.live < SLOTS
   pub absent : IsAbsent (found_for (rest_of key way) b.live)
 
--- it is a put, and where it asks for a version, this row is of that one
+-- it is a put, and if it asks for a version, this row is of that one
 pub record PutsOver (edit : Edit) (row : Option Row) : Type 0 where
   pub sets : List (ℕ × List ℕ)
   pub only : Option ℕ
@@ -207,7 +207,7 @@ pub record PutsOver (edit : Edit) (row : Option Row) : Type 0 where
 abbrev pub PutsNew : Edit → Type 0
 PutsNew edit = PutsOver edit None
 
--- the entry at a place of the border is of another key that goes on after the same slice
+-- the entry at a place of the border is of another key that continues after the same slice
 pub record IsLayerAt (key : List ℕ) (way : Way) (b : BorderView) (place : ℕ) : Type 0 where
   pub sound : IsBorder b
   pub other : HasOtherSuffix (rest_of key way) b.live place
@@ -220,7 +220,7 @@ moved_entry key way b place at = entry_of_row at.other.suffix at.other.row
 abbrev pub lone_root : ℕ → Entry → BorderView
 lone_root number entry = with_entries (new_border number 0 false) (entry ∷ []) None
 
--- the entry at a place is of a key that goes on after its slice
+-- the entry at a place is of a key that continues after its slice
 abbrev pub HoldsLong : BorderView → ℕ → Type 0
 HoldsLong b place = (slice : ℕ) × (suffix : List ℕ) × (row : Row)
     × (slice_get b.live place ≡ Some (record { slice = slice; content = Long suffix row }))
@@ -319,7 +319,7 @@ pub record FindsVersion (a : ArenaView) (w : World) (key : List ℕ) (way : Way)
   pub sound : IsBorder b
   pub is : version_of (row_found b.live (found_for (rest_of key way) b.live)) ≡ found
 
--- where it is refused for another version, which it isn't once its border is split
+-- if it is refused for another version, its key's row is of that one; it isn't refused so once its border is split
 abbrev pub Tells : ArenaView → World → List ℕ → Way → Refusal → Option Halves → Type 0
 Tells a w key way (OtherVersion found) None = FindsVersion a w key way found
 Tells a w key way refusal split = IsOtherwise refusal

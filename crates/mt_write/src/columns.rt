@@ -11,7 +11,7 @@ use mt_types::refusal::NoMemory;
 use mt_types::row::{Columns, Row, Sets};
 use std::alloc::Global;
 
-/// The columns that a put makes of the row that stands, or of none. Shares the bytes. Costs two allocations.
+/// Returns the columns that a put makes of the row `old`, or of none. Shares the bytes. Costs two allocations.
 pub fn made_columns(
     alloc: Global,
     count: u8,

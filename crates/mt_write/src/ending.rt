@@ -77,7 +77,7 @@ impl Write {
         }
     }
 
-    // Unlocks its border, and answers with its commit; or goes on to post the right half, where its border was split.
+    // Unlocks its border, and answers with its commit; or, if its border was split, begins to post the right half.
     pub(crate) fn end_stored(
         &mut self,
         alloc: Global,

@@ -1,5 +1,5 @@
-//! A new layer, for a key that goes on after a slice that another key has: a head and a border are spared, the border
-//! takes the other key's row, one layer deeper, the head is linked, and the put goes on there.
+//! A new layer, for a key that continues after a slice that another key has: a head and a border are spared, the border
+//! takes the other key's row, one layer deeper, the head is linked, and the put continues there.
 
 ghost use Rattle.std.specs.Prelude.{◌≡◌, ℕ, ◌≤◌, ◌-◌, ◌*◌, List, [], ◌∷◌, length, slice_get, MatchResult, IfOk, IsSomeAnd, Some, None};
 ghost use Rattle.mt_types.specs.declared.event.Request.TheVariants.{Put as PutRequest};
@@ -29,7 +29,7 @@ use mt_types::numbers::NodeNo;
 use mt_types::refusal::{NoMemory, Refusal};
 use std::alloc::Global;
 
-// The entry of the key at a place, which goes on after its slice, one layer deeper, and alone.
+// Returns the entry of the key at a place, which continues after its slice: one layer deeper, and alone.
 fn moved(alloc: Global, border: &Border, place: usize) -> Result<Items<Entry>, NoMemory>
     requires long { HoldsLong border.now place }
     ensures { IfOk result (λ entries. MovesLong border.now place entries) }
@@ -120,7 +120,7 @@ impl Write {
         Progress::Moved
     }
 
-    // Unlocks its border, and goes on in the new layer, at its head.
+    // Unlocks its border, and continues in the new layer, at its head.
     #[inline(never)]
     pub(crate) fn go_below(&mut self, tree: &mut Tree, head: NodeNo) -> Progress
         requires { MayBeAt tree.old self.old (Stage.Layered head) }

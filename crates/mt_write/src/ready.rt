@@ -33,7 +33,7 @@ use mt_types::refusal::{NoMemory, Refusal};
 use mt_types::row::{Columns, Row, Sets};
 use std::alloc::Global;
 
-/// The row that a put is to write: what is set of how many columns, under its key, where its call stands.
+/// The row that a put is to write: what it sets, the number of columns, its key, and the node at which its call is.
 #[derive(Drop)]
 pub struct NewRow<'a> {
     pub columns: u8,
@@ -75,7 +75,7 @@ fn new_entry(alloc: Global, key: &Key, layer: usize, columns: Columns) -> Result
     Ok(Entry::of_row(rest, row)?)
 }
 
-// Writes a new row into the first unused slot. Gives the key and the columns once more, for the log.
+// Writes a new row into the first unused slot. Returns a copy of the key and the columns, for the log.
 fn put_new(alloc: Global, tree: &mut Tree, row: &NewRow<'_>) -> Result<(Key, Columns), NoMemory>
     requires within { 8 * row.now.way.layer ≤ length row.now.key.now - 1 }
     requires room { IsSomeAnd (border_at tree.old.nodes row.now.way.node.0)
@@ -184,7 +184,7 @@ fn make(
     }
 }
 
-// Makes a put ready at the border that its call has locked: its row stands in an unused slot, or its columns are made,
+// Makes a put ready at the border that its call has locked: its row is in an unused slot, or its columns are made,
 // and there is room in the log; or it fails.
 pub fn prepare(alloc: Global, tree: &mut Tree, log: &mut Log, row: &NewRow<'_>) -> Stage
     requires within { 8 * row.now.way.layer ≤ length row.now.key.now - 1 }

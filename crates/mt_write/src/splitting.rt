@@ -1,4 +1,4 @@
-//! The split of a full border: a half is spared, filled and linked, and the new row goes where its key belongs.
+//! The split of a full border: a half is spared, filled and linked, and the new row goes to the half of its key.
 
 ghost use Rattle.std.specs.Prelude.{◌≡◌, ℕ, ◌≤◌, ◌-◌, ◌*◌, length, MatchResult, IsSomeAnd, Some};
 ghost use Rattle.mt_types.specs.declared.event.Request.TheVariants.{Put as PutRequest};
@@ -71,7 +71,7 @@ fn fill_spare(tree: &mut Tree, left: NodeNo, half: NodeNo, entries: Items<Entry>
     tree.fill_border(half, entries, right);
 }
 
-// The half is linked. Gives the half where the key belongs.
+// Links the half. Returns the half to which the key belongs.
 fn link_halves(tree: &mut Tree, way: Way, key: &Key, half: NodeNo, cut: usize) -> Way
     requires within { 8 * way.layer ≤ length key.now - 1 }
     requires upper { IsSomeAnd (border_at tree.old.nodes way.node.0)
@@ -148,7 +148,7 @@ impl Write {
         Progress::Moved
     }
 
-    // The half is linked, and the call stands where its key belongs.
+    // The half is linked, and the call is then at the half to which its key belongs.
     #[inline(never)]
     pub(crate) fn link(&mut self, tree: &mut Tree, half: NodeNo, cut: usize) -> Progress
         requires { MayBeAt tree.old self.old (Stage.HalfFilled half cut) }
@@ -160,7 +160,7 @@ impl Write {
         Progress::Moved
     }
 
-    // The half where its key belongs takes the new row, which isn't shown yet.
+    // The half to which its key belongs takes the new row, which isn't shown yet.
     #[inline(never)]
     pub(crate) fn fill_in_half(
         &mut self,

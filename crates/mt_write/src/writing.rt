@@ -1,4 +1,4 @@
-//! A put or a remove: on its way to its key's border, which it locks, where it makes ready, commits, and unlocks.
+//! A put or a remove: it goes to its key's border, locks it, makes ready there, commits, and unlocks it.
 
 ghost use Rattle.std.specs.Prelude.{◌≡◌, ◌≢◌, ◌⊎◌};
 ghost use Rattle.mt_steps.specs.Step.{StepLaw, MayStep};
@@ -25,7 +25,7 @@ use std::mem;
 /// What a write does to the row of its key.
 #[derive(Drop)]
 pub enum Edit {
-    /// It gives columns new bytes; where `only` is a version, only if the row is of that one (0: there is none).
+    /// It sets columns to new bytes. If `only` is a version, it does so only if the row is of that version (0: no row).
     Put { sets: Sets, only: Option<u64> },
     /// It removes the row.
     Remove,
@@ -73,7 +73,7 @@ pub enum Stage {
         half: NodeNo,
         cut: usize,
     },
-    /// The border is split, and its key belongs to the half where it stands.
+    /// The border is split, and its key belongs to the half at which it is.
     Halved(Halves),
     /// The right half of the border that it has split is posted in the interiors above.
     Posts(Posting, Ending),
@@ -87,7 +87,7 @@ pub enum Stage {
     LayerFilled(Layer),
     /// The layer is to be linked.
     LayerReady(Layer),
-    /// The layer of this head is linked, and the call is to go on there.
+    /// The layer of this head is linked, and the call is to continue there.
     Layered(NodeNo),
     /// Its row is in the first unused slot, to be shown at a place.
     Filled {
@@ -124,12 +124,12 @@ pub struct Write {
     pub key: Key,
     pub edit: Edit,
     pub way: Way,
-    /// The head of the layer where it is.
+    /// The head of the layer in which it is.
     pub head: NodeNo,
     pub stage: Stage,
 }
 
-// The head of the layer where a way leads.
+// Returns the head of the layer to which a way leads.
 fn head_after(head: NodeNo, way: Way, next: Way) -> NodeNo
     ensures { ((next.layer ≡ way.layer) × (result ≡ head)) ⊎ ((next.layer ≢ way.layer) × (result ≡ next.node)) }
 {
@@ -141,7 +141,7 @@ fn head_after(head: NodeNo, way: Way, next: Way) -> NodeNo
 }
 
 impl Write {
-    // Goes to a stage, and drops the one where it was: here alone, as a proof of a drop is long.
+    // Goes to a stage, and drops the one at which it was. Only here, because the proof of a drop is long.
     pub(crate) fn turn_to(&mut self, stage: Stage)
         ensures { self.new ≡ record self.old { stage = stage } }
     {
@@ -176,7 +176,7 @@ impl Write {
         }
     }
 
-    // At its border, which it has locked: makes ready, or ends where there is no row to remove.
+    // At its border, which it has locked: makes ready, or ends if there is no row to remove.
     fn make_ready(&mut self, alloc: Global, columns: u8, tree: &mut Tree, log: &mut Log) -> Progress
         requires { MayStage columns tree.old log.old self.old Stage.Locked }
         ensures { WriteStep columns tree.old tree.new log.old log.new self.old Stage.Locked result self.new }
@@ -243,7 +243,7 @@ impl Write {
         }
     }
 
-    /// Visits one node, as the stage where it is asks, and goes to the next stage.
+    /// Visits one node, as its stage requires, and goes to the next stage.
     pub fn step(&mut self, alloc: Global, columns: u8, tree: &mut Tree, log: &mut Log) -> Progress
         requires { MayStep tree.old log.old (write_held self.old) (WriteIsTrue columns self.old) }
         ensures request { write_request self.new ≡ write_request self.old }

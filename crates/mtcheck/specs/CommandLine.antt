@@ -25,7 +25,7 @@ mtcheck_app = with_rule (new_app (codes "mtcheck")) columns_rule
 abbrev pub SaysNumber : List ℕ → Type 0
 SaysNumber text = IsNumeral 10 (without_leading_plus text) × (digits_value 10 (without_leading_plus text) < 2 ^ 8)
 
--- the number that an option was given, or what stands in its place
+-- the number that an option was given, or the number that is used otherwise
 abbrev pub IsNumber : Option (List ℕ) → ℕ → ℕ → Type 0
 IsNumber None otherwise number = number ≡ otherwise
 IsNumber (Some text) otherwise number = SaysNumber text → number ≡ digits_value 10 (without_leading_plus text)
@@ -43,8 +43,8 @@ abbrev pub status_of : Result ℕ ScriptFault → ℕ
 status_of (Ok status) = status
 status_of (Err fault) = 3
 
--- how an audit ended on an index of so many columns: what was read of the input, which bytes of it the reader still has,
--- and what was written after the old bytes
+-- how an audit of an index of C columns ended: what was read of the input, which bytes of it the reader still has, and
+-- what was written after the old bytes
 abbrev pub Ended : ℕ → Result ℕ ScriptFault → Option (List ℕ) → Option (List ℕ) → Option (List ℕ) → Option (List ℕ) →
     Type 0
 Ended C (Ok status) input unread old new = Audited C input old status new

@@ -73,7 +73,7 @@ fn columns_of(matches: &ArgMatches<'_>) -> u8
     }
 }
 
-// What the command line says, or the text to print in place of a run.
+// What the command line says, or the text to print instead of a run.
 fn columns_given(alloc: Global, words: &[String]) -> Result<u8, Error>
     ensures { IfOk result (λ columns. IsSaid (map string_bytes words.now) columns) }
 {

@@ -24,13 +24,13 @@ use std::thread::{Threads, join, yield_now};
 // How often each reader reads while orders are published.
 const READS: u64 = 10_000;
 
-// What comes of publishing: the publisher, without which nothing can be read, and what it told last.
+// What comes of publishing: the publisher, without which nothing can be read, and its last `Told`.
 type Published<W> = Result<(Publisher<W>, Told), Refusal>;
 
 // What comes of reading: the reader, and how often the count or the sum was less than before.
 type Watched = Result<(ViewReader, u64), Refusal>;
 
-// Publishes what is new in the index, again and again, till nothing is after the last order.
+// Publishes what is new in the index, again and again, until nothing is new after the last order.
 fn publish<R: Wait, W: Wait + Drop>(
     rt: &R,
     alloc: Global,
@@ -99,7 +99,7 @@ fn watch(mut reader: ViewReader) -> Watched
     Ok((reader, falls))
 }
 
-// Shows the day as it is after what was told, or later.
+// Shows the day as it was published when `told` was made, or later.
 fn show(rt: &impl Print, mut reader: ViewReader, told: Told, falls: u64) -> Result<()>
     requires { told_source told ≡ reader_source reader }
 {
@@ -110,7 +110,7 @@ fn show(rt: &impl Print, mut reader: ViewReader, told: Told, falls: u64) -> Resu
     Ok(())
 }
 
-// Publishes while two threads read; then shows what each reader has, once it has learnt what was told last.
+// Publishes while two threads read. Then shows what each reader reads once it has learnt of the last publish.
 fn run_threads<R: Threads + Wait + Sync + Print, W: Wait + Drop + Send>(
     rt: &R,
     alloc: Global,

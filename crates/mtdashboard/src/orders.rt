@@ -24,14 +24,15 @@ const ORDERS: u64 = 1000;
 
 const DAY: &[u8] = b"order/2026-11-25/";
 
-/// The orders of the day, where there are none yet. (Where an index has some, `Door::view_copy` gives them.)
+/// Returns the state of the view of the day's orders, of which there are none yet. (If an index has some,
+/// `Door::view_copy` returns the state.)
 pub(crate) fn no_orders(alloc: Global) -> Result<ViewState, Refusal> {
     let key = Bytes::from_static(DAY);
     let test = RowTest::Any;
     Ok(ViewState::open(alloc, 1, ViewSpec::Prefix { key, test })?)
 }
 
-/// What the orders come to of which a page tells: the sum of column 0.
+/// Returns the sum of column 0 of a page: what its orders come to.
 pub(crate) fn sum_of(page: &Page) -> u128 {
     page.sums.as_slice().first().copied().unwrap_or(0)
 }

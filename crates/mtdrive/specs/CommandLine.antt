@@ -33,7 +33,7 @@ mtdrive_app =
 abbrev pub SaysNumber : List ℕ → Type 0
 SaysNumber text = IsNumeral 10 (without_leading_plus text) × (digits_value 10 (without_leading_plus text) < 2 ^ 64)
 
--- the number that an option was given, or what stands in its place
+-- the number that an option was given, or the number that is used otherwise
 abbrev pub IsNumber : Option (List ℕ) → ℕ → ℕ → Type 0
 IsNumber None otherwise number = number ≡ otherwise
 IsNumber (Some text) otherwise number = SaysNumber text → number ≡ digits_value 10 (without_leading_plus text)
@@ -57,7 +57,7 @@ status_of (Err Read) = 3
 status_of (Err Write) = 3
 status_of (Err NoMemory) = 3
 
--- how a script ended on an index of so many columns that keeps so many commits for nobody: what was read of the input,
+-- how a script ended on an index of C columns that keeps `keep` commits for no reader: what was read of the input,
 -- which bytes of it the reader still has, and what was written after the old bytes
 abbrev pub Ended : ℕ → ℕ → Result ℕ ScriptFault → Option (List ℕ) → Option (List ℕ) → Option (List ℕ) →
     Option (List ℕ) → Type 0

@@ -101,7 +101,7 @@ fn status_of(played: &Result<u64, ScriptFault>) -> u8
     }
 }
 
-// What the command line says, or the text to print in place of a run.
+// What the command line says, or the text to print instead of a run.
 fn options_given(alloc: Global, words: &[String]) -> Result<Options, Error>
     ensures { IfOk result (λ options. AreSaid (map string_bytes words.now) options) }
 {

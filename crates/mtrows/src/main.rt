@@ -1,4 +1,4 @@
-//! Prints the rows that a list of changes gives. The first line of standard input is `columns C`, each other one
+//! Prints the rows that a list of changes makes. The first line of standard input is `columns C`, each other one
 //! `put KEY SETS` or `remove KEY`. A line that says nothing prints `bad line`, and one that breaks a limit `refused N`;
 //! both change nothing. The last line printed is `rows K`, and each row as KEY:VERSION:VALUES.
 #![tactic(auto)]
@@ -17,7 +17,7 @@ use mt_types::limits::{MAX_COLUMNS, request_fault};
 use mt_types::row::Change;
 use std::alloc::Global;
 
-// What a line of input gives.
+// What a line of input says.
 #[derive(Drop)]
 enum Line {
     Says(Change),

@@ -19,7 +19,7 @@ number_rule name least most = record (new_rule name) {
 abbrev pub flag_rule : List ℕ → Rule
 flag_rule name = record (new_rule name) { long = Some name; action = Some SetTrue }
 
--- where the server listens, and what it serves of connections
+-- the options of the server: its port, its workers, and how many connections each of them serves
 abbrev pub with_socket_rules : App → App
 with_socket_rules app =
     with_rule
@@ -46,7 +46,7 @@ mtserve_app =
 abbrev pub SaysNumber : List ℕ → Type 0
 SaysNumber text = IsNumeral 10 (without_leading_plus text) × (digits_value 10 (without_leading_plus text) < 2 ^ 64)
 
--- the number that an option was given, or what stands in its place
+-- the number that an option was given, or the number that is used otherwise
 abbrev pub IsNumber : Option (List ℕ) → ℕ → ℕ → Type 0
 IsNumber None otherwise number = number ≡ otherwise
 IsNumber (Some text) otherwise number = SaysNumber text → number ≡ digits_value 10 (without_leading_plus text)

@@ -57,7 +57,7 @@ fn flag<'a>(alloc: Global, name: &'a str, help: &'a str) -> Arg<'a>
         .help(help)
 }
 
-// Where the server listens, and what it serves of connections.
+// The options of the server: its port, its workers, and how many connections each of them serves.
 fn socket_options<'a>(command: Command<'a>, alloc: Global) -> Result<Command<'a>, AllocError>
     ensures { IfOk result (λ r. app_of r ≡ with_socket_rules (app_of command.entry)) }
 {
@@ -119,7 +119,7 @@ fn settings_of(matches: &ArgMatches<'_>) -> Settings
     }
 }
 
-/// What the words of the command line say, or the text to print in place of a run.
+/// Returns what the words of the command line say, or as an error the text to print instead of a run.
 pub fn settings_given(alloc: Global, words: &[String]) -> Result<Settings, Error>
     ensures { IfOk result (λ settings. AreSaid (map string_bytes words.now) settings) }
 {

@@ -12,8 +12,8 @@ use std::io::ErrorKind;
 use std::process::ExitCode;
 use std::{env, io};
 
-// What the command line asks for; or, where its text was printed in place of a run, the status. A line without any option
-// is a bad one: it says neither how many sessions there are to be nor that they are without end.
+// What the command line asks for, or the status if a text was printed instead of a run. A command line without any
+// option is a bad one: it says neither how many sessions there are to be nor that they are without end.
 fn read_settings(rt: &HostRuntime) -> io::Result<Result<Settings, u8>> {
     let mut words = Vec::new(rt.alloc());
     for word in env::args(rt)? {
@@ -33,7 +33,7 @@ fn read_settings(rt: &HostRuntime) -> io::Result<Result<Settings, u8>> {
     }
 }
 
-// Tells how the serving ended, and gives the status.
+// Prints how the serving ended, and returns the status.
 fn tell(rt: &HostRuntime, served: Result<Totals, ServeError>) -> io::Result<u8> {
     match served {
         Ok(totals) => {

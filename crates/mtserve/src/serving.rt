@@ -102,13 +102,13 @@ fn work<R: Wait + Eprint>(
     Ok(pass)
 }
 
-/// Opens an empty index, and serves it on 127.0.0.1 till each worker has served its connections. Gives how many events
-/// and commits were made.
+/// Opens an empty index, and serves it on 127.0.0.1 until each worker has served its connections. Returns how many
+/// events and commits were made.
 ///
 /// # Errors
 ///
-/// Where listening, accepting, a thread or printing failed; where the index can't be opened so, or its end doesn't add
-/// up.
+/// If listening, accepting, a thread or printing failed; if the index can't be opened with these options; or if the
+/// counts at its end don't add up.
 pub fn serve_all<R>(rt: &R, alloc: Global, settings: Settings) -> Result<Totals, ServeError>
 where
     R: Net<Listener = TcpListener, Stream = TcpStream> + Threads + Wait + Sync + Eprint,

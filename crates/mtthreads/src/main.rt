@@ -52,7 +52,7 @@ fn get_all<R: Wait>(
     let mut versions = Vec::new(alloc);
     for n in 0..KEYS {
         let key = nth_key(alloc, pass, n)?;
-        // where no column is named, all are asked for
+        // if no column is named, all are asked for
         let reply = get(alloc, door, pass, key, Items::new(alloc))?;
         if let Answer::Found(row) = &reply.answer {
             versions.push(row.version)?;

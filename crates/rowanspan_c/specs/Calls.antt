@@ -52,7 +52,7 @@ IsOutside (Begin pass request) = ⊥
 IsOutside (Step call) = ⊥
 IsOutside _ = Unit {0}
 
--- at each history at which the machine stands, it then stands at that history with this event too
+-- at whatever history the machine is before, it is then at that history with this event too
 abbrev pub StandsNext : MachineView → Event → Outcome → MachineView → Type 0
 StandsNext s event outcome t = (h : History) → Stands s h → (opens : ℕ)
     × Stands t (happening event outcome opens ∷ h)

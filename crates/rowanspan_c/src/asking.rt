@@ -1,4 +1,4 @@
-//! What C asks for, as it lends it, and the requests that are made of it.
+//! What C asks for, in bytes that it lends, and the requests that are made from it.
 
 ghost use Rattle.std.specs.Prelude.{◌≡◌, IfOk, Some as SomeOf};
 ghost use Rattle.mt_types.specs.declared.view.ViewSpec.TheVariants.{Range as RangeOf};
@@ -20,8 +20,8 @@ pub struct ColumnSet<'a> {
     pub bytes: &'a [u8],
 }
 
-/// What a view asks of a row: nothing if it is of kind 0; of kind 1 that the column has these bytes; of kind 2 that
-/// its amount is at least this.
+/// The test that a row must pass to be shown by a view. Kind 0: each row passes. Kind 1: a row passes if the column has
+/// exactly these bytes. Kind 2: a row passes if the amount of the column is at least `least`.
 #[repr(C)]
 #[derive(Drop)]
 pub struct ViewTest<'a> {
@@ -39,7 +39,7 @@ pub(crate) enum Asked<'a> {
         key: &'a [u8],
         sets: &'a [ColumnSet<'a>],
     },
-    /// A put over a row of this version only; 0: over none.
+    /// A put that is done only if the row has this version, or, for version 0, if there is no row.
     PutIf {
         key: &'a [u8],
         sets: &'a [ColumnSet<'a>],
@@ -81,7 +81,7 @@ fn sets_of(alloc: Global, from: &[ColumnSet]) -> Result<Sets, NoMemory>
     Ok(Items::from_vec(sets))
 }
 
-// The test of rows that C gives, of a kind up to 2. Copies the bytes.
+// The test that C asks for, if its kind is at most 2. Copies the bytes.
 fn test_of(alloc: Global, test: &ViewTest) -> Result<RowTest, NoMemory>
     ensures { IfOk result (λ made. made ≡ test_of test.now) }
 {
@@ -105,7 +105,7 @@ fn between(alloc: Global, lo: &[u8], hi: &[u8], test: &ViewTest) -> Result<ViewS
 }
 
 impl<'a> Asked<'a> {
-    /// The request. Copies the bytes.
+    /// Returns the request. Copies the bytes.
     pub(crate) fn request(&self, alloc: Global) -> Result<Request, NoMemory>
         ensures { IfOk result (λ request. request ≡ request_of self.now) }
     {

@@ -17,7 +17,8 @@ use mt_types::event::{Event, Outcome, Reply};
 use mt_types::refusal::Refusal;
 use std::alloc::Global;
 
-// A change is made as a call alone. If there is no memory to copy its bytes, a limit that it breaks is still the cause.
+// Makes a change by a call alone. If there is no memory to copy its bytes, it is still refused for a limit that it
+// breaks.
 fn end_of(alloc: Global, index: &mut Machine, asked: &Asked<'_>) -> Result<Reply, Refusal>
     requires { IsIdle index.old }
     ensures ends { EndsAlone index.old (request_of asked.now) result index.new }
@@ -32,7 +33,7 @@ fn end_of(alloc: Global, index: &mut Machine, asked: &Asked<'_>) -> Result<Reply
     }
 }
 
-/// Makes a change, and tells its end.
+/// Makes a change, and reports how it ended.
 pub(crate) fn change(handle: &mut Handle, alloc: Global, asked: &Asked<'_>, told: &mut u64) -> u16
     ensures { Changes handle.old.held (request_of asked.now) handle.new.held result told.new }
 {
@@ -45,7 +46,7 @@ pub(crate) fn change(handle: &mut Handle, alloc: Global, asked: &Asked<'_>, told
     tell_end(ended, told)
 }
 
-/// Answers a question into a buffer. The handle holds what it held.
+/// Answers a question into a buffer. The handle then holds what it held before.
 pub(crate) fn answer(
     handle: &mut Handle,
     alloc: Global,
@@ -65,7 +66,7 @@ pub(crate) fn answer(
     tell_read(read, into, told)
 }
 
-// An event that is no part of a call.
+// Makes an event that is no part of a call.
 fn outcome_of(alloc: Global, index: &mut Machine, event: &Event) -> Outcome
     requires outside { IsOutside event.now }
     requires idle { IsIdle index.old }
@@ -76,7 +77,7 @@ fn outcome_of(alloc: Global, index: &mut Machine, event: &Event) -> Outcome
     index.event(alloc, event)
 }
 
-/// Has an event happen, and tells its outcome.
+/// Makes an event that is no part of a call, and reports its outcome.
 pub(crate) fn meet(handle: &mut Handle, alloc: Global, event: &Event, told: &mut u64) -> u16
     requires { IsOutside event.now }
     ensures { Meets handle.old.held event.now handle.new.held result told.new }

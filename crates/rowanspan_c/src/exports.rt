@@ -1,6 +1,6 @@
-//! What C calls. Each answers a status: 0, the number of a refusal, or one of `status` from 100 on.
+//! The functions that C calls. Each returns a status: 0, the number of a refusal, or one of `status` from 100 on.
 //!
-//! The header, `include/rowanspan.h`, says of each what it does, what it costs and when it is refused.
+//! The header, `include/rowanspan.h`, says what each does, what it costs and when it is refused.
 
 ghost use Rattle.std.specs.Prelude.{◌≡◌, ◌<◌, ◌≤◌, MatchResult, OnOk, Some as SomeOf, None as NoneOf};
 ghost use Rattle.mt_types.specs.declared.event.Request.TheVariants.{Put, PutIf, Remove, Tidy, Build};
@@ -28,7 +28,7 @@ use mt_types::numbers::ViewNo;
 use mt_types::refusal::Refusal;
 use std::alloc::Global;
 
-// The kinds of tests of rows go up to this one.
+// The greatest kind of a test of rows.
 const GREATEST_KIND: u8 = 2;
 
 // ---- the handle
@@ -99,7 +99,7 @@ pub extern "C" fn rowanspan_raw_put<'a>(
     change(handle, alloc, &Asked::Put { key, sets }, told)
 }
 
-/// Sets columns of a key's row if that is of this version.
+/// Sets columns of a key's row if the row has this version.
 #[unsafe(no_mangle)]
 pub extern "C" fn rowanspan_raw_put_if<'a>(
     handle: &mut Handle,
@@ -114,7 +114,7 @@ pub extern "C" fn rowanspan_raw_put_if<'a>(
     change(handle, alloc, &Asked::PutIf { key, sets, version }, told)
 }
 
-/// Ends a key's row.
+/// Removes a key's row.
 #[unsafe(no_mangle)]
 pub extern "C" fn rowanspan_raw_remove(
     handle: &mut Handle,
@@ -140,7 +140,7 @@ pub extern "C" fn rowanspan_raw_tidy(
     change(handle, alloc, &Asked::Tidy { key }, told)
 }
 
-/// The row of a key.
+/// Gets the row of a key.
 #[unsafe(no_mangle)]
 pub extern "C" fn rowanspan_raw_get(
     handle: &mut Handle,
@@ -156,7 +156,7 @@ pub extern "C" fn rowanspan_raw_get(
     answer(handle, alloc, &Question::Row { key, columns }, into, told)
 }
 
-/// The first rows from a key.
+/// Gets the first rows whose keys are at or after a key.
 #[unsafe(no_mangle)]
 pub extern "C" fn rowanspan_raw_range(
     handle: &mut Handle,
@@ -207,7 +207,7 @@ pub extern "C" fn rowanspan_raw_build_prefix<'a>(
     change(handle, alloc, &Asked::BuildPrefix { prefix, test }, told)
 }
 
-/// Builds a view of the keys from `lo`.
+/// Builds a view of the keys at or after `lo`.
 #[unsafe(no_mangle)]
 pub extern "C" fn rowanspan_raw_build_from<'a>(
     handle: &mut Handle,
@@ -228,7 +228,7 @@ pub extern "C" fn rowanspan_raw_build_from<'a>(
     change(handle, alloc, &Asked::BuildFrom { lo, test }, told)
 }
 
-/// Builds a view of the keys from `lo` and before `hi`.
+/// Builds a view of the keys at or after `lo` and before `hi`.
 #[unsafe(no_mangle)]
 pub extern "C" fn rowanspan_raw_build_between<'a>(
     handle: &mut Handle,
@@ -251,7 +251,7 @@ pub extern "C" fn rowanspan_raw_build_between<'a>(
     change(handle, alloc, &Asked::BuildBetween { lo, hi, test }, told)
 }
 
-/// Advances a view by one commit, or if `view` is 0 the view that is furthest behind.
+/// Advances a view by one commit. If `view` is 0, advances the view at the fewest commits.
 #[unsafe(no_mangle)]
 pub extern "C" fn rowanspan_apply(
     handle: &mut Handle,
@@ -264,7 +264,7 @@ pub extern "C" fn rowanspan_apply(
     meet(handle, alloc, &Event::Apply(ViewNo(view)), told)
 }
 
-/// A page of a view.
+/// Reads a page of a view.
 #[unsafe(no_mangle)]
 pub extern "C" fn rowanspan_raw_view(
     handle: &mut Handle,
@@ -309,7 +309,7 @@ pub extern "C" fn rowanspan_drop(
 
 // ---- commits and nodes
 
-/// The deltas of the commits after a number.
+/// Reads the deltas of the commits after a number.
 #[unsafe(no_mangle)]
 pub extern "C" fn rowanspan_raw_feed(
     handle: &mut Handle,
@@ -341,7 +341,7 @@ pub extern "C" fn rowanspan_collect(handle: &mut Handle, alloc: Global, told: &m
     meet(handle, alloc, &Event::Collect, told)
 }
 
-/// How many commits were made.
+/// Reports how many commits were made.
 #[unsafe(no_mangle)]
 pub extern "C" fn rowanspan_commits(handle: &mut Handle, alloc: Global, told: &mut u64) -> u16
     ensures number { Counts handle.old.held (λ index. newest index.log) result told.new }
@@ -356,7 +356,7 @@ pub extern "C" fn rowanspan_commits(handle: &mut Handle, alloc: Global, told: &m
     DONE
 }
 
-/// How many node numbers are occupied.
+/// Reports how many node numbers are occupied.
 #[unsafe(no_mangle)]
 pub extern "C" fn rowanspan_nodes(handle: &mut Handle, alloc: Global, told: &mut u64) -> u16
     ensures number { Counts handle.old.held (λ index. occupied index.tree.nodes) result told.new }
@@ -371,7 +371,7 @@ pub extern "C" fn rowanspan_nodes(handle: &mut Handle, alloc: Global, told: &mut
     DONE
 }
 
-/// How many columns a row has.
+/// Reports how many columns a row has.
 #[unsafe(no_mangle)]
 pub extern "C" fn rowanspan_columns(handle: &mut Handle, alloc: Global, told: &mut u64) -> u16
     ensures number { Counts handle.old.held (λ index. index.columns) result told.new }

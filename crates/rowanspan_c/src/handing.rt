@@ -8,7 +8,7 @@ use mt_types::event::{Answer, Outcome, Reply, TidyRule};
 use mt_types::items::Items;
 use mt_types::refusal::Refusal;
 
-/// Tells a refusal.
+/// Reports a refusal.
 pub(crate) fn tell_refusal(refusal: Refusal, told: &mut u64) -> u16
     ensures { TellsRefusal refusal result told.new }
 {
@@ -63,7 +63,7 @@ fn tell_answer(answer: &Answer, told: &mut u64) -> u16
     }
 }
 
-/// Tells the end of a call.
+/// Reports how a call ended.
 pub(crate) fn tell_end(ended: Result<Reply, Refusal>, told: &mut u64) -> u16
     ensures { TellsEnd ended result told.new }
 {
@@ -73,7 +73,7 @@ pub(crate) fn tell_end(ended: Result<Reply, Refusal>, told: &mut u64) -> u16
     }
 }
 
-/// Tells what came of an event.
+/// Reports the outcome of an event.
 pub(crate) fn tell_outcome(outcome: Outcome, told: &mut u64) -> u16
     ensures { TellsOutcome outcome result told.new }
 {
@@ -121,7 +121,7 @@ fn hand_out(bytes: &[u8], into: &mut [u8], told: &mut u64) -> u16
     DONE
 }
 
-/// Tells what a reader was answered.
+/// Reports the answer to a question.
 pub(crate) fn tell_read(
     read: Result<Option<Items<u8>>, Refusal>,
     into: &mut [u8],

@@ -30,7 +30,7 @@ impl Model for Handle {
 }
 
 impl Handle {
-    // A handle that holds none.
+    // Returns a handle that holds no index.
     fn none(alloc: Global) -> Handle
         ensures { result.held ≡ None }
     {
@@ -41,7 +41,7 @@ impl Handle {
         }
     }
 
-    // A handle that holds what the box held.
+    // Returns a handle that holds the index of the box.
     fn holding(index: Box<Machine>) -> Handle
         requires { is_quiet (Some index.value) ≡ true }
         ensures { result.held ≡ Some index.value }
@@ -54,7 +54,7 @@ impl Handle {
         }
     }
 
-    // Itself, and whether it holds an index.
+    // Returns the handle itself, and whether it holds an index.
     fn tested(self) -> (Handle, bool)
         ensures { (result.0 ≡ self) × (result.1 ≡ self.is_open) }
     {
@@ -62,7 +62,7 @@ impl Handle {
         (self, is_open)
     }
 
-    // The box of an open handle.
+    // Returns the box of a handle that holds an index.
     fn into_box(self) -> Box<Machine>
         requires { self.is_open ≡ true }
         ensures { self.held ≡ Some result.value }
@@ -75,7 +75,7 @@ impl Handle {
         unsafe { Box::from_raw(alloc, at as *mut Machine) }
     }
 
-    /// Takes an index over.
+    /// Puts an index into the handle.
     pub(crate) fn fill(&mut self, index: Box<Machine>)
         requires empty { self.old.held ≡ None }
         requires idle { IsIdle index.value }
@@ -85,7 +85,7 @@ impl Handle {
         let _none = std::mem::replace(self, full);
     }
 
-    /// The index that it holds, if any; then it holds none.
+    /// Takes the index out of the handle, if it holds one. Afterwards it holds none.
     pub(crate) fn take(&mut self, alloc: Global) -> Option<Box<Machine>>
         ensures had { MatchOption result (self.old.held ≡ None) (λ index. self.old.held ≡ Some index.value) }
         ensures idle { IfSome result (λ index. IsIdle index.value) }

@@ -1,6 +1,6 @@
 //! The index for C: one owner of a handle makes one call at a time.
 //!
-//! `include/rowanspan.h` says what each call does, what it costs and what it answers.
+//! `include/rowanspan.h` says what each call does, what it costs and what it returns.
 #![tactic(auto)]
 
 mod asking;

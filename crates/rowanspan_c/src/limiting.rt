@@ -19,14 +19,14 @@ fn key_fault(key: &[u8]) -> Option<Refusal>
     (key.len() > MAX_KEY_BYTES).then_some(Refusal::KeyTooLong)
 }
 
-/// The first limit that a get breaks.
+/// Returns the first limit that a get breaks, if it breaks one.
 pub(crate) fn get_fault(columns: u8, key: &[u8], asked: &[u8]) -> Option<Refusal>
     ensures { result ≡ request_fault columns (Get key.now asked.now) }
 {
     key_fault(key).or_else(|| columns_fault(columns, asked))
 }
 
-/// The first limit that a range breaks.
+/// Returns the first limit that a range breaks, if it breaks one.
 pub(crate) fn range_fault(columns: u8, start: &[u8], limit: u16, asked: &[u8]) -> Option<Refusal>
     ensures { result ≡ request_fault columns (Range start.now limit asked.now) }
 {
@@ -48,7 +48,7 @@ fn names(sets: &[ColumnSet], name: u8) -> bool
     false
 }
 
-// Whether sets name a column that is not below the number of columns, or one twice.
+// Whether the sets name a column that is not less than `columns`, or name one twice.
 fn sets_misname(columns: u8, sets: &[ColumnSet]) -> bool
     ensures { result ≡ misnames columns (map (λ set. set.0) (sets_of sets.now)) }
 {
@@ -134,7 +134,7 @@ fn between_fault(columns: u8, lo: &[u8], hi: &[u8], test: &ViewTest) -> Option<R
 }
 
 impl<'a> Asked<'a> {
-    /// The first limit that it breaks on an index of `columns` columns.
+    /// Returns the first limit that the change breaks on an index of `columns` columns, if it breaks one.
     pub(crate) fn fault(&self, columns: u8) -> Option<Refusal>
         ensures { result ≡ request_fault columns (request_of self.now) }
     {

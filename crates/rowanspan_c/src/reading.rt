@@ -21,15 +21,15 @@ use mt_types::row::ColumnNumbers;
 use mt_types::view::Page;
 use std::alloc::Global;
 
-/// What a reader asks. All bytes are lent.
+/// What a reader asks for. All bytes are lent.
 #[derive(Drop)]
 pub(crate) enum Question<'a> {
-    /// The row of a key, with the columns asked for; none means all.
+    /// The row of a key, with the columns that are asked for, or with all if none is asked for.
     Row {
         key: &'a [u8],
         columns: &'a [u8],
     },
-    /// The first rows from a key.
+    /// The first rows whose keys are at or after a key.
     Rows {
         start: &'a [u8],
         limit: u16,
@@ -49,7 +49,7 @@ pub(crate) enum Question<'a> {
     },
 }
 
-// The key of bytes that are not too many. Copies them.
+// The key of these bytes, which are not too many. Copies them.
 fn key_of(alloc: Global, bytes: &[u8]) -> Result<Key, Refusal>
     requires { key_fault bytes.now ≡ None }
     ensures { MatchResult result (λ key. key ≡ bytes.now) (λ refusal. refusal ≡ Refusal.NoMemory) }
@@ -108,7 +108,7 @@ fn rows(
     Ok(Some(bytes))
 }
 
-// A page by its event.
+// Reads a page, by one event.
 fn page_from(
     alloc: Global,
     index: &mut Machine,
@@ -135,8 +135,8 @@ fn page_from(
     }
 }
 
-// Why a page is refused whose start there was no memory for: its view's cause comes first, and an empty start, which
-// takes no memory, asks for it.
+// Why a page is refused if there was no memory to copy its start. A cause that its view has comes first: it is found by
+// reading a page with an empty start, which needs no copy.
 fn page_cause(alloc: Global, index: &mut Machine, view: ViewNo, floor: u64) -> Refusal
     ensures cause { IsCausedBy (page_refusal index.old view.0 floor [] 1) result }
     ensures kept { index.new ≡ index.old }
@@ -182,7 +182,7 @@ fn deltas(
     Ok(Some(bytes))
 }
 
-/// The answer to a question. Changes nothing.
+/// Returns the answer to a question. Changes nothing.
 pub(crate) fn read(
     alloc: Global,
     index: &mut Machine,

@@ -10,11 +10,11 @@ use mt_types::row::{Column, Delta, Row};
 use mt_types::view::Page;
 use std::alloc::{AllocError, Global};
 
-/// What an answer is made of.
+/// A part of an answer, which can be written as bytes.
 pub(crate) trait Spelled {
     ghost spelling: { Self → List ℕ };
 
-    /// Writes it at the end. On an error some of its bytes may stand there.
+    /// Writes the bytes at the end of `out`. On an error some of them may have been written.
     fn write(&self, out: &mut Vec<u8>) -> Result<(), AllocError>
         ensures { OnOk result (out.new.items ≡ out.old.items ++ spelling self.now) };
 }
@@ -130,7 +130,7 @@ impl Spelled for Page {
     }
 }
 
-/// The bytes of one answer. O(n) in them.
+/// Returns the bytes of one answer. O(n) in these bytes.
 pub(crate) fn bytes_of<T: Spelled>(alloc: Global, answer: &T) -> Result<Items<u8>, AllocError>
     ensures { IfOk result (λ bytes. bytes ≡ T.spelling answer.now) }
 {
@@ -139,7 +139,7 @@ pub(crate) fn bytes_of<T: Spelled>(alloc: Global, answer: &T) -> Result<Items<u8
     Ok(Items::from_vec(out))
 }
 
-/// The bytes of a list of answers. O(n) in them.
+/// Returns the bytes of a list of answers. O(n) in these bytes.
 pub(crate) fn list_bytes_of<T: Spelled>(
     alloc: Global,
     answers: &[T],

@@ -1,4 +1,4 @@
-//! What a call answers: the number of a refusal, or one of these.
+//! The status that a call returns: the number of a refusal, or one of these.
 
 /// The call was done.
 pub const DONE: u16 = 0;

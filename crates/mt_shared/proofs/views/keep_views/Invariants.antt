@@ -2,7 +2,7 @@ use Rattle.std.proofs.Common.{◌≡◌}
 use Rattle.mt_shared.proofs.TurnLemmas.{Turned}
 use Rattle.mt_shared.proofs.views.keep_views.Given as goal
 
--- each turn so far took a view on
+-- each turn so far advanced a view
 abbrev pub invariant-loop : goal.invariant-loop
 invariant-loop g l = record {
   applied : l.applied ≡ l.counter;

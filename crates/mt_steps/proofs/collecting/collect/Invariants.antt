@@ -3,7 +3,7 @@ use Rattle.std.specs.Prelude.{All}
 use Rattle.mt_steps.specs.Collecting.{given_back, CollectLaw}
 use Rattle.mt_steps.proofs.collecting.collect.Given as goal
 
--- the first so many are freed, each of which was retired before the epoch
+-- the first `freed` nodes are freed, each of which was retired before the epoch
 abbrev pub invariant-loop-freed : goal.invariant-loop-freed
 invariant-loop-freed l = record {
   few : l.freed ≤ length l.fn.tree.retired;

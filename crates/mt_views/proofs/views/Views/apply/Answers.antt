@@ -34,13 +34,13 @@ module _ (i : Inside) (number : ℕ) (state new_state : StateView) (views : BTre
         queued = subst (λ (l : Entries). IsQueueOf l queue) (sym entries-are) queued;
       }
 
-  -- where the state is the old one nothing has changed
+  -- if the state is the old one, nothing has changed
   nothing-changed : new_state ≡ state → views_of (record { built = i.built; building = i.building; views = views; queue = queue }) ≡ views_of i
   nothing-changed same =
       ap (λ (l : Entries). record { built = i.built; building = i.building; views = l })
       (entries-are ∙ ap (λ (s : StateView). with_state number s i.views.entries) same ∙ state-itself number 0 i.built state i.views.entries are.rises there)
 
-  -- where it has taken the delta
+  -- if it has taken the delta
   has-taken : (delta : Delta) (old : ViewsView) → views_of i ≡ old → new_state ≡ applied delta state → (other : StateView) → state_at number old.views ≡ Some other
       → views_of (record { built = i.built; building = i.building; views = views; queue = queue }) ≡ record old { views = with_state number (applied delta other) old.views }
   has-taken delta old seen is other at =
@@ -48,7 +48,7 @@ module _ (i : Inside) (number : ℕ) (state new_state : StateView) (views : BTre
       ap (λ (l : Entries). record { built = i.built; building = i.building; views = l }) (entries-are ∙ ap (λ (s : StateView). with_state number s i.views.entries) (is ∙ ap (applied delta) same))
       ∙ ap (λ (v : ViewsView). record v { views = with_state number (applied delta other) v.views }) seen
 
--- where both outcomes say one thing
+-- if both outcomes say one thing
 either_way : {T E P Q G : Type 0} (r : Result T E) → OnOk r P → OnErr r Q → (P → G) → (Q → G) → G
 either_way (Ok x) ok err if_ok if_err = if_ok ok
 either_way (Err x) ok err if_ok if_err = if_err err
@@ -124,7 +124,7 @@ returns-in-Err-clause-err c =
     nothing-changed c.self.inside c.args.number state new_state (c.get_mut.follows.lender new_state) c.remove.new.self c.self.invariant c.in-Some.ensures.value (c.get_mut.follows.holds new_state).0 c.in-Err.ensures.err
     ∙ c.self.view_is
 
--- ---- it is taken on
+-- ---- it advances
 pub invariant_of-self-2 : goal.invariant_of-self-2
 invariant_of-self-2 c =
     let state = c.in-Some.state.now in

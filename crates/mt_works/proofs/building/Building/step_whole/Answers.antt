@@ -1,4 +1,4 @@
--- While it scans, the node where it stands is lent.
+-- While it scans, its node is lent.
 use Rattle.std.proofs.Common.{ℕ, Option, sym, subst}
 use Rattle.mt_works.specs.Building.{WaitsBy, FailsAt}
 use Rattle.mt_works.proofs.BuildingLemmas.{build_node}
