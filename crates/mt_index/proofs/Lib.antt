@@ -2,6 +2,7 @@ pub mod FirstLemmas
 pub mod NumberLemmas
 pub mod LimitedLemmas
 pub mod ListLemmas
+pub mod CountLemmas
 pub mod PairedLemmas
 pub mod OpenLemmas
 pub mod PastLemmas
@@ -19,5 +20,6 @@ pub mod CauseLemmas
 pub mod OneStepLemmas
 pub mod EventLemmas
 pub mod AloneStands
+pub mod QuietStands
 pub mod LawLemmas
 pub mod FeedLemmas

@@ -11,11 +11,16 @@ use Rattle.mt_types.specs.declared.event.Outcome.TheVariants.{Done, Refused}
 use Rattle.mt_promise.specs.History.{History, moment}
 use Rattle.mt_promise.specs.Alone.{RunsThrough, IsTurnedAway, EndsPlainly, EndsRefused}
 use Rattle.mt_arena.specs.Node.{occupied}
+use Rattle.mt_index.specs.Calls.{changing}
 use Rattle.mt_index.specs.Stands.{MachineView, Stands}
 
 -- no call is open
 abbrev pub IsIdle : MachineView → Type 0
 IsIdle s = s.calls.calls ≡ []
+
+-- no put, remove or tidy is open; gets, ranges and builds may be
+abbrev pub IsQuiet : MachineView → Type 0
+IsQuiet s = changing s.calls.calls ≡ 0
 
 -- a call alone is of pass 0, and has the next number
 abbrev pub pass_0 : PassNo

@@ -74,6 +74,15 @@ total number_of (entry ∷ entries) = number_of entry.1 + total number_of entrie
 abbrev pub all_reserved : List (ℕ × Call) → ℕ
 all_reserved calls = total (λ call. (held call.work).reserves) calls
 
+-- a call that changes the tree, as a put, a remove and a tidy do, counts as one; one that reads it alone, as a get, a
+-- range and a build do, as none
+abbrev pub changes : Call → ℕ
+changes call = if reads_log (request_of call.work) then 0 else 1
+
+-- how many of the calls change the tree
+abbrev pub changing : List (ℕ × Call) → ℕ
+changing calls = total changes calls
+
 -- the epochs in which the calls began rise with their numbers, from this one on
 abbrev pub BeganInOrder : ℕ → List (ℕ × Call) → Type 0
 BeganInOrder least [] = Unit {0}

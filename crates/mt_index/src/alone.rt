@@ -1,26 +1,25 @@
 //! Calls alone: from begin to end while no other call is open, with the answers of a plain map.
 
 ghost use Rattle.std.specs.Prelude.{◌≡◌, IfOk, IfErr, MatchOption, Err};
-ghost use Rattle.std.specs.Option.{option_map, option_or};
+ghost use Rattle.std.specs.Option.{option_copied, option_map, option_or};
 ghost use Rattle.std.specs.FinMap.{get};
 ghost use Rattle.mt_types.specs.Rows.{shown};
 ghost use Rattle.mt_types.specs.Limits.{columns_fault, limit_fault};
 ghost use Rattle.mt_promise.specs.History.{History, moment, rows};
 ghost use Rattle.mt_promise.specs.Alone.{IsRangeOfMap};
-ghost use Rattle.mt_index.specs.Alone.{IsIdle, AnswersPlainly, RefusesPlainly};
+ghost use Rattle.mt_index.specs.Alone.{IsIdle, IsQuiet, AnswersPlainly, RefusesPlainly};
 ghost use Rattle.mt_index.specs.Stands.{Stands, HasBounds, fault_of};
 ghost use Rattle.mt_index.specs.Events.{HappensAlone, last_outcome};
 
 use crate::machine::Machine;
 use mt_scan::Scan;
-use mt_steps::finding::Finding;
-use mt_steps::getting::Get;
+use mt_steps::alone::row_of;
 use mt_steps::listing::Listing;
 use mt_steps::ranging::Range;
-use mt_steps::way::START;
 use mt_tree::TOP;
+use mt_types::columns::shown;
 use mt_types::copying::TryCopy;
-use mt_types::event::{Answer, Outcome, Reply, Request};
+use mt_types::event::{Outcome, Reply, Request};
 use mt_types::key::Key;
 use mt_types::limits::{columns_fault, limit_fault};
 use mt_types::numbers::PassNo;
@@ -30,8 +29,21 @@ use mt_works::work::Pace;
 use std::alloc::Global;
 
 impl Machine {
+    /// Returns the row of `key`, borrowed, or `None` if it has none. No put, remove or tidy may be open; gets, ranges and
+    /// builds may be. The result is that of a plain map. Begins no call, and changes nothing.
+    ///
+    /// Costs the visit of each node on the way to the key. Allocates nothing, and copies nothing.
+    pub fn row(&self, key: &Key) -> Option<&Row>
+        requires { IsQuiet self.now }
+        ensures { (h : History) → Stands self.now h
+            → option_copied result ≡ get (rows self.now.columns (moment h)) key.now }
+    {
+        row_of(&self.tree, key)
+    }
+
     /// Returns the row of `key`, with the columns that are asked for, or with all if none is asked for. `None` if the
-    /// key has no row. No call may be open. The result is that of a plain map. Begins no call, and changes nothing.
+    /// key has no row. No put, remove or tidy may be open; gets, ranges and builds may be. The result is that of a plain
+    /// map. Begins no call, and changes nothing.
     ///
     /// Costs the visit of each node on the way to the key. Allocates for the row only, and shares the bytes of its
     /// columns.
@@ -45,7 +57,7 @@ impl Machine {
         key: Key,
         columns: ColumnNumbers,
     ) -> Result<Option<Row>, Refusal>
-        requires { IsIdle self.now }
+        requires { IsQuiet self.now }
         ensures row { IfOk result (λ row. (h : History) → Stands self.now h
             → row ≡ option_map (shown columns) (get (rows self.now.columns (moment h)) key)) }
         ensures fault { MatchOption (columns_fault self.now.columns columns)
@@ -54,22 +66,15 @@ impl Machine {
         if let Some(refusal) = columns_fault(self.columns, columns.as_slice()) {
             return Err(refusal);
         }
-        let call = Get {
-            key,
-            columns,
-            way: START,
-            finding: Finding::Begins,
+        let Some(row) = self.row(&key) else {
+            return Ok(None);
         };
-        match call.run_alone(alloc, &self.tree)? {
-            Answer::Found(row) => Ok(Some(row)),
-            Answer::Absent => Ok(None),
-            _ => unreachable!(),
-        }
+        Ok(Some(shown(alloc, &columns, row)?))
     }
 
     /// Returns the first rows whose keys are at or after `start`, at most `limit`, in the order of keys, each with the
-    /// columns that are asked for, or with all if none is asked for. No call may be open. The result is that of a plain
-    /// map. Begins no call, and changes nothing.
+    /// columns that are asked for, or with all if none is asked for. No put, remove or tidy may be open; gets, ranges
+    /// and builds may be. The result is that of a plain map. Begins no call, and changes nothing.
     ///
     /// Costs the visit of each border that it reads, and of the nodes on the way to it. Allocates for the key and the
     /// row of each pair, and shares the bytes of the columns.
@@ -85,7 +90,7 @@ impl Machine {
         limit: u16,
         columns: ColumnNumbers,
     ) -> Result<Pairs, Refusal>
-        requires { IsIdle self.now }
+        requires { IsQuiet self.now }
         ensures pairs { IfOk result (λ pairs. (h : History) → Stands self.now h
             → IsRangeOfMap (rows self.now.columns (moment h)) columns start limit pairs) }
         ensures fault { MatchOption (option_or (columns_fault self.now.columns columns) (limit_fault limit))

@@ -1,9 +1,9 @@
 //! The open calls, by their numbers.
 
-ghost use Rattle.std.specs.Prelude.{◌≡◌, ◌+◌, ◌-◌, ◌^◌, ◌<◌, ◌++◌, [], ◌∷◌, length, IfOk, OnOk, OnErr, None, Some};
+ghost use Rattle.std.specs.Prelude.{◌≡◌, ◌↔◌, IsTrue, ◌+◌, ◌-◌, ◌^◌, ◌<◌, ◌++◌, [], ◌∷◌, length, IfOk, OnOk, OnErr, None, Some};
 ghost use Rattle.std.specs.Option.{option_copied};
 ghost use Rattle.mt_types.specs.declared.limits.TheConstants.{MAX_OPEN_CALLS};
-ghost use Rattle.mt_index.specs.Calls.{is_of, call_at, pass_at, without, MayStepOf, FindsCall, Finds, IsBuiltCall, oldest_epoch};
+ghost use Rattle.mt_index.specs.Calls.{changes, changing, is_of, call_at, pass_at, without, MayStepOf, FindsCall, Finds, IsBuiltCall, oldest_epoch};
 ghost use Rattle.mt_works.specs.Works.{IsBuiltWork};
 
 use mt_commit::log::Log;
@@ -57,6 +57,8 @@ pub(crate) enum Found {
 #[derive(Drop)]
 pub(crate) struct Calls {
     begun: u64,
+    // How many of the open calls change the tree.
+    writers: usize,
     first: Box<Option<(u64, Call)>>,
     others: BTreeMap<u64, Call>,
 }
@@ -64,9 +66,9 @@ pub(crate) struct Calls {
 impl Model for Calls {
     ghost use Rattle.std.specs.Ordering.{nat_cmp};
     ghost use Rattle.std.specs.BTreeMap.{IsOrdered};
-    ghost use Rattle.std.specs.Prelude.{length, ◌≤◌};
+    ghost use Rattle.std.specs.Prelude.{length, ◌≡◌, ◌≤◌};
     ghost use Rattle.mt_types.specs.declared.limits.TheConstants.{MAX_OPEN_CALLS};
-    ghost use Rattle.mt_index.specs.Calls.{CallsView, AreBegun, with_first};
+    ghost use Rattle.mt_index.specs.Calls.{CallsView, AreBegun, changing, with_first};
     ghost use Rattle.std.specs.Coded.{codes};
     ghost use Rattle.mt_scan.specs.CursorCode.{place_code};
 
@@ -79,7 +81,15 @@ impl Model for Calls {
     ghost view = { λ c. record { begun = c.begun; calls = with_first c.first.value c.others.entries } };
 
     ghost invariant = { λ c. AreBegun c.begun (with_first c.first.value c.others.entries)
-        × (length (with_first c.first.value c.others.entries) ≤ MAX_OPEN_CALLS) };
+        × (length (with_first c.first.value c.others.entries) ≤ MAX_OPEN_CALLS)
+        × (c.writers ≡ changing (with_first c.first.value c.others.entries)) };
+}
+
+// How much a call counts among those that change the tree.
+fn changes(call: &Call) -> usize
+    ensures { result ≡ changes call.now }
+{
+    if call.work.reads_log() { 0 } else { 1 }
 }
 
 // Whether this is the call of this number.
@@ -130,6 +140,7 @@ impl Calls {
         };
         Ok(Calls {
             begun: 0,
+            writers: 0,
             first,
             others: BTreeMap::new(alloc),
         })
@@ -150,6 +161,13 @@ impl Calls {
             Some(_) => self.others.len() + 1,
             None => self.others.len(),
         }
+    }
+
+    /// Returns whether no open call changes the tree. O(1).
+    pub(crate) fn is_quiet(&self) -> bool
+        ensures { IsTrue result ↔ (changing self.now.calls ≡ 0) }
+    {
+        self.writers == 0
     }
 
     /// Returns the epoch in which the oldest open call began, if a call is open.
@@ -196,15 +214,18 @@ impl Calls {
         ensures err { OnErr result (self.new ≡ self.old) }
     {
         let number = self.begun + 1;
+        let more = changes(&call);
         if self.len() == 0 {
             let None = self.first.replace((number, call)) else {
                 unreachable!()
             };
             self.begun = number;
+            self.writers = more;
             return Ok(number);
         }
         self.others.insert(number, call)?;
         self.begun = number;
+        self.writers += more;
         Ok(number)
     }
 
@@ -243,9 +264,12 @@ impl Calls {
     {
         if is_of(&self.first, number) {
             let (_, call) = self.first.take()?;
+            self.writers -= changes(&call);
             return Some(call);
         }
-        self.others.remove(&number)
+        let call = self.others.remove(&number)?;
+        self.writers -= changes(&call);
+        Some(call)
     }
 
     /// Ends the call of this number, if it is open. O(log n) in the open calls; O(1) for `first`.

@@ -6,7 +6,7 @@ ghost use Rattle.mt_types.specs.Limits.{open_fault};
 ghost use Rattle.mt_types.specs.Limited.{OutcomeIsLimited};
 ghost use Rattle.mt_promise.specs.History.{History, happening, moment, call_of};
 ghost use Rattle.mt_arena.specs.Node.{occupied};
-ghost use Rattle.mt_index.specs.Alone.{IsIdle};
+ghost use Rattle.mt_index.specs.Alone.{IsIdle, IsQuiet};
 ghost use Rattle.mt_index.specs.Causes.{IsCaused};
 ghost use Rattle.mt_index.specs.OneStep.{IsOneStep};
 ghost use Rattle.mt_commit.specs.Logged.{deltas_of};
@@ -179,6 +179,13 @@ impl Machine {
         ensures stands { (h : History) × Stands self.now h }
     {
         self.calls.len() == 0
+    }
+
+    /// Returns whether no put, remove or tidy is open. Gets, ranges and builds may be. O(1).
+    pub fn is_quiet(&self) -> bool
+        ensures { IsTrue result ↔ IsQuiet self.now }
+    {
+        self.calls.is_quiet()
     }
 
     /// Makes one event, and returns its outcome. Whichever history the machine is at, it is then at that history with

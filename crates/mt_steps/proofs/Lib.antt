@@ -15,6 +15,7 @@ pub mod RangeLemmas
 pub mod LoneLemmas
 pub mod LoneWay
 pub mod LoneReads
+pub mod LoneRow
 pub mod LoneRange
 pub mod PartLemmas
 pub mod StandLemmas

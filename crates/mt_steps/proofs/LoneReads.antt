@@ -1,26 +1,19 @@
--- Gets and ranges that run alone: what their loops keep.
-use Rattle.std.proofs.Common.{ℕ, suc, ◌≡◌, ◌<◌, ◌≤◌, ◌+◌, List, [], ◌∷◌, length, None, refl, sym, ap, subst, ◌∙◌, arith}
+-- Ranges that run alone: what their loop keeps.
+use Rattle.std.proofs.Common.{ℕ, ◌≡◌, ◌<◌, ◌+◌, List, [], ◌∷◌, None, refl, sym, ap, subst, ◌∙◌, arith}
 use Rattle.mt_types.specs.declared.event.Request.{Request}
 use Rattle.mt_types.specs.declared.event.Answer.{Answer}
-use Rattle.mt_types.specs.declared.event.Request.TheVariants.{Get as GetRequest, Range as RangeRequest}
+use Rattle.mt_types.specs.declared.event.Request.TheVariants.{Range as RangeRequest}
 use Rattle.mt_types.specs.declared.event.Answer.TheVariants.{Absent, Found, Stored, Removed, Rows, Tidied, Built}
-use Rattle.mt_types.specs.declared.limits.TheConstants.{MAX_KEY_BYTES}
 use Rattle.mt_types.specs.Rows.{shown}
 use Rattle.mt_slice.specs.Place.{AreBytes, place_of, first_slice}
 use Rattle.mt_commit.specs.Log.{LogView}
 use Rattle.mt_arena.specs.Arena.{ArenaView}
-use Rattle.mt_chart.specs.Walk.{Trail, moves as trail_moves}
 use Rattle.mt_tree.specs.Seen.{arena_seen}
-use Rattle.mt_steps.specs.declared.way.Way.{Way}
-use Rattle.mt_steps.specs.declared.getting.Get.{Get}
 use Rattle.mt_steps.specs.declared.progress.Progress.{Progress}
 use Rattle.mt_steps.specs.declared.progress.Progress.TheVariants.{Moved, Waits, Committed, Answered}
-use Rattle.mt_steps.specs.Way.{prefix_of, IsOnWay, start}
+use Rattle.mt_steps.specs.Way.{start}
 use Rattle.mt_steps.specs.Step.{StepLaw, MayStep, nothing, IsRight, Does}
 use Rattle.mt_steps.specs.Causes.{ReadWaits}
-use Rattle.mt_steps.specs.Getting.{get_request, GetIsTrue, FindingIsTrue, MovesOn, GetVisits}
-use Rattle.mt_steps.specs.declared.finding.Finding.{Finding}
-use Rattle.mt_steps.specs.declared.finding.Finding.TheVariants.{Begins}
 use Rattle.mt_chart.specs.Tree.{Arena, first, later}
 use Rattle.mt_chart.specs.Scan.{OpenRange}
 use Rattle.mt_chart.specs.ScanRun.{Stood, AllHave}
@@ -35,98 +28,11 @@ use Rattle.mt_steps.specs.declared.ranging.Range.{Range}
 use Rattle.mt_steps.specs.Ranging.{range_request, RangeIsTrue, RangeFollows, RangeStays}
 use Rattle.mt_steps.specs.Lone.{IsLoneTree, IsRightNow, IsAtBegin, HasRows}
 use Rattle.mt_steps.proofs.LoneRange.{ScanStands, range_stands, range_left, range_begins, lone_range_waits_not, lone_range_nearer}
-use Rattle.mt_steps.proofs.FrameLemmas.{trail_begins}
-use Rattle.mt_steps.proofs.WayLemmas.{starts}
-use Rattle.mt_steps.proofs.LoneWay.{way_left, IsOnThere, way_moves, not_marked, starts_on}
 
 -- any log: a read has nothing to do with it
 pub some_log : LogView
 some_log = record { feed = 0; keep = 0; held_after = 0; deltas = []; holders = []; reserved = 0 }
 
--- a get alone on its way
-pub record IsGetOnWay (a : ArenaView) (begun get : Get) : Type 0 where
-  pub lone : IsLoneTree a
-  pub bytes : AreBytes get.key
-  pub fits : length get.key ≤ MAX_KEY_BYTES
-  pub same : get_request get ≡ get_request begun
-  pub moves : ℕ
-  pub begins : get.finding ≡ Begins
-  pub true : GetIsTrue get 0 moves [] a lone.w
-  pub there : IsOnThere lone.w get.key get.way
-
-pub get_begins : (a : ArenaView) (get : Get) → IsLoneTree a → AreBytes get.key → length get.key ≤ MAX_KEY_BYTES
-    → (get.way ≡ start) × (get.finding ≡ Begins) → IsGetOnWay a get get
-get_begins a get lone bytes fits (at_start, begins) = record {
-  lone = lone;
-  bytes = bytes;
-  fits = fits;
-  same = refl;
-  moves = 0;
-  begins = begins;
-  true = subst (λ (f : Finding). FindingIsTrue get.key get.columns get.way f 0 (arena_seen a ∷ []) a lone.w × MovesOn 0 0 get.way f lone.w) (sym begins)
-      (subst (λ (way : Way). IsOnWay 0 get.key way lone.w × MovesOn 0 0 way Begins lone.w) (sym at_start)
-      (on, record { came = 0; trail = trail_begins lone.w.chart 0 0 _ _ on.held; few = omega arith }));
-  there = subst (λ (way : Way). IsOnThere lone.w get.key way) (sym at_start) (starts_on a lone.now lone.w get.key lone.world);
-}
-  where
-    on : IsOnWay 0 get.key (record { node = record { 0 = 0 }; layer = 0 }) lone.w
-    on = starts a lone.now lone.w 0 get.key lone.world
-
-pub get_may_step : (a : ArenaView) (begun get : Get) → IsGetOnWay a begun get → (log : LogView) × MayStep a log nothing (GetIsTrue get)
-get_may_step a begun get on = (
-  some_log,
-  record { now = on.lone.now; begun = 0; moves = on.moves; past = []; w = on.lone.w; world = on.lone.world; true = on.true; room = omega arith },
-)
-
-key_same : (one other : List ℕ) (columns asked : List ℕ) → GetRequest one columns ≡ GetRequest other asked → one ≡ other
-key_same one other columns asked e = cc
-
-pub get_goes : (a : ArenaView) (begun get new : Get) → IsGetOnWay a begun get → get_request new ≡ get_request get → GetVisits a get Moved new
-    → IsGetOnWay a begun new × (way_left a new.way.layer new.way.node.0 < way_left a get.way.layer get.way.node.0)
-get_goes a begun get new on request (visits, finding) =
-    let w = on.lone.w in
-    let (on_way, moved) = subst (λ (f : Finding). FindingIsTrue get.key get.columns get.way f 0 (arena_seen a ∷ []) a w × MovesOn 0 on.moves get.way f w) on.begins on.true in
-    let (further, move, deeper) = visits.goes on.lone.now w 0 on.lone.world on_way in
-    let trail : Trail 0 w.chart new.way.node.0 (suc moved.came) = trail_moves (arena_seen a) on.lone.world.index.tree moved.trail move in
-    let (there, falls) = way_moves a on.lone.now 0 w get.key get.way new.way on.lone.world on.bytes on.fits on_way on.there (further, move, deeper) in
-    let same = sym (key_same new.key get.key new.columns get.columns request) in
-    let most = moved.few in (
-      record {
-        lone = on.lone;
-        bytes = subst AreBytes same on.bytes;
-        fits = subst (λ (k : List ℕ). length k ≤ MAX_KEY_BYTES) same on.fits;
-        same = request ∙ on.same;
-        moves = suc on.moves;
-        begins = finding;
-        true = subst (λ (f : Finding). FindingIsTrue new.key new.columns new.way f 0 (arena_seen a ∷ []) a w × MovesOn 0 (suc on.moves) new.way f w) (sym finding)
-            (subst (λ (k : List ℕ). IsOnWay 0 k new.way w) same further, record { came = suc moved.came; trail = trail; few = omega (arith, most) });
-        there = subst (λ (k : List ℕ). IsOnThere w k new.way) same there;
-      },
-      falls,
-    )
-
--- what a step says, of the tree as it is
-pub get_said : (a : ArenaView) (begun get new : Get) (p : Progress) → IsGetOnWay a begun get
-    → ((C : ℕ) (log : LogView) → StepLaw C a a log log (get_request get) nothing p nothing (GetIsTrue get) (GetIsTrue new))
-    → Does 0 [] a a some_log some_log (get_request get) None p None
-get_said a begun get new p on law = ((law 0 some_log).steps on.lone.now 0 on.moves [] on.lone.w on.lone.world (omega arith) on.true).does
-
-pub get_answer : (a : ArenaView) (begun get new : Get) (answer : Answer) → IsGetOnWay a begun get
-    → ((C : ℕ) (log : LogView) → StepLaw C a a log log (get_request get) nothing (Answered answer) nothing (GetIsTrue get) (GetIsTrue new))
-    → IsRightNow a (get_request begun) answer
-get_answer a begun get new answer on law =
-    subst (λ (r : Request). IsRight [] a r None answer) on.same (get_said a begun get new (Answered answer) on law).1
-
--- it neither waits nor commits
-pub get_waits_not : (a : ArenaView) (begun get : Get) → IsGetOnWay a begun get → ReadWaits a get.way.node.0 Waits → ⊥
-get_waits_not a begun get on marked = not_marked a on.lone.now on.lone.w on.lone.world get.way.node.0 (on.lone.free get.way.node.0)
-    (record { role = on.there.role; prefix = prefix_of get.key get.way; low = on.there.low; posted = on.there.posted; place = on.there.place }) marked
-
-pub get_commits_not : (a : ArenaView) (begun get new : Get) (number : ℕ) → IsGetOnWay a begun get
-    → ((C : ℕ) (log : LogView) → StepLaw C a a log log (get_request get) nothing (Committed number) nothing (GetIsTrue get) (GetIsTrue new)) → ⊥
-get_commits_not a begun get new number on law = (get_said a begun get new (Committed number) on law).0
-
--- ---- a range
 -- a range alone, in one world
 pub record IsRangeOnWay (a : ArenaView) (begun range : Range) : Type 0 where
   pub lone : IsLoneTree a

@@ -1,44 +1,112 @@
-//! Gets and ranges that run alone, from begin to end.
+//! Reads of a tree that no change is under way in: the row of a key, and ranges from begin to end.
 
-ghost use Rattle.std.specs.Prelude.{◌≡◌, IfOk};
+ghost use Rattle.std.specs.Prelude.{◌≡◌, ◌≤◌, ◌≢◌, true, Err, IfOk, IfErr};
+ghost use Rattle.std.specs.Option.{option_copied};
+ghost use Rattle.mt_types.specs.declared.limits.TheConstants.{MAX_KEY_BYTES};
+ghost use Rattle.mt_slice.specs.Place.{AreBytes};
+ghost use Rattle.mt_border.specs.Order.{IsBorder};
+ghost use Rattle.mt_tree.specs.Descent.{is_marked, visit_border, found_for, row_found};
+ghost use Rattle.mt_arena.specs.Arena.{ArenaView};
+ghost use Rattle.mt_steps.specs.Step.{RowIs};
 ghost use Rattle.mt_steps.specs.Getting.{get_request};
-ghost use Rattle.mt_steps.specs.Way.{start};
+ghost use Rattle.mt_steps.specs.Way.{start, Names, MayGoAt, Visits, went_by};
 ghost use Rattle.mt_types.specs.declared.event.Answer.TheVariants.{Rows};
 ghost use Rattle.mt_steps.specs.Ranging.{range_request};
-ghost use Rattle.mt_steps.specs.Lone.{IsLoneTree, IsRightNow, IsAtBegin, HasRows};
+ghost use Rattle.mt_steps.specs.Lone.{EndsAt, IsLoneTree, IsRightNow, IsAtBegin, HasRows};
 
 use crate::finding::Finding;
-use crate::getting::Get;
+use crate::getting::{Get, row_at};
 use crate::progress::Progress;
 use crate::ranging::Range;
-use crate::way::rest_of;
-use mt_tree::Tree;
+use crate::way::{START, Way, Went, rest_of};
+use mt_arena::Node;
+use mt_border::{Border, Found};
+use mt_slice::slice_of;
+use mt_tree::{Tree, Visit, find};
 use mt_types::event::Answer;
+use mt_types::key::Key;
 use mt_types::refusal::NoMemory;
-use mt_types::row::Pairs;
+use mt_types::row::{Pairs, Row};
 use std::alloc::Global;
 
-impl Get {
-    /// Runs it from its begin to its end on a tree on which nothing else is under way. It visits the nodes on the way
-    /// to its key, each once. Takes memory for its answer alone, and shares the bytes.
-    ///
-    /// # Errors
-    ///
-    /// `NoMemory` if an allocation is refused.
-    pub fn run_alone(self, alloc: Global, tree: &Tree) -> Result<Answer, NoMemory>
-        requires lone { IsLoneTree tree.now }
-        requires begins { (self.way ≡ start) × (self.finding ≡ Finding.Begins) }
-        ensures { IfOk result (λ answer. IsRightNow tree.now (get_request self) answer) }
-    {
-        let _bytes = rest_of(&self.key, 0);
-        let mut get = self;
-        loop {
-            match get.step_whole(alloc, tree) {
-                Progress::Moved => {}
-                Progress::Answered(answer) => return Ok(answer),
-                Progress::Refused(_) => return Err(NoMemory),
-                Progress::Waits | Progress::Committed(_) => unreachable!(),
-            }
+// Returns what a border has for a key of which `rest` is left, if the key's way ends in it: the row, or none. Otherwise
+// returns where the way leads. Searches the border once.
+fn look_in<'t>(border: &'t Border, rest: &[u8]) -> Result<Option<&'t Row>, Visit>
+    ensures ends { IfOk result (λ row. (visit_border rest.now border.now ≡ Visit.Here)
+        × (option_copied row ≡ row_found border.now.live (found_for rest.now border.now.live))) }
+    ensures leads { IfErr result (λ visit. visit ≡ visit_border rest.now border.now) }
+    ensures on { IfErr result (λ visit. visit ≢ Visit.Here) }
+    ensures again { result ≡ Err Visit.Again → border.now.version.deleted ≡ true }
+    ensures sound { IsBorder border.now }
+{
+    if border.is_deleted() {
+        return Err(Visit::Again);
+    }
+    let (slice, _) = slice_of(rest);
+    if let Some(right) = border.right_for(slice) {
+        return Err(Visit::To(right));
+    }
+    match find(border, rest) {
+        Found::Link(_, head) => Err(Visit::Below(head)),
+        Found::Row(place) => Ok(Some(row_at(border, place))),
+        Found::Absent(_) | Found::OtherSuffix(_) => Ok(None),
+    }
+}
+
+// Returns where a visit leads from a place on a way.
+fn led(way: Way, visit: Visit) -> Went
+    requires { way.layer ≤ MAX_KEY_BYTES }
+    ensures { result ≡ went_by way visit }
+{
+    match visit {
+        Visit::Again => Went::Again,
+        Visit::To(node) => Went::To(Way {
+            node,
+            layer: way.layer,
+        }),
+        Visit::Below(node) => Went::To(Way {
+            node,
+            layer: way.layer + 1,
+        }),
+        Visit::Here => Went::Here,
+    }
+}
+
+// Returns what a search for a key's row finds at a node of its way: the row or none if the way ends there, otherwise
+// where the way leads.
+fn look<'t>(node: &'t Node, key: &Key, way: Way) -> Result<Option<&'t Row>, Went>
+    requires { MayGoAt key.now way node.now }
+    ensures ends { IfOk result (λ row. (a : ArenaView) → Names a way.node.0 node.now → EndsAt a key.now way
+        (option_copied row)) }
+    ensures leads { IfErr result (λ went. (a : ArenaView) → Names a way.node.0 node.now → Visits a key.now way went) }
+    ensures on { IfErr result (λ went. went ≢ Went.Here) }
+    ensures again { result ≡ Err Went.Again → is_marked node.now ≡ true }
+{
+    let Node::Border(border) = node else {
+        return Err(way.visit_node(node, key));
+    };
+    match look_in(border, rest_of(key, way.layer)) {
+        Ok(row) => Ok(row),
+        Err(visit) => Err(led(way, visit)),
+    }
+}
+
+/// Returns the row of `key`, borrowed of a tree in which no change is under way, or `None` if it has none.
+///
+/// Costs the visit of each node on the way to the key. Allocates nothing, and copies nothing.
+pub fn row_of<'t>(tree: &'t Tree, key: &Key) -> Option<&'t Row>
+    requires { IsLoneTree tree.now }
+    ensures row { RowIs tree.now key.now (option_copied result) }
+    ensures bytes { AreBytes key.now }
+{
+    let _bytes = rest_of(key, 0);
+    let mut way = START;
+    loop {
+        match look(tree.node(way.node), key, way) {
+            Ok(row) => return row,
+            Err(Went::To(next)) => way = next,
+            Err(Went::Again) => unreachable!(),
+            Err(Went::Here) => unreachable!(),
         }
     }
 }

@@ -3,17 +3,18 @@ use Rattle.mt_types.specs.declared.event.Answer.TheVariants.{Rows as RowsAnswer}
 use Rattle.mt_types.specs.declared.event.Request.TheVariants.{Range as RangeRequest}
 use Rattle.mt_arena.specs.Arena.{ArenaView}
 use Rattle.mt_steps.specs.Lone.{IsRightNow}
-use Rattle.mt_index.specs.Alone.{IsIdle}
+use Rattle.mt_index.specs.Alone.{IsQuiet}
 use Rattle.mt_index.specs.Stands.{MachineView}
 use Rattle.mt_index.proofs.LaterStands.{seen}
-use Rattle.mt_index.proofs.AloneStands.{lone_tree, read_range}
+use Rattle.mt_index.proofs.AloneStands.{read_range}
+use Rattle.mt_index.proofs.QuietStands.{quiet_tree}
 use Rattle.mt_index.proofs.machine.Machine.range.Goals as goal
 
 pub run_alone-requires-clause-lone : goal.run_alone-requires-clause-lone
 run_alone-requires-clause-lone c =
     let (h, st) = c.self.invariant in
-    lone_tree (seen c.self.inside.columns c.self.inside.epoch c.self.inside.tree c.self.inside.log c.self.inside.calls c.self.inside.views) h st
-    (subst (λ (m : MachineView). IsIdle m) (sym c.self.view_is) c.requires)
+    quiet_tree (seen c.self.inside.columns c.self.inside.epoch c.self.inside.tree c.self.inside.log c.self.inside.calls c.self.inside.views) h st
+    (subst (λ (m : MachineView). IsQuiet m) (sym c.self.view_is) c.requires)
 
 pub returns-clause-pairs : goal.returns-clause-pairs
 returns-clause-pairs c = λ h st.
