@@ -44,7 +44,7 @@ use Rattle.mt_shared.proofs.HappeningLemmas.{event_grows, event_shows}
 use Rattle.mt_index.specs.Events.{AllHappen, Happens}
 use Rattle.mt_index.proofs.EventLemmas.{all-more}
 use Rattle.mt_serve.specs.Store.{Store, Leads, ComesTo, EndsBy, MayLack, call_events, fault}
-use Rattle.mt_serve.specs.Plain.{IsAlone, CallEnds, CallIsDone, GivesNext, IsTurnedAway, IsGivenUp, store_of}
+use Rattle.mt_serve.specs.Plain.{IsAlone, CallRuns, CallIsDone, GivesNext, IsTurnedAway, IsGivenUp, store_of}
 use Rattle.mt_serve.proofs.CauseLemmas.{any_cause, begin_plainly}
 use Rattle.mt_serve.proofs.StageLemmas.{IsWriting}
 use Rattle.mt_serve.proofs.CallLemmas.{Cause, CallSays, Only, only_one, says_on, says_begun, refused_says}
@@ -511,7 +511,7 @@ last_step s t q request pass call last few w =
     }
 
 pub drive_ends : (s t : KeptView) (p q : PassView) (h : History) (request : Request) (result : Result Reply Refusal) → IsAlone s p h → t.events < greatest_number → IsDrive Does s p request result t q
-    → (final : History) × IsAlone t q final × (t.machine.columns ≡ s.machine.columns) × CallEnds (store_of s h) request result (store_of t final)
+    → (final : History) × IsAlone t q final × (t.machine.columns ≡ s.machine.columns) × CallRuns (store_of s h) request result (store_of t final)
 drive_ends s t p q h request (Ok reply) a few d =
     let w = whole_run s t p q h request reply.call d.driven.steps (Done reply) a few d.driven.are_steps d.driven.runs in
     let l = last_step (store_of s h) t q request p.number reply.call (Done reply) few w in
@@ -586,7 +586,7 @@ drive_ends s t p q h request (Err refusal) a few d = elim d.refused [
         omega (arith, from, seen, stale)
 
     refused_end : (c : CallNo) → IsWhole (store_of s h) request p.number c (entry p.number (Step c) (Refused refusal)) t q
-        → (final : History) × IsAlone t q final × (t.machine.columns ≡ s.machine.columns) × CallEnds (store_of s h) request (Err refusal) (store_of t final)
+        → (final : History) × IsAlone t q final × (t.machine.columns ≡ s.machine.columns) × CallRuns (store_of s h) request (Err refusal) (store_of t final)
     refused_end c w =
         let l = last_step (store_of s h) t q request p.number c (Refused refusal) few w in
         let nothing = lone_refusals_do_nothing s.machine.columns request c refusal l.went.note h l.at.past l.at.way.run l.legal in
@@ -617,10 +617,10 @@ drive_ends s t p q h request (Err refusal) a few d = elim d.refused [
         )
 
     by_last : (c : CallNo) (last : Outcome) → EndsIn refusal p.seen last → IsWhole (store_of s h) request p.number c (entry p.number (Step c) last) t q
-        → (final : History) × IsAlone t q final × (t.machine.columns ≡ s.machine.columns) × CallEnds (store_of s h) request (Err refusal) (store_of t final)
+        → (final : History) × IsAlone t q final × (t.machine.columns ≡ s.machine.columns) × CallRuns (store_of s h) request (Err refusal) (store_of t final)
     by_last c (Refused cause) ends w = refused_end c (subst (λ (x : Refusal). IsWhole (store_of s h) request p.number c (entry p.number (Step c) (Refused x)) t q) ends w)
     by_last c (Done reply) ends w = absurd (none_stale reply c ends.0 w)
     by_last c _ ends w = absurd ends
 
-    cut_ends : IsCut Does s p request refusal t q → (final : History) × IsAlone t q final × (t.machine.columns ≡ s.machine.columns) × CallEnds (store_of s h) request (Err refusal) (store_of t final)
+    cut_ends : IsCut Does s p request refusal t q → (final : History) × IsAlone t q final × (t.machine.columns ≡ s.machine.columns) × CallRuns (store_of s h) request (Err refusal) (store_of t final)
     cut_ends cut = by_last cut.call cut.last cut.ends (whole_run s t p q h request cut.call cut.steps cut.last a few cut.are_steps cut.runs)

@@ -1,13 +1,15 @@
 -- What a store answers that is short of nothing, and that there is one such answer.
 use Rattle.std.proofs.Common.{ℕ, ◌≡◌, ◌<◌, ◌≤◌, ◌⊎◌, Bool, true, false, inl, inr, List, [], ◌∷◌, ◌++◌, length, Option, Some, None, refl, sym, ap, subst, ◌∙◌, arith, length-append}
-use Rattle.std.specs.Prelude.{◌+◌, ◌-◌, ◌==◌, ◌≢◌, nat_lt, MatchBool, MatchOption, IsSome, min, map, All, Result, Ok, Err, ⊤}
+use Rattle.std.specs.Prelude.{◌+◌, ◌-◌, ◌==◌, ◌≢◌, nat_lt, nat_le, MatchBool, MatchOption, IsSome, min, map, All, Result, Ok, Err, ⊤}
+use Rattle.std.specs.Option.{option_or}
 use Rattle.std.specs.FinMap.{get}
 use Rattle.std.proofs.Math.Nat.{le-min}
 use Rattle.std.proofs.lemmas.Bool.{cases_Bool, eq-eqb}
 use Rattle.std.proofs.lemmas.Bool.Decides.{eqb_tells}
 use Rattle.std.proofs.lemmas.List.Elements.{All-head, All-tail}
-use Rattle.mt_types.specs.Numbers.{least}
-use Rattle.mt_types.specs.Limits.{page_fault, refused_if}
+use Rattle.mt_types.specs.Numbers.{greatest_number, least}
+use Rattle.mt_types.specs.Limits.{page_fault, refused_if, request_fault}
+use Rattle.mt_shared.specs.Reads.{IsRead}
 use Rattle.mt_types.specs.Rows.{Rows, version_of}
 use Rattle.mt_types.specs.declared.row.Row.{Row}
 use Rattle.mt_types.specs.declared.row.Change.{Change}
@@ -37,8 +39,8 @@ use Rattle.mt_wire.specs.declared.response.End.{End}
 use Rattle.mt_wire.specs.declared.response.End.TheVariants.{Absent, Found, Committed, Rows as RowsEnd, Tidied, Built}
 use Rattle.mt_serve.specs.Asking.{call_response, page_response, drop_response}
 use Rattle.mt_serve.specs.Store.{Store, now, newest, fault, slowest_view, IsFull, MayLack}
-use Rattle.mt_serve.specs.Plain.{GivesNext, CallEnds, PlainlyAsks, NoneBehind}
-use Rattle.mt_serve.specs.Ample.{read_so, changed, row_end, IsPutIf, IsReply, IsAnswer, IsAmple, IsSame, AmpleAnswersAreTheirs, AnswersAreOne}
+use Rattle.mt_serve.specs.Plain.{GivesNext, CallRuns, IsReadAtOnce, CallEnds, PlainlyAsks, NoneBehind}
+use Rattle.mt_serve.specs.Ample.{read_so, changed, row_end, IsPutIf, IsReply, limit_broken, IsAnswer, IsAmple, IsSame, AmpleAnswersAreTheirs, AnswersAreOne}
 
 -- ---- a log that no view holds back is not full
 least_of : (n : ℕ) (views : List StandingView) → All (λ (v : StandingView). n ≤ v.at + 0) views → n ≤ least n (map (λ (v : StandingView). v.at) views)
@@ -112,18 +114,84 @@ given_up C s pass (Remove key) number Spent feed close ample lack plain = absurd
 given_up C s pass (Build spec) number Spent feed close ample lack plain = absurd ample
 given_up C s pass _ number _ feed close ample lack plain = absurd lack
 
-call_is : (s t : Store) (request : Request) (result : Result Reply Refusal) → 0 < s.machine.log.feed → NoneBehind 0 s → CallEnds s request result t → IsAmple (call_response result) → IsAnswer s.machine.columns (now s) (Call request) (call_response result)
-call_is s t request (Ok reply) feed close done ample =
-    subst (λ (o : Option Refusal). MatchOption o (IsReply s.machine.columns (now s) request (Done reply.from reply.to (end_of reply.answer))) (λ due. Done reply.from reply.to (end_of reply.answer) ≡ Refused due)) (sym done.within)
+-- a call that breaks no limit breaks none of its request
+or_first : (a b : Option Refusal) → option_or a b ≡ None → a ≡ None
+or_first None b e = refl
+or_first (Some due) b e = cc
+
+unbroken : (C : ℕ) (m : Moment) (request : Request) → begin_fault C m.begun 0 (length m.views) request ≡ None → limit_broken C m request ≡ None
+unbroken C m (Get key asked) none = or_first (request_fault C (Get key asked)) _ none
+unbroken C m (Range start limit asked) none = or_first (request_fault C (Range start limit asked)) _ none
+unbroken C m (Put key sets) none = none
+unbroken C m (PutIf key sets version) none = none
+unbroken C m (Remove key) none = none
+unbroken C m (Tidy key) none = none
+unbroken C m (Build spec) none = none
+
+-- a begin that is refused amply is refused for the limit that the call breaks
+MayTurnAway : Option Refusal → Refusal → Type 0
+MayTurnAway fault refusal = MatchOption fault (refusal ≡ NoMemory) (λ due. refusal ≡ due)
+
+spent_or_none : (spent : Bool) (refusal : Refusal) → MayTurnAway (option_or (refused_if spent Spent) None) refusal → IsAmple (Refused refusal) → ⊥
+spent_or_none true refusal is ample = subst (λ (r : Refusal). IsAmple (Refused r)) is ample
+spent_or_none false refusal is ample = subst (λ (r : Refusal). IsAmple (Refused r)) is ample
+
+read_turned : (fault : Option Refusal) (spent : Bool) (refusal : Refusal) → MayTurnAway (option_or fault (option_or (refused_if spent Spent) None)) refusal → IsAmple (Refused refusal) → fault ≡ Some refusal
+read_turned (Some due) spent refusal is ample = ap (λ (r : Refusal). Some r) (sym is)
+read_turned None spent refusal is ample = absurd (spent_or_none spent refusal is ample)
+
+fault_turned : (fault : Option Refusal) (refusal : Refusal) → MayTurnAway fault refusal → IsAmple (Refused refusal) → fault ≡ Some refusal
+fault_turned (Some due) refusal is ample = ap (λ (r : Refusal). Some r) (sym is)
+fault_turned None refusal is ample = absurd (subst (λ (r : Refusal). IsAmple (Refused r)) is ample)
+
+turned : (C : ℕ) (m : Moment) (request : Request) (refusal : Refusal) → MayTurnAway (begin_fault C m.begun 0 (length m.views) request) refusal → IsAmple (Refused refusal) → limit_broken C m request ≡ Some refusal
+turned C m (Get key asked) refusal why ample = read_turned (request_fault C (Get key asked)) (nat_le greatest_number m.begun) refusal why ample
+turned C m (Range start limit asked) refusal why ample = read_turned (request_fault C (Range start limit asked)) (nat_le greatest_number m.begun) refusal why ample
+turned C m (Put key sets) refusal why ample = fault_turned _ refusal why ample
+turned C m (PutIf key sets version) refusal why ample = fault_turned _ refusal why ample
+turned C m (Remove key) refusal why ample = fault_turned _ refusal why ample
+turned C m (Tidy key) refusal why ample = fault_turned _ refusal why ample
+turned C m (Build spec) refusal why ample = fault_turned _ refusal why ample
+
+-- the answer of a call of which the limit is known
+IsCallAnswer : ℕ → Moment → Request → Response → Option Refusal → Type 0
+IsCallAnswer C m request response limit = MatchOption limit (IsReply C m request response) (λ due. response ≡ Refused due)
+
+runs_is : (s t : Store) (request : Request) (result : Result Reply Refusal) → 0 < s.machine.log.feed → NoneBehind 0 s → CallRuns s request result t → IsAmple (call_response result) → IsAnswer s.machine.columns (now s) (Call request) (call_response result)
+runs_is s t request (Ok reply) feed close done ample =
+    subst (IsCallAnswer s.machine.columns (now s) request (Done reply.from reply.to (end_of reply.answer))) (sym (unbroken s.machine.columns (now s) request done.within))
     (reply_is s.machine.columns s reply done.plain.made done.plain.from (done.plain.to ∙ (ap length done.plain.commits ∙ length-append (now s).commits done.plain.made)) request reply.answer done.plain.plain done.next)
-call_is s t request (Err refusal) feed close (inl (pass, leads, why), nothing) ample = by_fault (fault s request) why
-  where
-    by_fault : (o : Option Refusal) → MatchOption o (refusal ≡ NoMemory) (λ due. refusal ≡ due) → MatchOption o (IsReply s.machine.columns (now s) request (Refused refusal)) (λ due. Refused refusal ≡ Refused due)
-    by_fault None is = absurd (subst (λ (r : Refusal). IsAmple (Refused r)) is ample)
-    by_fault (Some due) is = ap (λ (r : Refusal). Refused r) is
-call_is s t request (Err refusal) feed close (inr (none, (pass, number, ends, lack)), nothing) ample =
-    subst (λ (o : Option Refusal). MatchOption o (IsReply s.machine.columns (now s) request (Refused refusal)) (λ due. Refused refusal ≡ Refused due)) (sym none)
+runs_is s t request (Err refusal) feed close (inl (pass, leads, why), nothing) ample =
+    subst (IsCallAnswer s.machine.columns (now s) request (Refused refusal)) (sym (turned s.machine.columns (now s) request refusal why ample)) refl
+runs_is s t request (Err refusal) feed close (inr (none, (pass, number, ends, lack)), nothing) ample =
+    subst (IsCallAnswer s.machine.columns (now s) request (Refused refusal)) (sym (unbroken s.machine.columns (now s) request none))
     (given_up s.machine.columns s pass request number refusal feed close ample lack nothing.plain)
+
+-- a read at once has the limits of its request, and builds no view
+read_limit : (C : ℕ) (m : Moment) (request : Request) → IsRead request → limit_broken C m request ≡ request_fault C request
+read_limit C m (Get key asked) read = refl
+read_limit C m (Range start limit asked) read = refl
+read_limit C m _ read = absurd read
+
+read_builds_none : (s : Store) (map : Rows) (n : ℕ) (request : Request) (answer : Answer) (made : List Change) → IsRead request → IsPlain map n request answer made → GivesNext s answer
+read_builds_none s map n (Get key asked) answers.Absent made read plain = tt
+read_builds_none s map n (Get key asked) (answers.Found row) made read plain = tt
+read_builds_none s map n (Range start limit asked) (answers.Rows pairs) made read plain = tt
+read_builds_none s map n (Get key asked) _ made read plain = absurd plain
+read_builds_none s map n (Range start limit asked) _ made read plain = absurd plain
+read_builds_none s map n _ answer made read plain = absurd read
+
+read_is : (s t : Store) (request : Request) (result : Result Reply Refusal) → IsReadAtOnce s request result t → IsAmple (call_response result) → IsAnswer s.machine.columns (now s) (Call request) (call_response result)
+read_is s t request (Ok reply) (same, read, none, plain) ample =
+    subst (IsCallAnswer s.machine.columns (now s) request (Done reply.from reply.to (end_of reply.answer))) (sym (read_limit s.machine.columns (now s) request read ∙ none))
+    (reply_is s.machine.columns s reply plain.made plain.from (plain.to ∙ (ap length plain.commits ∙ length-append (now s).commits plain.made)) request reply.answer plain.plain
+    (read_builds_none s (rows s.machine.columns (now s)) (newest s) request reply.answer plain.made read plain.plain))
+read_is s t request (Err refusal) (same, read, why) ample =
+    subst (IsCallAnswer s.machine.columns (now s) request (Refused refusal)) (sym (read_limit s.machine.columns (now s) request read ∙ fault_turned _ refusal why ample)) refl
+
+call_is : (s t : Store) (request : Request) (result : Result Reply Refusal) → 0 < s.machine.log.feed → NoneBehind 0 s → CallEnds s request result t → IsAmple (call_response result) → IsAnswer s.machine.columns (now s) (Call request) (call_response result)
+call_is s t request result feed close (inl runs) ample = runs_is s t request result feed close runs ample
+call_is s t request result feed close (inr read) ample = read_is s t request result read ample
 
 -- ---- pages and drops
 shows : (C : ℕ) (m : Moment) (v : StandingView) (start : List ℕ) (limit : ℕ) (behind : Bool) (result : Result Page Refusal) → MayShow C m v start limit (refused_if behind (Behind v.at)) (page_outcome result) → IsAmple (page_response result)
@@ -203,7 +271,7 @@ abbrev IsPage : ℕ → Moment → ℕ → List ℕ → ℕ → Response → Sta
 IsPage C m floor start limit response v = MatchBool (nat_lt v.at floor) (response ≡ Refused (Behind v.at)) (response ≡ View (page_of C m v start limit))
 
 pub answers_are_one : AnswersAreOne
-answers_are_one C m (Call request) response other one two = by_fault (begin_fault C m.begun 0 (length m.views) request) one two
+answers_are_one C m (Call request) response other one two = by_fault (limit_broken C m request) one two
   where
     by_fault : (o : Option Refusal) → MatchOption o (IsReply C m request response) (λ due. response ≡ Refused due) → MatchOption o (IsReply C m request other) (λ due. other ≡ Refused due) → IsSame response other
     by_fault None one two = one_reply C m request response other one two

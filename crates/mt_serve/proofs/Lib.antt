@@ -2,6 +2,7 @@ pub mod SourceLemmas
 pub mod ServingLemmas
 pub mod CauseLemmas
 pub mod AloneLemmas
+pub mod ReadLemmas
 pub mod PlainLemmas
 mod StageLemmas
 mod CallLemmas

@@ -24,7 +24,7 @@ use Rattle.mt_shared.specs.Turns.{page_outcome, drop_outcome}
 use Rattle.mt_wire.specs.Answered.{end_of}
 use Rattle.mt_serve.specs.Asking.{call_response, changes, end_changes}
 use Rattle.mt_serve.specs.Store.{Store, now, newest}
-use Rattle.mt_serve.specs.Plain.{CallEnds, PlainlyAsks, PlainlyAnswers, NoneBehind, KeptUp}
+use Rattle.mt_serve.specs.Plain.{CallRuns, IsReadAtOnce, CallEnds, PlainlyAsks, PlainlyAnswers, NoneBehind, KeptUp}
 use Rattle.mt_serve.specs.Ample.{RanOutBefore, ViewsStayNewest}
 
 -- each of these views is at most this many commits short of the number n
@@ -86,8 +86,8 @@ made_none map n (Remove key) (Removed number) made plain changed = let clash : �
 made_none map n (Build spec) (Built view) made plain changed = let clash : ◌≡◌ {A = Bool} true false = changed in cc
 made_none map n _ _ made plain changed = absurd plain
 
-call_close : (s t : Store) (request : Request) (result : Result Reply Refusal) → NoneBehind 0 s → CallEnds s request result t → NoneBehind 1 t × (changes (call_response result) ≡ false → NoneBehind 0 t)
-call_close s t request (Ok reply) close done =
+runs_close : (s t : Store) (request : Request) (result : Result Reply Refusal) → NoneBehind 0 s → CallRuns s request result t → NoneBehind 1 t × (changes (call_response result) ≡ false → NoneBehind 0 t)
+runs_close s t request (Ok reply) close done =
     let p = done.plain in
     let few = made_few _ (newest s) request reply.answer p.made p.plain in
     let long = ap length p.commits ∙ length-append (now s).commits p.made in (
@@ -100,11 +100,22 @@ call_close s t request (Ok reply) close done =
           (close_append 0 (newest t) (now s).views (view_built request reply.answer (newest s)) (close_more (newest s) (newest t) 0 (now s).views (omega (arith, same)) close)
           (subst (λ (l : List StandingView). Close 0 (newest t) l) (sym unbuilt) (All-nil (λ (w : StandingView). newest t ≤ w.at + 0))))),
     )
-call_close s t request (Err refusal) close (how, nothing) =
+runs_close s t request (Err refusal) close (how, nothing) =
     let same = ap length nothing.commits in (
       subst (λ (l : List StandingView). Close 1 (newest t) l) (sym nothing.views) (close_more (newest s) (newest t) 1 (now s).views (omega (arith, same)) close),
       λ none. subst (λ (l : List StandingView). Close 0 (newest t) l) (sym nothing.views) (close_more (newest s) (newest t) 0 (now s).views (omega (arith, same)) close),
     )
+
+-- by a read at once nothing has happened
+same_after : (s t : Store) (request : Request) (result : Result Reply Refusal) → IsReadAtOnce s request result t → t ≡ s
+same_after s t request (Ok reply) read = read.0
+same_after s t request (Err refusal) read = read.0
+
+call_close : (s t : Store) (request : Request) (result : Result Reply Refusal) → NoneBehind 0 s → CallEnds s request result t → NoneBehind 1 t × (changes (call_response result) ≡ false → NoneBehind 0 t)
+call_close s t request result close (inl runs) = runs_close s t request result close runs
+call_close s t request result close (inr read) =
+    let still : NoneBehind 0 t = subst (NoneBehind 0) (sym (same_after s t request result read)) close in
+    (close_more (newest t) (newest t) 1 (now t).views (omega arith) still, λ none. still)
 
 -- ---- a query
 asks_close : (s t : Store) (query : Query) (response : Response) → NoneBehind 0 s → PlainlyAsks s query response t → NoneBehind 1 t × (changes response ≡ false → NoneBehind 0 t)

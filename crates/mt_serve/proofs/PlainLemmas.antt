@@ -21,6 +21,7 @@ use Rattle.mt_promise.specs.Legal.{MayApply, IsOrLacksMemory}
 use Rattle.mt_shared.specs.declared.trace.Entry.{Entry}
 use Rattle.mt_shared.specs.Passes.{PassView}
 use Rattle.mt_shared.specs.Drives.{Runs, whole, IsDrive}
+use Rattle.mt_shared.specs.Reads.{ReadsNow}
 use Rattle.mt_shared.specs.Turns.{page_outcome, drop_outcome, furthest, turn, IsTurn, HasTurned}
 use Rattle.mt_shared.specs.Kept.{KeptView, Does}
 use Rattle.mt_wire.specs.declared.query.Query.{Query}
@@ -34,6 +35,7 @@ use Rattle.mt_serve.specs.Sessions.{BreaksIn, BreaksAt, requests_of}
 use Rattle.mt_serve.specs.Plain.{IsAlone, PlainlyAsks, PlainlyAnswers, PlainlyAnswersAll, PlainlyAnswersFrames, NoneBehind, TakenOn, RanOut, KeptUp, store_of, FreshIsAlone, AloneAnswersPlainly, AloneAnswersFramesPlainly, AloneServesPlainly, AloneBreaksPlainly, BreaksInPlainly, BreaksAtPlainly}
 use Rattle.mt_index.specs.Events.{Happens}
 use Rattle.mt_serve.specs.Store.{Store, Leads}
+use Rattle.mt_serve.proofs.ReadLemmas.{read_same, read_ends}
 use Rattle.mt_serve.proofs.AloneLemmas.{Keeping, keeping, goes, leads_one, leads_more, does_rises, runs_rise, drive_ends}
 
 less_tells : (a b : ℕ) → ((nat_lt a b ≡ true) × (a < b)) ⊎ ((nat_lt a b ≡ false) × (b ≤ a))
@@ -50,8 +52,10 @@ drive_rises s t p q request (Err refusal) d = elim d.refused [
   | inr cut ↦ runs_rise s t p q (whole p.number request cut.call cut.steps cut.last) cut.runs
 ]
 
-asks_rise : (s t : KeptView) (p q : PassView) (query : Query) (response : Response) → Asks Does s p query response t q → s.events ≤ t.events
-asks_rise s t p q (Call request) response (result, drive, is) = drive_rises s t p q request result drive
+asks_rise : (s t : KeptView) (p q : PassView) (query : Query) (response : Response) → Asks Does ReadsNow s p query response t q → s.events ≤ t.events
+asks_rise s t p q (Call request) response (result, inl drive, is) = drive_rises s t p q request result drive
+asks_rise s t p q (Call request) response (result, inr read, is) =
+    let equal = ap (λ (k : KeptView). k.events) (read_same s t p q request result read) in omega (arith, equal)
 asks_rise s t p q (ViewRead view floor start limit) response (result, does, is) = does_rises s t p q (ReadOf view floor start limit) (page_outcome result) does
 asks_rise s t p q (ViewDrop view) response (result, does, is) = does_rises s t p q (DropOf view) (drop_outcome result) does
 
@@ -63,12 +67,12 @@ then_rise : (s t : KeptView) (p q : PassView) (b : Bool) → MatchBool b (KeepsV
 then_rise s t p q true kept = keeps_rise s t p q kept
 then_rise s t p q false (is, same) = let equal = ap (λ (k : KeptView). k.events) is in omega (arith, equal)
 
-answers_rise : (s t : KeptView) (p q : PassView) (query : Query) (response : Response) → Answers Does s p query response t q → s.events ≤ t.events
+answers_rise : (s t : KeptView) (p q : PassView) (query : Query) (response : Response) → Answers Does ReadsNow s p query response t q → s.events ≤ t.events
 answers_rise s t p q query response (m, r, asks, final) =
     let a = asks_rise s m p r query response asks in
     let b = then_rise m t r q (changes response) final in omega (arith, a, b)
 
-all_rise : (s t : KeptView) (p q : PassView) (queries : List Query) (responses : List Response) → AnswersAll Does s p queries responses t q → s.events ≤ t.events
+all_rise : (s t : KeptView) (p q : PassView) (queries : List Query) (responses : List Response) → AnswersAll Does ReadsNow s p queries responses t q → s.events ≤ t.events
 all_rise s t p q [] [] (is, same) = let equal = ap (λ (k : KeptView). k.events) is in omega (arith, equal)
 all_rise s t p q (query ∷ queries) (response ∷ responses) (m, r, one, more) =
     let a = answers_rise s m p r query response one in
@@ -76,7 +80,7 @@ all_rise s t p q (query ∷ queries) (response ∷ responses) (m, r, one, more) 
 all_rise s t p q [] (response ∷ responses) never = absurd never
 all_rise s t p q (query ∷ queries) [] never = absurd never
 
-frames_rise : (s t : KeptView) (p q : PassView) (frames : List (Frame Query)) (replies : List (Frame Response)) → AnswersFrames Does s p frames replies t q → s.events ≤ t.events
+frames_rise : (s t : KeptView) (p q : PassView) (frames : List (Frame Query)) (replies : List (Frame Response)) → AnswersFrames Does ReadsNow s p frames replies t q → s.events ≤ t.events
 frames_rise s t p q [] [] (is, same) = let equal = ap (λ (k : KeptView). k.events) is in omega (arith, equal)
 frames_rise s t p q (frame ∷ frames) (reply ∷ replies) (m, r, one, more) =
     let a = all_rise s m p r frame.messages reply.messages one.1 in
@@ -425,10 +429,13 @@ few_left number (v ∷ views) =
     let rest = few_left number views in
     elim (cases_Bool (v.number == number)) [ inl b ↦ rw b (omega (arith, rest)) | inr b ↦ rw b (omega (arith, rest)) ]
 
-asks_plainly : (s t : KeptView) (p q : PassView) (h : History) (query : Query) (response : Response) → IsAlone s p h → t.events < greatest_number → Asks Does s p query response t q → IsAsked (store_of s h) query response t q
-asks_plainly s t p q h (Call request) response a few (result, drive, is) =
+asks_plainly : (s t : KeptView) (p q : PassView) (h : History) (query : Query) (response : Response) → IsAlone s p h → t.events < greatest_number → Asks Does ReadsNow s p query response t q → IsAsked (store_of s h) query response t q
+asks_plainly s t p q h (Call request) response a few (result, inl drive, is) =
     let (final, alone, columns, ends) = drive_ends s t p q h request result a few drive in
-    record { final = final; alone = alone; columns = columns; plain = (result, ends, is) }
+    record { final = final; alone = alone; columns = columns; plain = (result, inl ends, is) }
+asks_plainly s t p q h (Call request) response a few (result, inr read, is) =
+    let (alone, ends) = read_ends s t p q h request result a read in
+    record { final = h; alone = alone; columns = ap (λ (k : KeptView). k.machine.columns) (read_same s t p q request result read); plain = (result, inr ends, is) }
 asks_plainly s t p q h (ViewRead view floor start limit) response a few (result, does, is) =
     let went = goes s t p q h (ReadOf view floor start limit) (page_outcome result) (keeping s p h a) few refl does in
     record {
@@ -467,7 +474,7 @@ record IsAnswered (s : Store) (query : Query) (response : Response) (t : KeptVie
   columns : t.machine.columns ≡ s.machine.columns
   plain : PlainlyAnswers s query response (store_of t final)
 
-answers_plainly : (s t : KeptView) (p q : PassView) (h : History) (query : Query) (response : Response) → IsAlone s p h → t.events < greatest_number → Answers Does s p query response t q → IsAnswered (store_of s h) query response t q
+answers_plainly : (s t : KeptView) (p q : PassView) (h : History) (query : Query) (response : Response) → IsAlone s p h → t.events < greatest_number → Answers Does ReadsNow s p query response t q → IsAnswered (store_of s h) query response t q
 answers_plainly s t p q h query response a few (m, r, asks, final) =
     let rises = then_rise m t r q (changes response) final in
     let asked = asks_plainly s m p r h query response a (omega (arith, few, rises)) asks in
@@ -543,16 +550,16 @@ alone_serves s t p q h input old new summary a few served =
     )
 
 -- ---- a session that breaks off
-breaks_in_rise : (s t : KeptView) (p q : PassView) (fault : SessionFault) (frame : Frame Query) (old new : Option (List ℕ)) → BreaksIn Does s p fault frame old new t q → s.events ≤ t.events
+breaks_in_rise : (s t : KeptView) (p q : PassView) (fault : SessionFault) (frame : Frame Query) (old new : Option (List ℕ)) → BreaksIn Does ReadsNow s p fault frame old new t q → s.events ≤ t.events
 breaks_in_rise s t p q Write frame old new (reply, sent, unsent, answered, is, wrote) = all_rise s t p q frame.messages reply.messages answered.1
 breaks_in_rise s t p q WantsMemory frame old new (done, undone, responses, is, answered, same) = all_rise s t p q done responses answered
 breaks_in_rise s t p q _ frame old new never = absurd never
 
-breaks_rise : (s t : KeptView) (p q : PassView) (fault : SessionFault) (rest unread old new : Option (List ℕ)) → BreaksAt Does s p fault rest unread old new t q → s.events ≤ t.events
+breaks_rise : (s t : KeptView) (p q : PassView) (fault : SessionFault) (rest unread old new : Option (List ℕ)) → BreaksAt Does ReadsNow s p fault rest unread old new t q → s.events ≤ t.events
 breaks_rise s t p q fault rest unread old new (inl (other, stands, same, is, pass)) = let equal = ap (λ (k : KeptView). k.events) is in omega (arith, equal)
 breaks_rise s t p q fault rest unread old new (inr (frame, fits, there, breaks)) = breaks_in_rise s t p q fault frame old new breaks
 
-breaks_in_plainly : (s t : KeptView) (p q : PassView) (h : History) (fault : SessionFault) (frame : Frame Query) (old new : Option (List ℕ)) → IsAlone s p h → t.events < greatest_number → BreaksIn Does s p fault frame old new t q
+breaks_in_plainly : (s t : KeptView) (p q : PassView) (h : History) (fault : SessionFault) (frame : Frame Query) (old new : Option (List ℕ)) → IsAlone s p h → t.events < greatest_number → BreaksIn Does ReadsNow s p fault frame old new t q
     → (final : History) × IsAlone t q final × BreaksInPlainly (store_of s h) fault frame old new (store_of t final)
 breaks_in_plainly s t p q h Write frame old new a few (reply, sent, unsent, answered, is, wrote) =
     let (final, alone, columns, plain) = alone_answers s t p q h frame.messages reply.messages a few answered.1 in
@@ -562,7 +569,7 @@ breaks_in_plainly s t p q h WantsMemory frame old new a few (done, undone, respo
     (final, alone, (done, undone, responses, is, plain, same))
 breaks_in_plainly s t p q h _ frame old new a few never = absurd never
 
-breaks_plainly : (s t : KeptView) (p q : PassView) (h : History) (fault : SessionFault) (rest : List ℕ) (unread old new : Option (List ℕ)) → IsAlone s p h → t.events < greatest_number → BreaksAt Does s p fault (Some rest) unread old new t q
+breaks_plainly : (s t : KeptView) (p q : PassView) (h : History) (fault : SessionFault) (rest : List ℕ) (unread old new : Option (List ℕ)) → IsAlone s p h → t.events < greatest_number → BreaksAt Does ReadsNow s p fault (Some rest) unread old new t q
     → (final : History) × IsAlone t q final × BreaksAtPlainly (store_of s h) fault rest unread old new (store_of t final)
 breaks_plainly s t p q h fault rest unread old new a few (inl (other, stands, same, is, pass)) = (
   h,
@@ -576,7 +583,7 @@ breaks_plainly s t p q h fault rest unread old new a few (inr (frame, fits, (mor
 pub alone_breaks : AloneBreaksPlainly
 alone_breaks s t p q h input unread old new fault a few broken =
     let (more, is, front) = broken.served.read in
-    let at : BreaksAt Does broken.shared broken.pass fault (Some more) unread broken.between new t q = subst (λ (r : Option (List ℕ)). BreaksAt Does broken.shared broken.pass fault r unread broken.between new t q) is broken.breaks in
+    let at : BreaksAt Does ReadsNow broken.shared broken.pass fault (Some more) unread broken.between new t q = subst (λ (r : Option (List ℕ)). BreaksAt Does ReadsNow broken.shared broken.pass fault r unread broken.between new t q) is broken.breaks in
     let rises = breaks_rise broken.shared t broken.pass q fault (Some more) unread broken.between new at in
     let (past, between, columns, plain) = alone_answers_frames s broken.shared p broken.pass h broken.frames broken.served.replies a (omega (arith, few, rises)) broken.served.answered in
     let (final, alone, breaks) = breaks_plainly broken.shared t broken.pass q past fault more unread broken.between new between few at in (

@@ -3,7 +3,7 @@
 use Rattle.std.specs.Prelude.{ℕ, ◌+◌, ◌≡◌, ◌<◌, ◌⊎◌, ◌==◌, nat_lt, MatchBool, MatchOption, List, map, length, Option, Some, None}
 use Rattle.std.specs.FinMap.{get}
 use Rattle.mt_types.specs.Rows.{shown, version_of}
-use Rattle.mt_types.specs.Limits.{page_fault}
+use Rattle.mt_types.specs.Limits.{page_fault, request_fault}
 use Rattle.mt_types.specs.declared.row.Row.{Row}
 use Rattle.mt_types.specs.declared.refusal.Refusal.{Refusal}
 use Rattle.mt_types.specs.declared.refusal.Refusal.TheVariants.{NoMemory, ArenaFull, Spent, NoSuchView, Behind, OtherVersion}
@@ -54,10 +54,16 @@ IsReply C m (Range start limit asked) response =
 IsReply C m (Tidy key) response = (rule : TidyRule) × (response ≡ read_so m (Tidied rule))
 IsReply C m (Build spec) response = response ≡ read_so m (Built (record { 0 = m.built + 1 }))
 
+-- the first limit that a call breaks: a get and a range need no number of a call, since they may be read at once
+abbrev pub limit_broken : ℕ → Moment → Request → Option Refusal
+limit_broken C m (Get key asked) = request_fault C (Get key asked)
+limit_broken C m (Range start limit asked) = request_fault C (Range start limit asked)
+limit_broken C m request = begin_fault C m.begun 0 (length m.views) request
+
 -- THE ANSWER TO A QUERY, after these changes, with these views
 abbrev pub IsAnswer : ℕ → Moment → Query → Response → Type 0
 IsAnswer C m (Call request) response =
-    MatchOption (begin_fault C m.begun 0 (length m.views) request) (IsReply C m request response)
+    MatchOption (limit_broken C m request) (IsReply C m request response)
     (λ due. response ≡ Refused due)
 IsAnswer C m (ViewRead view floor start limit) response =
     MatchOption (page_fault start limit)

@@ -5,7 +5,8 @@ use Rattle.mt_types.specs.declared.event.Event.TheVariants.{ViewRead as ReadOf, 
 use Rattle.mt_types.specs.declared.event.Reply.{Reply}
 use Rattle.mt_types.specs.declared.view.Page.{Page}
 use Rattle.mt_shared.specs.Passes.{PassView}
-use Rattle.mt_shared.specs.Drives.{EventLaw, IsDrive}
+use Rattle.mt_shared.specs.Drives.{EventLaw}
+use Rattle.mt_shared.specs.Reads.{ReadLaw, IsCall}
 use Rattle.mt_shared.specs.Turns.{page_outcome, drop_outcome, KeepsUp, IsStopped}
 use Rattle.mt_wire.specs.declared.query.Query.{Query}
 use Rattle.mt_wire.specs.declared.query.Query.TheVariants.{Call, ViewRead, ViewDrop}
@@ -32,14 +33,15 @@ drop_response (Err refusal) = Refused refusal
 
 -- ---- one query
 
--- A call is driven from its begin to its end; a page is read, or a view dropped, by one event. This is the answer.
-abbrev pub Asks : {S : Type 0} → EventLaw S → S → PassView → Query → Response → S → PassView → Type 0
-Asks does s p (Call request) response t q =
-    (result : Result Reply Refusal) × IsDrive does s p request result t q × (response ≡ call_response result)
-Asks does s p (ViewRead view floor start limit) response t q =
+-- A call is driven from its begin to its end, or read at once; a page is read, or a view dropped, by one event. This is
+-- the answer.
+abbrev pub Asks : {S : Type 0} → EventLaw S → ReadLaw S → S → PassView → Query → Response → S → PassView → Type 0
+Asks does shows s p (Call request) response t q =
+    (result : Result Reply Refusal) × IsCall does shows s p request result t q × (response ≡ call_response result)
+Asks does shows s p (ViewRead view floor start limit) response t q =
     (result : Result Page Refusal) × does s p (ReadOf view floor start limit) (page_outcome result) t q
     × (response ≡ page_response result)
-Asks does s p (ViewDrop view) response t q =
+Asks does shows s p (ViewDrop view) response t q =
     (result : Result ⊤ Refusal) × does s p (DropOf view) (drop_outcome result) t q × (response ≡ drop_response result)
 
 abbrev pub end_changes : End → Bool
@@ -58,32 +60,32 @@ KeepsViews does s p t q =
     ((applied : ℕ) × KeepsUp does s p 64 applied t q) ⊎ ((refusal : Refusal) × IsStopped does s p 64 refusal t q)
 
 -- A QUERY IS ANSWERED: it is done, and if it changed rows or built a view, views are then kept up.
-abbrev pub Answers : {S : Type 0} → EventLaw S → S → PassView → Query → Response → S → PassView → Type 0
-Answers {S} does s p query response t q =
-    (m : S) × (r : PassView) × Asks does s p query response m r
+abbrev pub Answers : {S : Type 0} → EventLaw S → ReadLaw S → S → PassView → Query → Response → S → PassView → Type 0
+Answers {S} does shows s p query response t q =
+    (m : S) × (r : PassView) × Asks does shows s p query response m r
     × MatchBool (changes response) (KeepsViews does m r t q) ((t ≡ m) × (q ≡ r))
 
 -- ---- one frame, and frames
 
 -- these queries, one after the other, each by one answer
-abbrev pub AnswersAll : {S : Type 0} → EventLaw S → S → PassView → List Query → List Response → S → PassView → Type 0
-AnswersAll does s p [] [] t q = (t ≡ s) × (q ≡ p)
-AnswersAll {S} does s p (query ∷ queries) (response ∷ responses) t q =
-    (m : S) × (r : PassView) × Answers does s p query response m r × AnswersAll does m r queries responses t q
-AnswersAll does s p [] (response ∷ responses) t q = ⊥
-AnswersAll does s p (query ∷ queries) [] t q = ⊥
+abbrev pub AnswersAll : {S : Type 0} → EventLaw S → ReadLaw S → S → PassView → List Query → List Response → S → PassView → Type 0
+AnswersAll does shows s p [] [] t q = (t ≡ s) × (q ≡ p)
+AnswersAll {S} does shows s p (query ∷ queries) (response ∷ responses) t q =
+    (m : S) × (r : PassView) × Answers does shows s p query response m r × AnswersAll does shows m r queries responses t q
+AnswersAll does shows s p [] (response ∷ responses) t q = ⊥
+AnswersAll does shows s p (query ∷ queries) [] t q = ⊥
 
 -- a frame of queries, by one of as many answers, in its version
 abbrev pub AnswersFrame :
-    {S : Type 0} → EventLaw S → S → PassView → Frame Query → Frame Response → S → PassView → Type 0
-AnswersFrame does s p frame reply t q =
-    (reply.version ≡ frame.version) × AnswersAll does s p frame.messages reply.messages t q
+    {S : Type 0} → EventLaw S → ReadLaw S → S → PassView → Frame Query → Frame Response → S → PassView → Type 0
+AnswersFrame does shows s p frame reply t q =
+    (reply.version ≡ frame.version) × AnswersAll does shows s p frame.messages reply.messages t q
 
 -- these frames, one after the other, each by one frame
 abbrev pub AnswersFrames :
-    {S : Type 0} → EventLaw S → S → PassView → List (Frame Query) → List (Frame Response) → S → PassView → Type 0
-AnswersFrames does s p [] [] t q = (t ≡ s) × (q ≡ p)
-AnswersFrames {S} does s p (frame ∷ frames) (reply ∷ replies) t q =
-    (m : S) × (r : PassView) × AnswersFrame does s p frame reply m r × AnswersFrames does m r frames replies t q
-AnswersFrames does s p [] (reply ∷ replies) t q = ⊥
-AnswersFrames does s p (frame ∷ frames) [] t q = ⊥
+    {S : Type 0} → EventLaw S → ReadLaw S → S → PassView → List (Frame Query) → List (Frame Response) → S → PassView → Type 0
+AnswersFrames does shows s p [] [] t q = (t ≡ s) × (q ≡ p)
+AnswersFrames {S} does shows s p (frame ∷ frames) (reply ∷ replies) t q =
+    (m : S) × (r : PassView) × AnswersFrame does shows s p frame reply m r × AnswersFrames does shows m r frames replies t q
+AnswersFrames does shows s p [] (reply ∷ replies) t q = ⊥
+AnswersFrames does shows s p (frame ∷ frames) [] t q = ⊥

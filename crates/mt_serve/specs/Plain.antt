@@ -6,6 +6,7 @@ use Rattle.std.specs.Prelude.{Result, Ok, Err, Option, Some, None}
 use Rattle.std.specs.List.{AllByRecursion}
 use Rattle.std.specs.Io.KnownBytes.{Appends}
 use Rattle.mt_types.specs.Numbers.{greatest_number}
+use Rattle.mt_types.specs.Limits.{request_fault}
 use Rattle.mt_types.specs.declared.numbers.PassNo.{PassNo}
 use Rattle.mt_types.specs.declared.numbers.CallNo.{CallNo}
 use Rattle.mt_types.specs.declared.refusal.Refusal.{Refusal}
@@ -27,6 +28,7 @@ use Rattle.mt_index.specs.declared.options.Options.{Options}
 use Rattle.mt_index.specs.Stands.{Stands}
 use Rattle.mt_shared.specs.Passes.{PassView, IsNewPass}
 use Rattle.mt_shared.specs.Kept.{KeptView, Does, IsFresh, has_book}
+use Rattle.mt_shared.specs.Reads.{IsRead, ReadsNow}
 use Rattle.mt_shared.specs.Turns.{page_outcome, drop_outcome, furthest}
 use Rattle.mt_wire.specs.declared.query.Query.{Query}
 use Rattle.mt_wire.specs.declared.query.Query.TheVariants.{Call, ViewRead, ViewDrop}
@@ -67,12 +69,26 @@ abbrev pub IsGivenUp : Store → Request → Refusal → Store → Type 0
 IsGivenUp s request refusal t = (fault s request ≡ None) × ((pass : PassNo) × (number : CallNo)
     × EndsBy s pass request number (Refused refusal) t × MayLack s pass request number refusal)
 
--- a call is answered, or it is refused and changes nothing
-abbrev pub CallEnds : Store → Request → Result Reply Refusal → Store → Type 0
-CallEnds s request (Ok reply) t = CallIsDone s request reply t
-CallEnds s request (Err refusal) t =
+-- a call was made by events: it is answered, or it is refused and changes nothing
+abbrev pub CallRuns : Store → Request → Result Reply Refusal → Store → Type 0
+CallRuns s request (Ok reply) t = CallIsDone s request reply t
+CallRuns s request (Err refusal) t =
     (IsTurnedAway s request refusal t ⊎ IsGivenUp s request refusal t)
     × EndsRefused s.machine.columns s.past request refusal (now t)
+
+-- a get or a range was read at once, and nothing happened: it breaks no limit, and is answered as by a plain map; or it
+-- is refused for the first limit that it breaks, or, if it breaks none, since the store is out of memory
+abbrev pub IsReadAtOnce : Store → Request → Result Reply Refusal → Store → Type 0
+IsReadAtOnce s request (Ok reply) t =
+    (t ≡ s) × IsRead request × (request_fault s.machine.columns request ≡ None)
+    × EndsPlainly s.machine.columns s.past reply.pass reply.call request reply (now s)
+IsReadAtOnce s request (Err refusal) t =
+    (t ≡ s) × IsRead request
+    × MatchOption (request_fault s.machine.columns request) (refusal ≡ NoMemory) (λ due. refusal ≡ due)
+
+-- a call has ended
+abbrev pub CallEnds : Store → Request → Result Reply Refusal → Store → Type 0
+CallEnds s request result t = CallRuns s request result t ⊎ IsReadAtOnce s request result t
 
 -- this event happened, and its outcome is one that it may have
 abbrev pub OneHappens : Store → Event → Outcome → Store → Type 0
@@ -170,14 +186,14 @@ FreshIsAlone =
 abbrev pub AloneAnswersPlainly : Type 0
 AloneAnswersPlainly =
     (s t : KeptView) (p q : PassView) (h : History) (queries : List Query) (responses : List Response)
-    → IsAlone s p h → t.events < greatest_number → AnswersAll Does s p queries responses t q
+    → IsAlone s p h → t.events < greatest_number → AnswersAll Does ReadsNow s p queries responses t q
     → (then : History) × IsAlone t q then × (t.machine.columns ≡ s.machine.columns)
     × PlainlyAnswersAll (store_of s h) queries responses (store_of t then)
 
 abbrev pub AloneAnswersFramesPlainly : Type 0
 AloneAnswersFramesPlainly =
     (s t : KeptView) (p q : PassView) (h : History) (frames : List (Frame Query)) (replies : List (Frame Response))
-    → IsAlone s p h → t.events < greatest_number → AnswersFrames Does s p frames replies t q
+    → IsAlone s p h → t.events < greatest_number → AnswersFrames Does ReadsNow s p frames replies t q
     → (then : History) × IsAlone t q then × (t.machine.columns ≡ s.machine.columns)
     × PlainlyAnswersFrames (store_of s h) frames replies (store_of t then)
 
@@ -194,7 +210,7 @@ pub record ServesPlainly (s : Store) (input : List ℕ) (old new : Option (List 
 abbrev pub AloneServesPlainly : Type 0
 AloneServesPlainly =
     (s t : KeptView) (p q : PassView) (h : History) (input : List ℕ) (old new : Option (List ℕ)) (summary : Summary)
-    → IsAlone s p h → t.events < greatest_number → IsServed Does s p (Some input) old summary new t q
+    → IsAlone s p h → t.events < greatest_number → IsServed Does ReadsNow s p (Some input) old summary new t q
     → (then : History) × IsAlone t q then × ServesPlainly (store_of s h) input old new (store_of t then)
 
 -- A SESSION ALONE THAT BREAKS OFF: the frames before are answered plainly; then no frame is there, for this fault, after
@@ -233,5 +249,5 @@ abbrev pub AloneBreaksPlainly : Type 0
 AloneBreaksPlainly =
     (s t : KeptView) (p q : PassView) (h : History) (input : List ℕ) (unread old new : Option (List ℕ))
     (fault : SessionFault)
-    → IsAlone s p h → t.events < greatest_number → IsBroken Does s p (Some input) old fault unread new t q
+    → IsAlone s p h → t.events < greatest_number → IsBroken Does ReadsNow s p (Some input) old fault unread new t q
     → (then : History) × IsAlone t q then × BreaksPlainly (store_of s h) input old fault unread new (store_of t then)

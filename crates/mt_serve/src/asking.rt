@@ -4,7 +4,8 @@ ghost use Rattle.std.specs.Prelude.{◌≡◌};
 ghost use Rattle.mt_wire.specs.Limited.{ResponseIsLimited};
 ghost use Rattle.mt_serve.specs.Asking.{Asks, Answers, KeepsViews, call_response, page_response, drop_response, changes};
 
-use mt_shared::driving::{NoGate, Shared, drive};
+use mt_shared::asking::ask as make_call;
+use mt_shared::driving::Shared;
 use mt_shared::pass::Pass;
 use mt_shared::views::{keep_views, view_drop, view_read};
 use mt_types::event::Reply;
@@ -46,11 +47,11 @@ fn drop_response(dropped: Result<(), Refusal>) -> Response
 
 // Does what a query asks, and returns its answer. Views are not kept up yet.
 fn ask<S: Shared>(alloc: Global, shared: &mut S, pass: &mut Pass, query: Query) -> Response
-    ensures asks { Asks S.does shared.old pass.old query result shared.new pass.new }
+    ensures asks { Asks S.does S.shows shared.old pass.old query result shared.new pass.new }
     ensures limited { ResponseIsLimited result }
 {
     match query {
-        Query::Call(request) => call_response(drive(alloc, shared, pass, &mut NoGate, request)),
+        Query::Call(request) => call_response(make_call(alloc, shared, pass, request)),
         Query::ViewRead {
             view,
             floor,
@@ -81,12 +82,12 @@ fn keep_up<S: Shared>(alloc: Global, shared: &mut S, pass: &mut Pass)
     let _kept = keep_views(alloc, shared, pass, TURNS);
 }
 
-/// Does what a query asks, and returns its answer: a call is driven from its begin to its end, and a page is read or a
-/// view dropped by one event. If the query changed rows or built a view, views are then advanced, in at most 64 turns.
+/// Does what a query asks, and returns its answer. A get or a range is read at once if it may be, and any other call is
+/// driven from its begin to its end, as `mt_shared::asking::ask` does. A page is read, or a view dropped, by one event. If the query changed rows or built a view, views are then advanced, in at most 64 turns.
 ///
-/// Over a `Door` each event holds the lock once, so events of other threads can come between them.
+/// Over a `Door` each event or read holds the lock once, so events of other threads can come between them.
 pub fn answer<S: Shared>(alloc: Global, shared: &mut S, pass: &mut Pass, query: Query) -> Response
-    ensures answers { Answers S.does shared.old pass.old query result shared.new pass.new }
+    ensures answers { Answers S.does S.shows shared.old pass.old query result shared.new pass.new }
     ensures limited { ResponseIsLimited result }
 {
     let response = ask(alloc, shared, pass, query);

@@ -5,4 +5,5 @@ pub mod Kept
 pub mod Drives
 pub mod Turns
 pub mod Feeds
+pub mod Reads
 pub mod Inside

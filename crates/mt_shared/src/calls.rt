@@ -1,8 +1,11 @@
-//! The calls of a pass, by their names. Each is `drive` with its request and [`NoGate`], and costs what that costs.
+//! The calls of a pass, by their names. A get and a range are [`ask`] with their request. Each other call is [`drive`]
+//! with its request and [`NoGate`]. A call costs what that costs.
 
 ghost use Rattle.mt_types.specs.declared.event.Request.TheVariants.{Get, Put, PutIf, Remove, Range, Tidy, Build};
 ghost use Rattle.mt_shared.specs.Drives.{IsDrive};
+ghost use Rattle.mt_shared.specs.Reads.{IsCall};
 
+use crate::asking::ask;
 use crate::driving::{NoGate, Shared, drive};
 use crate::pass::Pass;
 use bytes::Bytes;
@@ -17,7 +20,7 @@ use std::alloc::Global;
 ///
 /// # Errors
 ///
-/// Those of [`drive`], `KeyTooLong`, `BadColumn`, `TooManyCalls` and `NoMemory` among them.
+/// Those of [`ask`], `KeyTooLong`, `BadColumn`, `TooManyCalls` and `NoMemory` among them.
 pub fn get<S: Shared>(
     alloc: Global,
     shared: &mut S,
@@ -25,15 +28,9 @@ pub fn get<S: Shared>(
     key: Bytes,
     columns: ColumnNumbers,
 ) -> Result<Reply, Refusal>
-    ensures { IsDrive S.does shared.old pass.old (Get key columns) result shared.new pass.new }
+    ensures { IsCall S.does S.shows shared.old pass.old (Get key columns) result shared.new pass.new }
 {
-    drive(
-        alloc,
-        shared,
-        pass,
-        &mut NoGate,
-        Request::Get { key, columns },
-    )
+    ask(alloc, shared, pass, Request::Get { key, columns })
 }
 
 /// Puts new bytes into columns of the row of `key`. The answer of the reply is `Stored`, with the number of the commit.
@@ -100,7 +97,7 @@ pub fn remove<S: Shared>(
 ///
 /// # Errors
 ///
-/// Those of [`drive`], `KeyTooLong`, `BadColumn`, `BadLimit` unless `limit` is from 1 to `MAX_RANGE`, and `NoMemory`
+/// Those of [`ask`], `KeyTooLong`, `BadColumn`, `BadLimit` unless `limit` is from 1 to `MAX_RANGE`, and `NoMemory`
 /// among them.
 pub fn getrange<S: Shared>(
     alloc: Global,
@@ -110,19 +107,14 @@ pub fn getrange<S: Shared>(
     limit: u16,
     columns: ColumnNumbers,
 ) -> Result<Reply, Refusal>
-    ensures { IsDrive S.does shared.old pass.old (Range start limit columns) result shared.new pass.new }
+    ensures { IsCall S.does S.shows shared.old pass.old (Range start limit columns) result shared.new pass.new }
 {
-    drive(
-        alloc,
-        shared,
-        pass,
-        &mut NoGate,
-        Request::Range {
-            start,
-            limit,
-            columns,
-        },
-    )
+    let request = Request::Range {
+        start,
+        limit,
+        columns,
+    };
+    ask(alloc, shared, pass, request)
 }
 
 /// Makes one change that tidies the tree on the way to `key` (Masstree, EuroSys 2012, section 4.6.5). The answer of the

@@ -1,6 +1,10 @@
 //! Drives a call from its begin to its end, event by event, on whatever shares a machine.
 
-ghost use Rattle.std.specs.Prelude.{◌≡◌, ◌≤◌, IfOk, IfErr};
+ghost use Rattle.std.specs.Prelude.{ℕ, ◌≡◌, ◌≤◌, Option, Result, IfOk, IfErr, IfSome};
+ghost use Rattle.mt_types.specs.declared.numbers.PassNo.{PassNo};
+ghost use Rattle.mt_types.specs.declared.refusal.Refusal.{Refusal};
+ghost use Rattle.mt_types.specs.declared.event.Answer.{Answer};
+ghost use Rattle.mt_types.specs.declared.event.Request.{Request};
 ghost use Rattle.mt_types.specs.declared.event.Event.{Event};
 ghost use Rattle.mt_types.specs.declared.event.Outcome.{Outcome};
 ghost use Rattle.mt_types.specs.Limited.{AnswerIsLimited, OutcomeIsLimited};
@@ -8,7 +12,8 @@ ghost use Rattle.mt_shared.specs.Passes.{PassView, IsTold};
 ghost use Rattle.mt_shared.specs.Drives.{IsReplyTo, IsDriven, IsRefused, Ends};
 
 use crate::pass::Pass;
-use mt_types::event::{Event, Outcome, Reply, Request};
+use mt_types::event::{Answer, Event, Outcome, Reply, Request};
+use mt_types::numbers::PassNo;
 use mt_types::refusal::Refusal;
 use std::alloc::Global;
 use std::thread;
@@ -23,6 +28,19 @@ pub trait Shared {
         ensures does { does self.old pass.old event.now result self.new pass.new }
         ensures told { IsTold pass.old event.now result pass.new }
         ensures limited { OutcomeIsLimited result };
+
+    /// What a read at once of a pass gives for a request, of what is shared.
+    ghost shows: { Self → PassNo → Request → Option (Result (ℕ × Answer) Refusal) → Type 0 };
+
+    /// Answers a get or a range of a pass at once, if it may: returns the number of commits and the answer. Makes no event.
+    fn read(
+        &self,
+        alloc: Global,
+        pass: PassNo,
+        request: &Request,
+    ) -> Option<Result<(u64, Answer), Refusal>>
+        ensures shows { shows self.now pass request.now result }
+        ensures limited { IfSome result (λ read. IfOk read (λ now. AnswerIsLimited now.1)) };
 }
 
 /// What is done between the events of a call.

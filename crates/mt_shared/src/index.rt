@@ -1,10 +1,11 @@
-//! An index that many threads share: one lock around the machine and the books of its passes.
+//! An index that many threads share: one lock around the machine and the books of its passes. Reads share the lock.
 
 ghost use Rattle.std.specs.Prelude.{◌≡◌, ◌⊎◌, true, false, IfOk, IfErr, All, length};
 ghost use Rattle.mt_shared.specs.Passes.{AreNewPasses, HasItsPart, events_by, commits_by};
 ghost use Rattle.mt_shared.specs.Traces.{IsLegalTrace, HaveHappened};
 ghost use Rattle.mt_shared.specs.Kept.{IsKept, IsRefusedBy, DoesSomewhere, start_fault};
 ghost use Rattle.mt_shared.specs.Feeds.{FeedsSomewhere, CopiesSomewhere};
+ghost use Rattle.mt_shared.specs.Reads.{ReadsSomewhere};
 
 use crate::driving::Shared;
 use crate::kept::Kept;
@@ -12,20 +13,20 @@ use crate::pass::Pass;
 use crate::settling::Totals;
 use crate::trace::Entry;
 use mt_index::options::Options;
-use mt_types::event::{Event, Outcome};
+use mt_types::event::{Answer, Event, Outcome, Request};
 use mt_types::limits::{open_fault, passes_fault};
-use mt_types::numbers::ViewNo;
+use mt_types::numbers::{PassNo, ViewNo};
 use mt_types::refusal::Refusal;
 use mt_types::row::Delta;
 use mt_view::state::ViewState;
 use std::alloc::Global;
 use std::marker::Model;
-use std::sync::{Mutex, Wait};
+use std::sync::{RwLock, Wait};
 
 /// An index that many threads share. Contracts see it as the number of its columns.
 pub struct Index {
     columns: u64,
-    pub(crate) kept: Mutex<Kept>,
+    pub(crate) kept: RwLock<Kept>,
 }
 
 impl Model for Index {
@@ -46,8 +47,8 @@ impl Drop for Index {
     }
 }
 
-/// The access of one thread to an index. Each event waits for the lock and holds it once. Between two events the thread
-/// doesn't hold it.
+/// The access of one thread to an index. Each event waits for the lock and holds it alone, once. A read at once waits for
+/// the lock and shares it with other reads. Between two of them the thread doesn't hold the lock.
 #[derive(Drop)]
 pub struct Door<'a, W> {
     index: &'a Index,
@@ -108,7 +109,7 @@ impl Index {
         let passes = new_passes(alloc, passes as u16, traced)?;
         let index = Index {
             columns: options.columns,
-            kept: Mutex::new(kept),
+            kept: RwLock::new(kept),
         };
         Ok((index, passes))
     }
@@ -187,7 +188,7 @@ impl<'a, W> Door<'a, W> {
 
 impl<'a, W: Wait> Door<'a, W> {
     /// Returns the deltas of the commits after the first `from`, at most `limit`, as `Machine::feed` does. Holds the
-    /// lock once. Makes no event.
+    /// lock once, together with other reads. Makes no event.
     ///
     /// # Errors
     ///
@@ -196,11 +197,11 @@ impl<'a, W: Wait> Door<'a, W> {
         ensures { FeedsSomewhere from limit result }
     {
         let index = self.index;
-        index.kept.lock(self.wait).feed(alloc, from, limit)
+        index.kept.read(self.wait).feed(alloc, from, limit)
     }
 
     /// Returns the number of commits at which a view is, and a copy of its state, as `Machine::view_copy` does. Holds
-    /// the lock once. Makes no event.
+    /// the lock once, together with other reads. Makes no event.
     ///
     /// # Errors
     ///
@@ -209,7 +210,7 @@ impl<'a, W: Wait> Door<'a, W> {
         ensures { CopiesSomewhere view.0 result }
     {
         let index = self.index;
-        index.kept.lock(self.wait).view_copy(alloc, view)
+        index.kept.read(self.wait).view_copy(alloc, view)
     }
 }
 
@@ -220,6 +221,20 @@ impl<'a, W: Wait> Shared for Door<'a, W> {
     /// Holds the lock once, for one `Kept::event`.
     fn event(&mut self, alloc: Global, pass: &mut Pass, event: &Event) -> Outcome {
         let index = self.index;
-        index.kept.lock(self.wait).event(alloc, pass, event)
+        index.kept.write(self.wait).event(alloc, pass, event)
+    }
+
+    // somewhere in the order in which the lock is held it was read of what lay there
+    ghost shows = { λ _ pass request result. ReadsSomewhere pass request result };
+
+    /// Holds the lock once, together with other reads, for one `Kept::read`.
+    fn read(
+        &self,
+        alloc: Global,
+        pass: PassNo,
+        request: &Request,
+    ) -> Option<Result<(u64, Answer), Refusal>> {
+        let index = self.index;
+        index.kept.read(self.wait).read(alloc, pass, request)
     }
 }

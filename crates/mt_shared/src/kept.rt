@@ -162,7 +162,7 @@ impl Kept {
         }
     }
 
-    fn has_book(&self, pass: PassNo) -> bool
+    pub(crate) fn has_book(&self, pass: PassNo) -> bool
         ensures { result ≡ has_book pass self.now.books }
     {
         pass.0 != 0 && pass.0 as usize <= self.books.len()

@@ -2,6 +2,7 @@
 //! that are driven to their end step by step.
 #![tactic(auto)]
 
+pub mod asking;
 pub mod book;
 pub mod calls;
 pub mod driving;
@@ -9,6 +10,7 @@ pub mod index;
 pub mod kept;
 pub mod lone;
 pub mod pass;
+pub mod reads;
 pub mod settling;
 pub mod through;
 pub mod trace;

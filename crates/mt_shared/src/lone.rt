@@ -1,19 +1,20 @@
 //! A machine of one caller, without a lock.
 
-ghost use Rattle.std.specs.Prelude.{false, IfOk};
-ghost use Rattle.mt_types.specs.Limited.{OutcomeIsLimited};
+ghost use Rattle.std.specs.Prelude.{false, IfOk, IfSome};
+ghost use Rattle.mt_types.specs.Limited.{AnswerIsLimited, OutcomeIsLimited};
 ghost use Rattle.mt_types.specs.Limits.{open_fault};
 ghost use Rattle.mt_shared.specs.Passes.{IsNewPass};
 ghost use Rattle.mt_shared.specs.Kept.{Does, IsKept, IsFresh, IsRefusedBy};
 ghost use Rattle.mt_shared.specs.Feeds.{Feeds, Copies};
+ghost use Rattle.mt_shared.specs.Reads.{ReadsNow};
 ghost use Rattle.mt_shared.specs.Passes.{IsTold};
 
 use crate::driving::Shared;
 use crate::kept::Kept;
 use crate::pass::Pass;
 use mt_index::options::Options;
-use mt_types::event::{Event, Outcome};
-use mt_types::numbers::ViewNo;
+use mt_types::event::{Answer, Event, Outcome, Request};
+use mt_types::numbers::{PassNo, ViewNo};
 use mt_types::refusal::Refusal;
 use mt_types::row::Delta;
 use mt_view::state::ViewState;
@@ -96,5 +97,21 @@ impl Shared for Lone {
         ensures kept { IsKept self.old × IsKept self.new }
     {
         self.kept.event(alloc, pass, event)
+    }
+
+    ghost shows = { ReadsNow };
+
+    /// Does what `Kept::read` does.
+    fn read(
+        &self,
+        alloc: Global,
+        pass: PassNo,
+        request: &Request,
+    ) -> Option<Result<(u64, Answer), Refusal>>
+        ensures shows { ReadsNow self.now pass request.now result }
+        ensures limited { IfSome result (λ read. IfOk read (λ now. AnswerIsLimited now.1)) }
+        ensures kept { IsKept self.now }
+    {
+        self.kept.read(alloc, pass, request)
     }
 }

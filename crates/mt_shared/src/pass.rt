@@ -1,6 +1,6 @@
 //! Passes: a pass is the right of one caller to make events on an index, with what the caller has done and seen.
 
-ghost use Rattle.std.specs.Prelude.{◌≡◌, ◌+◌, ◌<◌, ◌^◌};
+ghost use Rattle.std.specs.Prelude.{◌≡◌, ◌+◌, ◌<◌, ◌≤◌, ◌^◌};
 ghost use Rattle.mt_shared.specs.Passes.{Counts, IsNewPass};
 
 use crate::book::{commits_in, seen_in};
@@ -81,6 +81,14 @@ impl Pass {
         ensures { result.now ≡ self.now.trace }
     {
         &self.trace
+    }
+
+    // Has the pass see this number of commits, by a read that is no event.
+    pub(crate) fn see(&mut self, at: u64)
+        requires { self.old.seen ≤ at }
+        ensures { self.new ≡ record self.old { seen = at } }
+    {
+        self.seen = at;
     }
 
     // Counts an event that the pass has made, and adds it to its trace if one is kept.

@@ -1,14 +1,17 @@
 //! A door that holds the lock for several events of one call.
 
 ghost use Rattle.mt_shared.specs.Kept.{DoesSomewhere};
+ghost use Rattle.mt_shared.specs.Reads.{ReadsSomewhere};
 
 use crate::driving::Shared;
 use crate::index::Index;
 use crate::kept::Kept;
 use crate::pass::Pass;
-use mt_types::event::{Event, Outcome};
+use mt_types::event::{Answer, Event, Outcome, Request};
+use mt_types::numbers::PassNo;
+use mt_types::refusal::Refusal;
 use std::alloc::Global;
-use std::sync::{MutexGuard, Wait};
+use std::sync::{RwLockWriteGuard, Wait};
 
 /// The access of one thread to an index, for calls that are driven to their end. It is like a `Door`, but makes the
 /// events of a call one after the other while it holds the lock once, until the call ends, waits for another, or `most`
@@ -23,7 +26,7 @@ pub struct ThroughDoor<'a, W> {
     wait: &'a W,
     most: u32,
     left: u32,
-    held: Option<MutexGuard<'a, Kept>>,
+    held: Option<RwLockWriteGuard<'a, Kept>>,
 }
 
 impl<'a, W> ThroughDoor<'a, W> {
@@ -59,7 +62,7 @@ impl<'a, W: Wait> Shared for ThroughDoor<'a, W> {
             Some(kept) => kept,
             None => {
                 self.left = self.most;
-                index.kept.lock(self.wait)
+                index.kept.write(self.wait)
             }
         };
         let outcome = kept.event(alloc, pass, event);
@@ -68,5 +71,23 @@ impl<'a, W: Wait> Shared for ThroughDoor<'a, W> {
             self.held = Some(kept);
         }
         outcome
+    }
+
+    // somewhere in the order in which the lock is held it was read of what lay there
+    ghost shows = { λ _ pass request result. ReadsSomewhere pass request result };
+
+    /// Makes one `Kept::read`, while the lock is held for the events of an open call, or else while it is held together
+    /// with other reads.
+    fn read(
+        &self,
+        alloc: Global,
+        pass: PassNo,
+        request: &Request,
+    ) -> Option<Result<(u64, Answer), Refusal>> {
+        let index = self.index;
+        match &self.held {
+            Some(kept) => kept.read(alloc, pass, request),
+            None => index.kept.read(self.wait).read(alloc, pass, request),
+        }
     }
 }

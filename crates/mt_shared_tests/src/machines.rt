@@ -66,19 +66,25 @@ fn are_told(outcomes: &[Outcome]) -> bool {
         && answer(outcomes.get(14)) == Some(&Answer::Built(ViewNo(1)))
 }
 
-// No call is open, and the key's row is of version 1.
+// No put, remove or tidy is open, and the key's row is of version 1 and has one column.
 fn gets(alloc: Global, machine: &Machine) -> Result<bool, Refusal> {
-    if !machine.is_idle() {
+    if !machine.is_quiet() {
         return Ok(false);
     }
     let key = Key::new(Bytes::from_static(b"a"))?;
+    let Some(borrowed) = machine.row(&key) else {
+        return Ok(false);
+    };
+    if borrowed.columns.as_slice().len() != 1 {
+        return Ok(false);
+    }
     let row = machine.get(alloc, key, Items::new(alloc))?;
     Ok(matches!(&row, Some(row) if row.version == 1))
 }
 
-// No call is open, and a range of all gives one row.
+// No put, remove or tidy is open, and a range of all has one row.
 fn ranges(alloc: Global, machine: &Machine) -> Result<bool, Refusal> {
-    if !machine.is_idle() {
+    if !machine.is_quiet() {
         return Ok(false);
     }
     let first = Key::new(Bytes::new())?;

@@ -107,6 +107,42 @@ fn passes_of_another_index(rt: HostRuntime) -> Result<(), Fail> {
 }
 
 #[test]
+fn reads_at_once(rt: HostRuntime) -> Result<(), Fail> {
+    let alloc = rt.alloc();
+    let (index, mut passes) = Index::start(alloc, OPTIONS, 1)?;
+    let mut door = Door::new(&index, &rt);
+    let pass = &mut passes[0];
+    let _ = put_key(alloc, &mut door, pass)?;
+    let events = pass.events();
+    let got = get_key(alloc, &mut door, pass)?;
+    assert_eq!(rt; (got.call.0, got.from, got.to), (0, 1, 1));
+    assert_eq!(rt; pass.events(), events);
+    let remove = Request::Remove {
+        key: Bytes::from_static(KEY),
+    };
+    let begun = door.event(alloc, pass, &Event::Begin(PassNo(1), remove));
+    assert!(rt; matches!(begun, Outcome::Call(CallNo(2))));
+    let driven = get_key(alloc, &mut door, pass)?;
+    assert_eq!(rt; driven.call.0, 3);
+    assert!(rt; matches!(&driven.answer, Answer::Found(row) if row.version == 1));
+    assert!(rt; pass.events() > events + 2);
+    Ok(())
+}
+
+#[test]
+fn recorded_reads(rt: HostRuntime) -> Result<(), Fail> {
+    let alloc = rt.alloc();
+    let (index, mut passes) = Index::record(alloc, OPTIONS, 1)?;
+    let mut door = Door::new(&index, &rt);
+    let got = get_key(alloc, &mut door, &mut passes[0])?;
+    assert_eq!(rt; got.call.0, 1);
+    let events = passes[0].events();
+    let trace = index.close_record(passes)?;
+    assert_eq!(rt; trace.len() as u64, events);
+    Ok(())
+}
+
+#[test]
 fn one_caller(rt: HostRuntime) -> Result<(), Fail> {
     let alloc = rt.alloc();
     let (mut lone, mut pass) = Lone::start(alloc, OPTIONS)?;

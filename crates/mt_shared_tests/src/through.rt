@@ -1,7 +1,7 @@
 //! A `ThroughDoor` that has ended its call holds no lock: another thread's call ends while it is still there.
 
-use crate::audit::OPTIONS;
 use bytes::Bytes;
+use mt_index::options::Options;
 use mt_shared::calls::{get, put};
 use mt_shared::index::{Door, Index};
 use mt_shared::pass::Pass;
@@ -17,6 +17,12 @@ use std::test::Fail;
 use std::thread;
 use std::thread::{Threads, join};
 use std::time::Duration;
+
+const OPTIONS: Options = Options {
+    columns: 1,
+    feed: 4096,
+    keep: 0,
+};
 
 const KEY: &[u8] = b"a";
 

@@ -1,0 +1,87 @@
+-- A read at once on an index of one caller: the answer is that of a plain store, and nothing has changed but what the
+-- pass has seen.
+use Rattle.std.proofs.Common.{ℕ, ◌≡◌, ◌≤◌, ◌<◌, ◌∙◌, ◌⊎◌, List, [], ◌++◌, length, Option, Some, None, Result, Ok, Err, refl, sym, ap, subst, inl, inr, arith, append-nil}
+use Rattle.std.specs.Prelude.{MatchOption}
+use Rattle.mt_types.specs.Limits.{request_fault}
+use Rattle.mt_types.specs.Rows.{Rows}
+use Rattle.mt_types.specs.declared.row.Change.{Change}
+use Rattle.mt_types.specs.declared.refusal.Refusal.{Refusal}
+use Rattle.mt_types.specs.declared.refusal.Refusal.TheVariants.{NoMemory, WrongPass}
+use Rattle.mt_types.specs.declared.event.Answer.{Answer}
+use Rattle.mt_types.specs.declared.event.Answer.TheVariants as answers
+use Rattle.mt_types.specs.declared.event.Request.{Request}
+use Rattle.mt_types.specs.declared.event.Request.TheVariants.{Get, Range}
+use Rattle.mt_types.specs.declared.event.Reply.{Reply}
+use Rattle.mt_promise.specs.History.{History, StandingView, moment, rows, view_built}
+use Rattle.mt_promise.specs.Alone.{IsPlain, EndsPlainly}
+use Rattle.mt_shared.specs.Passes.{PassView}
+use Rattle.mt_shared.specs.Kept.{KeptView, IsRefusedBy, has_book}
+use Rattle.mt_shared.specs.Reads.{IsRead, IsNow, IsPlainNow, IsReadNow, IsToldNow, ReadsNow, read_reply}
+use Rattle.mt_serve.specs.Plain.{IsAlone, IsReadAtOnce, store_of}
+
+pub read_same : (s t : KeptView) (p q : PassView) (request : Request) (result : Result Reply Refusal) → IsReadNow ReadsNow s p request result t q → t ≡ s
+read_same s t p q request result read = read.same
+
+-- a read that has an answer breaks no limit
+within : (fault : Option Refusal) (now : ℕ × Answer) → IsRefusedBy fault (Ok now) → fault ≡ None
+within None now why = refl
+within (Some due) now why = absurd (let clash : ◌≡◌ {A = Result (ℕ × Answer) Refusal} (Ok now) (Err due) = why in cc)
+
+-- and one that is refused is refused for the limit that it breaks, or out of memory
+due : (fault : Option Refusal) (refusal : Refusal) → IsRefusedBy {T = ℕ × Answer} fault (Err refusal) → MatchOption fault (refusal ≡ NoMemory) (λ limit. refusal ≡ limit)
+due None refusal why = why
+due (Some limit) refusal why = let is : ◌≡◌ {A = Result (ℕ × Answer) Refusal} (Err refusal) (Err limit) = why in cc is
+
+builds_none : (request : Request) (answer : Answer) (n : ℕ) → IsRead request → view_built request answer n ≡ []
+builds_none (Get key asked) answer n read = refl
+builds_none (Range start limit asked) answer n read = refl
+builds_none _ answer n read = absurd read
+
+module _ (s : KeptView) (p : PassView) (h : History) (request : Request) (a : IsAlone s p h) where
+  -- a pass that has seen as much as there is now
+  sees : (at : ℕ) → at ≡ length (moment h).commits → IsAlone s (record p { seen = at }) h
+  sees at is = record {
+    stands = a.stands;
+    ended = a.ended;
+    few_views = a.few_views;
+    own = a.own;
+    seen = omega (arith, is);
+    counted = a.counted;
+  }
+
+  ends : (at : ℕ) (answer : Answer) → at ≡ length (moment h).commits → IsRead request → IsPlainNow s.machine request answer
+      → EndsPlainly s.machine.columns h p.number (record { 0 = 0 }) request (read_reply p.number at answer) (moment h)
+  ends at answer is read plain = record {
+    same_pass = refl;
+    same_call = refl;
+    from = is;
+    to = is;
+    made = [];
+    plain = plain h a.stands;
+    commits = sym (append-nil (moment h).commits);
+    views = sym (ap (λ (l : List StandingView). (moment h).views ++ l) (builds_none request answer (length (moment h).commits) read) ∙ append-nil (moment h).views);
+    closed = a.ended;
+  }
+
+  -- what came of a read at once
+  Came : Result Reply Refusal → KeptView → PassView → Type 0
+  Came result t q = IsAlone t q h × IsReadAtOnce (store_of s h) request result (store_of t h)
+
+  told : (read : Result (ℕ × Answer) Refusal) (result : Result Reply Refusal) (q : PassView) → ReadsNow s p.number request (Some read) → IsToldNow p read result q → Came result s q
+  told (Ok (at, answer)) result q shown (inl (less, is, same)) =
+      let now = shown.answer.0 h a.stands in
+      let seen = a.seen in absurd (omega (arith, less, now, seen))
+  told (Ok (at, answer)) result q shown (inr (most, is, same)) =
+      let now = shown.answer.0 h a.stands in
+      let read = (shown.may.0 refl).0 in
+      subst (λ (r : Result Reply Refusal). Came r s q) (sym is)
+      (subst (λ (v : PassView). Came (Ok (read_reply p.number at answer)) s v) (sym same)
+      (sees at now, (refl, read, within (request_fault s.machine.columns request) (at, answer) shown.fault, ends at answer now read shown.answer.1)))
+  told (Err refusal) result q shown (is, same) =
+      subst (λ (r : Result Reply Refusal). Came r s q) (sym is)
+      (subst (λ (v : PassView). Came (Err refusal) s v) (sym same)
+      (a, (refl, (shown.may.0 refl).0, due (request_fault s.machine.columns request) refusal shown.fault)))
+
+pub read_ends : (s t : KeptView) (p q : PassView) (h : History) (request : Request) (result : Result Reply Refusal) → IsAlone s p h → IsReadNow ReadsNow s p request result t q
+    → IsAlone t q h × IsReadAtOnce (store_of s h) request result (store_of t h)
+read_ends s t p q h request result a read = subst (λ (k : KeptView). Came s p h request a result k q) (sym read.same) (told s p h request a read.read result q read.shown read.told)

@@ -1,0 +1,61 @@
+//! Calls as a caller makes them: a get or a range is read at once if it may be, and every other call is driven.
+
+ghost use Rattle.std.specs.Prelude.{◌≡◌, ◌≤◌, IfOk};
+ghost use Rattle.mt_types.specs.Limited.{AnswerIsLimited};
+ghost use Rattle.mt_shared.specs.Drives.{IsReplyTo};
+ghost use Rattle.mt_shared.specs.Reads.{IsCall, IsToldNow};
+
+use crate::driving::{NoGate, Shared, drive};
+use crate::pass::Pass;
+use mt_types::event::{Answer, Reply, Request};
+use mt_types::numbers::CallNo;
+use mt_types::refusal::Refusal;
+use std::alloc::Global;
+
+// Returns the reply that a pass gets of a read at once.
+fn reply_now(pass: &mut Pass, read: Result<(u64, Answer), Refusal>) -> Result<Reply, Refusal>
+    ensures told { IsToldNow pass.old read result pass.new }
+{
+    let (at, answer) = read?;
+    if at < pass.seen() {
+        return Err(Refusal::WrongPass);
+    }
+    pass.see(at);
+    Ok(Reply {
+        pass: pass.number(),
+        call: CallNo(0),
+        from: at,
+        to: at,
+        answer,
+    })
+}
+
+/// Makes one call of a pass, and returns its reply. A get or a range is read at once, if no put, remove or tidy is open
+/// and the index keeps no trace: it makes no event, its reply is of call 0, and begins and ends at the number of commits at that
+/// moment. Otherwise it is driven from its begin to its end, as [`drive`] does, and so is every other call.
+///
+/// Over a door a read at once holds the lock once, together with other reads.
+///
+/// Costs what `Machine::get`, `Machine::range` or [`drive`] costs.
+///
+/// # Errors
+///
+/// Those of [`drive`]. A read at once has the limits that the request breaks, `NoMemory`, and `WrongPass` if there are
+/// fewer commits than the pass had seen: then the pass is of another index.
+pub fn ask<S: Shared>(
+    alloc: Global,
+    shared: &mut S,
+    pass: &mut Pass,
+    request: Request,
+) -> Result<Reply, Refusal>
+    ensures call { IsCall S.does S.shows shared.old pass.old request result shared.new pass.new }
+    ensures reply { IfOk result (λ reply. IsReplyTo pass.old reply pass.new) }
+    ensures number { pass.new.number ≡ pass.old.number }
+    ensures seen { pass.old.seen ≤ pass.new.seen }
+    ensures limited { IfOk result (λ reply. AnswerIsLimited reply.answer) }
+{
+    match shared.read(alloc, pass.number(), &request) {
+        Some(read) => reply_now(pass, read),
+        None => drive(alloc, shared, pass, &mut NoGate, request),
+    }
+}
