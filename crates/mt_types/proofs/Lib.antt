@@ -1,3 +1,4 @@
--- Lemmas on the columns of a row, and on ranges.
+-- Lemmas on the columns of a row, on ranges, and on the numbers of refusals and tidies.
 pub mod ColumnLemmas
 pub mod RangeLemmas
+pub mod NumberLaws

@@ -7,4 +7,5 @@ pub mod Limits
 pub mod Limited
 pub mod Numbers
 pub mod RefusalNumbers
+pub mod TidyNumbers
 pub mod Copies

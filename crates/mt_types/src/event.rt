@@ -2,6 +2,7 @@
 
 ghost use Rattle.std.specs.Prelude.{◌≡◌, IfOk, IsOk};
 ghost use Rattle.mt_types.specs.Copies.{IsBareEvent, IsBareAnswer, IsBareOutcome};
+ghost use Rattle.mt_types.specs.TidyNumbers.{tidy_number, tidy_of};
 
 use crate::copying::TryCopy;
 use crate::numbers::{CallNo, PassNo, ViewNo};
@@ -155,6 +156,36 @@ pub enum Outcome {
     Freed(u32),
     /// The event was refused, or the call has ended refused.
     Refused(Refusal),
+}
+
+impl TidyRule {
+    /// Returns the number of the rule, as frames and C callers get it.
+    pub fn number(&self) -> u8
+        ensures { result ≡ tidy_number self.now }
+    {
+        match self {
+            TidyRule::Nothing => 0,
+            TidyRule::EmptyBorder => 1,
+            TidyRule::LoneChild => 2,
+            TidyRule::LoneRootChild => 3,
+            TidyRule::EmptyLayer => 4,
+        }
+    }
+
+    /// Returns the rule of this number, or `None` if no rule has it.
+    #[tactic(auto, unfolding(crate::specs::TidyNumbers::tidy_of))]
+    pub fn of(number: u8) -> Option<TidyRule>
+        ensures { result ≡ tidy_of number }
+    {
+        match number {
+            0 => Some(TidyRule::Nothing),
+            1 => Some(TidyRule::EmptyBorder),
+            2 => Some(TidyRule::LoneChild),
+            3 => Some(TidyRule::LoneRootChild),
+            4 => Some(TidyRule::EmptyLayer),
+            _ => None,
+        }
+    }
 }
 
 impl TryCopy for Request {

@@ -1,7 +1,7 @@
 //! Why the index refuses: the causes, each with its number and its message.
 
 ghost use Rattle.std.specs.Prelude.{◌≡◌};
-ghost use Rattle.mt_types.specs.RefusalNumbers.{refusal_number, refusal_detail};
+ghost use Rattle.mt_types.specs.RefusalNumbers.{refusal_number, refusal_detail, refusal_of};
 
 use std::alloc::{AllocError, AllocFailed};
 use thiserror::Error;
@@ -67,6 +67,34 @@ pub enum Refusal {
 }
 
 impl Refusal {
+    /// Returns the refusal of this number, with its detail, or `None` if no refusal has them. The detail of a refusal
+    /// that has none is 0.
+    #[tactic(auto, unfolding(crate::specs::RefusalNumbers::refusal_of))]
+    pub fn of(number: u8, detail: u64) -> Option<Refusal>
+        ensures { result ≡ refusal_of number detail }
+    {
+        let refusal = match number {
+            1 => Refusal::NoMemory,
+            2 => Refusal::KeyTooLong,
+            3 => Refusal::BadColumn,
+            4 => Refusal::ColumnTooLong,
+            5 => Refusal::BadLimit,
+            6 => Refusal::ArenaFull,
+            7 => return Some(Refusal::FeedFull(detail)),
+            8 => Refusal::TooManyCalls,
+            9 => Refusal::NoSuchCall,
+            10 => Refusal::TooManyViews,
+            11 => Refusal::NoSuchView,
+            12 => return Some(Refusal::Behind(detail)),
+            13 => Refusal::BadRange,
+            14 => Refusal::Spent,
+            15 => Refusal::WrongPass,
+            16 => return Some(Refusal::OtherVersion(detail)),
+            _ => return None,
+        };
+        if detail == 0 { Some(refusal) } else { None }
+    }
+
     /// Returns the number of the cause, as texts and frames write it.
     pub fn number(&self) -> u8
         ensures { result ≡ refusal_number self.now }

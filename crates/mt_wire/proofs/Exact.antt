@@ -36,7 +36,7 @@ pub guard_some : {A : Type 0} (b : Bool) (x y : A) → cond b None (Some x) ≡ 
 guard_some true x y e = absurd cc
 guard_some false x y e = (refl, cc)
 
-abbrev some : {A : Type 0} → A → Option A
+abbrev pub some : {A : Type 0} → A → Option A
 some x = Some x
 
 pub some_is : {A : Type 0} (x y : A) → some x ≡ some y → x ≡ y

@@ -1,22 +1,17 @@
 -- How long the spelling of an answer is at most, if the answer keeps the limits of an index.
-use Rattle.std.proofs.Common.{◌≡◌, ℕ, ◌+◌, ◌*◌, ◌/◌, ◌%◌, ◌^◌, ◌<◌, ◌≤◌, List, [], ◌∷◌, ◌++◌, length, All, refl, subst, sym, arith, length-append}
-use Rattle.std.specs.List.{AllByRecursion, flat_map, sum_by}
-use Rattle.std.specs.Int.{w16, w64, to_be_bytes}
+use Rattle.std.proofs.Common.{ℕ, ◌*◌, ◌≤◌, List, [], ◌∷◌, length, All, arith, length-append}
+use Rattle.std.specs.List.{AllByRecursion, flat_map}
 use Rattle.std.proofs.lemmas.List.Elements.{All-nil, All-cons}
 use Rattle.std.proofs.lemmas.List.Concat.{length-flat_map}
 use Rattle.std.proofs.lemmas.List.Sums.{sum_by-le}
 use Rattle.mt_types.specs.declared.row.Row.{Row}
-use Rattle.mt_types.specs.declared.event.TidyRule.{TidyRule}
-use Rattle.mt_types.specs.declared.event.TidyRule.TheVariants.{Nothing, EmptyBorder, LoneChild, LoneRootChild, EmptyLayer}
 use Rattle.mt_types.specs.declared.limits.TheConstants.{MAX_COLUMN_BYTES}
-use Rattle.mt_wire.specs.declared.limits.TheConstants.{MAX_REPLY_BODY}
 use Rattle.mt_wire.specs.declared.response.Response.{Response}
 use Rattle.mt_wire.specs.declared.response.Response.TheVariants.{Refused, Done, View, Dropped}
 use Rattle.mt_wire.specs.declared.response.End.{End}
 use Rattle.mt_wire.specs.declared.response.End.TheVariants.{Absent, Found, Committed, Rows, Tidied, Built}
-use Rattle.mt_wire.specs.Spelling.{key_spelling, short_spelling, sum_spelling, row_spelling, pair_spelling, pairs_spelling, rule_spelling, response_spelling, body_of}
+use Rattle.mt_wire.specs.Spelling.{key_spelling, short_spelling, sum_spelling, row_spelling, pair_spelling, pairs_spelling, response_spelling}
 use Rattle.mt_wire.specs.Fits.{ShortFits, RowLengths, EndLengthsOf, ResponseLengths}
-use Rattle.mt_wire.specs.Frames.{Holds, RepliesLengths}
 use Rattle.mt_types.specs.Limited.{ColumnIsLimited, RowIsLimited, PairIsLimited, PairsAreLimited}
 use Rattle.mt_wire.specs.Limited.{EndIsLimited, ResponseIsLimited}
 use Rattle.mt_wire.specs.Laws.{LimitedRepliesFit}
@@ -61,13 +56,6 @@ pairs_most pairs h =
 
 -- ---- answers
 
-rule_is_one : (rule : TidyRule) → length (rule_spelling rule) ≡ 1
-rule_is_one Nothing = refl
-rule_is_one EmptyBorder = refl
-rule_is_one LoneChild = refl
-rule_is_one LoneRootChild = refl
-rule_is_one EmptyLayer = refl
-
 sums_most : (sums : List ℕ) → length (flat_map sum_spelling sums) ≤ length sums * 16
 sums_most sums = spelled_most (λ (sum : ℕ). Unit {0}) sum_spelling 16 (λ sum is. omega arith) sums (any sums)
   where
@@ -81,7 +69,7 @@ response_most (Done start stop Absent) h = omega arith
 response_most (Done start stop (Found row)) h = let most = row_most row h in omega (arith, most)
 response_most (Done start stop (Committed number)) h = omega arith
 response_most (Done start stop (Rows pairs)) h = let most = pairs_most pairs h in omega (arith, most)
-response_most (Done start stop (Tidied rule)) h = let one = rule_is_one rule in omega (arith, one)
+response_most (Done start stop (Tidied rule)) h = omega arith
 response_most (Done start stop (Built view)) h = omega arith
 response_most (View page) h =
     let rows = pairs_most page.rows h.1 in

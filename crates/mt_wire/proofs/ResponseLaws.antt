@@ -1,21 +1,24 @@
 -- Reading undoes the spelling of answers.
-use Rattle.std.proofs.Common.{◌≡◌, ℕ, zero, suc, ◌+◌, ◌*◌, ◌/◌, ◌%◌, ◌^◌, ◌<◌, ◌≤◌, Bool, true, false, cond, eqb, ltb, List, [], ◌∷◌, ◌++◌, length, Some, None, refl, subst, arith}
+use Rattle.std.proofs.Common.{◌≡◌, ℕ, zero, suc, ◌+◌, ◌*◌, ◌/◌, ◌%◌, ◌^◌, ◌<◌, ◌≤◌, Bool, true, false, cond, ltb, List, [], ◌∷◌, ◌++◌, length, Some, None, refl, sym, ap, subst, ◌∙◌, arith}
+use Rattle.std.specs.Prelude.{unwrap_or}
 use Rattle.std.specs.List.{AllByRecursion}
 use Rattle.std.specs.Int.{w64, to_be_bytes}
-use Rattle.std.proofs.lemmas.Bool.{ltb-false, le-ltb, eqb-true}
+use Rattle.std.proofs.lemmas.Bool.{ltb-false, le-ltb}
 use Rattle.mt_types.specs.declared.row.Row.{Row}
 use Rattle.mt_types.specs.declared.limits.TheConstants.{MAX_KEY_BYTES}
 use Rattle.mt_types.specs.declared.event.TidyRule.{TidyRule}
-use Rattle.mt_types.specs.declared.event.TidyRule.TheVariants.{Nothing, EmptyBorder, LoneChild, LoneRootChild, EmptyLayer}
+use Rattle.mt_types.specs.TidyNumbers.{tidy_of}
+use Rattle.mt_types.proofs.NumberLaws.{refusal_back, refusal_has, tidy_back, tidy_has}
 use Rattle.mt_types.specs.declared.refusal.Refusal.{Refusal}
-use Rattle.mt_types.specs.declared.refusal.Refusal.TheVariants.{NoMemory, KeyTooLong, BadColumn, ColumnTooLong, BadLimit, ArenaFull, FeedFull, TooManyCalls, NoSuchCall, TooManyViews, NoSuchView, Behind, BadRange, Spent, WrongPass, OtherVersion}
+use Rattle.mt_types.specs.declared.refusal.Refusal.TheVariants.{FeedFull, Behind, OtherVersion}
+use Rattle.mt_types.specs.RefusalNumbers.{refusal_detail, refusal_of}
 use Rattle.mt_wire.specs.declared.response.Response.{Response}
 use Rattle.mt_wire.specs.declared.response.Response.TheVariants.{Refused, Done, View, Dropped}
 use Rattle.mt_wire.specs.declared.response.End.TheVariants.{Absent, Found, Committed, Rows, Tidied, Built}
 use Rattle.mt_wire.specs.Spelling.{key_spelling, sum_spelling, row_spelling, pair_spelling, pairs_spelling, refusal_spelling, rule_spelling, span_spelling, response_spelling}
 use Rattle.mt_wire.specs.Fits.{RowLengths, RefusalNumbers, PairNumbers, ResponseFits}
-use Rattle.mt_wire.specs.Reading.{byte_at, number_at, key_at, counted16_at, kind_at, sum_at, row_at, index_key_at, pair_at, no_detail_at, refusal_rest, rule_rest, response_rest, span_at, absent_at, found_at, committed_at, rows_at, tidied_at, built_at, view_at}
-use Rattle.mt_wire.proofs.Exact.{IsBytes, Takes, IsExact, bind_some, wide64, both_exact, made_takes, made_again, made_exact, kind_exact, nothing_exact, number_exact, key_exact, short_exact, counted_exact, counted16_exact}
+use Rattle.mt_wire.specs.Reading.{◌>>=◌, byte_at, number_at, key_at, counted16_at, kind_at, sum_at, row_at, index_key_at, pair_at, refusal_rest, rule_rest, response_rest, span_at, absent_at, found_at, committed_at, rows_at, tidied_at, built_at, view_at}
+use Rattle.mt_wire.proofs.Exact.{IsBytes, Takes, IsExact, bind_some, some_is, wide64, both_exact, made_takes, made_again, made_exact, kind_exact, nothing_exact, number_exact, key_exact, short_exact, counted_exact, counted16_exact}
 
 abbrev n64 : IsExact ℕ (λ n. n < 2 ^ 64) (λ n. to_be_bytes w64 n) (number_at w64)
 n64 = number_exact w64 (2 ^ 64) wide64
@@ -62,10 +65,6 @@ guard_short : {A : Type 0} (b : Bool) (x y : A) → cond b None (Some x) ≡ Som
 guard_short true x y e = absurd cc
 guard_short false x y e = (refl, cc)
 
-guard_zero : {A : Type 0} (b : Bool) (x y : A) → cond b (Some x) None ≡ Some y → (b ≡ true) × (x ≡ y)
-guard_zero true x y e = (refl, cc)
-guard_zero false x y e = absurd cc
-
 abbrev IndexKeyFits : List ℕ → Type 0
 IndexKeyFits key = length key ≤ MAX_KEY_BYTES
 
@@ -102,81 +101,48 @@ pairs_whole : (pairs : List (List ℕ × Row)) → AllByRecursion (λ pair. RowL
 pairs_whole [] h k = tt
 pairs_whole (pair ∷ pairs) h k = ((k.0.0, (k.0.1, h.0)), pairs_whole pairs h.1 k.1)
 
-no_detail_takes : (bytes : List ℕ) (x : Unit {0} × List ℕ) → IsBytes bytes → no_detail_at bytes ≡ Some x → Takes bytes (to_be_bytes w64 0) x.1 × Unit {0}
-unfolding no_detail_at
-no_detail_takes bytes x fits e =
-    let p = bind_some (number_at w64 bytes) (λ detail. cond (eqb detail.0 0) (Some (tt, detail.1)) None) x e in
-    let g = guard_zero (eqb p.0.0 0) (tt, p.0.1) x p.2 in
-    let t = n64.takes bytes p.0 fits p.1 in
-    let is_zero : p.0.0 ≡ 0 = eqb-true _ _ g.0 in
-    subst (λ (y : Unit {0} × List ℕ). Takes bytes (to_be_bytes w64 0) y.1 × Unit {0}) g.1 (subst (λ (n : ℕ). Takes bytes (to_be_bytes w64 n) p.0.1) is_zero t.0, tt)
+-- the numbers of a refusal fit exactly if its detail, or 0, does
+numbers_of : (refusal : Refusal) → unwrap_or (refusal_detail refusal) 0 < 2 ^ 64 → RefusalNumbers refusal
+numbers_of (FeedFull held_from) h = h
+numbers_of (Behind at) h = h
+numbers_of (OtherVersion found) h = h
+numbers_of _ h = tt
 
-no_detail_again : (x : Unit {0}) (rest : List ℕ) → Unit {0} → no_detail_at (to_be_bytes w64 0 ++ rest) ≡ Some (x, rest)
-unfolding no_detail_at
-no_detail_again x rest h = rw (n64.again 0 rest (omega arith)) refl
-
-no_detail_exact : IsExact (Unit {0}) (λ _. Unit {0}) (λ _. to_be_bytes w64 0) no_detail_at
-no_detail_exact = record { takes = no_detail_takes; again = no_detail_again }
+detail_fits : (refusal : Refusal) → RefusalNumbers refusal → unwrap_or (refusal_detail refusal) 0 < 2 ^ 64
+detail_fits (FeedFull held_from) h = h
+detail_fits (Behind at) h = h
+detail_fits (OtherVersion found) h = h
+detail_fits _ h = omega arith
 
 refusal_takes : (kind : ℕ) (bytes : List ℕ) (y : Refusal × List ℕ) → IsBytes bytes → refusal_rest kind bytes ≡ Some y → Takes (kind ∷ bytes) (refusal_spelling y.0) y.1 × RefusalNumbers y.0
 unfolding refusal_rest
-refusal_takes zero = λ bytes y fits e. absurd cc
-refusal_takes (suc zero) = made_takes (λ _. NoMemory) refusal_spelling RefusalNumbers 1 no_detail_exact (λ x. refl) (λ x h. tt)
-refusal_takes (suc (suc zero)) = made_takes (λ _. KeyTooLong) refusal_spelling RefusalNumbers 2 no_detail_exact (λ x. refl) (λ x h. tt)
-refusal_takes (suc (suc (suc zero))) = made_takes (λ _. BadColumn) refusal_spelling RefusalNumbers 3 no_detail_exact (λ x. refl) (λ x h. tt)
-refusal_takes (suc (suc (suc (suc zero)))) = made_takes (λ _. ColumnTooLong) refusal_spelling RefusalNumbers 4 no_detail_exact (λ x. refl) (λ x h. tt)
-refusal_takes (suc (suc (suc (suc (suc zero))))) = made_takes (λ _. BadLimit) refusal_spelling RefusalNumbers 5 no_detail_exact (λ x. refl) (λ x h. tt)
-refusal_takes (suc (suc (suc (suc (suc (suc zero)))))) = made_takes (λ _. ArenaFull) refusal_spelling RefusalNumbers 6 no_detail_exact (λ x. refl) (λ x h. tt)
-refusal_takes (suc (suc (suc (suc (suc (suc (suc zero))))))) = made_takes (λ x. FeedFull x) refusal_spelling RefusalNumbers 7 n64 (λ x. refl) (λ x h. h)
-refusal_takes (suc (suc (suc (suc (suc (suc (suc (suc zero)))))))) = made_takes (λ _. TooManyCalls) refusal_spelling RefusalNumbers 8 no_detail_exact (λ x. refl) (λ x h. tt)
-refusal_takes (suc (suc (suc (suc (suc (suc (suc (suc (suc zero))))))))) = made_takes (λ _. NoSuchCall) refusal_spelling RefusalNumbers 9 no_detail_exact (λ x. refl) (λ x h. tt)
-refusal_takes (suc (suc (suc (suc (suc (suc (suc (suc (suc (suc zero)))))))))) = made_takes (λ _. TooManyViews) refusal_spelling RefusalNumbers 10 no_detail_exact (λ x. refl) (λ x h. tt)
-refusal_takes (suc (suc (suc (suc (suc (suc (suc (suc (suc (suc (suc zero))))))))))) = made_takes (λ _. NoSuchView) refusal_spelling RefusalNumbers 11 no_detail_exact (λ x. refl) (λ x h. tt)
-refusal_takes (suc (suc (suc (suc (suc (suc (suc (suc (suc (suc (suc (suc zero)))))))))))) = made_takes (λ x. Behind x) refusal_spelling RefusalNumbers 12 n64 (λ x. refl) (λ x h. h)
-refusal_takes (suc (suc (suc (suc (suc (suc (suc (suc (suc (suc (suc (suc (suc zero))))))))))))) = made_takes (λ _. BadRange) refusal_spelling RefusalNumbers 13 no_detail_exact (λ x. refl) (λ x h. tt)
-refusal_takes (suc (suc (suc (suc (suc (suc (suc (suc (suc (suc (suc (suc (suc (suc zero)))))))))))))) = made_takes (λ _. Spent) refusal_spelling RefusalNumbers 14 no_detail_exact (λ x. refl) (λ x h. tt)
-refusal_takes (suc (suc (suc (suc (suc (suc (suc (suc (suc (suc (suc (suc (suc (suc (suc zero))))))))))))))) = made_takes (λ _. WrongPass) refusal_spelling RefusalNumbers 15 no_detail_exact (λ x. refl) (λ x h. tt)
-refusal_takes (suc (suc (suc (suc (suc (suc (suc (suc (suc (suc (suc (suc (suc (suc (suc (suc zero)))))))))))))))) = made_takes (λ x. OtherVersion x) refusal_spelling RefusalNumbers 16 n64 (λ x. refl) (λ x h. h)
-refusal_takes (suc (suc (suc (suc (suc (suc (suc (suc (suc (suc (suc (suc (suc (suc (suc (suc (suc kind))))))))))))))))) = λ bytes y fits e. absurd cc
+refusal_takes kind bytes y fits e =
+    let p = bind_some (number_at w64 bytes) (λ detail. refusal_of kind detail.0 >>= λ refusal. Some (refusal, detail.1)) y e in
+    let q = bind_some (refusal_of kind p.0.0) (λ refusal. Some (refusal, p.0.1)) y p.2 in
+    let t = n64.takes bytes p.0 fits p.1 in
+    let has = refusal_has kind p.0.0 q.0 q.1 in
+    let spelled : refusal_spelling q.0 ≡ kind ∷ to_be_bytes w64 p.0.0 = rw (has.0, has.1) refl in
+    let parts : kind ∷ bytes ≡ refusal_spelling q.0 ++ p.0.1 = ap (λ (w : List ℕ). kind ∷ w) t.0.parts ∙ ap (λ (w : List ℕ). w ++ p.0.1) (sym spelled) in
+    let numbers = numbers_of q.0 (subst (λ (n : ℕ). n < 2 ^ 64) (sym has.1) t.1) in
+    subst (λ (z : Refusal × List ℕ). Takes (kind ∷ bytes) (refusal_spelling z.0) z.1 × RefusalNumbers z.0) (some_is (q.0, p.0.1) y q.2) (record { parts = parts; rest_fits = t.0.rest_fits }, numbers)
 
 refusal_again : (x : Refusal) (rest : List ℕ) → RefusalNumbers x → kind_at refusal_rest (refusal_spelling x ++ rest) ≡ Some (x, rest)
 unfolding kind_at byte_at refusal_rest
-refusal_again NoMemory rest h = made_again (λ _. NoMemory) no_detail_exact tt rest tt
-refusal_again KeyTooLong rest h = made_again (λ _. KeyTooLong) no_detail_exact tt rest tt
-refusal_again BadColumn rest h = made_again (λ _. BadColumn) no_detail_exact tt rest tt
-refusal_again ColumnTooLong rest h = made_again (λ _. ColumnTooLong) no_detail_exact tt rest tt
-refusal_again BadLimit rest h = made_again (λ _. BadLimit) no_detail_exact tt rest tt
-refusal_again ArenaFull rest h = made_again (λ _. ArenaFull) no_detail_exact tt rest tt
-refusal_again (FeedFull at) rest h = made_again (λ x. FeedFull x) n64 at rest h
-refusal_again TooManyCalls rest h = made_again (λ _. TooManyCalls) no_detail_exact tt rest tt
-refusal_again NoSuchCall rest h = made_again (λ _. NoSuchCall) no_detail_exact tt rest tt
-refusal_again TooManyViews rest h = made_again (λ _. TooManyViews) no_detail_exact tt rest tt
-refusal_again NoSuchView rest h = made_again (λ _. NoSuchView) no_detail_exact tt rest tt
-refusal_again (Behind at) rest h = made_again (λ x. Behind x) n64 at rest h
-refusal_again BadRange rest h = made_again (λ _. BadRange) no_detail_exact tt rest tt
-refusal_again Spent rest h = made_again (λ _. Spent) no_detail_exact tt rest tt
-refusal_again WrongPass rest h = made_again (λ _. WrongPass) no_detail_exact tt rest tt
-refusal_again (OtherVersion found) rest h = made_again (λ x. OtherVersion x) n64 found rest h
+refusal_again x rest h = rw (n64.again (unwrap_or (refusal_detail x) 0) rest (detail_fits x h), refusal_back x) refl
 
 refusal_exact : IsExact Refusal RefusalNumbers refusal_spelling (kind_at refusal_rest)
 refusal_exact = kind_exact refusal_takes refusal_again
 
 rule_takes : (kind : ℕ) (bytes : List ℕ) (y : TidyRule × List ℕ) → IsBytes bytes → rule_rest kind bytes ≡ Some y → Takes (kind ∷ bytes) (rule_spelling y.0) y.1 × Unit {0}
 unfolding rule_rest
-rule_takes zero = made_takes (λ _. Nothing) rule_spelling (λ _. Unit {0}) 0 nothing_exact (λ x. refl) (λ x h. tt)
-rule_takes (suc zero) = made_takes (λ _. EmptyBorder) rule_spelling (λ _. Unit {0}) 1 nothing_exact (λ x. refl) (λ x h. tt)
-rule_takes (suc (suc zero)) = made_takes (λ _. LoneChild) rule_spelling (λ _. Unit {0}) 2 nothing_exact (λ x. refl) (λ x h. tt)
-rule_takes (suc (suc (suc zero))) = made_takes (λ _. LoneRootChild) rule_spelling (λ _. Unit {0}) 3 nothing_exact (λ x. refl) (λ x h. tt)
-rule_takes (suc (suc (suc (suc zero)))) = made_takes (λ _. EmptyLayer) rule_spelling (λ _. Unit {0}) 4 nothing_exact (λ x. refl) (λ x h. tt)
-rule_takes (suc (suc (suc (suc (suc kind))))) = λ bytes y fits e. absurd cc
+rule_takes kind bytes y fits e =
+    let q = bind_some (tidy_of kind) (λ rule. Some (rule, bytes)) y e in
+    let parts : kind ∷ bytes ≡ rule_spelling q.0 ++ bytes = ap (λ (n : ℕ). n ∷ bytes) (sym (tidy_has kind q.0 q.1)) in
+    subst (λ (z : TidyRule × List ℕ). Takes (kind ∷ bytes) (rule_spelling z.0) z.1 × Unit {0}) (some_is (q.0, bytes) y q.2) (record { parts = parts; rest_fits = fits }, tt)
 
 rule_again : (x : TidyRule) (rest : List ℕ) → Unit {0} → kind_at rule_rest (rule_spelling x ++ rest) ≡ Some (x, rest)
 unfolding kind_at byte_at rule_rest
-rule_again Nothing rest h = refl
-rule_again EmptyBorder rest h = refl
-rule_again LoneChild rest h = refl
-rule_again LoneRootChild rest h = refl
-rule_again EmptyLayer rest h = refl
+rule_again x rest h = rw (tidy_back x) refl
 
 rule_exact : IsExact TidyRule (λ _. Unit {0}) rule_spelling (kind_at rule_rest)
 rule_exact = kind_exact rule_takes rule_again

@@ -1,6 +1,6 @@
 -- Reading from left to right: a value and the bytes after it, or nothing where no value is spelled there. Contracts of
 -- private calls speak of it; the laws say that it undoes spelling.
-use Rattle.std.specs.Prelude.{◌≡◌, ℕ, zero, suc, ◌+◌, ◌*◌, ◌^◌, List, [], ◌∷◌, length, take, drop, Option, Some, None, Result, Ok, Err, nat_lt, ◌==◌, if◌then◌else◌}
+use Rattle.std.specs.Prelude.{◌≡◌, ℕ, zero, suc, ◌+◌, ◌*◌, ◌^◌, List, [], ◌∷◌, length, take, drop, Option, Some, None, Result, Ok, Err, nat_lt, if◌then◌else◌}
 use Rattle.std.specs.Int.{Width, w16, w64, byte_len, from_be_bytes}
 use Rattle.mt_types.specs.declared.event.Request.TheVariants.{Get, Put, PutIf, Remove, Range, Tidy, Build}
 use Rattle.mt_types.specs.declared.view.ViewSpec.{ViewSpec}
@@ -11,9 +11,9 @@ use Rattle.mt_wire.specs.declared.query.Query.{Query}
 use Rattle.mt_types.specs.declared.row.Row.{Row}
 use Rattle.mt_types.specs.declared.limits.TheConstants.{MAX_KEY_BYTES}
 use Rattle.mt_types.specs.declared.event.TidyRule.{TidyRule}
-use Rattle.mt_types.specs.declared.event.TidyRule.TheVariants.{Nothing, EmptyBorder, LoneChild, LoneRootChild, EmptyLayer}
+use Rattle.mt_types.specs.TidyNumbers.{tidy_of}
 use Rattle.mt_types.specs.declared.refusal.Refusal.{Refusal}
-use Rattle.mt_types.specs.declared.refusal.Refusal.TheVariants.{NoMemory, KeyTooLong, BadColumn, ColumnTooLong, BadLimit, ArenaFull, FeedFull, TooManyCalls, NoSuchCall, TooManyViews, NoSuchView, Behind, BadRange, Spent, WrongPass, OtherVersion}
+use Rattle.mt_types.specs.RefusalNumbers.{refusal_of}
 use Rattle.mt_wire.specs.declared.query.Query.{Query}
 use Rattle.mt_wire.specs.declared.query.Query.TheVariants.{Call, ViewRead, ViewDrop}
 use Rattle.mt_wire.specs.declared.response.Response.{Response}
@@ -185,46 +185,18 @@ index_key_at bytes = do
 unfoldable pub pair_at : Reader (List ℕ × Row)
 pair_at = both index_key_at row_at
 
--- eight bytes of 0
-unfoldable pub no_detail_at : Reader (Unit {0})
-no_detail_at bytes = do
-  detail ← number_at w64 bytes
-  if detail.0 == 0 then Some (tt, detail.1) else None
-
+-- the refusal of this number, with its detail, which is in the next eight bytes
 unfoldable pub refusal_rest : ℕ → Reader Refusal
-refusal_rest zero = λ bytes. None
-refusal_rest (suc zero) = made (λ _. NoMemory) no_detail_at
-refusal_rest (suc (suc zero)) = made (λ _. KeyTooLong) no_detail_at
-refusal_rest (suc (suc (suc zero))) = made (λ _. BadColumn) no_detail_at
-refusal_rest (suc (suc (suc (suc zero)))) = made (λ _. ColumnTooLong) no_detail_at
-refusal_rest (suc (suc (suc (suc (suc zero))))) = made (λ _. BadLimit) no_detail_at
-refusal_rest (suc (suc (suc (suc (suc (suc zero)))))) = made (λ _. ArenaFull) no_detail_at
-refusal_rest (suc (suc (suc (suc (suc (suc (suc zero))))))) = made (λ x. FeedFull x) (number_at w64)
-refusal_rest (suc (suc (suc (suc (suc (suc (suc (suc zero)))))))) = made (λ _. TooManyCalls) no_detail_at
-refusal_rest (suc (suc (suc (suc (suc (suc (suc (suc (suc zero))))))))) = made (λ _. NoSuchCall) no_detail_at
-refusal_rest (suc (suc (suc (suc (suc (suc (suc (suc (suc (suc zero)))))))))) = made (λ _. TooManyViews) no_detail_at
-refusal_rest (suc (suc (suc (suc (suc (suc (suc (suc (suc (suc (suc zero))))))))))) =
-    made (λ _. NoSuchView) no_detail_at
-refusal_rest (suc (suc (suc (suc (suc (suc (suc (suc (suc (suc (suc (suc zero)))))))))))) =
-    made (λ x. Behind x) (number_at w64)
-refusal_rest (suc (suc (suc (suc (suc (suc (suc (suc (suc (suc (suc (suc (suc zero))))))))))))) =
-    made (λ _. BadRange) no_detail_at
-refusal_rest (suc (suc (suc (suc (suc (suc (suc (suc (suc (suc (suc (suc (suc (suc zero)))))))))))))) =
-    made (λ _. Spent) no_detail_at
-refusal_rest (suc (suc (suc (suc (suc (suc (suc (suc (suc (suc (suc (suc (suc (suc (suc zero))))))))))))))) =
-    made (λ _. WrongPass) no_detail_at
-refusal_rest (suc (suc (suc (suc (suc (suc (suc (suc (suc (suc (suc (suc (suc (suc (suc (suc zero)))))))))))))))) =
-    made (λ x. OtherVersion x) (number_at w64)
-refusal_rest (suc (suc (suc (suc (suc (suc (suc (suc (suc (suc (suc (suc (suc (suc (suc (suc (suc kind))))))))))))))))) =
-    λ bytes. None
+refusal_rest kind bytes = do
+  detail ← number_at w64 bytes
+  refusal ← refusal_of kind detail.0
+  Some (refusal, detail.1)
 
+-- the rule of this number, without more bytes
 unfoldable pub rule_rest : ℕ → Reader TidyRule
-rule_rest zero = made (λ _. Nothing) nothing_at
-rule_rest (suc zero) = made (λ _. EmptyBorder) nothing_at
-rule_rest (suc (suc zero)) = made (λ _. LoneChild) nothing_at
-rule_rest (suc (suc (suc zero))) = made (λ _. LoneRootChild) nothing_at
-rule_rest (suc (suc (suc (suc zero)))) = made (λ _. EmptyLayer) nothing_at
-rule_rest (suc (suc (suc (suc (suc kind))))) = λ bytes. None
+rule_rest kind bytes = do
+  rule ← tidy_of kind
+  Some (rule, bytes)
 
 -- the numbers of commits at the begin and at the end of a call, and how it ended
 abbrev pub span_at : Reader (ℕ × ℕ)

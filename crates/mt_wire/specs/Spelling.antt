@@ -10,7 +10,7 @@ use Rattle.mt_types.specs.declared.view.RowTest.TheVariants.{Any, Equals, AtLeas
 use Rattle.mt_wire.specs.declared.query.Query.{Query}
 use Rattle.mt_types.specs.declared.row.Row.{Row}
 use Rattle.mt_types.specs.declared.event.TidyRule.{TidyRule}
-use Rattle.mt_types.specs.declared.event.TidyRule.TheVariants.{Nothing, EmptyBorder, LoneChild, LoneRootChild, EmptyLayer}
+use Rattle.mt_types.specs.TidyNumbers.{tidy_number}
 use Rattle.mt_types.specs.declared.refusal.Refusal.{Refusal}
 use Rattle.mt_types.specs.RefusalNumbers.{refusal_number, refusal_detail}
 use Rattle.mt_wire.specs.declared.query.Query.{Query}
@@ -88,12 +88,9 @@ pairs_spelling pairs = to_be_bytes w16 (length pairs) ++ flat_map pair_spelling 
 abbrev pub refusal_spelling : Refusal → List ℕ
 refusal_spelling refusal = refusal_number refusal ∷ to_be_bytes w64 (unwrap_or (refusal_detail refusal) 0)
 
+-- the number of what a tidy did
 abbrev pub rule_spelling : TidyRule → List ℕ
-rule_spelling Nothing = 0 ∷ []
-rule_spelling EmptyBorder = 1 ∷ []
-rule_spelling LoneChild = 2 ∷ []
-rule_spelling LoneRootChild = 3 ∷ []
-rule_spelling EmptyLayer = 4 ∷ []
+rule_spelling rule = tidy_number rule ∷ []
 
 -- the numbers of commits at the begin and at the end of a call
 abbrev pub span_spelling : ℕ → ℕ → List ℕ

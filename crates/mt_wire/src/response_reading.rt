@@ -1,7 +1,7 @@
 //! Answers, read from the front of the bytes that are left.
 
 ghost use Rattle.std.specs.Prelude.{◌≡◌};
-ghost use Rattle.mt_wire.specs.Reading.{Gives, kind_at, counted_at, counted16_at, span_at, sum_at, pair_at, row_at, index_key_at, no_detail_at, refusal_rest, rule_rest, response_rest, absent_at, found_at, committed_at, rows_at, tidied_at, built_at, view_at};
+ghost use Rattle.mt_wire.specs.Reading.{Gives, kind_at, counted_at, counted16_at, span_at, sum_at, pair_at, row_at, index_key_at, refusal_rest, rule_rest, response_rest, absent_at, found_at, committed_at, rows_at, tidied_at, built_at, view_at};
 
 use crate::fault::ReadError;
 use crate::reading::{Readable, byte, counted, items, key, number16, number64, short};
@@ -78,65 +78,20 @@ fn pairs(alloc: Global, input: &mut Bytes) -> Result<Pairs, ReadError>
     Ok(Items::from_vec(items(alloc, input, usize::from(count))?))
 }
 
-// Eight bytes of 0.
-#[tactic(auto, unfolding(crate::specs::Reading::no_detail_at))]
-fn no_detail(input: &mut Bytes) -> Result<(), ReadError>
-    ensures { Gives (λ x. (x, input.new)) result (no_detail_at input.old) }
-{
-    if number64(input)? == 0 {
-        Ok(())
-    } else {
-        Err(ReadError::Misspelled)
-    }
-}
-
-#[tactic(auto, unfolding(crate::specs::Reading::refusal_rest))]
-fn refusal_of_kind(input: &mut Bytes, kind: u8) -> Result<Refusal, ReadError>
-    ensures { Gives (λ x. (x, input.new)) result (refusal_rest kind input.old) }
-{
-    let refusal = match kind {
-        1 => Refusal::NoMemory,
-        2 => Refusal::KeyTooLong,
-        3 => Refusal::BadColumn,
-        4 => Refusal::ColumnTooLong,
-        5 => Refusal::BadLimit,
-        6 => Refusal::ArenaFull,
-        7 => return Ok(Refusal::FeedFull(number64(input)?)),
-        8 => Refusal::TooManyCalls,
-        9 => Refusal::NoSuchCall,
-        10 => Refusal::TooManyViews,
-        11 => Refusal::NoSuchView,
-        12 => return Ok(Refusal::Behind(number64(input)?)),
-        13 => Refusal::BadRange,
-        14 => Refusal::Spent,
-        15 => Refusal::WrongPass,
-        16 => return Ok(Refusal::OtherVersion(number64(input)?)),
-        _ => return Err(ReadError::Misspelled),
-    };
-    no_detail(input)?;
-    Ok(refusal)
-}
-
-#[tactic(auto, unfolding(crate::specs::Reading::kind_at))]
+#[tactic(auto, unfolding(crate::specs::Reading::refusal_rest, crate::specs::Reading::kind_at))]
 fn refusal(input: &mut Bytes) -> Result<Refusal, ReadError>
     ensures { Gives (λ x. (x, input.new)) result (kind_at refusal_rest input.old) }
 {
-    let kind = byte(input)?;
-    refusal_of_kind(input, kind)
+    let number = byte(input)?;
+    let detail = number64(input)?;
+    Refusal::of(number, detail).ok_or(ReadError::Misspelled)
 }
 
 #[tactic(auto, unfolding(crate::specs::Reading::rule_rest, crate::specs::Reading::kind_at))]
 fn rule(input: &mut Bytes) -> Result<TidyRule, ReadError>
     ensures { Gives (λ x. (x, input.new)) result (kind_at rule_rest input.old) }
 {
-    match byte(input)? {
-        0 => Ok(TidyRule::Nothing),
-        1 => Ok(TidyRule::EmptyBorder),
-        2 => Ok(TidyRule::LoneChild),
-        3 => Ok(TidyRule::LoneRootChild),
-        4 => Ok(TidyRule::EmptyLayer),
-        _ => Err(ReadError::Misspelled),
-    }
+    TidyRule::of(byte(input)?).ok_or(ReadError::Misspelled)
 }
 
 // The numbers of commits at the begin and at the end of a call.

@@ -96,14 +96,7 @@ fn write_refusal(out: &mut Vec<u8>, refusal: &Refusal) -> Result<(), AllocError>
 fn write_rule(out: &mut Vec<u8>, rule: TidyRule) -> Result<(), AllocError>
     ensures { OnOk result (out.new.items ≡ out.old.items ++ rule_spelling rule) }
 {
-    let kind = match rule {
-        TidyRule::Nothing => 0,
-        TidyRule::EmptyBorder => 1,
-        TidyRule::LoneChild => 2,
-        TidyRule::LoneRootChild => 3,
-        TidyRule::EmptyLayer => 4,
-    };
-    out.push(kind)?;
+    out.push(rule.number())?;
     Ok(())
 }
 
