@@ -40,10 +40,11 @@ use Rattle.mt_types.specs.declared.event.Event.{Event}
 use Rattle.mt_types.specs.declared.event.Event.TheVariants.{Begin, Step, Apply, ViewRead, ViewDrop, Advance, Collect}
 use Rattle.mt_types.specs.declared.event.Outcome.{Outcome}
 use Rattle.mt_types.specs.declared.event.Outcome.TheVariants.{Call, Moved, Again, Commit, Done, Applied, Current, View, Dropped, Epoch, Freed, Refused}
-use Rattle.mt_promise.specs.History.{History, Moment, OpenCall, StandingView, moment, call_of, view_of, after_event, after_call_step, after_step, change_of, Sometime}
+use Rattle.mt_promise.specs.History.{History, Moment, OpenCall, StandingView, moment, rows, call_of, view_of, after_event, after_call_step, after_step, change_of, Sometime}
+use Rattle.mt_promise.specs.Alone.{ShowsRow}
 use Rattle.mt_promise.specs.RightAnswers.{RightAnswer, Shows}
 use Rattle.mt_promise.specs.Legal.{Legal, MayHappen, MayBegin, MayStep, MayStepAt, MayApply, MayReadView, MayRead, MayShow, MayDrop, MayAdvance, IsOrLacksMemory, begin_fault, view_places}
-use Rattle.mt_promise.specs.Limited.{OutcomesAreLimited}
+use Rattle.mt_promise.specs.Limited.{OutcomesAreLimited, PlainAnswersAreLimited}
 use Rattle.mt_promise.proofs.HistoryLemmas.{Sometime-end}
 use Rattle.mt_promise.proofs.CallLemmas.{call_before}
 use Rattle.mt_promise.proofs.FinishedLemmas.{done_call}
@@ -363,6 +364,33 @@ answer_limited C past legal few call request (Tidied rule) opens asks right = tt
 answer_limited C past legal few call request (Built view) opens asks right = tt
 answer_limited C past legal few call _ (Found row) opens asks right = absurd right
 answer_limited C past legal few call _ (RowsAnswer pairs) opens asks right = absurd right
+
+-- what is shown of the rows now
+shown_now : (C : ℕ) (past : History) → Legal C past → C ≤ MAX_COLUMNS → (key asked : List ℕ) (answer : Row) → columns_fault C asked ≡ None → ShowsRow (rows C (moment past)) asked key answer → PairIsLimited (key, answer)
+shown_now C past legal few key asked answer named (row, there, is) =
+    let kept = rows_kept C (moment past).commits (limited_at C past legal).changes key row there in
+    (kept.fits, subst (λ (r : Row). RowIsLimited r) (sym is) (shown_limited C asked row few named kept.many kept.short))
+
+pub plain_answers_are_limited : PlainAnswersAreLimited
+plain_answers_are_limited C past (Get key asked) (Found row) few legal asks (shown, nothing) =
+    let limits = neither_of (key_fault key) (columns_fault C asked) asks in
+    (shown_now C past legal few key asked row limits.1 shown).1
+plain_answers_are_limited C past (Range start limit asked) (RowsAnswer pairs) few legal asks (range, nothing) =
+    let limits = neither_of (key_fault start) (option_or (columns_fault C asked) (limit_fault limit)) asks in
+    let named = neither_of (columns_fault C asked) (limit_fault limit) limits.1 in
+    let most = limit_fits limit named.1 in
+    let fewer = range.few in (
+      omega (arith, most, fewer),
+      each_of (λ pair. ShowsRow (rows C (moment past)) asked pair.0 pair.1) PairIsLimited (λ pair shown. shown_now C past legal few pair.0 asked pair.1 named.0 shown) pairs
+          (recursion_from_All (λ pair. ShowsRow (rows C (moment past)) asked pair.0 pair.1) pairs range.stood),
+    )
+plain_answers_are_limited C past request Absent few legal asks plain = tt
+plain_answers_are_limited C past request (Stored number) few legal asks plain = tt
+plain_answers_are_limited C past request (Removed number) few legal asks plain = tt
+plain_answers_are_limited C past request (Tidied rule) few legal asks plain = tt
+plain_answers_are_limited C past request (Built view) few legal asks plain = tt
+plain_answers_are_limited C past _ (Found row) few legal asks plain = absurd plain
+plain_answers_are_limited C past _ (RowsAnswer pairs) few legal asks plain = absurd plain
 
 -- ---- pages
 none_below : (x : List ℕ) (es : List (List ℕ × Row)) → T (below_all key_cmp x es) → find key_cmp x es ≡ None
