@@ -17,17 +17,13 @@ use Rattle.mt_promise.specs.Alone.{IsPlain, EndsPlainly}
 use Rattle.mt_shared.specs.Passes.{PassView}
 use Rattle.mt_shared.specs.Kept.{KeptView, IsRefusedBy, has_book}
 use Rattle.mt_shared.specs.Reads.{IsRead, IsNow, IsPlainNow, IsReadNow, IsToldNow, ReadsNow, read_reply}
+use Rattle.mt_shared.proofs.ReadLemmas.{unbroken}
 use Rattle.mt_serve.specs.Plain.{IsAlone, IsReadAtOnce, store_of}
 
 pub read_same : (s t : KeptView) (p q : PassView) (request : Request) (result : Result Reply Refusal) → IsReadNow ReadsNow s p request result t q → t ≡ s
 read_same s t p q request result read = read.same
 
--- a read that has an answer breaks no limit
-within : (fault : Option Refusal) (now : ℕ × Answer) → IsRefusedBy fault (Ok now) → fault ≡ None
-within None now why = refl
-within (Some due) now why = absurd (let clash : ◌≡◌ {A = Result (ℕ × Answer) Refusal} (Ok now) (Err due) = why in cc)
-
--- and one that is refused is refused for the limit that it breaks, or out of memory
+-- a read that is refused is refused for the limit that it breaks, or out of memory
 due : (fault : Option Refusal) (refusal : Refusal) → IsRefusedBy {T = ℕ × Answer} fault (Err refusal) → MatchOption fault (refusal ≡ NoMemory) (λ limit. refusal ≡ limit)
 due None refusal why = why
 due (Some limit) refusal why = let is : ◌≡◌ {A = Result (ℕ × Answer) Refusal} (Err refusal) (Err limit) = why in cc is
@@ -76,7 +72,7 @@ module _ (s : KeptView) (p : PassView) (h : History) (request : Request) (a : Is
       let read = (shown.may.0 refl).0 in
       subst (λ (r : Result Reply Refusal). Came r s q) (sym is)
       (subst (λ (v : PassView). Came (Ok (read_reply p.number at answer)) s v) (sym same)
-      (sees at now, (refl, read, within (request_fault s.machine.columns request) (at, answer) shown.fault, ends at answer now read shown.answer.1)))
+      (sees at now, (refl, read, unbroken (request_fault s.machine.columns request) (at, answer) shown.fault, ends at answer now read shown.answer.1)))
   told (Err refusal) result q shown (is, same) =
       subst (λ (r : Result Reply Refusal). Came r s q) (sym is)
       (subst (λ (v : PassView). Came (Err refusal) s v) (sym same)

@@ -4,3 +4,4 @@ pub mod ToldLemmas
 pub mod DriveLemmas
 pub mod TurnLemmas
 pub mod PassLemmas
+pub mod ReadLemmas

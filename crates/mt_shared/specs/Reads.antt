@@ -1,5 +1,5 @@
 -- A READ AT ONCE: a get or a range that is answered from the rows of one moment. It is no event.
-use Rattle.std.specs.Prelude.{ℕ, true, ◌≡◌, ◌≤◌, ◌<◌, ◌⊎◌, ◌↔◌, [], length, Option, Some, None, Result, Ok, Err, IfOk, IfSome, IsSome}
+use Rattle.std.specs.Prelude.{ℕ, true, ◌≡◌, ◌≤◌, ◌<◌, ◌⊎◌, ◌↔◌, [], length, Option, Some, Result, Ok, Err, IfOk, IfSome, IsSome}
 use Rattle.mt_types.specs.Limits.{request_fault}
 use Rattle.mt_types.specs.declared.numbers.PassNo.{PassNo}
 use Rattle.mt_types.specs.declared.refusal.Refusal.{Refusal}

@@ -113,10 +113,10 @@ impl Kept {
         ensures limited { IfSome result (λ read. IfOk read (λ now. AnswerIsLimited now.1)) }
         ensures kept { IsKept self.now }
     {
+        let at = self.machine.commits();
         if !is_read(request) || !self.may_read(pass) {
             return None;
         }
-        let at = self.machine.commits();
         match answer(&self.machine, alloc, request) {
             Ok(answer) => Some(Ok((at, answer))),
             Err(refusal) => Some(Err(refusal)),
