@@ -2,8 +2,7 @@
 use Rattle.std.specs.Prelude.{ℕ, ◌≡◌, ◌<◌, ◌≤◌, ◌⊎◌, List, ◌++◌, length, drop, Result, Ok, Err, Option, Some, None, unwrap_or}
 use Rattle.mt_types.specs.RefusalNumbers.{refusal_number, refusal_detail}
 use Rattle.mt_types.specs.declared.refusal.Refusal.{Refusal}
-use Rattle.mt_types.specs.declared.event.TidyRule.{TidyRule}
-use Rattle.mt_types.specs.declared.event.TidyRule.TheVariants.{Nothing, EmptyBorder, LoneChild, LoneRootChild, EmptyLayer}
+use Rattle.mt_types.specs.TidyNumbers.{tidy_number}
 use Rattle.mt_types.specs.declared.event.Answer.{Answer}
 use Rattle.mt_types.specs.declared.event.Answer.TheVariants.{Absent, Stored, Removed, Tidied, Built}
 use Rattle.mt_types.specs.declared.event.Reply.{Reply}
@@ -19,20 +18,12 @@ Tells status number told_status told = (told_status ≡ status) × (told ≡ num
 abbrev pub TellsRefusal : Refusal → ℕ → ℕ → Type 0
 TellsRefusal refusal status told = Tells (refusal_number refusal) (unwrap_or (refusal_detail refusal) 0) status told
 
--- what a tidy did
-abbrev pub rule_number : TidyRule → ℕ
-rule_number Nothing = 0
-rule_number EmptyBorder = 1
-rule_number LoneChild = 2
-rule_number LoneRootChild = 3
-rule_number EmptyLayer = 4
-
 -- the answer of a call: the number of its commit, of its view, or of what it did
 abbrev pub TellsAnswer : Answer → ℕ → ℕ → Type 0
 TellsAnswer Absent status told = Tells ABSENT 0 status told
 TellsAnswer (Stored number) status told = Tells DONE number status told
 TellsAnswer (Removed number) status told = Tells DONE number status told
-TellsAnswer (Tidied rule) status told = Tells DONE (rule_number rule) status told
+TellsAnswer (Tidied rule) status told = Tells DONE (tidy_number rule) status told
 TellsAnswer (Built view) status told = Tells DONE view.0 status told
 TellsAnswer _ status told = Tells DONE 0 status told
 

@@ -1,10 +1,10 @@
 //! What a call returns to its caller: a status, a number, and the bytes in its buffer.
 
 ghost use Rattle.std.specs.Prelude.{◌≡◌, ◌⊎◌};
-ghost use Rattle.rowanspan_c.specs.Told.{TellsRefusal, TellsAnswer, TellsEnd, TellsOutcome, HandsOut, TellsRead, rule_number};
+ghost use Rattle.rowanspan_c.specs.Told.{TellsRefusal, TellsAnswer, TellsEnd, TellsOutcome, HandsOut, TellsRead};
 
 use crate::status::{ABSENT, CURRENT, DONE, NO_ROOM};
-use mt_types::event::{Answer, Outcome, Reply, TidyRule};
+use mt_types::event::{Answer, Outcome, Reply};
 use mt_types::items::Items;
 use mt_types::refusal::Refusal;
 
@@ -14,18 +14,6 @@ pub(crate) fn tell_refusal(refusal: Refusal, told: &mut u64) -> u16
 {
     *told = refusal.detail().unwrap_or(0);
     u16::from(refusal.number())
-}
-
-fn rule_number(rule: TidyRule) -> u64
-    ensures { result ≡ rule_number rule }
-{
-    match rule {
-        TidyRule::Nothing => 0,
-        TidyRule::EmptyBorder => 1,
-        TidyRule::LoneChild => 2,
-        TidyRule::LoneRootChild => 3,
-        TidyRule::EmptyLayer => 4,
-    }
 }
 
 fn tell_answer(answer: &Answer, told: &mut u64) -> u16
@@ -45,7 +33,7 @@ fn tell_answer(answer: &Answer, told: &mut u64) -> u16
             DONE
         }
         Answer::Tidied(rule) => {
-            *told = rule_number(*rule);
+            *told = u64::from(rule.number());
             DONE
         }
         Answer::Built(view) => {
