@@ -29,7 +29,6 @@ use Rattle.mt_promise.specs.Legal.{Legal, MayHappen, MayBegin, MayStepAt, MayEnd
 use Rattle.mt_promise.specs.RightAnswers.{RightAnswer}
 use Rattle.mt_promise.specs.Alone.{GoesOnBy, RunsAlone, IsPlainRefusal}
 use Rattle.mt_promise.proofs.AloneLemmas.{lone_calls_are_plain, lone_refusals_do_nothing}
-use Rattle.mt_promise.specs.History.{GoesOn}
 use Rattle.mt_promise.proofs.HistoryLemmas.{happened_is, GoesOn-append}
 use Rattle.mt_index.specs.declared.calls.Call.{Call}
 use Rattle.mt_index.specs.Calls.{pass_at}
@@ -41,10 +40,10 @@ use Rattle.mt_shared.specs.Passes.{PassView, seen_in}
 use Rattle.mt_shared.specs.Drives.{Runs, Continues, IsStep, whole, IsCut, IsDrive, EndsIn}
 use Rattle.mt_shared.specs.Kept.{KeptView, Does, IsMade, IsUnmade, has_book, is_foreign, is_other, is_wrong, is_spent}
 use Rattle.mt_shared.proofs.HappeningLemmas.{event_grows, event_shows}
-use Rattle.mt_index.specs.Events.{AllHappen, Happens}
+use Rattle.mt_index.specs.Events.{Happens}
 use Rattle.mt_index.proofs.EventLemmas.{all-more}
 use Rattle.mt_serve.specs.Store.{Store, Leads, ComesTo, EndsBy, MayLack, call_events, fault}
-use Rattle.mt_serve.specs.Plain.{IsAlone, CallRuns, CallIsDone, GivesNext, IsTurnedAway, IsGivenUp, store_of}
+use Rattle.mt_serve.specs.Plain.{IsAlone, CallRuns, GivesNext, store_of}
 use Rattle.mt_serve.proofs.CauseLemmas.{any_cause, begin_plainly}
 use Rattle.mt_serve.proofs.StageLemmas.{IsWriting}
 use Rattle.mt_serve.proofs.CallLemmas.{Cause, CallSays, Only, only_one, says_on, says_begun, refused_says}

@@ -1,10 +1,10 @@
 -- What a store answers that is short of nothing, and that there is one such answer.
-use Rattle.std.proofs.Common.{ℕ, ◌≡◌, ◌<◌, ◌≤◌, ◌⊎◌, Bool, true, false, inl, inr, List, [], ◌∷◌, ◌++◌, length, Option, Some, None, refl, sym, ap, subst, ◌∙◌, arith, length-append}
-use Rattle.std.specs.Prelude.{◌+◌, ◌-◌, ◌==◌, ◌≢◌, nat_lt, nat_le, MatchBool, MatchOption, IsSome, min, map, All, Result, Ok, Err, ⊤}
+use Rattle.std.proofs.Common.{ℕ, ◌≡◌, ◌<◌, ◌≤◌, Bool, true, false, inl, inr, List, [], ◌∷◌, length, Option, Some, None, refl, sym, ap, subst, ◌∙◌, arith, length-append}
+use Rattle.std.specs.Prelude.{◌+◌, ◌==◌, nat_lt, nat_le, MatchBool, MatchOption, IsSome, min, map, All, Result, Ok, Err, ⊤}
 use Rattle.std.specs.Option.{option_or}
 use Rattle.std.specs.FinMap.{get}
 use Rattle.std.proofs.Math.Nat.{le-min}
-use Rattle.std.proofs.lemmas.Bool.{cases_Bool, eq-eqb}
+use Rattle.std.proofs.lemmas.Bool.{eq-eqb}
 use Rattle.std.proofs.lemmas.Bool.Decides.{eqb_tells}
 use Rattle.std.proofs.lemmas.List.Elements.{All-head, All-tail}
 use Rattle.mt_types.specs.Numbers.{greatest_number, least}
@@ -23,9 +23,8 @@ use Rattle.mt_types.specs.declared.event.Answer.TheVariants as answers
 use Rattle.mt_types.specs.declared.event.Reply.{Reply}
 use Rattle.mt_types.specs.declared.event.Request.{Request}
 use Rattle.mt_types.specs.declared.event.Request.TheVariants.{Get, Put, PutIf, Remove, Range, Tidy, Build}
-use Rattle.mt_types.specs.declared.event.Outcome.{Outcome}
 use Rattle.mt_types.specs.declared.event.Outcome.TheVariants as outcomes
-use Rattle.mt_promise.specs.History.{Moment, StandingView, moment, rows, view_of}
+use Rattle.mt_promise.specs.History.{Moment, StandingView, rows, view_of}
 use Rattle.mt_promise.specs.Legal.{begin_fault, MayReadView, MayRead, MayShow, MayDrop, page_of}
 use Rattle.mt_promise.specs.Alone.{IsPlain, IsPlainRefusal}
 use Rattle.mt_serve.proofs.RangeOnce.{range_once}
@@ -40,7 +39,7 @@ use Rattle.mt_wire.specs.declared.response.End.TheVariants.{Absent, Found, Commi
 use Rattle.mt_serve.specs.Asking.{call_response, page_response, drop_response}
 use Rattle.mt_serve.specs.Store.{Store, now, newest, fault, slowest_view, IsFull, MayLack}
 use Rattle.mt_serve.specs.Plain.{GivesNext, CallRuns, IsReadAtOnce, CallEnds, PlainlyAsks, NoneBehind}
-use Rattle.mt_serve.specs.Ample.{read_so, changed, row_end, IsPutIf, IsReply, limit_broken, IsAnswer, IsAmple, IsSame, AmpleAnswersAreTheirs, AnswersAreOne}
+use Rattle.mt_serve.specs.Ample.{read_so, changed, row_end, IsReply, limit_broken, IsAnswer, IsAmple, IsSame, AmpleAnswersAreTheirs, AnswersAreOne}
 
 -- ---- a log that no view holds back is not full
 least_of : (n : ℕ) (views : List StandingView) → All (λ (v : StandingView). n ≤ v.at + 0) views → n ≤ least n (map (λ (v : StandingView). v.at) views)
@@ -129,7 +128,7 @@ unbroken C m (Tidy key) none = none
 unbroken C m (Build spec) none = none
 
 -- a begin that is refused amply is refused for the limit that the call breaks
-MayTurnAway : Option Refusal → Refusal → Type 0
+abbrev MayTurnAway : Option Refusal → Refusal → Type 0
 MayTurnAway fault refusal = MatchOption fault (refusal ≡ NoMemory) (λ due. refusal ≡ due)
 
 spent_or_none : (spent : Bool) (refusal : Refusal) → MayTurnAway (option_or (refused_if spent Spent) None) refusal → IsAmple (Refused refusal) → ⊥
@@ -154,7 +153,7 @@ turned C m (Tidy key) refusal why ample = fault_turned _ refusal why ample
 turned C m (Build spec) refusal why ample = fault_turned _ refusal why ample
 
 -- the answer of a call of which the limit is known
-IsCallAnswer : ℕ → Moment → Request → Response → Option Refusal → Type 0
+abbrev IsCallAnswer : ℕ → Moment → Request → Response → Option Refusal → Type 0
 IsCallAnswer C m request response limit = MatchOption limit (IsReply C m request response) (λ due. response ≡ Refused due)
 
 runs_is : (s t : Store) (request : Request) (result : Result Reply Refusal) → 0 < s.machine.log.feed → NoneBehind 0 s → CallRuns s request result t → IsAmple (call_response result) → IsAnswer s.machine.columns (now s) (Call request) (call_response result)

@@ -1,6 +1,6 @@
 -- The one call that is open: what its record says, why it may fail, and what its steps leave of that.
 use Rattle.std.proofs.Common.{ℕ, ◌≡◌, ◌<◌, ◌≤◌, Bool, true, false, inl, inr, List, [], ◌∷◌, ◌++◌, length, Option, Some, None, refl, sym, ap, subst, ◌∙◌, arith}
-use Rattle.std.specs.Prelude.{◌+◌, ◌-◌, ◌==◌, ◌⊎◌, ◌&&◌, suc, nat_le, nat_lt, if◌then◌else◌, IsSomeAnd}
+use Rattle.std.specs.Prelude.{◌+◌, ◌-◌, ◌==◌, ◌⊎◌, suc, nat_le, nat_lt, if◌then◌else◌, IsSomeAnd}
 use Rattle.std.specs.Option.{option_or}
 use Rattle.std.proofs.lemmas.Bool.{eq-eqb}
 use Rattle.std.proofs.lemmas.Bool.Decides.{eqb_tells, leb_tells}
@@ -11,8 +11,7 @@ use Rattle.mt_types.specs.declared.numbers.PassNo.{PassNo}
 use Rattle.mt_types.specs.declared.numbers.CallNo.{CallNo}
 use Rattle.mt_types.specs.declared.row.Row.{Row as RowValue}
 use Rattle.mt_types.specs.declared.refusal.Refusal.{Refusal}
-use Rattle.mt_types.specs.declared.refusal.Refusal.TheVariants.{NoMemory, ArenaFull, FeedFull, Spent, OtherVersion, KeyTooLong}
-use Rattle.mt_types.specs.declared.event.Event.{Event}
+use Rattle.mt_types.specs.declared.refusal.Refusal.TheVariants.{ArenaFull, FeedFull, Spent, OtherVersion}
 use Rattle.mt_types.specs.declared.event.Event.TheVariants.{Begin, Step}
 use Rattle.mt_types.specs.declared.event.Outcome.{Outcome}
 use Rattle.mt_types.specs.declared.event.Outcome.TheVariants.{Call as Called, Moved, Again, Commit, Refused}
@@ -23,8 +22,7 @@ use Rattle.mt_word.specs.declared.version_word.TheConstants.{MAX_SPLITS}
 use Rattle.mt_word.specs.declared.permutation_word.TheConstants.{SLOTS}
 use Rattle.mt_border.specs.Border.{BorderView, fill_is_spent}
 use Rattle.mt_border.specs.declared.found.Found.{Found}
-use Rattle.mt_border.specs.declared.found.Found.TheVariants.{Absent, Row, OtherSuffix, Link}
-use Rattle.mt_arena.specs.Arena.{ArenaView}
+use Rattle.mt_border.specs.declared.found.Found.TheVariants.{Absent, Row, OtherSuffix}
 use Rattle.mt_arena.specs.Node.{border_at, occupied}
 use Rattle.mt_commit.specs.Log.{LogView, newest as newest_of, slowest, reserve_fault}
 use Rattle.mt_tree.specs.Descent.{found_for, row_found}
@@ -32,9 +30,7 @@ use Rattle.mt_steps.specs.Way.{rest_of}
 use Rattle.mt_write.specs.declared.writing.Write.{Write as WriteView}
 use Rattle.mt_write.specs.declared.writing.Edit.{Edit}
 use Rattle.mt_write.specs.declared.writing.Edit.TheVariants.{Put as PutEdit, Remove as RemoveEdit}
-use Rattle.mt_write.specs.declared.writing.Halves.{Halves}
 use Rattle.mt_write.specs.declared.writing.Stage.{Stage}
-use Rattle.mt_write.specs.declared.writing.Stage.TheVariants.{Locked, Halved}
 use Rattle.mt_write.specs.Causes.{fill_fault, split_fault, layer_fault, version_fault, put_fault, remove_fault, edit_fault}
 use Rattle.mt_write.specs.Writing.{stage_held}
 use Rattle.mt_works.specs.declared.work.Work.{Work}
@@ -45,11 +41,11 @@ use Rattle.mt_works.specs.Causes.{WorkRefuses}
 use Rattle.mt_index.specs.declared.calls.Call.{Call}
 use Rattle.mt_index.specs.Calls.{call_at, all_reserved}
 use Rattle.mt_index.specs.Paired.{Paired}
-use Rattle.mt_index.specs.Causes.{IsCaused, RefusedFor}
+use Rattle.mt_index.specs.Causes.{RefusedFor}
 use Rattle.mt_index.specs.Events.{EventDoes, Happens}
 use Rattle.mt_index.specs.Stands.{MachineView, Stands, CallStands, Begins}
 use Rattle.mt_shared.specs.Drives.{Continues}
-use Rattle.mt_serve.specs.Store.{Store, now, newest, ComesTo, Meets, MeetsSpent, HasFewNodes, HasSpentBorder}
+use Rattle.mt_serve.specs.Store.{Store, newest, ComesTo, Meets, MeetsSpent, HasFewNodes}
 use Rattle.mt_serve.proofs.StageLemmas.{WorkSays, Explains, IsWriting, work_moved, work_rests, work_commits, work_begins, work_refused}
 
 -- ---- why a call that began at a store may fail

@@ -1,30 +1,25 @@
 -- After each query the views are at the newest change again, unless memory was refused.
-use Rattle.std.proofs.Common.{ℕ, ◌≡◌, ◌≤◌, ◌⊎◌, Bool, true, false, inl, inr, List, [], ◌∷◌, ◌++◌, length, Option, Some, None, refl, sym, ap, subst, ◌∙◌, arith, length-append}
-use Rattle.std.specs.Prelude.{◌+◌, ◌==◌, not, MatchBool, if◌then◌else◌, All, Result, Ok, Err, ⊤}
+use Rattle.std.proofs.Common.{ℕ, ◌≡◌, ◌≤◌, ◌⊎◌, Bool, true, false, inl, inr, List, [], ◌∷◌, ◌++◌, length, refl, sym, ap, subst, ◌∙◌, arith, length-append}
+use Rattle.std.specs.Prelude.{◌+◌, ◌==◌, not, MatchBool, if◌then◌else◌, All, Result, Ok, Err}
 use Rattle.std.proofs.lemmas.Bool.{cases_Bool}
 use Rattle.std.proofs.lemmas.List.Elements.{All-head, All-tail, All-nil, All-cons}
 use Rattle.mt_types.specs.Rows.{Rows}
 use Rattle.mt_types.specs.declared.row.Change.{Change}
-use Rattle.mt_types.specs.declared.view.Page.{Page}
 use Rattle.mt_types.specs.declared.refusal.Refusal.{Refusal}
-use Rattle.mt_types.specs.declared.event.Event.{Event}
-use Rattle.mt_types.specs.declared.event.Event.TheVariants as events
-use Rattle.mt_types.specs.declared.event.Outcome.TheVariants as outcomes
 use Rattle.mt_types.specs.declared.event.Answer.{Answer}
 use Rattle.mt_types.specs.declared.event.Answer.TheVariants.{Absent, Found, Stored, Removed, Rows as RowsAnswer, Tidied, Built}
 use Rattle.mt_types.specs.declared.event.Reply.{Reply}
 use Rattle.mt_types.specs.declared.event.Request.{Request}
 use Rattle.mt_types.specs.declared.event.Request.TheVariants.{Get, Put, PutIf, Remove, Range, Tidy, Build}
-use Rattle.mt_promise.specs.History.{History, Moment, StandingView, happening, moment, view_built, without_view}
+use Rattle.mt_promise.specs.History.{History, StandingView, moment, view_built, without_view}
 use Rattle.mt_promise.specs.Alone.{IsPlain}
 use Rattle.mt_wire.specs.declared.query.Query.{Query}
 use Rattle.mt_wire.specs.declared.query.Query.TheVariants.{Call, ViewRead, ViewDrop}
 use Rattle.mt_wire.specs.declared.response.Response.{Response}
-use Rattle.mt_shared.specs.Turns.{page_outcome, drop_outcome}
 use Rattle.mt_wire.specs.Answered.{end_of}
 use Rattle.mt_serve.specs.Asking.{call_response, changes, end_changes}
 use Rattle.mt_serve.specs.Store.{Store, now, newest}
-use Rattle.mt_serve.specs.Plain.{CallRuns, IsReadAtOnce, CallEnds, PlainlyAsks, PlainlyAnswers, NoneBehind, KeptUp}
+use Rattle.mt_serve.specs.Plain.{CallRuns, IsReadAtOnce, CallEnds, PlainlyAsks, NoneBehind, KeptUp}
 use Rattle.mt_serve.specs.Ample.{RanOutBefore, ViewsStayNewest}
 
 -- each of these views is at most this many commits short of the number n

@@ -32,7 +32,7 @@ use Rattle.mt_serve.specs.Asking.{Asks, Answers, AnswersAll, AnswersFrames, Keep
 use Rattle.mt_serve.specs.declared.fault.SessionFault.{SessionFault}
 use Rattle.mt_serve.specs.declared.fault.SessionFault.TheVariants.{Write, NoMemory as WantsMemory}
 use Rattle.mt_serve.specs.Sessions.{BreaksIn, BreaksAt, requests_of}
-use Rattle.mt_serve.specs.Plain.{IsAlone, PlainlyAsks, PlainlyAnswers, PlainlyAnswersAll, PlainlyAnswersFrames, NoneBehind, TakenOn, RanOut, KeptUp, store_of, FreshIsAlone, AloneAnswersPlainly, AloneAnswersFramesPlainly, AloneServesPlainly, AloneBreaksPlainly, BreaksInPlainly, BreaksAtPlainly}
+use Rattle.mt_serve.specs.Plain.{IsAlone, PlainlyAsks, PlainlyAnswers, TakenOn, KeptUp, store_of, FreshIsAlone, AloneAnswersPlainly, AloneAnswersFramesPlainly, AloneServesPlainly, AloneBreaksPlainly, BreaksInPlainly, BreaksAtPlainly}
 use Rattle.mt_index.specs.Events.{Happens}
 use Rattle.mt_serve.specs.Store.{Store, Leads}
 use Rattle.mt_serve.proofs.ReadLemmas.{read_same, read_ends}

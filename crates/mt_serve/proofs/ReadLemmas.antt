@@ -1,22 +1,19 @@
 -- A read at once on an index of one caller: the answer is that of a plain store, and nothing has changed but what the
 -- pass has seen.
-use Rattle.std.proofs.Common.{ℕ, ◌≡◌, ◌≤◌, ◌<◌, ◌∙◌, ◌⊎◌, List, [], ◌++◌, length, Option, Some, None, Result, Ok, Err, refl, sym, ap, subst, inl, inr, arith, append-nil}
+use Rattle.std.proofs.Common.{ℕ, ◌≡◌, ◌∙◌, List, [], ◌++◌, length, Option, Some, None, Result, Ok, Err, refl, sym, ap, subst, inl, inr, arith, append-nil}
 use Rattle.std.specs.Prelude.{MatchOption}
 use Rattle.mt_types.specs.Limits.{request_fault}
-use Rattle.mt_types.specs.Rows.{Rows}
-use Rattle.mt_types.specs.declared.row.Change.{Change}
 use Rattle.mt_types.specs.declared.refusal.Refusal.{Refusal}
-use Rattle.mt_types.specs.declared.refusal.Refusal.TheVariants.{NoMemory, WrongPass}
+use Rattle.mt_types.specs.declared.refusal.Refusal.TheVariants.{NoMemory}
 use Rattle.mt_types.specs.declared.event.Answer.{Answer}
-use Rattle.mt_types.specs.declared.event.Answer.TheVariants as answers
 use Rattle.mt_types.specs.declared.event.Request.{Request}
 use Rattle.mt_types.specs.declared.event.Request.TheVariants.{Get, Range}
 use Rattle.mt_types.specs.declared.event.Reply.{Reply}
-use Rattle.mt_promise.specs.History.{History, StandingView, moment, rows, view_built}
-use Rattle.mt_promise.specs.Alone.{IsPlain, EndsPlainly}
+use Rattle.mt_promise.specs.History.{History, StandingView, moment, view_built}
+use Rattle.mt_promise.specs.Alone.{EndsPlainly}
 use Rattle.mt_shared.specs.Passes.{PassView}
-use Rattle.mt_shared.specs.Kept.{KeptView, IsRefusedBy, has_book}
-use Rattle.mt_shared.specs.Reads.{IsRead, IsNow, IsPlainNow, IsReadNow, IsToldNow, ReadsNow, read_reply}
+use Rattle.mt_shared.specs.Kept.{KeptView, IsRefusedBy}
+use Rattle.mt_shared.specs.Reads.{IsRead, IsPlainNow, IsReadNow, IsToldNow, ReadsNow, read_reply}
 use Rattle.mt_shared.proofs.ReadLemmas.{unbroken}
 use Rattle.mt_serve.specs.Plain.{IsAlone, IsReadAtOnce, store_of}
 
@@ -60,7 +57,7 @@ module _ (s : KeptView) (p : PassView) (h : History) (request : Request) (a : Is
   }
 
   -- what came of a read at once
-  Came : Result Reply Refusal → KeptView → PassView → Type 0
+  abbrev Came : Result Reply Refusal → KeptView → PassView → Type 0
   Came result t q = IsAlone t q h × IsReadAtOnce (store_of s h) request result (store_of t h)
 
   told : (read : Result (ℕ × Answer) Refusal) (result : Result Reply Refusal) (q : PassView) → ReadsNow s p.number request (Some read) → IsToldNow p read result q → Came result s q

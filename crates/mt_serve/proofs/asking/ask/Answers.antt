@@ -5,7 +5,7 @@ use Rattle.mt_serve.proofs.ServingLemmas.{call_limited, page_limited, drop_limit
 use Rattle.mt_serve.proofs.asking.ask.Goals as goal
 
 pub returns-in-Call-clause-limited : goal.returns-in-Call-clause-limited
-returns-in-Call-clause-limited g c = subst (λ (r : Response). ResponseIsLimited r) (sym c.call_response.ensures) (call_limited c.drive.result c.drive.ensures.limited)
+returns-in-Call-clause-limited g c = subst (λ (r : Response). ResponseIsLimited r) (sym c.call_response.ensures) (call_limited c.ask.result c.ask.ensures.limited)
 
 pub returns-in-ViewRead-clause-limited : goal.returns-in-ViewRead-clause-limited
 returns-in-ViewRead-clause-limited g c = subst (λ (r : Response). ResponseIsLimited r) (sym c.page_response.ensures) (page_limited c.view_read.result c.view_read.ensures.limited)
