@@ -1,0 +1,6 @@
+-- What the contracts of this crate cite.
+pub mod Descent
+pub mod Standing
+pub mod Start
+pub mod Steps
+pub mod Walk

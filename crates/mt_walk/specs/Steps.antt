@@ -1,0 +1,83 @@
+-- What a step of a walk does.
+use Rattle.std.specs.Prelude.{ℕ, ◌≡◌, ◌<◌, ◌≤◌, ◌+◌, ◌^◌, ◌⊎◌, List, [], ◌∷◌, ◌++◌, length, slice_get, Option, Some, None, true, false, if◌then◌else◌}
+use Rattle.mt_types.specs.declared.numbers.NodeNo.{NodeNo}
+use Rattle.mt_types.specs.declared.limits.TheConstants.{MAX_KEY_BYTES}
+use Rattle.mt_slice.specs.Place.{last, place_of, under, AreBytes}
+use Rattle.mt_tree.specs.Seen.{entry_place}
+use Rattle.mt_border.specs.Border.{BorderView}
+use Rattle.mt_border.specs.Entry.{IsEntry}
+use Rattle.mt_border.specs.Order.{IsBorder}
+use Rattle.mt_border.specs.declared.entry.Entry.{Entry}
+use Rattle.mt_border.specs.declared.entry.RightLink.{RightLink}
+use Rattle.mt_arena.specs.Node.{border_at}
+use Rattle.mt_arena.specs.Arena.{ArenaView, IsArena}
+use Rattle.mt_scan.specs.Cursor.{CursorView}
+use Rattle.mt_scan.specs.Onward.{cursor_of, all_cursors}
+use Rattle.mt_walk.specs.Descent.{SeeksBorder}
+use Rattle.mt_walk.specs.Walk.{from, WalkView, stands_at, GivesRow}
+use Rattle.mt_walk.specs.Standing.{prefix_of, IsWalk}
+use Rattle.mt_walk.specs.declared.walk.Step.{Step}
+use Rattle.mt_walk.specs.declared.walk.Step.TheVariants.{On, Past, End}
+
+-- the place of the tree from which on it visits its border, as far as its slices tell
+abbrev pub walk_cursor : WalkView → CursorView
+walk_cursor walk = record { prefix = prefix_of walk.path; at = last walk.here.slice (if walk.after then 10 else 0) }
+
+-- the one cursor is further on than the other, or is in the layer below and has not gone back
+pub record Advances (a : ArenaView) (c d : CursorView) : Type 0 where
+  pub sound : IsArena a
+  pub within : (places : ℕ) → cursor_of places c < all_cursors places
+  pub gets_on : (places : ℕ) → length c.prefix < places → (cursor_of places c < cursor_of places d)
+      ⊎ ((cursor_of places c ≤ cursor_of places d) × (length d.prefix ≡ length c.prefix + 1))
+
+-- it begins at a key of the tree
+pub record Begins (a : ArenaView) (start : List ℕ) (walk : WalkView) : Type 0 where
+  pub stands : IsWalk walk
+  pub tree : walk.tree ≡ a
+  pub at_start : stands_at walk ≡ from (place_of start)
+
+-- it stands in the same tree
+pub record StandsOn (walk new : WalkView) : Type 0 where
+  pub stands : IsWalk new
+  pub tree : new.tree ≡ walk.tree
+
+-- it is at an entry of its border
+pub record IsAtEntry (walk : WalkView) (entry : Entry) : Type 0 where
+  pub b : BorderView
+  pub named : border_at walk.tree.nodes walk.here.node.0 ≡ Some b
+  pub sound : IsBorder b
+  pub arena : IsArena walk.tree
+  pub there : slice_get b.live walk.here.place ≡ Some entry
+  pub whole : IsEntry entry
+
+-- it is past all entries of its border, which has this right link
+pub record IsAtEnd (walk : WalkView) (right : Option RightLink) : Type 0 where
+  pub b : BorderView
+  pub named : border_at walk.tree.nodes walk.here.node.0 ≡ Some b
+  pub sound : IsBorder b
+  pub arena : IsArena walk.tree
+  pub few : length b.live ≤ walk.here.place
+  pub right_is : right ≡ b.right
+  pub narrow : (link : RightLink) → right ≡ Some link → link.low < 2 ^ 64
+
+-- it goes past an entry with a row, and its buffer then has the key of that row
+abbrev pub TakesEntry : WalkView → Entry → WalkView → Type 0
+TakesEntry walk entry new = (key : List ℕ) × (place_of key ≡ under (prefix_of walk.path) (entry_place entry))
+    × AreBytes key × (length key ≤ MAX_KEY_BYTES)
+    × (new ≡ record walk { key = key; given = true; here = record walk.here { place = walk.here.place + 1 } })
+
+-- it goes into the layer of a link
+abbrev pub EntersLayer : WalkView → ℕ → NodeNo → WalkView → Type 0
+EntersLayer walk slice head new = (node : NodeNo) × SeeksBorder walk.tree head.0 0 node.0
+    × (new ≡ record walk {
+      path = walk.path ++ record { node = walk.here.node; place = walk.here.place + 1; slice = slice } ∷ [];
+      here = record { node = node; place = 0; slice = 0 };
+      after = false;
+    })
+
+-- A STEP GOES ON, and gives none; or it gives the next pair; or no pair is to come
+abbrev pub GoesBy : WalkView → Step → WalkView → Type 0
+GoesBy walk On new = StandsOn walk new × (stands_at new ≡ stands_at walk)
+    × Advances walk.tree (walk_cursor walk) (walk_cursor new)
+GoesBy walk (Past row) new = StandsOn walk new × GivesRow walk (Some row.now) new
+GoesBy walk End new = (new ≡ walk) × GivesRow walk None walk

@@ -1,0 +1,79 @@
+-- A walk over the pairs of a tree, for its user: where it stands in the order of keys, and what it gives next.
+use Rattle.std.specs.Prelude.{ℕ, ◌≡◌, ◌⊎◌, List, [], ◌∷◌, ◌++◌, length, Option, Some, None, Bool, if◌then◌else◌}
+use Rattle.std.specs.Option.{option_map}
+use Rattle.mt_types.specs.declared.row.Row.{Row}
+use Rattle.mt_slice.specs.Place.{Place, Precedes, place_of}
+use Rattle.mt_chart.specs.Tree.{Arena, Has}
+use Rattle.mt_chart.specs.Scan.{AtMost, Pair}
+use Rattle.mt_tree.specs.Seen.{arena_seen}
+use Rattle.mt_arena.specs.Arena.{ArenaView}
+use Rattle.mt_walk.specs.declared.walk.Stop.{Stop}
+use Rattle.mt_walk.specs.declared.walk.Walk.{Walk}
+
+-- before the first key from a place on, or behind the last key that it has given
+pub data WalkAt : Type 0 where
+  from : Place → WalkAt
+  behind : Place → WalkAt
+
+-- the key is still to come
+abbrev pub ToCome : WalkAt → Place → Type 0
+ToCome (from start) key = AtMost start key
+ToCome (behind given) key = Precedes given key
+
+-- no row is to come
+abbrev pub NoneToCome : Arena → WalkAt → Type 0
+NoneToCome arena at = (key : Place) (row : Row) → Has arena key row → ToCome at key → ⊥
+
+-- the pair is the first of those that are to come
+pub record IsNextPair (arena : Arena) (at : WalkAt) (pair : Pair Row) : Type 0 where
+  pub has : Has arena pair.key pair.value
+  pub comes : ToCome at pair.key
+  pub least : (key : Place) (row : Row) → Has arena key row → ToCome at key → AtMost pair.key key
+
+-- WHAT A WALK GIVES NEXT: the first pair to come, and it is then behind it; or none, and it stays
+abbrev pub Gives : Arena → WalkAt → Option (Pair Row) → WalkAt → Type 0
+Gives arena at None after = NoneToCome arena at × (after ≡ at)
+Gives arena at (Some pair) after = IsNextPair arena at pair × (after ≡ behind pair.key)
+
+-- what it gives, one pair after the other
+abbrev pub GivesAll : Arena → WalkAt → List (Pair Row) → WalkAt → Type 0
+GivesAll arena at [] after = after ≡ at
+GivesAll arena at (pair ∷ pairs) after = IsNextPair arena at pair × GivesAll arena (behind pair.key) pairs after
+
+-- the pairs are as many as were asked for, or no more are to come
+abbrev pub IsEnough : Arena → ℕ → List (Pair Row) → WalkAt → Type 0
+IsEnough arena limit pairs after = (length pairs ≡ limit) ⊎ NoneToCome arena after
+
+-- where it stands, once it has given these pairs from a place on
+abbrev pub HasGiven : Place → List (Pair Row) → WalkAt → Type 0
+HasGiven start given at = ((given ≡ []) × (at ≡ from start))
+    ⊎ ((before : List (Pair Row)) × (pair : Pair Row) × (given ≡ before ++ pair ∷ []) × (at ≡ behind pair.key))
+
+-- a walk: its tree, its buffer with a key, whether that is the key of a pair that it has given, its path, and where it is
+pub record WalkView : Type 0 where
+  pub tree : ArenaView
+  pub key : List ℕ
+  pub given : Bool
+  pub path : List Stop
+  pub here : Stop
+  pub after : Bool
+
+abbrev pub view_of : Walk → WalkView
+view_of walk = record {
+  tree = walk.tree.now;
+  key = walk.key.items;
+  given = walk.given;
+  path = walk.path.items;
+  here = walk.here;
+  after = walk.after;
+}
+
+-- where it stands in the order of keys: its buffer has the key of the last pair, or the key from which it began
+abbrev pub stands_at : WalkView → WalkAt
+stands_at walk = if walk.given then behind (place_of walk.key) else from (place_of walk.key)
+
+-- WHAT A CALL OF A WALK GIVES: the row of the first pair to come, and the buffer has its key; or none is to come
+abbrev pub GivesRow : WalkView → Option Row → WalkView → Type 0
+GivesRow walk row new =
+    Gives (arena_seen walk.tree) (stands_at walk) (option_map (λ r. record { key = place_of new.key; value = r }) row)
+    (stands_at new)

@@ -1,0 +1,11 @@
+//! Walks: the pairs of a tree in which no change is under way, one by one, each row borrowed.
+#![tactic(auto)]
+
+mod descent;
+mod range;
+mod spelling;
+mod start;
+mod walk;
+
+pub use range::range_of;
+pub use walk::Walk;

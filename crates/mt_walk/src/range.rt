@@ -1,0 +1,63 @@
+//! A range: a walk with a limit.
+
+ghost use Rattle.std.specs.Prelude.{◌≡◌, ◌≤◌, length, IfOk};
+ghost use Rattle.mt_types.specs.declared.event.Answer.TheVariants.{Rows};
+ghost use Rattle.mt_types.specs.declared.event.Request.TheVariants.{Range};
+ghost use Rattle.mt_types.specs.declared.limits.TheConstants.{MAX_KEY_BYTES};
+ghost use Rattle.mt_steps.specs.Lone.{IsLoneTree, IsRightNow};
+
+use crate::walk::Walk;
+use bytes::Bytes;
+use mt_slice::key_bytes;
+use mt_tree::Tree;
+use mt_types::columns::shown;
+use mt_types::items::Items;
+use mt_types::key::Key;
+use mt_types::refusal::NoMemory;
+use mt_types::row::{ColumnNumbers, Pairs};
+use std::alloc::Global;
+
+// Returns a key of these bytes. Allocates for the copy.
+fn key_of(alloc: Global, bytes: &[u8]) -> Result<Key, NoMemory>
+    requires { length bytes.now ≤ MAX_KEY_BYTES }
+    ensures { IfOk result (λ key. key ≡ bytes.now) }
+{
+    let mut copied = Vec::with_capacity(alloc, bytes.len())?;
+    copied.extend_from_slice(bytes)?;
+    match Key::new(Bytes::from_vec(copied)?) {
+        Ok(key) => Ok(key),
+        Err(_) => unreachable!(),
+    }
+}
+
+/// Returns the pairs of a tree in which no change is under way, from `start` on, at most `limit`, with the columns that
+/// are asked for, or with all if none is asked for.
+///
+/// Costs the visit of the nodes on the way to `start`, and of each border from there on. Allocates for the walk, and for
+/// the key and the row of each pair. Shares the bytes of the columns.
+///
+/// # Errors
+///
+/// `NoMemory` if an allocation is refused.
+pub fn range_of(
+    alloc: Global,
+    tree: &Tree,
+    start: &Key,
+    limit: u16,
+    columns: &ColumnNumbers,
+) -> Result<Pairs, NoMemory>
+    requires { IsLoneTree tree.now }
+    ensures { IfOk result (λ pairs. IsRightNow tree.now (Range start.now limit columns.now) (Rows pairs)) }
+{
+    let _bytes = key_bytes(start);
+    let mut walk = Walk::new(alloc, tree, start)?;
+    let mut pairs = Vec::new(alloc);
+    for _ in 0..limit {
+        let Some(row) = walk.next()? else {
+            return Ok(Items::from_vec(pairs));
+        };
+        let row = shown(alloc, columns, row)?;
+        pairs.push((key_of(alloc, walk.key())?, row))?;
+    }
+    Ok(Items::from_vec(pairs))
+}
