@@ -12,19 +12,15 @@ ghost use Rattle.mt_index.specs.Stands.{Stands, HasBounds, fault_of};
 ghost use Rattle.mt_index.specs.Events.{HappensAlone, last_outcome};
 
 use crate::machine::Machine;
-use mt_scan::Scan;
 use mt_steps::alone::row_of;
-use mt_steps::listing::Listing;
-use mt_steps::ranging::Range;
-use mt_tree::TOP;
 use mt_types::columns::shown;
-use mt_types::copying::TryCopy;
 use mt_types::event::{Outcome, Reply, Request};
 use mt_types::key::Key;
 use mt_types::limits::{columns_fault, limit_fault};
 use mt_types::numbers::PassNo;
 use mt_types::refusal::Refusal;
 use mt_types::row::{ColumnNumbers, Pairs, Row};
+use mt_walk::range_of;
 use mt_works::work::Pace;
 use std::alloc::Global;
 
@@ -76,8 +72,9 @@ impl Machine {
     /// columns that are asked for, or with all if none is asked for. No put, remove or tidy may be open; gets, ranges
     /// and builds may be. The result is that of a plain map. Begins no call, and changes nothing.
     ///
-    /// Costs the visit of each border that it reads, and of the nodes on the way to it. Allocates for the key and the
-    /// row of each pair, and shares the bytes of the columns.
+    /// Costs the visit of the nodes on the way to `start`, and of each border from there on. From the end of a layer it
+    /// continues in the border above. Allocates for the key and the row of each pair, and shares the bytes of the
+    /// columns.
     ///
     /// # Errors
     ///
@@ -102,16 +99,7 @@ impl Machine {
         if let Some(refusal) = limit_fault(limit) {
             return Err(refusal);
         }
-        let scan = Scan::new(alloc, &start, limit, columns.copy(alloc)?)?;
-        let call = Range {
-            start,
-            limit,
-            columns,
-            scan,
-            node: TOP,
-            listing: Listing::Begins,
-        };
-        Ok(call.run_alone(alloc, &self.tree)?)
+        Ok(range_of(alloc, &self.tree, &start, limit, &columns)?)
     }
 
     /// Does what is asked for, as a call of pass 0 from its begin to its end. No other call may be open. The answer is

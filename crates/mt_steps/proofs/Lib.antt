@@ -14,7 +14,6 @@ pub mod GetLemmas
 pub mod RangeLemmas
 pub mod LoneLemmas
 pub mod LoneWay
-pub mod LoneReads
 pub mod LoneRow
 pub mod LoneRange
 pub mod PartLemmas

@@ -1,4 +1,4 @@
-//! Reads of a tree that no change is under way in: the row of a key, and ranges from begin to end.
+//! The row of a key, read of a tree in which no change is under way.
 
 ghost use Rattle.std.specs.Prelude.{◌≡◌, ◌≤◌, ◌≢◌, true, Err, IfOk, IfErr};
 ghost use Rattle.std.specs.Option.{option_copied};
@@ -8,26 +8,17 @@ ghost use Rattle.mt_border.specs.Order.{IsBorder};
 ghost use Rattle.mt_tree.specs.Descent.{is_marked, visit_border, found_for, row_found};
 ghost use Rattle.mt_arena.specs.Arena.{ArenaView};
 ghost use Rattle.mt_steps.specs.Step.{RowIs};
-ghost use Rattle.mt_steps.specs.Getting.{get_request};
-ghost use Rattle.mt_steps.specs.Way.{start, Names, MayGoAt, Visits, went_by};
-ghost use Rattle.mt_types.specs.declared.event.Answer.TheVariants.{Rows};
-ghost use Rattle.mt_steps.specs.Ranging.{range_request};
-ghost use Rattle.mt_steps.specs.Lone.{EndsAt, IsLoneTree, IsRightNow, IsAtBegin, HasRows};
+ghost use Rattle.mt_steps.specs.Way.{Names, MayGoAt, Visits, went_by};
+ghost use Rattle.mt_steps.specs.Lone.{EndsAt, IsLoneTree};
 
-use crate::finding::Finding;
-use crate::getting::{Get, row_at};
-use crate::progress::Progress;
-use crate::ranging::Range;
+use crate::getting::row_at;
 use crate::way::{START, Way, Went, rest_of};
 use mt_arena::Node;
 use mt_border::{Border, Found};
 use mt_slice::slice_of;
 use mt_tree::{Tree, Visit, find};
-use mt_types::event::Answer;
 use mt_types::key::Key;
-use mt_types::refusal::NoMemory;
-use mt_types::row::{Pairs, Row};
-use std::alloc::Global;
+use mt_types::row::Row;
 
 // Returns what a border has for a key of which `rest` is left, if the key's way ends in it: the row, or none. Otherwise
 // returns where the way leads. Searches the border once.
@@ -107,44 +98,6 @@ pub fn row_of<'t>(tree: &'t Tree, key: &Key) -> Option<&'t Row>
             Err(Went::To(next)) => way = next,
             Err(Went::Again) => unreachable!(),
             Err(Went::Here) => unreachable!(),
-        }
-    }
-}
-
-// The pairs of an answer that has pairs.
-fn rows_of(answer: Answer) -> Pairs
-    requires { HasRows answer }
-    ensures { answer ≡ Rows result }
-{
-    match answer {
-        Answer::Rows(pairs) => pairs,
-        _ => unreachable!(),
-    }
-}
-
-impl Range {
-    /// Runs it from its begin to its end on a tree on which nothing else is under way. It visits each border in which
-    /// keys from its first on may be, up to its limit or the end of the tree, and the nodes on the way to them; from
-    /// the end of each layer below the first it goes back to the head of layer 0. Takes memory for the pairs, and for
-    /// its cursor, and shares the bytes of the columns.
-    ///
-    /// # Errors
-    ///
-    /// `NoMemory` if an allocation is refused.
-    pub fn run_alone(self, alloc: Global, tree: &Tree) -> Result<Pairs, NoMemory>
-        requires lone { IsLoneTree tree.now }
-        requires begins { IsAtBegin self }
-        ensures { IfOk result (λ pairs. IsRightNow tree.now (range_request self) (Rows pairs)) }
-    {
-        let _bytes = rest_of(&self.start, 0);
-        let mut range = self;
-        loop {
-            match range.step_whole(alloc, tree) {
-                Progress::Moved => {}
-                Progress::Answered(answer) => return Ok(rows_of(answer)),
-                Progress::Refused(_) => return Err(NoMemory),
-                Progress::Waits | Progress::Committed(_) => unreachable!(),
-            }
         }
     }
 }

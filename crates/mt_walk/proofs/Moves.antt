@@ -302,7 +302,7 @@ module _ (walk : WalkView) (s : IsWalk walk) where
 pub walk_has_border : (walk : WalkView) → IsWalk walk → IsSome (border_at walk.tree.nodes walk.here.node.0)
 walk_has_border walk s = subst (λ (o : Option BorderView). IsSome o) (sym s.visits.named) refl
 
--- ---- a walk that goes on without a pair
+-- ---- a walk that continues without a pair
 -- in the same tree, and in the same place in the order of keys
 pub record GoesOn (begun walk : WalkView) : Type 0 where
   pub on : StandsOn begun walk

@@ -1,4 +1,4 @@
--- A walk, for its proof: where it stands in the tree.
+-- A walk, for its proof: its place in the tree.
 use Rattle.std.specs.Prelude.{ℕ, ◌≡◌, ◌<◌, ◌≤◌, ◌+◌, ◌^◌, ◌⊎◌, List, [], ◌∷◌, length, map, reverse, take, drop, slice_get, Some, true}
 use Rattle.mt_types.specs.declared.limits.TheConstants.{MAX_KEY_BYTES}
 use Rattle.mt_types.specs.declared.row.Row.{Row}

@@ -1,4 +1,4 @@
--- Where a walk begins in a border: past the entries that are before a place of its layer.
+-- The begin of a walk in a border: past the entries that are before a place of its layer.
 use Rattle.std.specs.Prelude.{ℕ, ◌≡◌, ◌≢◌, ◌<◌, ◌≤◌, ◌⊎◌, List, length, take, slice_get, Some}
 use Rattle.mt_types.specs.declared.row.Row.{Row}
 use Rattle.mt_types.specs.declared.numbers.NodeNo.{NodeNo}

@@ -36,7 +36,7 @@ pub record Begins (a : ArenaView) (start : List ℕ) (walk : WalkView) : Type 0 
   pub tree : walk.tree ≡ a
   pub at_start : stands_at walk ≡ from (place_of start)
 
--- it stands in the same tree
+-- it is in the same tree
 pub record StandsOn (walk new : WalkView) : Type 0 where
   pub stands : IsWalk new
   pub tree : new.tree ≡ walk.tree
@@ -75,7 +75,7 @@ EntersLayer walk slice head new = (node : NodeNo) × SeeksBorder walk.tree head.
       after = false;
     })
 
--- A STEP GOES ON, and gives none; or it gives the next pair; or no pair is to come
+-- A STEP: it continues, and has no pair; or it has the next pair; or no pair is to come
 abbrev pub GoesBy : WalkView → Step → WalkView → Type 0
 GoesBy walk On new = StandsOn walk new × (stands_at new ≡ stands_at walk)
     × Advances walk.tree (walk_cursor walk) (walk_cursor new)

@@ -1,4 +1,4 @@
--- A walk over the pairs of a tree, for its user: where it stands in the order of keys, and what it gives next.
+-- A walk over the pairs of a tree, for its user: its place in the order of keys, and its next pair.
 use Rattle.std.specs.Prelude.{ℕ, ◌≡◌, ◌⊎◌, List, [], ◌∷◌, ◌++◌, length, Option, Some, None, Bool, if◌then◌else◌}
 use Rattle.std.specs.Option.{option_map}
 use Rattle.mt_types.specs.declared.row.Row.{Row}
@@ -10,7 +10,7 @@ use Rattle.mt_arena.specs.Arena.{ArenaView}
 use Rattle.mt_walk.specs.declared.walk.Stop.{Stop}
 use Rattle.mt_walk.specs.declared.walk.Walk.{Walk}
 
--- before the first key from a place on, or behind the last key that it has given
+-- before the first key at or after a place, or after the last key that it has given
 pub data WalkAt : Type 0 where
   from : Place → WalkAt
   behind : Place → WalkAt
@@ -30,7 +30,7 @@ pub record IsNextPair (arena : Arena) (at : WalkAt) (pair : Pair Row) : Type 0 w
   pub comes : ToCome at pair.key
   pub least : (key : Place) (row : Row) → Has arena key row → ToCome at key → AtMost pair.key key
 
--- WHAT A WALK GIVES NEXT: the first pair to come, and it is then behind it; or none, and it stays
+-- THE NEXT PAIR OF A WALK: the first pair to come, and the walk is then after it; or none, and the walk stays
 abbrev pub Gives : Arena → WalkAt → Option (Pair Row) → WalkAt → Type 0
 Gives arena at None after = NoneToCome arena at × (after ≡ at)
 Gives arena at (Some pair) after = IsNextPair arena at pair × (after ≡ behind pair.key)
@@ -44,7 +44,7 @@ GivesAll arena at (pair ∷ pairs) after = IsNextPair arena at pair × GivesAll 
 abbrev pub IsEnough : Arena → ℕ → List (Pair Row) → WalkAt → Type 0
 IsEnough arena limit pairs after = (length pairs ≡ limit) ⊎ NoneToCome arena after
 
--- where it stands, once it has given these pairs from a place on
+-- its place, once it has given these pairs from a place on
 abbrev pub HasGiven : Place → List (Pair Row) → WalkAt → Type 0
 HasGiven start given at = ((given ≡ []) × (at ≡ from start))
     ⊎ ((before : List (Pair Row)) × (pair : Pair Row) × (given ≡ before ++ pair ∷ []) × (at ≡ behind pair.key))
@@ -68,11 +68,11 @@ view_of walk = record {
   after = walk.after;
 }
 
--- where it stands in the order of keys: its buffer has the key of the last pair, or the key from which it began
+-- its place in the order of keys: its buffer has the key of the last pair, or the key from which it began
 abbrev pub stands_at : WalkView → WalkAt
 stands_at walk = if walk.given then behind (place_of walk.key) else from (place_of walk.key)
 
--- WHAT A CALL OF A WALK GIVES: the row of the first pair to come, and the buffer has its key; or none is to come
+-- WHAT A CALL RETURNS: the row of the first pair to come, and the buffer has its key; or none is to come
 abbrev pub GivesRow : WalkView → Option Row → WalkView → Type 0
 GivesRow walk row new =
     Gives (arena_seen walk.tree) (stands_at walk) (option_map (λ r. record { key = place_of new.key; value = r }) row)

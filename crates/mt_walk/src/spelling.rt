@@ -41,7 +41,7 @@ fn push_entry(key: &mut Vec<u8>, entry: &Entry) -> Result<(), NoMemory>
     Ok(())
 }
 
-/// Spells the key of an entry with a row, below the stops of a path, in place of what the buffer has. Allocates only if
+/// Spells the key of an entry with a row, below the stops of a path instead of what the buffer has. Allocates only if
 /// the buffer has to grow.
 ///
 /// # Errors

@@ -1,4 +1,4 @@
-//! Where a walk begins in a border: at the first entry that is not before what is left of its first key.
+//! The begin of a walk in a border: at the first entry that is not before what is left of its first key.
 
 ghost use Rattle.std.specs.Prelude.{◌≡◌, ◌≤◌, length, IfSome, IsTrue, IsFalse, None};
 ghost use Rattle.mt_slice.specs.Place.{deeper, AreBytes, Precedes, place_of, slice_number};

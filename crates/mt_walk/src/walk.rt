@@ -1,4 +1,4 @@
-//! A walk: where it stands in the tree, and its next pair.
+//! A walk: its place in the tree, and its next pair.
 
 ghost use Rattle.std.specs.Prelude.{ℕ, ◌≡◌, ◌<◌, IfOk, IsSome, OnOk};
 ghost use Rattle.std.specs.Option.{option_copied};
@@ -33,7 +33,7 @@ pub(crate) struct Stop {
 
 /// What a walk comes to by one step.
 pub(crate) enum Step<'t> {
-    /// It goes on.
+    /// It continues.
     On,
     /// It is past this row.
     Past(&'t Row),
@@ -108,7 +108,7 @@ impl<'t> Walk<'t> {
         self.key.as_slice()
     }
 
-    // Goes into the layer of a link, to its first border.
+    // Enters the layer of a link, at its first border.
     fn enter(&mut self, slice: u64, head: NodeNo) -> Result<(), NoMemory>
         requires seeks { MaySeek (view_of self.old).tree head.0 0 }
         requires room { (view_of self.old).here.place < SLOTS }
@@ -128,7 +128,7 @@ impl<'t> Walk<'t> {
         Ok(())
     }
 
-    // Goes past an entry with a row, and has its key.
+    // Passes an entry with a row. The buffer has its key then.
     fn take(&mut self, entry: &Entry) -> Result<(), NoMemory>
         requires stands { IsWalk (view_of self.old) }
         requires there { IsAtEntry (view_of self.old) entry.now }
@@ -141,7 +141,7 @@ impl<'t> Walk<'t> {
         Ok(())
     }
 
-    // Goes past the entry at which it is.
+    // Passes the entry at which the walk is.
     fn pass(&mut self, entry: &'t Entry) -> Result<Step<'t>, NoMemory>
         requires stands { IsWalk (view_of self.old) }
         requires there { IsAtEntry (view_of self.old) entry.now }
@@ -188,7 +188,7 @@ impl<'t> Walk<'t> {
         }
     }
 
-    // Goes past one entry, or out of the border at its end.
+    // Passes one entry, or leaves the border at its end.
     fn step(&mut self) -> Result<Step<'t>, NoMemory>
         requires { IsWalk (view_of self.old) }
         ensures { IfOk result (λ step. GoesBy (view_of self.old) step (view_of self.new)) }
@@ -204,12 +204,13 @@ impl<'t> Walk<'t> {
 
     /// Returns the row of the next pair, and `key` is then its key; or `None` if no pair is to come.
     ///
-    /// Costs the visit of one entry, and at the end of a border that of the next. Goes into each layer below by its
-    /// head. Allocates only if the buffer of the key or the path has to grow, and copies no row.
+    /// Costs the visit of one entry, at the end of a border also of the next border, and at a link also of the way from
+    /// the head of its layer to the first border. Allocates only if the buffer of the key or the path has to grow, and
+    /// copies no row.
     ///
     /// # Errors
     ///
-    /// `NoMemory` if that is refused. The walk has to be let go then.
+    /// `NoMemory` if that is refused. Then the walk must not be used any more.
     pub fn next(&mut self) -> Result<Option<&'t Row>, NoMemory>
         requires { IsWalk (view_of self.old) }
         ensures stands { OnOk result (StandsOn (view_of self.old) (view_of self.new)) }

@@ -37,7 +37,7 @@ invariant_of-self-2 c =
       subst (λ (entries : Entries). length entries ≤ MAX_OPEN_CALLS) (sym changed) (let many = many_changed (with_work c.step-2.new.self.work) c.args.number all in let few = c.self.invariant.1 in omega (arith, many, few)),
       subst (λ (entries : Entries). c.self.inside.writers ≡ changing entries) (sym changed)
           (c.self.invariant.2 ∙ sym (changing_kept c.args.number c.in-Some-get_mut.call.now c.step-2.new.self all (call_other c.args.number c.self.inside.first.value c.self.inside.others.entries other ∙ found)
-              (same_changes c.args.epoch c.args.columns c.in-Some-get_mut.call.now c.step-2.new.self c.args.tree.now c.step-2.new.tree c.args.log.now c.step-2.new.log c.step-2.result c.step-2.ensures))),
+          (same_changes c.args.epoch c.args.columns c.in-Some-get_mut.call.now c.step-2.new.self c.args.tree.now c.step-2.new.tree c.args.log.now c.step-2.new.log c.step-2.result c.step-2.ensures))),
     )
 
 pub returns : goal.returns
