@@ -49,7 +49,8 @@ abbrev pub HasGiven : Place → List (Pair Row) → WalkAt → Type 0
 HasGiven start given at = ((given ≡ []) × (at ≡ from start))
     ⊎ ((before : List (Pair Row)) × (pair : Pair Row) × (given ≡ before ++ pair ∷ []) × (at ≡ behind pair.key))
 
--- a walk: its tree, its buffer with a key, whether that is the key of a pair that it has given, its path, and where it is
+-- a walk: its tree, the key in its buffer, whether that is the key of a pair that it has given, its path, where it is,
+-- and whether it came there from the layer below
 pub record WalkView : Type 0 where
   pub tree : ArenaView
   pub key : List ℕ

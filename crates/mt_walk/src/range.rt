@@ -33,8 +33,8 @@ fn key_of(alloc: Global, bytes: &[u8]) -> Result<Key, NoMemory>
 /// Returns the pairs of a tree in which no change is under way, from `start` on, at most `limit`, with the columns that
 /// are asked for, or with all if none is asked for.
 ///
-/// Costs the visit of the nodes on the way to `start`, and of each border from there on. Allocates for the walk, and for
-/// the key and the row of each pair. Shares the bytes of the columns.
+/// Costs the visit of the nodes on the way to `start`, and of each border from there on. Allocates for the walk, and
+/// for the key and the row of each pair. Shares the bytes of the columns.
 ///
 /// # Errors
 ///

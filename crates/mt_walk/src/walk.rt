@@ -48,17 +48,23 @@ pub(crate) enum Step<'t> {
 #[derive(Drop)]
 pub struct Walk<'t> {
     tree: &'t Tree,
+    // The key of the last pair, or the key from which the walk began.
     key: Vec<u8>,
+    // Whether there was a pair.
     given: bool,
+    // The stops above the layer, from layer 0 on.
     path: Vec<Stop>,
+    // The border at which it is.
     here: Stop,
+    // Whether it has come back from the layer below the slice of `here`.
     after: bool,
 }
 
 impl<'t> Walk<'t> {
     /// Returns a walk that is before the first pair of the tree whose key is `start` or after it.
     ///
-    /// Costs the visit of each node on the way to the key, and allocates for a copy of the key and for the path.
+    /// Costs the visit of each node on the way to the key. Allocates for a copy of the key, and for the path if the key
+    /// is in a layer below layer 0.
     ///
     /// # Errors
     ///
@@ -202,15 +208,15 @@ impl<'t> Walk<'t> {
         }
     }
 
-    /// Returns the row of the next pair, and `key` is then its key; or `None` if no pair is to come.
+    /// Returns the row of the next pair, borrowed of the tree, or `None` if no pair is to come. `key` then returns its
+    /// key.
     ///
-    /// Costs the visit of one entry, at the end of a border also of the next border, and at a link also of the way from
-    /// the head of its layer to the first border. Allocates only if the buffer of the key or the path has to grow, and
-    /// copies no row.
+    /// Costs the copy of the key, the visit of one entry, and that of each border and head on the way to it. Allocates
+    /// only if the buffer of the key or the path has to grow. Copies no row.
     ///
     /// # Errors
     ///
-    /// `NoMemory` if that is refused. Then the walk must not be used any more.
+    /// `NoMemory` if an allocation is refused. The walk must not be used after that.
     pub fn next(&mut self) -> Result<Option<&'t Row>, NoMemory>
         requires { IsWalk (view_of self.old) }
         ensures stands { OnOk result (StandsOn (view_of self.old) (view_of self.new)) }
