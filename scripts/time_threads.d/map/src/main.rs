@@ -1,7 +1,8 @@
-//! Threads over one locked map, in phases that are timed: what the index's side does, over a `Mutex<BTreeMap>`.
+//! Threads over one locked map, in phases that are timed: what the index's side does, over a `BTreeMap` in a `Mutex` or
+//! in an `RwLock`.
 //!
-//! `time_threads_map THREADS KEYS CALLS RANGES HOLDINGS`: as the index's side takes them, and it prints the same lines,
-//! with no events. `scripts/time_threads` runs both and makes the table.
+//! `time_threads_map mutex|rwlock THREADS KEYS CALLS RANGES HOLDINGS`: as the index's side takes them, and it prints the
+//! same lines, with no events. `scripts/time_threads` runs both and makes the table.
 
 #[allow(dead_code)]
 #[path = "../../../time_index.d/src/keys.rs"]
@@ -63,16 +64,18 @@ fn time_holdings(threads: u64, times: u64) {
 }
 
 fn main() -> Outcome<()> {
-    let words = env::args().skip(1).map(|word| word.parse::<u64>());
-    let words: Vec<u64> = words.collect::<Result<_, _>>()?;
-    let [threads, keys, calls, ranges, holdings] = *words.as_slice() else {
-        return Err("it takes THREADS KEYS CALLS RANGES HOLDINGS".into());
+    let mut words = env::args().skip(1);
+    let lock = words.next().unwrap_or_default();
+    let map = Map::new(&lock).ok_or("the lock is mutex or rwlock")?;
+    let sizes = words.map(|word| word.parse::<u64>());
+    let sizes: Vec<u64> = sizes.collect::<Result<_, _>>()?;
+    let [threads, keys, calls, ranges, holdings] = *sizes.as_slice() else {
+        return Err("it takes mutex|rwlock THREADS KEYS CALLS RANGES HOLDINGS".into());
     };
     if threads == 0 || keys < threads {
         return Err("a thread at least, and a key for each".into());
     }
     let plan = Plan::new(threads, keys, calls, ranges);
-    let map = Map::default();
     map.call_all(Kind::PutNew, &plan.base);
     for kind in KINDS {
         run_phase(&map, kind, &plan);

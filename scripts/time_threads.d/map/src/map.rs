@@ -2,7 +2,7 @@
 
 use std::collections::BTreeMap;
 use std::hint::black_box;
-use std::sync::{Mutex, MutexGuard, PoisonError};
+use std::sync::{Mutex, PoisonError, RwLock};
 
 type Columns = Vec<Vec<u8>>;
 type Rows = BTreeMap<Vec<u8>, Columns>;
@@ -40,37 +40,56 @@ impl Kind {
     }
 }
 
-/// Rows under a lock.
-#[derive(Default)]
-pub struct Map {
-    rows: Mutex<Rows>,
+/// Rows under a lock: one that is held alone, or one that reads share.
+pub enum Map {
+    Alone(Mutex<Rows>),
+    Shared(RwLock<Rows>),
 }
 
 impl Map {
-    fn locked(&self) -> MutexGuard<'_, Rows> {
-        self.rows.lock().unwrap_or_else(PoisonError::into_inner)
+    /// An empty map. `lock` is `mutex` or `rwlock`.
+    pub fn new(lock: &str) -> Option<Map> {
+        match lock {
+            "mutex" => Some(Map::Alone(Mutex::default())),
+            "rwlock" => Some(Map::Shared(RwLock::default())),
+            _ => None,
+        }
+    }
+
+    fn change<T>(&self, done: impl FnOnce(&mut Rows) -> T) -> T {
+        match self {
+            Map::Alone(rows) => done(&mut rows.lock().unwrap_or_else(PoisonError::into_inner)),
+            Map::Shared(rows) => done(&mut rows.write().unwrap_or_else(PoisonError::into_inner)),
+        }
+    }
+
+    fn read<T>(&self, done: impl FnOnce(&Rows) -> T) -> T {
+        match self {
+            Map::Alone(rows) => done(&rows.lock().unwrap_or_else(PoisonError::into_inner)),
+            Map::Shared(rows) => done(&rows.read().unwrap_or_else(PoisonError::into_inner)),
+        }
     }
 
     // (what it allocates and lets go, it does outside the lock, but for the node of a new key)
     fn put(&self, number: u64, value: u64) {
         let key = number.to_be_bytes().to_vec();
         let columns = vec![value.to_be_bytes().to_vec()];
-        let before = self.locked().insert(key, columns);
+        let before = self.change(|rows| rows.insert(key, columns));
         drop(before);
     }
 
     fn get(&self, number: u64) {
-        let row = self.locked().get(&number.to_be_bytes()[..]).cloned();
+        let row = self.read(|rows| rows.get(&number.to_be_bytes()[..]).cloned());
         assert!(black_box(row).is_some(), "a wrong answer of a get");
     }
 
     fn range(&self, number: u64) {
-        let rows: Vec<(Vec<u8>, Columns)> = self
-            .locked()
-            .range(number.to_be_bytes().to_vec()..)
-            .take(ROWS_OF_RANGE)
-            .map(|(key, columns)| (key.clone(), columns.clone()))
-            .collect();
+        let rows: Vec<(Vec<u8>, Columns)> = self.read(|rows| {
+            rows.range(number.to_be_bytes().to_vec()..)
+                .take(ROWS_OF_RANGE)
+                .map(|(key, columns)| (key.clone(), columns.clone()))
+                .collect()
+        });
         assert!(!black_box(rows).is_empty(), "a wrong answer of a range");
     }
 
