@@ -125,7 +125,7 @@ fn reads_at_once(rt: HostRuntime) -> Result<(), Fail> {
     let driven = get_key(alloc, &mut door, pass)?;
     assert_eq!(rt; driven.call.0, 3);
     assert!(rt; matches!(&driven.answer, Answer::Found(row) if row.version == 1));
-    assert!(rt; pass.events() > events + 2);
+    assert!(rt; pass.events() > events.saturating_add(2));
     Ok(())
 }
 
