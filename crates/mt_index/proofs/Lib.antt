@@ -23,3 +23,4 @@ pub mod AloneStands
 pub mod QuietStands
 pub mod LawLemmas
 pub mod FeedLemmas
+pub mod MakesLemmas

@@ -1,18 +1,19 @@
 -- What an event does to the machine, by its kind, and runs as chains of events.
-use Rattle.std.specs.Prelude.{◌≡◌, ◌⊎◌, List, [], ◌∷◌, ◌++◌, Result, Ok, Err}
+use Rattle.std.specs.Prelude.{ℕ, ◌≡◌, ◌+◌, ◌⊎◌, List, [], ◌∷◌, ◌++◌, length, sum_by, All, Result, Ok, Err}
 use Rattle.mt_types.specs.declared.numbers.CallNo.{CallNo}
 use Rattle.mt_types.specs.declared.event.Request.{Request}
 use Rattle.mt_types.specs.declared.event.Reply.{Reply}
 use Rattle.mt_types.specs.declared.event.Event.{Event}
 use Rattle.mt_types.specs.declared.event.Event.TheVariants.{Begin, Step, Apply, ViewRead, ViewDrop, Advance, Collect}
 use Rattle.mt_types.specs.declared.event.Outcome.{Outcome}
-use Rattle.mt_types.specs.declared.event.Outcome.TheVariants.{Call as Called, Done, Refused}
+use Rattle.mt_types.specs.declared.event.Outcome.TheVariants.{Call as Called, Moved, Commit, Done, Refused}
 use Rattle.mt_types.specs.declared.refusal.Refusal.{Refusal}
-use Rattle.mt_promise.specs.History.{History, GoesOn}
+use Rattle.mt_promise.specs.History.{History, GoesOn, happening}
 use Rattle.mt_promise.specs.Headline.{GetsAreRight, RangesAreRight, ViewsAreRight}
 use Rattle.mt_promise.specs.Legal.{Legal}
 use Rattle.mt_works.specs.declared.work.Pace.TheVariants.{Field, Node}
 use Rattle.mt_index.specs.declared.options.Options.{Options}
+use Rattle.mt_index.specs.declared.running.Run.{Run}
 use Rattle.mt_index.specs.Alone.{pass_0, next_call}
 use Rattle.mt_index.specs.Causes.{IsCaused}
 use Rattle.mt_index.specs.OneStep.{IsOneStep}
@@ -47,6 +48,41 @@ abbrev pub StepsHappen : MachineView → CallNo → List Outcome → MachineView
 StepsHappen s call [] t = t ≡ s
 StepsHappen s call (outcome ∷ outcomes) t =
     (next : MachineView) × Happens s (Step call) outcome next × StepsHappen next call outcomes t
+
+-- THE MACHINE MAKES AN EVENT: it happens so, and whichever history the machine is at, it is then at that history with
+-- this event and this outcome
+pub record Makes (s : MachineView) (event : Event) (outcome : Outcome) (t : MachineView) : Type 0 where
+  pub stands : (h : History) → Stands s h → (opens : ℕ) × Stands t (happening event outcome opens ∷ h)
+  pub happens : Happens s event outcome t
+  pub columns : t.columns ≡ s.columns
+  pub bounds : HasBounds s.log.feed s.log.keep t.log
+
+-- it makes steps of one call, with these outcomes
+abbrev pub MakesSteps : MachineView → CallNo → List Outcome → MachineView → Type 0
+MakesSteps s call [] t = t ≡ s
+MakesSteps s call (outcome ∷ outcomes) t =
+    (next : MachineView) × Makes s (Step call) outcome next × MakesSteps next call outcomes t
+
+-- how many commits an outcome is
+abbrev pub commit_count : Outcome → ℕ
+commit_count (Commit number) = 1
+commit_count _ = 0
+
+-- the call continues, and has not waited
+abbrev pub GoesOnAtOnce : Outcome → Type 0
+GoesOnAtOnce Moved = Unit {0}
+GoesOnAtOnce (Commit number) = Unit {0}
+GoesOnAtOnce _ = ⊥
+
+-- A RUN OF A CALL: steps of it, one after the other, after each of which but the last it continues at once
+pub record GoesThrough (s : MachineView) (call : CallNo) (run : Run) (t : MachineView) : Type 0 where
+  pub outcomes : List Outcome
+  pub go_on : All GoesOnAtOnce outcomes
+  pub before : MachineView
+  pub steps : MakesSteps s call outcomes before
+  pub last : Makes before (Step call) run.last t
+  pub many : run.steps ≡ length outcomes + 1
+  pub commits : run.commits ≡ sum_by commit_count outcomes + commit_count run.last
 
 -- what a call alone came to
 abbrev pub last_outcome : Result Reply Refusal → Outcome

@@ -9,5 +9,6 @@ mod feed;
 pub mod laws;
 pub mod machine;
 pub mod options;
+pub mod running;
 mod stepping;
 mod viewing;

@@ -1,5 +1,8 @@
 //! How an index is opened.
 
+ghost use Rattle.std.specs.Prelude.{◌≡◌, None};
+ghost use Rattle.mt_types.specs.Limits.{open_fault};
+
 /// What an index is opened with.
 #[derive(Clone, Copy, Debug, PartialEq, Eq)]
 pub struct Options {
@@ -9,4 +12,19 @@ pub struct Options {
     pub feed: u64,
     /// How many of the last commits the log keeps for no reader: at most 65,536.
     pub keep: u64,
+}
+
+impl Default for Options {
+    /// Returns options of one column, with a log that holds 4,096 commits for the slowest reader and keeps none for no
+    /// reader.
+    fn default() -> Options
+        ensures value { result ≡ record { columns = 1; feed = 4096; keep = 0 } }
+        ensures within { open_fault result.columns result.feed result.keep ≡ None }
+    {
+        Options {
+            columns: 1,
+            feed: 4096,
+            keep: 0,
+        }
+    }
 }

@@ -204,7 +204,19 @@ impl Machine {
         Ok(CallNo(number))
     }
 
-    // Begins a call, unless something refuses it.
+    // Begins a call that nothing refuses.
+    pub(crate) fn admitted(&mut self, alloc: Global, pass: PassNo, request: Request) -> Outcome
+        requires { fault_of self.old request ≡ None }
+        ensures begins { Begins Pace.Field self.old pass request result self.new }
+        ensures bounds { HasBounds self.old.log.feed self.old.log.keep self.new.log }
+    {
+        match self.admit(alloc, pass, Pace::Field, request) {
+            Ok(number) => Outcome::Call(number),
+            Err(_) => Outcome::Refused(Refusal::NoMemory),
+        }
+    }
+
+    // Begins a call with a copy of a request, unless something refuses it.
     pub(crate) fn begin(&mut self, alloc: Global, pass: PassNo, request: &Request) -> Outcome
         ensures begins { Begins Pace.Field self.old pass request.now result self.new }
         ensures bounds { HasBounds self.old.log.feed self.old.log.keep self.new.log }
@@ -212,11 +224,8 @@ impl Machine {
         if let Some(refusal) = self.fault_of(request) {
             return Outcome::Refused(refusal);
         }
-        let Ok(request) = request.copy(alloc) else {
-            return Outcome::Refused(Refusal::NoMemory);
-        };
-        match self.admit(alloc, pass, Pace::Field, request) {
-            Ok(number) => Outcome::Call(number),
+        match request.copy(alloc) {
+            Ok(request) => self.admitted(alloc, pass, request),
             Err(_) => Outcome::Refused(Refusal::NoMemory),
         }
     }

@@ -1,7 +1,7 @@
 -- A drive continues with an event, and ends with one.
-use Rattle.std.proofs.Common.{arith, sym, ap, subst, ◌≡◌, ◌≤◌, ◌⊎◌, ◌∙◌, ◌∷◌, ◌++◌, [], List, ℕ, refl, append_assoc, append-nil, inl, inr}
+use Rattle.std.proofs.Common.{arith, sym, ap, subst, ◌≡◌, ◌≤◌, ◌<◌, ◌⊎◌, ◌∙◌, ◌∷◌, ◌++◌, [], List, ℕ, refl, append_assoc, append-nil, inl, inr}
 use Rattle.std.specs.Prelude.{All, Result, Ok, Err, Some, IfOk, IfErr}
-use Rattle.std.proofs.lemmas.List.Elements.{All-push, All-nil}
+use Rattle.std.proofs.lemmas.List.Elements.{All-append, All-push, All-nil}
 use Rattle.mt_types.specs.declared.numbers.PassNo.{PassNo}
 use Rattle.mt_types.specs.declared.numbers.CallNo.{CallNo}
 use Rattle.mt_types.specs.declared.refusal.Refusal.{Refusal}
@@ -18,7 +18,7 @@ use Rattle.mt_shared.specs.declared.trace.Trace.{Trace}
 use Rattle.mt_shared.specs.declared.trace.Trace.TheVariants.{Off, On, Lost}
 use Rattle.mt_shared.specs.Traces.{entry, Gains}
 use Rattle.mt_shared.specs.Passes.{PassView, IsTold, Suits, Counts, seen_in}
-use Rattle.mt_shared.specs.Drives.{EventLaw, Runs, Continues, IsStep, whole, IsDriven, IsCut, IsRefused, IsReplyTo, Ends, EndsIn, EndsNone}
+use Rattle.mt_shared.specs.Drives.{EventLaw, Runs, HasGone, IsBegun, Continues, IsStep, whole, IsDriven, IsCut, IsRefused, IsReplyTo, Ends, EndsIn, EndsNone}
 
 -- ---- a trace gains
 pub gains_none : (t : Trace) → Gains t [] t
@@ -52,6 +52,10 @@ module _ {S : Type 0} (does : EventLaw S) where
       (t, q, subst (λ (v : S). does v p x.event x.outcome t q) run.0 (subst (λ (v : PassView). does m v x.event x.outcome t q) run.1 d), (refl, refl))
   runs_more s p (y ∷ xs) m r x t q run d = (run.0, run.1, run.2, runs_more run.0 run.1 xs m r x t q run.3 d)
 
+  pub runs_on : (s : S) (p : PassView) (xs : List Entry) (m : S) (r : PassView) (ys : List Entry) (t : S) (q : PassView) → Runs does s p xs m r → Runs does m r ys t q → Runs does s p (xs ++ ys) t q
+  runs_on s p [] m r ys t q run more = subst (λ (v : S). Runs does v p ys t q) run.0 (subst (λ (v : PassView). Runs does m v ys t q) run.1 more)
+  runs_on s p (x ∷ xs) m r ys t q run more = (run.0, run.1, run.2, runs_on run.0 run.1 xs m r ys t q run.3 more)
+
   -- the events of a drive whose call has begun
   pub record Begun (s : S) (p : PassView) (request : Request) (call : CallNo) (t : S) (q : PassView) : Type 0 where
     pub steps : List Entry
@@ -81,6 +85,17 @@ module _ {S : Type 0} (does : EventLaw S) where
         traced = gains_more p.trace r.trace q.trace (entry p.number (Begin p.number request) (Call call) ∷ b.steps) (x ∷ []) b.traced (subst (λ (n : PassNo). Gains r.trace (entry n (Step call) o ∷ []) q.trace) b.number counts.trace);
         number = counts.number ∙ b.number;
       }
+
+  -- the steps of a run, but for its last
+  pub run_on : (s : S) (p : PassView) (request : Request) (call : CallNo) (m : S) (r : PassView) (o : Outcome) (t : S) (q : PassView)
+      → Begun s p request call m r → (g : HasGone does m r call o t q) → Begun s p request call g.then g.between
+  run_on s p request call m r o t q b g = record {
+    steps = b.steps ++ g.steps;
+    are_steps = All-append (IsStep p.number call) b.steps g.steps b.are_steps (subst (λ (n : PassNo). All (IsStep n call) g.steps) b.number g.are_steps);
+    runs = runs_on s p (entry p.number (Begin p.number request) (Call call) ∷ b.steps) m r g.steps g.then g.between b.runs g.runs;
+    traced = gains_more p.trace r.trace g.between.trace (entry p.number (Begin p.number request) (Call call) ∷ b.steps) g.steps b.traced g.traced;
+    number = g.number ∙ b.number;
+  }
 
   pub driven : (s : S) (p : PassView) (request : Request) (call : CallNo) (m : S) (r : PassView) (o : Outcome) (t : S) (q : PassView) (reply : Reply)
       → Begun s p request call m r → does m r (Step call) o t q → o ≡ Done reply → Counts r (Step call) o q → reply.call ≡ call → IsDriven does s p request reply t q
@@ -193,6 +208,27 @@ module _ {S : Type 0} (does : EventLaw S) (s : S) (p : PassView) (request : Requ
     driven = tt;
     refused = inr (cut does s p request call m r o t q refusal b d (subst (λ (n : ℕ). EndsIn refusal n o) same ends));
   }
+
+  -- a run by which the call continues, and one that ends it
+  pub goes_through : (call : CallNo) (m : S) (r : PassView) (o : Outcome) (t : S) (q : PassView) → Begun does s p request call m r → HasGone does m r call o t q → EndsNone o → Begun does s p request call t q
+  goes_through call m r o t q b g none = goes_on_told call g.then g.between o t q (run_on does s p request call m r o t q b g) g.does none g.told
+
+  pub run_ends : (call : CallNo) (m : S) (r : PassView) (o : Outcome) (t : S) (q : PassView) (seen : ℕ) (end : Result Reply Refusal) → Begun does s p request call m r → HasGone does m r call o t q → seen ≡ p.seen → Ends seen o (Some end) → IsEnded end t q
+  run_ends call m r o t q seen end b g same ends = ends_told call g.then g.between o t q seen end (run_on does s p request call m r o t q b g) g.does same ends g.told
+
+  pub starts : (call : CallNo) (t : S) (q : PassView) → IsBegun does s p request (Call call) t q → Begun does s p request call t q
+  starts call t q b = begins_told call (Call call) t q p.number refl b.0 refl b.1
+
+-- what a run leaves of a pass
+module _ {S : Type 0} (does : EventLaw S) (s : S) (p : PassView) (call : CallNo) (o : Outcome) (t : S) (q : PassView) (g : HasGone does s p call o t q) where
+  pub run_number : q.number ≡ p.number
+  run_number = told_number g.between (Step call) o q g.told ∙ g.number
+
+  pub run_seen : p.seen ≤ q.seen
+  run_seen = let before = g.seen in let rises = told_seen g.between (Step call) o q g.told in omega (arith, before, rises)
+
+  pub run_counts : EndsNone o → p.events < q.events
+  run_counts none = let before = g.events in let more = (counted g.between (Step call) o q none g.told).0.events in omega (arith, before, more)
 
 -- what a step that ends a call answers keeps the limits, and so does the reply
 pub ends_limited : (seen : ℕ) (outcome : Outcome) (end : Result Reply Refusal) → Ends seen outcome (Some end) → OutcomeIsLimited outcome → IfOk end (λ reply. AnswerIsLimited reply.answer)

@@ -20,7 +20,8 @@ use Rattle.mt_types.specs.declared.event.Outcome.TheVariants.{Call, Moved, Again
 use Rattle.mt_promise.specs.History.{History, Moment, OpenCall, StandingView, happening, moment, call_of, view_of, meant_view, change_of, after_event, after_begin, after_step, after_call_step, after_apply, after_drop, after_advance}
 use Rattle.mt_promise.specs.Legal.{MayHappen, MayBegin, MayStepAt, MayStep, MayCommit, MayApply, MayReadView, MayRead, MayShow, MayDrop, IsOrLacksMemory, page_of, begin_fault, view_places}
 use Rattle.mt_promise.proofs.NumberedLemmas.{found}
-use Rattle.mt_shared.specs.Passes.{commit_count, seen_in, Suits}
+use Rattle.mt_index.specs.Events.{commit_count}
+use Rattle.mt_shared.specs.Passes.{seen_in, Suits}
 
 -- an outcome that commits nothing and shows nothing
 abbrev IsQuiet : Outcome → Type 0

@@ -21,11 +21,12 @@ use Rattle.mt_promise.specs.Legal.{Legal}
 use Rattle.mt_promise.specs.Headline.{KeepsPromise}
 use Rattle.mt_promise.proofs.KeepLemmas.{keeps_promise}
 use Rattle.mt_shared.specs.Traces.{entry, Tells, Gains, IsTraceOf, IsNewTrace, Keeps}
-use Rattle.mt_shared.specs.Passes.{PassView, Counts, commit_count, seen_in}
+use Rattle.mt_index.specs.Events.{Makes, commit_count}
+use Rattle.mt_shared.specs.Passes.{PassView, Counts, seen_in}
 use Rattle.mt_shared.specs.Books.{book_with}
 use Rattle.mt_types.specs.Numbers.{greatest_number}
 use Rattle.mt_types.specs.declared.refusal.Refusal.TheVariants.{WrongPass, Spent}
-use Rattle.mt_shared.specs.Kept.{KeptView, IsKept, IsMade, IsUnmade, Does, Makes, has_book, is_foreign, is_wrong, is_spent}
+use Rattle.mt_shared.specs.Kept.{KeptView, IsKept, IsMade, IsUnmade, Does, has_book, is_foreign, is_wrong, is_spent}
 use Rattle.mt_shared.proofs.HappeningLemmas.{event_grows, event_shows}
 
 or_false : (a b : Bool) → false ≡ (a || b) → (a ≡ false) × (b ≡ false)

@@ -15,7 +15,8 @@ use Rattle.mt_index.specs.Calls.{pass_at}
 use Rattle.mt_index.specs.Stands.{MachineView, Stands}
 use Rattle.mt_index.proofs.PairedLemmas.{paired-pass}
 use Rattle.mt_shared.specs.Passes.{PassView, IsTold, Suits}
-use Rattle.mt_shared.specs.Kept.{KeptView, IsKept, Does, IsMade, IsUnmade, Makes, is_wrong, is_spent, is_foreign, is_other}
+use Rattle.mt_index.specs.Events.{Makes}
+use Rattle.mt_shared.specs.Kept.{KeptView, IsKept, Does, IsMade, IsUnmade, is_wrong, is_spent, is_foreign, is_other}
 use Rattle.mt_shared.proofs.HappeningLemmas.{begin_suits, step_suits, apply_suits, page_suits, drop_suits}
 use Rattle.mt_shared.proofs.KeptLemmas.{in_books}
 

@@ -11,9 +11,12 @@ use Rattle.mt_types.specs.declared.event.Request.{Request}
 use Rattle.mt_types.specs.declared.event.Reply.{Reply}
 use Rattle.mt_types.specs.declared.event.Outcome.{Outcome}
 use Rattle.mt_types.specs.declared.event.Outcome.TheVariants.{Call, Moved, Again, Commit, Done, Refused}
+use Rattle.mt_types.specs.Limited.{OutcomeIsLimited}
 use Rattle.mt_shared.specs.declared.trace.Entry.{Entry}
 use Rattle.mt_shared.specs.Traces.{entry, Gains}
-use Rattle.mt_shared.specs.Passes.{PassView}
+use Rattle.mt_shared.specs.declared.driving.Started.{Started}
+use Rattle.mt_shared.specs.declared.driving.Started.TheVariants.{Refused as RefusedStart, Begun, Ran}
+use Rattle.mt_shared.specs.Passes.{PassView, IsTold}
 
 -- what one event does to what is shared, S, and to the pass
 abbrev pub EventLaw : Type 0 → Type 1
@@ -36,6 +39,39 @@ pub record IsStep (p : PassNo) (call : CallNo) (x : Entry) : Type 0 where
   pub pass : x.pass ≡ p
   pub event : x.event ≡ Step call
   pub outcome : Continues x.outcome
+
+-- A RUN OF A CALL: steps of it, one after another, after each of which but the last it continues. The last has this
+-- outcome, and the pass is told of it.
+pub record HasGone {S : Type 0} (does : EventLaw S) (s : S) (p : PassView) (call : CallNo) (last : Outcome)
+    (t : S) (q : PassView) : Type 0 where
+  pub steps : List Entry
+  pub are_steps : All (IsStep p.number call) steps
+  pub then : S
+  pub between : PassView
+  pub runs : Runs does s p steps then between
+  pub traced : Gains p.trace steps between.trace
+  pub number : between.number ≡ p.number
+  pub seen : p.seen ≤ between.seen
+  pub events : p.events ≤ between.events
+  pub does : does then between (Step call) last t q
+  pub told : IsTold between (Step call) last q
+
+-- the begin of a call of the pass had this outcome, and the pass is told of it
+abbrev pub IsBegun : {S : Type 0} → EventLaw S → S → PassView → Request → Outcome → S → PassView → Type 0
+IsBegun does s p request outcome t q =
+    does s p (Begin p.number request) outcome t q × IsTold p (Begin p.number request) outcome q
+
+-- HOW A CALL IS STARTED: its begin is refused; or it has begun; or it has begun and a run of it was made
+abbrev pub IsStarted : {S : Type 0} → EventLaw S → S → PassView → Request → Started → S → PassView → Type 0
+IsStarted does s p request (RefusedStart refusal) t q = IsBegun does s p request (Refused refusal) t q
+IsStarted does s p request (Begun call) t q = IsBegun does s p request (Call call) t q
+IsStarted {S} does s p request (Ran call last) t q =
+    (m : S) × (r : PassView) × IsBegun does s p request (Call call) m r × HasGone does m r call last t q
+
+-- what a start answers keeps the limits of an index
+abbrev pub StartIsLimited : Started → Type 0
+StartIsLimited (Ran call last) = OutcomeIsLimited last
+StartIsLimited _ = Unit {0}
 
 -- the begin of a call, these steps of it, and its last step
 abbrev pub whole : PassNo → Request → CallNo → List Entry → Outcome → List Entry

@@ -16,7 +16,7 @@ use Rattle.mt_promise.specs.History.{History, happening}
 use Rattle.mt_commit.specs.Log.{newest}
 use Rattle.mt_index.specs.declared.options.Options.{Options}
 use Rattle.mt_index.specs.Calls.{pass_at}
-use Rattle.mt_index.specs.Events.{Happens}
+use Rattle.mt_index.specs.Events.{Makes}
 use Rattle.mt_index.specs.Stands.{MachineView, Stands, HasBounds}
 use Rattle.mt_shared.specs.declared.book.Book.{Book}
 use Rattle.mt_shared.specs.declared.trace.Trace.{Trace}
@@ -61,14 +61,6 @@ is_wrong s pass event = not (has_book pass s.books) || is_foreign s.machine pass
 -- no more events can be counted
 abbrev pub is_spent : KeptView → PassView → Bool
 is_spent s p = (s.events == greatest_number) || (p.events == greatest_number)
-
--- the machine makes an event: it happens so, and wherever the machine stands, it then stands where this has happened
--- too
-pub record Makes (m : MachineView) (event : Event) (outcome : Outcome) (n : MachineView) : Type 0 where
-  pub stands : (h : History) → Stands m h → (opens : ℕ) × Stands n (happening event outcome opens ∷ h)
-  pub happens : Happens m event outcome n
-  pub columns : n.columns ≡ m.columns
-  pub bounds : HasBounds m.log.feed m.log.keep n.log
 
 -- one event was made, by the machine, and is counted in the pass and in its book, and traced
 pub record IsMade (s : KeptView) (p : PassView) (event : Event) (outcome : Outcome) (t : KeptView)

@@ -6,6 +6,8 @@ use Rattle.mt_types.specs.declared.event.Event.TheVariants.{Begin, Step, Apply, 
 use Rattle.mt_types.specs.declared.event.Outcome.{Outcome}
 use Rattle.mt_types.specs.declared.event.Outcome.TheVariants.{Call, Moved, Again, Commit, Done, Applied, Current, View, Dropped, Refused}
 use Rattle.mt_types.specs.declared.refusal.Refusal.TheVariants.{Spent, WrongPass}
+use Rattle.mt_index.specs.declared.running.Run.{Run}
+use Rattle.mt_index.specs.Events.{commit_count}
 use Rattle.mt_shared.specs.declared.trace.Trace.{Trace}
 use Rattle.mt_shared.specs.declared.trace.Entry.{Entry}
 use Rattle.mt_shared.specs.Traces.{entry, part, Gains, IsNewTrace, Keeps}
@@ -16,11 +18,6 @@ pub record PassView : Type 0 where
   pub events : ℕ  -- how many it has made
   pub commits : ℕ  -- how many of them were commits
   pub trace : Trace  -- the events that it made
-
--- how many commits an outcome makes
-abbrev pub commit_count : Outcome → ℕ
-commit_count (Commit number) = 1
-commit_count _ = 0
 
 -- the number of commits that an outcome shows: a reply, those at its end
 abbrev pub seen_in : Outcome → ℕ
@@ -34,6 +31,14 @@ pub record Counts (p : PassView) (event : Event) (outcome : Outcome) (q : PassVi
   pub commits : q.commits ≡ p.commits + commit_count outcome
   pub seen : q.seen ≡ max p.seen (seen_in outcome)
   pub trace : Gains p.trace (entry p.number event outcome ∷ []) q.trace
+
+-- the pass, with the steps of a run more
+abbrev pub pass_after : Run → PassView → PassView
+pass_after run p = record p {
+  events = p.events + run.steps;
+  commits = p.commits + run.commits;
+  seen = max p.seen (seen_in run.last);
+}
 
 -- a begin returns a call or a refusal; a step returns no call, and a reply that it returns has its call and its pass;
 -- an apply advances a view, or finds none to advance, or is refused; a page is not before its floor; a view is dropped,

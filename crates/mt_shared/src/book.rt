@@ -1,9 +1,11 @@
 //! The book of a pass, and what an outcome adds to it.
 
 ghost use Rattle.std.specs.Prelude.{◌≡◌, ◌+◌, ◌<◌, ◌^◌, max};
-ghost use Rattle.mt_shared.specs.Passes.{commit_count, seen_in};
-ghost use Rattle.mt_shared.specs.Books.{book_with};
+ghost use Rattle.mt_index.specs.Events.{commit_count};
+ghost use Rattle.mt_shared.specs.Passes.{seen_in};
+ghost use Rattle.mt_shared.specs.Books.{book_after, book_with};
 
+use mt_index::running::Run;
 use mt_types::event::Outcome;
 
 /// What the index has noted of the events of a pass.
@@ -28,6 +30,19 @@ impl Book {
             events: self.events + 1,
             commits: self.commits + commits_in(outcome),
             seen: self.seen.max(seen_in(outcome)),
+        }
+    }
+
+    /// Returns the book with the steps of a run more.
+    pub(crate) fn after(self, run: &Run) -> Book
+        requires events { self.events + run.now.steps < 2 ^ 64 }
+        requires commits { self.commits + run.now.commits < 2 ^ 64 }
+        ensures { result ≡ book_after run.now self }
+    {
+        Book {
+            events: self.events + run.steps,
+            commits: self.commits + run.commits,
+            seen: self.seen.max(seen_in(&run.last)),
         }
     }
 }

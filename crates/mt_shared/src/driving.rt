@@ -1,4 +1,4 @@
-//! Drives a call from its begin to its end, event by event, on whatever shares a machine.
+//! Drives a call from its begin to its end, run by run, on whatever shares a machine.
 
 ghost use Rattle.std.specs.Prelude.{ℕ, ◌≡◌, ◌≤◌, Option, Result, IfOk, IfErr, IfSome};
 ghost use Rattle.mt_types.specs.declared.numbers.PassNo.{PassNo};
@@ -9,14 +9,25 @@ ghost use Rattle.mt_types.specs.declared.event.Event.{Event};
 ghost use Rattle.mt_types.specs.declared.event.Outcome.{Outcome};
 ghost use Rattle.mt_types.specs.Limited.{AnswerIsLimited, OutcomeIsLimited};
 ghost use Rattle.mt_shared.specs.Passes.{PassView, IsTold};
-ghost use Rattle.mt_shared.specs.Drives.{IsReplyTo, IsDriven, IsRefused, Ends};
+ghost use Rattle.mt_shared.specs.Drives.{HasGone, IsReplyTo, IsDriven, IsRefused, IsStarted, StartIsLimited, Ends};
 
 use crate::pass::Pass;
 use mt_types::event::{Answer, Event, Outcome, Reply, Request};
-use mt_types::numbers::PassNo;
+use mt_types::numbers::{CallNo, PassNo};
 use mt_types::refusal::Refusal;
 use std::alloc::Global;
 use std::thread;
+
+/// How a call was started.
+#[derive(Debug, Drop)]
+pub enum Started {
+    /// Its begin was refused.
+    Refused(Refusal),
+    /// The call of this number has begun, and has made no step.
+    Begun(CallNo),
+    /// The call of this number has begun and made a run of steps, of which the last had this outcome.
+    Ran(CallNo, Outcome),
+}
 
 /// A machine on which passes make events: under a lock, or of one caller.
 pub trait Shared {
@@ -27,6 +38,18 @@ pub trait Shared {
     fn event(&mut self, alloc: Global, pass: &mut Pass, event: &Event) -> Outcome
         ensures does { does self.old pass.old event.now result self.new pass.new }
         ensures told { IsTold pass.old event.now result pass.new }
+        ensures limited { OutcomeIsLimited result };
+
+    /// Begins a call of a pass, and may make a run of its steps: some of them, one after the other, until one ends the
+    /// call or waits, or the run is long enough.
+    fn begin(&mut self, alloc: Global, pass: &mut Pass, request: Request) -> Started
+        ensures starts { IsStarted does self.old pass.old request result self.new pass.new }
+        ensures limited { StartIsLimited result };
+
+    /// Makes a run of a call of a pass: one step or more, one after the other, until one ends the call or waits, or the
+    /// run is long enough. Returns the outcome of the last.
+    fn go(&mut self, alloc: Global, pass: &mut Pass, call: CallNo) -> Outcome
+        ensures goes { HasGone does self.old pass.old call result self.new pass.new }
         ensures limited { OutcomeIsLimited result };
 
     /// What a read at once of a pass gives for a request, of what is shared.
@@ -43,9 +66,9 @@ pub trait Shared {
         ensures limited { IfSome result (λ read. IfOk read (λ now. AnswerIsLimited now.1)) };
 }
 
-/// What is done between the events of a call.
+/// What is done between the runs of a call.
 pub trait Gate {
-    /// Called after each event of a call, with its outcome.
+    /// Called after each run of a call, with the outcome of its last step.
     fn between(&mut self, outcome: &Outcome);
 }
 
@@ -57,13 +80,14 @@ impl Gate for NoGate {
     fn between(&mut self, _outcome: &Outcome) {}
 }
 
-/// Makes one call of a pass, from its begin to its reply: its begin, then steps of it until one ends the call. The gate
-/// is called after each event. If a step answers `Again`, the call could not use the node that it visited, because
-/// another call has locked, changed or removed it. The thread then lets others run (`thread::yield_now`) before the
-/// next step.
+/// Makes one call of a pass, from its begin to its reply: its begin, then runs of its steps until a step ends the call.
+/// The gate is called after each run. If a step answers `Again`, the call could not use the node that it visited,
+/// because another call has locked, changed or removed it. The thread then lets others run (`thread::yield_now`) before
+/// the next run.
 ///
-/// Over a `Door` each event holds the lock once, and the lock isn't held between two events. So events of other threads
-/// can come between them.
+/// Over a `Door` a run is one step, and each event holds the lock once. Over a `ThroughDoor` the lock is held once for
+/// the begin and the first run together, and once for each further run. Between two holdings events of other threads can
+/// come.
 ///
 /// Costs what the events cost. Their number isn't bounded while other calls keep changing what this one visits.
 ///
@@ -87,37 +111,40 @@ pub fn drive<S: Shared, G: Gate>(
     ensures limited { IfOk result (λ reply. AnswerIsLimited reply.answer) }
 {
     let seen = pass.seen();
-    let begin = Event::Begin(pass.number(), request);
-    let outcome = shared.event(alloc, pass, &begin);
-    gate.between(&outcome);
-    let call = match outcome {
-        Outcome::Call(call) => call,
-        Outcome::Refused(refusal) => return Err(refusal),
-        _ => unreachable!(),
+    let call = match shared.begin(alloc, pass, request) {
+        Started::Refused(refusal) => return Err(refusal),
+        Started::Begun(call) => call,
+        Started::Ran(call, last) => {
+            if let Some(end) = end_of(gate, last, seen) {
+                return end;
+            }
+            call
+        }
     };
     loop {
-        let step = Event::Step(call);
-        let outcome = shared.event(alloc, pass, &step);
+        let last = shared.go(alloc, pass, call);
         let _events = pass.events();
-        gate.between(&outcome);
-        if matches!(outcome, Outcome::Again) {
-            thread::yield_now();
-        }
-        if let Some(end) = end_of(outcome, seen) {
+        if let Some(end) = end_of(gate, last, seen) {
             return end;
         }
     }
 }
 
-// Returns the result with which the outcome of a step ends its call, if it does. A reply that begins before what the
-// pass had seen is of another index.
-fn end_of(outcome: Outcome, seen: u64) -> Option<Result<Reply, Refusal>>
-    ensures { Ends seen outcome result }
+// After a run: calls the gate, and lets other threads run if the call waits. Returns the result with which the outcome
+// of the run's last step ends the call, if it does. A reply that begins before what the pass had seen is of another
+// index.
+fn end_of<G: Gate>(gate: &mut G, last: Outcome, seen: u64) -> Option<Result<Reply, Refusal>>
+    ensures { Ends seen last result }
 {
-    match outcome {
+    gate.between(&last);
+    match last {
         Outcome::Done(reply) if reply.from < seen => Some(Err(Refusal::WrongPass)),
         Outcome::Done(reply) => Some(Ok(reply)),
         Outcome::Refused(refusal) => Some(Err(refusal)),
+        Outcome::Again => {
+            thread::yield_now();
+            None
+        }
         _ => None,
     }
 }

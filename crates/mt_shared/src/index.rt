@@ -7,7 +7,7 @@ ghost use Rattle.mt_shared.specs.Kept.{IsKept, IsRefusedBy, DoesSomewhere, start
 ghost use Rattle.mt_shared.specs.Feeds.{FeedsSomewhere, CopiesSomewhere};
 ghost use Rattle.mt_shared.specs.Reads.{ReadsSomewhere};
 
-use crate::driving::Shared;
+use crate::driving::{Shared, Started};
 use crate::kept::Kept;
 use crate::pass::Pass;
 use crate::settling::Totals;
@@ -15,7 +15,7 @@ use crate::trace::Entry;
 use mt_index::options::Options;
 use mt_types::event::{Answer, Event, Outcome, Request};
 use mt_types::limits::{open_fault, passes_fault};
-use mt_types::numbers::{PassNo, ViewNo};
+use mt_types::numbers::{CallNo, PassNo, ViewNo};
 use mt_types::refusal::Refusal;
 use mt_types::row::Delta;
 use mt_view::state::ViewState;
@@ -51,8 +51,8 @@ impl Drop for Index {
 /// the lock and shares it with other reads. Between two of them the thread doesn't hold the lock.
 #[derive(Drop)]
 pub struct Door<'a, W> {
-    index: &'a Index,
-    wait: &'a W,
+    pub(crate) index: &'a Index,
+    pub(crate) wait: &'a W,
 }
 
 impl Index {
@@ -222,6 +222,21 @@ impl<'a, W: Wait> Shared for Door<'a, W> {
     fn event(&mut self, alloc: Global, pass: &mut Pass, event: &Event) -> Outcome {
         let index = self.index;
         index.kept.write(self.wait).event(alloc, pass, event)
+    }
+
+    /// Begins the call, by one event, and makes no step.
+    fn begin(&mut self, alloc: Global, pass: &mut Pass, request: Request) -> Started {
+        let begin = Event::Begin(pass.number(), request);
+        match self.event(alloc, pass, &begin) {
+            Outcome::Call(call) => Started::Begun(call),
+            Outcome::Refused(refusal) => Started::Refused(refusal),
+            _ => unreachable!(),
+        }
+    }
+
+    /// Makes one step.
+    fn go(&mut self, alloc: Global, pass: &mut Pass, call: CallNo) -> Outcome {
+        self.event(alloc, pass, &Event::Step(call))
     }
 
     // somewhere in the order in which the lock is held it was read of what lay there

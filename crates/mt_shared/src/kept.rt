@@ -146,7 +146,7 @@ impl Kept {
     }
 
     // Whether the event isn't one that this pass may make. O(log n) in the open calls.
-    fn is_wrong(&self, pass: PassNo, event: &Event) -> bool
+    pub(crate) fn is_wrong(&self, pass: PassNo, event: &Event) -> bool
         ensures { result ≡ is_wrong self.now pass event.now }
     {
         if !self.has_book(pass) {

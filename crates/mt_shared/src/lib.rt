@@ -1,5 +1,5 @@
 //! Many threads on one index: a lock around the machine and its books, passes by which callers make events, and calls
-//! that are driven to their end step by step.
+//! that are driven to their end run by run.
 #![tactic(auto)]
 
 pub mod asking;
@@ -11,6 +11,7 @@ pub mod kept;
 pub mod lone;
 pub mod pass;
 pub mod reads;
+pub mod runs;
 pub mod settling;
 pub mod through;
 pub mod trace;

@@ -6,15 +6,16 @@ ghost use Rattle.mt_types.specs.Limits.{open_fault};
 ghost use Rattle.mt_shared.specs.Passes.{IsNewPass};
 ghost use Rattle.mt_shared.specs.Kept.{Does, IsKept, IsFresh, IsRefusedBy};
 ghost use Rattle.mt_shared.specs.Feeds.{Feeds, Copies};
+ghost use Rattle.mt_shared.specs.Drives.{HasGone, IsStarted, StartIsLimited};
 ghost use Rattle.mt_shared.specs.Reads.{ReadsNow};
 ghost use Rattle.mt_shared.specs.Passes.{IsTold};
 
-use crate::driving::Shared;
+use crate::driving::{Shared, Started};
 use crate::kept::Kept;
 use crate::pass::Pass;
 use mt_index::options::Options;
 use mt_types::event::{Answer, Event, Outcome, Request};
-use mt_types::numbers::{PassNo, ViewNo};
+use mt_types::numbers::{CallNo, PassNo, ViewNo};
 use mt_types::refusal::Refusal;
 use mt_types::row::Delta;
 use mt_view::state::ViewState;
@@ -97,6 +98,24 @@ impl Shared for Lone {
         ensures kept { IsKept self.old × IsKept self.new }
     {
         self.kept.event(alloc, pass, event)
+    }
+
+    /// Does what `Kept::begin` does, without a limit of events.
+    fn begin(&mut self, alloc: Global, pass: &mut Pass, request: Request) -> Started
+        ensures starts { IsStarted Does self.old pass.old request result self.new pass.new }
+        ensures limited { StartIsLimited result }
+        ensures kept { IsKept self.old × IsKept self.new }
+    {
+        self.kept.begin(alloc, pass, request, u64::MAX)
+    }
+
+    /// Does what `Kept::go` does, without a limit of events.
+    fn go(&mut self, alloc: Global, pass: &mut Pass, call: CallNo) -> Outcome
+        ensures goes { HasGone Does self.old pass.old call result self.new pass.new }
+        ensures limited { OutcomeIsLimited result }
+        ensures kept { IsKept self.old × IsKept self.new }
+    {
+        self.kept.go(alloc, pass, call, u64::MAX)
     }
 
     ghost shows = { ReadsNow };

@@ -1,10 +1,11 @@
 //! Passes: a pass is the right of one caller to make events on an index, with what the caller has done and seen.
 
 ghost use Rattle.std.specs.Prelude.{◌≡◌, ◌+◌, ◌<◌, ◌≤◌, ◌^◌};
-ghost use Rattle.mt_shared.specs.Passes.{Counts, IsNewPass};
+ghost use Rattle.mt_shared.specs.Passes.{Counts, IsNewPass, pass_after};
 
 use crate::book::{commits_in, seen_in};
 use crate::trace::Trace;
+use mt_index::running::Run;
 use mt_types::event::{Event, Outcome};
 use mt_types::numbers::PassNo;
 use std::alloc::Global;
@@ -89,6 +90,17 @@ impl Pass {
         ensures { self.new ≡ record self.old { seen = at } }
     {
         self.seen = at;
+    }
+
+    // Counts the steps of a run that the pass has made, if it keeps no trace.
+    pub(crate) fn count_run(&mut self, run: &Run)
+        requires room { self.old.events + run.now.steps < 2 ^ 64 }
+        requires commits { run.now.commits ≤ run.now.steps }
+        ensures { self.new ≡ pass_after run.now self.old }
+    {
+        self.events += run.steps;
+        self.commits += run.commits;
+        self.seen = self.seen.max(seen_in(&run.last));
     }
 
     // Counts an event that the pass has made, and adds it to its trace if one is kept.

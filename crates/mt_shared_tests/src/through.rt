@@ -53,8 +53,7 @@ fn put_key<W: Wait>(
     Ok(())
 }
 
-// Puts, and keeps the door until the other thread has got, or until it has waited long enough. A lock that the door
-// still holds is given back with it, so that the other thread ends.
+// Puts, and keeps the door until the other thread has got, or until it has waited long enough.
 fn put_and_stay<R: Wait + Clock>(
     rt: &R,
     alloc: Global,

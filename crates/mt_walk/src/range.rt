@@ -1,13 +1,13 @@
 //! A range: a walk with a limit.
 
-ghost use Rattle.std.specs.Prelude.{◌≡◌, ◌≤◌, length, IfOk};
+ghost use Rattle.std.specs.Prelude.{◌≡◌, ◌≤◌, [], length, IfOk, OnOk};
 ghost use Rattle.mt_types.specs.declared.event.Answer.TheVariants.{Rows};
 ghost use Rattle.mt_types.specs.declared.event.Request.TheVariants.{Range};
 ghost use Rattle.mt_types.specs.declared.limits.TheConstants.{MAX_KEY_BYTES};
 ghost use Rattle.mt_steps.specs.Lone.{IsLoneTree, IsRightNow};
 
 use crate::walk::Walk;
-use bytes::Bytes;
+use bytes::BytesMut;
 use mt_slice::key_bytes;
 use mt_tree::Tree;
 use mt_types::columns::shown;
@@ -17,14 +17,19 @@ use mt_types::refusal::NoMemory;
 use mt_types::row::{ColumnNumbers, Pairs};
 use std::alloc::Global;
 
-// Returns a key of these bytes. Allocates for the copy.
-fn key_of(alloc: Global, bytes: &[u8]) -> Result<Key, NoMemory>
-    requires { length bytes.now ≤ MAX_KEY_BYTES }
-    ensures { IfOk result (λ key. key ≡ bytes.now) }
+// For how many keys a range makes room at its begin, at most, and how many bytes for each.
+const ROOM_KEYS: u16 = 128;
+const ROOM_BYTES: usize = 16;
+
+// Returns a key of these bytes, which shares the block of the buffer. Allocates only if the block has no room.
+fn key_of(buffer: &mut BytesMut, bytes: &[u8]) -> Result<Key, NoMemory>
+    requires few { length bytes.now ≤ MAX_KEY_BYTES }
+    requires empty { buffer.old.items ≡ [] }
+    ensures key { IfOk result (λ key. key ≡ bytes.now) }
+    ensures emptied { OnOk result (buffer.new.items ≡ []) }
 {
-    let mut copied = Vec::with_capacity(alloc, bytes.len())?;
-    copied.extend_from_slice(bytes)?;
-    match Key::new(Bytes::from_vec(copied)?) {
+    buffer.extend_from_slice(bytes)?;
+    match Key::new(buffer.freeze_to(bytes.len())?) {
         Ok(key) => Ok(key),
         Err(_) => unreachable!(),
     }
@@ -33,8 +38,8 @@ fn key_of(alloc: Global, bytes: &[u8]) -> Result<Key, NoMemory>
 /// Returns the pairs of a tree in which no change is under way, from `start` on, at most `limit`, with the columns that
 /// are asked for, or with all if none is asked for.
 ///
-/// Costs the visit of the nodes on the way to `start`, and of each border from there on. Allocates for the walk, and
-/// for the key and the row of each pair. Shares the bytes of the columns.
+/// Costs the visit of the nodes on the way to `start`, and of each border from there on. Allocates for the walk, for
+/// the row of each pair, and blocks that the keys share. Shares the bytes of the columns.
 ///
 /// # Errors
 ///
@@ -51,13 +56,14 @@ pub fn range_of(
 {
     let _bytes = key_bytes(start);
     let mut walk = Walk::new(alloc, tree, start)?;
+    let mut keys = BytesMut::with_capacity(alloc, ROOM_BYTES * usize::from(limit.min(ROOM_KEYS)))?;
     let mut pairs = Vec::new(alloc);
     for _ in 0..limit {
         let Some(row) = walk.next()? else {
             return Ok(Items::from_vec(pairs));
         };
         let row = shown(alloc, columns, row)?;
-        pairs.push((key_of(alloc, walk.key())?, row))?;
+        pairs.push((key_of(&mut keys, walk.key())?, row))?;
     }
     Ok(Items::from_vec(pairs))
 }

@@ -1,5 +1,6 @@
 use Rattle.std.proofs.Common.{arith, subst, ◌∙◌, ◌≡◌, ◌<◌, ◌-◌, ◌+◌, ◌^◌, set}
-use Rattle.mt_shared.specs.Kept.{KeptView, IsKept, Does, Makes}
+use Rattle.mt_index.specs.Events.{Makes}
+use Rattle.mt_shared.specs.Kept.{KeptView, IsKept, Does}
 use Rattle.mt_shared.proofs.KeptLemmas.{keeps, in_books, book_bounds, commits_then, makes_own}
 use Rattle.mt_shared.proofs.kept.Kept.event.Goals as goal
 

@@ -1,0 +1,290 @@
+-- Steps of a run that are counted together are counted one by one; and a run on what a lock keeps is one somewhere.
+use Rattle.std.proofs.Common.{arith, sym, ap, subst, ◌≡◌, ◌+◌, ◌-◌, ◌*◌, ◌^◌, ◌≤◌, ◌<◌, ◌∙◌, ◌∷◌, ◌++◌, [], List, ℕ, refl, length, get_or, set, map, Bool, true, false, ◌||◌, ◌&&◌, not, eqb, leb}
+use Rattle.std.specs.Prelude.{All, MatchBool, max, sum_by}
+use Rattle.std.proofs.lemmas.List.{get_or-set_same, set-get_or, set-set, length-set}
+use Rattle.std.proofs.lemmas.List.Elements.{All-nil, All-cons, All-head, All-tail}
+use Rattle.std.proofs.lemmas.List.Sums.{sum_by-append}
+use Rattle.mt_types.specs.Numbers.{greatest_number}
+use Rattle.mt_types.specs.declared.numbers.PassNo.{PassNo}
+use Rattle.mt_types.specs.declared.numbers.CallNo.{CallNo}
+use Rattle.mt_types.specs.declared.event.Event.{Event}
+use Rattle.mt_types.specs.declared.event.Event.TheVariants.{Begin, Step}
+use Rattle.mt_types.specs.declared.event.Request.{Request}
+use Rattle.mt_types.specs.declared.event.Outcome.{Outcome}
+use Rattle.mt_types.specs.declared.event.Outcome.TheVariants.{Call, Moved, Commit, Refused}
+use Rattle.mt_types.specs.declared.refusal.Refusal.TheVariants.{WrongPass, Spent}
+use Rattle.mt_index.specs.declared.running.Run.{Run}
+use Rattle.mt_index.specs.Calls.{pass_at}
+use Rattle.mt_index.specs.Events.{GoesOnAtOnce, GoesThrough, Makes, MakesSteps, commit_count}
+use Rattle.mt_index.specs.Stands.{MachineView}
+use Rattle.mt_index.proofs.EventLemmas.{pass-kept}
+use Rattle.mt_shared.specs.declared.book.Book.{Book}
+use Rattle.mt_shared.specs.declared.trace.Entry.{Entry}
+use Rattle.mt_shared.specs.declared.trace.Trace.{Trace}
+use Rattle.mt_shared.specs.declared.trace.Trace.TheVariants.{Off}
+use Rattle.mt_shared.specs.Traces.{entry, Gains}
+use Rattle.mt_shared.specs.Passes.{PassView, Counts, IsTold, pass_after, seen_in}
+use Rattle.mt_shared.specs.Books.{book_after, book_with}
+use Rattle.mt_shared.specs.declared.driving.Started.{Started}
+use Rattle.mt_shared.specs.declared.driving.Started.TheVariants.{Refused as RefusedStart, Begun, Ran}
+use Rattle.mt_shared.specs.Drives.{EventLaw, Runs, Continues, IsStep, HasGone, IsBegun, IsStarted}
+use Rattle.mt_shared.specs.Kept.{KeptView, IsKept, IsMade, IsUnmade, Does, DoesSomewhere, has_book, is_foreign, is_other, is_wrong, is_spent}
+use Rattle.mt_shared.proofs.KeptLemmas.{does_make, in_books, keeps, not_spent}
+use Rattle.mt_shared.proofs.DriveLemmas.{gains_none}
+use Rattle.mt_shared.proofs.ToldLemmas.{does_tell}
+
+-- ---- what the lock keeps is kept
+kept_at : (s : KeptView) (p : PassView) (e : Event) (o : Outcome) (t : KeptView) (q : PassView) (b c : Bool) → b ≡ is_wrong s p.number e → IsKept s
+    → MatchBool b (IsUnmade WrongPass s p o t q) (MatchBool c (IsUnmade Spent s p o t q) (IsMade s p e o t q)) → IsKept t
+kept_at s p e o t q true c is k h = subst IsKept (sym h.1) k
+kept_at s p e o t q false true is k h = subst IsKept (sym h.1) k
+kept_at s p e o t q false false is k h =
+    let then = keeps s t.machine e o (p.number.0 - 1) h.book (book_with o h.book) k h.makes (in_books s p.number e is).0 (sym h.is_book) refl p.number t.trace h.trace in
+    subst (λ n. IsKept (record { machine = t.machine; events = n; books = t.books; trace = t.trace })) (sym h.events)
+    (subst (λ (bs : List Book). IsKept (record { machine = t.machine; events = s.events + 1; books = bs; trace = t.trace })) (sym h.books) then)
+
+pub does_keep : (s : KeptView) (p : PassView) (e : Event) (o : Outcome) (t : KeptView) (q : PassView) → IsKept s → Does s p e o t q → IsKept t
+does_keep s p e o t q k h = kept_at s p e o t q (is_wrong s p.number e) (is_spent s p) refl k h
+
+pub runs_keep : (s : KeptView) (p : PassView) (xs : List Entry) (t : KeptView) (q : PassView) → IsKept s → Runs Does s p xs t q → IsKept t
+runs_keep s p [] t q k run = subst IsKept (sym run.0) k
+runs_keep s p (x ∷ xs) t q k run = runs_keep run.0 run.1 xs t q (does_keep s p x.event x.outcome run.0 run.1 k run.2) run.3
+
+-- ---- one more event, where nothing is traced
+-- so many events were made, and this is the book at a place
+abbrev pub now_kept : KeptView → ℕ → MachineView → ℕ → Book → KeptView
+now_kept s i m events book = record { machine = m; events = events; books = set s.books i book; trace = Off }
+
+abbrev pub pass_with : PassView → ℕ → ℕ → ℕ → PassView
+pass_with p events commits seen = record p { events = events; commits = commits; seen = seen }
+
+module _ (s : KeptView) (p : PassView) (there : has_book p.number s.books ≡ true) (within : p.number.0 - 1 < length s.books) (off : p.trace ≡ Off) where
+  right : (m : MachineView) (events : ℕ) (book : Book) (e : Event) → is_foreign m p.number e ≡ false → is_wrong (now_kept s (p.number.0 - 1) m events book) p.number e ≡ false
+  right m events book e own =
+      ap (λ n. not (not (eqb p.number.0 0) && leb p.number.0 n) || is_foreign m p.number e) (length-set s.books (p.number.0 - 1) book)
+      ∙ ap (λ (b : Bool). not b || is_foreign m p.number e) there ∙ own
+
+  pub one_more : (m n : MachineView) (events : ℕ) (book : Book) (made commits seen : ℕ) (e : Event) (o : Outcome) → is_foreign m p.number e ≡ false → (events ≡ greatest_number → ⊥) → (made ≡ greatest_number → ⊥) → Makes m e o n
+      → Does (now_kept s (p.number.0 - 1) m events book) (pass_with p made commits seen) e o
+      (now_kept s (p.number.0 - 1) n (events + 1) (book_with o book)) (pass_with p (made + 1) (commits + commit_count o) (max seen (seen_in o)))
+  one_more m n events book made commits seen e o own more again makes =
+      let i = p.number.0 - 1 in
+      does_make (now_kept s i m events book) (pass_with p made commits seen) e o (now_kept s i n (events + 1) (book_with o book)) (pass_with p (made + 1) (commits + commit_count o) (max seen (seen_in o)))
+      (sym (right m events book e own)) (not_spent (now_kept s i m events book) (pass_with p made commits seen) more again) (record {
+        makes = makes;
+        events = refl;
+        book = book;
+        is_book = get_or-set_same s.books i book book within;
+        books = sym (set-set s.books i book (book_with o book));
+        trace = tt;
+        counts = record {
+          number = refl;
+          events = refl;
+          commits = refl;
+          seen = refl;
+          trace = subst (λ (t : Trace). Gains t (entry p.number e o ∷ []) t) (sym off) tt;
+        };
+      })
+
+  -- ---- steps of a run
+  abbrev step_of : CallNo → Outcome → Entry
+  step_of call o = entry p.number (Step call) o
+
+  -- these steps were made one by one, and so they are counted
+  record Counted (m n : MachineView) (call : CallNo) (events : ℕ) (book : Book) (made commits seen : ℕ) (os : List Outcome) : Type 0 where
+    pub events_then : ℕ
+    pub book_then : Book
+    pub made_then : ℕ
+    pub commits_then : ℕ
+    pub seen_then : ℕ
+    pub runs : Runs Does (now_kept s (p.number.0 - 1) m events book) (pass_with p made commits seen) (map (step_of call) os) (now_kept s (p.number.0 - 1) n events_then book_then) (pass_with p made_then commits_then seen_then)
+    pub events_are : events_then ≡ events + length os
+    pub book_events : book_then.events ≡ book.events + length os
+    pub book_commits : book_then.commits ≡ book.commits + sum_by commit_count os
+    pub book_seen : book_then.seen ≡ book.seen
+    pub made_is : made_then ≡ made + length os
+    pub commits_are : commits_then ≡ commits + sum_by commit_count os
+    pub seen_is : seen_then ≡ seen
+    pub own : pass_at call.0 n.calls.calls ≡ pass_at call.0 m.calls.calls
+
+  shows_none : (o : Outcome) → GoesOnAtOnce o → seen_in o ≡ 0
+  shows_none Moved on = refl
+  shows_none (Commit number) on = refl
+  shows_none _ on = absurd on
+
+  counted : (m n : MachineView) (call : CallNo) (events : ℕ) (book : Book) (made commits seen : ℕ) (os : List Outcome) → is_other (pass_at call.0 m.calls.calls) p.number ≡ false → events + length os ≤ greatest_number → made + length os ≤ greatest_number
+      → All GoesOnAtOnce os → MakesSteps m call os n → Counted m n call events book made commits seen os
+  counted m n call events book made commits seen [] own more again on same = record {
+    events_then = events;
+    book_then = book;
+    made_then = made;
+    commits_then = commits;
+    seen_then = seen;
+    runs = (ap (λ (x : MachineView). now_kept s (p.number.0 - 1) x events book) same, refl);
+    events_are = omega arith;
+    book_events = omega arith;
+    book_commits = omega arith;
+    book_seen = refl;
+    made_is = omega arith;
+    commits_are = omega arith;
+    seen_is = refl;
+    own = ap (λ (x : MachineView). pass_at call.0 x.calls.calls) same;
+  }
+  counted m n call events book made commits seen (o ∷ os) own more again on (next, one, rest) =
+      let goes = All-head GoesOnAtOnce o os on in
+      let kept = pass-kept m next call o one goes in
+      let none = shows_none o goes in
+      let first = one_more m next events book made commits seen (Step call) o own (λ e. omega (arith, e, more)) (λ e. omega (arith, e, again)) one in
+      let later = counted next n call (events + 1) (book_with o book) (made + 1) (commits + commit_count o) (max seen (seen_in o)) os (ap (λ (x : _). is_other x p.number) kept ∙ own) (omega (arith, more)) (omega (arith, again)) (All-tail GoesOnAtOnce o os on) rest in
+      let a = later.events_are in let b = later.book_events in let c = later.book_commits in let d = later.book_seen in
+      let e = later.made_is in let f = later.commits_are in let g = later.seen_is in
+      let whole = sum_by-append commit_count (o ∷ []) os in
+      record {
+        events_then = later.events_then;
+        book_then = later.book_then;
+        made_then = later.made_then;
+        commits_then = later.commits_then;
+        seen_then = later.seen_then;
+        runs = (now_kept s (p.number.0 - 1) next (events + 1) (book_with o book), pass_with p (made + 1) (commits + commit_count o) (max seen (seen_in o)), first, later.runs);
+        events_are = omega (arith, a);
+        book_events = omega (arith, b);
+        book_commits = omega (arith, c, whole);
+        book_seen = omega (arith, d, none);
+        made_is = omega (arith, e);
+        commits_are = omega (arith, f, whole);
+        seen_is = omega (arith, g, none);
+        own = later.own ∙ kept;
+      }
+
+  go_steps : (call : CallNo) (os : List Outcome) → All GoesOnAtOnce os → All (IsStep p.number call) (map (step_of call) os)
+  go_steps call [] on = All-nil (IsStep p.number call)
+  go_steps call (o ∷ os) on = All-cons (IsStep p.number call) (step_of call o) (map (step_of call) os) (record { pass = refl; event = refl; outcome = continues o (All-head GoesOnAtOnce o os on) }) (go_steps call os (All-tail GoesOnAtOnce o os on))
+    where
+      continues : (w : Outcome) → GoesOnAtOnce w → Continues w
+      continues Moved on = tt
+      continues (Commit number) on = tt
+      continues _ on = absurd on
+
+  gains_off : (xs : List Entry) → Gains p.trace xs p.trace
+  gains_off xs = subst (λ (t : Trace). Gains t xs t) (sym off) tt
+
+  -- what the lock keeps is itself with the book that it has
+  same_kept : (b : Book) → s.trace ≡ Off → b ≡ get_or s.books (p.number.0 - 1) b → now_kept s (p.number.0 - 1) s.machine s.events b ≡ s
+  same_kept b none at =
+      ap (λ (bs : List Book). record { machine = s.machine; events = s.events; books = bs; trace = Off }) (ap (set s.books (p.number.0 - 1)) at ∙ set-get_or s.books (p.number.0 - 1) b)
+      ∙ ap (λ (t : Trace). record { machine = s.machine; events = s.events; books = s.books; trace = t }) (sym none)
+
+  -- books and passes by their counts
+  book_is : (x y : Book) → x.events ≡ y.events → x.commits ≡ y.commits → x.seen ≡ y.seen → x ≡ y
+  book_is x y a b c =
+      ap (λ n. record { events = n; commits = x.commits; seen = x.seen }) a
+      ∙ ap (λ n. record { events = y.events; commits = n; seen = x.seen }) b
+      ∙ ap (λ n. record { events = y.events; commits = y.commits; seen = n }) c
+
+  pass_is : (a b c x y z : ℕ) → a ≡ x → b ≡ y → c ≡ z → pass_with p a b c ≡ pass_with p x y z
+  pass_is a b c x y z e f g = ap (λ n. pass_with p n b c) e ∙ ap (λ n. pass_with p x n c) f ∙ ap (λ n. pass_with p x y n) g
+
+  -- A RUN, counted as the code counts it
+  pub goes : (call : CallNo) (run : Run) (n : MachineView) (b : Book) → IsKept s → s.trace ≡ Off → is_other (pass_at call.0 s.machine.calls.calls) p.number ≡ false → b ≡ get_or s.books (p.number.0 - 1) b
+      → s.events + run.steps < 2 ^ 64 → p.events + run.steps < 2 ^ 64 → GoesThrough s.machine call run n
+      → HasGone Does s p call run.last (record { machine = n; events = s.events + run.steps; books = set s.books (p.number.0 - 1) (book_after run b); trace = Off }) (pass_after run p)
+  goes call run n b k none own at here there' g =
+      let i = p.number.0 - 1 in
+      let many = g.many in
+      let whole = g.commits in
+      let made = counted s.machine g.before call s.events b p.events p.commits p.seen g.outcomes own (omega (arith, here, many)) (omega (arith, there', many)) g.go_on g.steps in
+      let a = made.events_are in let be = made.book_events in let bc = made.book_commits in let bs = made.book_seen in
+      let e = made.made_is in let f = made.commits_are in let x = made.seen_is in
+      let runs = subst (λ (m : KeptView). Runs Does m p (map (step_of call) g.outcomes) (now_kept s i g.before made.events_then made.book_then) (pass_with p made.made_then made.commits_then made.seen_then)) (same_kept b none at) made.runs in
+      let last = one_more g.before n made.events_then made.book_then made.made_then made.commits_then made.seen_then (Step call) run.last (ap (λ (w : _). is_other w p.number) made.own ∙ own) (λ q. omega (arith, q, a, here, many)) (λ q. omega (arith, q, e, there', many)) g.last in
+      let then : KeptView = record { machine = n; events = s.events + run.steps; books = set s.books i (book_after run b); trace = Off } in
+      let is_then : now_kept s i n (made.events_then + 1) (book_with run.last made.book_then) ≡ then =
+          ap (λ (v : ℕ). now_kept s i n v (book_with run.last made.book_then)) (omega (arith, a, many))
+          ∙ ap (λ (v : Book). now_kept s i n (s.events + run.steps) v) (book_is (book_with run.last made.book_then) (book_after run b) (omega (arith, be, many)) (omega (arith, bc, whole)) (ap (λ (v : ℕ). max v (seen_in run.last)) bs)) in
+      let is_pass : pass_with p (made.made_then + 1) (made.commits_then + commit_count run.last) (max made.seen_then (seen_in run.last)) ≡ pass_after run p =
+          pass_is _ _ _ _ _ _ (omega (arith, e, many)) (omega (arith, f, whole)) (ap (λ (v : ℕ). max v (seen_in run.last)) x) in
+      let between = pass_with p made.made_then made.commits_then made.seen_then in
+      let does = subst (λ (t : KeptView). Does (now_kept s i g.before made.events_then made.book_then) between (Step call) run.last t (pass_after run p)) is_then
+          (subst (λ (q : PassView). Does (now_kept s i g.before made.events_then made.book_then) between (Step call) run.last (now_kept s i n (made.events_then + 1) (book_with run.last made.book_then)) q) is_pass last) in
+      record {
+        steps = map (step_of call) g.outcomes;
+        are_steps = go_steps call g.outcomes g.go_on;
+        then = now_kept s i g.before made.events_then made.book_then;
+        between = between;
+        runs = runs;
+        traced = gains_off (map (step_of call) g.outcomes);
+        number = refl;
+        seen = omega (arith, x);
+        events = omega (arith, e);
+        does = does;
+        told = does_tell _ between (Step call) run.last then (pass_after run p) (runs_keep s p (map (step_of call) g.outcomes) _ between k runs) does;
+      }
+
+  -- a begin, counted as the code counts it
+  pub opens : (request : Request) (run : Run) (n : MachineView) (b : Book) → s.trace ≡ Off → b ≡ get_or s.books (p.number.0 - 1) b → s.events + 1 < 2 ^ 64 → p.events + 1 < 2 ^ 64 → run.steps ≡ 1 → run.commits ≡ 0 → commit_count run.last ≡ 0
+      → Makes s.machine (Begin p.number request) run.last n
+      → Does s p (Begin p.number request) run.last (record { machine = n; events = s.events + 1; books = set s.books (p.number.0 - 1) (book_after run b); trace = Off }) (pass_after run p)
+  opens request run n b none at here there' one no zero makes =
+      let i = p.number.0 - 1 in
+      let own : not (eqb p.number.0 p.number.0) ≡ false = grind in
+      let made = one_more s.machine n s.events b p.events p.commits p.seen (Begin p.number request) run.last own (λ q. omega (arith, q, here)) (λ q. omega (arith, q, there')) makes in
+      let is_then : now_kept s i n (s.events + 1) (book_with run.last b) ≡ record { machine = n; events = s.events + 1; books = set s.books i (book_after run b); trace = Off } =
+          ap (λ (v : Book). now_kept s i n (s.events + 1) v) (book_is (book_with run.last b) (book_after run b) (omega (arith, one)) (omega (arith, no, zero)) refl) in
+      let is_pass : pass_with p (p.events + 1) (p.commits + commit_count run.last) (max p.seen (seen_in run.last)) ≡ pass_after run p =
+          pass_is _ _ _ _ _ _ (omega (arith, one)) (omega (arith, no, zero)) refl in
+      subst (λ (m : KeptView). Does m p (Begin p.number request) run.last (record { machine = n; events = s.events + 1; books = set s.books i (book_after run b); trace = Off }) (pass_after run p)) (same_kept b none at)
+      (subst (λ (t : KeptView). Does (now_kept s i s.machine s.events b) p (Begin p.number request) run.last t (pass_after run p)) is_then
+      (subst (λ (q : PassView). Does (now_kept s i s.machine s.events b) p (Begin p.number request) run.last (now_kept s i n (s.events + 1) (book_with run.last b)) q) is_pass made))
+
+-- one step is a run
+pub goes_once : {S : Type 0} (does : EventLaw S) (s : S) (p : PassView) (call : CallNo) (last : Outcome) (t : S) (q : PassView) → does s p (Step call) last t q → IsTold p (Step call) last q → HasGone does s p call last t q
+goes_once does s p call last t q d told = record {
+  steps = [];
+  are_steps = All-nil (IsStep p.number call);
+  then = s;
+  between = p;
+  runs = (refl, refl);
+  traced = gains_none p.trace;
+  number = refl;
+  seen = omega arith;
+  events = omega arith;
+  does = d;
+  told = told;
+}
+
+-- ---- on what a lock keeps, somewhere
+abbrev pub somewhere : (S : Type 0) → EventLaw S
+somewhere S = λ _ p event outcome _ q. DoesSomewhere p event outcome q
+
+module _ {S : Type 0} (x : S) where
+  runs_somewhere : (s : KeptView) (p : PassView) (xs : List Entry) (t : KeptView) (q : PassView) → IsKept s → Runs Does s p xs t q → Runs (somewhere S) x p xs x q
+  runs_somewhere s p [] t q k run = (refl, run.1)
+  runs_somewhere s p (y ∷ xs) t q k run =
+      let kept = does_keep s p y.event y.outcome run.0 run.1 k run.2 in
+      (x, run.1, record { before = s; then = run.0; kept = k; does = run.2; keeps = kept }, runs_somewhere run.0 run.1 xs t q kept run.3)
+
+  pub gone_somewhere : (s : KeptView) (p : PassView) (call : CallNo) (last : Outcome) (t : KeptView) (q : PassView) (y : S) → IsKept s → HasGone Does s p call last t q → HasGone (somewhere S) x p call last y q
+  gone_somewhere s p call last t q y k g =
+      let between = runs_keep s p g.steps g.then g.between k g.runs in
+      record {
+        steps = g.steps;
+        are_steps = g.are_steps;
+        then = x;
+        between = g.between;
+        runs = runs_somewhere s p g.steps g.then g.between k g.runs;
+        traced = g.traced;
+        number = g.number;
+        seen = g.seen;
+        events = g.events;
+        does = record { before = g.then; then = t; kept = between; does = g.does; keeps = does_keep g.then g.between (Step call) last t q between g.does };
+        told = g.told;
+      }
+
+  begun_somewhere : (s : KeptView) (p : PassView) (request : Request) (o : Outcome) (t : KeptView) (q : PassView) (y : S) → IsKept s → IsBegun Does s p request o t q → IsBegun (somewhere S) x p request o y q
+  begun_somewhere s p request o t q y k b = (record { before = s; then = t; kept = k; does = b.0; keeps = does_keep s p (Begin p.number request) o t q k b.0 }, b.1)
+
+  pub started_somewhere : (s : KeptView) (p : PassView) (request : Request) (started : Started) (t : KeptView) (q : PassView) (y : S) → IsKept s → IsStarted Does s p request started t q → IsStarted (somewhere S) x p request started y q
+  started_somewhere s p request (RefusedStart refusal) t q y k is = begun_somewhere s p request (Refused refusal) t q y k is
+  started_somewhere s p request (Begun call) t q y k is = begun_somewhere s p request (Call call) t q y k is
+  started_somewhere s p request (Ran call last) t q y k (m, r, b, g) =
+      (x, r, begun_somewhere s p request (Call call) m r x k b, gone_somewhere m r call last t q y (does_keep s p (Begin p.number request) (Call call) m r k b.0) g)

@@ -1,0 +1,111 @@
+//! Runs under the lock: a call is begun, and makes several steps, which are counted together.
+
+ghost use Rattle.std.specs.Prelude.{◌≡◌, ◌×◌, ◌+◌, ◌-◌, ◌<◌, ◌≤◌, ◌^◌, IsFalse, length, slice_index_or, slice_set};
+ghost use Rattle.mt_types.specs.declared.event.Event.TheVariants.{Begin};
+ghost use Rattle.mt_types.specs.Limited.{OutcomeIsLimited};
+ghost use Rattle.mt_shared.specs.declared.trace.Trace.TheVariants.{Off};
+ghost use Rattle.mt_shared.specs.Books.{book_after};
+ghost use Rattle.mt_shared.specs.Drives.{HasGone, IsStarted, StartIsLimited};
+ghost use Rattle.mt_shared.specs.Kept.{Does, IsKept};
+ghost use Rattle.mt_shared.specs.Passes.{IsTold};
+
+use crate::driving::Started;
+use crate::kept::Kept;
+use crate::pass::Pass;
+use crate::trace::Trace;
+use mt_index::running::Run;
+use mt_types::event::{Event, Outcome, Request};
+use mt_types::numbers::CallNo;
+use mt_types::refusal::Refusal;
+use std::alloc::Global;
+
+impl Kept {
+    // Returns how many events of the pass can still be counted.
+    fn room(&self, pass: &Pass) -> u64
+        ensures here { self.now.events + result < 2 ^ 64 }
+        ensures there { pass.now.events + result < 2 ^ 64 }
+    {
+        (u64::MAX - self.events).min(u64::MAX - pass.events())
+    }
+
+    // Returns whether each event of the pass is to be traced.
+    fn is_traced(&self, pass: &Pass) -> bool
+        ensures { IsFalse result → (self.now.trace ≡ Off) × (pass.now.trace ≡ Off) }
+    {
+        !matches!(self.trace, Trace::Off) || !matches!(pass.trace(), Trace::Off)
+    }
+
+    /// Makes at most `most` steps of a call of a pass, one after the other, until one of them ends the call or waits.
+    /// At least one is made, also if `most` is 0. Returns the outcome of the last. The steps are counted together, in
+    /// the pass and in its book. If the index or the pass keeps a trace, one step is made.
+    ///
+    /// Costs what the steps cost, and O(log n) in the open calls.
+    ///
+    /// # Errors
+    ///
+    /// Those of [`Kept::event`] for a step.
+    pub fn go(&mut self, alloc: Global, pass: &mut Pass, call: CallNo, most: u64) -> Outcome
+        ensures goes { HasGone Does self.old pass.old call result self.new pass.new }
+        ensures limited { OutcomeIsLimited result }
+        ensures kept { IsKept self.old × IsKept self.new }
+    {
+        let step = Event::Step(call);
+        let number = pass.number();
+        let room = self.room(pass);
+        if self.is_traced(pass) || self.is_wrong(number, &step) || room == 0 {
+            return self.event(alloc, pass, &step);
+        }
+        let run = self.machine.go(alloc, call, most.min(room));
+        let _commits = self.machine.commits();
+        let at = number.0 as usize - 1;
+        self.books[at] = self.books[at].after(&run);
+        self.events += run.steps;
+        pass.count_run(&run);
+        run.last
+    }
+
+    // Begins a call of a pass. The request is moved into the call, unless the index or the pass keeps a trace.
+    fn open_call(&mut self, alloc: Global, pass: &mut Pass, request: Request) -> Outcome
+        ensures does { Does self.old pass.old (Begin pass.old.number request) result self.new pass.new }
+        ensures told { IsTold pass.old (Begin pass.old.number request) result pass.new }
+        ensures kept { IsKept self.old × IsKept self.new }
+    {
+        let number = pass.number();
+        let room = self.room(pass);
+        if self.is_traced(pass) || !self.has_book(number) || room == 0 {
+            return self.event(alloc, pass, &Event::Begin(number, request));
+        }
+        let run = Run {
+            steps: 1,
+            commits: 0,
+            last: self.machine.begin_call(alloc, number, request),
+        };
+        let _commits = self.machine.commits();
+        let at = number.0 as usize - 1;
+        self.books[at] = self.books[at].after(&run);
+        self.events += 1;
+        pass.count_run(&run);
+        run.last
+    }
+
+    /// Begins a call of a pass, and makes a run of it: at most `most` events, the begin among them. The request is moved
+    /// into the call, unless the index or the pass keeps a trace.
+    ///
+    /// # Errors
+    ///
+    /// Those of [`Kept::event`] for a begin.
+    pub fn begin(&mut self, alloc: Global, pass: &mut Pass, request: Request, most: u64) -> Started
+        ensures starts { IsStarted Does self.old pass.old request result self.new pass.new }
+        ensures limited { StartIsLimited result }
+        ensures kept { IsKept self.old × IsKept self.new }
+    {
+        match self.open_call(alloc, pass, request) {
+            Outcome::Call(call) if most > 1 => {
+                Started::Ran(call, self.go(alloc, pass, call, most - 1))
+            }
+            Outcome::Call(call) => Started::Begun(call),
+            Outcome::Refused(refusal) => Started::Refused(refusal),
+            _ => unreachable!(),
+        }
+    }
+}
