@@ -211,10 +211,10 @@ module _ {S : Type 0} (does : EventLaw S) (s : S) (p : PassView) (request : Requ
 
   -- a run by which the call continues, and one that ends it
   pub goes_through : (call : CallNo) (m : S) (r : PassView) (o : Outcome) (t : S) (q : PassView) → Begun does s p request call m r → HasGone does m r call o t q → EndsNone o → Begun does s p request call t q
-  goes_through call m r o t q b g none = goes_on_told call g.then g.between o t q (run_on does s p request call m r o t q b g) g.does none g.told
+  goes_through call m r o t q b g none = goes_on_told call g.then g.between o t q (run_on does s p request call m r o t q b g) g.made none g.told
 
   pub run_ends : (call : CallNo) (m : S) (r : PassView) (o : Outcome) (t : S) (q : PassView) (seen : ℕ) (end : Result Reply Refusal) → Begun does s p request call m r → HasGone does m r call o t q → seen ≡ p.seen → Ends seen o (Some end) → IsEnded end t q
-  run_ends call m r o t q seen end b g same ends = ends_told call g.then g.between o t q seen end (run_on does s p request call m r o t q b g) g.does same ends g.told
+  run_ends call m r o t q seen end b g same ends = ends_told call g.then g.between o t q seen end (run_on does s p request call m r o t q b g) g.made same ends g.told
 
   pub starts : (call : CallNo) (t : S) (q : PassView) → IsBegun does s p request (Call call) t q → Begun does s p request call t q
   starts call t q b = begins_told call (Call call) t q p.number refl b.0 refl b.1

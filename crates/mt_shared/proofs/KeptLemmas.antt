@@ -38,6 +38,20 @@ both true true h = (refl, refl)
 both true false h = cc
 both false b h = cc
 
+is_true : (b : Bool) → not b ≡ false → b ≡ true
+is_true true h = refl
+is_true false h = cc
+
+pub has_its_book : (s : KeptView) (pass : PassNo) (e : Event) → false ≡ is_wrong s pass e → has_book pass s.books ≡ true
+has_its_book s pass e h = is_true (has_book pass s.books) (or_false (not (has_book pass s.books)) (is_foreign s.machine pass e) h).0
+
+pub book_within : (pass : PassNo) (books : List Book) → has_book pass books ≡ true → pass.0 - 1 < length books
+book_within pass books h =
+    let b = both (not (eqb pass.0 0)) (leb pass.0 (length books)) (ap not h) in
+    let x : not (eqb pass.0 0) ≡ true = b.0 in
+    let y : leb pass.0 (length books) ≡ true = b.1 in
+    grind (arith, nat_tests)
+
 -- the pass of an event that isn't wrong has a book, and the event is its own
 pub in_books : (s : KeptView) (pass : PassNo) (e : Event) → false ≡ is_wrong s pass e → (pass.0 - 1 < length s.books) × (is_foreign s.machine pass e ≡ false)
 in_books s pass e h =
@@ -111,10 +125,10 @@ book_bounds s i a k within at =
     let ac = ap (λ (x : Book). x.commits) at in
     (omega (arith, k.events), omega (arith, k.commits))
 
-not_spent : (s : KeptView) (p : PassView) → (s.events ≡ greatest_number → ⊥) → (p.events ≡ greatest_number → ⊥) → is_spent s p ≡ false
+pub not_spent : (s : KeptView) (p : PassView) → (s.events ≡ greatest_number → ⊥) → (p.events ≡ greatest_number → ⊥) → is_spent s p ≡ false
 not_spent s p here there = ap (λ (b : Bool). b || eqb p.events greatest_number) (ne_eqb s.events greatest_number here) ∙ ne_eqb p.events greatest_number there
 
-does_make : (s : KeptView) (p : PassView) (e : Event) (o : Outcome) (t : KeptView) (q : PassView) → false ≡ is_wrong s p.number e → is_spent s p ≡ false → IsMade s p e o t q → Does s p e o t q
+pub does_make : (s : KeptView) (p : PassView) (e : Event) (o : Outcome) (t : KeptView) (q : PassView) → false ≡ is_wrong s p.number e → is_spent s p ≡ false → IsMade s p e o t q → Does s p e o t q
 does_make s p e o t q right more made =
     subst (λ (b : Bool). MatchBool b (IsUnmade WrongPass s p o t q) (MatchBool (is_spent s p) (IsUnmade Spent s p o t q) (IsMade s p e o t q))) right
     (subst (λ (b : Bool). MatchBool b (IsUnmade Spent s p o t q) (IsMade s p e o t q)) (sym more) made)

@@ -1,6 +1,7 @@
 -- Steps of a run that are counted together are counted one by one; and a run on what a lock keeps is one somewhere.
 use Rattle.std.proofs.Common.{arith, sym, ap, subst, ◌≡◌, ◌+◌, ◌-◌, ◌*◌, ◌^◌, ◌≤◌, ◌<◌, ◌∙◌, ◌∷◌, ◌++◌, [], List, ℕ, refl, length, get_or, set, map, Bool, true, false, ◌||◌, ◌&&◌, not, eqb, leb}
 use Rattle.std.specs.Prelude.{All, MatchBool, max, sum_by}
+use Rattle.std.proofs.lemmas.Bool.{eq-eqb}
 use Rattle.std.proofs.lemmas.List.{get_or-set_same, set-get_or, set-set, length-set}
 use Rattle.std.proofs.lemmas.List.Elements.{All-nil, All-cons, All-head, All-tail}
 use Rattle.std.proofs.lemmas.List.Sums.{sum_by-append}
@@ -16,22 +17,24 @@ use Rattle.mt_types.specs.declared.refusal.Refusal.TheVariants.{WrongPass, Spent
 use Rattle.mt_index.specs.declared.running.Run.{Run}
 use Rattle.mt_index.specs.Calls.{pass_at}
 use Rattle.mt_index.specs.Events.{GoesOnAtOnce, GoesThrough, Makes, MakesSteps, commit_count}
-use Rattle.mt_index.specs.Stands.{MachineView}
+use Rattle.mt_commit.specs.Log.{newest}
+use Rattle.mt_promise.specs.History.{History, happening}
+use Rattle.mt_index.specs.Stands.{MachineView, Stands}
 use Rattle.mt_index.proofs.EventLemmas.{pass-kept}
 use Rattle.mt_shared.specs.declared.book.Book.{Book}
 use Rattle.mt_shared.specs.declared.trace.Entry.{Entry}
 use Rattle.mt_shared.specs.declared.trace.Trace.{Trace}
 use Rattle.mt_shared.specs.declared.trace.Trace.TheVariants.{Off}
 use Rattle.mt_shared.specs.Traces.{entry, Gains}
-use Rattle.mt_shared.specs.Passes.{PassView, Counts, IsTold, pass_after, seen_in}
+use Rattle.mt_shared.specs.Passes.{PassView, IsTold, Suits, pass_after, seen_in}
 use Rattle.mt_shared.specs.Books.{book_after, book_with}
 use Rattle.mt_shared.specs.declared.driving.Started.{Started}
 use Rattle.mt_shared.specs.declared.driving.Started.TheVariants.{Refused as RefusedStart, Begun, Ran}
 use Rattle.mt_shared.specs.Drives.{EventLaw, Runs, Continues, IsStep, HasGone, IsBegun, IsStarted}
 use Rattle.mt_shared.specs.Kept.{KeptView, IsKept, IsMade, IsUnmade, Does, DoesSomewhere, has_book, is_foreign, is_other, is_wrong, is_spent}
-use Rattle.mt_shared.proofs.KeptLemmas.{does_make, in_books, keeps, not_spent}
+use Rattle.mt_shared.proofs.KeptLemmas.{commits_then, does_make, has_its_book, in_books, keeps, not_spent}
 use Rattle.mt_shared.proofs.DriveLemmas.{gains_none}
-use Rattle.mt_shared.proofs.ToldLemmas.{does_tell}
+use Rattle.mt_shared.proofs.ToldLemmas.{does_tell, suits}
 
 -- ---- what the lock keeps is kept
 kept_at : (s : KeptView) (p : PassView) (e : Event) (o : Outcome) (t : KeptView) (q : PassView) (b c : Bool) → b ≡ is_wrong s p.number e → IsKept s
@@ -187,7 +190,7 @@ module _ (s : KeptView) (p : PassView) (there : has_book p.number s.books ≡ tr
   -- A RUN, counted as the code counts it
   pub goes : (call : CallNo) (run : Run) (n : MachineView) (b : Book) → IsKept s → s.trace ≡ Off → is_other (pass_at call.0 s.machine.calls.calls) p.number ≡ false → b ≡ get_or s.books (p.number.0 - 1) b
       → s.events + run.steps < 2 ^ 64 → p.events + run.steps < 2 ^ 64 → GoesThrough s.machine call run n
-      → HasGone Does s p call run.last (record { machine = n; events = s.events + run.steps; books = set s.books (p.number.0 - 1) (book_after run b); trace = Off }) (pass_after run p)
+      → HasGone Does s p call run.last (record { machine = n; events = s.events + run.steps; books = set s.books (p.number.0 - 1) (book_after run b); trace = s.trace }) (pass_after run p)
   goes call run n b k none own at here there' g =
       let i = p.number.0 - 1 in
       let many = g.many in
@@ -206,7 +209,7 @@ module _ (s : KeptView) (p : PassView) (there : has_book p.number s.books ≡ tr
       let between = pass_with p made.made_then made.commits_then made.seen_then in
       let does = subst (λ (t : KeptView). Does (now_kept s i g.before made.events_then made.book_then) between (Step call) run.last t (pass_after run p)) is_then
           (subst (λ (q : PassView). Does (now_kept s i g.before made.events_then made.book_then) between (Step call) run.last (now_kept s i n (made.events_then + 1) (book_with run.last made.book_then)) q) is_pass last) in
-      record {
+      subst (λ (t : Trace). HasGone Does s p call run.last (record { machine = n; events = s.events + run.steps; books = set s.books i (book_after run b); trace = t }) (pass_after run p)) (sym none) (record {
         steps = map (step_of call) g.outcomes;
         are_steps = go_steps call g.outcomes g.go_on;
         then = now_kept s i g.before made.events_then made.book_then;
@@ -216,25 +219,82 @@ module _ (s : KeptView) (p : PassView) (there : has_book p.number s.books ≡ tr
         number = refl;
         seen = omega (arith, x);
         events = omega (arith, e);
-        does = does;
+        made = does;
         told = does_tell _ between (Step call) run.last then (pass_after run p) (runs_keep s p (map (step_of call) g.outcomes) _ between k runs) does;
-      }
+      })
 
   -- a begin, counted as the code counts it
   pub opens : (request : Request) (run : Run) (n : MachineView) (b : Book) → s.trace ≡ Off → b ≡ get_or s.books (p.number.0 - 1) b → s.events + 1 < 2 ^ 64 → p.events + 1 < 2 ^ 64 → run.steps ≡ 1 → run.commits ≡ 0 → commit_count run.last ≡ 0
       → Makes s.machine (Begin p.number request) run.last n
-      → Does s p (Begin p.number request) run.last (record { machine = n; events = s.events + 1; books = set s.books (p.number.0 - 1) (book_after run b); trace = Off }) (pass_after run p)
-  opens request run n b none at here there' one no zero makes =
+      → Does s p (Begin p.number request) run.last (record { machine = n; events = s.events + 1; books = set s.books (p.number.0 - 1) (book_after run b); trace = s.trace }) (pass_after run p)
+  opens request run n b none at here there' one none_made zero makes =
       let i = p.number.0 - 1 in
-      let own : not (eqb p.number.0 p.number.0) ≡ false = grind in
+      let own : not (eqb p.number.0 p.number.0) ≡ false = ap not (eq-eqb p.number.0 p.number.0 refl) in
       let made = one_more s.machine n s.events b p.events p.commits p.seen (Begin p.number request) run.last own (λ q. omega (arith, q, here)) (λ q. omega (arith, q, there')) makes in
       let is_then : now_kept s i n (s.events + 1) (book_with run.last b) ≡ record { machine = n; events = s.events + 1; books = set s.books i (book_after run b); trace = Off } =
-          ap (λ (v : Book). now_kept s i n (s.events + 1) v) (book_is (book_with run.last b) (book_after run b) (omega (arith, one)) (omega (arith, no, zero)) refl) in
+          ap (λ (v : Book). now_kept s i n (s.events + 1) v) (book_is (book_with run.last b) (book_after run b) (omega (arith, one)) (omega (arith, none_made, zero)) refl) in
       let is_pass : pass_with p (p.events + 1) (p.commits + commit_count run.last) (max p.seen (seen_in run.last)) ≡ pass_after run p =
-          pass_is _ _ _ _ _ _ (omega (arith, one)) (omega (arith, no, zero)) refl in
-      subst (λ (m : KeptView). Does m p (Begin p.number request) run.last (record { machine = n; events = s.events + 1; books = set s.books i (book_after run b); trace = Off }) (pass_after run p)) (same_kept b none at)
+          pass_is _ _ _ _ _ _ (omega (arith, one)) (omega (arith, none_made, zero)) refl in
+      subst (λ (t : Trace). Does s p (Begin p.number request) run.last (record { machine = n; events = s.events + 1; books = set s.books i (book_after run b); trace = t }) (pass_after run p)) (sym none)
+      (subst (λ (m : KeptView). Does m p (Begin p.number request) run.last (record { machine = n; events = s.events + 1; books = set s.books i (book_after run b); trace = Off }) (pass_after run p)) (same_kept b none at)
       (subst (λ (t : KeptView). Does (now_kept s i s.machine s.events b) p (Begin p.number request) run.last t (pass_after run p)) is_then
-      (subst (λ (q : PassView). Does (now_kept s i s.machine s.events b) p (Begin p.number request) run.last (now_kept s i n (s.events + 1) (book_with run.last b)) q) is_pass made))
+      (subst (λ (q : PassView). Does (now_kept s i s.machine s.events b) p (Begin p.number request) run.last (now_kept s i n (s.events + 1) (book_with run.last b)) q) is_pass made)))
+
+-- a run of what the lock keeps, as the code makes it
+pub runs_own : (s : KeptView) (p : PassView) (call : CallNo) (run : Run) (n : MachineView) (a b : Book) (q : PassView) → IsKept s → (s.trace ≡ Off) × (p.trace ≡ Off) → s.events + run.steps < 2 ^ 64 → p.events + run.steps < 2 ^ 64 → GoesThrough s.machine call run n → a ≡ book_after run b → q ≡ pass_after run p
+    → (pass : PassNo) → pass ≡ p.number → false ≡ is_wrong s pass (Step call) → b ≡ get_or s.books (pass.0 - 1) b
+    → HasGone Does s p call run.last (record { machine = n; events = s.events + run.steps; books = set s.books (pass.0 - 1) a; trace = s.trace }) q
+runs_own s p call run n a b q k off here there' goes_by after told pass same =
+    subst (λ (m : PassNo). false ≡ is_wrong s m (Step call) → b ≡ get_or s.books (m.0 - 1) b → HasGone Does s p call run.last (record { machine = n; events = s.events + run.steps; books = set s.books (m.0 - 1) a; trace = s.trace }) q)
+    (sym same)
+    (λ mine at.
+        let there = has_its_book s p.number (Step call) mine in
+        let both = in_books s p.number (Step call) mine in
+        subst (λ (c : Book). HasGone Does s p call run.last (record { machine = n; events = s.events + run.steps; books = set s.books (p.number.0 - 1) c; trace = s.trace }) q) (sym after)
+        (subst (λ (r : PassView). HasGone Does s p call run.last (record { machine = n; events = s.events + run.steps; books = set s.books (p.number.0 - 1) (book_after run b); trace = s.trace }) r) (sym told)
+        (goes s p there both.0 off.1 call run n b k off.0 both.1 at here there' goes_by)))
+
+-- a begin of what the lock keeps, as the code makes it
+pub opens_own : (s : KeptView) (p : PassView) (request : Request) (run : Run) (n : MachineView) (a b : Book) (q : PassView) → (s.trace ≡ Off) × (p.trace ≡ Off) → s.events + 1 < 2 ^ 64 → p.events + 1 < 2 ^ 64 → run.steps ≡ 1 → run.commits ≡ 0 → commit_count run.last ≡ 0 → a ≡ book_after run b → q ≡ pass_after run p
+    → (pass : PassNo) → pass ≡ p.number → has_book pass s.books ≡ true → pass.0 - 1 < length s.books → b ≡ get_or s.books (pass.0 - 1) b → Makes s.machine (Begin pass request) run.last n
+    → Does s p (Begin p.number request) run.last (record { machine = n; events = s.events + 1; books = set s.books (pass.0 - 1) a; trace = s.trace }) q
+opens_own s p request run n a b q off here there' one none_made zero after told pass same =
+    subst (λ (m : PassNo). has_book m s.books ≡ true → m.0 - 1 < length s.books → b ≡ get_or s.books (m.0 - 1) b → Makes s.machine (Begin m request) run.last n → Does s p (Begin p.number request) run.last (record { machine = n; events = s.events + 1; books = set s.books (m.0 - 1) a; trace = s.trace }) q)
+    (sym same)
+    (λ there within at makes.
+        subst (λ (c : Book). Does s p (Begin p.number request) run.last (record { machine = n; events = s.events + 1; books = set s.books (p.number.0 - 1) c; trace = s.trace }) q) (sym after)
+        (subst (λ (r : PassView). Does s p (Begin p.number request) run.last (record { machine = n; events = s.events + 1; books = set s.books (p.number.0 - 1) (book_after run b); trace = s.trace }) r) (sym told)
+        (opens s p there within off.1 request run n b off.0 at here there' one none_made zero makes)))
+
+pub gone_keep : (s : KeptView) (p : PassView) (call : CallNo) (o : Outcome) (t : KeptView) (q : PassView) → IsKept s → HasGone Does s p call o t q → IsKept t
+gone_keep s p call o t q k g = does_keep g.then g.between (Step call) o t q (runs_keep s p g.steps g.then g.between k g.runs) g.made
+
+-- a begin is no commit
+pub begin_is_none : (m n : MachineView) (pass : PassNo) (request : Request) (o : Outcome) → (h : History) × Stands m h → Makes m (Begin pass request) o n → commit_count o ≡ 0
+begin_is_none m n pass request o (h, st) makes = none o (suits m n h pass (Begin pass request) o st makes (ap not (eq-eqb pass.0 pass.0 refl)))
+  where
+    none : (w : Outcome) → Suits pass (Begin pass request) w → commit_count w ≡ 0
+    none (Call call) s = refl
+    none (Refused refusal) s = refl
+    none _ s = absurd s
+
+-- the machine's commits after a run
+steps_newest : (m n : MachineView) (call : CallNo) (os : List Outcome) (h : History) → Stands m h → MakesSteps m call os n → (newest n.log ≡ newest m.log + sum_by commit_count os) × ((then : History) × Stands n then)
+steps_newest m n call [] h st same = (ap (λ (x : MachineView). newest x.log) same ∙ (let e : newest m.log ≡ newest m.log + 0 = omega arith in e), (h, subst (λ (x : MachineView). Stands x h) (sym same) st))
+steps_newest m n call (o ∷ os) h st (next, one, rest) =
+    let (opened, then) = one.stands h st in
+    let first = (commits_then m next (Step call) o h st one).0 in
+    let later = steps_newest next n call os (happening (Step call) o opened ∷ h) then rest in
+    let more = later.0 in
+    let whole = sum_by-append commit_count (o ∷ []) os in
+    (omega (arith, first, more, whole), later.1)
+
+pub run_newest : (m n : MachineView) (call : CallNo) (run : Run) → (h : History) × Stands m h → GoesThrough m call run n → newest n.log ≡ newest m.log + run.commits
+run_newest m n call run (h, st) g =
+    let (before, (then, stands)) = steps_newest m g.before call g.outcomes h st g.steps in
+    let last = (commits_then g.before n (Step call) run.last then stands g.last).0 in
+    let is = g.commits in
+    omega (arith, before, last, is)
 
 -- one step is a run
 pub goes_once : {S : Type 0} (does : EventLaw S) (s : S) (p : PassView) (call : CallNo) (last : Outcome) (t : S) (q : PassView) → does s p (Step call) last t q → IsTold p (Step call) last q → HasGone does s p call last t q
@@ -248,7 +308,7 @@ goes_once does s p call last t q d told = record {
   number = refl;
   seen = omega arith;
   events = omega arith;
-  does = d;
+  made = d;
   told = told;
 }
 
@@ -276,7 +336,7 @@ module _ {S : Type 0} (x : S) where
         number = g.number;
         seen = g.seen;
         events = g.events;
-        does = record { before = g.then; then = t; kept = between; does = g.does; keeps = does_keep g.then g.between (Step call) last t q between g.does };
+        made = record { before = g.then; then = t; kept = between; does = g.made; keeps = does_keep g.then g.between (Step call) last t q between g.made };
         told = g.told;
       }
 

@@ -30,7 +30,7 @@ own_call : (owner : Option PassNo) (pass : PassNo) (c : OpenCall) → is_other o
 own_call None pass c h e = cc
 own_call (Some p) pass c h e = let same : p.0 ≡ c.pass = cc in sym same ∙ own_number p.0 pass.0 h
 
-suits : (m n : MachineView) (h : History) (pass : PassNo) (e : Event) (o : Outcome) → Stands m h → Makes m e o n → is_foreign m pass e ≡ false → Suits pass e o
+pub suits : (m n : MachineView) (h : History) (pass : PassNo) (e : Event) (o : Outcome) → Stands m h → Makes m e o n → is_foreign m pass e ≡ false → Suits pass e o
 suits m n h pass (Begin named request) o st makes mine = let (opens, then) = makes.stands h st in begin_suits pass named request (moment h) (begin_fault n.columns (moment h).begun (length (moment h).calls) (view_places (moment h)) request) o then.legal.1
 suits m n h pass (Step call) o st makes mine =
     let (opens, then) = makes.stands h st in

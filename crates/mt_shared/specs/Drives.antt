@@ -53,7 +53,7 @@ pub record HasGone {S : Type 0} (does : EventLaw S) (s : S) (p : PassView) (call
   pub number : between.number ≡ p.number
   pub seen : p.seen ≤ between.seen
   pub events : p.events ≤ between.events
-  pub does : does then between (Step call) last t q
+  pub made : does then between (Step call) last t q
   pub told : IsTold between (Step call) last q
 
 -- the begin of a call of the pass had this outcome, and the pass is told of it

@@ -115,7 +115,7 @@ pub fn drive<S: Shared, G: Gate>(
         Started::Refused(refusal) => return Err(refusal),
         Started::Begun(call) => call,
         Started::Ran(call, last) => {
-            if let Some(end) = end_of(gate, last, seen) {
+            if let Some(end) = after_run(gate, last, seen) {
                 return end;
             }
             call
@@ -124,27 +124,33 @@ pub fn drive<S: Shared, G: Gate>(
     loop {
         let last = shared.go(alloc, pass, call);
         let _events = pass.events();
-        if let Some(end) = end_of(gate, last, seen) {
+        if let Some(end) = after_run(gate, last, seen) {
             return end;
         }
     }
 }
 
 // After a run: calls the gate, and lets other threads run if the call waits. Returns the result with which the outcome
-// of the run's last step ends the call, if it does. A reply that begins before what the pass had seen is of another
-// index.
-fn end_of<G: Gate>(gate: &mut G, last: Outcome, seen: u64) -> Option<Result<Reply, Refusal>>
+// of the run's last step ends the call, if it does.
+fn after_run<G: Gate>(gate: &mut G, last: Outcome, seen: u64) -> Option<Result<Reply, Refusal>>
     ensures { Ends seen last result }
 {
     gate.between(&last);
-    match last {
+    if matches!(last, Outcome::Again) {
+        thread::yield_now();
+    }
+    end_of(last, seen)
+}
+
+// Returns the result with which the outcome of a step ends its call, if it does. A reply that begins before what the
+// pass had seen is of another index.
+fn end_of(outcome: Outcome, seen: u64) -> Option<Result<Reply, Refusal>>
+    ensures { Ends seen outcome result }
+{
+    match outcome {
         Outcome::Done(reply) if reply.from < seen => Some(Err(Refusal::WrongPass)),
         Outcome::Done(reply) => Some(Ok(reply)),
         Outcome::Refused(refusal) => Some(Err(refusal)),
-        Outcome::Again => {
-            thread::yield_now();
-            None
-        }
         _ => None,
     }
 }

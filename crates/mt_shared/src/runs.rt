@@ -1,6 +1,6 @@
 //! Runs under the lock: a call is begun, and makes several steps, which are counted together.
 
-ghost use Rattle.std.specs.Prelude.{◌≡◌, ◌×◌, ◌+◌, ◌-◌, ◌<◌, ◌≤◌, ◌^◌, IsFalse, length, slice_index_or, slice_set};
+ghost use Rattle.std.specs.Prelude.{◌≡◌, ◌+◌, ◌-◌, ◌<◌, ◌≤◌, ◌^◌, IsFalse, length, slice_index_or, slice_set};
 ghost use Rattle.mt_types.specs.declared.event.Event.TheVariants.{Begin};
 ghost use Rattle.mt_types.specs.Limited.{OutcomeIsLimited};
 ghost use Rattle.mt_shared.specs.declared.trace.Trace.TheVariants.{Off};
@@ -75,10 +75,11 @@ impl Kept {
         if self.is_traced(pass) || !self.has_book(number) || room == 0 {
             return self.event(alloc, pass, &Event::Begin(number, request));
         }
+        let last = self.machine.begin_call(alloc, number, request);
         let run = Run {
             steps: 1,
             commits: 0,
-            last: self.machine.begin_call(alloc, number, request),
+            last,
         };
         let _commits = self.machine.commits();
         let at = number.0 as usize - 1;
