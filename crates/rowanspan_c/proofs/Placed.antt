@@ -1,5 +1,5 @@
 -- Bytes written into a buffer, one write after another.
-use Rattle.std.proofs.Common.{◌≡◌, ◌≤◌, ◌<◌, ◌+◌, ◌-◌, ℕ, List, [], ◌∷◌, ◌++◌, length, take, drop, get_or, inl, refl, sym, ap, subst, ◌∙◌, append_assoc, arith, length-append, length-take-le, length-drop, drop-drop}
+use Rattle.std.proofs.Common.{◌≡◌, ◌≤◌, ◌<◌, ◌+◌, ℕ, List, [], ◌∷◌, ◌++◌, length, take, drop, get_or, inl, refl, sym, ap, subst, ◌∙◌, append_assoc, arith, length-append, length-take-le, length-drop, drop-drop}
 use Rattle.std.specs.List.{flat_map}
 use Rattle.std.proofs.lemmas.List.{take_more, flat_map_more, take-append-drop}
 use Rattle.std.proofs.lemmas.List.Folds.{length-flat_map-take}

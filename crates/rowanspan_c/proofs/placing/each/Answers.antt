@@ -1,7 +1,6 @@
-use Rattle.std.proofs.Common.{rules, ◌≡◌, ◌+◌, ◌<◌, ◌≤◌, [], length, slice_index_or, IfSome, ℕ, ◌-◌, ◌*◌, ◌++◌, List, refl, sym, ap, subst, take, arith}
-use Rattle.std.specs.List.{flat_map}
-use Rattle.mt_types.specs.Rows.{chosen, shown}
-use Rattle.rowanspan_c.specs.Spelling.{number_spelling, bytes_spelling, list_spelling, row_spelling}
+use Rattle.std.proofs.Common.{◌<◌, [], length, ℕ, List, ap, subst, arith}
+use Rattle.mt_types.specs.Rows.{chosen}
+use Rattle.rowanspan_c.specs.Spelling.{bytes_spelling}
 use Rattle.rowanspan_c.specs.Placed.{Writes}
 use Rattle.rowanspan_c.proofs.Placed.{has_room, writes_more}
 use Rattle.rowanspan_c.proofs.placing.each.Goals as goal

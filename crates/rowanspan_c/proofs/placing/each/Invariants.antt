@@ -1,7 +1,7 @@
-use Rattle.std.proofs.Common.{rules, ◌≡◌, ◌+◌, ◌<◌, ◌≤◌, [], length, slice_index_or, IfSome, ℕ, ◌-◌, ◌*◌, refl, take, arith}
+use Rattle.std.proofs.Common.{take}
 use Rattle.std.specs.List.{flat_map}
-use Rattle.mt_types.specs.Rows.{chosen, shown}
-use Rattle.rowanspan_c.specs.Spelling.{number_spelling, bytes_spelling, list_spelling, row_spelling}
+use Rattle.mt_types.specs.Rows.{chosen}
+use Rattle.rowanspan_c.specs.Spelling.{bytes_spelling}
 use Rattle.rowanspan_c.specs.Placed.{Writes}
 use Rattle.rowanspan_c.proofs.placing.each.Given as goal
 

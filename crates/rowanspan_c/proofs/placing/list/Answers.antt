@@ -1,7 +1,7 @@
-use Rattle.std.proofs.Common.{rules, ◌≡◌, ◌+◌, ◌<◌, ◌≤◌, [], length, slice_index_or, IfSome, ℕ, ◌-◌, ◌*◌, ◌++◌, List, refl, sym, ap, subst, take, arith}
+use Rattle.std.proofs.Common.{length, ℕ, subst}
 use Rattle.std.specs.List.{flat_map}
-use Rattle.mt_types.specs.Rows.{chosen, shown}
-use Rattle.rowanspan_c.specs.Spelling.{number_spelling, bytes_spelling, list_spelling, row_spelling}
+use Rattle.mt_types.specs.Rows.{chosen}
+use Rattle.rowanspan_c.specs.Spelling.{number_spelling, bytes_spelling}
 use Rattle.rowanspan_c.specs.Placed.{Writes}
 use Rattle.rowanspan_c.proofs.Placed.{then_writes}
 use Rattle.rowanspan_c.proofs.placing.list.Goals as goal

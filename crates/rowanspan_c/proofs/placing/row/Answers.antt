@@ -1,7 +1,6 @@
-use Rattle.std.proofs.Common.{rules, ◌≡◌, ◌+◌, ◌<◌, ◌≤◌, [], length, slice_index_or, IfSome, ℕ, ◌-◌, ◌*◌, ◌++◌, List, refl, sym, ap, subst, take, arith}
-use Rattle.std.specs.List.{flat_map}
-use Rattle.mt_types.specs.Rows.{chosen, shown}
-use Rattle.rowanspan_c.specs.Spelling.{number_spelling, bytes_spelling, list_spelling, row_spelling}
+use Rattle.std.proofs.Common.{ℕ, List, subst}
+use Rattle.mt_types.specs.Rows.{chosen}
+use Rattle.rowanspan_c.specs.Spelling.{number_spelling, bytes_spelling, list_spelling}
 use Rattle.rowanspan_c.specs.Placed.{Writes}
 use Rattle.rowanspan_c.proofs.Placed.{then_writes}
 use Rattle.rowanspan_c.proofs.placing.row.Goals as goal

@@ -1,5 +1,5 @@
 use Rattle.std.proofs.Common.{◌≡◌, ℕ, refl, sym, subst, ◌∙◌}
-use Rattle.std.specs.Prelude.{Option, Some, None}
+use Rattle.std.specs.Prelude.{Option, None}
 use Rattle.mt_types.specs.Limits.{request_fault}
 use Rattle.mt_types.specs.declared.event.Request.TheVariants.{Get}
 use Rattle.mt_types.specs.declared.refusal.Refusal.{Refusal}
