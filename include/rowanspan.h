@@ -23,8 +23,13 @@
  * HANDLES
  *     A struct rowanspan is a handle: it holds one index, or none. The caller initializes it with ROWANSPAN_NONE (all
  *     bytes 0), and from then on must not read, write or copy its members: if two copies of a handle are used, memory
- *     is freed twice. The library owns the index from rowanspan_open to rowanspan_close. A handle stays on the thread
- *     that opened it. It isn't proved that another thread may use it, even under a lock.
+ *     is freed twice. The library owns the index from rowanspan_open to rowanspan_close.
+ *
+ * THREADS
+ *     A handle may be moved to another thread, also while it holds an index: it is proved that what it holds may be used
+ *     there. A handle is for one call at a time, also if both calls only read. If threads share a handle, the caller
+ *     orders their calls by a lock, by the start or the join of a thread, or by a sequentially consistent atomic. Calls
+ *     on different handles may be made at once.
  *
  * STATUSES
  *     Each call returns a status. ROWANSPAN_DONE, which is 0, means that the call was done. A status from 1 to 16 means
@@ -50,8 +55,9 @@
  *
  * MEMORY
  *     The library copies the keys, columns and tests that it is passed: they stay the caller's. A call that stores or
- *     returns something allocates with malloc. malloc and realloc have to align blocks as ISO C requires. No call may
- *     be made in a signal handler, or in the forked child of a process with threads.
+ *     returns something allocates with malloc; rowanspan_get allocates for a copy of the key only. malloc and realloc
+ *     have to align blocks as ISO C requires. No call may be made in a signal handler, or in the forked child of a
+ *     process with threads.
  *
  * What each call does is proved of the library's source code. It isn't proved that a caller in C meets the conditions
  * that are stated here, nor what a compiler makes of the header. See docs/EMBEDDING.md. */
@@ -324,7 +330,9 @@ static inline uint16_t rowanspan_tidy(struct rowanspan *handle, const void *key,
 /* rowanspan_get: writes the row of a key to the buffer (rowanspan_read_row reads it), with the columns of these numbers
  * in this order, or with all columns if `column_count` is 0. *told is the length of the answer in bytes.
  *
- * Cost: a visit of each node on the way to the key, and memory for the row, which is freed before the call returns.
+ * Cost: a visit of each node on the way to the key, and one copy of the columns, from the index into the buffer. It
+ * allocates for a copy of the key only, which is freed before the call returns, and not at all if the key is empty. A row
+ * with all its columns fits in 16 bytes, and 72 for each column.
  *
  * Returns DONE. Returns ABSENT if the key has no row, and NO_ROOM if the answer doesn't fit. Fails with CLOSED,
  * KEY_TOO_LONG, BAD_COLUMN or NO_MEMORY. Unless it returns DONE the buffer is as it was. */

@@ -416,9 +416,9 @@ class Index:
         self.close()
 
     def __del__(self) -> None:
-        # on another thread its memory is kept: to free it there isn't allowed
-        if getattr(self, "_thread", None) == threading.get_ident():
-            self.close()
+        # on any thread: a handle may be moved to another, and nothing else uses this one any more
+        if hasattr(self, "_handle"):
+            self._library.rowanspan_close(self._handle)
 
     def close(self) -> None:
         """Ends the index, with its views, and frees its memory. A second close does nothing."""

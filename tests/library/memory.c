@@ -113,6 +113,58 @@ static void no_memory_to_open(void) {
     ends("no_memory_to_open");
 }
 
+/* A get allocates for a copy of the key, as two blocks, and for nothing else: an empty key needs no memory, and the
+ * columns go from the index into the buffer, of which exactly the front is written. */
+static void gets_copy_the_key_alone(void) {
+    enum { COLUMNS = 16, BYTES = 64, LENGTH = 8 + 8 + COLUMNS * (8 + BYTES) };
+    static const char *const keys[2] = {"", "aaaaaaaabbbbbbbbcccccccc"};
+    struct rowanspan index = ROWANSPAN_NONE;
+    struct rowanspan_set sets[COLUMNS];
+    uint8_t bytes[COLUMNS][BYTES], room[LENGTH + 1];
+    uint64_t told;
+    int i, column;
+    begins();
+    WANT_SAME(rowanspan_open(&index, COLUMNS, 16, 0), ROWANSPAN_DONE);
+    for (column = 0; column < COLUMNS; column++) {
+        memset(bytes[column], 'a' + column, BYTES);
+        sets[column] = rowanspan_set((uint8_t)column, bytes[column], BYTES);
+    }
+    for (i = 0; i < 2; i++) {
+        size_t key_length = strlen(keys[i]);
+        struct rowanspan_reader reader;
+        struct rowanspan_row row;
+        uint16_t status;
+        long calls = 0;
+        WANT_SAME(rowanspan_put(&index, keys[i], key_length, sets, COLUMNS, &told), ROWANSPAN_DONE);
+        memset(room, 0xee, sizeof room);
+        memory_ends_after(2 * i);
+        WANT_SAME(rowanspan_get(&index, keys[i], key_length, NULL, 0, room, LENGTH - 1, &told), ROWANSPAN_NO_ROOM);
+        memory_ends_after(-1);
+        WANT_SAME(told, LENGTH);
+        WANT_SAME(room[0], 0xee);
+        do {
+            memory_ends_after(calls++);
+            status = rowanspan_get(&index, keys[i], key_length, NULL, 0, room, LENGTH, &told);
+            memory_ends_after(-1);
+        } while (status == ROWANSPAN_NO_MEMORY && calls < 10);
+        WANT_SAME(status, ROWANSPAN_DONE);
+        WANT_SAME(calls, 2 * i + 1);
+        WANT_SAME(told, LENGTH);
+        WANT_SAME(room[LENGTH], 0xee);
+        reader = rowanspan_reader(room, told);
+        row = rowanspan_read_row(&reader);
+        WANT_SAME(row.version, i + 1);
+        WANT_SAME(row.column_count, COLUMNS);
+        for (column = 0; column < COLUMNS; column++) {
+            struct rowanspan_bytes got = rowanspan_read_bytes(&row.columns);
+            WANT(got.length == BYTES && memcmp(got.at, bytes[column], BYTES) == 0);
+        }
+        WANT(!reader.is_short && reader.left == 0);
+    }
+    WANT_SAME(rowanspan_close(&index), ROWANSPAN_DONE);
+    ends("gets_copy_the_key_alone");
+}
+
 /* What an index held is freed when it is closed, a thousand times. */
 static void opened_and_closed(void) {
     long before;
@@ -140,6 +192,7 @@ int main(void) {
     setvbuf(stdout, NULL, _IONBF, 0);
     want_of_memory();
     no_memory_to_open();
+    gets_copy_the_key_alone();
     opened_and_closed();
     return all_told();
 }

@@ -75,7 +75,8 @@ pub enum Tidied {
     EmptyLayer,
 }
 
-/// An ordered key-value index, with views that stay exact. Dropping it frees its memory.
+/// An ordered key-value index, with views that stay exact. Dropping it frees its memory. It may be moved to another
+/// thread.
 ///
 /// Each call is refused, with an [`Error`], for the causes that it names, and for want of memory.
 pub struct Index {
@@ -95,26 +96,39 @@ fn column_sets<'a>(sets: &[(u8, &'a [u8])]) -> Vec<ColumnSet<'a>> {
         .collect()
 }
 
-// The bytes of an answer, or none where a key has no row. Asks once more where the first room was too small.
-fn answer(ask: impl Fn(&mut [u8]) -> (u16, u64)) -> Result<Option<Vec<u8>>, Error> {
-    let mut room = vec![0; 512];
-    let (mut status, mut told) = ask(&mut room);
-    if status == NO_ROOM {
-        room.resize(usize::try_from(told).map_err(|_| Error::NoMemory)?, 0);
-        (status, told) = ask(&mut room);
-    }
+// How many bytes of an answer are read without an allocation: those of a row of 16 columns of 64 bytes.
+const ROOM_ON_STACK: usize = 8 + 8 + 16 * (8 + 64);
+
+// The length of an answer, or none if a key has no row.
+fn length(status: u16, told: u64) -> Result<Option<usize>, Error> {
     match status {
-        DONE => {
-            room.truncate(usize::try_from(told).map_err(|_| Error::NoMemory)?);
-            Ok(Some(room))
-        }
+        DONE => Ok(Some(usize::try_from(told).map_err(|_| Error::NoMemory)?)),
         ABSENT => Ok(None),
         _ => Err(Error::of(status, told)),
     }
 }
 
-fn some_answer(ask: impl Fn(&mut [u8]) -> (u16, u64)) -> Result<Vec<u8>, Error> {
-    answer(ask)?.ok_or(Error::Unknown(ABSENT))
+// What is read of an answer, or none if a key has no row. Asks once more, with room on the heap, if the room on the stack
+// is too small.
+fn answer<T>(
+    ask: impl Fn(&mut [u8]) -> (u16, u64),
+    read: impl FnOnce(Reader<'_>) -> T,
+) -> Result<Option<T>, Error> {
+    let mut room = [0; ROOM_ON_STACK];
+    let (status, told) = ask(&mut room);
+    if status != NO_ROOM {
+        return Ok(length(status, told)?.map(|count| read(Reader::new(&room[..count]))));
+    }
+    let mut room = vec![0; usize::try_from(told).map_err(|_| Error::NoMemory)?];
+    let (status, told) = ask(&mut room);
+    Ok(length(status, told)?.map(|count| read(Reader::new(&room[..count]))))
+}
+
+fn some_answer<T>(
+    ask: impl Fn(&mut [u8]) -> (u16, u64),
+    read: impl FnOnce(Reader<'_>) -> T,
+) -> Result<T, Error> {
+    answer(ask, read)?.ok_or(Error::Unknown(ABSENT))
 }
 
 impl Index {
@@ -147,15 +161,18 @@ impl Index {
         }
     }
 
-    /// The row of a key.
+    /// The row of a key. The library copies it into memory on the stack, and allocates for a copy of the key only; the
+    /// columns that are returned are allocated each.
     pub fn get(&self, key: &[u8]) -> Result<Option<Row>, Error> {
         self.get_columns(key, &[])
     }
 
     /// The row of a key, with the columns of these numbers in this order; none means all.
     pub fn get_columns(&self, key: &[u8], columns: &[u8]) -> Result<Option<Row>, Error> {
-        let bytes = answer(|room| self.library.get(key, columns, room))?;
-        Ok(bytes.map(|bytes| Reader::new(&bytes).row()))
+        answer(
+            |room| self.library.get(key, columns, room),
+            |mut reader| reader.row(),
+        )
     }
 
     /// All rows from a key on, in the order of their keys. They are read by a thousand at a time.
@@ -174,8 +191,10 @@ impl Index {
         limit: u16,
         columns: &[u8],
     ) -> Result<Vec<(Vec<u8>, Row)>, Error> {
-        let bytes = some_answer(|room| self.library.range(start, limit, columns, room))?;
-        Ok(Reader::new(&bytes).pairs())
+        some_answer(
+            |room| self.library.range(start, limit, columns, room),
+            |mut reader| reader.pairs(),
+        )
     }
 
     /// Takes out at most one node near the place of a key that is no longer wanted, after removes. [`Index::collect`]
@@ -223,8 +242,10 @@ impl Index {
     /// What a view shows that stands at `floor` commits at least, with its first rows from a key on, `limit` at most.
     /// Refused `Behind` where it doesn't stand there.
     pub fn view(&self, view: u64, floor: u64, start: &[u8], limit: u16) -> Result<Page, Error> {
-        let bytes = some_answer(|room| self.library.view(view, floor, start, limit, room))?;
-        Ok(Reader::new(&bytes).page())
+        some_answer(
+            |room| self.library.view(view, floor, start, limit, room),
+            |mut reader| reader.page(),
+        )
     }
 
     /// Ends a view. Its number isn't used again.
@@ -234,8 +255,10 @@ impl Index {
 
     /// What the commits after the first `from` did, `limit` of them at most. Refused `Behind` where some were trimmed.
     pub fn feed(&self, from: u64, limit: u16) -> Result<Vec<Delta>, Error> {
-        let bytes = some_answer(|room| self.library.feed(from, limit, room))?;
-        Ok(Reader::new(&bytes).deltas())
+        some_answer(
+            |room| self.library.feed(from, limit, room),
+            |mut reader| reader.deltas(),
+        )
     }
 
     /// Begins the next epoch. Gives its number.

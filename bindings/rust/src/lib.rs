@@ -16,7 +16,13 @@
 //! # }
 //! ```
 //!
-//! An [`Index`] is neither `Send` nor `Sync`: that it may go to another thread isn't proved of the library.
+//! An [`Index`] is `Send`: it may be moved to another thread, and threads share one by an `Arc<Mutex<Index>>`. It isn't
+//! `Sync`: the library takes one call at a time, also if both calls only read.
+//!
+//! ```compile_fail
+//! fn is_sync<T: Sync>() {}
+//! is_sync::<rowanspan::Index>();
+//! ```
 #![deny(unsafe_code)]
 #![warn(missing_docs)]
 

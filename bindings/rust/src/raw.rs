@@ -151,18 +151,23 @@ extern "C" {
     fn rowanspan_columns(handle: Handle, told: Told) -> u16;
 }
 
-/// An open index of the library. It is neither `Send` nor `Sync`, by the pointer in it.
+/// An open index of the library. It isn't `Sync`, by the cell in it.
 ///
 /// A call that only reads takes `&self`: the library makes no call back, so no two calls are made at once.
 pub(crate) struct Library {
     handle: UnsafeCell<RawHandle>,
 }
 
+// SAFETY: the library's handle is proved to be `Send`. A handle is for one call at a time, and calls from two threads have
+// to be ordered by a lock, or by the start or the join of a thread: since `Library` isn't `Sync`, safe code makes a call
+// from another thread only after the value was moved there, or lent by a lock, which orders them.
+unsafe impl Send for Library {}
+
 // Makes a call: a symbol, its arguments between the handle and the number that it tells. Gives its status and that number.
 macro_rules! call {
     ($library:expr, $symbol:ident $(, $argument:expr)*) => {{
         let mut told = 0u64;
-        // SAFETY: the handle is one that `open` has made, it is of this thread, and no other call is open. Pointers are
+        // SAFETY: the handle is one that `open` has made, and no other call is open: `Library` isn't `Sync`. Pointers are
         // those of references that live during the call, with their lengths; a slice's is not null. Those that the call
         // writes through are of `&mut`, so that none overlaps another.
         let status = unsafe { $symbol($library.handle.get() $(, $argument)*, &mut told) };

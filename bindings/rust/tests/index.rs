@@ -2,6 +2,8 @@
 
 use rowanspan::{Delta, Error, Index, Keys, Options, Row, RowTest, Tidied, MAX_KEY_BYTES};
 use std::collections::BTreeMap;
+use std::sync::{Arc, Mutex};
+use std::thread;
 
 fn row(version: u64, columns: &[&[u8]]) -> Row {
     Row {
@@ -162,6 +164,63 @@ fn ranges_of_many() -> Result<(), Error> {
         .collect::<Result<Vec<_>, Error>>()?;
     let wanted: Vec<_> = (5..2000).map(key).chain([last.to_vec()]).collect();
     assert_eq!(keys, wanted);
+    Ok(())
+}
+
+#[test]
+fn rows_of_every_size() -> Result<(), Error> {
+    let mut index = Index::open(Options {
+        columns: 16,
+        ..Options::default()
+    })?;
+    for length in [0, 1, 63, 64] {
+        let bytes = vec![b'x'; length];
+        let sets: Vec<(u8, &[u8])> = (0..16).map(|column| (column, &bytes[..])).collect();
+        let commit = index.put(b"key", &sets)?;
+        let wanted = row(commit, &vec![&bytes[..]; 16]);
+        assert_eq!(index.get(b"key")?, Some(wanted));
+        let wanted = row(commit, &vec![&bytes[..]; 2]);
+        assert_eq!(index.get_columns(b"key", &[15, 0])?, Some(wanted));
+    }
+    Ok(())
+}
+
+#[test]
+fn another_thread() -> Result<(), Error> {
+    let mut index = Index::open(Options::default())?;
+    index.put(b"apple", &[(0, b"red")])?;
+    let moved = thread::spawn(move || -> Result<Index, Error> {
+        assert_eq!(index.get(b"apple")?, Some(row(1, &[b"red"])));
+        index.put(b"pear", &[(0, b"green")])?;
+        Ok(index)
+    });
+    let index = moved.join().expect("the thread ends")?;
+    assert_eq!(index.get(b"pear")?, Some(row(2, &[b"green"])));
+    Ok(())
+}
+
+#[test]
+fn threads_by_a_lock() -> Result<(), Error> {
+    let shared = Arc::new(Mutex::new(Index::open(Options::default())?));
+    let threads: Vec<_> = (0..4u8)
+        .map(|number| {
+            let shared = Arc::clone(&shared);
+            thread::spawn(move || -> Result<(), Error> {
+                for count in 0..250u8 {
+                    let mut index = shared.lock().expect("no thread panics");
+                    index.put(&[number, count], &[(0, &[count])])?;
+                    let found = index.get(&[number, count / 2])?.expect("it was put");
+                    assert_eq!(found.columns, [[count / 2]]);
+                }
+                Ok(())
+            })
+        })
+        .collect();
+    for thread in threads {
+        thread.join().expect("the thread ends")?;
+    }
+    let index = shared.lock().expect("no thread panics");
+    assert_eq!((index.commits()?, index.range(b"").count()), (1000, 1000));
     Ok(())
 }
 

@@ -1,4 +1,7 @@
 pub mod Held
 pub mod BoxWalk
 pub mod Written
+pub mod Placed
+pub mod Crosses
+pub mod RowRead
 pub mod CallLemmas

@@ -3,4 +3,5 @@ pub mod Asked
 pub mod Spelling
 pub mod Questions
 pub mod Told
+pub mod Placed
 pub mod Calls

@@ -19,7 +19,7 @@ use Rattle.mt_views.specs.Views.{state_at}
 use Rattle.mt_index.specs.Stands.{MachineView, Stands, ReadsView}
 use Rattle.mt_index.specs.Feed.{feed_fault}
 use Rattle.rowanspan_c.specs.declared.reading.Question.{Question}
-use Rattle.rowanspan_c.specs.declared.reading.Question.TheVariants.{Row, Rows, Page, Deltas}
+use Rattle.rowanspan_c.specs.declared.reading.Question.TheVariants.{Rows, Page, Deltas}
 use Rattle.rowanspan_c.specs.Spelling.{row_spelling, pairs_spelling, page_spelling, deltas_spelling}
 
 -- THE CAUSE OF A REFUSAL: the fault if there is one, and out of memory only if there is none
@@ -78,7 +78,6 @@ ReadsDeltas s from limit (Err refusal) = IsCausedBy (feed_fault s.log from limit
 
 -- WHAT A QUESTION IS ANSWERED
 abbrev pub IsAnswer : MachineView → Question → Result (Option (List ℕ)) Refusal → Type 0
-IsAnswer s (Row key columns) read = ReadsRow s key.now columns.now read
 IsAnswer s (Rows start limit columns) read = ReadsRows s start.now limit columns.now read
 IsAnswer s (Page view floor start limit) read = ReadsPage s view.0 floor start.now limit read
 IsAnswer s (Deltas from limit) read = ReadsDeltas s from limit read

@@ -19,7 +19,7 @@ ghost use Rattle.rowanspan_c.specs.Calls.{Opens, Changes, Reads, Meets, Counts, 
 use crate::asking::{Asked, ColumnSet, ViewTest};
 use crate::changing::{answer, change, meet};
 use crate::handle::Handle;
-use crate::reading::Question;
+use crate::reading::{Question, get};
 use crate::status::{CLOSED, DONE, HELD, NO_SUCH_TEST};
 use mt_index::machine::Machine;
 use mt_index::options::Options;
@@ -153,7 +153,13 @@ pub extern "C" fn rowanspan_raw_get(
     ensures row { Reads handle.old.held (λ index. ReadsRow index key.now columns.now) into.old into.new result told.new }
     ensures kept { handle.new.held ≡ handle.old.held }
 {
-    answer(handle, alloc, &Question::Row { key, columns }, into, told)
+    let Some(index) = handle.take(alloc) else {
+        *told = 0;
+        return CLOSED;
+    };
+    let status = get(alloc, &index, key, columns, into, told);
+    handle.fill(index);
+    status
 }
 
 /// Gets the first rows whose keys are at or after a key.

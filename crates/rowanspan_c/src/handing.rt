@@ -1,12 +1,16 @@
 //! What a call returns to its caller: a status, a number, and the bytes in its buffer.
 
 ghost use Rattle.std.specs.Prelude.{◌≡◌, ◌⊎◌};
-ghost use Rattle.rowanspan_c.specs.Told.{TellsRefusal, TellsAnswer, TellsEnd, TellsOutcome, HandsOut, TellsRead};
+ghost use Rattle.mt_types.specs.Rows.{shown};
+ghost use Rattle.rowanspan_c.specs.Spelling.{row_spelling};
+ghost use Rattle.rowanspan_c.specs.Told.{Tells, TellsRefusal, TellsAnswer, TellsEnd, TellsOutcome, HandsOut, TellsRead};
 
+use crate::placing;
 use crate::status::{ABSENT, CURRENT, DONE, NO_ROOM};
 use mt_types::event::{Answer, Outcome, Reply};
 use mt_types::items::Items;
 use mt_types::refusal::Refusal;
+use mt_types::row::Row;
 
 /// Reports a refusal.
 pub(crate) fn tell_refusal(refusal: Refusal, told: &mut u64) -> u16
@@ -109,6 +113,31 @@ fn hand_out(bytes: &[u8], into: &mut [u8], told: &mut u64) -> u16
     DONE
 }
 
+/// Reports that a key has no row.
+pub(crate) fn tell_absent(told: &mut u64) -> u16
+    ensures { Tells ABSENT 0 result told.new }
+{
+    *told = 0;
+    ABSENT
+}
+
+/// Reports a row, with the columns that are asked for: copies it into the buffer if it has room for it. A row with more
+/// bytes than can be counted is refused as out of memory.
+pub(crate) fn tell_row(row: &Row, asked: &[u8], into: &mut [u8], told: &mut u64) -> u16
+    ensures { HandsOut (row_spelling (shown asked.now row.now)) into.old into.new result told.new
+        ⊎ ((into.new ≡ into.old) × TellsRefusal Refusal.NoMemory result told.new) }
+{
+    let Some(length) = placing::row_length(row, asked) else {
+        return tell_refusal(Refusal::NoMemory, told);
+    };
+    *told = length as u64;
+    if length > into.len() {
+        return NO_ROOM;
+    }
+    let _end = placing::row(into, row, asked);
+    DONE
+}
+
 /// Reports the answer to a question.
 pub(crate) fn tell_read(
     read: Result<Option<Items<u8>>, Refusal>,
@@ -119,10 +148,7 @@ pub(crate) fn tell_read(
 {
     match read {
         Ok(Some(bytes)) => hand_out(bytes.as_slice(), into, told),
-        Ok(None) => {
-            *told = 0;
-            ABSENT
-        }
+        Ok(None) => tell_absent(told),
         Err(refusal) => tell_refusal(refusal, told),
     }
 }

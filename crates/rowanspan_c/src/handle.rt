@@ -11,7 +11,7 @@ ghost use Rattle.mt_index.specs.contracts.machine.Machine.{the_row};
 
 use mt_index::machine::Machine;
 use std::alloc::Global;
-use std::marker::Model;
+use std::marker::{Model, Send};
 
 /// An index that C keeps, or none. No call is open on it.
 #[repr(C)]
@@ -27,6 +27,16 @@ pub struct Handle {
 
 impl Model for Handle {
     ghost also_owns = { λ h. kept the_row h.alloc h.at h.held };
+}
+
+// What a handle owns is an index, and it may be moved to another thread: `may_move` proves it.
+unsafe impl Send for Handle {}
+
+fn is_send<T: Send>(_value: &T) {}
+
+// A handle may be moved to another thread. Never called: its proof is that of `Send`.
+fn may_move(handle: &Handle) {
+    is_send(handle)
 }
 
 impl Handle {

@@ -9,6 +9,7 @@ mod exports;
 mod handing;
 mod handle;
 mod limiting;
+mod placing;
 mod reading;
 mod spelling;
 pub mod status;

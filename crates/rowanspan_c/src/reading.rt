@@ -1,12 +1,15 @@
 //! Questions to an index that change nothing, answered in bytes. Limits are checked before bytes are copied.
 
-ghost use Rattle.std.specs.Prelude.{◌≡◌, MatchResult, OnOk, IfOk, None, []};
-ghost use Rattle.mt_types.specs.Limits.{key_fault};
+ghost use Rattle.std.specs.Prelude.{◌≡◌, ℕ, List, Option, Result, MatchResult, OnOk, IfOk, None, []};
+ghost use Rattle.mt_types.specs.Limits.{key_fault, request_fault};
+ghost use Rattle.mt_types.specs.declared.event.Request.TheVariants.{Get};
 ghost use Rattle.mt_types.specs.declared.event.Outcome.TheVariants.{View};
 ghost use Rattle.mt_index.specs.Alone.{IsIdle};
 ghost use Rattle.mt_index.specs.Stands.{ReadsView};
 ghost use Rattle.rowanspan_c.specs.Questions.{IsAnswer, IsCausedBy, ReadsRow, ReadsRows, ReadsPage, ReadsDeltas, page_refusal};
+ghost use Rattle.rowanspan_c.specs.Told.{TellsRead};
 
+use crate::handing::{tell_absent, tell_refusal, tell_row};
 use crate::limiting::{get_fault, range_fault};
 use crate::spelling::{bytes_of, list_bytes_of};
 use bytes::Bytes;
@@ -24,12 +27,8 @@ use std::alloc::Global;
 /// What a reader asks for. All bytes are lent.
 #[derive(Drop)]
 pub(crate) enum Question<'a> {
-    /// The row of a key, with the columns that are asked for, or with all if none is asked for.
-    Row {
-        key: &'a [u8],
-        columns: &'a [u8],
-    },
-    /// The first rows whose keys are at or after a key.
+    /// The first rows whose keys are at or after a key, with the columns that are asked for, or with all if none is
+    /// asked for.
     Rows {
         start: &'a [u8],
         limit: u16,
@@ -65,26 +64,39 @@ fn numbers_of(alloc: Global, columns: &[u8]) -> Result<ColumnNumbers, NoMemory>
     Ok(Items::from_vec(numbers))
 }
 
-fn row(
+// Reports the row of a key, copied into the buffer, with the columns that are asked for, or with all if none is asked for.
+fn tell_row_of(index: &Machine, key: &Key, columns: &[u8], into: &mut [u8], told: &mut u64) -> u16
+    requires idle { IsIdle index.now }
+    requires fits { request_fault index.now.columns (Get key.now columns.now) ≡ None }
+    ensures { (read : Result (Option (List ℕ)) Refusal) × ReadsRow index.now key.now columns.now read
+        × TellsRead read into.old into.new result told.new }
+{
+    match index.row(key) {
+        Some(row) => tell_row(row, columns, into, told),
+        None => tell_absent(told),
+    }
+}
+
+/// Copies the row of a key from the index into a buffer, with the columns that are asked for, or with all if none is
+/// asked for. Allocates for a copy of the key only.
+pub(crate) fn get(
     alloc: Global,
     index: &Machine,
     key: &[u8],
     columns: &[u8],
-) -> Result<Option<Items<u8>>, Refusal>
+    into: &mut [u8],
+    told: &mut u64,
+) -> u16
     requires { IsIdle index.now }
-    ensures { ReadsRow index.now key.now columns.now result }
+    ensures { (read : Result (Option (List ℕ)) Refusal) × ReadsRow index.now key.now columns.now read
+        × TellsRead read into.old into.new result told.new }
 {
     if let Some(refusal) = get_fault(index.columns(), key, columns) {
-        return Err(refusal);
+        return tell_refusal(refusal, told);
     }
-    let key = key_of(alloc, key)?;
-    let columns = numbers_of(alloc, columns)?;
-    match index.get(alloc, key, columns)? {
-        Some(row) => {
-            let bytes = bytes_of(alloc, &row)?;
-            Ok(Some(bytes))
-        }
-        None => Ok(None),
+    match key_of(alloc, key) {
+        Ok(key) => tell_row_of(index, &key, columns, into, told),
+        Err(refusal) => tell_refusal(refusal, told),
     }
 }
 
@@ -193,7 +205,6 @@ pub(crate) fn read(
     ensures kept { index.new ≡ index.old }
 {
     match question {
-        Question::Row { key, columns } => row(alloc, index, key, columns),
         Question::Rows {
             start,
             limit,
