@@ -1,6 +1,7 @@
 //! Many calls of four threads over a few keys, while they keep a view up and read it; then all of it is checked.
 
 use crate::audit::{OPTIONS, first_fault, log_of, receipts_of};
+use crate::keys::{KEYS, nth_key, nth_sets};
 use bytes::Bytes;
 use mt_shared::calls::{get, getrange, put, remove, tidy, view_add};
 use mt_shared::driving::Shared;
@@ -12,7 +13,6 @@ use mt_types::event::{Event, Reply};
 use mt_types::items::Items;
 use mt_types::numbers::ViewNo;
 use mt_types::refusal::Refusal;
-use mt_types::row::Sets;
 use mt_types::view::{RowTest, ViewSpec};
 use std::alloc::Global;
 use std::sync::Wait;
@@ -21,21 +21,6 @@ use std::thread;
 
 // How many rounds of five calls a thread makes.
 const ROUNDS: u64 = 4000;
-
-// How many keys there are: more than a border holds.
-const KEYS: u64 = 40;
-
-// Keys of two slices, of which the first is the same: so they stand in a layer.
-fn nth_key(alloc: Global, n: u64) -> Result<Bytes, Refusal> {
-    let mut key = [0x61; 12];
-    key[11] = (n % KEYS) as u8;
-    Ok(Bytes::copy_from_slice(alloc, &key)?)
-}
-
-fn nth_sets(alloc: Global, n: u64) -> Result<Sets, Refusal> {
-    let value = Bytes::copy_from_slice(alloc, &[(n % 256) as u8])?;
-    Ok(Items::from_vec(Vec::from_array(alloc, [(0, value)])?))
-}
 
 // All keys are put in turn, and then all removed.
 fn write<S: Shared>(

@@ -5,6 +5,12 @@
 #[cfg(test)]
 mod audit;
 #[cfg(test)]
+mod caller;
+#[cfg(test)]
 mod four_threads;
+#[cfg(test)]
+mod keys;
+#[cfg(test)]
+mod reads;
 #[cfg(test)]
 mod two_threads;
