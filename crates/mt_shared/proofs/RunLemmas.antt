@@ -202,13 +202,13 @@ module _ (s : KeptView) (p : PassView) (there : has_book p.number s.books ≡ tr
       let last = one_more g.before n made.events_then made.book_then made.made_then made.commits_then made.seen_then (Step call) run.last (ap (λ (w : _). is_other w p.number) made.own ∙ own) (λ q. omega (arith, q, a, here, many)) (λ q. omega (arith, q, e, there', many)) g.last in
       let then : KeptView = record { machine = n; events = s.events + run.steps; books = set s.books i (book_after run b); trace = Off } in
       let is_then : now_kept s i n (made.events_then + 1) (book_with run.last made.book_then) ≡ then =
-          ap (λ (v : ℕ). now_kept s i n v (book_with run.last made.book_then)) (omega (arith, a, many))
-          ∙ ap (λ (v : Book). now_kept s i n (s.events + run.steps) v) (book_is (book_with run.last made.book_then) (book_after run b) (omega (arith, be, many)) (omega (arith, bc, whole)) (ap (λ (v : ℕ). max v (seen_in run.last)) bs)) in
+      ap (λ (v : ℕ). now_kept s i n v (book_with run.last made.book_then)) (omega (arith, a, many))
+      ∙ ap (λ (v : Book). now_kept s i n (s.events + run.steps) v) (book_is (book_with run.last made.book_then) (book_after run b) (omega (arith, be, many)) (omega (arith, bc, whole)) (ap (λ (v : ℕ). max v (seen_in run.last)) bs)) in
       let is_pass : pass_with p (made.made_then + 1) (made.commits_then + commit_count run.last) (max made.seen_then (seen_in run.last)) ≡ pass_after run p =
-          pass_is _ _ _ _ _ _ (omega (arith, e, many)) (omega (arith, f, whole)) (ap (λ (v : ℕ). max v (seen_in run.last)) x) in
+      pass_is _ _ _ _ _ _ (omega (arith, e, many)) (omega (arith, f, whole)) (ap (λ (v : ℕ). max v (seen_in run.last)) x) in
       let between = pass_with p made.made_then made.commits_then made.seen_then in
       let does = subst (λ (t : KeptView). Does (now_kept s i g.before made.events_then made.book_then) between (Step call) run.last t (pass_after run p)) is_then
-          (subst (λ (q : PassView). Does (now_kept s i g.before made.events_then made.book_then) between (Step call) run.last (now_kept s i n (made.events_then + 1) (book_with run.last made.book_then)) q) is_pass last) in
+      (subst (λ (q : PassView). Does (now_kept s i g.before made.events_then made.book_then) between (Step call) run.last (now_kept s i n (made.events_then + 1) (book_with run.last made.book_then)) q) is_pass last) in
       subst (λ (t : Trace). HasGone Does s p call run.last (record { machine = n; events = s.events + run.steps; books = set s.books i (book_after run b); trace = t }) (pass_after run p)) (sym none) (record {
         steps = map (step_of call) g.outcomes;
         are_steps = go_steps call g.outcomes g.go_on;
@@ -232,9 +232,9 @@ module _ (s : KeptView) (p : PassView) (there : has_book p.number s.books ≡ tr
       let own : not (eqb p.number.0 p.number.0) ≡ false = ap not (eq-eqb p.number.0 p.number.0 refl) in
       let made = one_more s.machine n s.events b p.events p.commits p.seen (Begin p.number request) run.last own (λ q. omega (arith, q, here)) (λ q. omega (arith, q, there')) makes in
       let is_then : now_kept s i n (s.events + 1) (book_with run.last b) ≡ record { machine = n; events = s.events + 1; books = set s.books i (book_after run b); trace = Off } =
-          ap (λ (v : Book). now_kept s i n (s.events + 1) v) (book_is (book_with run.last b) (book_after run b) (omega (arith, one)) (omega (arith, none_made, zero)) refl) in
+      ap (λ (v : Book). now_kept s i n (s.events + 1) v) (book_is (book_with run.last b) (book_after run b) (omega (arith, one)) (omega (arith, none_made, zero)) refl) in
       let is_pass : pass_with p (p.events + 1) (p.commits + commit_count run.last) (max p.seen (seen_in run.last)) ≡ pass_after run p =
-          pass_is _ _ _ _ _ _ (omega (arith, one)) (omega (arith, none_made, zero)) refl in
+      pass_is _ _ _ _ _ _ (omega (arith, one)) (omega (arith, none_made, zero)) refl in
       subst (λ (t : Trace). Does s p (Begin p.number request) run.last (record { machine = n; events = s.events + 1; books = set s.books i (book_after run b); trace = t }) (pass_after run p)) (sym none)
       (subst (λ (m : KeptView). Does m p (Begin p.number request) run.last (record { machine = n; events = s.events + 1; books = set s.books i (book_after run b); trace = Off }) (pass_after run p)) (same_kept b none at)
       (subst (λ (t : KeptView). Does (now_kept s i s.machine s.events b) p (Begin p.number request) run.last t (pass_after run p)) is_then
@@ -248,11 +248,11 @@ runs_own s p call run n a b q k off here there' goes_by after told pass same =
     subst (λ (m : PassNo). false ≡ is_wrong s m (Step call) → b ≡ get_or s.books (m.0 - 1) b → HasGone Does s p call run.last (record { machine = n; events = s.events + run.steps; books = set s.books (m.0 - 1) a; trace = s.trace }) q)
     (sym same)
     (λ mine at.
-        let there = has_its_book s p.number (Step call) mine in
-        let both = in_books s p.number (Step call) mine in
-        subst (λ (c : Book). HasGone Does s p call run.last (record { machine = n; events = s.events + run.steps; books = set s.books (p.number.0 - 1) c; trace = s.trace }) q) (sym after)
-        (subst (λ (r : PassView). HasGone Does s p call run.last (record { machine = n; events = s.events + run.steps; books = set s.books (p.number.0 - 1) (book_after run b); trace = s.trace }) r) (sym told)
-        (goes s p there both.0 off.1 call run n b k off.0 both.1 at here there' goes_by)))
+    let there = has_its_book s p.number (Step call) mine in
+    let both = in_books s p.number (Step call) mine in
+    subst (λ (c : Book). HasGone Does s p call run.last (record { machine = n; events = s.events + run.steps; books = set s.books (p.number.0 - 1) c; trace = s.trace }) q) (sym after)
+    (subst (λ (r : PassView). HasGone Does s p call run.last (record { machine = n; events = s.events + run.steps; books = set s.books (p.number.0 - 1) (book_after run b); trace = s.trace }) r) (sym told)
+    (goes s p there both.0 off.1 call run n b k off.0 both.1 at here there' goes_by)))
 
 -- a begin of what the lock keeps, as the code makes it
 pub opens_own : (s : KeptView) (p : PassView) (request : Request) (run : Run) (n : MachineView) (a b : Book) (q : PassView) → (s.trace ≡ Off) × (p.trace ≡ Off) → s.events + 1 < 2 ^ 64 → p.events + 1 < 2 ^ 64 → run.steps ≡ 1 → run.commits ≡ 0 → commit_count run.last ≡ 0 → a ≡ book_after run b → q ≡ pass_after run p
@@ -262,9 +262,9 @@ opens_own s p request run n a b q off here there' one none_made zero after told 
     subst (λ (m : PassNo). has_book m s.books ≡ true → m.0 - 1 < length s.books → b ≡ get_or s.books (m.0 - 1) b → Makes s.machine (Begin m request) run.last n → Does s p (Begin p.number request) run.last (record { machine = n; events = s.events + 1; books = set s.books (m.0 - 1) a; trace = s.trace }) q)
     (sym same)
     (λ there within at makes.
-        subst (λ (c : Book). Does s p (Begin p.number request) run.last (record { machine = n; events = s.events + 1; books = set s.books (p.number.0 - 1) c; trace = s.trace }) q) (sym after)
-        (subst (λ (r : PassView). Does s p (Begin p.number request) run.last (record { machine = n; events = s.events + 1; books = set s.books (p.number.0 - 1) (book_after run b); trace = s.trace }) r) (sym told)
-        (opens s p there within off.1 request run n b off.0 at here there' one none_made zero makes)))
+    subst (λ (c : Book). Does s p (Begin p.number request) run.last (record { machine = n; events = s.events + 1; books = set s.books (p.number.0 - 1) c; trace = s.trace }) q) (sym after)
+    (subst (λ (r : PassView). Does s p (Begin p.number request) run.last (record { machine = n; events = s.events + 1; books = set s.books (p.number.0 - 1) (book_after run b); trace = s.trace }) r) (sym told)
+    (opens s p there within off.1 request run n b off.0 at here there' one none_made zero makes)))
 
 pub gone_keep : (s : KeptView) (p : PassView) (call : CallNo) (o : Outcome) (t : KeptView) (q : PassView) → IsKept s → HasGone Does s p call o t q → IsKept t
 gone_keep s p call o t q k g = does_keep g.then g.between (Step call) o t q (runs_keep s p g.steps g.then g.between k g.runs) g.made

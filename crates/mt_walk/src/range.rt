@@ -19,6 +19,7 @@ use std::alloc::Global;
 
 // For how many keys a range makes room at its begin, at most, and how many bytes for each.
 const ROOM_KEYS: u16 = 128;
+
 const ROOM_BYTES: usize = 16;
 
 // Returns a key of these bytes, which shares the block of the buffer. Allocates only if the block has no room.
