@@ -1,5 +1,5 @@
 -- How many of the open calls change the tree, as calls begin, go on and end.
-use Rattle.std.proofs.Common.{ℕ, ◌≡◌, ◌≤◌, ◌+◌, ◌++◌, Bool, true, false, [], ◌∷◌, length, Some, refl, sym, ap, subst, ◌∙◌, cond, arith}
+use Rattle.std.proofs.Common.{ℕ, ◌≡◌, ◌≤◌, ◌+◌, ◌++◌, Bool, true, false, [], ◌∷◌, length, Some, ap, cond, arith}
 use Rattle.mt_types.specs.declared.event.Request.{Request}
 use Rattle.mt_promise.specs.Legal.{reads_log}
 use Rattle.mt_arena.specs.Arena.{ArenaView}

@@ -1,11 +1,10 @@
 -- A machine on which no call is open that changes the tree: what is read of it directly.
-use Rattle.std.proofs.Common.{ℕ, ◌≡◌, ◌+◌, Bool, true, false, List, [], ◌∷◌, Option, Some, None, refl, sym, ap, subst, ◌∙◌, inl, inr, cond, arith}
+use Rattle.std.proofs.Common.{ℕ, ◌≡◌, Bool, true, false, List, [], ◌∷◌, Option, Some, None, refl, sym, ap, subst, inl, inr, cond, arith}
 use Rattle.std.specs.FinMap.{get}
 use Rattle.mt_types.specs.declared.row.Row.{Row}
 use Rattle.mt_slice.specs.Place.{AreBytes}
 use Rattle.mt_chart.specs.Tree.{Among}
 use Rattle.mt_chart.proofs.Entries.{among_cases}
-use Rattle.mt_steps.specs.World.{IsTaken}
 use Rattle.mt_promise.specs.History.{History, moment, rows}
 use Rattle.mt_promise.specs.Legal.{reads_log}
 use Rattle.mt_steps.specs.Lone.{IsLoneTree}
@@ -17,7 +16,7 @@ use Rattle.mt_works.specs.declared.work.Work.{Work}
 use Rattle.mt_works.specs.declared.work.Work.TheVariants.{Get, Write, Range, Tidy, Build}
 use Rattle.mt_works.specs.Works.{request_of, held}
 use Rattle.mt_index.specs.declared.calls.Call.{Call}
-use Rattle.mt_index.specs.Calls.{changes, changing}
+use Rattle.mt_index.specs.Calls.{changing}
 use Rattle.mt_index.specs.Stands.{MachineView, Stands}
 use Rattle.mt_index.specs.Alone.{IsIdle, IsQuiet}
 use Rattle.mt_index.proofs.NumberLemmas.{Entries}

@@ -1,5 +1,5 @@
 -- Steps of a run that are counted together are counted one by one; and a run on what a lock keeps is one somewhere.
-use Rattle.std.proofs.Common.{arith, sym, ap, subst, ◌≡◌, ◌+◌, ◌-◌, ◌*◌, ◌^◌, ◌≤◌, ◌<◌, ◌∙◌, ◌∷◌, ◌++◌, [], List, ℕ, refl, length, get_or, set, map, Bool, true, false, ◌||◌, ◌&&◌, not, eqb, leb}
+use Rattle.std.proofs.Common.{arith, sym, ap, subst, ◌≡◌, ◌+◌, ◌-◌, ◌^◌, ◌≤◌, ◌<◌, ◌∙◌, ◌∷◌, [], List, ℕ, refl, length, get_or, set, map, Bool, true, false, ◌||◌, ◌&&◌, not, eqb, leb}
 use Rattle.std.specs.Prelude.{All, MatchBool, max, sum_by}
 use Rattle.std.proofs.lemmas.Bool.{eq-eqb}
 use Rattle.std.proofs.lemmas.List.{get_or-set_same, set-get_or, set-set, length-set}

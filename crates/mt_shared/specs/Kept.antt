@@ -12,7 +12,7 @@ use Rattle.mt_types.specs.declared.event.Event.{Event}
 use Rattle.mt_types.specs.declared.event.Event.TheVariants.{Begin, Step}
 use Rattle.mt_types.specs.declared.event.Outcome.{Outcome}
 use Rattle.mt_types.specs.declared.event.Outcome.TheVariants.{Refused}
-use Rattle.mt_promise.specs.History.{History, happening}
+use Rattle.mt_promise.specs.History.{History}
 use Rattle.mt_commit.specs.Log.{newest}
 use Rattle.mt_index.specs.declared.options.Options.{Options}
 use Rattle.mt_index.specs.Calls.{pass_at}

@@ -1,6 +1,6 @@
 use Rattle.std.proofs.Common.{◌∙◌, sym, refl, inl}
 use Rattle.mt_types.specs.declared.event.Outcome.TheVariants.{Refused}
-use Rattle.mt_index.proofs.MakesLemmas.{makes_begin, begin_limited}
+use Rattle.mt_index.proofs.MakesLemmas.{makes_begin}
 use Rattle.mt_index.proofs.machine.Machine.begin_call.Goals as goal
 
 pub returns-in-Some-clause-makes : goal.returns-in-Some-clause-makes

@@ -1,11 +1,10 @@
 use Rattle.std.proofs.Common.{◌∙◌, ◌∷◌, ◌++◌, [], inl, inr, subst, sym, refl}
 use Rattle.mt_types.specs.declared.event.Outcome.{Outcome}
-use Rattle.mt_types.specs.declared.event.Outcome.TheVariants.{Call as Called, Done, Refused}
+use Rattle.mt_types.specs.declared.event.Outcome.TheVariants.{Done, Refused}
 use Rattle.mt_types.specs.declared.refusal.Refusal.TheVariants.{NoMemory}
 use Rattle.mt_index.specs.Alone.{RefusesPlainly}
 use Rattle.mt_index.specs.Stands.{MachineView, Steps}
 use Rattle.mt_works.proofs.LoneWork.{lone_laws}
-use Rattle.mt_index.specs.Alone.{pass_0}
 use Rattle.mt_index.proofs.EventLemmas.{steps-more, step-happens, ends_alone, turned_away}
 use Rattle.mt_index.proofs.AloneStands.{runs_from_begin, came, answers_plainly, refuses_plainly, begin_refuses_plainly, never_else, went_on}
 use Rattle.mt_index.proofs.machine.Machine.do_alone.Goals as goal

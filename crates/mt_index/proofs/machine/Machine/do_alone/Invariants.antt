@@ -1,5 +1,4 @@
 use Rattle.std.proofs.Common.{List}
-use Rattle.mt_types.specs.declared.event.Event.TheVariants.{Begin}
 use Rattle.mt_types.specs.declared.event.Outcome.{Outcome}
 use Rattle.mt_types.specs.declared.event.Outcome.TheVariants.{Call as Called}
 use Rattle.mt_index.specs.Stands.{MachineView, HasBounds}

@@ -1,4 +1,4 @@
-use Rattle.std.proofs.Common.{arith, refl, subst, ◌≡◌, ◌∙◌, ◌<◌, ◌-◌, ◌+◌, ◌^◌, set}
+use Rattle.std.proofs.Common.{arith, refl, subst, ◌-◌, ◌+◌, set}
 use Rattle.mt_types.specs.declared.event.Event.TheVariants.{Step}
 use Rattle.mt_index.proofs.MakesLemmas.{run_commits}
 use Rattle.mt_shared.specs.Drives.{HasGone}

@@ -1,4 +1,4 @@
-use Rattle.std.proofs.Common.{arith, refl, sym, subst, ◌≡◌, ◌∙◌, ◌<◌, ◌-◌, ◌+◌, ◌^◌, set}
+use Rattle.std.proofs.Common.{arith, refl, sym, subst, ◌-◌, ◌+◌, set}
 use Rattle.mt_types.specs.declared.event.Event.TheVariants.{Begin}
 use Rattle.mt_index.specs.declared.running.Run.{Run}
 use Rattle.mt_types.specs.declared.numbers.PassNo.{PassNo}
