@@ -1,14 +1,15 @@
 //! An example: two threads share one index. Each puts ten keys of its own and gets them back; then one of their passes
-//! ranges over all keys. The steps of the threads' calls come in between each other, differently in each run; what is
-//! printed is the same.
+//! ranges over all keys. The calls of the threads come in between each other, differently in each run; what is printed
+//! is the same.
 #![tactic(auto)]
 
 use anyhow::{Context, Result, bail};
 use bytes::Bytes;
 use mt_index::options::Options;
 use mt_shared::calls::{get, getrange, put};
-use mt_shared::index::{Door, Index};
+use mt_shared::index::Index;
 use mt_shared::pass::Pass;
+use mt_shared::through::ThroughDoor;
 use mt_types::event::Answer;
 use mt_types::items::Items;
 use mt_types::refusal::Refusal;
@@ -17,15 +18,11 @@ use std::sync::Wait;
 use std::thread;
 use std::thread::Threads;
 
-// Rows of one column, and a log of commits with room for 4096.
-const OPTIONS: Options = Options {
-    columns: 1,
-    feed: 4096,
-    keep: 0,
-};
-
 // How many keys each thread puts.
 const KEYS: u64 = 10;
+
+// How many events of a call are made at most while the index's lock is held once.
+const MOST_EVENTS: u32 = 64;
 
 // The nth key of a pass, as `2/7`.
 fn nth_key(alloc: Global, pass: &Pass, n: u64) -> Result<Bytes, Refusal> {
@@ -34,7 +31,11 @@ fn nth_key(alloc: Global, pass: &Pass, n: u64) -> Result<Bytes, Refusal> {
 }
 
 // Puts the keys of a pass, each with its own bytes in column 0 of its row.
-fn put_all<R: Wait>(alloc: Global, door: &mut Door<'_, R>, pass: &mut Pass) -> Result<(), Refusal> {
+fn put_all<R: Wait>(
+    alloc: Global,
+    door: &mut ThroughDoor<'_, R>,
+    pass: &mut Pass,
+) -> Result<(), Refusal> {
     for n in 0..KEYS {
         let sets = Vec::from_array(alloc, [(0, nth_key(alloc, pass, n)?)])?;
         let key = nth_key(alloc, pass, n)?;
@@ -46,7 +47,7 @@ fn put_all<R: Wait>(alloc: Global, door: &mut Door<'_, R>, pass: &mut Pass) -> R
 // Gets the keys of a pass: the versions of the rows that are there.
 fn get_all<R: Wait>(
     alloc: Global,
-    door: &mut Door<'_, R>,
+    door: &mut ThroughDoor<'_, R>,
     pass: &mut Pass,
 ) -> Result<Vec<u64>, Refusal> {
     let mut versions = Vec::new(alloc);
@@ -68,7 +69,7 @@ fn work<R: Wait>(
     index: &Index,
     mut pass: Pass,
 ) -> Result<(Pass, Vec<u64>), Refusal> {
-    let mut door = Door::new(index, rt);
+    let mut door = ThroughDoor::new(index, rt, MOST_EVENTS);
     put_all(alloc, &mut door, &mut pass)?;
     let versions = get_all(alloc, &mut door, &mut pass)?;
     Ok((pass, versions))
@@ -76,7 +77,7 @@ fn work<R: Wait>(
 
 fn run<R: Threads + Wait + Sync + Print + AllocGlobal>(rt: &R) -> Result<()> {
     let alloc = rt.alloc();
-    let (index, passes) = Index::start(alloc, OPTIONS, 2)?;
+    let (index, passes) = Index::start(alloc, Options::default(), 2)?;
     // a thread for each pass; they have ended when this returns
     let worked = thread::map_vec(rt, passes, &|pass| work(rt, alloc, &index, pass))?;
     let mut passes = Vec::new(alloc);
@@ -89,7 +90,7 @@ fn run<R: Threads + Wait + Sync + Print + AllocGlobal>(rt: &R) -> Result<()> {
         )?;
         passes.push(pass)?;
     }
-    let mut door = Door::new(&index, rt);
+    let mut door = ThroughDoor::new(&index, rt, MOST_EVENTS);
     let one = passes.first_mut().context("there is no pass")?;
     // 100 rows at most, from the first key on
     let reply = getrange(alloc, &mut door, one, Bytes::new(), 100, Items::new(alloc))?;
