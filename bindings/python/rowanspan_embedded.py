@@ -8,7 +8,7 @@
 
 The names are those of the server's client (`clients/python/rowanspan.py`): a program goes from one to the other by the
 line that imports them, and by what it gives `Index`. There are no pipelines and no queries as values here; what only an
-index of one's own has is `feed`, `commits`, `nodes`, `apply`, `advance` and `collect`.
+index of one's own has is `feed`, `commits`, `nodes`, `apply`, `keep_views`, `advance` and `collect`.
 
 The library is looked for where `Index` is told, then in the environment's ROWANSPAN_LIBRARY, beside this file, and in
 ../../dist. An `Index` is for the thread that made it: a call from another one raises `WrongThread`.
@@ -394,8 +394,11 @@ class Index:
     """An index in this process.
 
     It has `columns` columns (1 to 16). Its log holds up to `feed` commits (1 to 65536) for the view that is furthest
-    behind, and keeps the last `keep` for `feed`. Views are taken on after each change, unless `keep_views` is False:
-    then `apply` takes them on.
+    behind, and keeps the last `keep` for `feed`. Each change and each build brings the views to the newest commit, unless
+    `keep_views` is False: then `apply` and the method `keep_views` do.
+
+    A change that was made returns its number, also if memory ended before all views were at the newest commit. The views
+    then lag, and the next change or build, or `keep_views`, brings them up to date.
     """
 
     def __init__(self, columns: int = 1, feed: int = 65536, keep: int = 0, *, keep_views: bool = True,
@@ -405,7 +408,8 @@ class Index:
         self._handle = _Handle()
         self._told = _U64()
         self._room = ctypes.create_string_buffer(4096)
-        self._keep_views = keep_views
+        self._keeps_views = keep_views
+        self._views_lag = False
         self._raise_for(self._library.rowanspan_open(self._handle, _number(columns), _number(feed), _number(keep)))
 
     def __enter__(self) -> Index:
@@ -468,9 +472,31 @@ class Index:
             raise NoLibrary("an answer is missing")
         return reader
 
-    def _changed(self, number: int) -> int:
-        while self._keep_views and self._ask("apply", 0) == _DONE:
-            pass
+    def _change(self, name: str, *arguments: Any) -> Optional[int]:
+        """Makes a change, and brings the views up to date after it; gives the number that the change tells, or None
+        where a key has no row. What stops the views isn't raised: the change was made."""
+        if self._views_lag:
+            # before the change too: the log may be full of what they still need
+            self._try_to_keep_views()
+        status = self._ask(name, *arguments)
+        if status == _ABSENT:
+            return None
+        number = self._told.value
+        if self._keeps_views:
+            self._try_to_keep_views()
+        return number
+
+    def _try_to_keep_views(self) -> None:
+        try:
+            self.keep_views()
+        except (Refused, MemoryError):
+            self._views_lag = True
+
+    def _made(self, name: str, *arguments: Any) -> int:
+        """Makes a change that tells a number, as `_change` does."""
+        number = self._change(name, *arguments)
+        if number is None:
+            raise NoLibrary("an answer is missing")
         return number
 
     # -- rows
@@ -484,18 +510,16 @@ class Index:
     def put(self, key: bytes, sets: Sets) -> int:
         """Sets columns of a key's row, by their numbers; plain bytes are column 0. The others stay as they were; those
         of a new row are empty. Gives the number of the commit."""
-        return self._changed(self._tell("raw_put", bytes(key), len(key), *_sets(sets)))
+        return self._made("raw_put", bytes(key), len(key), *_sets(sets))
 
     def put_if(self, key: bytes, sets: Sets, version: int) -> int:
         """A put that is done only where the key's row is of this version, or where `version` is 0 and the key has no
         row. Gives the number of the commit. Raises `OtherVersion` where the row is of another one."""
-        return self._changed(self._tell("raw_put_if", bytes(key), len(key), *_sets(sets), _number(version)))
+        return self._made("raw_put_if", bytes(key), len(key), *_sets(sets), _number(version))
 
     def remove(self, key: bytes) -> Optional[int]:
         """Removes a key's row. Gives the number of the commit, or None where there was no row."""
-        if self._ask("raw_remove", bytes(key), len(key)) == _ABSENT:
-            return None
-        return self._changed(self._told.value)
+        return self._change("raw_remove", bytes(key), len(key))
 
     def range(self, start: bytes = b"", limit: int = MAX_LIMIT, columns: Optional[Sequence[int]] = None) -> Pairs:
         """The first rows from a key on, in the order of their keys, 1 to 1000 of them at most."""
@@ -522,12 +546,12 @@ class Index:
         """Builds a view. Gives its number. The cost is that of reading its range."""
         test = _test(spec.test)
         if isinstance(spec, Prefix):
-            number = self._tell("raw_build_prefix", bytes(spec.key), len(spec.key), test)
+            number = self._made("raw_build_prefix", bytes(spec.key), len(spec.key), test)
         elif spec.hi is None:
-            number = self._tell("raw_build_from", bytes(spec.lo), len(spec.lo), test)
+            number = self._made("raw_build_from", bytes(spec.lo), len(spec.lo), test)
         else:
-            number = self._tell("raw_build_between", bytes(spec.lo), len(spec.lo), bytes(spec.hi), len(spec.hi), test)
-        return ViewNo(self._changed(number))
+            number = self._made("raw_build_between", bytes(spec.lo), len(spec.lo), bytes(spec.hi), len(spec.hi), test)
+        return ViewNo(number)
 
     def view(self, number: int, floor: int = 0, start: bytes = b"", limit: int = MAX_LIMIT) -> Page:
         """A page of a view: its count and sums, and its first rows from a key on, 1 to 1000 at most. Raises `Behind`
@@ -545,6 +569,13 @@ class Index:
         if self._ask("apply", _number(number)) == _CURRENT:
             return None
         return self._told.value
+
+    def keep_views(self) -> None:
+        """Brings all views to the newest commit. Raises what stops it, such as `NoMemory`; the commits that were applied
+        by then stay applied."""
+        while self._ask("apply", 0) == _DONE:
+            pass
+        self._views_lag = False
 
     # -- commits and nodes
 

@@ -10,7 +10,7 @@ import threading
 import traceback
 from bisect import bisect_left
 from pathlib import Path
-from typing import Callable, Dict, List, Optional, Tuple
+from typing import Any, Callable, Dict, List, Optional, Tuple
 
 sys.path.insert(0, str(Path(__file__).resolve().parent))
 sys.path.insert(1, str(Path(__file__).resolve().parent.parent.parent / "clients" / "python"))
@@ -18,9 +18,9 @@ sys.path.insert(1, str(Path(__file__).resolve().parent.parent.parent / "clients"
 import rowanspan  # noqa: E402
 import rowanspan_embedded as embedded  # noqa: E402
 from rowanspan_embedded import (MAX_KEY_BYTES, AtLeast, BadColumn, BadLimit, BadRange, Behind, Closed,  # noqa: E402
-                                ColumnTooLong, Delta, Equals, FeedFull, Index, KeyTooLong, NoLibrary, NoSuchView,
-                                OtherVersion, Page, Prefix, Range, Row, Tidied, TooLong, TooManyViews, WrongThread,
-                                key_after)
+                                ColumnTooLong, Delta, Equals, FeedFull, Index, KeyTooLong, NoLibrary, NoMemory,
+                                NoSuchView, OtherVersion, Page, Prefix, Range, Row, Tidied, TooLong, TooManyViews,
+                                WrongThread, key_after)
 
 
 def raises(kind: type, call: Callable[[], object]) -> BaseException:
@@ -119,6 +119,87 @@ def views_by_hand() -> None:
         assert index.view(view).count == 0
         assert [index.apply(), index.apply(view), index.apply(), index.apply(view)] == [1, 2, None, None]
         assert index.view(view).count == 2 and index.put(b"c", b"") == 3
+
+
+class RefusingLibrary:
+    """A library whose calls by these names are refused for want of memory while there are `refusals` left; all other
+    calls are made."""
+
+    def __init__(self, library: Any, *names: str) -> None:
+        self.refusals = 0
+        self._library = library
+        self._names = names
+
+    def __getattr__(self, name: str) -> Callable[..., int]:
+        symbol: Callable[..., int] = getattr(self._library, name)
+
+        def call(*arguments: Any) -> int:
+            if self.refusals == 0 or name not in self._names:
+                return symbol(*arguments)
+            self.refusals -= 1
+            return NoMemory.number
+
+        return call
+
+
+def refusing(index: Index) -> RefusingLibrary:
+    """Puts a library that may refuse to apply in the place of the index's own."""
+    library = RefusingLibrary(index._library, "rowanspan_apply")
+    index._library = library
+    return library
+
+
+def changes_that_no_view_follows() -> None:
+    """A change or build that was made returns its number, though the views can't be advanced after it."""
+    with Index() as index:
+        library = refusing(index)
+        view = index.build(Prefix(b"a"))
+        library.refusals = 1000
+        assert index.put(b"a", b"\5") == 1 and index.put_if(b"ab", b"\6", 0) == 2
+        assert index.get(b"a") == Row(1, (b"\5",)) and index.view(view) == Page(0, 0, (0,), [])
+        other = index.build(Prefix(b"ab"))
+        assert other == 2 and index.view(other).count == 1
+        assert index.remove(b"a") == 3 and index.remove(b"a") is None
+        fault = raises(Behind, lambda: index.view(view, floor=3))
+        assert isinstance(fault, Behind) and fault.detail == 0
+        raises(NoMemory, index.keep_views)
+        library.refusals = 0
+        index.keep_views()
+        assert index.view(view, 3) == index.view(other, 3) == Page(3, 1, (6,), [(b"ab", Row(2, (b"\6",)))])
+        library.refusals = 1
+        assert index.put(b"a", b"\7") == 4 and index.view(view).at == 3
+        assert index.put(b"b", b"") == 5 and index.view(view, 5).sums == (13,)
+
+
+def changes_after_the_log_was_full() -> None:
+    """A later change brings views that lag up to date, also if they hold the whole log; one that is refused too."""
+    with Index(feed=2) as index:
+        library = refusing(index)
+        view = index.build(Prefix(b""))
+        library.refusals = 1000
+        assert index.put(b"a", b"") == 1 and index.put(b"b", b"") == 2
+        raises(FeedFull, lambda: index.put(b"c", b""))
+        library.refusals = 0
+        assert index.put(b"c", b"") == 3 and index.view(view, 3).count == 3
+        library.refusals = 1
+        assert index.put(b"d", b"") == 4 and index.view(view).at == 3
+        raises(ColumnTooLong, lambda: index.put(b"e", bytes(65)))
+        assert index.view(view, 4).count == 4
+
+
+def views_kept_by_hand() -> None:
+    with Index(keep_views=False) as index:
+        library = refusing(index)
+        view = index.build(Prefix(b""))
+        for number in range(5):
+            index.put(b"%d" % number, b"")
+        assert index.view(view).at == 0
+        library.refusals = 1
+        raises(NoMemory, index.keep_views)
+        index.keep_views()
+        assert index.view(view, 5).count == 5
+        index.put(b"5", b"")
+        assert index.view(view).at == 5
 
 
 def feeds() -> None:
@@ -258,8 +339,9 @@ def memory_is_flat() -> None:
     assert int(grown) < 4096, f"{grown.strip()} KiB more after a thousand times"
 
 
-CASES = (rows, columns, conditional_puts, views, views_by_hand, feeds, scans_and_large_answers, epochs, closed, other_threads,
-         names_of_the_client, random_calls, memory_is_flat)
+CASES = (rows, columns, conditional_puts, views, views_by_hand, changes_that_no_view_follows,
+         changes_after_the_log_was_full, views_kept_by_hand, feeds, scans_and_large_answers, epochs, closed,
+         other_threads, names_of_the_client, random_calls, memory_is_flat)
 
 
 def main() -> int:
