@@ -9,13 +9,15 @@
 
 Keys and columns are bytes; keys are in the order of their bytes, and a key is before those that it begins.
 Each change of a row is a commit: commits are numbered from 1 on, over all clients. What the server refuses is raised as
-a `Refused`; a connection that broke as a `ConnectionLost`; bytes that are no reply as a `BadReply`.
+a `Refused`; a connection that broke as a `ConnectionLost`; bytes that are no reply as a `BadReply`; an argument of a
+wrong type as a `TypeError`, before anything is sent.
 
 An `Index` is one connection, for one thread at a time: give each thread its own.
 """
 from __future__ import annotations
 
 import enum
+import operator
 import socket
 import struct
 from dataclasses import dataclass
@@ -39,7 +41,12 @@ class RowanspanError(Exception):
 
 
 class TooLong(RowanspanError, ValueError):
-    """Something doesn't fit its field of the wire, or a frame. Nothing was sent, and the connection is as it was."""
+    """A key, a column or a number is out of its bounds, or a frame is. Nothing was done, and the connection is as it
+    was."""
+
+
+class Closed(RowanspanError):
+    """The index was closed by its method `close`, or at the end of its `with` block. Nothing was sent."""
 
 
 class ConnectionLost(RowanspanError):
@@ -75,19 +82,19 @@ class NoMemory(Refused):
     number, cause = 1, "the server is out of memory"
 
 
-class KeyTooLong(Refused):
+class KeyTooLong(Refused, TooLong):
     number, cause = 2, f"a key has more than {MAX_KEY_BYTES:,} bytes"
 
 
-class BadColumn(Refused):
+class BadColumn(Refused, TooLong):
     number, cause = 3, "a column is not there, or is named twice"
 
 
-class ColumnTooLong(Refused):
+class ColumnTooLong(Refused, TooLong):
     number, cause = 4, "a column has more than 64 bytes"
 
 
-class BadLimit(Refused):
+class BadLimit(Refused, TooLong):
     number, cause = 5, "a limit is not from 1 to 1000"
 
 
@@ -172,28 +179,79 @@ class Tidied(enum.IntEnum):
     EMPTY_LAYER = 4
 
 
+# ---- arguments
+
+def checked_bytes(value: Any, what: str) -> bytes:
+    """Bytes, copied where they could change. Raises TypeError for another type."""
+    if not isinstance(value, (bytes, bytearray, memoryview)):
+        raise TypeError(f"{what} must be bytes, not {type(value).__name__}")
+    return bytes(value)
+
+
+def checked_number(value: Any, what: str) -> int:
+    """A number. Raises TypeError for another type."""
+    try:
+        return operator.index(value)
+    except TypeError:
+        raise TypeError(f"{what} must be an int, not {type(value).__name__}") from None
+
+
+def checked_columns(columns: Any) -> List[int]:
+    """Numbers of columns. Raises TypeError for what isn't a sequence of ints, and `BadColumn` for one above a byte."""
+    try:
+        listed = list(columns)
+    except TypeError:
+        raise TypeError(f"columns must be a sequence of ints, not {type(columns).__name__}") from None
+    return [checked_column(column) for column in listed]
+
+
+def checked_column(column: Any) -> int:
+    """The number of a column. Raises TypeError for another type, and `BadColumn` for one above a byte."""
+    number = checked_number(column, "the number of a column")
+    if not 0 <= number <= 255:
+        raise BadColumn()
+    return number
+
+
 # ---- fields
 
-def spelled_number(number: int, width: int) -> bytes:
+def spelled_number(number: int, width: int, what: str = "a number") -> bytes:
     """A number in so many bytes, the highest first."""
-    if not 0 <= number < 256 ** width:
-        raise TooLong(f"{number} is not a number of {width} bytes")
-    return number.to_bytes(width, "big")
+    checked = checked_number(number, what)
+    if not 0 <= checked < 256 ** width:
+        raise TooLong(f"{what} must be from 0 to {256 ** width - 1}, not {checked}")
+    return checked.to_bytes(width, "big")
 
 
 def spelled_key(key: bytes) -> bytes:
-    """A key: two bytes of length, then the key."""
-    return spelled_number(len(key), 2) + key
+    """A key: two bytes of length, then the key. Raises `KeyTooLong` where two bytes don't tell its length."""
+    checked = checked_bytes(key, "a key")
+    if len(checked) >= 256 ** 2:
+        raise KeyTooLong()
+    return spelled_number(len(checked), 2) + checked
 
 
 def spelled_bytes(value: bytes) -> bytes:
-    """The bytes of a column: one byte of length, then the bytes."""
-    return spelled_number(len(value), 1) + value
+    """The bytes of a column: one byte of length, then the bytes. Raises `ColumnTooLong` where one byte doesn't tell how
+    many they are."""
+    checked = checked_bytes(value, "a column")
+    if len(checked) >= 256:
+        raise ColumnTooLong()
+    return spelled_number(len(checked), 1) + checked
 
 
 def spelled_columns(columns: Sequence[int]) -> bytes:
     """Numbers of columns: one byte that counts them, then one byte each."""
-    return spelled_number(len(columns), 1) + b"".join(spelled_number(column, 1) for column in columns)
+    checked = checked_columns(columns)
+    return spelled_number(len(checked), 1, "the count of columns") + bytes(checked)
+
+
+def spelled_limit(limit: int) -> bytes:
+    """A limit, in two bytes. Raises `BadLimit` where they don't tell it."""
+    checked = checked_number(limit, "a limit")
+    if not 0 <= checked < 256 ** 2:
+        raise BadLimit()
+    return spelled_number(checked, 2)
 
 
 class Reader:
@@ -271,7 +329,7 @@ class Equals:
     value: bytes
 
     def spelled(self) -> bytes:
-        return b"\1" + spelled_number(self.column, 1) + spelled_bytes(self.value)
+        return b"\1" + bytes((checked_column(self.column),)) + spelled_bytes(self.value)
 
 
 @dataclass(frozen=True)
@@ -282,10 +340,17 @@ class AtLeast:
     least: int
 
     def spelled(self) -> bytes:
-        return b"\2" + spelled_number(self.column, 1) + spelled_number(self.least, 8)
+        return b"\2" + bytes((checked_column(self.column),)) + spelled_number(self.least, 8, "the least amount")
 
 
 RowTest = Union[AnyRow, Equals, AtLeast]
+
+
+def spelled_test(test: RowTest) -> bytes:
+    """A test of rows. Raises TypeError for another type."""
+    if not isinstance(test, (AnyRow, Equals, AtLeast)):
+        raise TypeError(f"a test must be AnyRow, Equals or AtLeast, not {type(test).__name__}")
+    return test.spelled()
 
 
 @dataclass(frozen=True)
@@ -298,7 +363,7 @@ class Range:
 
     def spelled(self) -> bytes:
         end = b"\0" if self.hi is None else b"\1" + spelled_key(self.hi)
-        return b"\0" + spelled_key(self.lo) + end + self.test.spelled()
+        return b"\0" + spelled_key(self.lo) + end + spelled_test(self.test)
 
 
 @dataclass(frozen=True)
@@ -309,10 +374,17 @@ class Prefix:
     test: RowTest = AnyRow()
 
     def spelled(self) -> bytes:
-        return b"\1" + spelled_key(self.key) + self.test.spelled()
+        return b"\1" + spelled_key(self.key) + spelled_test(self.test)
 
 
 ViewSpec = Union[Range, Prefix]
+
+
+def spelled_spec(spec: ViewSpec) -> bytes:
+    """What a view is of. Raises TypeError for another type."""
+    if not isinstance(spec, (Range, Prefix)):
+        raise TypeError(f"a view must be of a Range or a Prefix, not {type(spec).__name__}")
+    return spec.spelled()
 
 
 # ---- queries
@@ -353,17 +425,28 @@ Sets = Union[bytes, Mapping[int, bytes], Sequence[Tuple[int, bytes]]]
 
 
 def set_pairs(sets: Sets) -> List[Tuple[int, bytes]]:
-    """The columns that a put sets, with their numbers: plain bytes are column 0."""
+    """The columns that a put sets, with their numbers: plain bytes are column 0. Raises TypeError for another type."""
     if isinstance(sets, (bytes, bytearray, memoryview)):
         return [(0, bytes(sets))]
-    return list(sets.items()) if isinstance(sets, Mapping) else list(sets)
+    try:
+        pairs = [(column, value) for column, value in (sets.items() if isinstance(sets, Mapping) else sets)]
+    except (TypeError, ValueError):
+        raise unfit_sets(sets) from None
+    if isinstance(sets, str):
+        raise unfit_sets(sets)
+    return [(checked_column(column), checked_bytes(value, "a column")) for column, value in pairs]
+
+
+def unfit_sets(sets: Any) -> TypeError:
+    return TypeError("what a put sets must be bytes, a mapping of columns to bytes, or a sequence of such pairs, not "
+                     + type(sets).__name__)
 
 
 def spelled_sets(sets: Sets) -> bytes:
     """The columns that a put sets: one byte that counts them, then each number and its bytes."""
     pairs = set_pairs(sets)
-    columns = b"".join(spelled_number(column, 1) + spelled_bytes(value) for column, value in pairs)
-    return spelled_number(len(pairs), 1) + columns
+    columns = b"".join(bytes((column,)) + spelled_bytes(value) for column, value in pairs)
+    return spelled_number(len(pairs), 1, "the count of columns") + columns
 
 
 @dataclass(frozen=True)
@@ -402,7 +485,7 @@ class PutIf(Query[int]):
     version: int
 
     def spelled(self) -> bytes:
-        return b"\x09" + spelled_key(self.key) + spelled_number(self.version, 8) + spelled_sets(self.sets)
+        return b"\x09" + spelled_key(self.key) + spelled_number(self.version, 8, "a version") + spelled_sets(self.sets)
 
 
 @dataclass(frozen=True)
@@ -426,7 +509,7 @@ class GetRange(Query[Pairs]):
     columns: Sequence[int] = ()
 
     def spelled(self) -> bytes:
-        return b"\4" + spelled_key(self.start) + spelled_number(self.limit, 2) + spelled_columns(self.columns)
+        return b"\4" + spelled_key(self.start) + spelled_limit(self.limit) + spelled_columns(self.columns)
 
 
 @dataclass(frozen=True)
@@ -448,7 +531,7 @@ class Build(Query[ViewNo]):
     spec: ViewSpec
 
     def spelled(self) -> bytes:
-        return b"\6" + self.spec.spelled()
+        return b"\6" + spelled_spec(self.spec)
 
 
 @dataclass(frozen=True)
@@ -462,8 +545,8 @@ class ViewRead(Query[Page]):
     limit: int = MAX_LIMIT
 
     def spelled(self) -> bytes:
-        return (b"\7" + spelled_number(self.view, 8) + spelled_number(self.floor, 8) + spelled_key(self.start)
-                + spelled_number(self.limit, 2))
+        return (b"\7" + spelled_number(self.view, 8, "the number of a view") + spelled_number(self.floor, 8, "a floor")
+                + spelled_key(self.start) + spelled_limit(self.limit))
 
 
 @dataclass(frozen=True)
@@ -474,7 +557,14 @@ class ViewDrop(Query[None]):
     view: int
 
     def spelled(self) -> bytes:
-        return b"\x08" + spelled_number(self.view, 8)
+        return b"\x08" + spelled_number(self.view, 8, "the number of a view")
+
+
+def spelled_query(query: Query[Any]) -> bytes:
+    """A query. Raises TypeError for another type."""
+    if not isinstance(query, Query):
+        raise TypeError(f"a query must be a Get, a Put or another Query, not {type(query).__name__}")
+    return query.spelled()
 
 
 # ---- frames
@@ -577,6 +667,15 @@ def key_after(key: bytes) -> Optional[bytes]:
 
 # ---- the connection
 
+def check_address(port: Any, host: Any, timeout: Any) -> None:
+    """Raises TypeError where one of them is of a wrong type."""
+    checked_number(port, "a port")
+    if not isinstance(host, str):
+        raise TypeError(f"a host must be a str, not {type(host).__name__}")
+    if timeout is not None and not isinstance(timeout, (int, float)):
+        raise TypeError(f"a timeout must be a number of seconds or None, not {type(timeout).__name__}")
+
+
 class Index:
     """A connection to a server.
 
@@ -589,6 +688,8 @@ class Index:
 
     def __init__(self, port: int, host: str = "127.0.0.1", timeout: Optional[float] = None) -> None:
         self._connection: Optional[socket.socket] = None
+        self._is_lost = False
+        check_address(port, host, timeout)
         try:
             self._connection = socket.create_connection((host, port), timeout)
             self._connection.setsockopt(socket.IPPROTO_TCP, socket.TCP_NODELAY, 1)
@@ -620,23 +721,29 @@ class Index:
     def call_all(self, queries: Sequence[Query[Any]]) -> List[Outcome]:
         """Asks 1 to 64 queries in one frame, which the server does one after another. Gives for each its reply, or the
         `Refused` that it met, not raised."""
-        return self.exchange(queries, [query.spelled() for query in queries])
+        return self.exchange(queries, [spelled_query(query) for query in queries])
 
     def exchange(self, queries: Sequence[Query[Any]], messages: Sequence[bytes]) -> List[Outcome]:
         """Sends a frame of these queries, which are spelled as these messages, and reads the answers to them."""
         connection, frame = self._connection, request_frame(messages, frame_version(queries))
         if connection is None:
-            raise ConnectionLost("the connection is closed")
+            raise (ConnectionLost("the connection was lost before; make a new index") if self._is_lost
+                   else Closed("the index is closed"))
         try:
             connection.sendall(frame)
             return read_replies(receive_body(connection), queries)
         except OSError as fault:
-            self.close()
+            self._lose()
             raise ConnectionLost(f"the connection broke: {fault}") from fault
         except BaseException:
             # a reply may still come, which would be taken for that to the next frame
-            self.close()
+            self._lose()
             raise
+
+    def _lose(self) -> None:
+        """Ends the connection after a fault."""
+        self.close()
+        self._is_lost = True
 
     def pipeline(self) -> Pipeline:
         """A list of queries that are sent together."""
@@ -646,7 +753,7 @@ class Index:
 
     def get(self, key: bytes, columns: Optional[Sequence[int]] = None) -> Optional[Row]:
         """The row of a key, or None. `columns` are the numbers of those wanted, in this order; None means all."""
-        return self.call(Get(key, columns or ())).value
+        return self.call(Get(key, () if columns is None else columns)).value
 
     def put(self, key: bytes, sets: Sets) -> int:
         """Sets columns of a key's row, by their numbers; plain bytes are column 0. The others stay as they were; those
@@ -662,6 +769,8 @@ class Index:
         """Changes a key's row by what it is: `change` is given the row (None: there is none), and gives the columns to
         set (None: none, and nothing is put). It is called anew where another client has changed the row meanwhile,
         without a bound: so let it do nothing else. Gives the number of the commit, or None where nothing was put."""
+        if not callable(change):
+            raise TypeError(f"what changes a row must be callable, not {type(change).__name__}")
         while True:
             row = self.get(key)
             sets = change(row)
@@ -679,7 +788,7 @@ class Index:
     def range(self, start: bytes = b"", limit: int = MAX_LIMIT, columns: Optional[Sequence[int]] = None) -> Pairs:
         """The first rows from a key on, in the order of their keys, 1 to 1000 of them at most. Each key that was there
         during all of the call is there, each row was true at some moment of it."""
-        return self.call(GetRange(start, limit, columns or ())).value
+        return self.call(GetRange(start, limit, () if columns is None else columns)).value
 
     def scan(self, start: bytes = b"", columns: Optional[Sequence[int]] = None) -> Iterator[Tuple[bytes, Row]]:
         """All rows from a key on, in the order of their keys, by ranges of 1000, each one call. What others change
@@ -775,7 +884,7 @@ class Pipeline:
     def add(self, query: Query[Value]) -> Pending[Value]:
         """Puts a query at the end. Where there are 64 already, or the frame would be too long, raises `TooLong`, and
         the pipeline is as it was."""
-        message = query.spelled()
+        message = spelled_query(query)
         if len(self._queries) == MAX_QUERIES or self._length + len(message) > MAX_REQUEST_BODY:
             raise TooLong("the pipeline is full")
         pending: Pending[Value] = Pending()

@@ -15,6 +15,7 @@ from typing import Any, Dict, List, Optional, Sequence, Tuple
 
 import rowanspan
 import stand_in
+import test_bad_input
 from rowan_text import HEX, TEXT, BadLine, outcome_line, page_receipt_line, read_query, receipt_line, spec_text
 from rowanspan import (MAX_KEY_BYTES, AnswerKind, AnyRow, AtLeast, BadReply, Behind, Build, ConnectionLost, Equals,
                        FeedFull, Get, GetRange, Index, NoSuchView, OtherVersion, Page, Prefix, Put, PutIf, Query, Range,
@@ -277,8 +278,19 @@ class BrokenStreamTest(unittest.TestCase):
             index = Index(server.port, timeout=SECONDS)
             index.close()
             index.close()
-            with self.assertRaises(ConnectionLost):
+            for call in (lambda: index.get(b"a"), lambda: index.put(b"a", b"v"), lambda: list(index.scan())):
+                with self.assertRaisesRegex(rowanspan.Closed, "^the index is closed$"):
+                    call()
+            self.assertEqual(server.index.events, 0)
+
+    def test_a_server_that_is_gone(self) -> None:
+        with Canned([]) as server, Index(server.port, timeout=SECONDS) as index:
+            with self.assertRaisesRegex(ConnectionLost, "the server ended the connection"):
                 index.get(b"a")
+            with self.assertRaisesRegex(ConnectionLost, "was lost before"):
+                index.put(b"a", b"v")
+        with self.assertRaisesRegex(ConnectionLost, f"no connection to 127.0.0.1, port {server.port}"):
+            Index(server.port, timeout=SECONDS)
 
 
 class CallTest(unittest.TestCase):
@@ -520,7 +532,7 @@ class ShellTest(unittest.TestCase):
         with StandIn(Options(columns=1)) as server:
             server.index.answer(Put(b"a", b"v"))
             done = subprocess.run([sys.executable, str(SHELL), "-p", str(server.port), *words], input=lines,
-                                  stdout=subprocess.PIPE, timeout=SECONDS, check=False)
+                                  stdout=subprocess.PIPE, stderr=subprocess.DEVNULL, timeout=SECONDS, check=False)
         return done.returncode, done.stdout.decode()
 
     def test_one_line(self) -> None:
@@ -597,7 +609,8 @@ class DocumentTest(unittest.TestCase):
 
 
 def main() -> int:
-    tests = unittest.defaultTestLoader.loadTestsFromModule(sys.modules[__name__])
+    load = unittest.defaultTestLoader.loadTestsFromModule
+    tests = unittest.TestSuite(load(module) for module in (sys.modules[__name__], test_bad_input))
     result = unittest.TextTestRunner(sys.stdout).run(tests)
     failed = len(result.failures) + len(result.errors)
     print(f"{max(result.testsRun - failed, 0)} passed, {failed} failed")
