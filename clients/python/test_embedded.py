@@ -1,5 +1,5 @@
 #!/usr/bin/env python3
-"""Tests of rowanspan_embedded, over the built library. Prints 'N passed, M failed' last."""
+"""Tests of the embedded index, over the built library. Prints 'N passed, M failed' last."""
 from __future__ import annotations
 
 import inspect
@@ -12,15 +12,14 @@ from bisect import bisect_left
 from pathlib import Path
 from typing import Any, Callable, Dict, List, Optional, Tuple
 
-sys.path.insert(0, str(Path(__file__).resolve().parent))
-sys.path.insert(1, str(Path(__file__).resolve().parent.parent.parent / "clients" / "python"))
-
-import rowanspan  # noqa: E402
-import rowanspan_embedded as embedded  # noqa: E402
-from rowanspan_embedded import (MAX_KEY_BYTES, AtLeast, BadColumn, BadLimit, BadRange, Behind, Closed,  # noqa: E402
-                                ColumnTooLong, Delta, Equals, FeedFull, Index, KeyTooLong, NoLibrary, NoMemory,
-                                NoSuchView, OtherVersion, Page, Prefix, Range, Row, Tidied, TooLong, TooManyViews,
-                                WrongThread, key_after)
+import rowanspan
+import rowanspan.core
+import rowanspan.embedded
+from rowanspan.embedded import (MAX_KEY_BYTES, AtLeast, BadColumn, BadLimit, BadRange, Behind, Closed, ColumnTooLong,
+                                Delta, Equals, FeedFull, Index, KeyTooLong, NoLibrary, NoMemory, NoSuchView,
+                                OtherVersion, Page, Prefix, Range, Row, Tidied, TooLong, TooManyViews, WrongThread,
+                                key_after)
+from test_bad_input import WRONG_TYPES
 
 
 def raises(kind: type, call: Callable[[], object]) -> BaseException:
@@ -265,17 +264,31 @@ def other_threads() -> None:
     index.close()
 
 
+def wrong_types() -> None:
+    """What the client raises a TypeError for, the index does too, and nothing is done."""
+    with Index() as index:
+        index.put(b"a", b"v")
+        tried = 0
+        for name, arguments in WRONG_TYPES:
+            if hasattr(index, name):
+                raises(TypeError, lambda: getattr(index, name)(*arguments))
+                tried += 1
+        for name in ("feed", "apply"):
+            raises(TypeError, lambda: getattr(index, name)("1"))
+        for wrong in ("1", 1.0, None):
+            raises(TypeError, lambda: Index(columns=wrong))
+        assert tried > 60 and index.commits() == 1 and index.range() == [(b"a", Row(1, (b"v",)))]
+        assert index.put(bytearray(b"b"), {0: memoryview(b"w")}) == 2 and index.get(memoryview(b"b")) == Row(2, (b"w",))
+
+
 def names_of_the_client() -> None:
-    """Each method of the client on rows and views has here the same parameters, with the same defaults."""
+    """Each method of the client on rows and views has here the same parameters, with the same defaults. Rows, views and
+    what is raised are the same classes."""
     for name in ("get", "put", "put_if", "remove", "range", "scan", "tidy", "build", "view", "drop", "close"):
-        client = inspect.signature(getattr(rowanspan.Index, name))
+        client = inspect.signature(getattr(rowanspan.Client, name))
         assert inspect.signature(getattr(Index, name)) == client, name
-    for name in ("Row", "Page", "Tidied", "AnyRow", "Equals", "AtLeast", "Range", "Prefix"):
-        client, here = getattr(rowanspan, name), getattr(embedded, name)
-        assert getattr(client, "__annotations__", None) == getattr(here, "__annotations__", None), name
-    for number, kind in embedded.REFUSALS.items():
-        assert rowanspan.REFUSALS[number].__name__ == kind.__name__
-    assert embedded.MAX_KEY_BYTES == rowanspan.MAX_KEY_BYTES
+    for name in rowanspan.core.__all__:
+        assert getattr(rowanspan.embedded, name) is getattr(rowanspan, name), name
 
 
 def random_calls() -> None:
@@ -326,7 +339,7 @@ def random_calls() -> None:
 
 def memory_is_flat() -> None:
     """A thousand times opened, filled and closed, in a process of its own."""
-    code = ("import resource, sys; sys.path.insert(0, sys.argv[1]); from rowanspan_embedded import Index\n"
+    code = ("import resource, sys; sys.path.insert(0, sys.argv[1]); from rowanspan.embedded import Index\n"
             "def once():\n"
             "    with Index() as index:\n"
             "        for number in range(100): index.put(b'%05d' % number, b'x' * 60)\n"
@@ -341,7 +354,7 @@ def memory_is_flat() -> None:
 
 CASES = (rows, columns, conditional_puts, views, views_by_hand, changes_that_no_view_follows,
          changes_after_the_log_was_full, views_kept_by_hand, feeds, scans_and_large_answers, epochs, closed,
-         other_threads, names_of_the_client, random_calls, memory_is_flat)
+         other_threads, wrong_types, names_of_the_client, random_calls, memory_is_flat)
 
 
 def main() -> int:
