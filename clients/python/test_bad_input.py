@@ -25,7 +25,7 @@ WRONG_TYPES: List[Tuple[str, Sequence[Any]]] = [
     *[(name, (b"a", sets, *rest)) for name, rest in (("put", ()), ("put_if", (0,))) for sets in (
         "v", "", None, 1, ["v"], ["ab"], [b"v"], [(0, b"v", 1)], {0: "v"}, {"0": b"v"}, [(0.0, b"v")], {None: b""})],
     *[("put_if", (b"a", b"v", version)) for version in ("1", None, 1.0, b"1")],
-    *[("get", (b"a", columns)) for columns in (0, "0", [b"0"], [0.0], [None])],
+    *[("get", (b"a", None, columns)) for columns in (0, "0", [b"0"], [0.0], [None])],
     *[("range", (b"a", limit)) for limit in ("1", None, 1.5)],
     *[("range", (b"a", 1, columns)) for columns in (0, "0", [b"0"])],
     *[("build", (spec,)) for spec in (
@@ -64,7 +64,7 @@ class ArgumentTest(unittest.TestCase):
     def test_bytes_of_other_types(self) -> None:
         with StandIn() as server, Index(server.port, timeout=SECONDS) as index:
             self.assertEqual(index.put(bytearray(b"a"), memoryview(b"v")), 1)
-            self.assertEqual(index.get(memoryview(b"a"), b"\0"), Row(1, (b"v",)))
+            self.assertEqual(index.get(memoryview(b"a"), columns=b"\0"), Row(1, (b"v",)))
 
     def test_out_of_bounds(self) -> None:
         """One class for each, whether the server refuses it, or it doesn't fit the wire."""

@@ -49,13 +49,14 @@ def columns() -> None:
     with Index(columns=3) as index:
         index.put(b"k", [(2, b"c"), (0, b"a")])
         assert index.get(b"k") == Row(1, (b"a", b"", b"c"))
-        assert index.get(b"k", [2, 0]) == Row(1, (b"c", b"a"))
+        assert index.get(b"k", columns=[2, 0]) == Row(1, (b"c", b"a"))
         assert index.range(columns=[1]) == [(b"k", Row(1, (b"",)))]
-        raises(BadColumn, lambda: index.get(b"k", [3]))
+        raises(BadColumn, lambda: index.get(b"k", columns=[3]))
         raises(BadColumn, lambda: index.put(b"k", {3: b""}))
         raises(ColumnTooLong, lambda: index.put(b"k", bytes(65)))
         raises(KeyTooLong, lambda: index.put(bytes(MAX_KEY_BYTES + 1), b""))
-        assert index.put(bytes(MAX_KEY_BYTES), b"") == 2 and index.get(bytes(MAX_KEY_BYTES), [0]) == Row(2, (b"",))
+        assert index.put(bytes(MAX_KEY_BYTES), b"") == 2
+        assert index.get(bytes(MAX_KEY_BYTES), columns=[0]) == Row(2, (b"",))
         raises(BadLimit, lambda: index.range(limit=0))
         raises(TooLong, lambda: index.range(limit=65536))
         raises(TooLong, lambda: index.put(b"k", {256: b""}))
@@ -284,11 +285,28 @@ def wrong_types() -> None:
 def names_of_the_client() -> None:
     """Each method of the client on rows and views has here the same parameters, with the same defaults. Rows, views and
     what is raised are the same classes."""
-    for name in ("get", "put", "put_if", "remove", "range", "scan", "tidy", "build", "view", "drop", "close"):
+    for name in ("get", "put", "put_if", "remove", "range", "scan", "tidy", "build", "view", "drop", "close",
+                 "__getitem__", "__contains__"):
         client = inspect.signature(getattr(rowanspan.Client, name))
         assert inspect.signature(getattr(Index, name)) == client, name
     for name in rowanspan.core.__all__:
         assert getattr(rowanspan.embedded, name) is getattr(rowanspan, name), name
+
+
+def as_a_map() -> None:
+    with Index(columns=2) as index:
+        for key in (b"a", b"b", b"b\0", b"ba", b"c"):
+            index.put(key, {0: key, 1: b"x"})
+        assert index[b"a"] == Row(1, (b"a", b"x"))
+        assert raises(KeyError, lambda: index[b"d"]).args == (b"d",)
+        assert b"b" in index and b"" not in index and b"d" not in index
+        assert index.get(b"d", 5) == 5 and index.get(b"a", 5) == Row(1, (b"a", b"x"))
+        assert index.get(b"a", None, [1]) == Row(1, (b"x",))
+        assert [key for key, _ in index.scan(b"b")] == [b"b", b"b\0", b"ba"]
+        assert list(index.scan(b"b", [1], start=b"b\1")) == [(b"ba", Row(4, (b"x",)))]
+        for call in (lambda: index["a"], lambda: "a" in index, lambda: index.scan("a"), lambda: index[b"a":b"b"],
+                     lambda: iter(index), lambda: len(index)):
+            raises(TypeError, call)
 
 
 def random_calls() -> None:
@@ -354,7 +372,7 @@ def memory_is_flat() -> None:
 
 CASES = (rows, columns, conditional_puts, views, views_by_hand, changes_that_no_view_follows,
          changes_after_the_log_was_full, views_kept_by_hand, feeds, scans_and_large_answers, epochs, closed,
-         other_threads, wrong_types, names_of_the_client, random_calls, memory_is_flat)
+         other_threads, wrong_types, as_a_map, names_of_the_client, random_calls, memory_is_flat)
 
 
 def main() -> int:

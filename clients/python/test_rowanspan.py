@@ -18,9 +18,10 @@ import stand_in
 import test_bad_input
 from rowan_text import HEX, TEXT, BadLine, outcome_line, page_receipt_line, read_query, receipt_line, spec_text
 from rowanspan import (MAX_KEY_BYTES, AnswerKind, AnyRow, AtLeast, BadReply, Behind, Build, ConnectionLost, Equals,
-                       FeedFull, Get, GetRange, Index, NoSuchView, OtherVersion, Page, Prefix, Put, PutIf, Query, Range,
-                       Refused, Remove, Reply, Row, Tidied, Tidy, TooLong, Unanswered, ViewDrop, ViewRead,
+                       FeedFull, Get, GetRange, Index, NoSuchView, OtherVersion, Page, Pairs, Prefix, Put, PutIf,
+                       Query, Range, Refused, Remove, Reply, Row, Tidied, Tidy, TooLong, Unanswered, ViewDrop, ViewRead,
                        frame_version, key_after, read_replies, request_frame)
+from rowanspan.mapping import scanned
 from stand_in import Options, PlainIndex, StandIn, read_queries, reply_frame, spelled_done
 from wire_page import worked_bytes
 
@@ -308,7 +309,7 @@ class CallTest(unittest.TestCase):
         self.assertEqual(self.index.put(b"a", b"v"), 1)
         self.assertEqual(self.index.put(b"a", {1: b"w"}), 2)
         self.assertEqual(self.index.get(b"a"), Row(2, (b"v", b"w")))
-        self.assertEqual(self.index.get(b"a", [1, 0]), Row(2, (b"w", b"v")))
+        self.assertEqual(self.index.get(b"a", columns=[1, 0]), Row(2, (b"w", b"v")))
         self.assertEqual(self.index.put(b"", {}), 3)
         self.assertEqual(self.index.range(), [(b"", Row(3, (b"", b""))), (b"a", Row(2, (b"v", b"w")))])
         self.assertEqual(self.index.range(b"", 1, [1]), [(b"", Row(3, (b"",)))])
@@ -391,7 +392,7 @@ class ScanTest(unittest.TestCase):
         with StandIn() as server, Index(server.port, timeout=SECONDS) as index:
             for key in keys:
                 server.index.answer(Put(key, b"v"))
-            return [key for key, row in index.scan(start) if row.columns == (b"v",)]
+            return [key for key, row in index.scan(start=start) if row.columns == (b"v",)]
 
     def test_lengths(self) -> None:
         for count in (0, 1, 999, 1000, 1001, 2000, 2001):
@@ -417,6 +418,48 @@ class ScanTest(unittest.TestCase):
         with StandIn(Options(columns=2)) as server, Index(server.port, timeout=SECONDS) as index:
             index.put(b"a", {0: b"v", 1: b"w"})
             self.assertEqual(list(index.scan(columns=[1])), [(b"a", Row(1, (b"w",)))])
+
+    def test_prefixes(self) -> None:
+        keys = [b"a", b"b", b"b\0", *[b"ba%04d" % number for number in range(1500)], b"b\xff", b"b\xff\xff", b"c"]
+        with StandIn() as server, Index(server.port, timeout=SECONDS) as index:
+            for key in keys:
+                server.index.answer(Put(key, b"v"))
+            for prefix in (b"", b"a", b"b", b"ba", b"ba0", b"ba1499", b"b\xff", b"bb", b"c", b"\xff", bytes(1024)):
+                for start in (b"", b"b", b"ba0007", b"bb", b"c", b"d"):
+                    with self.subTest(prefix=prefix, start=start):
+                        wanted = [key for key in keys if key.startswith(prefix) and key >= start]
+                        self.assertEqual([key for key, _ in index.scan(prefix, start=start)], wanted)
+
+    def test_a_prefix_of_few_rows_reads_few(self) -> None:
+        asked: List[int] = []
+
+        def read(start: bytes, limit: int) -> Pairs:
+            asked.append(limit)
+            return [(key, ROW) for key in keys if key >= start][:limit]
+
+        keys = [b"a%04d" % number for number in range(3000)]
+        self.assertEqual(len(list(scanned(read, b"a000", b"a000"))), 10)
+        self.assertEqual(asked, [60])
+        self.assertEqual(len(list(scanned(read, b"a", b"a"))), 3000)
+        self.assertEqual(asked, [60, 60, 240, 960, 1000, 1000])
+
+
+class MapTest(unittest.TestCase):
+    def test_a_client_as_a_map(self) -> None:
+        with StandIn(Options(columns=2)) as server, Index(server.port, timeout=SECONDS) as index:
+            index.put(b"a", {0: b"v", 1: b"w"})
+            self.assertEqual((index[b"a"], b"a" in index, b"b" in index), (Row(1, (b"v", b"w")), True, False))
+            with self.assertRaises(KeyError) as met:
+                index[b"b"]
+            self.assertEqual(met.exception.args, (b"b",))
+            self.assertEqual((index.get(b"b", 5), index.get(b"a", 5)), (5, Row(1, (b"v", b"w"))))
+            self.assertEqual(index.get(b"a", None, [1]), Row(1, (b"w",)))
+            events = server.index.events
+            for call in (lambda: index["a"], lambda: "a" in index, lambda: index.scan("a"), lambda: iter(index),
+                         lambda: index.scan(b"a", start=1), lambda: index[b"a":b"b"], lambda: len(index)):
+                with self.assertRaises(TypeError):
+                    call()
+            self.assertEqual(server.index.events, events)
 
 
 class PipelineTest(unittest.TestCase):
@@ -595,7 +638,7 @@ class DocumentTest(unittest.TestCase):
             example = textwrap.dedent(block).replace("7070", str(server.port))
             done = subprocess.run([sys.executable, "-c", example], cwd=SHELL.parent, stdout=subprocess.PIPE,
                                   timeout=SECONDS, check=True)
-        self.assertEqual(done.stdout, b"Row(version=1, columns=(b'red',))\n[b'pear', b'plum']\n2\n")
+        self.assertEqual(done.stdout, b"Row(version=1, columns=(b'red',))\nFalse (b'red',)\n[b'pear', b'plum']\n2\n")
         self.assertEqual(server.index.commits, 6)
 
     def test_the_lines_of_the_page(self) -> None:

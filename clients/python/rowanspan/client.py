@@ -3,10 +3,11 @@ from __future__ import annotations
 
 import socket
 import struct
-from typing import Any, Callable, Generic, Iterator, List, Optional, Sequence, Tuple, Type, TypeVar, Union
+from typing import Any, Callable, Generic, List, Optional, Sequence, Type, TypeVar, Union
 
 from .core import (MAX_LIMIT, BadReply, Closed, ConnectionLost, OtherVersion, Page, Pairs, Refused, Row, Sets, Tidied,
-                   TooLong, Unanswered, ViewNo, ViewSpec, checked_int, scanned)
+                   TooLong, Unanswered, ViewNo, ViewSpec, checked_int)
+from .mapping import RowMap
 from .wire import (MAX_QUERIES, MAX_REPLY_BODY, MAX_REQUEST_BODY, Build, Get, GetRange, Outcome, Put, PutIf, Query,
                    Remove, Reply, Tidy, ViewDrop, ViewRead, frame_version, read_replies, request_frame, spelled_query)
 
@@ -48,7 +49,7 @@ def check_address(port: Any, host: Any, timeout: Any) -> None:
         raise TypeError(f"a timeout must be a number of seconds or None, not {type(timeout).__name__}")
 
 
-class Client:
+class Client(RowMap):
     """A connection to a server.
 
     `timeout` is for how many seconds a connect, a send or a receive may wait (None: without end); one that waits longer
@@ -123,8 +124,7 @@ class Client:
 
     # -- rows
 
-    def get(self, key: bytes, columns: Optional[Sequence[int]] = None) -> Optional[Row]:
-        """The row of a key, or None. `columns` are the numbers of those wanted, in this order; None means all."""
+    def _row(self, key: bytes, columns: Optional[Sequence[int]]) -> Optional[Row]:
         return self.call(Get(key, () if columns is None else columns)).value
 
     def put(self, key: bytes, sets: Sets) -> int:
@@ -161,11 +161,6 @@ class Client:
         """The first rows from a key on, in the order of their keys, 1 to 1000 of them at most. Each key that was there
         during all of the call is there, each row was true at some moment of it."""
         return self.call(GetRange(start, limit, () if columns is None else columns)).value
-
-    def scan(self, start: bytes = b"", columns: Optional[Sequence[int]] = None) -> Iterator[Tuple[bytes, Row]]:
-        """All rows from a key on, in the order of their keys, by ranges of 1000, each one call. What others change
-        meanwhile behind the last key that was given may be seen or not."""
-        return scanned(lambda at: self.range(at, MAX_LIMIT, columns), start)
 
     def tidy(self, key: bytes) -> Tidied:
         """Takes out at most one node that is no longer wanted near the place of a key, after removes; says which kind.

@@ -4,7 +4,7 @@ from __future__ import annotations
 import enum
 import operator
 from dataclasses import dataclass
-from typing import (Any, Callable, ClassVar, Dict, Iterator, List, Mapping, NewType, Optional, Sequence, Tuple, Type,
+from typing import (Any, ClassVar, Dict, List, Mapping, NewType, Optional, Sequence, Tuple, Type,
                     Union)
 
 __all__ = [
@@ -323,7 +323,7 @@ def checked_column(column: Any) -> int:
     return number
 
 
-# ---- scans
+# ---- the order of keys
 
 def key_after(key: bytes) -> Optional[bytes]:
     """The least key after this one, of at most `MAX_KEY_BYTES` bytes; None where there is none."""
@@ -332,12 +332,3 @@ def key_after(key: bytes) -> Optional[bytes]:
     # no longer key begins with it, so the next key is greater in some byte: in the last one that can be greater
     front = key.rstrip(b"\xff")
     return front[:-1] + bytes((front[-1] + 1,)) if front else None
-
-
-def scanned(read: Callable[[bytes], Pairs], start: bytes) -> Iterator[Tuple[bytes, Row]]:
-    """All rows from a key on, by what reads the first `MAX_LIMIT` of them."""
-    at: Optional[bytes] = start
-    while at is not None:
-        pairs = read(at)
-        yield from pairs
-        at = key_after(pairs[-1][0]) if len(pairs) == MAX_LIMIT else None

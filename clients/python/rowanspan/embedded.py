@@ -5,6 +5,7 @@
     with Index() as index:
         commit = index.put(b"apple", b"red")      # plain bytes are column 0
         row = index.get(b"apple")                 # Row(version=commit, columns=(b"red",)), or None
+        print(b"apple" in index, index[b"apple"])  # index[key] raises KeyError where there is no row
         for key, row in index.scan(b"a"):
             print(key, row.columns)
 
@@ -22,19 +23,20 @@ import ctypes
 import threading
 from pathlib import Path
 from types import TracebackType
-from typing import Any, Iterator, List, Optional, Sequence, Tuple, Type, Union
+from typing import Any, List, Optional, Sequence, Type, Union
 
 from .core import *  # noqa: F401,F403
 from .core import (MAX_LIMIT, REFUSALS, Closed, Delta, NoLibrary, Page, Pairs, Prefix, Refused, Row, Sets, Tidied,
-                   ViewNo, ViewSpec, WrongThread, checked_limit, checked_number, checked_spec, checked_view, scanned)
+                   ViewNo, ViewSpec, WrongThread, checked_limit, checked_number, checked_spec, checked_view)
 from .core import __all__ as _names_of_the_core
 from .library import (ABSENT, CLOSED, CURRENT, DONE, NO_ROOM, U64, Handle, Reader, column_numbers, column_sets, loaded,
                       spelled, view_test)
+from .mapping import RowMap
 
 __all__ = ["Index", *_names_of_the_core]
 
 
-class Index:
+class Index(RowMap):
     """An index in this process.
 
     It has `columns` columns (1 to 16). Its log holds up to `feed` commits (1 to 65536) for the view that is furthest
@@ -146,8 +148,7 @@ class Index:
 
     # -- rows
 
-    def get(self, key: bytes, columns: Optional[Sequence[int]] = None) -> Optional[Row]:
-        """The row of a key, or None. `columns` are the numbers of those wanted, in this order; None means all."""
+    def _row(self, key: bytes, columns: Optional[Sequence[int]]) -> Optional[Row]:
         reader = self._read("raw_get", *spelled(key, "a key"), *column_numbers(columns))
         return None if reader is None else reader.row()
 
@@ -170,11 +171,6 @@ class Index:
         """The first rows from a key on, in the order of their keys, 1 to 1000 of them at most."""
         return self._answer("raw_range", *spelled(start, "a key"), checked_limit(limit),
                             *column_numbers(columns)).pairs()
-
-    def scan(self, start: bytes = b"", columns: Optional[Sequence[int]] = None) -> Iterator[Tuple[bytes, Row]]:
-        """All rows from a key on, in the order of their keys, by ranges of 1000, each one call. What is changed
-        meanwhile behind the last key that was given may be seen or not."""
-        return scanned(lambda at: self.range(at, MAX_LIMIT, columns), start)
 
     def tidy(self, key: bytes) -> Tidied:
         """Takes out at most one node that is no longer wanted near the place of a key, after removes; says which kind.
