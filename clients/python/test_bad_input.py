@@ -11,7 +11,7 @@ from typing import Any, List, Sequence, Tuple
 import rowanspan
 from rowan_text import HEX, TEXT, BadLine, read_query
 from rowanspan import (MAX_KEY_BYTES, AnyRow, AtLeast, Build, Equals, Get, GetRange, Index, Prefix, Put, Query, Range,
-                       Row, ViewRead)
+                       Row, TooLong, ViewRead)
 from stand_in import StandIn
 
 SHELL = Path(__file__).resolve().parent / "rowan"
@@ -60,6 +60,14 @@ class ArgumentTest(unittest.TestCase):
         for arguments in (("7070",), (None,), (7070, b"localhost"), (7070, 5), (7070, "127.0.0.1", "1")):
             with self.subTest(arguments=arguments), self.assertRaises(TypeError):
                 Index(*arguments)
+
+    def test_timeouts(self) -> None:
+        for timeout in (0, -1, 0.0, float("nan"), float("inf")):
+            with self.subTest(timeout=timeout), self.assertRaisesRegex(TooLong, "^a timeout must be more than 0"):
+                Index(7070, timeout=timeout)
+            words = [sys.executable, str(SHELL), "-p", "7070", "--timeout", str(timeout), "get", "61", "all"]
+            done = subprocess.run(words, capture_output=True, timeout=SECONDS, check=False)
+            self.assertEqual((done.returncode, done.stdout), (2, b""))
 
     def test_bytes_of_other_types(self) -> None:
         with StandIn() as server, Index(server.port, timeout=SECONDS) as index:

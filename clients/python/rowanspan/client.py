@@ -41,12 +41,14 @@ def receive_body(connection: socket.socket) -> bytes:
 # ---- the connection
 
 def check_address(port: Any, host: Any, timeout: Any) -> None:
-    """Raises TypeError where one of them is of a wrong type."""
+    """Raises TypeError where one of them is of a wrong type, and `TooLong` for a timeout that is no time to wait."""
     checked_int(port, "a port")
     if not isinstance(host, str):
         raise TypeError(f"a host must be a str, not {type(host).__name__}")
     if timeout is not None and not isinstance(timeout, (int, float)):
         raise TypeError(f"a timeout must be a number of seconds or None, not {type(timeout).__name__}")
+    if timeout is not None and not 0 < timeout < float("inf"):
+        raise TooLong(f"a timeout must be more than 0 seconds, or None to wait without end, not {timeout}")
 
 
 class Client(RowMap):
