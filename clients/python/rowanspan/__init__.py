@@ -19,14 +19,14 @@ A client is one connection, for one thread at a time: give each thread its own.
 """
 from __future__ import annotations
 
+from . import client, core, wire
 from .client import *  # noqa: F401,F403
-from .client import Client
-from .client import __all__ as _names_of_the_client
 from .core import *  # noqa: F401,F403
-from .core import __all__ as _names_of_the_core
 from .wire import *  # noqa: F401,F403
-from .wire import __all__ as _names_of_the_wire
 
-Index = Client
+Index = client.Client
 
-__all__ = ["Index", *_names_of_the_client, *_names_of_the_core, *_names_of_the_wire]
+__all__ = ["Index"]
+__all__ += client.__all__
+__all__ += core.__all__
+__all__ += wire.__all__

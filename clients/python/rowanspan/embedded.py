@@ -25,15 +25,16 @@ from pathlib import Path
 from types import TracebackType
 from typing import Any, List, Optional, Sequence, Type, Union
 
+from . import core
 from .core import *  # noqa: F401,F403
 from .core import (MAX_LIMIT, REFUSALS, Closed, Delta, NoLibrary, Page, Pairs, Prefix, Refused, Row, Sets, Tidied,
                    ViewNo, ViewSpec, WrongThread, checked_limit, checked_number, checked_spec, checked_view)
-from .core import __all__ as _names_of_the_core
 from .library import (ABSENT, CLOSED, CURRENT, DONE, NO_ROOM, U64, Handle, Reader, column_numbers, column_sets, loaded,
                       spelled, view_test)
 from .mapping import RowMap
 
-__all__ = ["Index", *_names_of_the_core]
+__all__ = ["Index"]
+__all__ += core.__all__
 
 
 class Index(RowMap):
