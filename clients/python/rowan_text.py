@@ -8,7 +8,7 @@ from __future__ import annotations
 
 import re
 from dataclasses import dataclass
-from typing import Any, Callable, Dict, List, Optional, Sequence, Tuple
+from typing import Any, Callable, Dict, List, Optional, Sequence, Tuple, TypeVar
 
 from rowanspan import (AnyRow, AtLeast, Build, Equals, Get, GetRange, Outcome, Page, Pairs, Prefix, Put, PutIf, Query,
                        Range, Refused, Remove, Reply, Row, RowTest, Tidied, Tidy, ViewDrop, ViewRead, ViewSpec,
@@ -19,8 +19,11 @@ TIDY_NAMES = {Tidied.NOTHING: "none", Tidied.EMPTY_BORDER: "a", Tidied.LONE_CHIL
               Tidied.EMPTY_LAYER: "d"}
 
 
+Value = TypeVar("Value")
+
+
 class BadLine(ValueError):
-    """A line that doesn't read."""
+    """A line or a word that doesn't read. Its text says what was expected; that of a line also says in which word."""
 
 
 # ---- bytes as words
@@ -34,7 +37,7 @@ class Notation:
 
     def read(self, word: str) -> bytes:
         if not word:
-            raise BadLine("a word is missing")
+            raise BadLine("expected bytes, or - for no bytes")
         return b"" if word == "-" else self.read_some(word)
 
     def write(self, value: bytes) -> str:
@@ -44,14 +47,14 @@ class Notation:
 def read_hex(word: str) -> bytes:
     """Hex of either case."""
     if len(word) % 2 or not re.fullmatch("[0-9a-fA-F]+", word):
-        raise BadLine(f"{word} is no hex")
+        raise BadLine("expected bytes in hex, two digits for each, or - for no bytes")
     return bytes.fromhex(word)
 
 
 def read_text(word: str) -> bytes:
     """UTF-8, in which `\\xNN` is any byte."""
     if re.search(r"\\(?!x[0-9a-fA-F]{2})", word):
-        raise BadLine(f"{word} has a backslash that begins no \\xNN")
+        raise BadLine("expected text in which each backslash begins \\xNN, with two hex digits")
     parts = re.split(r"\\x([0-9a-fA-F]{2})", word)
     return b"".join(bytes.fromhex(part) if place % 2 else part.encode("utf-8", "surrogateescape")
                     for place, part in enumerate(parts))
@@ -81,20 +84,23 @@ def read_number(word: str, most: int) -> int:
     """Decimal digits of a number that is at most this."""
     digits = word.lstrip("0")
     if not re.fullmatch("[0-9]+", word) or len(digits) > 20 or int(digits or "0") > most:
-        raise BadLine(f"{word} is no number up to {most}")
+        raise BadLine(f"expected a number from 0 to {most}")
     return int(digits or "0")
 
 
 def read_columns(word: str) -> Tuple[int, ...]:
     """`all`, or numbers joined by commas."""
-    return () if word == "all" else tuple(read_number(part, BYTE) for part in word.split(","))
+    try:
+        return () if word == "all" else tuple(read_number(part, BYTE) for part in word.split(","))
+    except BadLine:
+        raise BadLine(f"expected all, or numbers of columns from 0 to {BYTE} joined by commas") from None
 
 
 def read_set(part: str, notation: Notation) -> Tuple[int, bytes]:
     """COL=BYTES."""
     column, stop, value = part.partition("=")
     if not stop:
-        raise BadLine(f"{part} sets nothing")
+        raise BadLine("expected COL=BYTES joined by commas, or -")
     return read_number(column, BYTE), notation.read(value)
 
 
@@ -103,49 +109,109 @@ def read_sets(word: str, notation: Notation) -> List[Tuple[int, bytes]]:
     return [] if word == "-" else [read_set(part, notation) for part in word.split(",")]
 
 
-def read_test(words: Sequence[str], notation: Notation) -> RowTest:
-    """`any`, `equals COL BYTES` or `atleast COL NUMBER`."""
-    if list(words) == ["any"]:
-        return AnyRow()
-    if len(words) == 3 and words[0] == "equals":
-        return Equals(read_number(words[1], BYTE), notation.read(words[2]))
-    if len(words) == 3 and words[0] == "atleast":
-        return AtLeast(read_number(words[1], BYTE), read_number(words[2], LONG))
-    raise BadLine("this is no test of rows")
+@dataclass(frozen=True)
+class Line:
+    """The words of a line, and the notation of its bytes. Places count from 0 on; a fault says the word from 1 on."""
+
+    words: Sequence[str]
+    notation: Notation
+
+    def read(self, place: int, read_word: Callable[[str], Value]) -> Value:
+        """What a word says. Raises `BadLine`, which says which word it is."""
+        try:
+            return read_word(self.words[place])
+        except BadLine as fault:
+            raise BadLine(f"word {place + 1}, {quoted(self.words[place])}: {fault}") from None
+
+    def value(self, place: int) -> bytes:
+        return self.read(place, self.notation.read)
+
+    def end(self, place: int) -> Optional[bytes]:
+        """The end of a range, where `none` is no end."""
+        return None if self.words[place] == "none" else self.value(place)
+
+    def number(self, place: int, most: int = LONG) -> int:
+        return self.read(place, lambda word: read_number(word, most))
+
+    def columns(self, place: int) -> Tuple[int, ...]:
+        return self.read(place, read_columns)
+
+    def sets(self, place: int) -> List[Tuple[int, bytes]]:
+        return self.read(place, lambda word: read_sets(word, self.notation))
+
+    def want_words(self, form: str, count: int) -> None:
+        """Raises `BadLine` unless the line has so many words."""
+        if len(self.words) != count:
+            raise BadLine(f"expected {count} words, {form}, and found {len(self.words)}")
 
 
-def read_spec(words: Sequence[str], notation: Notation) -> ViewSpec:
-    """`range LO HI TEST` or `prefix KEY TEST`."""
-    if len(words) > 3 and words[0] == "range":
-        end = None if words[2] == "none" else notation.read(words[2])
-        return Range(notation.read(words[1]), end, read_test(words[3:], notation))
-    if len(words) > 2 and words[0] == "prefix":
-        return Prefix(notation.read(words[1]), read_test(words[2:], notation))
-    raise BadLine("this is no specification of a view")
+def quoted(word: str) -> str:
+    """A word as a message shows it: its first forty signs, those that can't be printed as escapes."""
+    return repr(word[:40]) + ("..." if len(word) > 40 else "")
 
 
-READERS: Dict[Tuple[str, int], Callable[[List[str], Notation], Query[Any]]] = {
-    ("get", 3): lambda words, by: Get(by.read(words[1]), read_columns(words[2])),
-    ("put", 3): lambda words, by: Put(by.read(words[1]), read_sets(words[2], by)),
-    ("putif", 4): lambda words, by: PutIf(by.read(words[1]), read_sets(words[3], by), read_number(words[2], LONG)),
-    ("remove", 2): lambda words, by: Remove(by.read(words[1])),
-    ("range", 4): lambda words, by: GetRange(by.read(words[1]), read_number(words[2], WORD), read_columns(words[3])),
-    ("tidy", 2): lambda words, by: Tidy(by.read(words[1])),
-    ("view", 5): lambda words, by: ViewRead(read_number(words[1], LONG), read_number(words[2], LONG),
-                                            by.read(words[3]), read_number(words[4], WORD)),
-    ("drop", 2): lambda words, by: ViewDrop(read_number(words[1], LONG)),
+TESTS: Dict[str, Tuple[str, Callable[[Line, int], RowTest]]] = {
+    "any": ("any", lambda line, place: AnyRow()),
+    "equals": ("equals COL BYTES", lambda line, place: Equals(line.number(place + 1, BYTE), line.value(place + 2))),
+    "atleast": ("atleast COL NUMBER",
+                lambda line, place: AtLeast(line.number(place + 1, BYTE), line.number(place + 2))),
 }
 
 
-def read_query(line: str, notation: Notation) -> Query[Any]:
-    """What a line asks, its words parted by one space; raises `BadLine`."""
-    words = line.split(" ")
-    if words[0] == "build":
-        return Build(read_spec(words[1:], notation))
-    read = READERS.get((words[0], len(words)))
-    if read is None:
-        raise BadLine("this is no line")
-    return read(words, notation)
+def read_test(line: Line, place: int, form: str) -> RowTest:
+    """`any`, `equals COL BYTES` or `atleast COL NUMBER`, from this place to the line's end."""
+    if len(line.words) <= place:
+        raise BadLine(f"expected {form} TEST, and found {len(line.words)} words only")
+    test = TESTS.get(line.words[place])
+    if test is None:
+        raise BadLine(f"word {place + 1}, {quoted(line.words[place])}: expected any, equals or atleast")
+    line.want_words(f"{form} {test[0]}", place + len(test[0].split()))
+    return test[1](line, place)
+
+
+def read_spec(line: Line) -> ViewSpec:
+    """`build range LO HI TEST` or `build prefix KEY TEST`."""
+    if len(line.words) < 2:
+        raise BadLine("expected build range LO HI TEST or build prefix KEY TEST, and found 1 word only")
+    if line.words[1] == "range":
+        test = read_test(line, 4, "build range LO HI")
+        return Range(line.value(2), line.end(3), test)
+    if line.words[1] == "prefix":
+        test = read_test(line, 3, "build prefix KEY")
+        return Prefix(line.value(2), test)
+    raise BadLine(f"word 2, {quoted(line.words[1])}: expected range or prefix")
+
+
+# of each first word but `build`, the form of the line, and how it is read
+READERS: Dict[str, Tuple[str, Callable[[Line], Query[Any]]]] = {
+    "get": ("get KEY COLS", lambda line: Get(line.value(1), line.columns(2))),
+    "put": ("put KEY SETS", lambda line: Put(line.value(1), line.sets(2))),
+    "putif": ("putif KEY VERSION SETS", lambda line: PutIf(line.value(1), version=line.number(2), sets=line.sets(3))),
+    "remove": ("remove KEY", lambda line: Remove(line.value(1))),
+    "range": ("range START LIMIT COLS",
+              lambda line: GetRange(line.value(1), line.number(2, WORD), line.columns(3))),
+    "tidy": ("tidy KEY", lambda line: Tidy(line.value(1))),
+    "view": ("view VIEW FLOOR START LIMIT",
+             lambda line: ViewRead(line.number(1), line.number(2), line.value(3), line.number(4, WORD))),
+    "drop": ("drop VIEW", lambda line: ViewDrop(line.number(1))),
+}
+
+
+def read_query(text: str, notation: Notation) -> Query[Any]:
+    """What a line asks, its words parted by one space. Raises `BadLine`, which says in which word and what was
+    expected."""
+    line = Line(text.split(" "), notation)
+    first = line.words[0]
+    reader = READERS.get(first)
+    if reader is None and first != "build":
+        found = f"word 1, {quoted(first)}" if text else "the line is empty"
+        raise BadLine(f"{found}: expected {', '.join(READERS)} or build")
+    if "" in line.words:
+        raise BadLine(f"word {line.words.index('') + 1} is empty: expected one space between words")
+    if reader is None:
+        return Build(read_spec(line))
+    line.want_words(reader[0], len(reader[0].split()))
+    return reader[1](line)
 
 
 # ---- lines that are written

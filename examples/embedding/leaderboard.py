@@ -4,9 +4,9 @@ import random
 import sys
 from pathlib import Path
 
-sys.path.insert(0, str(Path(__file__).resolve().parent.parent.parent / "bindings" / "python"))
+sys.path.insert(0, str(Path(__file__).resolve().parent.parent.parent / "clients" / "python"))
 
-from rowanspan_embedded import AtLeast, Index, Prefix  # noqa: E402
+from rowanspan.embedded import AtLeast, Index, Prefix  # noqa: E402
 
 
 def points(number: int) -> bytes:

@@ -1,5 +1,5 @@
 #!/usr/bin/env python3
-"""Tests of rowanspan_embedded, over the built library. Prints 'N passed, M failed' last."""
+"""Tests of the embedded index, over the built library. Prints 'N passed, M failed' last."""
 from __future__ import annotations
 
 import inspect
@@ -10,17 +10,16 @@ import threading
 import traceback
 from bisect import bisect_left
 from pathlib import Path
-from typing import Callable, Dict, List, Optional, Tuple
+from typing import Any, Callable, Dict, List, Optional, Tuple
 
-sys.path.insert(0, str(Path(__file__).resolve().parent))
-sys.path.insert(1, str(Path(__file__).resolve().parent.parent.parent / "clients" / "python"))
-
-import rowanspan  # noqa: E402
-import rowanspan_embedded as embedded  # noqa: E402
-from rowanspan_embedded import (MAX_KEY_BYTES, AtLeast, BadColumn, BadLimit, BadRange, Behind, Closed,  # noqa: E402
-                                ColumnTooLong, Delta, Equals, FeedFull, Index, KeyTooLong, NoLibrary, NoSuchView,
+import rowanspan
+import rowanspan.core
+import rowanspan.embedded
+from rowanspan.embedded import (MAX_KEY_BYTES, AtLeast, BadColumn, BadLimit, BadRange, Behind, Closed, ColumnTooLong,
+                                Delta, Equals, FeedFull, Index, KeyTooLong, NoLibrary, NoMemory, NoSuchView,
                                 OtherVersion, Page, Prefix, Range, Row, Tidied, TooLong, TooManyViews, WrongThread,
                                 key_after)
+from test_bad_input import WRONG_TYPES
 
 
 def raises(kind: type, call: Callable[[], object]) -> BaseException:
@@ -50,13 +49,14 @@ def columns() -> None:
     with Index(columns=3) as index:
         index.put(b"k", [(2, b"c"), (0, b"a")])
         assert index.get(b"k") == Row(1, (b"a", b"", b"c"))
-        assert index.get(b"k", [2, 0]) == Row(1, (b"c", b"a"))
+        assert index.get(b"k", columns=[2, 0]) == Row(1, (b"c", b"a"))
         assert index.range(columns=[1]) == [(b"k", Row(1, (b"",)))]
-        raises(BadColumn, lambda: index.get(b"k", [3]))
+        raises(BadColumn, lambda: index.get(b"k", columns=[3]))
         raises(BadColumn, lambda: index.put(b"k", {3: b""}))
         raises(ColumnTooLong, lambda: index.put(b"k", bytes(65)))
         raises(KeyTooLong, lambda: index.put(bytes(MAX_KEY_BYTES + 1), b""))
-        assert index.put(bytes(MAX_KEY_BYTES), b"") == 2 and index.get(bytes(MAX_KEY_BYTES), [0]) == Row(2, (b"",))
+        assert index.put(bytes(MAX_KEY_BYTES), b"") == 2
+        assert index.get(bytes(MAX_KEY_BYTES), columns=[0]) == Row(2, (b"",))
         raises(BadLimit, lambda: index.range(limit=0))
         raises(TooLong, lambda: index.range(limit=65536))
         raises(TooLong, lambda: index.put(b"k", {256: b""}))
@@ -119,6 +119,87 @@ def views_by_hand() -> None:
         assert index.view(view).count == 0
         assert [index.apply(), index.apply(view), index.apply(), index.apply(view)] == [1, 2, None, None]
         assert index.view(view).count == 2 and index.put(b"c", b"") == 3
+
+
+class RefusingLibrary:
+    """A library whose calls by these names are refused for want of memory while there are `refusals` left; all other
+    calls are made."""
+
+    def __init__(self, library: Any, *names: str) -> None:
+        self.refusals = 0
+        self._library = library
+        self._names = names
+
+    def __getattr__(self, name: str) -> Callable[..., int]:
+        symbol: Callable[..., int] = getattr(self._library, name)
+
+        def call(*arguments: Any) -> int:
+            if self.refusals == 0 or name not in self._names:
+                return symbol(*arguments)
+            self.refusals -= 1
+            return NoMemory.number
+
+        return call
+
+
+def refusing(index: Index) -> RefusingLibrary:
+    """Puts a library that may refuse to apply in the place of the index's own."""
+    library = RefusingLibrary(index._library, "rowanspan_apply")
+    index._library = library
+    return library
+
+
+def changes_that_no_view_follows() -> None:
+    """A change or build that was made returns its number, though the views can't be advanced after it."""
+    with Index() as index:
+        library = refusing(index)
+        view = index.build(Prefix(b"a"))
+        library.refusals = 1000
+        assert index.put(b"a", b"\5") == 1 and index.put_if(b"ab", b"\6", 0) == 2
+        assert index.get(b"a") == Row(1, (b"\5",)) and index.view(view) == Page(0, 0, (0,), [])
+        other = index.build(Prefix(b"ab"))
+        assert other == 2 and index.view(other).count == 1
+        assert index.remove(b"a") == 3 and index.remove(b"a") is None
+        fault = raises(Behind, lambda: index.view(view, floor=3))
+        assert isinstance(fault, Behind) and fault.detail == 0
+        raises(NoMemory, index.keep_views)
+        library.refusals = 0
+        index.keep_views()
+        assert index.view(view, 3) == index.view(other, 3) == Page(3, 1, (6,), [(b"ab", Row(2, (b"\6",)))])
+        library.refusals = 1
+        assert index.put(b"a", b"\7") == 4 and index.view(view).at == 3
+        assert index.put(b"b", b"") == 5 and index.view(view, 5).sums == (13,)
+
+
+def changes_after_the_log_was_full() -> None:
+    """A later change brings views that lag up to date, also if they hold the whole log; one that is refused too."""
+    with Index(feed=2) as index:
+        library = refusing(index)
+        view = index.build(Prefix(b""))
+        library.refusals = 1000
+        assert index.put(b"a", b"") == 1 and index.put(b"b", b"") == 2
+        raises(FeedFull, lambda: index.put(b"c", b""))
+        library.refusals = 0
+        assert index.put(b"c", b"") == 3 and index.view(view, 3).count == 3
+        library.refusals = 1
+        assert index.put(b"d", b"") == 4 and index.view(view).at == 3
+        raises(ColumnTooLong, lambda: index.put(b"e", bytes(65)))
+        assert index.view(view, 4).count == 4
+
+
+def views_kept_by_hand() -> None:
+    with Index(keep_views=False) as index:
+        library = refusing(index)
+        view = index.build(Prefix(b""))
+        for number in range(5):
+            index.put(b"%d" % number, b"")
+        assert index.view(view).at == 0
+        library.refusals = 1
+        raises(NoMemory, index.keep_views)
+        index.keep_views()
+        assert index.view(view, 5).count == 5
+        index.put(b"5", b"")
+        assert index.view(view).at == 5
 
 
 def feeds() -> None:
@@ -184,17 +265,48 @@ def other_threads() -> None:
     index.close()
 
 
+def wrong_types() -> None:
+    """What the client raises a TypeError for, the index does too, and nothing is done."""
+    with Index() as index:
+        index.put(b"a", b"v")
+        tried = 0
+        for name, arguments in WRONG_TYPES:
+            if hasattr(index, name):
+                raises(TypeError, lambda: getattr(index, name)(*arguments))
+                tried += 1
+        for name in ("feed", "apply"):
+            raises(TypeError, lambda: getattr(index, name)("1"))
+        for wrong in ("1", 1.0, None):
+            raises(TypeError, lambda: Index(columns=wrong))
+        assert tried > 60 and index.commits() == 1 and index.range() == [(b"a", Row(1, (b"v",)))]
+        assert index.put(bytearray(b"b"), {0: memoryview(b"w")}) == 2 and index.get(memoryview(b"b")) == Row(2, (b"w",))
+
+
 def names_of_the_client() -> None:
-    """Each method of the client on rows and views has here the same parameters, with the same defaults."""
-    for name in ("get", "put", "put_if", "remove", "range", "scan", "tidy", "build", "view", "drop", "close"):
-        client = inspect.signature(getattr(rowanspan.Index, name))
+    """Each method of the client on rows and views has here the same parameters, with the same defaults. Rows, views and
+    what is raised are the same classes."""
+    for name in ("get", "put", "put_if", "remove", "range", "scan", "tidy", "build", "view", "drop", "close",
+                 "__getitem__", "__contains__"):
+        client = inspect.signature(getattr(rowanspan.Client, name))
         assert inspect.signature(getattr(Index, name)) == client, name
-    for name in ("Row", "Page", "Tidied", "AnyRow", "Equals", "AtLeast", "Range", "Prefix"):
-        client, here = getattr(rowanspan, name), getattr(embedded, name)
-        assert getattr(client, "__annotations__", None) == getattr(here, "__annotations__", None), name
-    for number, kind in embedded.REFUSALS.items():
-        assert rowanspan.REFUSALS[number].__name__ == kind.__name__
-    assert embedded.MAX_KEY_BYTES == rowanspan.MAX_KEY_BYTES
+    for name in rowanspan.core.__all__:
+        assert getattr(rowanspan.embedded, name) is getattr(rowanspan, name), name
+
+
+def as_a_map() -> None:
+    with Index(columns=2) as index:
+        for key in (b"a", b"b", b"b\0", b"ba", b"c"):
+            index.put(key, {0: key, 1: b"x"})
+        assert index[b"a"] == Row(1, (b"a", b"x"))
+        assert raises(KeyError, lambda: index[b"d"]).args == (b"d",)
+        assert b"b" in index and b"" not in index and b"d" not in index
+        assert index.get(b"d", 5) == 5 and index.get(b"a", 5) == Row(1, (b"a", b"x"))
+        assert index.get(b"a", None, [1]) == Row(1, (b"x",))
+        assert [key for key, _ in index.scan(b"b")] == [b"b", b"b\0", b"ba"]
+        assert list(index.scan(b"b", [1], start=b"b\1")) == [(b"ba", Row(4, (b"x",)))]
+        for call in (lambda: index["a"], lambda: "a" in index, lambda: index.scan("a"), lambda: index[b"a":b"b"],
+                     lambda: iter(index), lambda: len(index)):
+            raises(TypeError, call)
 
 
 def random_calls() -> None:
@@ -245,7 +357,7 @@ def random_calls() -> None:
 
 def memory_is_flat() -> None:
     """A thousand times opened, filled and closed, in a process of its own."""
-    code = ("import resource, sys; sys.path.insert(0, sys.argv[1]); from rowanspan_embedded import Index\n"
+    code = ("import resource, sys; sys.path.insert(0, sys.argv[1]); from rowanspan.embedded import Index\n"
             "def once():\n"
             "    with Index() as index:\n"
             "        for number in range(100): index.put(b'%05d' % number, b'x' * 60)\n"
@@ -258,8 +370,9 @@ def memory_is_flat() -> None:
     assert int(grown) < 4096, f"{grown.strip()} KiB more after a thousand times"
 
 
-CASES = (rows, columns, conditional_puts, views, views_by_hand, feeds, scans_and_large_answers, epochs, closed, other_threads,
-         names_of_the_client, random_calls, memory_is_flat)
+CASES = (rows, columns, conditional_puts, views, views_by_hand, changes_that_no_view_follows,
+         changes_after_the_log_was_full, views_kept_by_hand, feeds, scans_and_large_answers, epochs, closed,
+         other_threads, wrong_types, as_a_map, names_of_the_client, random_calls, memory_is_flat)
 
 
 def main() -> int:

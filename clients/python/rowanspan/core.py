@@ -1,0 +1,334 @@
+"""What the client and the embedded index share: limits, errors, rows, pages, views, and the checks of arguments."""
+from __future__ import annotations
+
+import enum
+import operator
+from dataclasses import dataclass
+from typing import (Any, ClassVar, Dict, List, Mapping, NewType, Optional, Sequence, Tuple, Type,
+                    Union)
+
+__all__ = [
+    "MAX_KEY_BYTES", "MAX_LIMIT", "MAX_NUMBER", "RowanspanError", "TooLong", "Closed", "WrongThread", "NoLibrary",
+    "ConnectionLost", "BadReply", "Unanswered", "Refused", "NoMemory", "KeyTooLong", "BadColumn", "ColumnTooLong",
+    "BadLimit", "ArenaFull", "FeedFull", "TooManyCalls", "NoSuchCall", "TooManyViews", "NoSuchView", "Behind",
+    "BadRange", "Spent", "WrongPass", "OtherVersion", "REFUSALS", "ViewNo", "Row", "Pairs", "Page", "Delta", "Tidied",
+    "AnyRow", "Equals", "AtLeast", "RowTest", "Range", "Prefix", "ViewSpec", "Sets", "set_pairs", "key_after",
+]
+
+MAX_KEY_BYTES = 1024
+MAX_LIMIT = 1000
+MAX_NUMBER = 2 ** 64 - 1
+
+ViewNo = NewType("ViewNo", int)
+
+
+# ---- what can go wrong
+
+class RowanspanError(Exception):
+    """What this package raises, but for arguments of a wrong type."""
+
+
+class TooLong(RowanspanError, ValueError):
+    """A key, a column or a number is out of its bounds, or a frame is. Nothing was done."""
+
+
+class Closed(RowanspanError):
+    """The index was closed by its method `close`, or at the end of its `with` block. Nothing was done."""
+
+
+class WrongThread(RowanspanError):
+    """Another thread made this embedded index. Nothing was done."""
+
+
+class NoLibrary(RowanspanError):
+    """The library of the embedded index isn't there, or is another one."""
+
+
+class ConnectionLost(RowanspanError):
+    """There is no connection to a server, or it ended, or the time was over. Whether the last queries were done isn't
+    known."""
+
+
+class BadReply(RowanspanError):
+    """What came from a server is no reply to what was asked. The connection is closed."""
+
+
+class Unanswered(RowanspanError):
+    """The answer of a pipeline was asked for that wasn't sent, or whose connection was lost."""
+
+
+class Refused(RowanspanError):
+    """A call was refused: it changed no row, no commit and no view.
+
+    `number` is that of the cause, as docs/WIRE.md lists them. `detail` is the number of a commit that goes with it: for
+    `FeedFull` from which commit on the log is held, for `Behind` where the view stands, or from which commit on the log
+    has deltas, for `OtherVersion` the version that the row has (0: there is no row); else None.
+    """
+
+    number: ClassVar[int] = 0
+    has_detail: ClassVar[bool] = False
+    cause: ClassVar[str] = ""
+
+    def __init__(self, detail: Optional[int] = None) -> None:
+        self.detail = detail
+        super().__init__(self.cause if detail is None else f"{self.cause} ({detail})")
+
+
+class NoMemory(Refused):
+    number, cause = 1, "out of memory"
+
+
+class KeyTooLong(Refused, TooLong):
+    number, cause = 2, f"a key has more than {MAX_KEY_BYTES:,} bytes"
+
+
+class BadColumn(Refused, TooLong):
+    number, cause = 3, "a column is not there, or is named twice; or an index is to have none, or more than 16"
+
+
+class ColumnTooLong(Refused, TooLong):
+    number, cause = 4, "a column has more than 64 bytes"
+
+
+class BadLimit(Refused, TooLong):
+    number, cause = 5, "a limit is not from 1 to 1000; or feed is not from 1 to 65536, or keep is over 65536"
+
+
+class ArenaFull(Refused):
+    number, cause = 6, "no number of a node is free"
+
+
+class FeedFull(Refused):
+    number, has_detail, cause = 7, True, "the log is full, and is held from this commit on"
+
+
+class TooManyCalls(Refused):
+    number, cause = 8, "too many calls are open"
+
+
+class NoSuchCall(Refused):
+    number, cause = 9, "no such call is open"
+
+
+class TooManyViews(Refused):
+    number, cause = 10, "too many views stand"
+
+
+class NoSuchView(Refused):
+    number, cause = 11, "no such view stands"
+
+
+class Behind(Refused):
+    number, has_detail, cause = 12, True, "what was asked for isn't there, but at this commit"
+
+
+class BadRange(Refused):
+    number, cause = 13, "a range ends before it begins"
+
+
+class Spent(Refused):
+    number, cause = 14, "a number is at its greatest value"
+
+
+class WrongPass(Refused):
+    number, cause = 15, "this is another pass"
+
+
+class OtherVersion(Refused):
+    number, has_detail, cause = 16, True, "the row isn't of the version that was asked, but of this one"
+
+
+REFUSALS: Dict[int, Type[Refused]] = {kind.number: kind for kind in Refused.__subclasses__()}
+
+
+# ---- values
+
+@dataclass(frozen=True)
+class Row:
+    """A row: the number of the commit that wrote it last, and its columns, in the order in which they were asked."""
+
+    version: int
+    columns: Tuple[bytes, ...]
+
+
+Pairs = List[Tuple[bytes, Row]]
+
+
+@dataclass(frozen=True)
+class Page:
+    """What a view shows: the number of commits at which it stands, how many rows it has then, for each column the sum
+    of its amounts (its bytes as a number, the highest first; over eight bytes count 0), and the rows asked for."""
+
+    at: int
+    count: int
+    sums: Tuple[int, ...]
+    rows: Pairs
+
+
+@dataclass(frozen=True)
+class Delta:
+    """What a commit did to a key: the row before, and the row after, or None."""
+
+    number: int
+    key: bytes
+    before: Optional[Row]
+    after: Optional[Row]
+
+
+class Tidied(enum.IntEnum):
+    """What a tidy did."""
+
+    NOTHING = 0
+    EMPTY_BORDER = 1
+    LONE_CHILD = 2
+    LONE_ROOT_CHILD = 3
+    EMPTY_LAYER = 4
+
+
+# ---- views
+
+@dataclass(frozen=True)
+class AnyRow:
+    """Each row."""
+
+
+@dataclass(frozen=True)
+class Equals:
+    """The rows whose column is exactly these bytes."""
+
+    column: int
+    value: bytes
+
+
+@dataclass(frozen=True)
+class AtLeast:
+    """The rows whose column, as a number with the highest byte first, is this at least."""
+
+    column: int
+    least: int
+
+
+RowTest = Union[AnyRow, Equals, AtLeast]
+
+
+@dataclass(frozen=True)
+class Range:
+    """The rows of the keys from `lo` on that are before `hi` (None: to the last key), and pass the test."""
+
+    lo: bytes = b""
+    hi: Optional[bytes] = None
+    test: RowTest = AnyRow()
+
+
+@dataclass(frozen=True)
+class Prefix:
+    """The rows of the keys that begin with `key`, and pass the test."""
+
+    key: bytes
+    test: RowTest = AnyRow()
+
+
+ViewSpec = Union[Range, Prefix]
+
+
+# ---- arguments
+
+Sets = Union[bytes, Mapping[int, bytes], Sequence[Tuple[int, bytes]]]
+
+
+def set_pairs(sets: Sets) -> List[Tuple[int, bytes]]:
+    """The columns that a put sets, with their numbers: plain bytes are column 0. Raises TypeError for another type."""
+    if isinstance(sets, (bytes, bytearray, memoryview)):
+        return [(0, bytes(sets))]
+    try:
+        pairs = [(column, value) for column, value in (sets.items() if isinstance(sets, Mapping) else sets)]
+    except (TypeError, ValueError):
+        raise unfit_sets(sets) from None
+    if isinstance(sets, str):
+        raise unfit_sets(sets)
+    return [(checked_column(column), checked_bytes(value, "a column")) for column, value in pairs]
+
+
+def unfit_sets(sets: Any) -> TypeError:
+    return TypeError("what a put sets must be bytes, a mapping of columns to bytes, or a sequence of such pairs, not "
+                     + type(sets).__name__)
+
+
+def checked_bytes(value: Any, what: str) -> bytes:
+    """Bytes, copied where they could change. Raises TypeError for another type."""
+    if type(value) is bytes:
+        return value
+    if not isinstance(value, (bytes, bytearray, memoryview)):
+        raise TypeError(f"{what} must be bytes, not {type(value).__name__}")
+    return bytes(value)
+
+
+def checked_int(value: Any, what: str) -> int:
+    """A number. Raises TypeError for another type."""
+    try:
+        return operator.index(value)
+    except TypeError:
+        raise TypeError(f"{what} must be an int, not {type(value).__name__}") from None
+
+
+def checked_number(value: Any, what: str, most: int = MAX_NUMBER) -> int:
+    """A number that fits its field. Raises TypeError for another type, and `TooLong` for one that doesn't fit."""
+    number = checked_int(value, what)
+    if not 0 <= number <= most:
+        raise TooLong(f"{what} must be from 0 to {most}, not {number}")
+    return number
+
+
+def checked_view(number: Any) -> int:
+    """The number of a view. Raises TypeError for another type, and `TooLong` for one that doesn't fit its field."""
+    return checked_number(number, "the number of a view")
+
+
+def checked_limit(limit: Any) -> int:
+    """A limit. Raises TypeError for another type, and `BadLimit` for one that doesn't fit its field of two bytes."""
+    number = checked_int(limit, "a limit")
+    if not 0 <= number < 256 ** 2:
+        raise BadLimit()
+    return number
+
+
+def checked_test(test: Any) -> RowTest:
+    """A test of rows. Raises TypeError for another type."""
+    if not isinstance(test, (AnyRow, Equals, AtLeast)):
+        raise TypeError(f"a test must be AnyRow, Equals or AtLeast, not {type(test).__name__}")
+    return test
+
+
+def checked_spec(spec: Any) -> ViewSpec:
+    """What a view is of. Raises TypeError for another type."""
+    if not isinstance(spec, (Range, Prefix)):
+        raise TypeError(f"a view must be of a Range or a Prefix, not {type(spec).__name__}")
+    return spec
+
+
+def checked_columns(columns: Any) -> List[int]:
+    """Numbers of columns. Raises TypeError for what isn't a sequence of ints, and `BadColumn` for one above a byte."""
+    try:
+        listed = list(columns)
+    except TypeError:
+        raise TypeError(f"columns must be a sequence of ints, not {type(columns).__name__}") from None
+    return [checked_column(column) for column in listed]
+
+
+def checked_column(column: Any) -> int:
+    """The number of a column. Raises TypeError for another type, and `BadColumn` for one above a byte."""
+    number = checked_int(column, "the number of a column")
+    if not 0 <= number <= 255:
+        raise BadColumn()
+    return number
+
+
+# ---- the order of keys
+
+def key_after(key: bytes) -> Optional[bytes]:
+    """The least key after this one, of at most `MAX_KEY_BYTES` bytes; None where there is none."""
+    if len(key) < MAX_KEY_BYTES:
+        return key + b"\0"
+    # no longer key begins with it, so the next key is greater in some byte: in the last one that can be greater
+    front = key.rstrip(b"\xff")
+    return front[:-1] + bytes((front[-1] + 1,)) if front else None

@@ -1,0 +1,367 @@
+"""Queries and answers as bytes: the wire of docs/WIRE.md, as a client has it."""
+from __future__ import annotations
+
+import enum
+from dataclasses import dataclass
+from typing import Any, Callable, ClassVar, Generic, List, Mapping, Optional, Sequence, Tuple, TypeVar, Union
+
+from .core import (MAX_KEY_BYTES, MAX_LIMIT, REFUSALS, AtLeast, BadReply, ColumnTooLong, Equals, KeyTooLong, Page,
+                   Pairs, Prefix, Refused, Row, RowTest, Sets, Tidied, TooLong, ViewNo, ViewSpec, checked_bytes,
+                   checked_column, checked_columns, checked_limit, checked_number, checked_spec, checked_test,
+                   checked_view, set_pairs)
+
+__all__ = [
+    "MAX_QUERIES", "MAX_REQUEST_BODY", "MAX_REPLY_BODY", "spelled_number", "spelled_key", "spelled_bytes", "Reader",
+    "AnswerKind", "Query", "Get", "Put", "PutIf", "Remove", "GetRange", "Tidy", "Build", "ViewRead", "ViewDrop",
+    "Reply", "Outcome", "frame_version", "request_frame", "read_replies",
+]
+
+MAX_QUERIES = 64
+MAX_REQUEST_BODY = 262_144
+MAX_REPLY_BODY = 134_217_727
+
+Value = TypeVar("Value")
+
+
+# ---- fields
+
+def spelled_number(number: int, width: int, what: str = "a number") -> bytes:
+    """A number in so many bytes, the highest first."""
+    return checked_number(number, what, 256 ** width - 1).to_bytes(width, "big")
+
+
+def spelled_key(key: bytes) -> bytes:
+    """A key: two bytes of length, then the key. Raises `KeyTooLong` where two bytes don't tell its length."""
+    checked = checked_bytes(key, "a key")
+    if len(checked) >= 256 ** 2:
+        raise KeyTooLong()
+    return len(checked).to_bytes(2, "big") + checked
+
+
+def spelled_bytes(value: bytes) -> bytes:
+    """The bytes of a column: one byte of length, then the bytes. Raises `ColumnTooLong` where one byte doesn't tell how
+    many they are."""
+    checked = checked_bytes(value, "a column")
+    if len(checked) >= 256:
+        raise ColumnTooLong()
+    return bytes((len(checked),)) + checked
+
+
+def spelled_columns(columns: Sequence[int]) -> bytes:
+    """Numbers of columns: one byte that counts them, then one byte each."""
+    checked = checked_columns(columns)
+    return spelled_number(len(checked), 1, "the count of columns") + bytes(checked)
+
+
+def spelled_column(column: int) -> bytes:
+    """The number of a column, in one byte."""
+    return bytes((checked_column(column),))
+
+
+def spelled_limit(limit: int) -> bytes:
+    """A limit, in two bytes."""
+    return checked_limit(limit).to_bytes(2, "big")
+
+
+def spelled_sets(sets: Sets) -> bytes:
+    """The columns that a put sets: one byte that counts them, then each number and its bytes."""
+    pairs = set_pairs(sets)
+    columns = b"".join(spelled_column(column) + spelled_bytes(value) for column, value in pairs)
+    return spelled_number(len(pairs), 1, "the count of columns") + columns
+
+
+def spelled_test(test: RowTest) -> bytes:
+    """A test of rows: its kind, then the column and what it is compared with."""
+    checked = checked_test(test)
+    if isinstance(checked, Equals):
+        return b"\1" + spelled_column(checked.column) + spelled_bytes(checked.value)
+    if isinstance(checked, AtLeast):
+        return b"\2" + spelled_column(checked.column) + spelled_number(checked.least, 8, "the least amount")
+    return b"\0"
+
+
+def spelled_spec(spec: ViewSpec) -> bytes:
+    """What a view is of: its kind, the keys, and the test."""
+    checked = checked_spec(spec)
+    if isinstance(checked, Prefix):
+        return b"\1" + spelled_key(checked.key) + spelled_test(checked.test)
+    end = b"\0" if checked.hi is None else b"\1" + spelled_key(checked.hi)
+    return b"\0" + spelled_key(checked.lo) + end + spelled_test(checked.test)
+
+
+class Reader:
+    """Reads the fields of a body, one after another. What isn't there whole is a ValueError."""
+
+    def __init__(self, body: bytes) -> None:
+        self._body = body
+        self._at = 0
+
+    def is_at_end(self) -> bool:
+        return self._at == len(self._body)
+
+    def take(self, count: int) -> bytes:
+        taken = self._body[self._at:self._at + count]
+        if len(taken) != count:
+            raise ValueError("a body ends inside a field")
+        self._at += count
+        return taken
+
+    def number(self, width: int) -> int:
+        return int.from_bytes(self.take(width), "big")
+
+    def key(self) -> bytes:
+        return self.take(self.number(2))
+
+    def short(self) -> bytes:
+        return self.take(self.number(1))
+
+    def row(self) -> Row:
+        version = self.number(8)
+        return Row(version, tuple(self.short() for _ in range(self.number(1))))
+
+    def pair(self) -> Tuple[bytes, Row]:
+        key = self.key()
+        if len(key) > MAX_KEY_BYTES:
+            raise ValueError("a row has too long a key")
+        return key, self.row()
+
+    def pairs(self) -> Pairs:
+        return [self.pair() for _ in range(self.number(2))]
+
+    def page(self) -> Page:
+        at, count = self.number(8), self.number(8)
+        sums = tuple(self.number(16) for _ in range(self.number(1)))
+        return Page(at, count, sums, self.pairs())
+
+    def commit(self) -> int:
+        return self.number(8)
+
+    def view_number(self) -> ViewNo:
+        return ViewNo(self.number(8))
+
+    def tidied(self) -> Tidied:
+        return Tidied(self.number(1))
+
+    def nothing(self) -> None:
+        return None
+
+
+# ---- queries
+
+class AnswerKind(enum.IntEnum):
+    """The first byte of an answer."""
+
+    REFUSED = 0
+    ABSENT = 1
+    ROW = 2
+    COMMITTED = 3
+    ROWS = 4
+    TIDIED = 5
+    BUILT = 6
+    VIEW = 7
+    DROPPED = 8
+
+    def has_span(self) -> bool:
+        """Whether the numbers of commits at the call's begin and end follow."""
+        return self.ABSENT <= self <= self.BUILT
+
+
+# how an answer is read behind its first byte and its span, for each kind that a query may have
+Answers = Mapping[AnswerKind, Callable[[Reader], Value]]
+
+
+class Query(Generic[Value]):
+    """What a client asks: its bytes, how its answers are read, and since which version the wire has it."""
+
+    since: ClassVar[int] = 1
+    answers: ClassVar[Answers[Any]] = {}
+
+    def spelled(self) -> bytes:
+        raise NotImplementedError
+
+
+@dataclass(frozen=True)
+class Get(Query[Optional[Row]]):
+    """The row of a key, or None. No columns means all of them."""
+
+    answers: ClassVar[Answers[Optional[Row]]] = {AnswerKind.ABSENT: Reader.nothing, AnswerKind.ROW: Reader.row}
+    key: bytes
+    columns: Sequence[int] = ()
+
+    def spelled(self) -> bytes:
+        return b"\1" + spelled_key(self.key) + spelled_columns(self.columns)
+
+
+@dataclass(frozen=True)
+class Put(Query[int]):
+    """Sets columns of a key's row; gives the number of the commit."""
+
+    answers: ClassVar[Answers[int]] = {AnswerKind.COMMITTED: Reader.commit}
+    key: bytes
+    sets: Sets
+
+    def spelled(self) -> bytes:
+        return b"\2" + spelled_key(self.key) + spelled_sets(self.sets)
+
+
+@dataclass(frozen=True)
+class PutIf(Query[int]):
+    """A put that is made only where the key's row is of this version (0: where there is no row); gives the number of
+    the commit. Else it is refused as `OtherVersion`."""
+
+    answers: ClassVar[Answers[int]] = {AnswerKind.COMMITTED: Reader.commit}
+    since: ClassVar[int] = 2
+    key: bytes
+    sets: Sets
+    version: int
+
+    def spelled(self) -> bytes:
+        return b"\x09" + spelled_key(self.key) + spelled_number(self.version, 8, "a version") + spelled_sets(self.sets)
+
+
+@dataclass(frozen=True)
+class Remove(Query[Optional[int]]):
+    """Removes a key's row; gives the number of the commit, or None where there was no row."""
+
+    answers: ClassVar[Answers[Optional[int]]] = {AnswerKind.ABSENT: Reader.nothing, AnswerKind.COMMITTED: Reader.commit}
+    key: bytes
+
+    def spelled(self) -> bytes:
+        return b"\3" + spelled_key(self.key)
+
+
+@dataclass(frozen=True)
+class GetRange(Query[Pairs]):
+    """The first rows from a key on, in the order of their keys. No columns means all of them."""
+
+    answers: ClassVar[Answers[Pairs]] = {AnswerKind.ROWS: Reader.pairs}
+    start: bytes = b""
+    limit: int = MAX_LIMIT
+    columns: Sequence[int] = ()
+
+    def spelled(self) -> bytes:
+        return b"\4" + spelled_key(self.start) + spelled_limit(self.limit) + spelled_columns(self.columns)
+
+
+@dataclass(frozen=True)
+class Tidy(Query[Tidied]):
+    """Takes out at most one node that is no longer wanted, near the place of a key."""
+
+    answers: ClassVar[Answers[Tidied]] = {AnswerKind.TIDIED: Reader.tidied}
+    key: bytes
+
+    def spelled(self) -> bytes:
+        return b"\5" + spelled_key(self.key)
+
+
+@dataclass(frozen=True)
+class Build(Query[ViewNo]):
+    """Builds a view; gives its number."""
+
+    answers: ClassVar[Answers[ViewNo]] = {AnswerKind.BUILT: Reader.view_number}
+    spec: ViewSpec
+
+    def spelled(self) -> bytes:
+        return b"\6" + spelled_spec(self.spec)
+
+
+@dataclass(frozen=True)
+class ViewRead(Query[Page]):
+    """A page of a view that stands at `floor` commits at least."""
+
+    answers: ClassVar[Answers[Page]] = {AnswerKind.VIEW: Reader.page}
+    view: int
+    floor: int = 0
+    start: bytes = b""
+    limit: int = MAX_LIMIT
+
+    def spelled(self) -> bytes:
+        return (b"\7" + checked_view(self.view).to_bytes(8, "big") + spelled_number(self.floor, 8, "a floor")
+                + spelled_key(self.start) + spelled_limit(self.limit))
+
+
+@dataclass(frozen=True)
+class ViewDrop(Query[None]):
+    """Ends a view."""
+
+    answers: ClassVar[Answers[None]] = {AnswerKind.DROPPED: Reader.nothing}
+    view: int
+
+    def spelled(self) -> bytes:
+        return b"\x08" + checked_view(self.view).to_bytes(8, "big")
+
+
+def spelled_query(query: Query[Any]) -> bytes:
+    """A query. Raises TypeError for another type."""
+    if not isinstance(query, Query):
+        raise TypeError(f"a query must be a Get, a Put or another Query, not {type(query).__name__}")
+    return query.spelled()
+
+
+# ---- frames
+
+@dataclass(frozen=True)
+class Reply(Generic[Value]):
+    """What a query gave, and the numbers of commits when its call began and when it ended; both are None of a page,
+    which tells in `at` where its view stands, and of a drop."""
+
+    value: Value
+    from_: Optional[int] = None
+    to: Optional[int] = None
+
+
+Outcome = Union[Reply[Any], Refused]
+
+
+def frame_version(queries: Sequence[Query[Any]]) -> int:
+    """The version of a frame of these queries, and of the reply to it: the first that has them all, which servers that
+    know no later one answer too."""
+    return max((query.since for query in queries), default=1)
+
+
+def request_frame(messages: Sequence[bytes], version: int = 1) -> bytes:
+    """The frame of queries that are spelled already, in this version."""
+    if not 1 <= len(messages) <= MAX_QUERIES:
+        raise TooLong(f"a frame has 1 to {MAX_QUERIES} queries, not {len(messages)}")
+    body = bytes((version, len(messages))) + b"".join(messages)
+    if len(body) > MAX_REQUEST_BODY:
+        raise TooLong(f"the queries take {len(body)} bytes, and a frame has {MAX_REQUEST_BODY}")
+    return spelled_number(len(body), 4) + body
+
+
+def read_refusal(reader: Reader) -> Refused:
+    """A refusal, behind its first byte."""
+    number, detail = reader.number(1), reader.number(8)
+    kind = REFUSALS.get(number)
+    if kind is None or (detail and not kind.has_detail):
+        raise ValueError(f"there is no refusal {number} with {detail}")
+    return kind(detail) if kind.has_detail else kind()
+
+
+def read_outcome(reader: Reader, query: Query[Any]) -> Outcome:
+    """The answer to a query."""
+    kind = AnswerKind(reader.number(1))
+    if kind is AnswerKind.REFUSED:
+        return read_refusal(reader)
+    read = query.answers.get(kind)
+    if read is None:
+        raise ValueError(f"{kind.name} answers no {type(query).__name__}")
+    if not kind.has_span():
+        return Reply(read(reader))
+    from_, to = reader.number(8), reader.number(8)
+    return Reply(read(reader), from_, to)
+
+
+def read_replies(body: bytes, queries: Sequence[Query[Any]]) -> List[Outcome]:
+    """The answers to these queries, of the body of a frame of replies; raises `BadReply`."""
+    try:
+        reader = Reader(body)
+        version, count = reader.number(1), reader.number(1)
+        if version != frame_version(queries) or count != len(queries):
+            raise ValueError(f"{count} answers in version {version} came to {len(queries)} queries")
+        outcomes = [read_outcome(reader, query) for query in queries]
+        if not reader.is_at_end():
+            raise ValueError("bytes are left over")
+    except ValueError as fault:
+        raise BadReply(str(fault)) from fault
+    return outcomes

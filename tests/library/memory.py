@@ -1,0 +1,111 @@
+"""The embedded index where memory ends inside the library's calls: `memory.py`, with wanting_memory.c preloaded.
+
+A change that was made returns its number, and one that is refused changed nothing. The last line is 'N passed, M
+failed'.
+"""
+from __future__ import annotations
+
+import ctypes
+import sys
+import traceback
+from pathlib import Path
+from typing import Any, Callable, Dict
+
+sys.path.insert(0, str(Path(__file__).resolve().parent.parent.parent / "clients" / "python"))
+
+from rowanspan.embedded import Index, NoMemory, Prefix, Row  # noqa: E402
+
+PRELOADED = ctypes.PyDLL(None)
+
+
+class WantingLibrary:
+    """A library in whose calls by these names the allocation after so many is refused, and each after it."""
+
+    def __init__(self, library: Any) -> None:
+        self.allowed: Dict[str, int] = {}
+        self._library = library
+
+    def __getattr__(self, name: str) -> Callable[..., int]:
+        symbol: Callable[..., int] = getattr(self._library, name)
+
+        def call(*arguments: Any) -> int:
+            # the interpreter's own allocations are none of the call's
+            PRELOADED.memory_ends_after(self.allowed.get(name, -1))
+            try:
+                return symbol(*arguments)
+            finally:
+                PRELOADED.memory_ends_after(-1)
+
+        return call
+
+
+def wanting(index: Index) -> WantingLibrary:
+    """Puts a library that may want memory in the place of the index's own."""
+    library = WantingLibrary(index._library)
+    index._library = library
+    return library
+
+
+def puts() -> None:
+    """Puts where memory ends in the put, in the view after it, or in both."""
+    with Index() as index:
+        library, plain, lags, refusals = wanting(index), {}, 0, 0
+        view = index.build(Prefix(b""))
+        for number in range(4000):
+            key, made = b"%06d" % (number * 7919 % 1000003), index.commits()
+            library.allowed = {"rowanspan_raw_put": number % 16 - 1, "rowanspan_apply": number // 16 % 2 - 1}
+            try:
+                commit = index.put(key, b"v")
+                assert commit == index.commits() == made + 1
+                plain[key] = Row(commit, (b"v",))
+                lags += index.view(view, limit=1).at < commit
+            except NoMemory:
+                refusals += 1
+                assert index.commits() == made and index.get(key) == plain.get(key)
+        library.allowed = {}
+        index.keep_views()
+        assert lags > 10 and refusals > 10, (lags, refusals)
+        assert dict(index.scan()) == plain and index.view(view, index.commits()).count == len(plain)
+
+
+def builds() -> None:
+    """A build where memory ends in it, or in the views that lag behind it."""
+    with Index() as index:
+        library, built, refusals = wanting(index), 0, 0
+        for number in range(100):
+            index.put(b"%06d" % number, b"v")
+        for number in range(63):
+            library.allowed = {"rowanspan_raw_build_prefix": number % 21 - 1, "rowanspan_apply": 0}
+            try:
+                built += 1
+                assert index.build(Prefix(b"00000")) == built and index.view(built).count == 10
+            except NoMemory:
+                built -= 1
+                refusals += 1
+            library.allowed = {"rowanspan_apply": 0}
+            index.put(b"000000", b"w")
+        library.allowed = {}
+        index.keep_views()
+        assert built > 2 and refusals > 2, (built, refusals)
+        for view in range(1, built + 1):
+            assert index.view(view, index.commits()).count == 10
+
+
+CASES = (puts, builds)
+
+
+def main() -> int:
+    failed = 0
+    for case in CASES:
+        try:
+            case()
+            print(f"ok {case.__name__}")
+        except Exception:
+            failed += 1
+            print(f"FAILED {case.__name__}: {traceback.format_exc()}")
+    print(f"{len(CASES) - failed} passed, {failed} failed")
+    return 1 if failed else 0
+
+
+if __name__ == "__main__":
+    sys.exit(main())
