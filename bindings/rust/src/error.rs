@@ -20,7 +20,7 @@ pub enum Error {
     ArenaFull,
     /// The log is full: views hold it from this commit on.
     FeedFull(u64),
-    /// 64 views stand.
+    /// There are 64 views.
     TooManyViews,
     /// No view that stands has this number.
     NoSuchView,
@@ -68,8 +68,8 @@ impl fmt::Display for Error {
             Error::BadLimit => write!(f, "a limit is out of its bounds"),
             Error::ArenaFull => write!(f, "no number of a node is free"),
             Error::FeedFull(from) => write!(f, "the feed is full from commit {from} on"),
-            Error::TooManyViews => write!(f, "too many views stand"),
-            Error::NoSuchView => write!(f, "no such view stands"),
+            Error::TooManyViews => write!(f, "there are too many views"),
+            Error::NoSuchView => write!(f, "there is no such view"),
             Error::Behind(at) => write!(f, "what was asked for is not there, but at commit {at}"),
             Error::BadRange => write!(f, "a range ends before it begins"),
             Error::Spent => write!(f, "a number is at its greatest value"),

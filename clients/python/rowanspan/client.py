@@ -41,7 +41,7 @@ def receive_body(connection: socket.socket) -> bytes:
 # ---- the connection
 
 def check_address(port: Any, host: Any, timeout: Any) -> None:
-    """Raises TypeError where one of them is of a wrong type, and `TooLong` for a timeout that is no time to wait."""
+    """Raises TypeError if one of them is of a wrong type, and `TooLong` for a timeout that is no time to wait."""
     checked_int(port, "a port")
     if not isinstance(host, str):
         raise TypeError(f"a host must be a str, not {type(host).__name__}")
@@ -55,8 +55,8 @@ class Client(RowMap):
     """A connection to a server.
 
     `timeout` is for how many seconds a connect, a send or a receive may wait (None: without end); one that waits longer
-    closes the connection. A server has as many workers as it serves connections at once: where all are busy, a call
-    waits till another client has closed its connection.
+    closes the connection. A server has as many workers as it serves connections at once: if all are busy, a call
+    waits until another client has closed its connection.
 
     Each method sends one frame and waits for its answer: one round trip. `pipeline` sends up to 64 queries in one.
     """
@@ -79,7 +79,7 @@ class Client(RowMap):
         self.close()
 
     def close(self) -> None:
-        """Ends the connection, and with it the server's session. Views stand on. A second close does nothing."""
+        """Ends the connection, and with it the server's session. Views stay. A second close does nothing."""
         connection, self._connection = self._connection, None
         if connection is not None:
             connection.close()
@@ -87,15 +87,15 @@ class Client(RowMap):
     # -- calls
 
     def call(self, query: Query[Value]) -> Reply[Value]:
-        """Asks one query; gives its value with the numbers of commits at its begin and end. Raises `Refused`."""
+        """Asks one query; returns its value with the numbers of commits at its begin and end. Raises `Refused`."""
         outcome = self.call_all([query])[0]
         if isinstance(outcome, Refused):
             raise outcome
         return outcome
 
     def call_all(self, queries: Sequence[Query[Any]]) -> List[Outcome]:
-        """Asks 1 to 64 queries in one frame, which the server does one after another. Gives for each its reply, or the
-        `Refused` that it met, not raised."""
+        """Asks 1 to 64 queries in one frame, which the server does one after another. Returns for each its reply, or
+        the `Refused` that it met, not raised."""
         return self.exchange(queries, [spelled_query(query) for query in queries])
 
     def exchange(self, queries: Sequence[Query[Any]], messages: Sequence[bytes]) -> List[Outcome]:
@@ -131,18 +131,18 @@ class Client(RowMap):
 
     def put(self, key: bytes, sets: Sets) -> int:
         """Sets columns of a key's row, by their numbers; plain bytes are column 0. The others stay as they were; those
-        of a new row are empty. Gives the number of the commit."""
+        of a new row are empty. Returns the number of the commit."""
         return self.call(Put(key, sets)).value
 
     def put_if(self, key: bytes, sets: Sets, version: int) -> int:
-        """Sets columns as `put` does, but only where the key's row is of this version (0: where there is no row). Gives
+        """Sets columns as `put` does, but only if the key's row is of this version (0: if there is no row). Returns
         the number of the commit, the row's version then. Else raises `OtherVersion`, whose detail is its version."""
         return self.call(PutIf(key, sets, version)).value
 
     def update(self, key: bytes, change: Callable[[Optional[Row]], Optional[Sets]]) -> Optional[int]:
-        """Changes a key's row by what it is: `change` is given the row (None: there is none), and gives the columns to
-        set (None: none, and nothing is put). It is called anew where another client has changed the row meanwhile,
-        without a bound: so let it do nothing else. Gives the number of the commit, or None where nothing was put."""
+        """Changes a key's row by what it is: `change` is given the row (None: there is none), and returns the columns
+        to set (None: none, and nothing is put). It is called again if another client has changed the row meanwhile,
+        without a bound: so let it do nothing else. Returns the number of the commit, or None if nothing was put."""
         if not callable(change):
             raise TypeError(f"what changes a row must be callable, not {type(change).__name__}")
         while True:
@@ -156,7 +156,7 @@ class Client(RowMap):
                 pass
 
     def remove(self, key: bytes) -> Optional[int]:
-        """Removes a key's row. Gives the number of the commit, or None where there was no row."""
+        """Removes a key's row. Returns the number of the commit, or None if there was no row."""
         return self.call(Remove(key)).value
 
     def range(self, start: bytes = b"", limit: int = MAX_LIMIT, columns: Optional[Sequence[int]] = None) -> Pairs:
@@ -172,14 +172,14 @@ class Client(RowMap):
     # -- views
 
     def build(self, spec: ViewSpec) -> ViewNo:
-        """Builds a view, which the server then keeps up, till it is dropped. Gives its number, by which every client
+        """Builds a view, which the server then keeps up, until it is dropped. Returns its number, by which every client
         can read it. The cost is that of reading its range."""
         return self.call(Build(spec)).value
 
     def view(self, number: int, floor: int = 0, start: bytes = b"", limit: int = MAX_LIMIT) -> Page:
         """A page of a view: its count and sums, and its first rows from a key on, 1 to 1000 at most. `floor` is the
-        number of commits that it is to show at least, such as that of a put of yours; where the view doesn't stand
-        there yet, raises `Behind`: ask again."""
+        number of commits that it is to show at least, such as that of a put of yours; if the view isn't there yet,
+        raises `Behind`: ask again."""
         return self.call(ViewRead(number, floor, start, limit)).value
 
     def drop(self, number: int) -> None:
@@ -247,7 +247,7 @@ class Pipeline:
             self.send()
 
     def add(self, query: Query[Value]) -> Pending[Value]:
-        """Puts a query at the end. Where there are 64 already, or the frame would be too long, raises `TooLong`, and
+        """Puts a query at the end. If there are 64 already, or the frame would be too long, raises `TooLong`, and
         the pipeline is as it was."""
         message = spelled_query(query)
         if len(self._queries) == MAX_QUERIES or self._length + len(message) > MAX_REQUEST_BODY:
@@ -260,7 +260,7 @@ class Pipeline:
         return pending
 
     def send(self) -> List[Any]:
-        """Sends the queries and waits for their answers. Gives their values, in the order of the queries; in place of
+        """Sends the queries and waits for their answers. Returns their values, in the order of the queries; in place of
         that of a refused query its `Refused`, not raised. The pipeline is empty then, and can be used again."""
         queries, messages, pending = self._queries, self._messages, self._pending
         self._clear()

@@ -61,7 +61,7 @@ class Refused(RowanspanError):
     """A call was refused: it changed no row, no commit and no view.
 
     `number` is that of the cause, as docs/WIRE.md lists them. `detail` is the number of a commit that goes with it: for
-    `FeedFull` from which commit on the log is held, for `Behind` where the view stands, or from which commit on the log
+    `FeedFull` from which commit on the log is held, for `Behind` where the view is, or from which commit on the log
     has deltas, for `OtherVersion` the version that the row has (0: there is no row); else None.
     """
 
@@ -111,11 +111,11 @@ class NoSuchCall(Refused):
 
 
 class TooManyViews(Refused):
-    number, cause = 10, "too many views stand"
+    number, cause = 10, "there are too many views"
 
 
 class NoSuchView(Refused):
-    number, cause = 11, "no such view stands"
+    number, cause = 11, "there is no such view"
 
 
 class Behind(Refused):
@@ -156,7 +156,7 @@ Pairs = List[Tuple[bytes, Row]]
 
 @dataclass(frozen=True)
 class Page:
-    """What a view shows: the number of commits at which it stands, how many rows it has then, for each column the sum
+    """What a view shows: the number of commits at which it is, how many rows it has then, for each column the sum
     of its amounts (its bytes as a number, the highest first; over eight bytes count 0), and the rows asked for."""
 
     at: int
@@ -255,7 +255,7 @@ def unfit_sets(sets: Any) -> TypeError:
 
 
 def checked_bytes(value: Any, what: str) -> bytes:
-    """Bytes, copied where they could change. Raises TypeError for another type."""
+    """Bytes, copied if they could change. Raises TypeError for another type."""
     if type(value) is bytes:
         return value
     if not isinstance(value, (bytes, bytearray, memoryview)):
@@ -326,7 +326,7 @@ def checked_column(column: Any) -> int:
 # ---- the order of keys
 
 def key_after(key: bytes) -> Optional[bytes]:
-    """The least key after this one, of at most `MAX_KEY_BYTES` bytes; None where there is none."""
+    """The least key after this one, of at most `MAX_KEY_BYTES` bytes; None if there is none."""
     if len(key) < MAX_KEY_BYTES:
         return key + b"\0"
     # no longer key begins with it, so the next key is greater in some byte: in the last one that can be greater

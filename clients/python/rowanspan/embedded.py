@@ -5,7 +5,7 @@
     with Index() as index:
         commit = index.put(b"apple", b"red")      # plain bytes are column 0
         row = index.get(b"apple")                 # Row(version=commit, columns=(b"red",)), or None
-        print(b"apple" in index, index[b"apple"])  # index[key] raises KeyError where there is no row
+        print(b"apple" in index, index[b"apple"])  # index[key] raises KeyError if there is no row
         for key, row in index.scan(b"a"):
             print(key, row.columns)
 
@@ -92,7 +92,7 @@ class Index(RowMap):
         raise kind(self._told.value) if kind.has_detail else kind()
 
     def _ask(self, name: str, *arguments: Any) -> int:
-        """Makes a call; gives its status, where that is no refusal."""
+        """Makes a call; returns its status, if that is no refusal."""
         self._want_thread()
         status: int = getattr(self._library, f"rowanspan_{name}")(self._handle, *arguments, self._told)
         if status not in (DONE, ABSENT, NO_ROOM, CURRENT):
@@ -100,12 +100,12 @@ class Index(RowMap):
         return status
 
     def _tell(self, name: str, *arguments: Any) -> int:
-        """Makes a call; gives the number that it tells."""
+        """Makes a call; returns the number that it tells."""
         self._ask(name, *arguments)
         return self._told.value
 
     def _read(self, name: str, *arguments: Any) -> Optional[Reader]:
-        """Makes a call that answers with bytes; None where a key has no row."""
+        """Makes a call that answers with bytes; None if a key has no row."""
         status = self._ask(name, *arguments, self._room, len(self._room))
         if status == NO_ROOM:
             self._room = ctypes.create_string_buffer(2 * self._told.value)
@@ -121,8 +121,8 @@ class Index(RowMap):
         return reader
 
     def _change(self, name: str, *arguments: Any) -> Optional[int]:
-        """Makes a change, and brings the views up to date after it; gives the number that the change tells, or None
-        where a key has no row. What stops the views isn't raised: the change was made."""
+        """Makes a change, and brings the views up to date after it; returns the number that the change tells, or None
+        if a key has no row. What stops the views isn't raised: the change was made."""
         if self._views_lag:
             # before the change too: the log may be full of what they still need
             self._try_to_keep_views()
@@ -155,17 +155,17 @@ class Index(RowMap):
 
     def put(self, key: bytes, sets: Sets) -> int:
         """Sets columns of a key's row, by their numbers; plain bytes are column 0. The others stay as they were; those
-        of a new row are empty. Gives the number of the commit."""
+        of a new row are empty. Returns the number of the commit."""
         return self._made("raw_put", *spelled(key, "a key"), *column_sets(sets))
 
     def put_if(self, key: bytes, sets: Sets, version: int) -> int:
-        """A put that is done only where the key's row is of this version, or where `version` is 0 and the key has no
-        row. Gives the number of the commit. Raises `OtherVersion` where the row is of another one."""
+        """A put that is done only if the key's row is of this version, or if `version` is 0 and the key has no
+        row. Returns the number of the commit. Raises `OtherVersion` if the row is of another one."""
         return self._made("raw_put_if", *spelled(key, "a key"), *column_sets(sets),
                           checked_number(version, "a version"))
 
     def remove(self, key: bytes) -> Optional[int]:
-        """Removes a key's row. Gives the number of the commit, or None where there was no row."""
+        """Removes a key's row. Returns the number of the commit, or None if there was no row."""
         return self._change("raw_remove", *spelled(key, "a key"))
 
     def range(self, start: bytes = b"", limit: int = MAX_LIMIT, columns: Optional[Sequence[int]] = None) -> Pairs:
@@ -181,7 +181,7 @@ class Index(RowMap):
     # -- views
 
     def build(self, spec: ViewSpec) -> ViewNo:
-        """Builds a view. Gives its number. The cost is that of reading its range."""
+        """Builds a view. Returns its number. The cost is that of reading its range."""
         checked = checked_spec(spec)
         test = view_test(checked.test)
         if isinstance(checked, Prefix):
@@ -194,7 +194,7 @@ class Index(RowMap):
 
     def view(self, number: int, floor: int = 0, start: bytes = b"", limit: int = MAX_LIMIT) -> Page:
         """A page of a view: its count and sums, and its first rows from a key on, 1 to 1000 at most. Raises `Behind`
-        where the view doesn't stand at `floor` commits yet."""
+        if the view isn't at `floor` commits yet."""
         return self._answer("raw_view", checked_view(number), checked_number(floor, "a floor"),
                             *spelled(start, "a key"), checked_limit(limit)).page()
 
@@ -203,8 +203,8 @@ class Index(RowMap):
         self._tell("drop", checked_view(number))
 
     def apply(self, number: int = 0) -> Optional[int]:
-        """Takes a view on by one commit, or with 0 the one that is furthest behind. Gives the number of commits at
-        which it then stands, or None where nothing was to do."""
+        """Advances a view by one commit, or with 0 the one that is furthest behind. Returns the number of commits at
+        which it then is, or None if there was nothing to do."""
         if self._ask("apply", checked_view(number)) == CURRENT:
             return None
         return self._told.value
@@ -220,7 +220,7 @@ class Index(RowMap):
 
     def feed(self, from_: int = 0, limit: int = MAX_LIMIT) -> List[Delta]:
         """What the commits after the first `from_` did, in their order, 1 to 1000 of them at most. Raises `Behind`
-        where some of them were trimmed, with the number after which they are there."""
+        if some of them were trimmed, with the number after which they are there."""
         return self._answer("raw_feed", checked_number(from_, "the number of a commit"), checked_limit(limit)).deltas()
 
     def commits(self) -> int:
@@ -236,9 +236,9 @@ class Index(RowMap):
         return self._tell("columns")
 
     def advance(self) -> int:
-        """Begins the next epoch; gives its number."""
+        """Begins the next epoch; returns its number."""
         return self._tell("advance")
 
     def collect(self) -> int:
-        """Frees the nodes that tidies took out; gives how many."""
+        """Frees the nodes that tidies took out; returns how many."""
         return self._tell("collect")

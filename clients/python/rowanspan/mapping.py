@@ -35,13 +35,13 @@ class RowMap:
         ...
 
     def get(self, key: bytes, default: Any = None, columns: Optional[Sequence[int]] = None) -> Any:
-        """The row of a key, or `default` where it has none. `columns` are the numbers of those wanted, in this order;
+        """The row of a key, or `default` if it has none. `columns` are the numbers of those wanted, in this order;
         None means all."""
         row = self._row(key, columns)
         return default if row is None else row
 
     def __getitem__(self, key: bytes) -> Row:
-        """The row of a key. Raises KeyError where it has none."""
+        """The row of a key. Raises KeyError if it has none."""
         row = self._row(key, None)
         if row is None:
             raise KeyError(key)
@@ -54,7 +54,7 @@ class RowMap:
     def scan(self, prefix: bytes = b"", columns: Optional[Sequence[int]] = None, *,
              start: bytes = b"") -> Iterator[Tuple[bytes, Row]]:
         """The rows whose keys begin with `prefix`, from `start` on, in the order of their keys, by ranges of 1000 at
-        most, each one call. What is changed meanwhile behind the last key that was given may be seen or not."""
+        most, each one call. What is changed meanwhile after the last key that was returned may be seen or not."""
         front = checked_bytes(prefix, "a prefix")
         first = max(front, checked_bytes(start, "a key"))
         return scanned(lambda key, limit: self.range(key, limit, columns), first, front)

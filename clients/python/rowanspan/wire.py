@@ -194,7 +194,7 @@ class Get(Query[Optional[Row]]):
 
 @dataclass(frozen=True)
 class Put(Query[int]):
-    """Sets columns of a key's row; gives the number of the commit."""
+    """Sets columns of a key's row; returns the number of the commit."""
 
     answers: ClassVar[Answers[int]] = {AnswerKind.COMMITTED: Reader.commit}
     key: bytes
@@ -206,7 +206,7 @@ class Put(Query[int]):
 
 @dataclass(frozen=True)
 class PutIf(Query[int]):
-    """A put that is made only where the key's row is of this version (0: where there is no row); gives the number of
+    """A put that is made only if the key's row is of this version (0: if there is no row); returns the number of
     the commit. Else it is refused as `OtherVersion`."""
 
     answers: ClassVar[Answers[int]] = {AnswerKind.COMMITTED: Reader.commit}
@@ -221,7 +221,7 @@ class PutIf(Query[int]):
 
 @dataclass(frozen=True)
 class Remove(Query[Optional[int]]):
-    """Removes a key's row; gives the number of the commit, or None where there was no row."""
+    """Removes a key's row; returns the number of the commit, or None if there was no row."""
 
     answers: ClassVar[Answers[Optional[int]]] = {AnswerKind.ABSENT: Reader.nothing, AnswerKind.COMMITTED: Reader.commit}
     key: bytes
@@ -256,7 +256,7 @@ class Tidy(Query[Tidied]):
 
 @dataclass(frozen=True)
 class Build(Query[ViewNo]):
-    """Builds a view; gives its number."""
+    """Builds a view; returns its number."""
 
     answers: ClassVar[Answers[ViewNo]] = {AnswerKind.BUILT: Reader.view_number}
     spec: ViewSpec
