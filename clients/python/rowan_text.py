@@ -140,7 +140,7 @@ class Line:
         return self.read(place, lambda word: read_sets(word, self.notation))
 
     def want_words(self, form: str, count: int) -> None:
-        """Raises `BadLine` unless the line has so many words."""
+        """Raises `BadLine` unless the line has this many words."""
         if len(self.words) != count:
             raise BadLine(f"expected {count} words, {form}, and found {len(self.words)}")
 

@@ -13,9 +13,9 @@ The calls are those of the server's client, and so are the rows, the views and w
 to the other by the line that imports `Index`, and by what it gives it. There are no pipelines and no queries as values
 here; what only an index of one's own has is `feed`, `commits`, `nodes`, `apply`, `keep_views`, `advance` and `collect`.
 
-The library is looked for where `Index` is told, then in the environment's ROWANSPAN_LIBRARY, beside this file, and in
-the folder dist of the repository. An `Index` is for the thread that made it: a call from another one raises
-`WrongThread`.
+The library is the one that `Index` is given. Without one it is that of the environment's ROWANSPAN_LIBRARY, or that
+in this file's folder, or that in the folder dist of the repository. An `Index` is for the thread that made it: a call
+from another one raises `WrongThread`.
 """
 from __future__ import annotations
 

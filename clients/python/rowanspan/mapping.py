@@ -61,7 +61,8 @@ class RowMap:
 
 
 def scanned(read: Callable[[bytes, int], Pairs], start: bytes, prefix: bytes) -> Iterator[Tuple[bytes, Row]]:
-    """The rows from a key on whose keys begin with a prefix, by what reads the first so many rows from a key on."""
+    """The rows from a key on whose keys begin with a prefix, by a function that reads the first rows from a key on, up
+    to a limit."""
     at: Optional[bytes] = start
     limit = FIRST_ROWS if prefix else MAX_LIMIT
     while at is not None:

@@ -26,7 +26,7 @@ Value = TypeVar("Value")
 # ---- fields
 
 def spelled_number(number: int, width: int, what: str = "a number") -> bytes:
-    """A number in so many bytes, the highest first."""
+    """A number in this many bytes, the highest first."""
     return checked_number(number, what, 256 ** width - 1).to_bytes(width, "big")
 
 

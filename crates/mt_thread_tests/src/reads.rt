@@ -23,8 +23,8 @@ use std::thread::Threads;
 // How many threads there are, each with a pass. Those whose pass has an even number only read.
 const THREADS: u64 = 4;
 
-// More events than any call here makes. If the lock is held for so many, each put and each remove ends in the holding
-// in which it began, and none is open when a read takes the lock.
+// More events than any call here makes. With this many in a holding of the lock, each put and each remove ends in the
+// holding in which it began, and none is open when a read takes the lock.
 const WHOLE: u32 = 100_000;
 
 // The number of the rule of a get's answer.
