@@ -1,8 +1,12 @@
 -- What is true of views, and of open builds, by the commits of the history.
-use Rattle.std.specs.Prelude.{ℕ, ◌+◌, ◌-◌, ◌≡◌, ◌≤◌, List, [], ◌∷◌, length, take, drop, count_by, Option, Some, None}
+use Rattle.std.specs.Prelude.{ℕ, ◌+◌, ◌-◌, ◌≡◌, ◌≤◌, List, [], ◌∷◌, length, take, drop, count_by, Option, Some, None, Result, Ok, Err}
 use Rattle.mt_types.specs.Rows.{after}
 use Rattle.mt_types.specs.declared.row.Change.{Change}
 use Rattle.mt_types.specs.declared.row.Delta.{Delta}
+use Rattle.mt_types.specs.declared.event.Outcome.{Outcome}
+use Rattle.mt_types.specs.declared.event.Outcome.TheVariants.{View, Refused}
+use Rattle.mt_types.specs.declared.refusal.Refusal.{Refusal}
+use Rattle.mt_types.specs.declared.view.Page.{Page}
 use Rattle.mt_types.specs.declared.limits.TheConstants.{MAX_VIEWS}
 use Rattle.mt_promise.specs.History.{Moment, OpenCall, StandingView, view_of}
 use Rattle.mt_promise.specs.Legal.{is_build}
@@ -59,6 +63,11 @@ abbrev pub ReadsOf : ℕ → List Change → ℕ → Work → Type 0
 ReadsOf C commits from (Build building) =
     (building.build.state.columns ≡ C) × ReadsFrom C commits from building.upto building.build.state
 ReadsOf C commits from _ = Unit {0}
+
+-- the outcome of the event that reads a page with this result
+abbrev pub page_outcome : Result Page Refusal → Outcome
+page_outcome (Ok page) = View page
+page_outcome (Err refusal) = Refused refusal
 
 -- a view has been advanced by the delta of the next commit
 pub record TakesView (number at : ℕ) (log : LogView) (old : ViewsView) (state : StateView)

@@ -154,6 +154,13 @@ impl Machine {
         MAX_NODES as usize - self.tree.free_numbers()
     }
 
+    /// Returns the tree, borrowed. Walks read it (`mt_walk`) while no put, remove or tidy is open.
+    pub fn tree(&self) -> &Tree
+        ensures { result.now ≡ self.now.tree }
+    {
+        &self.tree
+    }
+
     /// Returns the deltas of the commits after the first `from`, at most `limit`, in their order. Each has its number,
     /// its key, and the rows that the key had before and after it. The list is empty if there are no such commits.
     ///
@@ -224,7 +231,7 @@ impl Machine {
                 floor,
                 start,
                 limit,
-            } => self.view_read(alloc, view.0, *floor, start, *limit),
+            } => self.view_read(alloc, *view, *floor, start, *limit),
             Event::ViewDrop(view) => self.view_drop(view.0),
             Event::Advance => self.advance(),
             Event::Collect => self.collect(),

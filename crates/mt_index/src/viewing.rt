@@ -13,7 +13,7 @@ ghost use Rattle.mt_view.specs.State.{StateView, applied, page_of_state};
 ghost use Rattle.mt_views.specs.Views.{state_at, with_state};
 ghost use Rattle.mt_commit.specs.Log.{IsLog};
 ghost use Rattle.mt_index.specs.Stands.{Stands, Applies, ReadsView, Drops, HasBounds, with_view, vacated};
-ghost use Rattle.mt_index.specs.Viewing.{TakesView, CopiesView};
+ghost use Rattle.mt_index.specs.Viewing.{TakesView, CopiesView, page_outcome};
 
 use crate::machine::Machine;
 use bytes::Bytes;
@@ -209,29 +209,55 @@ impl Machine {
         Outcome::Applied(at + 1)
     }
 
-    // Returns a page of a view, if it is at `floor` commits or more.
+    /// Reads a page of a view: its count, its sums, and its first rows whose keys are at or after `start`, at most
+    /// `limit`. The page is at `floor` commits or more. No event happens.
+    ///
+    /// Costs O(log n + k) for a page of k rows, with an allocation for each.
+    ///
+    /// # Errors
+    ///
+    /// `KeyTooLong`; `BadLimit` unless `limit` is from 1 to `MAX_RANGE`; `NoSuchView` if no view has this number;
+    /// `Behind`, with the number of commits at which the view is, if they are fewer than `floor`; `NoMemory` if an
+    /// allocation is refused. The first of these that applies.
+    pub fn page(
+        &self,
+        alloc: Global,
+        view: ViewNo,
+        floor: u64,
+        start: &Bytes,
+        limit: u16,
+    ) -> Result<Page, Refusal>
+        ensures { ReadsView self.now view.0 floor start.now limit (page_outcome result) }
+    {
+        if let Some(refusal) = page_fault(start.as_slice(), limit) {
+            return Err(refusal);
+        }
+        let Some(at) = self.views.at(view.0) else {
+            return Err(Refusal::NoSuchView);
+        };
+        if at < floor {
+            return Err(Refusal::Behind(at));
+        }
+        match page(alloc, &self.views, view.0, start, limit) {
+            Ok(page) => Ok(page),
+            Err(_) => Err(Refusal::NoMemory),
+        }
+    }
+
+    // Returns the outcome of the event that reads a page of a view.
     pub(crate) fn view_read(
         &self,
         alloc: Global,
-        view: u64,
+        view: ViewNo,
         floor: u64,
         start: &Bytes,
         limit: u16,
     ) -> Outcome
-        ensures { ReadsView self.now view floor start.now limit result }
+        ensures { ReadsView self.now view.0 floor start.now limit result }
     {
-        if let Some(refusal) = page_fault(start.as_slice(), limit) {
-            return Outcome::Refused(refusal);
-        }
-        let Some(at) = self.views.at(view) else {
-            return Outcome::Refused(Refusal::NoSuchView);
-        };
-        if at < floor {
-            return Outcome::Refused(Refusal::Behind(at));
-        }
-        match page(alloc, &self.views, view, start, limit) {
+        match self.page(alloc, view, floor, start, limit) {
             Ok(page) => Outcome::View(page),
-            Err(_) => Outcome::Refused(Refusal::NoMemory),
+            Err(refusal) => Outcome::Refused(refusal),
         }
     }
 
