@@ -7,6 +7,8 @@ mod builds;
 #[cfg(test)]
 mod commits;
 #[cfg(test)]
+mod maps;
+#[cfg(test)]
 mod scripts;
 #[cfg(test)]
 mod views;

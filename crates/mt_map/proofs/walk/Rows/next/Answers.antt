@@ -1,0 +1,22 @@
+use Rattle.std.proofs.Common.{Bool, subst}
+use Rattle.std.specs.Option.{option_copied, option_map}
+use Rattle.mt_types.specs.declared.row.Row.{Row}
+use Rattle.mt_promise.specs.History.{History, moment, rows}
+use Rattle.mt_slice.specs.Place.{place_of}
+use Rattle.mt_arena.specs.Arena.{ArenaView}
+use Rattle.mt_tree.specs.Seen.{arena_seen}
+use Rattle.mt_index.specs.Stands.{Stands}
+use Rattle.mt_walk.specs.Walk.{Gives, stands_at, view_of}
+use Rattle.mt_map.specs.Walks.{GivesNext, IsWalking, RowsView}
+use Rattle.mt_map.proofs.WalkLemmas.{gives_next}
+use Rattle.mt_map.proofs.walk.Rows.next.Goals as goal
+
+pub returns-in-Ok-clause-row : goal.returns-in-Ok-clause-row
+returns-in-Ok-clause-row c =
+    let walking = subst (λ (b : Bool). IsWalking b c.self.inside.machine.now c.self.inside.walk) c.if-self.false c.self.invariant in
+    let new = view_of c.next.new.self in
+    subst (λ (v : RowsView). (h : History) → Stands v.machine h → GivesNext (rows v.machine.columns (moment h)) v.at (option_copied c.in-Ok.row) (record { key = c.next.new.self.key.items; given = c.next.new.self.given })) c.self.view_is
+    (λ h st. gives_next (rows c.self.inside.machine.now.columns (moment h)) (arena_seen c.self.inside.machine.now.tree) st.content st.keys
+    (record { key = c.self.inside.walk.key.items; given = c.self.inside.walk.given }) (option_copied c.in-Ok.row) (record { key = c.next.new.self.key.items; given = c.next.new.self.given })
+    walking.1.bytes c.in-Ok.ensures.stands.stands.bytes
+    (subst (λ (a : ArenaView). Gives (arena_seen a) (stands_at (view_of c.self.inside.walk)) (option_map (λ (r : Row). record { key = place_of new.key; value = r }) (option_copied c.in-Ok.row)) (stands_at new)) walking.2 c.in-Ok.ensures.gives))

@@ -1,0 +1,169 @@
+//! The map: what it holds, how it is opened, and how its rows are read.
+
+ghost use Rattle.std.specs.Prelude.{◌≡◌, ◌↔◌, IsTrue, IsSome, IfOk, IfErr, MatchOption, Err, [], length, take, drop};
+ghost use Rattle.std.specs.Option.{option_copied, option_or};
+ghost use Rattle.std.specs.FinMap.{get};
+ghost use Rattle.mt_types.specs.Limits.{columns_fault, key_fault, limit_fault, open_fault};
+ghost use Rattle.mt_promise.specs.Alone.{IsRangeOfMap};
+ghost use Rattle.mt_promise.specs.History.{History, moment, rows};
+ghost use Rattle.mt_arena.specs.Node.{occupied};
+ghost use Rattle.mt_commit.specs.Log.{newest};
+ghost use Rattle.mt_commit.specs.Logged.{deltas_of};
+ghost use Rattle.mt_index.specs.Feed.{feed_fault};
+ghost use Rattle.mt_index.specs.Stands.{HasBounds, Stands};
+
+use bytes::Bytes;
+use mt_index::machine::Machine;
+use mt_index::options::Options;
+use mt_types::key::Key;
+use mt_types::refusal::Refusal;
+use mt_types::row::{ColumnNumbers, Delta, Pairs, Row};
+use std::alloc::Global;
+use std::marker::Model;
+
+/// An ordered map in memory from keys to rows, with views. It is an index that one caller has: between two of its
+/// methods no call is open. Contracts see it as its machine.
+pub struct Map {
+    pub(crate) alloc: Global,
+    pub(crate) machine: Machine,
+}
+
+impl Model for Map {
+    ghost use Rattle.std.specs.Coded.{codes};
+    ghost use Rattle.mt_scan.specs.CursorCode.{place_code};
+    ghost use Rattle.mt_view.specs.StateCode.{state_code};
+    ghost use Rattle.mt_index.specs.Alone.{IsIdle};
+    ghost use Rattle.mt_index.specs.Stands.{MachineView};
+
+    ghost Value = { MachineView };
+
+    ghost coded = { Prim.hlevel (codes, place_code, state_code) };
+
+    ghost view = { λ m. m.machine };
+
+    ghost invariant = { λ m. IsIdle m.machine };
+}
+
+// Written out so that its proof is made here only, and not again in each crate above.
+impl Drop for Map {
+    fn drop(self) {
+        let Map {
+            alloc: _,
+            machine: _,
+        } = self;
+    }
+}
+
+impl Map {
+    /// Opens an empty map. It keeps `alloc` for its later allocations. A few allocations.
+    ///
+    /// # Errors
+    ///
+    /// `BadColumn` unless `columns` is from 1 to `MAX_COLUMNS`; `BadLimit` unless `feed` is from 1 to `MAX_FEED` and
+    /// `keep` is at most `MAX_KEEP`; `NoMemory` if an allocation is refused. The first of these that applies.
+    pub fn open(alloc: Global, options: Options) -> Result<Map, Refusal>
+        ensures opened { IfOk result (λ map. (map.columns ≡ options.columns)
+            × HasBounds options.feed options.keep map.log × Stands map []) }
+        ensures fault { MatchOption (open_fault options.columns options.feed options.keep)
+            (IfErr result (λ refusal. refusal ≡ Refusal.NoMemory)) (λ refusal. result ≡ Err refusal) }
+    {
+        let machine = Machine::open(alloc, options)?;
+        Ok(Map { alloc, machine })
+    }
+
+    /// Returns how many columns a row has.
+    pub fn columns(&self) -> u8
+        ensures { result ≡ self.now.columns }
+    {
+        self.machine.columns()
+    }
+
+    /// Returns how many commits have been made.
+    pub fn commits(&self) -> u64
+        ensures number { result ≡ newest self.now.log }
+        ensures told { (h : History) → Stands self.now h → result ≡ length (moment h).commits }
+    {
+        self.machine.commits()
+    }
+
+    /// Returns how many of the `MAX_NODES` node numbers are occupied.
+    pub fn nodes(&self) -> usize
+        ensures { result ≡ occupied self.now.tree.nodes }
+    {
+        self.machine.nodes()
+    }
+
+    /// Returns the row of `key`, borrowed, or `None` if it has none.
+    ///
+    /// Costs the visit of each node on the way to the key. Allocates nothing, and copies nothing.
+    pub fn row(&self, key: &Key) -> Option<&Row>
+        ensures { (h : History) → Stands self.now h
+            → option_copied result ≡ get (rows self.now.columns (moment h)) key.now }
+    {
+        self.machine.row(key)
+    }
+
+    /// Returns the row of `key`, borrowed, or `None` if it has none. Does what [`Map::row`] does, of bytes of any length.
+    ///
+    /// # Errors
+    ///
+    /// `KeyTooLong` if the key has more than `MAX_KEY_BYTES` bytes.
+    pub fn get(&self, key: Bytes) -> Result<Option<&Row>, Refusal>
+        ensures row { IfOk result (λ row. (h : History) → Stands self.now h
+            → option_copied row ≡ get (rows self.now.columns (moment h)) key) }
+        ensures fault { IfErr result (λ refusal. key_fault key ≡ Some refusal) }
+    {
+        let key = Key::new(key)?;
+        Ok(self.machine.row(&key))
+    }
+
+    /// Returns whether `key` has a row. Costs what [`Map::get`] costs.
+    ///
+    /// # Errors
+    ///
+    /// `KeyTooLong` if the key has more than `MAX_KEY_BYTES` bytes.
+    pub fn contains_key(&self, key: Bytes) -> Result<bool, Refusal>
+        ensures there { IfOk result (λ there. (h : History) → Stands self.now h
+            → IsTrue there ↔ IsSome (get (rows self.now.columns (moment h)) key)) }
+        ensures fault { IfErr result (λ refusal. key_fault key ≡ Some refusal) }
+    {
+        Ok(self.get(key)?.is_some())
+    }
+
+    /// Returns the first rows whose keys are at or after `start`, at most `limit`, in the order of keys, each with the
+    /// columns that are asked for, or with all if none is asked for.
+    ///
+    /// Costs the visit of the nodes on the way to `start`, and of each border from there on. Allocates for the key and
+    /// the row of each pair, and shares the bytes of the columns.
+    ///
+    /// # Errors
+    ///
+    /// `KeyTooLong` if `start` has more than `MAX_KEY_BYTES` bytes; `BadColumn` if a column does not exist or is named
+    /// twice; `BadLimit` if `limit` is 0 or more than `MAX_RANGE`; `NoMemory` if an allocation is refused. The first of
+    /// these that applies.
+    pub fn range(&self, start: Bytes, limit: u16, columns: ColumnNumbers) -> Result<Pairs, Refusal>
+        ensures pairs { IfOk result (λ pairs. (h : History) → Stands self.now h
+            → IsRangeOfMap (rows self.now.columns (moment h)) columns start limit pairs) }
+        ensures fault { MatchOption (option_or (key_fault start) (option_or (columns_fault self.now.columns columns) (limit_fault limit)))
+            (IfErr result (λ refusal. refusal ≡ Refusal.NoMemory)) (λ refusal. result ≡ Err refusal) }
+    {
+        let start = Key::new(start)?;
+        self.machine.range(self.alloc, start, limit, columns)
+    }
+
+    /// Returns the deltas of the commits after the first `from`, at most `limit`, in their order, as `Machine::feed`
+    /// does.
+    ///
+    /// # Errors
+    ///
+    /// `BadLimit` unless `limit` is from 1 to `MAX_RANGE`. `Behind` if some of these deltas were trimmed, with the
+    /// number after which the log has them. `NoMemory` if an allocation is refused.
+    pub fn feed(&self, from: u64, limit: u16) -> Result<Vec<Delta>, Refusal>
+        ensures tells { IfOk result (λ deltas. (h : History) → Stands self.now h
+            → deltas.items ≡ take limit (drop from (deltas_of self.now.columns (moment h).commits))) }
+        ensures fault { MatchOption (feed_fault self.now.log from limit)
+            (IfErr result (λ refusal. refusal ≡ Refusal.NoMemory)) (λ refusal. result ≡ Err refusal) }
+    {
+        self.machine.feed(self.alloc, from, limit)
+    }
+}

@@ -1,0 +1,113 @@
+//! How the views of a map are read, advanced and dropped, and how its memory is freed: each by one event.
+
+ghost use Rattle.std.specs.Prelude.{◌≡◌, ◌≤◌, IfOk, IfErr};
+ghost use Rattle.mt_types.specs.declared.event.Event.TheVariants.{Apply, Collect, ViewDrop};
+ghost use Rattle.mt_types.specs.declared.event.Outcome.TheVariants.{Dropped, Freed};
+ghost use Rattle.mt_promise.specs.History.{History, moment};
+ghost use Rattle.mt_index.specs.Alone.{IsIdle};
+ghost use Rattle.mt_index.specs.Events.{Makes};
+ghost use Rattle.mt_index.specs.Stands.{ReadsView, Stands};
+ghost use Rattle.mt_index.specs.Viewing.{page_outcome};
+ghost use Rattle.mt_map.specs.Views.{IsOutside, IsStopped, KeepsUp, ShowsView, applied_outcome, outcome_of};
+
+use crate::map::Map;
+use bytes::Bytes;
+use mt_index::machine::Machine;
+use mt_types::event::{Event, Outcome};
+use mt_types::numbers::ViewNo;
+use mt_types::refusal::Refusal;
+use mt_types::view::Page;
+use mt_view::laws::states_show_pages;
+use std::alloc::Global;
+
+// Makes an event that is no part of a call.
+fn meet(alloc: Global, machine: &mut Machine, event: &Event) -> Outcome
+    requires outside { IsOutside event.now }
+    requires idle { IsIdle machine.old }
+    ensures makes { Makes machine.old event.now result machine.new }
+    ensures idle { IsIdle machine.new }
+{
+    machine.event(alloc, event)
+}
+
+impl Map {
+    /// Reads a page of a view: its count, its sums, and its first rows whose keys are at or after `start`, at most
+    /// `limit`. The page is at `floor` commits or more. Nothing happens to the map.
+    ///
+    /// Costs O(log n + k) for a page of k rows, with an allocation for each.
+    ///
+    /// # Errors
+    ///
+    /// `KeyTooLong`; `BadLimit` unless `limit` is from 1 to `MAX_RANGE`; `NoSuchView` if no view has this number;
+    /// `Behind`, with the number of commits at which the view is, if they are fewer than `floor`; `NoMemory`.
+    pub fn page(&self, view: ViewNo, floor: u64, start: &Bytes, limit: u16) -> Result<Page, Refusal>
+        ensures page { ReadsView self.now view.0 floor start.now limit (page_outcome result) }
+        ensures exact { IfOk result (λ page. (h : History) → Stands self.now h
+            → ShowsView self.now.columns (moment h) view.0 start.now limit page) }
+        ensures floor { IfOk result (λ page. floor ≤ page.at) }
+    {
+        states_show_pages();
+        self.machine.page(self.alloc, view, floor, start, limit)
+    }
+
+    /// Ends a view. Its number isn't used again. O(n) in the rows of the view.
+    ///
+    /// # Errors
+    ///
+    /// `NoSuchView` if no view has this number.
+    pub fn drop_view(&mut self, view: ViewNo) -> Result<(), Refusal>
+        ensures { Makes self.old (ViewDrop view) (outcome_of (λ _. Dropped) result) self.new }
+    {
+        match meet(self.alloc, &mut self.machine, &Event::ViewDrop(view)) {
+            Outcome::Dropped => Ok(()),
+            Outcome::Refused(refusal) => Err(refusal),
+            _ => unreachable!(),
+        }
+    }
+
+    /// Advances a view by one commit; for `ViewNo(0)` the view that is furthest behind. Returns the number of commits at
+    /// which it then is, or `None` if it was at the newest commit, or if `view` is 0 and no view is behind. O(log n) in
+    /// the rows of the view.
+    ///
+    /// # Errors
+    ///
+    /// `NoSuchView` if no view has this number; `NoMemory`. Nothing has changed then.
+    pub fn apply(&mut self, view: ViewNo) -> Result<Option<u64>, Refusal>
+        ensures { Makes self.old (Apply view) (outcome_of applied_outcome result) self.new }
+    {
+        match meet(self.alloc, &mut self.machine, &Event::Apply(view)) {
+            Outcome::Applied(number) => Ok(Some(number)),
+            Outcome::Current => Ok(None),
+            Outcome::Refused(refusal) => Err(refusal),
+            _ => unreachable!(),
+        }
+    }
+
+    /// Advances views, in at most `turns` turns: each advances the view that is furthest behind by one commit. Returns
+    /// how many turns have advanced a view. If they are fewer than `turns`, all views are at the newest commit.
+    ///
+    /// # Errors
+    ///
+    /// `NoMemory`. The turns before have advanced their views.
+    pub fn keep_views(&mut self, turns: u64) -> Result<u64, Refusal>
+        ensures kept { IfOk result (λ applied. KeepsUp self.old turns applied self.new) }
+        ensures refused { IfErr result (λ refusal. IsStopped self.old turns refusal self.new) }
+    {
+        for applied in 0..turns {
+            if self.apply(ViewNo(0))?.is_none() {
+                return Ok(applied);
+            }
+        }
+        Ok(turns)
+    }
+
+    /// Frees the nodes that tidies have taken out, and returns how many. O(n) in these nodes.
+    pub fn collect(&mut self) -> u32
+        ensures { Makes self.old Collect (Freed result) self.new }
+    {
+        match meet(self.alloc, &mut self.machine, &Event::Collect) {
+            Outcome::Freed(count) => count,
+            _ => unreachable!(),
+        }
+    }
+}
