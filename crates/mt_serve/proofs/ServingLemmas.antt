@@ -1,13 +1,17 @@
 -- Queries, frames that have been answered so far.
-use Rattle.std.proofs.Common.{◌≡◌, ◌≢◌, inl, inr, ℕ, suc, ◌+◌, ◌*◌, ◌≤◌, List, [], ◌∷◌, ◌++◌, length, fold, refl, ap, subst, sym, ◌∙◌, arith, append_assoc, append-nil, length-append, Option, None, Some, IfSome}
-use Rattle.std.specs.Prelude.{sum_by, ⊤, Result, Ok, Err, IfOk}
+use Rattle.std.proofs.Common.{◌≡◌, ◌≢◌, inl, inr, ℕ, suc, ◌+◌, ◌*◌, ◌≤◌, List, [], ◌∷◌, ◌++◌, length, fold, refl, ap, subst, sym, ◌∙◌, arith, append_assoc, append-nil, length-append, Option, None, Some, IfSome, Bool, false}
+use Rattle.std.specs.Prelude.{sum_by, ⊤, Result, Ok, Err, IfOk, MatchBool}
 use Rattle.std.specs.List.{AllByRecursion}
 use Rattle.std.specs.Io.KnownBytes.{Appends}
 use Rattle.std.proofs.KnownBytes.{Appends-nil, Appends-trans}
 use Rattle.mt_shared.specs.Passes.{PassView}
 use Rattle.mt_shared.specs.Drives.{EventLaw}
 use Rattle.mt_shared.specs.Reads.{ReadLaw}
+use Rattle.mt_shared.specs.Turns.{drop_outcome, page_outcome}
+use Rattle.mt_types.specs.declared.event.Event.TheVariants.{ViewDrop as DropOf, ViewRead as ReadOf}
+use Rattle.mt_types.specs.declared.numbers.ViewNo.{ViewNo}
 use Rattle.mt_wire.specs.declared.query.Query.{Query}
+use Rattle.mt_wire.specs.declared.query.Query.TheVariants.{ViewDrop, ViewRead}
 use Rattle.mt_wire.specs.declared.response.Response.{Response}
 use Rattle.mt_wire.specs.declared.frame.Frame.{Frame}
 use Rattle.mt_types.specs.Limited.{AnswerIsLimited, PageIsLimited}
@@ -22,7 +26,7 @@ use Rattle.mt_wire.specs.Frames.{Holds, RequestsFit, request_frame, reply_frame}
 use Rattle.mt_serve.specs.declared.fault.SessionFault.{SessionFault}
 use Rattle.mt_serve.specs.declared.fault.SessionFault.TheVariants.{Write}
 use Rattle.mt_serve.specs.declared.session.Summary.{Summary}
-use Rattle.mt_serve.specs.Asking.{Answers, AnswersAll, AnswersFrame, AnswersFrames, call_response, page_response, drop_response}
+use Rattle.mt_serve.specs.Asking.{Answers, AnswersAll, AnswersFrame, AnswersFrames, KeepsViews, call_response, changes, drop_response, page_response}
 use Rattle.mt_serve.specs.Sources.{FaultIsAt, LosesFrame}
 use Rattle.mt_serve.specs.Sessions.{HasServed, IsServed, IsBroken, BreaksIn, requests_of, replies_of}
 
@@ -34,6 +38,25 @@ AnswersAll-push {S} does shows s m t p r q [] [] query response all one =
 AnswersAll-push does shows s m t p r q [] (y ∷ ys) query response all one = absurd all
 AnswersAll-push does shows s m t p r q (x ∷ xs) [] query response all one = absurd all
 AnswersAll-push does shows s m t p r q (x ∷ xs) (y ∷ ys) query response all one = (all.0, all.1, all.2, AnswersAll-push does shows all.0 m t all.1 r q xs ys query response all.3 one)
+
+-- ---- an event of a view leaves no view behind
+page_changes_none : (result : Result Page Refusal) → changes (page_response result) ≡ false
+page_changes_none (Ok page) = refl
+page_changes_none (Err refusal) = refl
+
+pub page_answers : {S : Type 0} (does : EventLaw S) (shows : ReadLaw S) (s t : S) (p q : PassView) (view : ViewNo) (floor : ℕ) (start : List ℕ) (limit : ℕ) (result : Result Page Refusal)
+    → does s p (ReadOf view floor start limit) (page_outcome result) t q → Answers does shows s p (ViewRead view floor start limit) (page_response result) t q
+page_answers does shows s t p q view floor start limit result event =
+    (t, q, (result, event, refl), subst (λ (b : Bool). MatchBool b (KeepsViews does t q t q) ((t ≡ t) × (q ≡ q))) (sym (page_changes_none result)) (refl, refl))
+
+drop_changes_none : (result : Result ⊤ Refusal) → changes (drop_response result) ≡ false
+drop_changes_none (Ok done) = refl
+drop_changes_none (Err refusal) = refl
+
+pub drop_answers : {S : Type 0} (does : EventLaw S) (shows : ReadLaw S) (s t : S) (p q : PassView) (view : ViewNo) (result : Result ⊤ Refusal)
+    → does s p (DropOf view) (drop_outcome result) t q → Answers does shows s p (ViewDrop view) (drop_response result) t q
+drop_answers does shows s t p q view result event =
+    (t, q, (result, event, refl), subst (λ (b : Bool). MatchBool b (KeepsViews does t q t q) ((t ≡ t) × (q ≡ q))) (sym (drop_changes_none result)) (refl, refl))
 
 -- ---- the answers to a frame of queries are as many, and keep the limits: so they are a frame
 pub limited_more : (responses : List Response) (response : Response) → AllByRecursion ResponseIsLimited responses → ResponseIsLimited response → AllByRecursion ResponseIsLimited (responses ++ response ∷ [])

@@ -2,13 +2,16 @@
 
 ghost use Rattle.std.specs.Prelude.{◌≡◌};
 ghost use Rattle.mt_wire.specs.Limited.{ResponseIsLimited};
-ghost use Rattle.mt_serve.specs.Asking.{Asks, Answers, KeepsViews, call_response, page_response, drop_response, changes};
+ghost use Rattle.mt_wire.specs.declared.query.Query.TheVariants.{Call};
+ghost use Rattle.mt_serve.specs.Asking.{Answers, KeepsViews, call_response, page_response, drop_response, changes};
 
 use mt_shared::asking::ask as make_call;
+use mt_shared::changing::drive_and_keep;
 use mt_shared::driving::Shared;
 use mt_shared::pass::Pass;
+use mt_shared::reads::is_read;
 use mt_shared::views::{keep_views, view_drop, view_read};
-use mt_types::event::Reply;
+use mt_types::event::{Reply, Request};
 use mt_types::refusal::Refusal;
 use mt_types::view::Page;
 use mt_wire::query::Query;
@@ -45,23 +48,6 @@ fn drop_response(dropped: Result<(), Refusal>) -> Response
     }
 }
 
-// Does what a query asks, and returns its answer. Views are not kept up yet.
-fn ask<S: Shared>(alloc: Global, shared: &mut S, pass: &mut Pass, query: Query) -> Response
-    ensures asks { Asks S.does S.shows shared.old pass.old query result shared.new pass.new }
-    ensures limited { ResponseIsLimited result }
-{
-    match query {
-        Query::Call(request) => call_response(make_call(alloc, shared, pass, request)),
-        Query::ViewRead {
-            view,
-            floor,
-            start,
-            limit,
-        } => page_response(view_read(alloc, shared, pass, view, floor, start, limit)),
-        Query::ViewDrop(view) => drop_response(view_drop(alloc, shared, pass, view)),
-    }
-}
-
 // Whether rows were changed, or a view was built.
 fn changes(response: &Response) -> bool
     ensures { result ≡ changes response.now }
@@ -82,17 +68,45 @@ fn keep_up<S: Shared>(alloc: Global, shared: &mut S, pass: &mut Pass)
     let _kept = keep_views(alloc, shared, pass, TURNS);
 }
 
-/// Does what a query asks, and returns its answer. A get or a range is read at once if it may be, and any other call is
-/// driven from its begin to its end, as `mt_shared::asking::ask` does. A page is read, or a view dropped, by one event. If the query changed rows or built a view, views are then advanced, in at most 64 turns.
-///
-/// Over a `Door` each event or read holds the lock once, so events of other threads can come between them.
-pub fn answer<S: Shared>(alloc: Global, shared: &mut S, pass: &mut Pass, query: Query) -> Response
-    ensures answers { Answers S.does S.shows shared.old pass.old query result shared.new pass.new }
+// Does what a call asks, and returns its answer. If it changed rows or built a view, views are then advanced.
+fn answer_call<S: Shared>(
+    alloc: Global,
+    shared: &mut S,
+    pass: &mut Pass,
+    request: Request,
+) -> Response
+    ensures answers { Answers S.does S.shows shared.old pass.old (Call request) result shared.new pass.new }
     ensures limited { ResponseIsLimited result }
 {
-    let response = ask(alloc, shared, pass, query);
+    if !is_read(&request) {
+        return call_response(drive_and_keep(alloc, shared, pass, request, TURNS));
+    }
+    let response = call_response(make_call(alloc, shared, pass, request));
+    // (a read changes nothing, but no clause of `Shared::read` says so)
     if changes(&response) {
         keep_up(alloc, shared, pass);
     }
     response
+}
+
+/// Does what a query asks, and returns its answer. A get or a range is read at once if it may be, and any other call is
+/// driven from its begin to its end, as `mt_shared::asking::ask` does. A page is read, or a view dropped, by one event.
+/// If the query changed rows or built a view, views are then advanced, in at most 64 turns.
+///
+/// Over a `Door` each event or read holds the lock once, so events of other threads can come between them. Over a
+/// `ThroughDoor` the lock is held once for a change and the turns of its views, if the change ends in its first run.
+pub fn answer<S: Shared>(alloc: Global, shared: &mut S, pass: &mut Pass, query: Query) -> Response
+    ensures answers { Answers S.does S.shows shared.old pass.old query result shared.new pass.new }
+    ensures limited { ResponseIsLimited result }
+{
+    match query {
+        Query::Call(request) => answer_call(alloc, shared, pass, request),
+        Query::ViewRead {
+            view,
+            floor,
+            start,
+            limit,
+        } => page_response(view_read(alloc, shared, pass, view, floor, start, limit)),
+        Query::ViewDrop(view) => drop_response(view_drop(alloc, shared, pass, view)),
+    }
 }

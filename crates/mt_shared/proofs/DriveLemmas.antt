@@ -1,7 +1,7 @@
 -- A drive continues with an event, and ends with one.
 use Rattle.std.proofs.Common.{arith, sym, ap, subst, ◌≡◌, ◌≤◌, ◌<◌, ◌⊎◌, ◌∙◌, ◌∷◌, ◌++◌, [], List, ℕ, refl, append_assoc, append-nil, inl, inr}
 use Rattle.std.specs.Prelude.{All, Result, Ok, Err, Some, IfOk, IfErr}
-use Rattle.std.proofs.lemmas.List.Elements.{All-append, All-push, All-nil}
+use Rattle.std.proofs.lemmas.List.Elements.{All-append, All-push, All-nil, All-cons, All-head, All-tail}
 use Rattle.mt_types.specs.declared.numbers.PassNo.{PassNo}
 use Rattle.mt_types.specs.declared.numbers.CallNo.{CallNo}
 use Rattle.mt_types.specs.declared.refusal.Refusal.{Refusal}
@@ -13,12 +13,15 @@ use Rattle.mt_types.specs.declared.event.Reply.{Reply}
 use Rattle.mt_types.specs.declared.event.Outcome.{Outcome}
 use Rattle.mt_types.specs.declared.event.Outcome.TheVariants.{Call, Moved, Again, Commit, Done, Refused}
 use Rattle.mt_types.specs.Limited.{AnswerIsLimited, OutcomeIsLimited}
+use Rattle.mt_index.specs.Events.{GoesOnAtOnce}
+use Rattle.mt_shared.specs.declared.driving.Started.{Started}
+use Rattle.mt_shared.specs.declared.driving.Started.TheVariants.{Refused as RefusedStart}
 use Rattle.mt_shared.specs.declared.trace.Entry.{Entry}
 use Rattle.mt_shared.specs.declared.trace.Trace.{Trace}
 use Rattle.mt_shared.specs.declared.trace.Trace.TheVariants.{Off, On, Lost}
 use Rattle.mt_shared.specs.Traces.{entry, Gains}
 use Rattle.mt_shared.specs.Passes.{PassView, IsTold, Suits, Counts, seen_in}
-use Rattle.mt_shared.specs.Drives.{EventLaw, Runs, HasGone, IsBegun, Continues, IsStep, whole, IsDriven, IsCut, IsRefused, IsReplyTo, Ends, EndsIn, EndsNone}
+use Rattle.mt_shared.specs.Drives.{EventLaw, Runs, HasGone, IsBegun, IsStarted, Continues, IsStep, IsRunStep, whole, IsDriven, IsCut, IsRefused, IsReplyTo, IsDrive, Ends, EndsIn, EndsNone}
 
 -- ---- a trace gains
 pub gains_none : (t : Trace) → Gains t [] t
@@ -86,12 +89,25 @@ module _ {S : Type 0} (does : EventLaw S) where
         number = counts.number ∙ b.number;
       }
 
+  -- steps of a run are steps of the call
+  at_once : (o : Outcome) → GoesOnAtOnce o → Continues o
+  at_once Moved on = tt
+  at_once (Commit number) on = tt
+  at_once _ on = absurd on
+
+  run_steps : (n : PassNo) (call : CallNo) (xs : List Entry) → All (IsRunStep n call) xs → All (IsStep n call) xs
+  run_steps n call [] all = All-nil (IsStep n call)
+  run_steps n call (x ∷ xs) all =
+      let one = All-head (IsRunStep n call) x xs all in
+      All-cons (IsStep n call) x xs (record { pass = one.pass; event = one.event; outcome = at_once x.outcome one.outcome })
+      (run_steps n call xs (All-tail (IsRunStep n call) x xs all))
+
   -- the steps of a run, but for its last
   pub run_on : (s : S) (p : PassView) (request : Request) (call : CallNo) (m : S) (r : PassView) (o : Outcome) (t : S) (q : PassView)
       → Begun s p request call m r → (g : HasGone does m r call o t q) → Begun s p request call g.then g.between
   run_on s p request call m r o t q b g = record {
     steps = b.steps ++ g.steps;
-    are_steps = All-append (IsStep p.number call) b.steps g.steps b.are_steps (subst (λ (n : PassNo). All (IsStep n call) g.steps) b.number g.are_steps);
+    are_steps = All-append (IsStep p.number call) b.steps g.steps b.are_steps (subst (λ (n : PassNo). All (IsStep n call) g.steps) b.number (run_steps r.number call g.steps g.are_steps));
     runs = runs_on s p (entry p.number (Begin p.number request) (Call call) ∷ b.steps) m r g.steps g.then g.between b.runs g.runs;
     traced = gains_more p.trace r.trace g.between.trace (entry p.number (Begin p.number request) (Call call) ∷ b.steps) g.steps b.traced g.traced;
     number = g.number ∙ b.number;
@@ -234,3 +250,55 @@ module _ {S : Type 0} (does : EventLaw S) (s : S) (p : PassView) (call : CallNo)
 pub ends_limited : (seen : ℕ) (outcome : Outcome) (end : Result Reply Refusal) → Ends seen outcome (Some end) → OutcomeIsLimited outcome → IfOk end (λ reply. AnswerIsLimited reply.answer)
 ends_limited seen outcome (Ok reply) ends limited = subst (λ (o : Outcome). OutcomeIsLimited o) ends.0 limited
 ends_limited seen outcome (Err refusal) ends limited = tt
+
+-- ---- how a call that was started is driven to its end
+module _ {S : Type 0} (does : EventLaw S) (s : S) (p : PassView) (request : Request) where
+  -- the call has begun, and has been driven so far
+  pub record IsUnderWay (call : CallNo) (t : S) (q : PassView) : Type 0 where
+    pub run : Begun does s p request call t q
+    pub number : q.number ≡ p.number
+    pub seen : p.seen ≤ q.seen
+
+  pub start_refused : (refusal : Refusal) (t : S) (q : PassView) → IsStarted does s p request (RefusedStart refusal) t q → IsDrive does s p request (Err refusal) t q
+  start_refused refusal t q (d, told) = record {
+    number = told_number p (Begin p.number request) (Refused refusal) q told;
+    seen = told_seen p (Begin p.number request) (Refused refusal) q told;
+    reply = tt;
+    driven = tt;
+    refused = inl d;
+  }
+
+  pub begun_goes : (call : CallNo) (t : S) (q : PassView) → IsBegun does s p request (Call call) t q → IsUnderWay call t q
+  begun_goes call t q begun = record {
+    run = starts does s p request call t q begun;
+    number = told_number p (Begin p.number request) (Call call) q begun.1;
+    seen = told_seen p (Begin p.number request) (Call call) q begun.1;
+  }
+
+  pub run_goes : (call : CallNo) (m : S) (r : PassView) (last : Outcome) (t : S) (q : PassView) → IsUnderWay call m r → HasGone does m r call last t q → EndsNone last → IsUnderWay call t q
+  run_goes call m r last t q w gone none =
+      let before = w.seen in
+      let more = run_seen does m r call last t q gone in
+      record {
+        run = goes_through does s p request call m r last t q w.run gone none;
+        number = run_number does m r call last t q gone ∙ w.number;
+        seen = omega (arith, before, more);
+      }
+
+  pub run_finishes : (call : CallNo) (m : S) (r : PassView) (last : Outcome) (t : S) (q : PassView) (seen : ℕ) (end : Result Reply Refusal) → IsUnderWay call m r → HasGone does m r call last t q → seen ≡ p.seen → Ends seen last (Some end) → IsDrive does s p request end t q
+  run_finishes call m r last t q seen end w gone same ends =
+      let ended = run_ends does s p request call m r last t q seen end w.run gone same ends in
+      let before = w.seen in
+      let more = run_seen does m r call last t q gone in
+      record {
+        number = run_number does m r call last t q gone ∙ w.number;
+        seen = omega (arith, before, more);
+        reply = ended.reply;
+        driven = ended.driven;
+        refused = ended.refused;
+      }
+
+-- whatever call was started and led here is under way
+abbrev pub UnderWay : {S : Type 0} → EventLaw S → ℕ → Started → S → PassView → CallNo → S → PassView → Type 0
+UnderWay {S} does seen started m r call t q =
+    (s : S) (p : PassView) (request : Request) → seen ≡ p.seen → IsStarted does s p request started m r → IsUnderWay does s p request call t q

@@ -4,5 +4,6 @@ pub mod ToldLemmas
 pub mod DriveLemmas
 pub mod RunLemmas
 pub mod TurnLemmas
+pub mod ChangeLemmas
 pub mod PassLemmas
 pub mod ReadLemmas

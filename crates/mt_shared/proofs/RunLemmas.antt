@@ -1,7 +1,8 @@
 -- Steps of a run that are counted together are counted one by one; and a run on what a lock keeps is one somewhere.
-use Rattle.std.proofs.Common.{arith, sym, ap, subst, ◌≡◌, ◌+◌, ◌-◌, ◌^◌, ◌≤◌, ◌<◌, ◌∙◌, ◌∷◌, [], List, ℕ, refl, length, get_or, set, map, Bool, true, false, ◌||◌, ◌&&◌, not, eqb, leb}
-use Rattle.std.specs.Prelude.{All, MatchBool, max, sum_by}
+use Rattle.std.proofs.Common.{arith, sym, ap, subst, ◌≡◌, ◌+◌, ◌-◌, ◌^◌, ◌≤◌, ◌<◌, ◌∙◌, ◌∷◌, [], List, ℕ, refl, length, get_or, set, map, Bool, true, false, ◌||◌, ◌&&◌, not, eqb, leb, ◌⊎◌, inl, inr, suc}
+use Rattle.std.specs.Prelude.{All, MatchBool, max, min, sum_by}
 use Rattle.std.proofs.lemmas.Bool.{eq-eqb}
+use Rattle.std.proofs.lemmas.Bool.Decides.{leb_tells}
 use Rattle.std.proofs.lemmas.List.{get_or-set_same, set-get_or, set-set, length-set}
 use Rattle.std.proofs.lemmas.List.Elements.{All-nil, All-cons, All-head, All-tail}
 use Rattle.std.proofs.lemmas.List.Sums.{sum_by-append}
@@ -30,7 +31,7 @@ use Rattle.mt_shared.specs.Passes.{PassView, IsTold, Suits, pass_after, seen_in}
 use Rattle.mt_shared.specs.Books.{book_after, book_with}
 use Rattle.mt_shared.specs.declared.driving.Started.{Started}
 use Rattle.mt_shared.specs.declared.driving.Started.TheVariants.{Refused as RefusedStart, Begun, Ran}
-use Rattle.mt_shared.specs.Drives.{EventLaw, Runs, Continues, IsStep, HasGone, IsBegun, IsStarted}
+use Rattle.mt_shared.specs.Drives.{EventLaw, Runs, IsRunStep, HasGone, IsBegun, IsStarted}
 use Rattle.mt_shared.specs.Kept.{KeptView, IsKept, IsMade, IsUnmade, Does, DoesSomewhere, has_book, is_foreign, is_other, is_wrong, is_spent}
 use Rattle.mt_shared.proofs.KeptLemmas.{commits_then, does_make, has_its_book, in_books, keeps, not_spent}
 use Rattle.mt_shared.proofs.DriveLemmas.{gains_none}
@@ -54,7 +55,7 @@ runs_keep s p [] t q k run = subst IsKept (sym run.0) k
 runs_keep s p (x ∷ xs) t q k run = runs_keep run.0 run.1 xs t q (does_keep s p x.event x.outcome run.0 run.1 k run.2) run.3
 
 -- ---- one more event, where nothing is traced
--- so many events were made, and this is the book at a place
+-- what the lock keeps, with this number of events and this book at a place
 abbrev pub now_kept : KeptView → ℕ → MachineView → ℕ → Book → KeptView
 now_kept s i m events book = record { machine = m; events = events; books = set s.books i book; trace = Off }
 
@@ -159,14 +160,9 @@ module _ (s : KeptView) (p : PassView) (there : has_book p.number s.books ≡ tr
         own = later.own ∙ kept;
       }
 
-  go_steps : (call : CallNo) (os : List Outcome) → All GoesOnAtOnce os → All (IsStep p.number call) (map (step_of call) os)
-  go_steps call [] on = All-nil (IsStep p.number call)
-  go_steps call (o ∷ os) on = All-cons (IsStep p.number call) (step_of call o) (map (step_of call) os) (record { pass = refl; event = refl; outcome = continues o (All-head GoesOnAtOnce o os on) }) (go_steps call os (All-tail GoesOnAtOnce o os on))
-    where
-      continues : (w : Outcome) → GoesOnAtOnce w → Continues w
-      continues Moved on = tt
-      continues (Commit number) on = tt
-      continues _ on = absurd on
+  go_steps : (call : CallNo) (os : List Outcome) → All GoesOnAtOnce os → All (IsRunStep p.number call) (map (step_of call) os)
+  go_steps call [] on = All-nil (IsRunStep p.number call)
+  go_steps call (o ∷ os) on = All-cons (IsRunStep p.number call) (step_of call o) (map (step_of call) os) (record { pass = refl; event = refl; outcome = All-head GoesOnAtOnce o os on }) (go_steps call os (All-tail GoesOnAtOnce o os on))
 
   gains_off : (xs : List Entry) → Gains p.trace xs p.trace
   gains_off xs = subst (λ (t : Trace). Gains t xs t) (sym off) tt
@@ -300,7 +296,7 @@ run_newest m n call run (h, st) g =
 pub goes_once : {S : Type 0} (does : EventLaw S) (s : S) (p : PassView) (call : CallNo) (last : Outcome) (t : S) (q : PassView) → does s p (Step call) last t q → IsTold p (Step call) last q → HasGone does s p call last t q
 goes_once does s p call last t q d told = record {
   steps = [];
-  are_steps = All-nil (IsStep p.number call);
+  are_steps = All-nil (IsRunStep p.number call);
   then = s;
   between = p;
   runs = (refl, refl);
@@ -317,7 +313,7 @@ abbrev pub somewhere : (S : Type 0) → EventLaw S
 somewhere S = λ _ p event outcome _ q. DoesSomewhere p event outcome q
 
 module _ {S : Type 0} (x : S) where
-  runs_somewhere : (s : KeptView) (p : PassView) (xs : List Entry) (t : KeptView) (q : PassView) → IsKept s → Runs Does s p xs t q → Runs (somewhere S) x p xs x q
+  pub runs_somewhere : (s : KeptView) (p : PassView) (xs : List Entry) (t : KeptView) (q : PassView) → IsKept s → Runs Does s p xs t q → Runs (somewhere S) x p xs x q
   runs_somewhere s p [] t q k run = (refl, run.1)
   runs_somewhere s p (y ∷ xs) t q k run =
       let kept = does_keep s p y.event y.outcome run.0 run.1 k run.2 in
@@ -348,3 +344,36 @@ module _ {S : Type 0} (x : S) where
   started_somewhere s p request (Begun call) t q y k is = begun_somewhere s p request (Call call) t q y k is
   started_somewhere s p request (Ran call last) t q y k (m, r, b, g) =
       (x, r, begun_somewhere s p request (Call call) m r x k b, gone_somewhere m r call last t q y (does_keep s p (Begin p.number request) (Call call) m r k b.0) g)
+
+-- ---- how many events a run counts
+pub told_events : (p : PassView) (e : Event) (o : Outcome) (q : PassView) → IsTold p e o q → q.events ≤ p.events + 1
+told_events p e o q told = elim told [
+  | inl unmade ↦ (let same = ap (λ (x : PassView). x.events) unmade.1 in omega (arith, same))
+  | inr made ↦ (let more = made.0.events in omega (arith, more))
+]
+
+or_true : (b : Bool) → (b || true) ≡ true
+or_true true = refl
+or_true false = refl
+
+-- a run after which the call continues at once has made all the events that it may, or no more can be counted
+pub runs_fully : (here there most room least steps : ℕ) → least ≡ min most room → (room ≡ 0 → ⊥) → (steps < least → ⊥) → steps ≤ max 1 least → (here + room ≡ greatest_number) ⊎ (there + room ≡ greatest_number)
+    → (there + most ≤ there + steps) ⊎ ((eqb (here + steps) greatest_number || eqb (there + steps) greatest_number) ≡ true)
+runs_fully here there most room least steps is some long few at = elim (leb_tells most steps) [
+  | inl enough ↦ inl (let e = enough.1 in omega (arith, e))
+  | inr short ↦ inr (spent (all short.1) at)
+]
+  where
+    -- it has made as many as there was room for
+    all : steps < most → steps ≡ room
+    all short = elim (leb_tells (suc steps) least) [
+      | inl less ↦ absurd (long less.1)
+      | inr more ↦ elim (leb_tells 1 room) [
+        | inl one ↦ (let a = more.1 in let b = one.1 in omega (arith, short, few, is, a, b))
+        | inr none ↦ absurd (some (let a = none.1 in omega (arith, a)))
+      ]
+    ]
+
+    spent : steps ≡ room → (here + room ≡ greatest_number) ⊎ (there + room ≡ greatest_number) → (eqb (here + steps) greatest_number || eqb (there + steps) greatest_number) ≡ true
+    spent same (inl e) = ap (λ (b : Bool). b || eqb (there + steps) greatest_number) (eq-eqb (here + steps) greatest_number (ap (λ (n : ℕ). here + n) same ∙ e))
+    spent same (inr e) = ap (λ (b : Bool). eqb (here + steps) greatest_number || b) (eq-eqb (there + steps) greatest_number (ap (λ (n : ℕ). there + n) same ∙ e)) ∙ or_true (eqb (here + steps) greatest_number)

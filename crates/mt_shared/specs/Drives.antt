@@ -12,6 +12,7 @@ use Rattle.mt_types.specs.declared.event.Reply.{Reply}
 use Rattle.mt_types.specs.declared.event.Outcome.{Outcome}
 use Rattle.mt_types.specs.declared.event.Outcome.TheVariants.{Call, Moved, Again, Commit, Done, Refused}
 use Rattle.mt_types.specs.Limited.{OutcomeIsLimited}
+use Rattle.mt_index.specs.Events.{GoesOnAtOnce}
 use Rattle.mt_shared.specs.declared.trace.Entry.{Entry}
 use Rattle.mt_shared.specs.Traces.{entry, Gains}
 use Rattle.mt_shared.specs.declared.driving.Started.{Started}
@@ -40,12 +41,18 @@ pub record IsStep (p : PassNo) (call : CallNo) (x : Entry) : Type 0 where
   pub event : x.event ≡ Step call
   pub outcome : Continues x.outcome
 
--- A RUN OF A CALL: steps of it, one after another, after each of which but the last it continues. The last has this
--- outcome, and the pass is told of it.
+-- a step of the call, after which the call continues, and doesn't wait
+pub record IsRunStep (p : PassNo) (call : CallNo) (x : Entry) : Type 0 where
+  pub pass : x.pass ≡ p
+  pub event : x.event ≡ Step call
+  pub outcome : GoesOnAtOnce x.outcome
+
+-- A RUN OF A CALL: steps of it, one after another, after each of which but the last it continues, and doesn't wait. The
+-- last has this outcome, and the pass learns of it.
 pub record HasGone {S : Type 0} (does : EventLaw S) (s : S) (p : PassView) (call : CallNo) (last : Outcome)
     (t : S) (q : PassView) : Type 0 where
   pub steps : List Entry
-  pub are_steps : All (IsStep p.number call) steps
+  pub are_steps : All (IsRunStep p.number call) steps
   pub then : S
   pub between : PassView
   pub runs : Runs does s p steps then between
@@ -56,7 +63,7 @@ pub record HasGone {S : Type 0} (does : EventLaw S) (s : S) (p : PassView) (call
   pub made : does then between (Step call) last t q
   pub told : IsTold between (Step call) last q
 
--- the begin of a call of the pass had this outcome, and the pass is told of it
+-- the begin of a call of the pass had this outcome, and the pass learns of it
 abbrev pub IsBegun : {S : Type 0} → EventLaw S → S → PassView → Request → Outcome → S → PassView → Type 0
 IsBegun does s p request outcome t q =
     does s p (Begin p.number request) outcome t q × IsTold p (Begin p.number request) outcome q
@@ -135,3 +142,9 @@ pub record IsDrive {S : Type 0} (does : EventLaw S) (s : S) (p : PassView) (requ
   pub reply : IfOk result (λ reply. IsReplyTo p reply q)
   pub driven : IfOk result (λ reply. IsDriven does s p request reply t q)
   pub refused : IfErr result (λ refusal. IsRefused does s p request refusal t q)
+
+-- whatever call was started and led here, it was then driven to this end, if its pass had seen this many commits before
+abbrev pub Finishes : {S : Type 0} → EventLaw S → ℕ → Started → S → PassView → Result Reply Refusal → S → PassView → Type 0
+Finishes {S} does seen started m r result t q =
+    (s : S) (p : PassView) (request : Request) → seen ≡ p.seen → IsStarted does s p request started m r
+    → IsDrive does s p request result t q

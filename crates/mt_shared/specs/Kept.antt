@@ -1,5 +1,5 @@
 -- What lies under the lock, and what an event of a pass does to it.
-use Rattle.std.specs.Prelude.{ℕ, ◌+◌, ◌-◌, ◌≡◌, ◌≤◌, ◌==◌, ◌&&◌, ◌||◌, nat_le, not, Bool, false, MatchBool}
+use Rattle.std.specs.Prelude.{ℕ, ◌+◌, ◌-◌, ◌≡◌, ◌≤◌, ◌⊎◌, ◌==◌, ◌&&◌, ◌||◌, nat_le, not, Bool, true, false, MatchBool}
 use Rattle.std.specs.Prelude.{List, [], ◌∷◌, length, Option, Some, None, All, slice_index_or, slice_set}
 use Rattle.std.specs.Prelude.{Result, Err, IfErr, MatchOption}
 use Rattle.std.specs.Option.{option_or}
@@ -16,10 +16,13 @@ use Rattle.mt_promise.specs.History.{History}
 use Rattle.mt_commit.specs.Log.{newest}
 use Rattle.mt_index.specs.declared.options.Options.{Options}
 use Rattle.mt_index.specs.Calls.{pass_at}
-use Rattle.mt_index.specs.Events.{Makes}
+use Rattle.mt_index.specs.Events.{GoesOnAtOnce, Makes}
 use Rattle.mt_index.specs.Stands.{MachineView, Stands, HasBounds}
 use Rattle.mt_shared.specs.declared.book.Book.{Book}
 use Rattle.mt_shared.specs.declared.trace.Trace.{Trace}
+use Rattle.mt_shared.specs.declared.trace.Trace.TheVariants.{Off}
+use Rattle.mt_shared.specs.declared.driving.Started.{Started}
+use Rattle.mt_shared.specs.declared.driving.Started.TheVariants.{Refused as RefusedStart, Begun, Ran}
 use Rattle.mt_shared.specs.Traces.{entry, Gains, IsTraceOf}
 use Rattle.mt_shared.specs.Passes.{PassView, Counts}
 use Rattle.mt_shared.specs.Books.{booked_events, booked_commits, book_with}
@@ -83,6 +86,18 @@ abbrev pub Does : KeptView → PassView → Event → Outcome → KeptView → P
 Does s p event outcome t q =
     MatchBool (is_wrong s p.number event) (IsUnmade WrongPass s p outcome t q)
     (MatchBool (is_spent s p) (IsUnmade Spent s p outcome t q) (IsMade s p event outcome t q))
+
+-- A run whose call still continues at once has made all the events that it may, or no more can be counted. (If events
+-- are traced, a run is of one event.)
+abbrev pub RunsFully : KeptView → PassView → ℕ → Outcome → KeptView → PassView → Type 0
+RunsFully s p most last t q = s.trace ≡ Off → p.trace ≡ Off → GoesOnAtOnce last
+    → (p.events + most ≤ q.events) ⊎ (is_spent t q ≡ true)
+
+-- and so has the run with which a call is started; a call is begun without a run only if no more events may be made
+abbrev pub StartsFully : KeptView → PassView → ℕ → Started → KeptView → PassView → Type 0
+StartsFully s p most (RefusedStart refusal) t q = Unit {0}
+StartsFully s p most (Begun call) t q = most ≤ 1
+StartsFully s p most (Ran call last) t q = RunsFully s p most last t q
 
 -- an event of a pass, on something that the lock keeps
 pub record DoesSomewhere (p : PassView) (event : Event) (outcome : Outcome) (q : PassView) : Type 0 where

@@ -7,3 +7,4 @@ pub mod Turns
 pub mod Feeds
 pub mod Reads
 pub mod Inside
+pub mod Changes

@@ -7,6 +7,7 @@ ghost use Rattle.mt_shared.specs.Reads.{IsCall, IsToldNow};
 
 use crate::driving::{NoGate, Shared, drive};
 use crate::pass::Pass;
+use crate::reads::is_read;
 use mt_types::event::{Answer, Reply, Request};
 use mt_types::numbers::CallNo;
 use mt_types::refusal::Refusal;
@@ -31,8 +32,8 @@ fn reply_now(pass: &mut Pass, read: Result<(u64, Answer), Refusal>) -> Result<Re
 }
 
 /// Makes one call of a pass, and returns its reply. A get or a range is read at once, if no put, remove or tidy is open
-/// and the index keeps no trace: it makes no event, its reply is of call 0, and begins and ends at the number of commits at that
-/// moment. Otherwise it is driven from its begin to its end, as [`drive`] does, and so is every other call.
+/// and the index keeps no trace: it makes no event, its reply is of call 0, and begins and ends at the number of commits
+/// at that moment. Otherwise it is driven from its begin to its end, as [`drive`] does, and so is every other call.
 ///
 /// Over a door a read at once holds the lock once, together with other reads.
 ///
@@ -54,6 +55,9 @@ pub fn ask<S: Shared>(
     ensures seen { pass.old.seen ≤ pass.new.seen }
     ensures limited { IfOk result (λ reply. AnswerIsLimited reply.answer) }
 {
+    if !is_read(&request) {
+        return drive(alloc, shared, pass, &mut NoGate, request);
+    }
     match shared.read(alloc, pass.number(), &request) {
         Some(read) => reply_now(pass, read),
         None => drive(alloc, shared, pass, &mut NoGate, request),

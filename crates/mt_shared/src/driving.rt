@@ -9,8 +9,10 @@ ghost use Rattle.mt_types.specs.declared.event.Event.{Event};
 ghost use Rattle.mt_types.specs.declared.event.Outcome.{Outcome};
 ghost use Rattle.mt_types.specs.Limited.{AnswerIsLimited, OutcomeIsLimited};
 ghost use Rattle.mt_shared.specs.Passes.{PassView, IsTold};
-ghost use Rattle.mt_shared.specs.Drives.{HasGone, IsReplyTo, IsDriven, IsRefused, IsStarted, StartIsLimited, Ends};
+ghost use Rattle.mt_shared.specs.Changes.{ChangeIsLimited, IsChanged};
+ghost use Rattle.mt_shared.specs.Drives.{Finishes, HasGone, IsReplyTo, IsDriven, IsRefused, IsStarted, StartIsLimited, Ends};
 
+use crate::changing::Changed;
 use crate::pass::Pass;
 use mt_types::event::{Answer, Event, Outcome, Reply, Request};
 use mt_types::numbers::{CallNo, PassNo};
@@ -45,6 +47,12 @@ pub trait Shared {
     fn begin(&mut self, alloc: Global, pass: &mut Pass, request: Request) -> Started
         ensures starts { IsStarted does self.old pass.old request result self.new pass.new }
         ensures limited { StartIsLimited result };
+
+    /// Begins a call of a pass, as `begin` does. If the run ends the call by a change, it may then keep up views, in at
+    /// most `turns` turns.
+    fn change(&mut self, alloc: Global, pass: &mut Pass, request: Request, turns: u64) -> Changed
+        ensures changes { IsChanged does self.old pass.old request turns result self.new pass.new }
+        ensures limited { ChangeIsLimited result };
 
     /// Makes a run of a call of a pass: one step or more, one after the other, until one ends the call or waits, or the
     /// run is long enough. Returns the outcome of the last.
@@ -111,7 +119,24 @@ pub fn drive<S: Shared, G: Gate>(
     ensures limited { IfOk result (λ reply. AnswerIsLimited reply.answer) }
 {
     let seen = pass.seen();
-    let call = match shared.begin(alloc, pass, request) {
+    let started = shared.begin(alloc, pass, request);
+    finish(alloc, shared, pass, gate, started, seen)
+}
+
+// Drives a call that was started to its end. `seen` is what the pass had seen before.
+pub(crate) fn finish<S: Shared, G: Gate>(
+    alloc: Global,
+    shared: &mut S,
+    pass: &mut Pass,
+    gate: &mut G,
+    started: Started,
+    seen: u64,
+) -> Result<Reply, Refusal>
+    requires { StartIsLimited started }
+    ensures drive { Finishes S.does seen started shared.old pass.old result shared.new pass.new }
+    ensures limited { IfOk result (λ reply. AnswerIsLimited reply.answer) }
+{
+    let call = match started {
         Started::Refused(refusal) => return Err(refusal),
         Started::Begun(call) => call,
         Started::Ran(call, last) => {

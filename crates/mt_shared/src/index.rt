@@ -7,6 +7,7 @@ ghost use Rattle.mt_shared.specs.Kept.{IsKept, IsRefusedBy, DoesSomewhere, start
 ghost use Rattle.mt_shared.specs.Feeds.{FeedsSomewhere, CopiesSomewhere};
 ghost use Rattle.mt_shared.specs.Reads.{ReadsSomewhere};
 
+use crate::changing::Changed;
 use crate::driving::{Shared, Started};
 use crate::kept::Kept;
 use crate::pass::Pass;
@@ -232,6 +233,11 @@ impl<'a, W: Wait> Shared for Door<'a, W> {
             Outcome::Refused(refusal) => Started::Refused(refusal),
             _ => unreachable!(),
         }
+    }
+
+    /// Begins the call, and does no more.
+    fn change(&mut self, alloc: Global, pass: &mut Pass, request: Request, _turns: u64) -> Changed {
+        Changed::Started(self.begin(alloc, pass, request))
     }
 
     /// Makes one step.

@@ -4,7 +4,9 @@
 
 pub mod asking;
 pub mod book;
+pub mod caller;
 pub mod calls;
+pub mod changing;
 pub mod driving;
 pub mod index;
 pub mod kept;

@@ -6,10 +6,12 @@ ghost use Rattle.mt_types.specs.Limits.{open_fault};
 ghost use Rattle.mt_shared.specs.Passes.{IsNewPass};
 ghost use Rattle.mt_shared.specs.Kept.{Does, IsKept, IsFresh, IsRefusedBy};
 ghost use Rattle.mt_shared.specs.Feeds.{Feeds, Copies};
+ghost use Rattle.mt_shared.specs.Changes.{ChangeIsLimited, IsChanged};
 ghost use Rattle.mt_shared.specs.Drives.{HasGone, IsStarted, StartIsLimited};
 ghost use Rattle.mt_shared.specs.Reads.{ReadsNow};
 ghost use Rattle.mt_shared.specs.Passes.{IsTold};
 
+use crate::changing::Changed;
 use crate::driving::{Shared, Started};
 use crate::kept::Kept;
 use crate::pass::Pass;
@@ -107,6 +109,15 @@ impl Shared for Lone {
         ensures kept { IsKept self.old × IsKept self.new }
     {
         self.kept.begin(alloc, pass, request, u64::MAX)
+    }
+
+    /// Does what `Kept::change` does, without a limit of events.
+    fn change(&mut self, alloc: Global, pass: &mut Pass, request: Request, turns: u64) -> Changed
+        ensures changes { IsChanged Does self.old pass.old request turns result self.new pass.new }
+        ensures limited { ChangeIsLimited result }
+        ensures kept { IsKept self.old × IsKept self.new }
+    {
+        self.kept.change(alloc, pass, request, u64::MAX, turns)
     }
 
     /// Does what `Kept::go` does, without a limit of events.

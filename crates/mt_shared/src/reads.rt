@@ -85,8 +85,8 @@ fn answer(machine: &Machine, alloc: Global, request: &Request) -> Result<Answer,
     }
 }
 
-// Returns whether the request is a get or a range.
-fn is_read(request: &Request) -> bool
+/// Returns whether a request is a get or a range, which may be read at once.
+pub fn is_read(request: &Request) -> bool
     ensures { IsTrue result ↔ IsRead request.now }
 {
     matches!(request, Request::Get { .. } | Request::Range { .. })

@@ -1,12 +1,13 @@
 //! Runs under the lock: a call is begun, and makes several steps, which are counted together.
 
-ghost use Rattle.std.specs.Prelude.{◌≡◌, ◌+◌, ◌-◌, ◌<◌, ◌≤◌, ◌^◌, IsFalse, length, slice_index_or, slice_set};
+ghost use Rattle.std.specs.Prelude.{◌≡◌, ◌+◌, ◌-◌, ◌<◌, ◌≤◌, ◌^◌, ◌⊎◌, ◌↔◌, max, IsFalse, length, slice_index_or, slice_set};
+ghost use Rattle.mt_types.specs.Numbers.{greatest_number};
 ghost use Rattle.mt_types.specs.declared.event.Event.TheVariants.{Begin};
 ghost use Rattle.mt_types.specs.Limited.{OutcomeIsLimited};
 ghost use Rattle.mt_shared.specs.declared.trace.Trace.TheVariants.{Off};
 ghost use Rattle.mt_shared.specs.Books.{book_after};
 ghost use Rattle.mt_shared.specs.Drives.{HasGone, IsStarted, StartIsLimited};
-ghost use Rattle.mt_shared.specs.Kept.{Does, IsKept};
+ghost use Rattle.mt_shared.specs.Kept.{Does, IsKept, RunsFully, StartsFully};
 ghost use Rattle.mt_shared.specs.Passes.{IsTold};
 
 use crate::driving::Started;
@@ -24,13 +25,14 @@ impl Kept {
     fn room(&self, pass: &Pass) -> u64
         ensures here { self.now.events + result < 2 ^ 64 }
         ensures there { pass.now.events + result < 2 ^ 64 }
+        ensures greatest { (self.now.events + result ≡ greatest_number) ⊎ (pass.now.events + result ≡ greatest_number) }
     {
         (u64::MAX - self.events).min(u64::MAX - pass.events())
     }
 
     // Returns whether each event of the pass is to be traced.
     fn is_traced(&self, pass: &Pass) -> bool
-        ensures { IsFalse result → (self.now.trace ≡ Off) × (pass.now.trace ≡ Off) }
+        ensures { IsFalse result ↔ (self.now.trace ≡ Off) × (pass.now.trace ≡ Off) }
     {
         !matches!(self.trace, Trace::Off) || !matches!(pass.trace(), Trace::Off)
     }
@@ -46,6 +48,8 @@ impl Kept {
     /// Those of [`Kept::event`] for a step.
     pub fn go(&mut self, alloc: Global, pass: &mut Pass, call: CallNo, most: u64) -> Outcome
         ensures goes { HasGone Does self.old pass.old call result self.new pass.new }
+        ensures most { pass.new.events ≤ pass.old.events + max 1 most }
+        ensures fully { RunsFully self.old pass.old most result self.new pass.new }
         ensures limited { OutcomeIsLimited result }
         ensures kept { IsKept self.old × IsKept self.new }
     {
@@ -97,6 +101,8 @@ impl Kept {
     /// Those of [`Kept::event`] for a begin.
     pub fn begin(&mut self, alloc: Global, pass: &mut Pass, request: Request, most: u64) -> Started
         ensures starts { IsStarted Does self.old pass.old request result self.new pass.new }
+        ensures most { pass.new.events ≤ pass.old.events + max 1 most }
+        ensures fully { StartsFully self.old pass.old most result self.new pass.new }
         ensures limited { StartIsLimited result }
         ensures kept { IsKept self.old × IsKept self.new }
     {

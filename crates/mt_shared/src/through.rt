@@ -3,6 +3,7 @@
 ghost use Rattle.mt_shared.specs.Kept.{DoesSomewhere};
 ghost use Rattle.mt_shared.specs.Reads.{ReadsSomewhere};
 
+use crate::changing::Changed;
 use crate::driving::{Shared, Started};
 use crate::index::{Door, Index};
 use crate::pass::Pass;
@@ -14,9 +15,9 @@ use std::sync::Wait;
 
 /// The access of one thread to an index, for calls that are driven to their end. It is like a `Door`, but it makes the
 /// begin of a call and its steps one after the other while it holds the lock once, until the call ends or waits for
-/// another, or `most` events were made. The events are the same as over a `Door`, and each does the same. But fewer
-/// events of other threads come between them, and other threads wait longer for the lock. Between two calls of its
-/// methods the thread doesn't hold the lock.
+/// another, or `most` events were made; and, by `change`, the turns of views after a call that has changed rows. The
+/// events are the same as over a `Door`, and each does the same. But fewer events of other threads come between them,
+/// and other threads wait longer for the lock. Between two calls of its methods the thread doesn't hold the lock.
 #[derive(Drop)]
 pub struct ThroughDoor<'a, W> {
     door: Door<'a, W>,
@@ -48,6 +49,13 @@ impl<'a, W: Wait> Shared for ThroughDoor<'a, W> {
         let index = self.door.index;
         let mut kept = index.kept.write(self.door.wait);
         kept.begin(alloc, pass, request, self.most)
+    }
+
+    /// Holds the lock once, for one `Kept::change`.
+    fn change(&mut self, alloc: Global, pass: &mut Pass, request: Request, turns: u64) -> Changed {
+        let index = self.door.index;
+        let mut kept = index.kept.write(self.door.wait);
+        kept.change(alloc, pass, request, self.most, turns)
     }
 
     /// Holds the lock once, for one `Kept::go`.

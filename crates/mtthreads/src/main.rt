@@ -6,7 +6,7 @@
 use anyhow::{Context, Result, bail};
 use bytes::Bytes;
 use mt_index::options::Options;
-use mt_shared::calls::{get, getrange, put};
+use mt_shared::caller::Caller;
 use mt_shared::index::Index;
 use mt_shared::pass::Pass;
 use mt_shared::through::ThroughDoor;
@@ -24,37 +24,32 @@ const KEYS: u64 = 10;
 // How many events of a call are made at most while the index's lock is held once.
 const MOST_EVENTS: u32 = 64;
 
+// A caller of the index: a pass, with a door of its own.
+type Guest<'a, R> = Caller<ThroughDoor<'a, R>>;
+
 // The nth key of a pass, as `2/7`.
 fn nth_key(alloc: Global, pass: &Pass, n: u64) -> Result<Bytes, Refusal> {
     let text = format!(in alloc; "{}/{n}", pass.number().0)?;
     Ok(Bytes::from_string(text)?)
 }
 
-// Puts the keys of a pass, each with its own bytes in column 0 of its row.
-fn put_all<R: Wait>(
-    alloc: Global,
-    door: &mut ThroughDoor<'_, R>,
-    pass: &mut Pass,
-) -> Result<(), Refusal> {
+// Puts the keys of a caller, each with its own bytes in column 0 of its row.
+fn put_all<R: Wait>(alloc: Global, caller: &mut Guest<'_, R>) -> Result<(), Refusal> {
     for n in 0..KEYS {
-        let sets = Vec::from_array(alloc, [(0, nth_key(alloc, pass, n)?)])?;
-        let key = nth_key(alloc, pass, n)?;
-        let _ = put(alloc, door, pass, key, Items::from_vec(sets))?;
+        let sets = Vec::from_array(alloc, [(0, nth_key(alloc, &caller.pass, n)?)])?;
+        let key = nth_key(alloc, &caller.pass, n)?;
+        let _ = caller.put(key, Items::from_vec(sets))?;
     }
     Ok(())
 }
 
-// Gets the keys of a pass: the versions of the rows that are there.
-fn get_all<R: Wait>(
-    alloc: Global,
-    door: &mut ThroughDoor<'_, R>,
-    pass: &mut Pass,
-) -> Result<Vec<u64>, Refusal> {
+// Gets the keys of a caller: the versions of the rows that are there.
+fn get_all<R: Wait>(alloc: Global, caller: &mut Guest<'_, R>) -> Result<Vec<u64>, Refusal> {
     let mut versions = Vec::new(alloc);
     for n in 0..KEYS {
-        let key = nth_key(alloc, pass, n)?;
+        let key = nth_key(alloc, &caller.pass, n)?;
         // if no column is named, all are asked for
-        let reply = get(alloc, door, pass, key, Items::new(alloc))?;
+        let reply = caller.get(key, Items::new(alloc))?;
         if let Answer::Found(row) = &reply.answer {
             versions.push(row.version)?;
         }
@@ -67,12 +62,12 @@ fn work<R: Wait>(
     rt: &R,
     alloc: Global,
     index: &Index,
-    mut pass: Pass,
+    pass: Pass,
 ) -> Result<(Pass, Vec<u64>), Refusal> {
-    let mut door = ThroughDoor::new(index, rt, MOST_EVENTS);
-    put_all(alloc, &mut door, &mut pass)?;
-    let versions = get_all(alloc, &mut door, &mut pass)?;
-    Ok((pass, versions))
+    let mut caller = Caller::new(alloc, ThroughDoor::new(index, rt, MOST_EVENTS), pass);
+    put_all(alloc, &mut caller)?;
+    let versions = get_all(alloc, &mut caller)?;
+    Ok((caller.pass, versions))
 }
 
 fn run<R: Threads + Wait + Sync + Print + AllocGlobal>(rt: &R) -> Result<()> {
@@ -90,14 +85,15 @@ fn run<R: Threads + Wait + Sync + Print + AllocGlobal>(rt: &R) -> Result<()> {
         )?;
         passes.push(pass)?;
     }
-    let mut door = ThroughDoor::new(&index, rt, MOST_EVENTS);
-    let one = passes.first_mut().context("there is no pass")?;
+    let one = passes.pop().context("there is no pass")?;
+    let mut caller = Caller::new(alloc, ThroughDoor::new(&index, rt, MOST_EVENTS), one);
     // 100 rows at most, from the first key on
-    let reply = getrange(alloc, &mut door, one, Bytes::new(), 100, Items::new(alloc))?;
+    let reply = caller.range(Bytes::new(), 100, Items::new(alloc))?;
     let Answer::Rows(rows) = &reply.answer else {
         bail!("a range answers with rows")
     };
     println!(rt; "range: {} rows", rows.as_slice().len())?;
+    passes.push(caller.pass)?;
     let totals = index.close(passes)?;
     println!(rt; "close: {} commits", totals.commits)?;
     Ok(())

@@ -38,7 +38,7 @@ returns-clause-does c =
     let s : KeptView = record { machine = c.self.inside.machine; events = c.self.inside.events; books = c.self.inside.books.items; trace = c.self.inside.trace } in
     let run : Run = record { steps = 1; commits = 0; last = c.begin_call-last.result } in
     let there = rw (← c.self.view_is) at c.if-not-has_book.ensures in
-    let off = (rw (← c.self.view_is) at c.if-is_traced.ensures) refl in
+    let off = (rw (← c.self.view_is) at c.if-is_traced.ensures).0 refl in
     let here = rw (← c.self.view_is) at c.room-room.ensures.here in
     let far = c.room-room.ensures.there in
     let some = c.if-room-eq0.false in

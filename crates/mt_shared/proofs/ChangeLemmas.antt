@@ -1,0 +1,99 @@
+-- Views that are kept up after a call on what a lock keeps are kept up somewhere.
+use Rattle.std.proofs.Common.{◌≡◌, ◌<◌, ◌++◌, ◌∷◌, [], ℕ, Bool, refl, sym, subst, inl, inr}
+use Rattle.std.specs.Prelude.{Ok, MatchBool}
+use Rattle.mt_types.specs.declared.numbers.CallNo.{CallNo}
+use Rattle.mt_types.specs.declared.refusal.Refusal.{Refusal}
+use Rattle.mt_types.specs.declared.refusal.Refusal.TheVariants.{Spent, WrongPass}
+use Rattle.mt_types.specs.declared.event.Event.TheVariants.{Begin}
+use Rattle.mt_types.specs.declared.event.Outcome.{Outcome}
+use Rattle.mt_types.specs.declared.event.Outcome.TheVariants.{Call, Done, Refused, Applied, Current}
+use Rattle.mt_types.specs.declared.event.Request.{Request}
+use Rattle.mt_types.specs.declared.event.Reply.{Reply}
+use Rattle.mt_shared.specs.declared.changing.Changed.{Changed}
+use Rattle.mt_shared.specs.declared.changing.Changed.TheVariants.{Started as StartedOnly, Ended}
+use Rattle.mt_shared.specs.declared.driving.Started.TheVariants.{Ran}
+use Rattle.mt_shared.specs.Changes.{IsChanged, IsDriveKept, KeepsViews}
+use Rattle.mt_shared.specs.Drives.{EventLaw, IsStarted}
+use Rattle.mt_shared.specs.Kept.{KeptView, IsKept, Does}
+use Rattle.mt_shared.specs.Passes.{PassView, IsTold, Suits}
+use Rattle.mt_shared.specs.Turns.{furthest, turn}
+use Rattle.mt_shared.proofs.DriveLemmas.{begun_goes, run_finishes}
+use Rattle.mt_shared.proofs.ToldLemmas.{does_tell}
+use Rattle.mt_shared.proofs.TurnLemmas.{Turned, all_current, turn_refused}
+use Rattle.mt_shared.proofs.RunLemmas.{does_keep, gone_keep, runs_somewhere, somewhere, started_somewhere}
+
+-- what the lock keeps is kept while a call is started with a run
+pub started_keep : (s : KeptView) (p : PassView) (request : Request) (call : CallNo) (last : Outcome) (t : KeptView) (q : PassView) → IsKept s → IsStarted Does s p request (Ran call last) t q → IsKept t
+started_keep s p request call last t q k (m, r, begun, gone) = gone_keep m r call last t q (does_keep s p (Begin p.number request) (Call call) m r k begun.0) gone
+
+module _ {S : Type 0} (x : S) where
+  keeps_somewhere : (s : KeptView) (p : PassView) (most : ℕ) (t : KeptView) (q : PassView) → IsKept s → KeepsViews Does s p most t q → KeepsViews (somewhere S) x p most x q
+  keeps_somewhere s p most t q k (inl (applied, up)) = inl (
+    applied,
+    record {
+      last = up.last;
+      is_last = up.is_last;
+      turned = record {
+        turns = up.turned.turns;
+        count = up.turned.count;
+        are_turns = up.turned.are_turns;
+        runs = runs_somewhere x s p (up.turned.turns ++ up.last) t q k up.turned.runs;
+      };
+      traced = up.traced;
+    },
+  )
+  keeps_somewhere s p most t q k (inr (refusal, stopped)) = inr (
+    refusal,
+    record {
+      applied = stopped.applied;
+      fewer = stopped.fewer;
+      turned = record {
+        turns = stopped.turned.turns;
+        count = stopped.turned.count;
+        are_turns = stopped.turned.are_turns;
+        runs = runs_somewhere x s p (stopped.turned.turns ++ turn p.number (Refused refusal) ∷ []) t q k stopped.turned.runs;
+      };
+    },
+  )
+
+  pub changed_somewhere : (s : KeptView) (p : PassView) (request : Request) (most : ℕ) (changed : Changed) (t : KeptView) (q : PassView) → IsKept s → IsChanged Does s p request most changed t q → IsChanged (somewhere S) x p request most changed x q
+  changed_somewhere s p request most (StartedOnly started) t q k is = started_somewhere x s p request started t q x k is
+  changed_somewhere s p request most (Ended reply) t q k (m, r, call, is, late, change, keeps) = (
+    x,
+    r,
+    call,
+    started_somewhere x s p request (Ran call (Done reply)) m r x k is,
+    late,
+    change,
+    keeps_somewhere m r most t q (started_keep s p request call (Done reply) m r k is) keeps,
+  )
+
+-- a turn that advances no view is the last
+pub turn_stops : (s : KeptView) (p : PassView) (n most : ℕ) (m : KeptView) (r : PassView) (o : Outcome) (t : KeptView) (q : PassView) → IsKept m → Turned Does s p n m r → Does m r furthest o t q
+    → ((number : ℕ) → o ≡ Applied number → ⊥) → n < most → KeepsViews Does s p most t q
+turn_stops s p n most m r o t q k b d none few = elim told [
+  | inl unmade ↦ elim unmade.0 [ inl e ↦ stopped WrongPass e | inr e ↦ stopped Spent e ]
+  | inr made ↦ suited o refl made.1
+]
+  where
+    told : IsTold r furthest o q
+    told = does_tell m r furthest o t q k d
+
+    stopped : (refusal : Refusal) → o ≡ Refused refusal → KeepsViews Does s p most t q
+    stopped refusal is = inr (refusal, turn_refused Does s p n most m r o refusal t q b d is few)
+
+    suited : (w : Outcome) → o ≡ w → Suits r.number furthest w → KeepsViews Does s p most t q
+    suited (Applied number) is suits = absurd (none number is)
+    suited Current is suits = inl (n, all_current Does s p n most m r o t q b d is few told)
+    suited (Refused refusal) is suits = stopped refusal is
+    suited _ is suits = absurd suits
+
+-- a call that ended at once by a change, with its views
+pub ended_kept : {S : Type 0} (does : EventLaw S) (s : S) (p : PassView) (request : Request) (most : ℕ) (reply : Reply) (t : S) (q : PassView) → IsChanged does s p request most (Ended reply) t q → IsDriveKept does s p request most (Ok reply) t q
+ended_kept does s p request most reply t q (m, r, call, started, late, change, keeps) =
+    let (n, v, begun, gone) = started in (
+      m,
+      r,
+      run_finishes does s p request call n v (Done reply) m r p.seen (Ok reply) (begun_goes does s p request call n v begun) gone refl (refl, late),
+      subst (λ (b : Bool). MatchBool b (KeepsViews does m r most t q) ((t ≡ m) × (q ≡ r))) (sym change) keeps,
+    )
