@@ -4,12 +4,10 @@ use Rattle.std.specs.Prelude.{Option, Some, None, Result, Ok, Err, MatchOption}
 use Rattle.std.specs.Option.{option_or}
 use Rattle.std.proofs.lemmas.Bool.Decides.{leb_tells}
 use Rattle.mt_types.specs.declared.event.Event.{Event}
-use Rattle.mt_types.specs.declared.event.Event.TheVariants.{Begin, Step, Apply, ViewRead, ViewDrop, Advance, Collect}
 use Rattle.mt_types.specs.declared.event.Outcome.{Outcome}
 use Rattle.mt_types.specs.declared.event.Outcome.TheVariants.{View, Refused}
 use Rattle.mt_types.specs.declared.event.Reply.{Reply}
 use Rattle.mt_types.specs.declared.event.Request.{Request}
-use Rattle.mt_types.specs.declared.numbers.ViewNo.{ViewNo}
 use Rattle.mt_types.specs.declared.refusal.Refusal.{Refusal}
 use Rattle.mt_types.specs.declared.refusal.Refusal.TheVariants.{NoMemory, NoSuchView, Behind}
 use Rattle.mt_types.specs.declared.view.Page.{Page}
@@ -18,12 +16,12 @@ use Rattle.mt_types.specs.RefusalNumbers.{refusal_number}
 use Rattle.mt_view.specs.State.{StateView}
 use Rattle.mt_index.specs.declared.options.Options.{Options}
 use Rattle.mt_index.specs.Alone.{IsIdle}
-use Rattle.mt_index.specs.Events.{EventDoes, Happens, IsOpened}
-use Rattle.mt_index.specs.Stands.{MachineView, ReadsView, ReadsPage}
+use Rattle.mt_index.specs.Events.{Happens, IsOpened}
+use Rattle.mt_index.specs.Stands.{MachineView, ReadsPage}
 use Rattle.rowanspan_c.specs.Kept.{is_nil, is_quiet}
 use Rattle.rowanspan_c.specs.Questions.{IsCausedBy, state_refusal}
 use Rattle.rowanspan_c.specs.Told.{TellsEnd, TellsOutcome}
-use Rattle.rowanspan_c.specs.Calls.{Changes, EndsAlone, IsOutside, Meets, Opens, StandsNext}
+use Rattle.rowanspan_c.specs.Calls.{Changes, EndsAlone, Meets, Opens, StandsNext}
 
 -- ---- quiet
 
@@ -64,61 +62,7 @@ pub meets_done : (held next : Option MachineView) (s t : MachineView) (event : E
 meets_done held next s t event outcome status told is after happens stands tells =
     subst (λ (h : Option MachineView). Meets h event next status told) (sym is) (t, after, outcome, happens, stands, tells)
 
--- no call is open after an event that is no part of one
-pub stays_idle : (s t : MachineView) (event : Event) (outcome : Outcome) → IsOutside event
-    → EventDoes s event outcome t → IsIdle s → IsIdle t
-unfolding EventDoes
-stays_idle s t (Begin pass request) outcome outside does idle = absurd outside
-stays_idle s t (Step call) outcome outside does idle = absurd outside
-stays_idle s t (Apply view) outcome outside does idle =
-    elim does [
-      | inl none ↦ subst IsIdle (sym none.2) idle
-      | inr to ↦ elim to.comes [
-        | inl current ↦ subst IsIdle (sym current.2) idle
-        | inr later ↦ elim later [
-          | inl refused ↦ subst IsIdle (sym refused.2) idle
-          | inr takes ↦ subst IsIdle (sym takes.is_next) idle
-        ]
-      ]
-    ]
-stays_idle s t (ViewRead view floor start limit) outcome outside does idle = subst IsIdle (sym does.1) idle
-stays_idle s t (ViewDrop view) outcome outside does idle =
-    elim does [
-      | inl none ↦ subst IsIdle (sym none.2) idle
-      | inr drops ↦ subst IsIdle (sym drops.is_next) idle
-    ]
-stays_idle s t Advance outcome outside does idle =
-    elim does [
-      | inl spent ↦ subst IsIdle (sym spent.2) idle
-      | inr next ↦ subst IsIdle (sym next.2) idle
-    ]
-stays_idle s t Collect outcome outside does idle = subst IsIdle (sym does.is_next) idle
-
 -- ---- a page
-
-pub read_reads : (s t : MachineView) (view : ViewNo) (floor : ℕ) (start : List ℕ) (limit : ℕ) (outcome : Outcome)
-    → EventDoes s (ViewRead view floor start limit) outcome t → ReadsView s view.0 floor start limit outcome
-unfolding EventDoes
-read_reads s t view floor start limit outcome does = does.0
-
-pub read_keeps : (s t : MachineView) (view : ViewNo) (floor : ℕ) (start : List ℕ) (limit : ℕ) (outcome : Outcome)
-    → EventDoes s (ViewRead view floor start limit) outcome t → t ≡ s
-unfolding EventDoes
-read_keeps s t view floor start limit outcome does = does.1
-
-pub page_or_refusal : (fault : Option Refusal) (there : Option StateView) (floor : ℕ) (start : List ℕ) (limit : ℕ)
-    (outcome : Outcome) → ReadsPage fault there floor start limit outcome
-    → ((page : Page) → outcome ≡ View page → ⊥) → ((refusal : Refusal) → outcome ≡ Refused refusal → ⊥) → ⊥
-page_or_refusal (Some fault) there floor start limit outcome reads no_page no_refusal = no_refusal fault reads
-page_or_refusal None None floor start limit outcome reads no_page no_refusal = no_refusal NoSuchView reads
-page_or_refusal None (Some state) floor start limit outcome reads no_page no_refusal =
-    elim reads [
-      | inl behind ↦ no_refusal (Behind state.at) behind.1
-      | inr there ↦ elim there.1 [
-        | inl shows ↦ no_page _ shows
-        | inr wants ↦ no_refusal NoMemory wants
-      ]
-    ]
 
 -- a page that is refused has that cause, and one that is shown has none
 pub page_caused : (fault : Option Refusal) (there : Option StateView) (floor : ℕ) (start : List ℕ) (limit : ℕ)

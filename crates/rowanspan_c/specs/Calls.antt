@@ -3,7 +3,6 @@ use Rattle.std.specs.Prelude.{ℕ, ◌≡◌, ◌⊎◌, List, ◌∷◌, Result
 use Rattle.mt_types.specs.Limits.{open_fault, request_fault}
 use Rattle.mt_types.specs.RefusalNumbers.{refusal_number}
 use Rattle.mt_types.specs.declared.event.Event.{Event}
-use Rattle.mt_types.specs.declared.event.Event.TheVariants.{Begin, Step}
 use Rattle.mt_types.specs.declared.event.Outcome.{Outcome}
 use Rattle.mt_types.specs.declared.event.Request.{Request}
 use Rattle.mt_types.specs.declared.event.Reply.{Reply}
@@ -45,12 +44,6 @@ abbrev pub Reads : Option MachineView → (MachineView → Result (Option (List 
 Reads None is_answer old new status told = (new ≡ old) × Tells CLOSED 0 status told
 Reads (Some s) is_answer old new status told =
     (read : Result (Option (List ℕ)) Refusal) × is_answer s read × TellsRead read old new status told
-
--- an event that is no part of a call
-abbrev pub IsOutside : Event → Type 0
-IsOutside (Begin pass request) = ⊥
-IsOutside (Step call) = ⊥
-IsOutside _ = Unit {0}
 
 -- at whatever history the machine is before, it is then at that history with this event too
 abbrev pub StandsNext : MachineView → Event → Outcome → MachineView → Type 0

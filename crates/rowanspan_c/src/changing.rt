@@ -5,7 +5,8 @@ ghost use Rattle.mt_index.specs.Alone.{IsIdle};
 ghost use Rattle.mt_index.specs.Events.{Happens};
 ghost use Rattle.rowanspan_c.specs.Asked.{request_of};
 ghost use Rattle.rowanspan_c.specs.Questions.{IsAnswer};
-ghost use Rattle.rowanspan_c.specs.Calls.{Changes, EndsAlone, IsOutside, Meets, Reads, StandsNext};
+ghost use Rattle.mt_map.specs.Views.{IsOutside};
+ghost use Rattle.rowanspan_c.specs.Calls.{Changes, EndsAlone, Meets, Reads, StandsNext};
 
 use crate::asking::Asked;
 use crate::handing::{tell_end, tell_outcome, tell_read};
@@ -57,11 +58,11 @@ pub(crate) fn answer(
     ensures read { Reads handle.old.held (λ index. IsAnswer index question.now) into.old into.new result told.new }
     ensures kept { handle.new.held ≡ handle.old.held }
 {
-    let Some(mut index) = handle.take(alloc) else {
+    let Some(index) = handle.take(alloc) else {
         *told = 0;
         return CLOSED;
     };
-    let read = read(alloc, &mut index, question);
+    let read = read(alloc, &index, question);
     handle.fill(index);
     tell_read(read, into, told)
 }

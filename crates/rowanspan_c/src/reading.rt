@@ -14,7 +14,6 @@ use crate::limiting::{get_fault, range_fault};
 use crate::spelling::{bytes_of, list_bytes_of};
 use bytes::Bytes;
 use mt_index::machine::Machine;
-use mt_types::event::{Event, Outcome};
 use mt_types::items::Items;
 use mt_types::key::Key;
 use mt_types::limits::page_fault;
@@ -120,40 +119,30 @@ fn rows(
     Ok(Some(bytes))
 }
 
-// Reads a page, by one event.
 fn page_from(
     alloc: Global,
-    index: &mut Machine,
+    index: &Machine,
     view: ViewNo,
     floor: u64,
-    start: Bytes,
+    start: &Bytes,
     limit: u16,
 ) -> Result<Page, Refusal>
-    ensures answer { MatchResult result (λ page. ReadsView index.old view.0 floor start limit (View page))
-        (λ refusal. IsCausedBy (page_refusal index.old view.0 floor start limit) refusal) }
-    ensures fits { OnOk result (page_refusal index.old view.0 floor start limit ≡ None) }
-    ensures kept { index.new ≡ index.old }
+    ensures answer { MatchResult result (λ page. ReadsView index.now view.0 floor start.now limit (View page))
+        (λ refusal. IsCausedBy (page_refusal index.now view.0 floor start.now limit) refusal) }
+    ensures fits { OnOk result (page_refusal index.now view.0 floor start.now limit ≡ None) }
 {
-    let event = Event::ViewRead {
-        view,
-        floor,
-        start,
-        limit,
-    };
-    match index.event(alloc, &event) {
-        Outcome::View(page) => Ok(page),
-        Outcome::Refused(refusal) => Err(refusal),
-        _ => unreachable!(),
+    match index.page(alloc, view, floor, start, limit) {
+        Ok(page) => Ok(page),
+        Err(refusal) => Err(refusal),
     }
 }
 
 // Why a page is refused if there was no memory to copy its start. A cause that its view has comes first: it is found by
 // reading a page with an empty start, which needs no copy.
-fn page_cause(alloc: Global, index: &mut Machine, view: ViewNo, floor: u64) -> Refusal
-    ensures cause { IsCausedBy (page_refusal index.old view.0 floor [] 1) result }
-    ensures kept { index.new ≡ index.old }
+fn page_cause(alloc: Global, index: &Machine, view: ViewNo, floor: u64) -> Refusal
+    ensures { IsCausedBy (page_refusal index.now view.0 floor [] 1) result }
 {
-    match page_from(alloc, index, view, floor, Bytes::new(), 1) {
+    match page_from(alloc, index, view, floor, &Bytes::new(), 1) {
         Ok(_) => Refusal::NoMemory,
         Err(refusal) => refusal,
     }
@@ -161,14 +150,13 @@ fn page_cause(alloc: Global, index: &mut Machine, view: ViewNo, floor: u64) -> R
 
 fn page(
     alloc: Global,
-    index: &mut Machine,
+    index: &Machine,
     view: ViewNo,
     floor: u64,
     start: &[u8],
     limit: u16,
 ) -> Result<Option<Items<u8>>, Refusal>
-    ensures answer { ReadsPage index.old view.0 floor start.now limit result }
-    ensures kept { index.new ≡ index.old }
+    ensures { ReadsPage index.now view.0 floor start.now limit result }
 {
     if let Some(refusal) = page_fault(start, limit) {
         return Err(refusal);
@@ -176,7 +164,7 @@ fn page(
     let Ok(start) = Bytes::copy_from_slice(alloc, start) else {
         return Err(page_cause(alloc, index, view, floor));
     };
-    let page = page_from(alloc, index, view, floor, start, limit)?;
+    let page = page_from(alloc, index, view, floor, &start, limit)?;
     let bytes = bytes_of(alloc, &page)?;
     Ok(Some(bytes))
 }
@@ -197,12 +185,11 @@ fn deltas(
 /// Returns the answer to a question. Changes nothing.
 pub(crate) fn read(
     alloc: Global,
-    index: &mut Machine,
+    index: &Machine,
     question: &Question<'_>,
 ) -> Result<Option<Items<u8>>, Refusal>
-    requires { IsIdle index.old }
-    ensures answer { IsAnswer index.old question.now result }
-    ensures kept { index.new ≡ index.old }
+    requires { IsIdle index.now }
+    ensures { IsAnswer index.now question.now result }
 {
     match question {
         Question::Rows {

@@ -1,4 +1,4 @@
-use Rattle.rowanspan_c.proofs.CallLemmas.{stays_idle}
+use Rattle.mt_map.proofs.MapLemmas.{stays_idle}
 use Rattle.rowanspan_c.proofs.changing.outcome_of.Goals as goal
 
 pub returns-clause-stands : goal.returns-clause-stands
