@@ -1,6 +1,6 @@
 #!/usr/bin/env python3
-"""A stand-in of the server for tests: a plain dict behind the wire, one query at a time. It keeps nothing but the words
-of docs/WIRE.md, and takes the command line of `mtserve`, so that the tests of the server can be tried on it."""
+"""A stand-in of the server for tests: a plain dict that answers the wire, one query at a time. It follows docs/WIRE.md
+alone, and takes the command line of `mtserve`, so that the tests of the server can be tried on it."""
 from __future__ import annotations
 
 import argparse
@@ -13,132 +13,13 @@ from types import TracebackType
 from typing import Any, Callable, Dict, List, Optional, Sequence, Tuple, Type
 
 import rowanspan as wire
-from rowanspan import (AnswerKind, AnyRow, AtLeast, Equals, Get, GetRange, Page, Pairs, Prefix, Put, PutIf, Query,
-                       Range, Reader, Refused, Remove, Row, RowTest, Tidied, Tidy, ViewDrop, ViewRead, ViewSpec,
-                       set_pairs, spelled_bytes, spelled_key, spelled_number)
+from rowanspan import (AnswerKind, AnyRow, AtLeast, Equals, Get, GetRange, Page, Prefix, Put, PutIf, Query, Refused,
+                       Remove, Row, RowTest, Tidied, Tidy, ViewDrop, ViewRead, ViewSpec, set_pairs, spelled_number)
+from stand_in_wire import (BAD_LENGTH, CUT, READ_FAILED, WRITE_FAILED, SessionFault, read_queries, reply_frame,
+                           spelled_done, spelled_page, spelled_pairs, spelled_refusal, spelled_row)
 
-READ_FAILED, WRITE_FAILED, CUT, BAD_LENGTH, BAD_VERSION, BAD_BODY = 1, 2, 3, 4, 5, 6
 MAX_COLUMN_BYTES = 64
 MAX_VIEWS = 64
-
-
-class SessionFault(Exception):
-    """A session ends by this number."""
-
-    def __init__(self, number: int) -> None:
-        super().__init__(number)
-        self.number = number
-
-
-# ---- queries as bytes, read
-
-def read_test(reader: Reader) -> RowTest:
-    kind = reader.number(1)
-    if kind == 0:
-        return AnyRow()
-    if kind == 1:
-        return Equals(reader.number(1), reader.short())
-    if kind == 2:
-        return AtLeast(reader.number(1), reader.number(8))
-    raise ValueError("this is no test")
-
-
-def read_end(reader: Reader) -> Optional[bytes]:
-    kind = reader.number(1)
-    if kind > 1:
-        raise ValueError("this is no end of a range")
-    return reader.key() if kind else None
-
-
-def read_spec(reader: Reader) -> ViewSpec:
-    kind = reader.number(1)
-    if kind == 0:
-        return Range(reader.key(), read_end(reader), read_test(reader))
-    if kind == 1:
-        return Prefix(reader.key(), read_test(reader))
-    raise ValueError("this is no specification")
-
-
-def read_columns(reader: Reader) -> Tuple[int, ...]:
-    return tuple(reader.short())
-
-
-def read_sets(reader: Reader) -> List[Tuple[int, bytes]]:
-    return [(reader.number(1), reader.short()) for _ in range(reader.number(1))]
-
-
-def read_put_if(reader: Reader) -> PutIf:
-    key, version = reader.key(), reader.number(8)
-    return PutIf(key, read_sets(reader), version)
-
-
-READERS: Dict[int, Callable[[Reader], Query[Any]]] = {
-    1: lambda reader: Get(reader.key(), read_columns(reader)),
-    2: lambda reader: Put(reader.key(), read_sets(reader)),
-    3: lambda reader: Remove(reader.key()),
-    4: lambda reader: GetRange(reader.key(), reader.number(2), read_columns(reader)),
-    5: lambda reader: Tidy(reader.key()),
-    6: lambda reader: wire.Build(read_spec(reader)),
-    7: lambda reader: ViewRead(reader.number(8), reader.number(8), reader.key(), reader.number(2)),
-    8: lambda reader: ViewDrop(reader.number(8)),
-    9: read_put_if,
-}
-
-
-def read_query(reader: Reader, version: int) -> Query[Any]:
-    read = READERS.get(reader.number(1))
-    if read is None:
-        raise ValueError("this is no query")
-    query = read(reader)
-    if query.since > version:
-        raise ValueError("this version has no such query")
-    return query
-
-
-def read_queries(body: bytes) -> List[Query[Any]]:
-    """The queries of a body; raises `SessionFault`."""
-    reader = Reader(body)
-    version = reader.number(1)
-    if version not in (1, 2):
-        raise SessionFault(BAD_VERSION)
-    try:
-        count = reader.number(1)
-        queries = [read_query(reader, version) for _ in range(count)]
-    except ValueError as fault:
-        raise SessionFault(BAD_BODY) from fault
-    if not 1 <= count <= wire.MAX_QUERIES or not reader.is_at_end():
-        raise SessionFault(BAD_BODY)
-    return queries
-
-
-# ---- answers as bytes, written
-
-def spelled_row(row: Row) -> bytes:
-    columns = b"".join(map(spelled_bytes, row.columns))
-    return spelled_number(row.version, 8) + spelled_number(len(row.columns), 1) + columns
-
-
-def spelled_pairs(pairs: Pairs) -> bytes:
-    return spelled_number(len(pairs), 2) + b"".join(spelled_key(key) + spelled_row(row) for key, row in pairs)
-
-
-def spelled_page(page: Page) -> bytes:
-    sums = b"".join(spelled_number(amount, 16) for amount in page.sums)
-    return (spelled_number(AnswerKind.VIEW, 1) + spelled_number(page.at, 8) + spelled_number(page.count, 8)
-            + spelled_number(len(page.sums), 1) + sums + spelled_pairs(page.rows))
-
-
-def spelled_refusal(refusal: Refused) -> bytes:
-    return b"\0" + spelled_number(refusal.number, 1) + spelled_number(refusal.detail or 0, 8)
-
-
-def spelled_done(kind: AnswerKind, from_: int, to: int, rest: bytes) -> bytes:
-    return spelled_number(kind, 1) + spelled_number(from_, 8) + spelled_number(to, 8) + rest
-
-
-def reply_frame(answers: Sequence[bytes], version: int = 1) -> bytes:
-    body = bytes((version, len(answers))) + b"".join(answers)
-    return spelled_number(len(body), 4) + body
 
 
 # ---- the index
@@ -164,7 +45,7 @@ def shown(row: Row, columns: Sequence[int]) -> Row:
 
 
 class PlainIndex:
-    """The rows, and the views that stand, in one lock. Each answer is the bytes of it."""
+    """The rows and the views, under one lock. Each answer is its bytes."""
 
     def __init__(self, columns: int) -> None:
         self._lock = threading.Lock()
@@ -173,11 +54,16 @@ class PlainIndex:
         self._views: Dict[int, ViewSpec] = {}
         self._built = 0
         self.commits = 0
-        self.events = 0
+        self.asked: List[Query[Any]] = []
+
+    @property
+    def events(self) -> int:
+        """How many queries were asked."""
+        return len(self.asked)
 
     def answer(self, query: Query[Any]) -> bytes:
         with self._lock:
-            self.events += 1
+            self.asked.append(query)
             try:
                 return self._answer(query)
             except Refused as refusal:
@@ -361,7 +247,7 @@ def serve(connection: socket.socket, index: PlainIndex) -> None:
 
 @dataclass(frozen=True)
 class Options:
-    """Those of the server's command line; `sessions` is None where it serves on for ever."""
+    """Those of the server's command line; `sessions` is None for a server that serves until it is killed."""
 
     port: int = 0
     workers: int = 1
@@ -391,7 +277,7 @@ class StandIn:
         self._listener.close()
 
     def join(self) -> None:
-        """Waits till each worker has served its sessions."""
+        """Waits until each worker has served its sessions."""
         for worker in self._workers:
             worker.join()
 

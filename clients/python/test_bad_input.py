@@ -6,12 +6,13 @@ import subprocess
 import sys
 import unittest
 from pathlib import Path
-from typing import Any, List, Sequence, Tuple
+from typing import Any, Dict, List, Sequence, Tuple
 
 import rowanspan
-from rowan_text import HEX, TEXT, BadLine, read_query
-from rowanspan import (MAX_KEY_BYTES, AnyRow, AtLeast, Build, Equals, Get, GetRange, Index, Prefix, Put, Query, Range,
-                       Row, TooLong, ViewRead)
+import rowanspan.embedded
+from rowanspan import (MAX_KEY_BYTES, AnyRow, AtLeast, Build, Equals, Get, GetRange, Index, NoLibrary, Prefix, Put,
+                       Query, Range, Row, TooLong, ViewDrop, ViewRead)
+from rowanspan.text import HEX, TEXT, BadLine, read_query
 from stand_in import StandIn
 
 SHELL = Path(__file__).resolve().parent / "rowan"
@@ -20,20 +21,24 @@ SECONDS = 20.0
 # of each method of the client, arguments of a wrong type
 WRONG_TYPES: List[Tuple[str, Sequence[Any]]] = [
     *[(name, (key, *rest)) for key in ("a", None, 1, [97]) for name, rest in (
-        ("get", ()), ("put", (b"v",)), ("put_if", (b"v", 0)), ("remove", ()), ("range", ()), ("tidy", ()),
-        ("update", (lambda row: b"v",)))],
+        ("get", ()), ("put", (b"v",)), ("put_if", (b"v", 0)), ("remove", ()), ("first", ()), ("range", ()),
+        ("tidy", ()), ("update", (lambda row: b"v",)))],
     *[(name, (b"a", sets, *rest)) for name, rest in (("put", ()), ("put_if", (0,))) for sets in (
         "v", "", None, 1, ["v"], ["ab"], [b"v"], [(0, b"v", 1)], {0: "v"}, {"0": b"v"}, [(0.0, b"v")], {None: b""})],
     *[("put_if", (b"a", b"v", version)) for version in ("1", None, 1.0, b"1")],
     *[("get", (b"a", None, columns)) for columns in (0, "0", [b"0"], [0.0], [None])],
-    *[("range", (b"a", limit)) for limit in ("1", None, 1.5)],
-    *[("range", (b"a", 1, columns)) for columns in (0, "0", [b"0"])],
+    *[("first", (b"a", limit)) for limit in ("1", None, 1.5)],
+    *[("first", (b"a", 1, columns)) for columns in (0, "0", [b"0"])],
+    *[("range", (b"a", stop)) for stop in ("b", 5)],
     *[("build", (spec,)) for spec in (
         b"a", None, AnyRow(), Prefix, Prefix("a"), Prefix(b"a", None), Range("a"), Range(b"", "b"),
         Range(b"", None, b"v"), Prefix(b"", Equals(0, "v")), Prefix(b"", Equals("0", b"v")),
         Prefix(b"", AtLeast(0, b"\1")), Prefix(b"", AtLeast(0, 1.5)))],
-    *[("view", arguments) for arguments in ((None,), ("1",), (1, "0"), (1, 0, "a"), (1, 0, b"", "1"))],
-    ("drop", ("1",)), ("drop", (None,)), ("update", (b"a", b"v")), ("call", (b"a",)), ("call", (Get,)),
+    *[("view", (number,)) for number in (None, "1", 1.0)],
+    *[("call", (query,)) for query in (
+        b"a", Get, ViewRead(None), ViewRead("1"), ViewRead(1, "0"), ViewRead(1, 0, "a"), ViewRead(1, 0, b"", "1"),
+        ViewDrop("1"), ViewDrop(None))],
+    ("update", (b"a", b"v")), ("update", (b"a", None)),
     ("call_all", ([Get(b"a"), None],)), ("call_all", (5,)),
 ]
 
@@ -60,6 +65,21 @@ class ArgumentTest(unittest.TestCase):
         for arguments in (("7070",), (None,), (7070, b"localhost"), (7070, 5), (7070, "127.0.0.1", "1")):
             with self.subTest(arguments=arguments), self.assertRaises(TypeError):
                 Index(*arguments)
+
+    def test_an_embedded_index(self) -> None:
+        """Arguments of a wrong type are found before the library is."""
+        missing = "/nowhere/librowanspan.so"
+        wrong: List[Dict[str, Any]] = [{"columns": "1"}, {"columns": 1.0}, {"columns": None}, {"feed": b"1"},
+                                       {"keep": "0"}]
+        for named in wrong:
+            with self.subTest(named=named), self.assertRaises(TypeError):
+                rowanspan.embedded.Index(library=missing, **named)
+        with self.assertRaises(TypeError):
+            rowanspan.embedded.Index(library=5)  # type: ignore[arg-type]
+        with self.assertRaises(TooLong):
+            rowanspan.embedded.Index(columns=-1, library=missing)
+        with self.assertRaisesRegex(NoLibrary, f"^there is no library at {missing}$"):
+            rowanspan.embedded.Index(library=missing)
 
     def test_timeouts(self) -> None:
         for timeout in (0, -1, 0.0, float("nan"), float("inf")):

@@ -1,33 +1,34 @@
 #!/usr/bin/env python3
-"""Tests of the embedded index, over the built library. Prints 'N passed, M failed' last."""
+"""Tests of the embedded index, over the built library: also those of map_cases, test_embedded_views and
+test_embedded_threads. Prints 'N passed, M failed' last."""
 from __future__ import annotations
 
 import inspect
 import random
+import re
 import subprocess
 import sys
-import threading
-import traceback
+import unittest
 from bisect import bisect_left
 from pathlib import Path
-from typing import Any, Callable, Dict, List, Optional, Tuple
+from typing import Dict, List, Optional, Tuple
 
 import rowanspan
 import rowanspan.core
 import rowanspan.embedded
+import rowanspan.mapping
+import test_embedded_threads
+import test_embedded_views
+from counting import run_counted
+from map_cases import MapCases
 from rowanspan.embedded import (MAX_KEY_BYTES, AtLeast, BadColumn, BadLimit, BadRange, Behind, Closed, ColumnTooLong,
-                                Delta, Equals, FeedFull, Index, KeyTooLong, NoLibrary, NoMemory, NoSuchView,
-                                OtherVersion, Page, Prefix, Range, Row, Tidied, TooLong, TooManyViews, WrongThread,
-                                key_after)
+                                Delta, Equals, Index, KeyTooLong, NoLibrary, NoSuchView, OtherVersion, Page, Prefix,
+                                Range, Row, RowMap, Tidied, TooLong, TooManyViews, WrongIndex)
 from test_bad_input import WRONG_TYPES
+from test_embedded_views import raises
+from test_shell import example_of
 
-
-def raises(kind: type, call: Callable[[], object]) -> BaseException:
-    try:
-        call()
-    except kind as fault:
-        return fault
-    raise AssertionError(f"it raised no {kind.__name__}")
+HERE = Path(__file__).resolve().parent
 
 
 def rows() -> None:
@@ -36,13 +37,13 @@ def rows() -> None:
         assert index.put(b"apple", b"red") == 1
         assert index.get(b"apple") == Row(1, (b"red",))
         assert index.put(b"fig", {0: b""}) == 2
-        assert index.range() == [(b"apple", Row(1, (b"red",))), (b"fig", Row(2, (b"",)))]
-        assert index.range(b"b", 1) == [(b"fig", Row(2, (b"",)))]
+        assert index.first() == [(b"apple", Row(1, (b"red",))), (b"fig", Row(2, (b"",)))]
+        assert index.first(b"b", 1) == [(b"fig", Row(2, (b"",)))]
         assert index.remove(b"apple") == 3 and index.remove(b"apple") is None
         assert index.commits() == 3 and index.columns() == 1 and index.nodes() == 2
         assert index.tidy(b"apple") is Tidied.NOTHING
         assert index.put(b"\0\0", b"\0") == 4 and index.get(b"\0\0") == Row(4, (b"\0",))
-        assert index.put(b"", b"") == 5 and index.range(limit=1) == [(b"", Row(5, (b"",)))]
+        assert index.put(b"", b"") == 5 and index.first(limit=1) == [(b"", Row(5, (b"",)))]
 
 
 def columns() -> None:
@@ -50,15 +51,15 @@ def columns() -> None:
         index.put(b"k", [(2, b"c"), (0, b"a")])
         assert index.get(b"k") == Row(1, (b"a", b"", b"c"))
         assert index.get(b"k", columns=[2, 0]) == Row(1, (b"c", b"a"))
-        assert index.range(columns=[1]) == [(b"k", Row(1, (b"",)))]
+        assert index.first(columns=[1]) == [(b"k", Row(1, (b"",)))]
         raises(BadColumn, lambda: index.get(b"k", columns=[3]))
         raises(BadColumn, lambda: index.put(b"k", {3: b""}))
         raises(ColumnTooLong, lambda: index.put(b"k", bytes(65)))
         raises(KeyTooLong, lambda: index.put(bytes(MAX_KEY_BYTES + 1), b""))
         assert index.put(bytes(MAX_KEY_BYTES), b"") == 2
         assert index.get(bytes(MAX_KEY_BYTES), columns=[0]) == Row(2, (b"",))
-        raises(BadLimit, lambda: index.range(limit=0))
-        raises(TooLong, lambda: index.range(limit=65536))
+        raises(BadLimit, lambda: index.first(limit=0))
+        raises(TooLong, lambda: index.first(limit=65536))
         raises(TooLong, lambda: index.put(b"k", {256: b""}))
         raises(BadColumn, lambda: Index(columns=17))
         raises(BadLimit, lambda: Index(feed=0))
@@ -79,7 +80,7 @@ def conditional_puts() -> None:
         assert index.put_if(b"apple", {0: b"green"}, 1) == 2
         assert index.get(b"apple") == Row(2, (b"green",))
         view = index.build(Prefix(b"a"))
-        assert index.put_if(b"apricot", b"", 0) == 3 and index.view(view, 3).count == 2
+        assert index.put_if(b"apricot", b"", 0) == 3 and view.page(3).count == 2
         assert index.remove(b"apple") == 4
         assert found_by_put_if(index, b"apple", 2) == 0
         raises(BadColumn, lambda: index.put_if(b"apple", {1: b""}, 9))
@@ -95,111 +96,21 @@ def views() -> None:
         same = index.build(Range(test=Equals(0, b"\7")))
         index.put(b"a2", b"\7")
         index.put(b"b", b"\x09")
-        assert index.view(view) == Page(3, 2, (12,), [(b"a1", Row(1, (b"\5",))), (b"a2", Row(2, (b"\7",)))])
-        assert index.view(large, start=b"b").rows == [(b"b", Row(3, (b"\x09",)))]
-        assert index.view(large).sums == (16,) and index.view(same).count == 1
-        fault = raises(Behind, lambda: index.view(view, floor=4))
+        assert view.page() == Page(3, 2, (12,), [(b"a1", Row(1, (b"\5",))), (b"a2", Row(2, (b"\7",)))])
+        assert large.page(start=b"b").rows == [(b"b", Row(3, (b"\x09",)))]
+        assert large.sums == (16,) and same.count == 1
+        fault = raises(Behind, lambda: view.page(floor=4))
         assert isinstance(fault, Behind) and fault.detail == 3
-        index.drop(view)
-        raises(NoSuchView, lambda: index.view(view))
-        raises(NoSuchView, lambda: index.drop(view))
+        view.drop()
+        raises(NoSuchView, view.page)
+        raises(NoSuchView, view.drop)
         raises(NoSuchView, lambda: index.apply(view))
+        with Index() as other:
+            raises(WrongIndex, lambda: other.apply(view))
         raises(BadRange, lambda: index.build(Range(b"b", b"a")))
         for _ in range(62):
             index.build(Prefix(b"z"))
         raises(TooManyViews, lambda: index.build(Prefix(b"z")))
-
-
-def views_by_hand() -> None:
-    with Index(feed=2, keep_views=False) as index:
-        view = index.build(Prefix(b""))
-        assert index.put(b"a", b"") == 1 and index.put(b"b", b"") == 2
-        fault = raises(FeedFull, lambda: index.put(b"c", b""))
-        assert isinstance(fault, FeedFull) and fault.detail == 0
-        assert index.view(view).count == 0
-        assert [index.apply(), index.apply(view), index.apply(), index.apply(view)] == [1, 2, None, None]
-        assert index.view(view).count == 2 and index.put(b"c", b"") == 3
-
-
-class RefusingLibrary:
-    """A library whose calls by these names are refused for want of memory while there are `refusals` left; all other
-    calls are made."""
-
-    def __init__(self, library: Any, *names: str) -> None:
-        self.refusals = 0
-        self._library = library
-        self._names = names
-
-    def __getattr__(self, name: str) -> Callable[..., int]:
-        symbol: Callable[..., int] = getattr(self._library, name)
-
-        def call(*arguments: Any) -> int:
-            if self.refusals == 0 or name not in self._names:
-                return symbol(*arguments)
-            self.refusals -= 1
-            return NoMemory.number
-
-        return call
-
-
-def refusing(index: Index) -> RefusingLibrary:
-    """Puts a library that may refuse to apply in the place of the index's own."""
-    library = RefusingLibrary(index._library, "rowanspan_apply")
-    index._library = library
-    return library
-
-
-def changes_that_no_view_follows() -> None:
-    """A change or build that was made returns its number, though the views can't be advanced after it."""
-    with Index() as index:
-        library = refusing(index)
-        view = index.build(Prefix(b"a"))
-        library.refusals = 1000
-        assert index.put(b"a", b"\5") == 1 and index.put_if(b"ab", b"\6", 0) == 2
-        assert index.get(b"a") == Row(1, (b"\5",)) and index.view(view) == Page(0, 0, (0,), [])
-        other = index.build(Prefix(b"ab"))
-        assert other == 2 and index.view(other).count == 1
-        assert index.remove(b"a") == 3 and index.remove(b"a") is None
-        fault = raises(Behind, lambda: index.view(view, floor=3))
-        assert isinstance(fault, Behind) and fault.detail == 0
-        raises(NoMemory, index.keep_views)
-        library.refusals = 0
-        index.keep_views()
-        assert index.view(view, 3) == index.view(other, 3) == Page(3, 1, (6,), [(b"ab", Row(2, (b"\6",)))])
-        library.refusals = 1
-        assert index.put(b"a", b"\7") == 4 and index.view(view).at == 3
-        assert index.put(b"b", b"") == 5 and index.view(view, 5).sums == (13,)
-
-
-def changes_after_the_log_was_full() -> None:
-    """A later change brings views that lag up to date, also if they hold the whole log; one that is refused too."""
-    with Index(feed=2) as index:
-        library = refusing(index)
-        view = index.build(Prefix(b""))
-        library.refusals = 1000
-        assert index.put(b"a", b"") == 1 and index.put(b"b", b"") == 2
-        raises(FeedFull, lambda: index.put(b"c", b""))
-        library.refusals = 0
-        assert index.put(b"c", b"") == 3 and index.view(view, 3).count == 3
-        library.refusals = 1
-        assert index.put(b"d", b"") == 4 and index.view(view).at == 3
-        raises(ColumnTooLong, lambda: index.put(b"e", bytes(65)))
-        assert index.view(view, 4).count == 4
-
-
-def views_kept_by_hand() -> None:
-    with Index(keep_views=False) as index:
-        library = refusing(index)
-        view = index.build(Prefix(b""))
-        for number in range(5):
-            index.put(b"%d" % number, b"")
-        assert index.view(view).at == 0
-        library.refusals = 1
-        raises(NoMemory, index.keep_views)
-        index.keep_views()
-        assert index.view(view, 5).count == 5
-        index.put(b"5", b"")
-        assert index.view(view).at == 5
 
 
 def feeds() -> None:
@@ -216,13 +127,12 @@ def feeds() -> None:
         raises(BadLimit, lambda: index.feed(1, 1001))
 
 
-def scans_and_large_answers() -> None:
+def large_answers() -> None:
     with Index() as index:
-        for number in range(2500):
+        for number in range(1500):
             index.put(b"%08d" % number, b"x" * 60)
-        assert [key for key, _ in index.scan()] == [b"%08d" % number for number in range(2500)]
-        assert len(index.range(b"00000500")) == 1000
-    assert key_after(b"\xff" * MAX_KEY_BYTES) is None and key_after(b"a") == b"a\0"
+        assert len(index.first(b"00000400")) == 1000 and len(index.first(b"00000600")) == 900
+        assert index[b"00001499"] == Row(1500, (b"x" * 60,))
 
 
 def epochs() -> None:
@@ -245,24 +155,12 @@ def closed() -> None:
     raises(Closed, lambda: index.put(b"a", b""))
     raises(Closed, lambda: index.get(b"a"))
     raises(Closed, index.commits)
+    raises(Closed, lambda: next(index.range()))
+    raises(Closed, lambda: index.build(Prefix(b"")))
+    raises(Closed, lambda: index.view(1).count)
+    assert re.fullmatch("<rowanspan.embedded.Index at 0x[0-9a-f]+, closed>", repr(index))
     raises(NoLibrary, lambda: Index(library="/nowhere/librowanspan.so"))
     raises(NoLibrary, lambda: Index(library="/dev/null"))
-
-
-def other_threads() -> None:
-    index = Index()
-    index.put(b"a", b"")
-    caught: List[BaseException] = []
-
-    def other() -> None:
-        for call in (lambda: index.get(b"a"), lambda: index.put(b"a", b""), index.close):
-            caught.append(raises(WrongThread, call))
-
-    thread = threading.Thread(target=other)
-    thread.start()
-    thread.join()
-    assert len(caught) == 3 and index.get(b"a") == Row(1, (b"",))
-    index.close()
 
 
 def wrong_types() -> None:
@@ -276,83 +174,114 @@ def wrong_types() -> None:
                 tried += 1
         for name in ("feed", "apply"):
             raises(TypeError, lambda: getattr(index, name)("1"))
+            raises(TypeError, lambda: getattr(index, name)(None))
         for wrong in ("1", 1.0, None):
             raises(TypeError, lambda: Index(columns=wrong))
-        assert tried > 60 and index.commits() == 1 and index.range() == [(b"a", Row(1, (b"v",)))]
+        assert tried > 60 and index.commits() == 1 and index.first() == [(b"a", Row(1, (b"v",)))]
         assert index.put(bytearray(b"b"), {0: memoryview(b"w")}) == 2 and index.get(memoryview(b"b")) == Row(2, (b"w",))
 
 
 def names_of_the_client() -> None:
-    """Each method of the client on rows and views has here the same parameters, with the same defaults. Rows, views and
-    what is raised are the same classes."""
-    for name in ("get", "put", "put_if", "remove", "range", "scan", "tidy", "build", "view", "drop", "close",
-                 "__getitem__", "__contains__"):
-        client = inspect.signature(getattr(rowanspan.Client, name))
-        assert inspect.signature(getattr(Index, name)) == client, name
-    for name in rowanspan.core.__all__:
+    """Each method of a map has the same parameters for the client and here, with the same defaults and a text. Rows,
+    views and what is raised are the same classes."""
+    methods = [name for name in vars(RowMap) if not name.startswith("__") or name in ("__getitem__", "__contains__")]
+    assert {"get", "put", "put_if", "update", "remove", "first", "range", "tidy", "build", "view"} <= set(methods)
+    for name in [name for name in methods if callable(getattr(RowMap, name))]:
+        client, own = getattr(rowanspan.Client, name), getattr(Index, name)
+        assert inspect.signature(own) == inspect.signature(client) == inspect.signature(getattr(RowMap, name)), name
+        assert inspect.getdoc(own) and inspect.getdoc(client), name
+    for name in (*rowanspan.core.__all__, *rowanspan.mapping.__all__):
         assert getattr(rowanspan.embedded, name) is getattr(rowanspan, name), name
 
 
-def as_a_map() -> None:
-    with Index(columns=2) as index:
-        for key in (b"a", b"b", b"b\0", b"ba", b"c"):
-            index.put(key, {0: key, 1: b"x"})
-        assert index[b"a"] == Row(1, (b"a", b"x"))
-        assert raises(KeyError, lambda: index[b"d"]).args == (b"d",)
-        assert b"b" in index and b"" not in index and b"d" not in index
-        assert index.get(b"d", 5) == 5 and index.get(b"a", 5) == Row(1, (b"a", b"x"))
-        assert index.get(b"a", None, [1]) == Row(1, (b"x",))
-        assert [key for key, _ in index.scan(b"b")] == [b"b", b"b\0", b"ba"]
-        assert list(index.scan(b"b", [1], start=b"b\1")) == [(b"ba", Row(4, (b"x",)))]
-        for call in (lambda: index["a"], lambda: "a" in index, lambda: index.scan("a"), lambda: index[b"a":b"b"],
-                     lambda: iter(index), lambda: len(index)):
-            raises(TypeError, call)
+def the_examples_of_the_pages() -> None:
+    row = "Row(version=2, columns=(b'green',))"
+    for path, said in ((HERE.parents[1] / "docs" / "EMBEDDING.md",
+                        f"{row} False\n{row}\nb'apple' 2\n1 (444300879214,)\n"),
+                       (HERE / "README.md", "Row(version=1, columns=(b'red',))\nb'apple' (b'green',)\n1\n")):
+        done = subprocess.run([sys.executable, "-c", example_of(path)], cwd=HERE, check=True, capture_output=True,
+                              text=True)
+        assert done.stdout == said, done.stdout
+
+
+def the_shell() -> None:
+    lines = "put 61 0=76,1=05\nputif 61 2 0=77\nget 61 1,0\nget 62 all\nrange - 10 all\nbuild prefix 61 any\n" \
+            "put 62 -\nview 1 2 - 10\nview 1 3 - 10\nremove 62\nremove 62\ntidy 62\ndrop 1\ndrop 1\n" \
+            f"put 61 2=76\nnonsense\nput 61 0={'00' * 65}\nput 61 0={'00' * 256}\n"
+    said = "done 0 1 put 1\nrefused 16 1\ndone 1 1 row 1 05,76\ndone 1 1 absent\ndone 1 1 rows 1 61:1:76,05\n" \
+           "done 1 1 built 1\ndone 1 2 put 2\nview 2 1 118,5 1 61:1:76,05\nrefused 12 2\ndone 2 3 removed 3\n" \
+           "done 3 3 absent\ndone 3 3 tidied none\ndropped\nrefused 11\nrefused 3\nbad line\nrefused 4\nbad line\n"
+
+    def run(*words: str) -> Tuple[int, str, int]:
+        done = subprocess.run([sys.executable, str(HERE / "rowan"), *words], input=lines, capture_output=True,
+                              text=True, check=False)
+        return done.returncode, done.stdout, done.stderr.count("\n")
+
+    assert run("--embedded", "--columns", "2") == (1, said, 2), run("--embedded", "--columns", "2")
+    assert run("--embedded", "--text", "put", "a", "0=b") == (0, "done 0 1 put 1\n", 0)
+    assert run("--embedded", "--columns", "17")[:2] == run("--embedded", "--columns", "0")[:2] == (2, "")
+
+
+class PlainMap:
+    """A plain map with a view, and calls by chance of an index that has to be the same."""
+
+    def __init__(self, index: Index) -> None:
+        self.index, self.chance = index, random.Random(7)
+        self.rows: Dict[bytes, Row] = {}
+        self.commits = 0
+        self.view = index.build(Prefix(b"a", AtLeast(1, 100)))
+
+    def key(self) -> bytes:
+        front = b"a" * self.chance.choice((0, 0, 0, 8, 16))
+        return front + bytes(self.chance.choice(b"abc") for _ in range(self.chance.randrange(5)))
+
+    def from_key(self, key: bytes, limit: int) -> List[Tuple[bytes, Row]]:
+        keys = sorted(self.rows)
+        return [(at, self.rows[at]) for at in keys[bisect_left(keys, key):][:limit]]
+
+    def set(self, key: bytes, sets: Dict[int, bytes]) -> int:
+        """Puts into the plain map; returns the number of the commit."""
+        self.commits += 1
+        old = self.rows[key].columns if key in self.rows else (b"", b"")
+        self.rows[key] = Row(self.commits, tuple(sets.get(column, old[column]) for column in (0, 1)))
+        return self.commits
+
+    def put(self, key: bytes) -> None:
+        numbers = self.chance.sample((0, 1), self.chance.randrange(3))
+        sets = {column: self.chance.randbytes(self.chance.randrange(5)) for column in numbers}
+        assert self.index.put(key, sets) == self.set(key, sets)
+
+    def put_if(self, key: bytes) -> None:
+        version = self.rows[key].version if key in self.rows else 0
+        assert found_by_put_if(self.index, key, version + 1) == version
+        assert self.index.put_if(key, b"if", version) == self.set(key, {0: b"if"})
+
+    def remove(self, key: bytes) -> None:
+        self.commits += key in self.rows
+        assert self.index.remove(key) == (self.commits if self.rows.pop(key, None) else None)
+
+    def get(self, key: bytes) -> None:
+        assert self.index.get(key) == self.rows.get(key)
+
+    def first(self, key: bytes) -> None:
+        limit = self.chance.randrange(1, 30)
+        assert self.index.first(key, limit) == self.from_key(key, limit)
+
+    def page(self, key: bytes) -> None:
+        shown = [(at, row) for at, row in self.from_key(b"a", 1000) if at.startswith(b"a")
+                 and int.from_bytes(row.columns[1], "big") >= 100]
+        sums = tuple(sum(int.from_bytes(row.columns[column], "big") for _, row in shown) for column in (0, 1))
+        assert self.view.page(self.commits) == Page(self.commits, len(shown), sums, shown)
 
 
 def random_calls() -> None:
     """20,000 calls by chance against a plain map."""
-    chance = random.Random(7)
-    plain: Dict[bytes, Row] = {}
-    commits = 0
-
-    def a_key() -> bytes:
-        front = b"a" * chance.choice((0, 0, 0, 8, 16))
-        return front + bytes(chance.choice(b"abc") for _ in range(chance.randrange(5)))
-
-    def from_key(key: bytes, limit: int) -> List[Tuple[bytes, Row]]:
-        keys = sorted(plain)
-        return [(at, plain[at]) for at in keys[bisect_left(keys, key):][:limit]]
-
     with Index(columns=2) as index:
-        view = index.build(Prefix(b"a", AtLeast(1, 100)))
+        plain = PlainMap(index)
+        calls = (plain.put_if, *[plain.put] * 3, *[plain.remove] * 2, *[plain.get] * 2, plain.first, plain.page)
         for _ in range(20000):
-            what, key = chance.randrange(10), a_key()
-            if what < 1:
-                version = plain[key].version if key in plain else 0
-                assert found_by_put_if(index, key, version + 1) == version
-                commits += 1
-                assert index.put_if(key, b"if", version) == commits
-                plain[key] = Row(commits, (b"if", plain[key].columns[1] if key in plain else b""))
-            elif what < 4:
-                sets = {column: chance.randbytes(chance.randrange(5)) for column in chance.sample((0, 1), chance.randrange(3))}
-                commits += 1
-                assert index.put(key, sets) == commits
-                old = plain[key].columns if key in plain else (b"", b"")
-                plain[key] = Row(commits, tuple(sets.get(column, old[column]) for column in (0, 1)))
-            elif what < 6:
-                commits += key in plain
-                assert index.remove(key) == (commits if plain.pop(key, None) else None)
-            elif what < 8:
-                assert index.get(key) == plain.get(key)
-            elif what < 9:
-                limit = chance.randrange(1, 30)
-                assert index.range(key, limit) == from_key(key, limit)
-            else:
-                shown = [(at, row) for at, row in from_key(b"a", 1000) if at.startswith(b"a")
-                         and int.from_bytes(row.columns[1], "big") >= 100]
-                sums = tuple(sum(int.from_bytes(row.columns[column], "big") for _, row in shown) for column in (0, 1))
-                assert index.view(view, commits) == Page(commits, len(shown), sums, shown)
-        assert index.commits() == commits
+            plain.chance.choice(calls)(plain.key())
+        assert index.commits() == plain.commits > 10000
 
 
 def memory_is_flat() -> None:
@@ -365,27 +294,26 @@ def memory_is_flat() -> None:
             "before = resource.getrusage(resource.RUSAGE_SELF).ru_maxrss\n"
             "for _ in range(1000): once()\n"
             "print(resource.getrusage(resource.RUSAGE_SELF).ru_maxrss - before)\n")
-    grown = subprocess.run([sys.executable, "-c", code, str(Path(__file__).resolve().parent)], check=True,
+    grown = subprocess.run([sys.executable, "-c", code, str(HERE)], check=True,
                            capture_output=True, text=True).stdout
     assert int(grown) < 4096, f"{grown.strip()} KiB more after a thousand times"
 
 
-CASES = (rows, columns, conditional_puts, views, views_by_hand, changes_that_no_view_follows,
-         changes_after_the_log_was_full, views_kept_by_hand, feeds, scans_and_large_answers, epochs, closed,
-         other_threads, wrong_types, as_a_map, names_of_the_client, random_calls, memory_is_flat)
+CASES = (rows, columns, conditional_puts, views, *test_embedded_views.CASES, feeds, large_answers, epochs, closed,
+         wrong_types, names_of_the_client, the_examples_of_the_pages, the_shell, random_calls, memory_is_flat)
+
+
+class EmbeddedMapTest(MapCases, unittest.TestCase):
+    def setUp(self) -> None:
+        self.index = Index(columns=2)
+        self.addCleanup(self.index.close)
 
 
 def main() -> int:
-    failed = 0
-    for case in CASES:
-        try:
-            case()
-            print(f"ok {case.__name__}")
-        except Exception:
-            failed += 1
-            print(f"FAILED {case.__name__}: {traceback.format_exc()}")
-    print(f"{len(CASES) - failed} passed, {failed} failed")
-    return 1 if failed else 0
+    load = unittest.defaultTestLoader
+    cases = unittest.TestSuite(unittest.FunctionTestCase(case) for case in CASES)
+    return run_counted(unittest.TestSuite([cases, load.loadTestsFromTestCase(EmbeddedMapTest),
+                                           load.loadTestsFromModule(test_embedded_threads)]))
 
 
 if __name__ == "__main__":

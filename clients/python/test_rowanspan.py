@@ -1,22 +1,24 @@
 #!/usr/bin/env python3
-"""Tests of the client over a stand-in, without the server: broken streams, calls, scans and pipelines. Run by itself,
-it runs test_wire, test_shell and test_bad_input too, and its last line is 'N passed, M failed'."""
+"""Tests of the client over a stand-in, without the server: broken streams, calls and pipelines. As a program it runs
+test_mapping, test_wire, test_shell, test_bad_input and test_wheel too, and its last line is 'N passed, M failed'."""
 from __future__ import annotations
 
 import socket
 import sys
 import threading
 import unittest
-from typing import Any, List, Optional, Sequence, Tuple
+from typing import Any, List, Sequence, Tuple
 
 import rowanspan
 import test_bad_input
+import test_mapping
 import test_shell
+import test_wheel
 import test_wire
-from rowanspan import (MAX_KEY_BYTES, AtLeast, BadReply, Behind, Build, ConnectionLost, Get, GetRange, Index,
-                       NoSuchView, OtherVersion, Page, Pairs, Prefix, Put, PutIf, Query, Range, Refused, Reply, Row,
-                       Tidied, TooLong, Unanswered, ViewDrop, ViewRead, key_after)
-from rowanspan.mapping import scanned
+from counting import run_counted
+from rowanspan import (MAX_KEY_BYTES, BadReply, Build, ConnectionLost, Get, GetRange, Index, NoSuchView,
+                       OtherVersion, Page, Prefix, Put, PutIf, Query, Range, Refused, Reply, Row, Tidied, TooLong,
+                       Unanswered, View, ViewDrop, ViewRead, WrongIndex)
 from stand_in import Options, StandIn
 from test_wire import ANSWERS, ROW, framed
 
@@ -101,7 +103,8 @@ class BrokenStreamTest(unittest.TestCase):
             index = Index(server.port, timeout=SECONDS)
             index.close()
             index.close()
-            for call in (lambda: index.get(b"a"), lambda: index.put(b"a", b"v"), lambda: list(index.scan())):
+            for call in (lambda: index.get(b"a"), lambda: index.put(b"a", b"v"), lambda: list(index.range()),
+                         lambda: index.build(Prefix(b"a")), lambda: index.view(1).count, index.view(1).drop):
                 with self.assertRaisesRegex(rowanspan.Closed, "^the index is closed$"):
                     call()
             self.assertEqual(server.index.events, 0)
@@ -133,12 +136,14 @@ class CallTest(unittest.TestCase):
         self.assertEqual(self.index.get(b"a"), Row(2, (b"v", b"w")))
         self.assertEqual(self.index.get(b"a", columns=[1, 0]), Row(2, (b"w", b"v")))
         self.assertEqual(self.index.put(b"", {}), 3)
-        self.assertEqual(self.index.range(), [(b"", Row(3, (b"", b""))), (b"a", Row(2, (b"v", b"w")))])
-        self.assertEqual(self.index.range(b"", 1, [1]), [(b"", Row(3, (b"",)))])
+        self.assertEqual(self.index.first(), [(b"", Row(3, (b"", b""))), (b"a", Row(2, (b"v", b"w")))])
+        self.assertEqual(self.index.first(b"", 1, [1]), [(b"", Row(3, (b"",)))])
         self.assertEqual(self.index.remove(b"a"), 4)
         self.assertEqual(self.index.tidy(b"a"), Tidied.NOTHING)
         self.assertEqual(self.index.call(Get(b"a")), Reply(None, 4, 4))
         self.assertEqual(self.index.call(Put(b"a", b"v")), Reply(5, 4, 5))
+        self.assertEqual(self.index.call(Build(Prefix(b""))), Reply(1, 5, 5))
+        self.assertEqual(self.index.call(ViewRead(1, 5, b"b")), Reply(Page(5, 2, (118, 0), [])))
 
     def test_conditional_puts(self) -> None:
         self.assertEqual(self.index.put_if(b"a", b"v", 0), 1)
@@ -150,38 +155,10 @@ class CallTest(unittest.TestCase):
         with self.assertRaises(OtherVersion) as met:
             self.index.put_if(b"b", b"x", 1)
         self.assertEqual(met.exception.detail, 0)
-        self.assertEqual(self.index.range(), [(b"a", Row(2, (b"v", b"w")))])
+        self.assertEqual(self.index.first(), [(b"a", Row(2, (b"v", b"w")))])
         with self.index.pipeline() as pipeline:
             commit, row = pipeline.add(PutIf(b"b", b"x", 0)), pipeline.add(Get(b"b", [0]))
         self.assertEqual((commit.value, row.value), (3, Row(3, (b"x",))))
-
-    def test_update(self) -> None:
-        seen: List[Optional[Row]] = []
-
-        def change(row: Optional[Row]) -> Optional[bytes]:
-            seen.append(row)
-            if len(seen) == 1:
-                self.server.index.answer(Put(b"a", {1: b"w"}))
-            return b"x"
-
-        self.assertEqual(self.index.update(b"a", change), 2)
-        self.assertEqual(seen, [None, Row(1, (b"", b"w"))])
-        self.assertEqual(self.index.get(b"a"), Row(2, (b"x", b"w")))
-        self.assertIsNone(self.index.update(b"a", lambda row: None))
-        self.assertEqual(self.server.index.commits, 2)
-
-    def test_views(self) -> None:
-        view = self.index.build(Prefix(b"a", AtLeast(0, 5)))
-        self.index.put(b"a", b"\4")
-        self.index.put(b"ab", b"\6")
-        self.index.put(b"b", b"\7")
-        self.assertEqual(self.index.view(view, 3), Page(3, 1, (6, 0), [(b"ab", Row(2, (b"\6", b"")))]))
-        with self.assertRaises(Behind) as met:
-            self.index.view(view, 4)
-        self.assertEqual((met.exception.number, met.exception.detail), (12, 3))
-        self.index.drop(view)
-        with self.assertRaises(NoSuchView):
-            self.index.view(view)
 
     def test_refusals(self) -> None:
         wrong: List[Tuple[Query[Any], int]] = [
@@ -201,136 +178,105 @@ class CallTest(unittest.TestCase):
         self.assertEqual(outcomes[2], Reply(Row(1, (b"v", b"")), 1, 1))
 
 
-class ScanTest(unittest.TestCase):
-    def test_keys_after(self) -> None:
-        short = MAX_KEY_BYTES - 1
-        self.assertEqual(key_after(b""), b"\0")
-        self.assertEqual(key_after(b"a" * short), b"a" * short + b"\0")
-        self.assertEqual(key_after(b"a" * MAX_KEY_BYTES), b"a" * short + b"b")
-        self.assertEqual(key_after(b"a" + b"\xff" * short), b"b")
-        self.assertIsNone(key_after(b"\xff" * MAX_KEY_BYTES))
-
-    def scanned(self, keys: Sequence[bytes], start: bytes = b"") -> List[bytes]:
-        with StandIn() as server, Index(server.port, timeout=SECONDS) as index:
-            for key in keys:
-                server.index.answer(Put(key, b"v"))
-            return [key for key, row in index.scan(start=start) if row.columns == (b"v",)]
-
-    def test_lengths(self) -> None:
-        for count in (0, 1, 999, 1000, 1001, 2000, 2001):
-            keys = [number.to_bytes(2, "big") for number in range(count)]
-            with self.subTest(count=count):
-                self.assertEqual(self.scanned(keys), keys)
-
-    def test_from_a_key_on(self) -> None:
-        keys = [number.to_bytes(2, "big") for number in range(1100)]
-        self.assertEqual(self.scanned(keys, keys[7]), keys[7:])
-        self.assertEqual(self.scanned(keys, keys[7] + b"\0"), keys[8:])
-
-    def test_pages_that_end_at_long_keys(self) -> None:
-        first, short = [number.to_bytes(2, "big") for number in range(999)], MAX_KEY_BYTES - 1
-        for last, behind in ((b"a" * MAX_KEY_BYTES, [b"a" * short + b"b", b"b"]),
-                             (b"a" + b"\xff" * short, [b"b", b"b\0"]), (b"\xff" * MAX_KEY_BYTES, []),
-                             (b"a" * short, [b"a" * short + b"\0"])):
-            keys = first + [last] + behind
-            with self.subTest(last=last[:2]):
-                self.assertEqual(self.scanned(keys), keys)
-
-    def test_columns(self) -> None:
-        with StandIn(Options(columns=2)) as server, Index(server.port, timeout=SECONDS) as index:
-            index.put(b"a", {0: b"v", 1: b"w"})
-            self.assertEqual(list(index.scan(columns=[1])), [(b"a", Row(1, (b"w",)))])
-
-    def test_prefixes(self) -> None:
-        keys = [b"a", b"b", b"b\0", *[b"ba%04d" % number for number in range(1500)], b"b\xff", b"b\xff\xff", b"c"]
-        with StandIn() as server, Index(server.port, timeout=SECONDS) as index:
-            for key in keys:
-                server.index.answer(Put(key, b"v"))
-            for prefix in (b"", b"a", b"b", b"ba", b"ba0", b"ba1499", b"b\xff", b"bb", b"c", b"\xff", bytes(1024)):
-                for start in (b"", b"b", b"ba0007", b"bb", b"c", b"d"):
-                    with self.subTest(prefix=prefix, start=start):
-                        wanted = [key for key in keys if key.startswith(prefix) and key >= start]
-                        self.assertEqual([key for key, _ in index.scan(prefix, start=start)], wanted)
-
-    def test_a_prefix_of_few_rows_reads_few(self) -> None:
-        asked: List[int] = []
-
-        def read(start: bytes, limit: int) -> Pairs:
-            asked.append(limit)
-            return [(key, ROW) for key in keys if key >= start][:limit]
-
-        keys = [b"a%04d" % number for number in range(3000)]
-        self.assertEqual(len(list(scanned(read, b"a000", b"a000"))), 10)
-        self.assertEqual(asked, [60])
-        self.assertEqual(len(list(scanned(read, b"a", b"a"))), 3000)
-        self.assertEqual(asked, [60, 60, 240, 960, 1000, 1000])
-
-
-class MapTest(unittest.TestCase):
-    def test_a_client_as_a_map(self) -> None:
-        with StandIn(Options(columns=2)) as server, Index(server.port, timeout=SECONDS) as index:
-            index.put(b"a", {0: b"v", 1: b"w"})
-            self.assertEqual((index[b"a"], b"a" in index, b"b" in index), (Row(1, (b"v", b"w")), True, False))
-            with self.assertRaises(KeyError) as met:
-                index[b"b"]
-            self.assertEqual(met.exception.args, (b"b",))
-            self.assertEqual((index.get(b"b", 5), index.get(b"a", 5)), (5, Row(1, (b"v", b"w"))))
-            self.assertEqual(index.get(b"a", None, [1]), Row(1, (b"w",)))
-            events = server.index.events
-            for call in (lambda: index["a"], lambda: "a" in index, lambda: index.scan("a"), lambda: iter(index),
-                         lambda: index.scan(b"a", start=1), lambda: index[b"a":b"b"], lambda: len(index)):
-                with self.assertRaises(TypeError):
-                    call()
-            self.assertEqual(server.index.events, events)
-
-
 class PipelineTest(unittest.TestCase):
+    def setUp(self) -> None:
+        self.server = StandIn(Options(columns=2))
+        self.addCleanup(self.server.__exit__, None, None, None)
+        self.index = Index(self.server.port, timeout=SECONDS)
+        self.addCleanup(self.index.close)
+
     def test_values_in_order(self) -> None:
-        with StandIn() as server, Index(server.port, timeout=SECONDS) as index:
-            pipeline = index.pipeline()
-            put, wrong, got = pipeline.add(Put(b"a", b"v")), pipeline.add(GetRange(b"", 0)), pipeline.add(Get(b"a"))
-            with self.assertRaises(Unanswered):
-                put.value
-            values = pipeline.send()
-            self.assertEqual((values[0], values[2]), (1, Row(1, (b"v",))))
-            self.assertIsInstance(values[1], rowanspan.BadLimit)
-            self.assertEqual((put.value, got.reply), (1, Reply(Row(1, (b"v",)), 1, 1)))
-            with self.assertRaises(rowanspan.BadLimit):
-                wrong.value
-            self.assertEqual((len(pipeline), pipeline.send()), (0, []))
+        pipeline = self.index.pipeline()
+        put, wrong, got = pipeline.add(Put(b"a", b"v")), pipeline.add(GetRange(b"", 0)), pipeline.add(Get(b"a", [0]))
+        with self.assertRaises(Unanswered):
+            put.value
+        values = pipeline.send()
+        self.assertEqual((values[0], values[2]), (1, Row(1, (b"v",))))
+        self.assertIsInstance(values[1], rowanspan.BadLimit)
+        self.assertEqual((put.value, got.reply), (1, Reply(Row(1, (b"v",)), 1, 1)))
+        with self.assertRaises(rowanspan.BadLimit):
+            wrong.value
+        self.assertEqual((len(pipeline), pipeline.send()), (0, []))
+
+    def test_each_method(self) -> None:
+        with self.index.pipeline() as pipeline:
+            asked = [pipeline.put(b"a", {0: b"v", 1: b"w"}), pipeline.get(b"a"), pipeline.get(b"a", [1]),
+                     pipeline.get(b"b"), pipeline.put_if(b"b", b"x", 0), pipeline.remove(b"a"), pipeline.remove(b"a"),
+                     pipeline.first(b"b", 5, [0]), pipeline.first(), pipeline.tidy(b"a")]
+            built = pipeline.build(Prefix(b"b"))
+            self.assertEqual((len(pipeline), self.server.index.events), (11, 0))
+        pairs = [(b"b", Row(2, (b"x", b"")))]
+        self.assertEqual([pending.value for pending in asked], [
+            1, Row(1, (b"v", b"w")), Row(1, (b"w",)), None, 2, 3, None, [(b"b", Row(2, (b"x",)))], pairs,
+            Tidied.NOTHING])
+        self.assertEqual((built.value, built.reply), (self.index.view(1), Reply(self.index.view(1), 3, 3)))
+        self.assertEqual(built.value.count, 1)
+        pipeline.page(built.value, 3, b"b", 1)
+        pipeline.page(1, limit=5)
+        pipeline.drop(built.value)
+        pipeline.drop(1)
+        pipeline.build(Prefix(b""))
+        page, same, nothing, dropped, again = pipeline.send()
+        self.assertEqual((page, same, nothing, again), (Page(3, 1, (120, 0), pairs), page, None, self.index.view(2)))
+        self.assertIsInstance(dropped, NoSuchView)
+
+    def test_a_refused_build(self) -> None:
+        with self.index.pipeline() as pipeline:
+            built, put = pipeline.build(Range(b"b", b"a")), pipeline.put(b"a", b"v")
+        self.assertEqual(put.value, 1)
+        with self.assertRaises(rowanspan.BadRange):
+            built.value
+
+    def test_wrong_arguments(self) -> None:
+        pipeline: Any = self.index.pipeline()
+        for name, arguments in (
+                ("get", ("a",)), ("get", (b"a", 0)), ("put", (b"a", "v")), ("put_if", (b"a", b"v", "0")),
+                ("remove", (None,)), ("first", ("",)), ("first", (b"", "1")), ("tidy", (5,)), ("build", (b"a",)),
+                ("page", ("1",)), ("page", (None,)), ("page", (1, "0")), ("drop", (b"1",)), ("add", (b"a",))):
+            with self.subTest(name=name, arguments=arguments), self.assertRaises(TypeError):
+                getattr(pipeline, name)(*arguments)
+        other = View(self.index, self.index.view(1).number)
+        other._index = object()  # type: ignore[assignment]
+        for name in ("page", "drop"):
+            with self.assertRaisesRegex(WrongIndex, "^this is a view of another index: <rowanspan.View 1 of "):
+                getattr(pipeline, name)(other)
+        self.assertEqual((len(pipeline), pipeline.send(), self.server.index.events), (0, [], 0))
 
     def test_with_block(self) -> None:
-        with StandIn() as server, Index(server.port, timeout=SECONDS) as index:
-            with index.pipeline() as pipeline:
-                commits = [pipeline.add(Put(bytes((number,)), b"v")) for number in range(64)]
-                with self.assertRaises(TooLong):
-                    pipeline.add(Get(b"a"))
-            self.assertEqual([commit.value for commit in commits], list(range(1, 65)))
-            with self.assertRaises(KeyError), index.pipeline() as pipeline:
-                pipeline.add(Put(b"a", b"v"))
-                raise KeyError
-            self.assertIsNone(index.get(b"a"))
+        with self.index.pipeline() as pipeline:
+            commits = [pipeline.put(bytes((number,)), b"v") for number in range(64)]
+            with self.assertRaises(TooLong):
+                pipeline.get(b"a")
+        self.assertEqual([commit.value for commit in commits], list(range(1, 65)))
+        with self.assertRaises(KeyError), self.index.pipeline() as pipeline:
+            pipeline.put(b"a", b"v")
+            raise KeyError
+        self.assertIsNone(self.index.get(b"a"))
 
     def test_too_many_bytes(self) -> None:
-        with StandIn() as server, Index(server.port, timeout=SECONDS) as index:
-            pipeline = index.pipeline()
-            refused = [pipeline.add(Get(bytes(65_000))) for _ in range(4)]
-            with self.assertRaises(TooLong):
-                pipeline.add(Get(bytes(65_000)))
+        pipeline = self.index.pipeline()
+        refused = [pipeline.get(bytes(65_000)) for _ in range(4)]
+        with self.assertRaises(TooLong):
+            pipeline.get(bytes(65_000))
+        pipeline.send()
+        for one in refused:
+            with self.assertRaises(rowanspan.KeyTooLong):
+                one.value
+
+    def test_a_closed_index(self) -> None:
+        pipeline = self.index.pipeline()
+        put = pipeline.put(b"a", b"v")
+        self.index.close()
+        with self.assertRaises(rowanspan.Closed):
             pipeline.send()
-            for one in refused:
-                with self.assertRaises(rowanspan.KeyTooLong):
-                    one.value
+        with self.assertRaises(Unanswered):
+            put.value
 
 
 def main() -> int:
     load = unittest.defaultTestLoader.loadTestsFromModule
-    modules = (test_wire, sys.modules[__name__], test_shell, test_bad_input)
-    tests = unittest.TestSuite(load(module) for module in modules)
-    result = unittest.TextTestRunner(sys.stdout).run(tests)
-    failed = len(result.failures) + len(result.errors)
-    print(f"{max(result.testsRun - failed, 0)} passed, {failed} failed")
-    return 1 if failed else 0
+    modules = (test_wire, sys.modules[__name__], test_mapping, test_shell, test_bad_input, test_wheel)
+    return run_counted(unittest.TestSuite(load(module) for module in modules))
 
 
 if __name__ == "__main__":

@@ -1,7 +1,9 @@
 """Tests of the shell, of queries and answers as lines, and of the documents' examples. test_rowanspan.py runs them."""
 from __future__ import annotations
 
+import os
 import re
+import signal
 import socket
 import subprocess
 import sys
@@ -11,9 +13,9 @@ from pathlib import Path
 from typing import Any, List, Sequence, Tuple
 
 import rowanspan
-from rowan_text import HEX, TEXT, BadLine, outcome_line, page_receipt_line, read_query, receipt_line, spec_text
 from rowanspan import (MAX_KEY_BYTES, AtLeast, Behind, Build, Equals, Get, GetRange, OtherVersion, Page, Prefix, Put,
                        PutIf, Query, Range, Remove, Reply, Row, Tidied, Tidy, ViewDrop, ViewRead)
+from rowanspan.text import HEX, TEXT, BadLine, outcome_line, page_receipt_line, read_query, receipt_line, spec_text
 from stand_in import Options, StandIn
 
 SHELL = Path(__file__).resolve().parent / "rowan"
@@ -129,7 +131,29 @@ class ShellTest(unittest.TestCase):
         self.assertEqual(self.status_of(["--help"]), 0)
         self.assertEqual(self.status_of(["get", "61", "all"]), 2)
         self.assertEqual(self.status_of(["-p", "x", "get", "61", "all"]), 2)
+        for words in (["-p", port, "--embedded"], ["-p", port, "--columns", "2"], ["--embedded", "--timeout", "1"],
+                      ["--embedded", "--host", "localhost"], ["--embedded", "--columns", "x"]):
+            with self.subTest(words=words):
+                self.assertEqual(self.status_of([*words, "get", "61", "all"]), 2)
         self.assertEqual(self.status_of(["-p", port, "get", "61", "all"]), 3)
+
+    def test_an_index_without_a_library(self) -> None:
+        environment = {**os.environ, "ROWANSPAN_LIBRARY": "/nowhere/librowanspan.so"}
+        done = subprocess.run([sys.executable, str(SHELL), "--embedded", "get", "61", "all"], env=environment,
+                              capture_output=True, timeout=SECONDS, check=False)
+        self.assertEqual((done.returncode, done.stdout), (3, b""))
+        self.assertEqual(done.stderr, b"rowan: there is no library at /nowhere/librowanspan.so\n")
+
+    def test_an_interrupt(self) -> None:
+        with StandIn() as server:
+            with subprocess.Popen([sys.executable, str(SHELL), "-p", str(server.port)], stdin=subprocess.PIPE,
+                                  stdout=subprocess.PIPE, stderr=subprocess.PIPE) as shell:
+                assert shell.stdin is not None and shell.stdout is not None and shell.stderr is not None
+                shell.stdin.write(b"put 61 0=76\n")
+                shell.stdin.flush()
+                self.assertEqual(shell.stdout.readline(), b"done 0 1 put 1\n")
+                shell.send_signal(signal.SIGINT)
+                self.assertEqual((shell.wait(SECONDS), shell.stderr.read()), (130, b""))
 
     def test_output_that_is_full(self) -> None:
         with StandIn() as server, open("/dev/full", "wb") as full:
@@ -145,6 +169,13 @@ class ShellTest(unittest.TestCase):
             self.assertEqual(server.faults, [])
 
 
+def example_of(path: Path) -> str:
+    """The one example of a page that imports an index."""
+    page = path.read_text(encoding="utf-8")
+    (block,) = (part for part in re.findall(r"(?:^(?:    .*)?\n)+", page, re.M) if "import Index" in part)
+    return textwrap.dedent(block)
+
+
 class DocumentTest(unittest.TestCase):
     def test_the_longest_key_of_the_page(self) -> None:
         page = SHELL.parents[2].joinpath("docs", "WIRE.md").read_text(encoding="utf-8")
@@ -152,14 +183,20 @@ class DocumentTest(unittest.TestCase):
         self.assertEqual(int(most.replace(",", "")), MAX_KEY_BYTES)
 
     def test_the_example_of_the_page(self) -> None:
-        page = SHELL.parents[2].joinpath("docs", "SERVING.md").read_text(encoding="utf-8")
-        (block,) = (part for part in re.findall(r"(?:^(?:    .*)?\n)+", page, re.M) if "import Index" in part)
+        page = SHELL.parents[2] / "docs" / "SERVING.md"
         with StandIn() as server:
-            example = textwrap.dedent(block).replace("7070", str(server.port))
+            example = example_of(page).replace("7070", str(server.port))
             done = subprocess.run([sys.executable, "-c", example], cwd=SHELL.parent, stdout=subprocess.PIPE,
                                   timeout=SECONDS, check=True)
         self.assertEqual(done.stdout, b"Row(version=1, columns=(b'red',))\nFalse (b'red',)\n[b'pear', b'plum']\n2\n")
         self.assertEqual(server.index.commits, 6)
+
+    def test_the_example_of_the_readme(self) -> None:
+        with StandIn() as server:
+            example = example_of(SHELL.parent / "README.md").replace("rowanspan.embedded", "rowanspan")
+            done = subprocess.run([sys.executable, "-c", example.replace("Index()", f"Index({server.port})")],
+                                  cwd=SHELL.parent, stdout=subprocess.PIPE, timeout=SECONDS, check=True)
+        self.assertEqual(done.stdout, b"Row(version=1, columns=(b'red',))\nb'apple' (b'green',)\n1\n")
 
     def test_the_lines_of_the_page(self) -> None:
         page = SHELL.parents[2].joinpath("docs", "SERVING.md").read_text(encoding="utf-8")

@@ -7,11 +7,11 @@ import unittest
 from typing import Any, Dict, List, Sequence, Tuple
 
 import rowanspan
-import stand_in
 from rowanspan import (MAX_KEY_BYTES, AnswerKind, AnyRow, AtLeast, BadReply, Behind, Build, Equals, FeedFull, Get,
                        GetRange, OtherVersion, Page, Prefix, Put, PutIf, Query, Range, Refused, Remove, Reply, Row,
                        Tidied, Tidy, TooLong, ViewDrop, ViewRead, frame_version, read_replies, request_frame)
-from stand_in import PlainIndex, StandIn, read_queries, reply_frame, spelled_done
+from stand_in import PlainIndex, StandIn
+from stand_in_wire import read_queries, reply_frame, spelled_done, spelled_page, spelled_pairs
 from wire_page import worked_bytes
 
 SECONDS = 20.0
@@ -126,8 +126,8 @@ class SpellingTest(unittest.TestCase):
 
     def test_answers_as_the_stand_in_writes_them(self) -> None:
         self.assertEqual(spelled_done(AnswerKind.ABSENT, 1, 258, b""), bytes.fromhex(ANSWERS[0][1]))
-        self.assertEqual(stand_in.spelled_page(ANSWERS[9][2].value), bytes.fromhex(ANSWERS[9][1]))
-        self.assertEqual(stand_in.spelled_pairs([(b"a", ROW)]), bytes.fromhex(f"0001 {PAIR}"))
+        self.assertEqual(spelled_page(ANSWERS[9][2].value), bytes.fromhex(ANSWERS[9][1]))
+        self.assertEqual(spelled_pairs([(b"a", ROW)]), bytes.fromhex(f"0001 {PAIR}"))
 
     def test_each_refusal(self) -> None:
         for number, kind in rowanspan.REFUSALS.items():

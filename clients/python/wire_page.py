@@ -45,7 +45,7 @@ def exchanges_of(part: str) -> List[Exchange]:
 
 
 def worked_bytes(page: Path = PAGE) -> WorkedBytes:
-    """The worked bytes of the page; raises ValueError where they don't stand as they are wanted."""
+    """The worked bytes of the page; raises ValueError if the page hasn't the parts that are wanted."""
     part = page.read_text(encoding="utf-8").partition("\n## Worked bytes\n")[2]
     first, title, second = part.partition("\n### Version 2\n")
     if not title:

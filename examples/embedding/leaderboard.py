@@ -28,10 +28,10 @@ def main() -> None:
                 plain[player] = chance.randrange(1000)
                 index.put(player, points(plain[player]))
             # at each moment, and not only at the end
-            assert index.view(everybody).sums == (sum(plain.values()),)
-        page = index.view(everybody, limit=1)
+            assert everybody.sums == (sum(plain.values()),)
+        page = everybody.page(limit=1)
         print(f"{page.count} players have {page.sums[0]} points after {page.at} commits")
-        best = sorted(index.view(league).rows, key=lambda pair: pair[1].columns[0], reverse=True)
+        best = sorted(league.rows(), key=lambda pair: pair[1].columns[0], reverse=True)
         for key, row in best[:3]:
             print(key.decode(), int.from_bytes(row.columns[0], "big"))
 

@@ -53,19 +53,19 @@ def puts() -> None:
         view = index.build(Prefix(b""))
         for number in range(4000):
             key, made = b"%06d" % (number * 7919 % 1000003), index.commits()
-            library.allowed = {"rowanspan_raw_put": number % 16 - 1, "rowanspan_apply": number // 16 % 2 - 1}
+            library.allowed = {"put": number % 16 - 1, "apply": number // 16 % 2 - 1}
             try:
                 commit = index.put(key, b"v")
                 assert commit == index.commits() == made + 1
                 plain[key] = Row(commit, (b"v",))
-                lags += index.view(view, limit=1).at < commit
+                lags += view.at < commit
             except NoMemory:
                 refusals += 1
                 assert index.commits() == made and index.get(key) == plain.get(key)
         library.allowed = {}
         index.keep_views()
         assert lags > 10 and refusals > 10, (lags, refusals)
-        assert dict(index.scan()) == plain and index.view(view, index.commits()).count == len(plain)
+        assert dict(index.range()) == plain and view.page(index.commits()).count == len(plain)
 
 
 def builds() -> None:
@@ -75,20 +75,21 @@ def builds() -> None:
         for number in range(100):
             index.put(b"%06d" % number, b"v")
         for number in range(63):
-            library.allowed = {"rowanspan_raw_build_prefix": number % 21 - 1, "rowanspan_apply": 0}
+            library.allowed = {"build_prefix": number % 21 - 1, "apply": 0}
             try:
                 built += 1
-                assert index.build(Prefix(b"00000")) == built and index.view(built).count == 10
+                view = index.build(Prefix(b"00000"))
+                assert view.number == built and view.count == 10
             except NoMemory:
                 built -= 1
                 refusals += 1
-            library.allowed = {"rowanspan_apply": 0}
+            library.allowed = {"apply": 0}
             index.put(b"000000", b"w")
         library.allowed = {}
         index.keep_views()
         assert built > 2 and refusals > 2, (built, refusals)
-        for view in range(1, built + 1):
-            assert index.view(view, index.commits()).count == 10
+        for number in range(1, built + 1):
+            assert index.view(number).page(index.commits()).count == 10
 
 
 CASES = (puts, builds)

@@ -17,8 +17,8 @@ from reading import Held, Said, want
 TOP = Path(__file__).resolve().parent.parent.parent
 sys.path.insert(0, str(TOP / "clients" / "python"))
 
-from rowan_text import HEX, outcome_line, read_query  # noqa: E402
 from rowanspan import ConnectionLost, Index  # noqa: E402
+from rowanspan.text import HEX, outcome_line, read_query  # noqa: E402
 
 SECONDS = 60.0
 CALLS = ("get", "put", "remove", "range", "tidy", "build")

@@ -4,11 +4,10 @@ from __future__ import annotations
 import enum
 import operator
 from dataclasses import dataclass
-from typing import (Any, ClassVar, Dict, List, Mapping, NewType, Optional, Sequence, Tuple, Type,
-                    Union)
+from typing import Any, ClassVar, Dict, List, Mapping, NewType, Optional, Sequence, Tuple, Type, Union
 
 __all__ = [
-    "MAX_KEY_BYTES", "MAX_LIMIT", "MAX_NUMBER", "RowanspanError", "TooLong", "Closed", "WrongThread", "NoLibrary",
+    "MAX_KEY_BYTES", "MAX_LIMIT", "MAX_NUMBER", "RowanspanError", "TooLong", "Closed", "WrongIndex", "NoLibrary",
     "ConnectionLost", "BadReply", "Unanswered", "Refused", "NoMemory", "KeyTooLong", "BadColumn", "ColumnTooLong",
     "BadLimit", "ArenaFull", "FeedFull", "TooManyCalls", "NoSuchCall", "TooManyViews", "NoSuchView", "Behind",
     "BadRange", "Spent", "WrongPass", "OtherVersion", "REFUSALS", "ViewNo", "Row", "Pairs", "Page", "Delta", "Tidied",
@@ -36,8 +35,8 @@ class Closed(RowanspanError):
     """The index was closed by its method `close`, or at the end of its `with` block. Nothing was done."""
 
 
-class WrongThread(RowanspanError):
-    """Another thread made this embedded index. Nothing was done."""
+class WrongIndex(RowanspanError, ValueError):
+    """A view of another index was given. Nothing was done. The number of a view can be given instead."""
 
 
 class NoLibrary(RowanspanError):
@@ -45,8 +44,8 @@ class NoLibrary(RowanspanError):
 
 
 class ConnectionLost(RowanspanError):
-    """There is no connection to a server, or it ended, or the time was over. Whether the last queries were done isn't
-    known."""
+    """There is no connection to a server, or it ended, or the timeout was over. It isn't known whether the last queries
+    were done."""
 
 
 class BadReply(RowanspanError):
@@ -54,7 +53,7 @@ class BadReply(RowanspanError):
 
 
 class Unanswered(RowanspanError):
-    """The answer of a pipeline was asked for that wasn't sent, or whose connection was lost."""
+    """A query of a pipeline has no answer: it wasn't sent, or its connection was lost."""
 
 
 class Refused(RowanspanError):
@@ -263,6 +262,14 @@ def checked_bytes(value: Any, what: str) -> bytes:
     return bytes(value)
 
 
+def checked_key(value: Any, what: str = "a key") -> bytes:
+    """A key. Raises TypeError for another type, and `KeyTooLong` for one that no row can have."""
+    key = checked_bytes(value, what)
+    if len(key) > MAX_KEY_BYTES:
+        raise KeyTooLong()
+    return key
+
+
 def checked_int(value: Any, what: str) -> int:
     """A number. Raises TypeError for another type."""
     try:
@@ -289,6 +296,14 @@ def checked_limit(limit: Any) -> int:
     number = checked_int(limit, "a limit")
     if not 0 <= number < 256 ** 2:
         raise BadLimit()
+    return number
+
+
+def checked_count(count: Any, what: str) -> int:
+    """A count of rows, of any size. Raises TypeError for another type, and `TooLong` if it is negative."""
+    number = checked_int(count, what)
+    if number < 0:
+        raise TooLong(f"{what} must be 0 or more, not {number}")
     return number
 
 
@@ -330,5 +345,10 @@ def key_after(key: bytes) -> Optional[bytes]:
     if len(key) < MAX_KEY_BYTES:
         return key + b"\0"
     # no longer key begins with it, so the next key is greater in some byte: in the last one that can be greater
-    front = key.rstrip(b"\xff")
+    return prefix_end(key)
+
+
+def prefix_end(prefix: bytes) -> Optional[bytes]:
+    """The least key after all those that begin with `prefix`; None if there is none."""
+    front = prefix.rstrip(b"\xff")
     return front[:-1] + bytes((front[-1] + 1,)) if front else None

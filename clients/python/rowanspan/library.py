@@ -1,13 +1,15 @@
-"""The C library, through ctypes: its symbols, its values, and how its answers are read."""
+"""The C library, through ctypes: where it is, its functions and values, and how its answers are read."""
 from __future__ import annotations
 
 import ctypes
 import os
 from pathlib import Path
+from types import SimpleNamespace
 from typing import Any, Callable, Dict, List, Optional, Sequence, Tuple, TypeVar, Union
 
 from .core import (AtLeast, Delta, Equals, NoLibrary, Page, Pairs, Row, RowTest, Sets, checked_bytes, checked_column,
                    checked_columns, checked_number, checked_test, set_pairs)
+from .places import PACKAGE, checkout, none_at
 
 Value = TypeVar("Value")
 
@@ -15,8 +17,8 @@ Value = TypeVar("Value")
 # ---- answers
 
 class Reader:
-    """Reads the fields of an answer, one after another: numbers have eight bytes, the highest first, and before bytes
-    and lists stands how many there are."""
+    """Reads the fields of an answer, one after another: numbers have eight bytes, the highest first, and bytes and
+    lists come after their count."""
 
     def __init__(self, answer: bytes) -> None:
         self._answer = answer
@@ -68,6 +70,9 @@ class Reader:
 
 # ---- the library
 
+NAME = "librowanspan.so"
+
+
 class Handle(ctypes.Structure):
     _fields_ = [("at", ctypes.c_void_p), ("is_open", ctypes.c_bool)]
 
@@ -89,19 +94,19 @@ U16, U64 = ctypes.c_uint16, ctypes.c_uint64
 BYTES: List[Any] = [ctypes.c_char_p, ctypes.c_size_t]
 ROOM: List[Any] = [ctypes.c_void_p, ctypes.c_size_t]
 
-# of each symbol, the types of the parameters between the handle and the number that the call reports
+# of each function, the types of the parameters between the handle and the number that the call reports
 PARAMETERS: Dict[str, List[Any]] = {
-    "raw_put": [*BYTES, ctypes.POINTER(ColumnSet), ctypes.c_size_t],
-    "raw_put_if": [*BYTES, ctypes.POINTER(ColumnSet), ctypes.c_size_t, U64],
-    "raw_remove": BYTES,
-    "raw_tidy": BYTES,
-    "raw_get": [*BYTES, *BYTES, *ROOM],
-    "raw_range": [*BYTES, U16, *BYTES, *ROOM],
-    "raw_build_prefix": [*BYTES, ctypes.POINTER(ViewTest)],
-    "raw_build_from": [*BYTES, ctypes.POINTER(ViewTest)],
-    "raw_build_between": [*BYTES, *BYTES, ctypes.POINTER(ViewTest)],
-    "raw_view": [U64, U64, *BYTES, U16, *ROOM],
-    "raw_feed": [U64, U16, *ROOM],
+    "put": [*BYTES, ctypes.POINTER(ColumnSet), ctypes.c_size_t],
+    "put_if": [*BYTES, ctypes.POINTER(ColumnSet), ctypes.c_size_t, U64],
+    "remove": BYTES,
+    "tidy": BYTES,
+    "get": [*BYTES, *BYTES, *ROOM],
+    "range": [*BYTES, U16, *BYTES, *ROOM],
+    "build_prefix": [*BYTES, ctypes.POINTER(ViewTest)],
+    "build_from": [*BYTES, ctypes.POINTER(ViewTest)],
+    "build_between": [*BYTES, *BYTES, ctypes.POINTER(ViewTest)],
+    "view": [U64, U64, *BYTES, U16, *ROOM],
+    "feed": [U64, U16, *ROOM],
     "apply": [U64],
     "drop": [U64],
     "advance": [],
@@ -112,29 +117,36 @@ PARAMETERS: Dict[str, List[Any]] = {
 }
 
 
-def paths(told: Optional[Union[str, Path]]) -> List[Path]:
-    """Where the library may be: where the caller or the environment says, else in this folder or in the repository's
-    dist."""
-    here = Path(__file__).resolve().parent
-    named = told if told is not None else os.environ.get("ROWANSPAN_LIBRARY")
-    return [here / "librowanspan.so", here.parents[2] / "dist" / "librowanspan.so"] if named is None else [Path(named)]
+def paths(named: Optional[Union[str, Path]]) -> List[Path]:
+    """Where the library may be: the path that the caller or ROWANSPAN_LIBRARY names, or else the package's own folder
+    and the folder dist of the checkout."""
+    path = named if named is not None else os.environ.get("ROWANSPAN_LIBRARY") or None
+    if path is not None:
+        return [Path(path)]
+    top = checkout()
+    return [PACKAGE / NAME] if top is None else [PACKAGE / NAME, top / "dist" / NAME]
 
 
-def loaded(told: Optional[Union[str, Path]]) -> ctypes.PyDLL:
-    """The library, with the types of its symbols. (A PyDLL keeps the interpreter's lock during a call.)"""
-    found = [path for path in paths(told) if path.exists()]
-    if not found:
-        raise NoLibrary(f"there is no library at {', '.join(map(str, paths(told)))}")
+def function(library: ctypes.CDLL, name: str, parameters: Sequence[Any]) -> Any:
+    """A proved function of the library."""
+    found = getattr(library, f"rowanspan_raw_{name}")
+    found.restype, found.argtypes = U16, [HANDLE, *parameters]
+    return found
+
+
+def loaded(named: Optional[Union[str, Path]]) -> SimpleNamespace:
+    """The functions of the library, by their names. During a call ctypes releases the interpreter's lock."""
+    tried = paths(named)
+    found = next((path for path in tried if path.exists()), None)
+    if found is None:
+        raise NoLibrary(none_at("library", tried))
     try:
-        library = ctypes.PyDLL(str(found[0]))
-        for name, parameters in PARAMETERS.items():
-            symbol = getattr(library, f"rowanspan_{name}")
-            symbol.restype, symbol.argtypes = U16, [HANDLE, *parameters, TOLD]
-        library.rowanspan_open.restype, library.rowanspan_open.argtypes = U16, [HANDLE, U64, U64, U64]
-        library.rowanspan_close.restype, library.rowanspan_close.argtypes = U16, [HANDLE]
+        library = ctypes.CDLL(str(found))
+        functions = {name: function(library, name, [*parameters, TOLD]) for name, parameters in PARAMETERS.items()}
+        return SimpleNamespace(open=function(library, "open", [U64, U64, U64]), close=function(library, "close", []),
+                               **functions)
     except (OSError, AttributeError) as fault:
         raise NoLibrary(str(fault)) from fault
-    return library
 
 
 def spelled(value: Any, what: str) -> Tuple[bytes, int]:

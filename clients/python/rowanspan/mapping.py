@@ -1,18 +1,24 @@
-"""An index as a map from keys to rows: `index[key]`, `key in index`, `get` with a default, and scans by a prefix."""
+"""An index as a map from keys to rows, and a view as an object: what the client and the embedded index share."""
 from __future__ import annotations
 
-from typing import Any, Callable, Iterator, Optional, Sequence, Tuple, TypeVar, Union, overload
+import abc
+from typing import Any, Callable, Iterator, Optional, Sequence, Tuple, Type, TypeVar, Union, overload
 
-from .core import MAX_LIMIT, Pairs, Row, checked_bytes, key_after
+from .core import (MAX_LIMIT, NoSuchView, OtherVersion, Page, Pairs, RowanspanError, Row, Sets, Tidied, ViewNo,
+                   ViewSpec, WrongIndex, checked_bytes, checked_columns, checked_count, checked_key,
+                   checked_number, checked_view, key_after, prefix_end)
 
-# how many rows a scan of a prefix reads at first; each further range has four times as many, up to MAX_LIMIT
+__all__ = ["RowMap", "View"]
+
+# how many rows a range that has an end reads at first; each further call asks for four times as many, up to MAX_LIMIT
 FIRST_ROWS = 60
 
 Default = TypeVar("Default")
+RowPairs = Iterator[Tuple[bytes, Row]]
 
 
-class RowMap:
-    """What the client and the embedded index have of a map, over the calls that read a row and a range.
+class RowMap(abc.ABC):
+    """The calls of an index that are the same for the client of a server and for an index in this process.
 
     There is no `len`: an index doesn't count its rows, a view does. A key that isn't bytes is a TypeError.
     """
@@ -20,11 +26,11 @@ class RowMap:
     # without it a loop over an index would ask for the keys 0, 1, ..
     __iter__ = None
 
-    def _row(self, key: bytes, columns: Optional[Sequence[int]]) -> Optional[Row]:
-        raise NotImplementedError
+    # -- rows
 
-    def range(self, start: bytes = b"", limit: int = MAX_LIMIT, columns: Optional[Sequence[int]] = None) -> Pairs:
-        raise NotImplementedError
+    @abc.abstractmethod
+    def _row(self, key: bytes, columns: Optional[Sequence[int]]) -> Optional[Row]:
+        """The row of a key; None if it has none."""
 
     @overload
     def get(self, key: bytes, default: None = None, columns: Optional[Sequence[int]] = None) -> Optional[Row]:
@@ -51,25 +57,195 @@ class RowMap:
         """Whether a key has a row."""
         return self._row(checked_bytes(key, "a key"), (0,)) is not None
 
-    def scan(self, prefix: bytes = b"", columns: Optional[Sequence[int]] = None, *,
-             start: bytes = b"") -> Iterator[Tuple[bytes, Row]]:
-        """The rows whose keys begin with `prefix`, from `start` on, in the order of their keys, by ranges of 1000 at
-        most, each one call. What is changed meanwhile after the last key that was returned may be seen or not."""
-        front = checked_bytes(prefix, "a prefix")
-        first = max(front, checked_bytes(start, "a key"))
-        return scanned(lambda key, limit: self.range(key, limit, columns), first, front)
+    @abc.abstractmethod
+    def put(self, key: bytes, sets: Sets) -> int:
+        """Sets columns of a key's row, by their numbers; plain bytes are column 0. The others stay as they were; those
+        of a new row are empty. Returns the number of the commit."""
+
+    @abc.abstractmethod
+    def put_if(self, key: bytes, sets: Sets, version: int) -> int:
+        """Sets columns as `put` does, but only if the key's row is of this version, or if `version` is 0 and the key
+        has no row. Returns the number of the commit, which is the row's new version. Otherwise raises `OtherVersion`,
+        whose detail is the version that the row has."""
+
+    def update(self, key: bytes, change: Callable[[Optional[Row]], Optional[Sets]]) -> Optional[int]:
+        """Changes a key's row by what it is: `change` gets the row (None: there is none), and returns the columns to
+        set (None: nothing is put). If another caller has changed the row meanwhile, it is called again, without a
+        bound: so let it do nothing else. Returns the number of the commit, or None if nothing was put."""
+        if not callable(change):
+            raise TypeError(f"what changes a row must be callable, not {type(change).__name__}")
+        while True:
+            row = self.get(key)
+            sets = change(row)
+            if sets is None:
+                return None
+            try:
+                return self.put_if(key, sets, row.version if row else 0)
+            except OtherVersion:
+                pass
+
+    @abc.abstractmethod
+    def remove(self, key: bytes) -> Optional[int]:
+        """Removes a key's row. Returns the number of the commit, or None if there was no row."""
+
+    @abc.abstractmethod
+    def first(self, start: bytes = b"", limit: int = MAX_LIMIT, columns: Optional[Sequence[int]] = None) -> Pairs:
+        """The first rows from the key `start` on, in the order of their keys, 1 to 1000 of them at most, by one call.
+        Each key that was there during all of the call is there; each row was true at some moment of it."""
+
+    def range(self, start: bytes = b"", stop: Optional[bytes] = None, *, prefix: Optional[bytes] = None,
+              limit: Optional[int] = None, columns: Optional[Sequence[int]] = None) -> RowPairs:
+        """The rows from the key `start` on, before `stop`, whose keys begin with `prefix`, in the order of their keys,
+        at most `limit` of them. Returns an iterator over pairs of a key and its row.
+
+        It reads by calls of `first`, of 1000 rows at most. If something is changed between two calls, after the last
+        key that was returned, the iterator may see it or not. Arguments are checked at once."""
+        front = b"" if prefix is None else checked_key(prefix, "a prefix")
+        begin = max(front, checked_key(start))
+        ends = [prefix_end(front), None if stop is None else checked_key(stop)]
+        end = min((one for one in ends if one is not None), default=None)
+        most = None if limit is None else checked_count(limit, "a limit")
+        numbers = None if columns is None else checked_columns(columns)
+        return scanned(lambda key, count: self.first(key, count, numbers), begin, end, most)
+
+    @abc.abstractmethod
+    def tidy(self, key: bytes) -> Tidied:
+        """Takes out at most one node that is no longer wanted near the place of a key, after removes; returns which
+        kind. Changes no row."""
+
+    # -- views
+
+    @abc.abstractmethod
+    def _build(self, spec: ViewSpec) -> ViewNo:
+        """Builds a view; returns its number."""
+
+    @abc.abstractmethod
+    def _page(self, number: int, floor: int, start: bytes, limit: int) -> Page:
+        """A page of a view."""
+
+    @abc.abstractmethod
+    def _drop(self, number: int) -> None:
+        """Ends a view."""
+
+    def build(self, spec: ViewSpec) -> View:
+        """Builds a view of a `Range` or a `Prefix`, which follows each change until it is dropped. The cost is that of
+        reading its range."""
+        return View(self, self._build(spec))
+
+    def view(self, number: int) -> View:
+        """The view of this number. Asks nothing: if there is no such view, its calls raise `NoSuchView`."""
+        return View(self, ViewNo(checked_view(number)))
 
 
-def scanned(read: Callable[[bytes, int], Pairs], start: bytes, prefix: bytes) -> Iterator[Tuple[bytes, Row]]:
-    """The rows from a key on whose keys begin with a prefix, by a function that reads the first rows from a key on, up
-    to a limit."""
+class View:
+    """A view of an index: the rows that pass its test, their count, and the sums of their columns.
+
+        with index.build(Prefix(b"p")) as view:
+            print(view.count, view.sums)
+
+    `count`, `sums` and `at` ask one page each; those of one `page` are of the same commit. A view ends by `drop`, or at
+    the end of its `with` block.
+    """
+
+    # without it `key in view` would read all rows, and compare the key with pairs
+    __contains__ = None
+
+    def __init__(self, index: RowMap, number: ViewNo) -> None:
+        self._index = index
+        self._number = number
+
+    def __repr__(self) -> str:
+        return f"<rowanspan.View {self._number} of {self._index!r}>"
+
+    def __eq__(self, other: object) -> bool:
+        if not isinstance(other, View):
+            return NotImplemented
+        return self._index is other._index and self._number == other._number
+
+    def __hash__(self) -> int:
+        return hash((id(self._index), self._number))
+
+    @property
+    def index(self) -> RowMap:
+        """The index of which it is a view."""
+        return self._index
+
+    @property
+    def number(self) -> ViewNo:
+        """Its number, by which other clients of the same server can read it: `index.view(number)`."""
+        return self._number
+
+    def page(self, floor: int = 0, start: bytes = b"", limit: int = MAX_LIMIT) -> Page:
+        """Its count and sums, and its first rows from the key `start` on, 1 to 1000 of them at most, all at one commit.
+        `floor` is the number of commits that it has to show at least, such as that of a put of yours. If it doesn't
+        show them yet, raises `Behind`: ask again."""
+        return self._index._page(self._number, floor, start, limit)
+
+    @property
+    def at(self) -> int:
+        """The number of commits that it shows now."""
+        return self.page(limit=1).at
+
+    @property
+    def count(self) -> int:
+        """How many rows it has now."""
+        return self.page(limit=1).count
+
+    @property
+    def sums(self) -> Tuple[int, ...]:
+        """For each column the sum of its amounts now."""
+        return self.page(limit=1).sums
+
+    def rows(self, floor: int = 0, start: bytes = b"") -> RowPairs:
+        """Its rows from the key `start` on, page by page. Returns an iterator over pairs of a key and its row. Each
+        page of 1000 rows is exact at a commit of its own; changes may come between two pages."""
+        least, begin = checked_number(floor, "a floor"), checked_key(start)
+        return scanned(lambda key, count: self.page(least, key, count).rows, begin)
+
+    def __iter__(self) -> RowPairs:
+        return self.rows()
+
+    def drop(self) -> None:
+        """Ends it. Its number isn't used again."""
+        self._index._drop(self._number)
+
+    def __enter__(self) -> View:
+        return self
+
+    def __exit__(self, kind: Optional[Type[BaseException]], *_: object) -> None:
+        try:
+            self.drop()
+        except NoSuchView:
+            pass
+        except RowanspanError:
+            # if the block was left by an exception, that one is raised
+            if kind is None:
+                raise
+
+
+def number_of_view(index: RowMap, view: Union[View, int]) -> int:
+    """The number of a view that is given as an object or as its number. Raises `WrongIndex` for one of another index,
+    and TypeError for another type."""
+    if not isinstance(view, View):
+        return checked_view(view)
+    if view.index is not index:
+        raise WrongIndex(f"this is a view of another index: {view!r}")
+    return view.number
+
+
+def scanned(read: Callable[[bytes, int], Pairs], start: bytes, stop: Optional[bytes] = None,
+            limit: Optional[int] = None) -> RowPairs:
+    """The rows from a key on, before `stop`, at most `limit`, by a function that reads the first rows from a key on, up
+    to a count."""
     at: Optional[bytes] = start
-    limit = FIRST_ROWS if prefix else MAX_LIMIT
-    while at is not None:
-        pairs = read(at, limit)
+    size, rest = MAX_LIMIT if stop is None else FIRST_ROWS, limit
+    while at is not None and (stop is None or at < stop) and rest != 0:
+        count = size if rest is None else min(size, rest)
+        pairs = read(at, count)
         for key, row in pairs:
-            if not key.startswith(prefix):
+            if stop is not None and key >= stop:
                 return
             yield key, row
-        at = key_after(pairs[-1][0]) if len(pairs) == limit else None
-        limit = min(4 * limit, MAX_LIMIT)
+        at = key_after(pairs[-1][0]) if len(pairs) == count else None
+        rest = None if rest is None else rest - len(pairs)
+        size = min(4 * size, MAX_LIMIT)

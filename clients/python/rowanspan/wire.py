@@ -31,7 +31,7 @@ def spelled_number(number: int, width: int, what: str = "a number") -> bytes:
 
 
 def spelled_key(key: bytes) -> bytes:
-    """A key: two bytes of length, then the key. Raises `KeyTooLong` where two bytes don't tell its length."""
+    """A key: two bytes of length, then the key. Raises `KeyTooLong` if its length doesn't fit two bytes."""
     checked = checked_bytes(key, "a key")
     if len(checked) >= 256 ** 2:
         raise KeyTooLong()
@@ -39,8 +39,8 @@ def spelled_key(key: bytes) -> bytes:
 
 
 def spelled_bytes(value: bytes) -> bytes:
-    """The bytes of a column: one byte of length, then the bytes. Raises `ColumnTooLong` where one byte doesn't tell how
-    many they are."""
+    """The bytes of a column: one byte of length, then the bytes. Raises `ColumnTooLong` if their length doesn't fit one
+    byte."""
     checked = checked_bytes(value, "a column")
     if len(checked) >= 256:
         raise ColumnTooLong()
@@ -166,7 +166,7 @@ class AnswerKind(enum.IntEnum):
         return self.ABSENT <= self <= self.BUILT
 
 
-# how an answer is read behind its first byte and its span, for each kind that a query may have
+# how an answer is read after its first byte and its span, for each kind that a query may have
 Answers = Mapping[AnswerKind, Callable[[Reader], Value]]
 
 
@@ -267,7 +267,7 @@ class Build(Query[ViewNo]):
 
 @dataclass(frozen=True)
 class ViewRead(Query[Page]):
-    """A page of a view that stands at `floor` commits at least."""
+    """A page of a view that is at `floor` commits at least."""
 
     answers: ClassVar[Answers[Page]] = {AnswerKind.VIEW: Reader.page}
     view: int
@@ -302,8 +302,8 @@ def spelled_query(query: Query[Any]) -> bytes:
 
 @dataclass(frozen=True)
 class Reply(Generic[Value]):
-    """What a query gave, and the numbers of commits when its call began and when it ended; both are None of a page,
-    which tells in `at` where its view stands, and of a drop."""
+    """The value of a query, and the numbers of commits when its call began and when it ended. Both numbers are None for
+    a page, whose `at` is its view's number of commits, and for a drop."""
 
     value: Value
     from_: Optional[int] = None
@@ -330,7 +330,7 @@ def request_frame(messages: Sequence[bytes], version: int = 1) -> bytes:
 
 
 def read_refusal(reader: Reader) -> Refused:
-    """A refusal, behind its first byte."""
+    """A refusal, after its first byte."""
     number, detail = reader.number(1), reader.number(8)
     kind = REFUSALS.get(number)
     if kind is None or (detail and not kind.has_detail):

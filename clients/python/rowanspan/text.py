@@ -10,9 +10,9 @@ import re
 from dataclasses import dataclass
 from typing import Any, Callable, Dict, List, Optional, Sequence, Tuple, TypeVar
 
-from rowanspan import (AnyRow, AtLeast, Build, Equals, Get, GetRange, Outcome, Page, Pairs, Prefix, Put, PutIf, Query,
-                       Range, Refused, Remove, Reply, Row, RowTest, Tidied, Tidy, ViewDrop, ViewRead, ViewSpec,
-                       set_pairs)
+from .core import (AnyRow, AtLeast, Equals, Page, Pairs, Prefix, Range, Refused, Row, RowTest, Tidied, ViewSpec,
+                   set_pairs)
+from .wire import Build, Get, GetRange, Outcome, Put, PutIf, Query, Remove, Reply, Tidy, ViewDrop, ViewRead
 
 BYTE, WORD, LONG = 2 ** 8 - 1, 2 ** 16 - 1, 2 ** 64 - 1
 TIDY_NAMES = {Tidied.NOTHING: "none", Tidied.EMPTY_BORDER: "a", Tidied.LONE_CHILD: "b", Tidied.LONE_ROOT_CHILD: "c",
@@ -66,7 +66,7 @@ def escaped(value: bytes) -> str:
 
 
 def write_text(value: bytes) -> str:
-    """UTF-8 where it can be read back: other bytes, and the signs that part words, as `\\xNN`."""
+    """UTF-8 for what can be read back; other bytes, and the signs that separate words, as `\\xNN`."""
     word = "".join(sign if sign.isprintable() and sign not in " \\,:" else
                    escaped(sign.encode("utf-8", "surrogateescape"))
                    for sign in value.decode("utf-8", "surrogateescape"))
@@ -290,7 +290,7 @@ def request_text(query: Query[Any]) -> str:
         return f"remove {HEX.write(query.key)}"
     if isinstance(query, GetRange):
         return f"range {HEX.write(query.start)} {query.limit} {columns_text(query.columns)}"
-    raise BadLine(f"{type(query).__name__} gives no receipt")
+    raise BadLine(f"{type(query).__name__} has no receipt")
 
 
 def receipt_line(query: Query[Any], reply: Reply[Any]) -> str:

@@ -1,0 +1,214 @@
+"""The shell `rowan`: one line of words, or the lines of standard input, over a server or an index of its own."""
+from __future__ import annotations
+
+import argparse
+import os
+import sys
+from typing import TYPE_CHECKING, Any, Callable, Iterable, List, Optional, Sequence
+
+from .client import Client
+from .core import BadReply, ConnectionLost, NoLibrary, Refused, TooLong
+from .places import version
+from .serving import NoServer, become_server
+from .text import HEX, TEXT, BadLine, Notation, outcome_line, read_query
+from .wire import (Build, Get, GetRange, Outcome, Put, PutIf, Query, Remove, Reply, Tidy, ViewDrop, ViewRead,
+                   spelled_query)
+
+if TYPE_CHECKING:
+    from .embedded import Index
+
+USES = """\
+rowan [-p PORT [--host HOST] [--timeout SECONDS] | --embedded [--columns N]] [--text] [WORD ..]
+       rowan serve [OPTION ..]
+       rowan --version"""
+
+LINES = """\
+`rowan serve` runs the server mtserve, with the options of mtserve (`rowan serve --help`).
+
+Lines, whose words are separated by one space, and their answers:
+  get KEY COLS                   done FROM TO row VERSION VALUES, or done FROM TO absent
+  put KEY SETS                   done FROM TO put COMMIT
+  putif KEY VERSION SETS         the same if the row is of this version (0: no row is there), else refused 16 VERSION
+  remove KEY                     done FROM TO removed COMMIT, or done FROM TO absent
+  range START LIMIT COLS         done FROM TO rows K, and K times KEY:VERSION:VALUES
+  tidy KEY                       done FROM TO tidied a, b, c, d or none
+  build range LO HI TEST         done FROM TO built VIEW (HI may be none)
+  build prefix KEY TEST          the same
+  view VIEW FLOOR START LIMIT    view AT COUNT SUMS K, and K rows as above
+  drop VIEW                      dropped
+
+KEY, START, LO, HI and BYTES are hex, - is empty; with --text they are text, in which \\xNN is any byte. COLS is all, or
+numbers of columns joined by commas. SETS is COL=BYTES joined by commas, or -. TEST is any, equals COL BYTES or atleast
+COL NUMBER. FROM and TO are the numbers of commits at the call's begin and end. A refusal is refused N, for some causes
+followed by a number. If a line can't be read, or doesn't fit the wire, the answer is bad line, and standard error says
+why: the line's number, the word, and what was expected.
+
+Status: 0; 1 if a line was bad; 2 for a bad command line; 3 if there is no connection, or it breaks, if the library or
+the server isn't there, or if standard input or output fails; 130 if it was interrupted.
+"""
+
+
+# ---- the command line
+
+def seconds(word: str) -> float:
+    """A time to wait."""
+    value = float(word)
+    if not 0 < value < float("inf"):
+        raise ValueError(word)
+    return value
+
+
+def parser() -> argparse.ArgumentParser:
+    made = argparse.ArgumentParser(
+        prog="rowan", usage=USES, description="Asks an index of Rowanspan, line by line.", epilog=LINES,
+        formatter_class=argparse.RawDescriptionHelpFormatter)
+    made.add_argument("-p", "--port", type=int, help="asks the server at this port")
+    made.add_argument("--host", help="the server's address (127.0.0.1)")
+    made.add_argument("--timeout", type=seconds, metavar="SECONDS",
+                      help="how long an answer of the server may take (without end)")
+    made.add_argument("--embedded", action="store_true",
+                      help="asks an index in this process, which is empty at first and ends with it")
+    made.add_argument("--columns", type=int, metavar="N", help="how many columns the index of this process has (1)")
+    made.add_argument("--text", action="store_true", help="keys and columns are text, not hex")
+    made.add_argument("--version", action="version", version=f"rowan {version()}")
+    made.add_argument("words", nargs=argparse.REMAINDER, metavar="WORD",
+                      help="one line; without it the lines of standard input are answered")
+    return made
+
+
+def parsed(words: Sequence[str]) -> argparse.Namespace:
+    """The options of a command line. If they don't fit each other, ends the program with status 2."""
+    made = parser()
+    options = made.parse_args(words)
+    if options.embedded == (options.port is not None):
+        made.error("one of -p PORT and --embedded is needed")
+    if options.embedded and (options.host is not None or options.timeout is not None):
+        made.error("--host and --timeout are for a server")
+    if options.columns is not None and not options.embedded:
+        made.error("--columns is for --embedded")
+    return options
+
+
+# ---- what is asked
+
+Ask = Callable[[Query[Any]], Outcome]
+
+
+def ask_embedded(index: Index, query: Query[Any]) -> Outcome:
+    """Asks an index in this process what a client asks a server. Raises `TooLong` for what doesn't fit the wire."""
+    spelled_query(query)
+    begin = index.commits()
+    try:
+        value = value_of(index, query)
+    except Refused as refusal:
+        return refusal
+    is_of_view = isinstance(query, (ViewRead, ViewDrop))
+    return Reply(value) if is_of_view else Reply(value, begin, index.commits())
+
+
+def value_of(index: Index, query: Query[Any]) -> Any:
+    """What an index in this process returns for a query."""
+    if isinstance(query, Get):
+        return index.get(query.key, None, query.columns)
+    if isinstance(query, Put):
+        return index.put(query.key, query.sets)
+    if isinstance(query, PutIf):
+        return index.put_if(query.key, query.sets, query.version)
+    if isinstance(query, Remove):
+        return index.remove(query.key)
+    if isinstance(query, GetRange):
+        return index.first(query.start, query.limit, query.columns)
+    if isinstance(query, Tidy):
+        return index.tidy(query.key)
+    if isinstance(query, Build):
+        return index.build(query.spec).number
+    if isinstance(query, ViewRead):
+        return index.view(query.view).page(query.floor, query.start, query.limit)
+    assert isinstance(query, ViewDrop)
+    return index.view(query.view).drop()
+
+
+# ---- lines
+
+def answer_all(ask: Ask, lines: Iterable[str], notation: Notation) -> int:
+    """Answers lines one by one; returns the status."""
+    status = 0
+    for number, line in enumerate(lines, 1):
+        try:
+            query = read_query(line, notation)
+            said = outcome_line(query, ask(query), notation)
+        except (BadLine, TooLong) as fault:
+            status, said = 1, "bad line"
+            complain(f"line {number}: {fault}")
+        write_line(said)
+    return status
+
+
+def complain(why: str) -> None:
+    """Writes a message to standard error. If that fails, there is nobody to inform."""
+    try:
+        os.write(2, f"rowan: {why}\n".encode("utf-8", "backslashreplace"))
+    except OSError:
+        pass
+
+
+def write_line(line: str) -> None:
+    """Writes a line to standard output at once, past the interpreter's own buffer, which would fail once more at its
+    end."""
+    rest = f"{line}\n".encode()
+    while rest:
+        rest = rest[os.write(1, rest):]
+
+
+def lines_of_input() -> Iterable[str]:
+    """The lines of standard input, without their line feeds."""
+    with open(0, "rb", closefd=False) as lines:
+        for line in lines:
+            yield line.decode("utf-8", "surrogateescape").rstrip("\n")
+
+
+# ---- the program
+
+def answer_by_index(options: argparse.Namespace, lines: Iterable[str], notation: Notation) -> int:
+    """Answers lines over an index in this process; returns the status."""
+    from .embedded import Index
+
+    columns = 1 if options.columns is None else options.columns
+    try:
+        index = Index(columns)
+    except TooLong as fault:
+        complain(f"--columns {columns}: {fault}")
+        return 2
+    with index:
+        return answer_all(lambda query: ask_embedded(index, query), lines, notation)
+
+
+def answer_by_server(options: argparse.Namespace, lines: Iterable[str], notation: Notation) -> int:
+    """Answers lines over a connection to a server; returns the status."""
+    with Client(options.port, options.host or "127.0.0.1", options.timeout) as index:
+        return answer_all(lambda query: index.call_all([query])[0], lines, notation)
+
+
+def main(arguments: Optional[Sequence[str]] = None) -> int:
+    """Runs the shell with these arguments, or those of the command line; returns the status."""
+    given = list(sys.argv[1:] if arguments is None else arguments)
+    try:
+        if given[:1] == ["serve"]:
+            become_server(given[1:])
+        options = parsed(given)
+        words: List[str] = options.words
+        lines = [" ".join(words)] if words else lines_of_input()
+        for stream in range(3):
+            # the connection would take the number of one that is closed
+            os.fstat(stream)
+        answer_by = answer_by_index if options.embedded else answer_by_server
+        return answer_by(options, lines, TEXT if options.text else HEX)
+    except (ConnectionLost, BadReply, NoLibrary, NoServer, OSError) as fault:
+        complain(str(fault))
+        return 3
+    except KeyboardInterrupt:
+        return 130
+
+
+if __name__ == "__main__":
+    sys.exit(main())

@@ -1,0 +1,212 @@
+"""Tests of the wheel, of what is installed from it, and of `rowan serve`. test_rowanspan.py runs them."""
+from __future__ import annotations
+
+import base64
+import csv
+import hashlib
+import importlib.util
+import os
+import signal
+import subprocess
+import sys
+import tempfile
+import unittest
+import zipfile
+from pathlib import Path
+from typing import Dict, List, Optional, Tuple
+
+import rowanspan
+
+HERE = Path(__file__).resolve().parent
+TOP = HERE.parents[1]
+VERSION = (TOP / "VERSION").read_text(encoding="ascii").strip()
+LIBRARY, MTSERVE = TOP / "dist" / "librowanspan.so", TOP / "crates" / "mtserve" / "out" / "mtserve"
+SECONDS = 300.0
+# says with which words it was run, and which signals it ignores
+STAND_IN = "#!/bin/sh\necho \"$@\"\ngrep SigIgn: /proc/self/status\n"
+# runs `rowan`, but no mode of a file can be set
+WITHOUT_CHMOD = ("import os, pathlib, sys\n"
+                 "def refused(*_, **__): raise PermissionError(1, 'refused')\n"
+                 "os.chmod = pathlib.Path.chmod = refused\n"
+                 "from rowanspan.shell import main\n"
+                 "sys.exit(main(sys.argv[1:]))\n")
+
+Ended = Tuple[int, str, str]
+
+
+def run(words: List[str], **environment: str) -> Ended:
+    """Runs a program; returns its status and what it wrote."""
+    known = {name: value for name, value in os.environ.items() if not name.startswith(("ROWANSPAN_", "PYTHON"))}
+    done = subprocess.run(words, env={**known, **environment}, stdin=subprocess.DEVNULL, capture_output=True, text=True,
+                          timeout=SECONDS, check=False, cwd="/")
+    return done.returncode, done.stdout, done.stderr
+
+
+class Folder(unittest.TestCase):
+    """Tests in a folder of their own, with files that stand for the library and the server."""
+
+    def setUp(self) -> None:
+        room = tempfile.TemporaryDirectory()
+        self.addCleanup(room.cleanup)
+        self.room = Path(room.name)
+        self.library = self.room / "librowanspan.so"
+        self.library.write_bytes(b"\x7fELF")
+        self.server = self.room / "mtserve"
+        self.server.write_text(STAND_IN)
+
+    def wheel(self, *words: str) -> Ended:
+        return run([sys.executable, str(TOP / "scripts" / "wheel"), "--library", str(self.library), "--mtserve",
+                    str(self.server), *words])
+
+    def made(self, folder: str = "out") -> Path:
+        """A wheel."""
+        status, output, errors = self.wheel("--out", str(self.room / folder))
+        self.assertEqual((status, errors), (0, ""))
+        return Path(output.strip())
+
+
+class WheelTest(Folder):
+    def test_what_is_in_it(self) -> None:
+        path = self.made()
+        self.assertRegex(path.name, f"^rowanspan-{VERSION}-py3-none-linux_[a-z0-9_]+\\.whl$")
+        with zipfile.ZipFile(path) as wheel:
+            self.assertIsNone(wheel.testzip())
+            names = wheel.namelist()
+            packed = {name: wheel.read(name) for name in names}
+            modes = {info.filename: info.external_attr >> 16 for info in wheel.infolist()}
+        sources = {f"rowanspan/{file.name}" for file in (HERE / "rowanspan").glob("*.py")}
+        info = f"rowanspan-{VERSION}.dist-info"
+        self.assertEqual(set(names), sources | {
+            "rowanspan/py.typed", "rowanspan/librowanspan.so", "rowanspan/bin/mtserve", f"{info}/METADATA",
+            f"{info}/WHEEL", f"{info}/RECORD", f"{info}/entry_points.txt"})
+        self.assertEqual(packed["rowanspan/core.py"], (HERE / "rowanspan" / "core.py").read_bytes())
+        self.assertEqual(packed["rowanspan/librowanspan.so"], b"\x7fELF")
+        self.assertEqual({modes["rowanspan/bin/mtserve"], modes["rowanspan/core.py"]}, {0o100755, 0o100644})
+        self.assertIn(f"\nVersion: {VERSION}\n".encode(), packed[f"{info}/METADATA"])
+        self.assertIn(b"\nRequires-Python: >=3.9\n", packed[f"{info}/METADATA"])
+        self.assertIn(f"\nTag: {path.stem.split('-', 2)[2]}\n".encode(), packed[f"{info}/WHEEL"])
+        self.assertEqual(packed[f"{info}/entry_points.txt"], b"[console_scripts]\nrowan = rowanspan.shell:main\n")
+        self.check_record(packed, f"{info}/RECORD")
+
+    def check_record(self, packed: Dict[str, bytes], record: str) -> None:
+        """The record has each file once, with its hash and its size, and itself without."""
+        lines = list(csv.reader(packed[record].decode().splitlines()))
+        self.assertEqual(sorted(name for name, _, _ in lines), sorted(packed))
+        for name, digest, size in lines:
+            hashed = hashlib.sha256(packed[name]).digest()
+            wanted = "sha256=" + base64.urlsafe_b64encode(hashed).decode().rstrip("=")
+            self.assertEqual((digest, size), ("", "") if name == record else (wanted, str(len(packed[name]))))
+
+    def test_two_are_the_same(self) -> None:
+        first = self.made("one").read_bytes()
+        os.utime(self.library, (1, 1))
+        self.server.chmod(0o700)
+        self.assertEqual(self.made("two").read_bytes(), first)
+
+    def test_what_is_missing(self) -> None:
+        for file in (self.library, self.server):
+            before = file.read_bytes()
+            file.unlink()
+            status, output, errors = self.wheel("--out", str(self.room))
+            self.assertEqual((status, output, errors), (1, "", f"wheel: {file} is missing: ./build makes it\n"))
+            file.write_bytes(before)
+        self.assertEqual(list(self.room.glob("*.whl")), [])
+
+    def test_bad_command_lines(self) -> None:
+        (self.room / "file").write_text("")
+        status, output, errors = self.wheel("--out", str(self.room / "file"))
+        self.assertEqual((status, output, errors.count("\n")), (1, "", 1))
+        self.assertEqual(self.wheel("--nonsense")[0], 2)
+
+
+class InstalledTest(Folder):
+    def install(self) -> Path:
+        """Installs the wheel, in an environment of its own; returns the package's folder."""
+        if importlib.util.find_spec("venv") is None or importlib.util.find_spec("ensurepip") is None:
+            self.skipTest("Debian package python3-venv is missing")
+        status, _, errors = run([sys.executable, "-m", "venv", str(self.room / "venv")])
+        self.assertEqual(status, 0, errors)
+        self.python, self.rowan = (str(self.room / "venv" / "bin" / name) for name in ("python3", "rowan"))
+        status, _, errors = run([self.python, "-m", "pip", "install", "--no-index", "--no-deps",
+                                 "--disable-pip-version-check", str(self.made())])
+        self.assertEqual(status, 0, errors)
+        code = "import rowanspan; print(rowanspan.__file__, rowanspan.__version__)"
+        status, output, _ = run([self.python, "-c", code])
+        file, version = output.split()
+        self.assertEqual((status, version), (0, VERSION))
+        self.assertIn("site-packages", file)
+        return Path(file).parent
+
+    def test_an_installed_package(self) -> None:
+        package = self.install()
+        self.assertTrue((package / "py.typed").exists())
+        self.assertEqual(run([self.rowan, "--version"]), (0, f"rowan {VERSION}\n", ""))
+        status, output, errors = run([self.rowan, "--help"])
+        self.assertEqual((status, errors), (0, ""))
+        self.assertIn("rowan serve", output)
+        self.assertEqual(run([self.rowan, "serve", "--port", "7"])[:2], (0, "--port 7\nSigIgn:\t0000000000000000\n"))
+        # an installer that drops the mode
+        (package / "bin" / "mtserve").chmod(0o644)
+        self.assertEqual(run([self.rowan, "serve", "a b"])[:2], (0, "a b\nSigIgn:\t0000000000000000\n"))
+        # which isn't allowed to be set again
+        (package / "bin" / "mtserve").chmod(0o644)
+        status, output, errors = run([self.python, "-c", WITHOUT_CHMOD, "serve", "x"])
+        self.assertEqual((status, output.split("\n")[0], errors), (0, "x", ""))
+        self.assertFalse(os.access(package / "bin" / "mtserve", os.X_OK))
+        # the library of the package's own folder is the first that is tried
+        status, output, errors = run([self.rowan, "--embedded", "get", "61", "all"])
+        self.assertEqual((status, output, errors.count("\n")), (3, "", 1))
+        self.assertIn(str(package / "librowanspan.so"), errors)
+
+    def test_the_built_files(self) -> None:
+        missing = [str(file) for file in (LIBRARY, MTSERVE) if not file.exists()]
+        if missing:
+            self.skipTest(f"not built: {', '.join(missing)}")
+        self.library, self.server = LIBRARY, MTSERVE
+        self.install()
+        self.assertEqual(run([self.rowan, "--embedded", "put", "61", "0=76"]), (0, "done 0 1 put 1\n", ""))
+        self.assertEqual(run([self.rowan, "serve", "--sessions", "0"])[:2], (0, "events 0 commits 0\n"))
+
+
+class ServeTest(Folder):
+    def serve(self, named: Optional[Path], *options: str) -> Ended:
+        environment = {} if named is None else {"ROWANSPAN_MTSERVE": str(named)}
+        return run([sys.executable, str(HERE / "rowan"), "serve", *options], **environment)
+
+    def test_the_named_server(self) -> None:
+        self.assertEqual(self.serve(self.server, "--port", "70", "--forever")[1].split("\n")[0], "--port 70 --forever")
+        self.assertEqual(self.serve(self.server, "--help")[1].split("\n")[0], "--help")
+        self.server.write_text("#!/bin/sh\nexit 7\n")
+        self.assertEqual(self.serve(self.server), (7, "", ""))
+
+    def test_no_server(self) -> None:
+        missing = self.room / "none"
+        self.assertEqual(self.serve(missing), (3, "", f"rowan: there is no server at {missing}\n"))
+        self.server.write_bytes(b"no program")
+        status, output, errors = self.serve(self.server)
+        self.assertEqual((status, output, errors.count("\n")), (3, "", 1))
+        self.assertIn(f"{self.server} can't be run", errors)
+
+    def test_signals(self) -> None:
+        self.assertEqual(signal.getsignal(signal.SIGPIPE), signal.SIG_IGN)
+        self.assertEqual(self.serve(self.server)[1].split("\n")[1], "SigIgn:\t0000000000000000")
+
+
+class VersionTest(unittest.TestCase):
+    def test_the_version_of_the_checkout(self) -> None:
+        self.assertEqual(rowanspan.__version__, VERSION)
+        self.assertEqual(run([sys.executable, str(HERE / "rowan"), "--version"]), (0, f"rowan {VERSION}\n", ""))
+        with self.assertRaises(AttributeError):
+            rowanspan.no_such_name  # type: ignore[attr-defined]
+
+    def test_a_copy(self) -> None:
+        with tempfile.TemporaryDirectory() as room:
+            (Path(room) / "rowanspan").mkdir()
+            for file in (HERE / "rowanspan").glob("*.py"):
+                (Path(room) / "rowanspan" / file.name).write_bytes(file.read_bytes())
+            code = ("import sys; sys.path.insert(0, sys.argv[1]); import rowanspan, rowanspan.embedded as embedded\n"
+                    "print(rowanspan.__version__)\n"
+                    "try: embedded.Index()\n"
+                    "except embedded.NoLibrary as fault: print(fault)\n")
+            wanted = f"unknown\nthere is no library at {Path(room).resolve()}/rowanspan/librowanspan.so\n"
+            self.assertEqual(run([sys.executable, "-c", code, room]), (0, wanted, ""))
