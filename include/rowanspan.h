@@ -2,18 +2,22 @@
  *
  * Link with librowanspan.a or librowanspan.so. C99, C11 and C++ can include it.
  *
- *     struct rowanspan index = ROWANSPAN_NONE;
+ *     rowanspan *index;
  *     uint64_t told;
- *     rowanspan_open(&index, 1, 4096, 0);
- *     struct rowanspan_set set = rowanspan_set(0, "red", 3);
- *     rowanspan_put(&index, "apple", 5, &set, 1, &told);    // told: the number of the commit
- *     rowanspan_close(&index);
+ *     rowanspan_status status = rowanspan_open(&index, 1, 4096, 0);
+ *     if (status != ROWANSPAN_OK) {
+ *         fprintf(stderr, "%s\n", rowanspan_status_text(status));
+ *         return 1;
+ *     }
+ *     struct rowanspan_set red = rowanspan_set(0, "red", 3);
+ *     status = rowanspan_put(index, "apple", 5, &red, 1, &told);    // told: the number of the commit
+ *     rowanspan_close(index);
  *
  * PROOFS
- *     What is proved is what the exported symbols do, each by its contract in crates/rowanspan_c/src/exports.rt: those
- *     named rowanspan_raw_*, and rowanspan_open, _close, _apply, _drop, _advance, _collect, _commits, _nodes and
- *     _columns. The inline functions of this header are only tested: those that call a raw function, as rowanspan_put
- *     calls rowanspan_raw_put, and all others.
+ *     The functions are thin: each passes its arguments to a function inside the library, of which it is proved what
+ *     it does, by its contract in crates/rowanspan_c/src/exports.rt. (rowanspan_open also allocates what the pointer
+ *     points to, and rowanspan_keep_views repeats rowanspan_apply.) The thin functions, which are in bindings/c, and
+ *     the inline functions of this header are only tested.
  *
  * ORDER OF REFUSALS
  *     Limits are answered before memory. A call that breaks a limit of its keys, its columns, its test, its range or
@@ -21,32 +25,34 @@
  *     its log (ROWANSPAN_NO_SUCH_VIEW, ROWANSPAN_BEHIND). Such a call never answers ROWANSPAN_NO_MEMORY.
  *
  * HANDLES
- *     A struct rowanspan is a handle: it holds one index, or none. The caller initializes it with ROWANSPAN_NONE (all
- *     bytes 0), and from then on must not read, write or copy its members: if two copies of a handle are used, memory
- *     is freed twice. The library owns the index from rowanspan_open to rowanspan_close.
+ *     A caller holds an index by a pointer to a `rowanspan`, of which it sees nothing else. rowanspan_open makes the
+ *     index, and rowanspan_close ends it: the pointer must not be used after that. Only rowanspan_close takes a null
+ *     pointer to an index.
  *
  * THREADS
- *     A handle may be moved to another thread, also while it holds an index: it is proved that what it holds may be used
- *     there. A handle is for one call at a time, also if both calls only read. If threads share a handle, the caller
- *     orders their calls by a lock, by the start or the join of a thread, or by a sequentially consistent atomic. Calls
- *     on different handles may be made at once.
+ *     An index may be made by one thread, and used and closed by another: it is proved that what it holds may be moved.
+ *     An index is for one call at a time, also if both calls only read. If threads share an index, the caller orders
+ *     their calls by a lock, by the start or the join of a thread, or by a sequentially consistent atomic. Calls on
+ *     different indexes may be made at once. A `const rowanspan *` says that a call changes no row, no commit and no
+ *     view. It doesn't say that two such calls may be made at once.
  *
  * STATUSES
- *     Each call returns a status. ROWANSPAN_DONE, which is 0, means that the call was done. A status from 1 to 16 means
+ *     Each call returns a status. ROWANSPAN_OK, which is 0, means that the call was done. A status from 1 to 16 means
  *     that the call was refused: it has changed no row, no commit and no view, and the index can still be used. The
  *     statuses from 100 on are described with their constants. The comments below leave out the prefix ROWANSPAN_.
  *
  * TOLD
  *     Most calls have a last parameter `told`, and always write a number to *told. The comment of a call says what the
- *     number is if the status is DONE. If the status is FEED_FULL, BEHIND or OTHER_VERSION, it is the number of a
- *     commit, and if it is NO_ROOM, a number of bytes. For all other statuses it is 0.
+ *     number is if the status is OK. If the status is FEED_FULL, BEHIND or OTHER_VERSION, it is the number of a commit,
+ *     and if it is NO_ROOM, a number of bytes. For all other statuses it is 0.
  *
  * BUFFERS
  *     A call whose answer is bytes writes them to the start of the buffer `into`, which the caller owns and which has
  *     `room` bytes, and sets *told to the length of the answer. If the answer doesn't fit, the call writes nothing to
  *     the buffer and returns NO_ROOM, with *told the length that is needed: call again with as much room. A call never
  *     writes more than the answer. struct rowanspan_reader, at the end of this file, reads answers. A buffer must not
- *     overlap any other argument.
+ *     overlap any other argument. A pointer to bytes, columns or sets may be null if their number is 0, and `into` may
+ *     be null: there is then no room.
  *
  * LIMITS
  *     A key has up to 1,024 bytes (ROWANSPAN_MAX_KEY_BYTES). Keys are ordered by their bytes, and a key comes before
@@ -59,8 +65,8 @@
  *     have to align blocks as ISO C requires. No call may be made in a signal handler, or in the forked child of a
  *     process with threads.
  *
- * What each call does is proved of the library's source code. It isn't proved that a caller in C meets the conditions
- * that are stated here, nor what a compiler makes of the header. See docs/EMBEDDING.md. */
+ * It isn't proved that a caller in C meets the conditions that are stated here, nor what a compiler makes of the header
+ * and of bindings/c. See docs/EMBEDDING.md. */
 #ifndef ROWANSPAN_H
 #define ROWANSPAN_H
 
@@ -68,20 +74,24 @@
 #include <stddef.h>
 #include <stdint.h>
 
-#ifdef __cplusplus
-extern "C" {
-#endif
+/* The version of this header. It is written in one place, the file VERSION of the repository: scripts/build_library
+ * fills it in here when it writes dist/rowanspan.h. */
+#define ROWANSPAN_VERSION "@VERSION@"
 
 /* The most bytes of a key. */
 #define ROWANSPAN_MAX_KEY_BYTES 1024
 
+#ifdef __cplusplus
+extern "C" {
+#endif
+
 /* ---- statuses */
 
-enum {
-    ROWANSPAN_DONE = 0,
+typedef enum rowanspan_status {
+    ROWANSPAN_OK = 0,
     ROWANSPAN_NO_MEMORY = 1,        /* an allocation was refused */
     ROWANSPAN_KEY_TOO_LONG = 2,     /* a key has more than ROWANSPAN_MAX_KEY_BYTES bytes */
-    ROWANSPAN_BAD_COLUMN = 3,       /* a column doesn't exist, or is named twice; or not 1 to 16 were asked for */
+    ROWANSPAN_BAD_COLUMN = 3,       /* a column doesn't exist, or is named twice; or an index of not 1 to 16 columns */
     ROWANSPAN_COLUMN_TOO_LONG = 4,  /* a column has more than 64 bytes */
     ROWANSPAN_BAD_LIMIT = 5,        /* a limit is not from 1 to 1000, or feed not from 1 to 65536, or keep over 65536 */
     ROWANSPAN_ARENA_FULL = 6,       /* no number of a node is free */
@@ -93,13 +103,11 @@ enum {
     ROWANSPAN_BAD_RANGE = 13,       /* the range of a view ends before it begins */
     ROWANSPAN_SPENT = 14,           /* a number is at its greatest value, 2^64 - 1 */
     ROWANSPAN_OTHER_VERSION = 16,   /* the key's row is of version *told, not of the one asked; 0: there is no row */
-    ROWANSPAN_CLOSED = 100,         /* the handle holds no index */
-    ROWANSPAN_HELD = 101,           /* the handle holds an index already */
     ROWANSPAN_ABSENT = 102,         /* the key has no row */
     ROWANSPAN_NO_ROOM = 103,        /* the answer has *told bytes, and the buffer is smaller */
-    ROWANSPAN_CURRENT = 104,        /* there was nothing to do: no view is behind */
+    ROWANSPAN_CURRENT = 104,        /* there was nothing to apply: no view is behind */
     ROWANSPAN_NO_SUCH_TEST = 105    /* no test of rows is of this kind */
-};
+} rowanspan_status;
 
 /* What rowanspan_tidy has done, as it reports in *told. */
 enum {
@@ -110,16 +118,16 @@ enum {
     ROWANSPAN_TIDIED_EMPTY_LAYER = 4
 };
 
+/* rowanspan_status_text: one sentence about a status, also about a number that is none. It is never freed. */
+const char *rowanspan_status_text(rowanspan_status status);
+
+/* rowanspan_version: the version of the library that is loaded, as ROWANSPAN_VERSION is that of the header. */
+const char *rowanspan_version(void);
+
 /* ---- arguments */
 
-/* A handle: it holds one index, or none. */
-struct rowanspan {
-    void *at;
-    bool is_open;
-};
-
-/* A handle that holds no index. */
-#define ROWANSPAN_NONE {0, 0}
+/* An index. */
+typedef struct rowanspan rowanspan;
 
 /* New bytes for a column. Make it with rowanspan_set: `at` must not be null. */
 struct rowanspan_set {
@@ -138,67 +146,159 @@ struct rowanspan_test {
     size_t length;
 };
 
-/* ---- the handle */
+/* ---- the index */
 
-/* rowanspan_open: opens an empty index whose rows have `columns` columns (1 to 16), and lets the handle hold it. The
- * index's log holds up to `feed` commits (1 to 65536) for the view that is furthest behind, and keeps the last `keep`
- * commits (up to 65536) for callers of rowanspan_feed. The caller has to close the handle with rowanspan_close.
+/* rowanspan_open: opens an empty index whose rows have `columns` columns (1 to 16), and sets *index to it. The index's
+ * log holds up to `feed` commits (1 to 65536) for the view that is furthest behind, and keeps the last `keep` commits
+ * (up to 65536) for callers of rowanspan_feed. The caller has to close the index with rowanspan_close.
  *
  * Cost: a few allocations.
  *
- * Returns DONE. Returns HELD if the handle holds an index already, which is left as it is. Returns BAD_COLUMN,
- * BAD_LIMIT or NO_MEMORY if no index can be opened so; the handle then holds none. */
-uint16_t rowanspan_open(struct rowanspan *handle, uint64_t columns, uint64_t feed, uint64_t keep);
+ * Returns OK. Fails with BAD_COLUMN, BAD_LIMIT or NO_MEMORY; *index is then null. */
+rowanspan_status rowanspan_open(rowanspan **index, uint64_t columns, uint64_t feed, uint64_t keep);
 
-/* rowanspan_close: closes the index and frees its memory. The handle then holds none, and may be opened again.
+/* rowanspan_close: closes an index and frees its memory. It does nothing if `index` is null.
  *
- * Cost: a visit of each node, row, delta and view.
+ * Cost: a visit of each node, row, delta and view. */
+void rowanspan_close(rowanspan *index);
+
+/* ---- rows */
+
+/* rowanspan_put: sets `count` columns of a key's row. The row's other columns stay as they were; those of a new row are
+ * empty. A put with no sets makes a commit too. *told is the number of the commit: commits are numbered from 1 on.
  *
- * Returns DONE. Returns CLOSED if the handle holds no index: a second close does nothing. */
-uint16_t rowanspan_close(struct rowanspan *handle);
+ * Cost: a visit of each node on the way to the key (among 100,000 keys, six), the split of each that is full, and
+ * memory for the key and the columns, which are copied. The tree has one more layer for each eight bytes at the start
+ * of the key that another key has too, if both are longer: seven visits if the put makes the layer, else two.
+ *
+ * Returns OK. Fails with KEY_TOO_LONG, BAD_COLUMN, COLUMN_TOO_LONG, FEED_FULL, ARENA_FULL, SPENT or NO_MEMORY; the row
+ * is then as it was. */
+rowanspan_status rowanspan_put(rowanspan *index, const void *key, size_t key_length, const struct rowanspan_set *sets,
+                               size_t count, uint64_t *told);
 
-/* ---- the library's own symbols, which must not be passed a null pointer: call the functions of the same names without
- * raw_ instead, which are below */
+/* rowanspan_put_if: a rowanspan_put that is done only if the key's row is of this version, or if `version` is 0 and the
+ * key has no row. So a caller that has read a row changes it only if no other put has changed it since.
+ *
+ * Cost: that of a put.
+ *
+ * Returns OK. Returns OTHER_VERSION if the row is of another version; nothing changes, and *told is the row's version,
+ * or 0 if there is no row. Fails as rowanspan_put does. */
+rowanspan_status rowanspan_put_if(rowanspan *index, const void *key, size_t key_length,
+                                  const struct rowanspan_set *sets, size_t count, uint64_t version, uint64_t *told);
 
-uint16_t rowanspan_raw_put(struct rowanspan *handle, const uint8_t *key, size_t key_length,
-                           const struct rowanspan_set *sets, size_t count, uint64_t *told);
-uint16_t rowanspan_raw_put_if(struct rowanspan *handle, const uint8_t *key, size_t key_length,
-                              const struct rowanspan_set *sets, size_t count, uint64_t version, uint64_t *told);
-uint16_t rowanspan_raw_remove(struct rowanspan *handle, const uint8_t *key, size_t key_length, uint64_t *told);
-uint16_t rowanspan_raw_tidy(struct rowanspan *handle, const uint8_t *key, size_t key_length, uint64_t *told);
-uint16_t rowanspan_raw_get(struct rowanspan *handle, const uint8_t *key, size_t key_length, const uint8_t *columns,
-                           size_t column_count, uint8_t *into, size_t room, uint64_t *told);
-uint16_t rowanspan_raw_range(struct rowanspan *handle, const uint8_t *start, size_t start_length, uint16_t limit,
-                             const uint8_t *columns, size_t column_count, uint8_t *into, size_t room,
-                             uint64_t *told);
-uint16_t rowanspan_raw_build_prefix(struct rowanspan *handle, const uint8_t *prefix, size_t prefix_length,
-                                    const struct rowanspan_test *test, uint64_t *told);
-uint16_t rowanspan_raw_build_from(struct rowanspan *handle, const uint8_t *lo, size_t lo_length,
-                                  const struct rowanspan_test *test, uint64_t *told);
-uint16_t rowanspan_raw_build_between(struct rowanspan *handle, const uint8_t *lo, size_t lo_length, const uint8_t *hi,
-                                     size_t hi_length, const struct rowanspan_test *test, uint64_t *told);
-uint16_t rowanspan_raw_view(struct rowanspan *handle, uint64_t view, uint64_t floor, const uint8_t *start,
-                            size_t start_length, uint16_t limit, uint8_t *into, size_t room, uint64_t *told);
-uint16_t rowanspan_raw_feed(struct rowanspan *handle, uint64_t from, uint16_t limit, uint8_t *into, size_t room,
-                            uint64_t *told);
+/* rowanspan_remove: removes a key's row. *told is the number of the commit.
+ *
+ * Cost: a visit of each node on the way to the key.
+ *
+ * Returns OK. Returns ABSENT if the key has no row; nothing changes, and there is no commit. Fails with KEY_TOO_LONG,
+ * FEED_FULL, SPENT or NO_MEMORY; the row is then as it was. */
+rowanspan_status rowanspan_remove(rowanspan *index, const void *key, size_t key_length, uint64_t *told);
 
-/* ---- views, nodes and numbers */
+/* rowanspan_tidy: takes at most one node out of the tree near the place of a key, if removes have left one that isn't
+ * needed. It changes no row. *told is what it has done (ROWANSPAN_TIDIED_). rowanspan_collect frees what was taken out.
+ *
+ * Cost: a visit of each node on the way to the key.
+ *
+ * Returns OK, also if there was nothing to do. Fails with KEY_TOO_LONG, SPENT or NO_MEMORY. */
+rowanspan_status rowanspan_tidy(rowanspan *index, const void *key, size_t key_length, uint64_t *told);
+
+/* rowanspan_get: writes the row of a key to the buffer (rowanspan_read_row reads it), with the columns of these numbers
+ * in this order, or with all columns if `column_count` is 0. *told is the length of the answer in bytes.
+ *
+ * Cost: a visit of each node on the way to the key, and one copy of the columns, from the index into the buffer. It
+ * allocates for a copy of the key only, which is freed before the call returns, and not at all if the key is empty. A
+ * row with all its columns fits in 16 bytes, and 72 for each column.
+ *
+ * Returns OK. Returns ABSENT if the key has no row, and NO_ROOM if the answer doesn't fit. Fails with KEY_TOO_LONG,
+ * BAD_COLUMN or NO_MEMORY. Unless it returns OK the buffer is as it was. */
+rowanspan_status rowanspan_get(const rowanspan *index, const void *key, size_t key_length, const uint8_t *columns,
+                               size_t column_count, void *into, size_t room, uint64_t *told);
+
+/* rowanspan_range: writes the first rows from a key on to the buffer, in the order of their keys, at most `limit` (1 to
+ * 1000). The answer is read by rowanspan_read_count, and then for each row by rowanspan_read_bytes (its key) and
+ * rowanspan_read_row. The columns and *told are as of rowanspan_get.
+ *
+ * Cost: a visit of each border that it reads and of the nodes on the way there, and memory for the rows, which is freed
+ * before the call returns. After the last row of a layer it descends again from the top: two keys of n slices of eight
+ * bytes, of which only the last slices differ, cost n (n + 1) visits if the range continues after them.
+ *
+ * Returns OK, also if there are no rows. Returns NO_ROOM if the answer doesn't fit. Fails with KEY_TOO_LONG,
+ * BAD_COLUMN, BAD_LIMIT or NO_MEMORY. Unless it returns OK the buffer is as it was. */
+rowanspan_status rowanspan_range(const rowanspan *index, const void *start, size_t start_length, uint16_t limit,
+                                 const uint8_t *columns, size_t column_count, void *into, size_t room, uint64_t *told);
+
+/* ---- views, of keys
+ *
+ * A view holds the rows whose keys are in its range and that pass its test, with their count and, for each column, the
+ * sum of their amounts. It is at a number of commits, and shows exactly the rows after those. rowanspan_apply advances
+ * it. While views are behind, the log holds the commits that they still need: once it holds `feed` of them, a put or
+ * remove is refused with FEED_FULL. */
+
+/* rowanspan_build_prefix: builds a view of the keys that begin with `prefix`; if it is empty, of all keys.
+ * rowanspan_build_from: builds a view of the keys from `lo` on.
+ * rowanspan_build_between: builds a view of the keys from `lo` on that are before `hi`.
+ * Each view is at the newest commit, and *told is its number, from 1 on. rowanspan_drop ends it.
+ *
+ * Cost: that of a range over those keys, and memory for the view's rows, which share their bytes with the index.
+ *
+ * They return OK. They fail with NO_SUCH_TEST, KEY_TOO_LONG, BAD_COLUMN, COLUMN_TOO_LONG, BAD_RANGE, TOO_MANY_VIEWS,
+ * SPENT or NO_MEMORY; there is then no new view. */
+rowanspan_status rowanspan_build_prefix(rowanspan *index, const void *prefix, size_t prefix_length,
+                                        struct rowanspan_test test, uint64_t *told);
+rowanspan_status rowanspan_build_from(rowanspan *index, const void *lo, size_t lo_length, struct rowanspan_test test,
+                                      uint64_t *told);
+rowanspan_status rowanspan_build_between(rowanspan *index, const void *lo, size_t lo_length, const void *hi,
+                                         size_t hi_length, struct rowanspan_test test, uint64_t *told);
+
+/* rowanspan_view: writes what a view shows to the buffer, if the view is at commit `floor` or later. The answer is read
+ * by rowanspan_read_number (the commit at which it is), rowanspan_read_number (how many rows it has),
+ * rowanspan_read_count (of columns) with rowanspan_read_sum for each column, and then as that of rowanspan_range: the
+ * view's first rows from a key on, at most `limit` (1 to 1000). *told is the length of the answer in bytes.
+ *
+ * Cost: a descent of the tree of the view's rows, and memory for the rows that it returns, which is freed before the
+ * call returns.
+ *
+ * Returns OK. Returns NO_ROOM if the answer doesn't fit, and BEHIND if the view is at commit *told, before the floor.
+ * Fails with KEY_TOO_LONG, BAD_LIMIT, NO_SUCH_VIEW or NO_MEMORY. Unless it returns OK the buffer is as it was. */
+rowanspan_status rowanspan_view(const rowanspan *index, uint64_t view, uint64_t floor, const void *start,
+                                size_t start_length, uint16_t limit, void *into, size_t room, uint64_t *told);
 
 /* rowanspan_apply: applies the next commit to a view; if `view` is 0, to the view that is furthest behind. *told is the
  * number of the commit at which the view then is.
  *
  * Cost: a descent of the tree of the view's rows, and one of the tree of views.
  *
- * Returns DONE. Returns CURRENT if the view is at the newest commit, or if `view` is 0 and no view is behind. Fails
- * with CLOSED, NO_SUCH_VIEW or NO_MEMORY; the view is then as it was. */
-uint16_t rowanspan_apply(struct rowanspan *handle, uint64_t view, uint64_t *told);
+ * Returns OK. Returns CURRENT if the view is at the newest commit, or if `view` is 0 and no view is behind. Fails with
+ * NO_SUCH_VIEW or NO_MEMORY; the view is then as it was. */
+rowanspan_status rowanspan_apply(rowanspan *index, uint64_t view, uint64_t *told);
+
+/* rowanspan_keep_views: applies commits to the views that are behind, until all are at the newest commit. *told is how
+ * many times it applied a commit to a view.
+ *
+ * Returns OK, also if there was nothing to do. Fails with NO_MEMORY; the commits that were applied by then stay
+ * applied. */
+rowanspan_status rowanspan_keep_views(rowanspan *index, uint64_t *told);
 
 /* rowanspan_drop: ends a view and frees its memory. Its number isn't used again. *told is 0.
  *
  * Cost: the freeing of its rows.
  *
- * Returns DONE. Fails with CLOSED or NO_SUCH_VIEW. */
-uint16_t rowanspan_drop(struct rowanspan *handle, uint64_t view, uint64_t *told);
+ * Returns OK. Fails with NO_SUCH_VIEW. */
+rowanspan_status rowanspan_drop(rowanspan *index, uint64_t view, uint64_t *told);
+
+/* ---- commits, nodes and numbers */
+
+/* rowanspan_feed: writes what the commits after commit `from` did to the buffer, in their order, at most `limit` (1 to
+ * 1000) commits. The answer is read by rowanspan_read_count, and then by rowanspan_read_delta for each. *told is the
+ * length of the answer in bytes.
+ *
+ * Cost: memory for the deltas, which is freed before the call returns.
+ *
+ * Returns OK, also if there are no such commits. Returns NO_ROOM if the answer doesn't fit, and BEHIND if the log no
+ * longer has some of these commits: it has those after commit *told. Fails with BAD_LIMIT or NO_MEMORY. Unless it
+ * returns OK the buffer is as it was. */
+rowanspan_status rowanspan_feed(const rowanspan *index, uint64_t from, uint16_t limit, void *into, size_t room,
+                                uint64_t *told);
 
 /* rowanspan_advance: begins the next epoch; *told is its number.
  * rowanspan_collect: frees the nodes that rowanspan_tidy took out; *told is how many. It needs no advance before it,
@@ -206,18 +306,18 @@ uint16_t rowanspan_drop(struct rowanspan *handle, uint64_t view, uint64_t *told)
  *
  * Cost: of a collect, O(n) in the nodes that it frees.
  *
- * Both return DONE, and fail with CLOSED; an advance also fails with SPENT. */
-uint16_t rowanspan_advance(struct rowanspan *handle, uint64_t *told);
-uint16_t rowanspan_collect(struct rowanspan *handle, uint64_t *told);
+ * Both return OK; an advance fails with SPENT. */
+rowanspan_status rowanspan_advance(rowanspan *index, uint64_t *told);
+rowanspan_status rowanspan_collect(rowanspan *index, uint64_t *told);
 
 /* rowanspan_commits: *told is how many commits were made, which is the number of the last one.
- * rowanspan_nodes: *told is how many of the 1,048,576 numbers of nodes are in use.
+ * rowanspan_nodes: *told is how many nodes are in use, of at most 1,048,576 nodes.
  * rowanspan_columns: *told is how many columns a row has.
  *
- * They cost next to nothing. All return DONE, and fail with CLOSED. */
-uint16_t rowanspan_commits(struct rowanspan *handle, uint64_t *told);
-uint16_t rowanspan_nodes(struct rowanspan *handle, uint64_t *told);
-uint16_t rowanspan_columns(struct rowanspan *handle, uint64_t *told);
+ * They cost next to nothing. All return OK, and don't fail. */
+rowanspan_status rowanspan_commits(const rowanspan *index, uint64_t *told);
+rowanspan_status rowanspan_nodes(const rowanspan *index, uint64_t *told);
+rowanspan_status rowanspan_columns(const rowanspan *index, uint64_t *told);
 
 #ifdef __cplusplus
 }
@@ -271,174 +371,6 @@ static inline struct rowanspan_test rowanspan_at_least(uint8_t column, uint64_t 
     test.column = column;
     test.least = least;
     return test;
-}
-
-/* ---- rows
- *
- * In these calls a pointer may be null if its length is 0. */
-
-/* rowanspan_put: sets `count` columns of a key's row. The row's other columns stay as they were; those of a new row are
- * empty. A put with no sets makes a commit too. *told is the number of the commit: commits are numbered from 1 on.
- *
- * Cost: a visit of each node on the way to the key (among 100,000 keys, six), the split of each that is full, and
- * memory for the key and the columns, which are copied. The tree has one more layer for each eight bytes at the start
- * of the key that another key has too, if both are longer: seven visits if the put makes the layer, else two.
- *
- * Returns DONE. Fails with CLOSED, KEY_TOO_LONG, BAD_COLUMN, COLUMN_TOO_LONG, FEED_FULL, ARENA_FULL, SPENT or
- * NO_MEMORY; the row is then as it was. */
-static inline uint16_t rowanspan_put(struct rowanspan *handle, const void *key, size_t key_length,
-                                     const struct rowanspan_set *sets, size_t count, uint64_t *told) {
-    static const struct rowanspan_set none = {0, NULL, 0};
-    return rowanspan_raw_put(handle, rowanspan_bytes_at(key), key_length, sets ? sets : &none, count, told);
-}
-
-/* rowanspan_put_if: a rowanspan_put that is done only if the key's row is of this version, or if `version` is 0 and the
- * key has no row. So a caller that has read a row changes it only if no other put has changed it since.
- *
- * Cost: that of a put.
- *
- * Returns DONE. Returns OTHER_VERSION if the row is of another version; nothing changes, and *told is the row's
- * version, or 0 if there is no row. Fails as rowanspan_put does. */
-static inline uint16_t rowanspan_put_if(struct rowanspan *handle, const void *key, size_t key_length,
-                                        const struct rowanspan_set *sets, size_t count, uint64_t version,
-                                        uint64_t *told) {
-    static const struct rowanspan_set none = {0, NULL, 0};
-    return rowanspan_raw_put_if(handle, rowanspan_bytes_at(key), key_length, sets ? sets : &none, count, version, told);
-}
-
-/* rowanspan_remove: removes a key's row. *told is the number of the commit.
- *
- * Cost: a visit of each node on the way to the key.
- *
- * Returns DONE. Returns ABSENT if the key has no row; nothing changes, and there is no commit. Fails with CLOSED,
- * KEY_TOO_LONG, FEED_FULL, SPENT or NO_MEMORY; the row is then as it was. */
-static inline uint16_t rowanspan_remove(struct rowanspan *handle, const void *key, size_t key_length,
-                                        uint64_t *told) {
-    return rowanspan_raw_remove(handle, rowanspan_bytes_at(key), key_length, told);
-}
-
-/* rowanspan_tidy: takes at most one node out of the tree near the place of a key, if removes have left one that isn't
- * needed. It changes no row. *told is what it has done (ROWANSPAN_TIDIED_). rowanspan_collect frees what was taken out.
- *
- * Cost: a visit of each node on the way to the key.
- *
- * Returns DONE, also if there was nothing to do. Fails with CLOSED, KEY_TOO_LONG, SPENT or NO_MEMORY. */
-static inline uint16_t rowanspan_tidy(struct rowanspan *handle, const void *key, size_t key_length, uint64_t *told) {
-    return rowanspan_raw_tidy(handle, rowanspan_bytes_at(key), key_length, told);
-}
-
-/* rowanspan_get: writes the row of a key to the buffer (rowanspan_read_row reads it), with the columns of these numbers
- * in this order, or with all columns if `column_count` is 0. *told is the length of the answer in bytes.
- *
- * Cost: a visit of each node on the way to the key, and one copy of the columns, from the index into the buffer. It
- * allocates for a copy of the key only, which is freed before the call returns, and not at all if the key is empty. A row
- * with all its columns fits in 16 bytes, and 72 for each column.
- *
- * Returns DONE. Returns ABSENT if the key has no row, and NO_ROOM if the answer doesn't fit. Fails with CLOSED,
- * KEY_TOO_LONG, BAD_COLUMN or NO_MEMORY. Unless it returns DONE the buffer is as it was. */
-static inline uint16_t rowanspan_get(struct rowanspan *handle, const void *key, size_t key_length,
-                                     const uint8_t *columns, size_t column_count, void *into, size_t room,
-                                     uint64_t *told) {
-    uint8_t none[1] = {0};
-    return rowanspan_raw_get(handle, rowanspan_bytes_at(key), key_length, rowanspan_bytes_at(columns), column_count,
-                             into ? (uint8_t *)into : none, into ? room : 0, told);
-}
-
-/* rowanspan_range: writes the first rows from a key on to the buffer, in the order of their keys, at most `limit` (1 to
- * 1000). The answer is read by rowanspan_read_count, and then for each row by rowanspan_read_bytes (its key) and
- * rowanspan_read_row. The columns and *told are as of rowanspan_get.
- *
- * Cost: a visit of each border that it reads and of the nodes on the way there, and memory for the rows, which is freed
- * before the call returns. After the last row of a layer it descends again from the top: two keys of n slices of eight
- * bytes, of which only the last slices differ, cost n (n + 1) visits if the range continues after them.
- *
- * Returns DONE, also if there are no rows. Returns NO_ROOM if the answer doesn't fit. Fails with CLOSED, KEY_TOO_LONG,
- * BAD_COLUMN, BAD_LIMIT or NO_MEMORY. Unless it returns DONE the buffer is as it was. */
-static inline uint16_t rowanspan_range(struct rowanspan *handle, const void *start, size_t start_length, uint16_t limit,
-                                       const uint8_t *columns, size_t column_count, void *into, size_t room,
-                                       uint64_t *told) {
-    uint8_t none[1] = {0};
-    return rowanspan_raw_range(handle, rowanspan_bytes_at(start), start_length, limit, rowanspan_bytes_at(columns),
-                               column_count, into ? (uint8_t *)into : none, into ? room : 0, told);
-}
-
-/* ---- views, of keys
- *
- * A view holds the rows whose keys are in its range and that pass its test, with their count and, for each column, the
- * sum of their amounts. It is at a number of commits, and shows exactly the rows after those. rowanspan_apply advances
- * it. While views are behind, the log holds the commits that they still need: once it holds `feed` of them, a put or
- * remove is refused with FEED_FULL. */
-
-/* rowanspan_build_prefix: builds a view of the keys that begin with `prefix`; if it is empty, of all keys.
- * rowanspan_build_from: builds a view of the keys from `lo` on.
- * rowanspan_build_between: builds a view of the keys from `lo` on that are before `hi`.
- * Each view is at the newest commit, and *told is its number, from 1 on. rowanspan_drop ends it.
- *
- * Cost: that of a range over those keys, and memory for the view's rows, which share their bytes with the index.
- *
- * They return DONE. They fail with NO_SUCH_TEST, CLOSED, KEY_TOO_LONG, BAD_COLUMN, COLUMN_TOO_LONG, BAD_RANGE,
- * TOO_MANY_VIEWS, SPENT or NO_MEMORY; there is then no new view. */
-static inline uint16_t rowanspan_build_prefix(struct rowanspan *handle, const void *prefix, size_t prefix_length,
-                                              struct rowanspan_test test, uint64_t *told) {
-    return rowanspan_raw_build_prefix(handle, rowanspan_bytes_at(prefix), prefix_length, &test, told);
-}
-
-static inline uint16_t rowanspan_build_from(struct rowanspan *handle, const void *lo, size_t lo_length,
-                                            struct rowanspan_test test, uint64_t *told) {
-    return rowanspan_raw_build_from(handle, rowanspan_bytes_at(lo), lo_length, &test, told);
-}
-
-static inline uint16_t rowanspan_build_between(struct rowanspan *handle, const void *lo, size_t lo_length,
-                                               const void *hi, size_t hi_length, struct rowanspan_test test,
-                                               uint64_t *told) {
-    return rowanspan_raw_build_between(handle, rowanspan_bytes_at(lo), lo_length, rowanspan_bytes_at(hi), hi_length,
-                                       &test, told);
-}
-
-/* rowanspan_view: writes what a view shows to the buffer, if the view is at commit `floor` or later. The answer is read
- * by rowanspan_read_number (the commit at which it is), rowanspan_read_number (how many rows it has),
- * rowanspan_read_count (of columns) with rowanspan_read_sum for each column, and then as that of rowanspan_range: the
- * view's first rows from a key on, at most `limit` (1 to 1000). *told is the length of the answer in bytes.
- *
- * Cost: a descent of the tree of the view's rows, and memory for the rows that it returns, which is freed before the
- * call returns.
- *
- * Returns DONE. Returns NO_ROOM if the answer doesn't fit, and BEHIND if the view is at commit *told, before the floor.
- * Fails with CLOSED, KEY_TOO_LONG, BAD_LIMIT, NO_SUCH_VIEW or NO_MEMORY. Unless it returns DONE the buffer is as it
- * was. */
-static inline uint16_t rowanspan_view(struct rowanspan *handle, uint64_t view, uint64_t floor, const void *start,
-                                      size_t start_length, uint16_t limit, void *into, size_t room, uint64_t *told) {
-    uint8_t none[1] = {0};
-    return rowanspan_raw_view(handle, view, floor, rowanspan_bytes_at(start), start_length, limit,
-                              into ? (uint8_t *)into : none, into ? room : 0, told);
-}
-
-/* rowanspan_keep_views: applies commits to the views that are behind, until all are at the newest commit.
- *
- * Returns CURRENT, with *told 0. Fails as rowanspan_apply does; the commits that were applied by then stay applied. */
-static inline uint16_t rowanspan_keep_views(struct rowanspan *handle, uint64_t *told) {
-    uint16_t status;
-    do {
-        status = rowanspan_apply(handle, 0, told);
-    } while (status == ROWANSPAN_DONE);
-    return status;
-}
-
-/* ---- commits */
-
-/* rowanspan_feed: writes what the commits after commit `from` did to the buffer, in their order, at most `limit` (1 to
- * 1000) commits. The answer is read by rowanspan_read_count, and then by rowanspan_read_delta for each. *told is the
- * length of the answer in bytes.
- *
- * Cost: memory for the deltas, which is freed before the call returns.
- *
- * Returns DONE, also if there are no such commits. Returns NO_ROOM if the answer doesn't fit, and BEHIND if the log no
- * longer has some of these commits: it has those after commit *told. Fails with CLOSED, BAD_LIMIT or NO_MEMORY. Unless
- * it returns DONE the buffer is as it was. */
-static inline uint16_t rowanspan_feed(struct rowanspan *handle, uint64_t from, uint16_t limit, void *into, size_t room,
-                                      uint64_t *told) {
-    uint8_t none[1] = {0};
-    return rowanspan_raw_feed(handle, from, limit, into ? (uint8_t *)into : none, into ? room : 0, told);
 }
 
 /* ---- how answers are read

@@ -15,10 +15,10 @@ static const char *const names[KINDS] = {"put", "get", "range", "remove"};
 static uint8_t first[ROWANSPAN_MAX_KEY_BYTES], second[ROWANSPAN_MAX_KEY_BYTES], room[4 * ROWANSPAN_MAX_KEY_BYTES];
 static uint64_t took[KINDS][MOST_ROUNDS];
 
-/* Ends the program where a call has another status than was wanted. */
-static void want(uint16_t status, uint16_t wanted) {
-    if (status != wanted) {
-        fprintf(stderr, "time_keys: status %d\n", status);
+/* Ends the program if a call was not done. */
+static void want(rowanspan_status status) {
+    if (status != ROWANSPAN_OK) {
+        fprintf(stderr, "time_keys: %s\n", rowanspan_status_text(status));
         exit(1);
     }
 }
@@ -30,7 +30,7 @@ static uint64_t now(void) {
 }
 
 /* A call of a kind, in their order above. */
-static uint16_t call_of(struct rowanspan *index, int kind, size_t length) {
+static rowanspan_status call_of(rowanspan *index, int kind, size_t length) {
     uint64_t told;
     switch (kind) {
     case 0: return rowanspan_put(index, second, length, NULL, 0, &told);
@@ -41,18 +41,18 @@ static uint16_t call_of(struct rowanspan *index, int kind, size_t length) {
 }
 
 static void time_round(size_t length, size_t at) {
-    struct rowanspan index = ROWANSPAN_NONE;
+    rowanspan *index;
     uint64_t told;
     int kind;
-    want(rowanspan_open(&index, 1, 4096, 0), ROWANSPAN_DONE);
-    want(rowanspan_put(&index, first, length, NULL, 0, &told), ROWANSPAN_DONE);
+    want(rowanspan_open(&index, 1, 4096, 0));
+    want(rowanspan_put(index, first, length, NULL, 0, &told));
     for (kind = 0; kind < KINDS; kind++) {
         uint64_t begun = now();
-        uint16_t status = call_of(&index, kind, length);
+        rowanspan_status status = call_of(index, kind, length);
         took[kind][at] = now() - begun;
-        want(status, ROWANSPAN_DONE);
+        want(status);
     }
-    want(rowanspan_close(&index), ROWANSPAN_DONE);
+    rowanspan_close(index);
 }
 
 static int compare(const void *a, const void *b) {

@@ -1,4 +1,4 @@
-/* Want of memory at each allocation in turn, and memory that is flat. It runs with wanting_memory.c preloaded. */
+/* Memory that ends at each allocation in turn, and memory that stays flat. It runs with wanting_memory.c preloaded. */
 #define _GNU_SOURCE
 #include <dlfcn.h>
 
@@ -13,12 +13,12 @@ struct shown {
     uint64_t rows_length, page_length, commits;
 };
 
-static struct shown shown_now(struct rowanspan *index, uint64_t view) {
+static struct shown shown_now(rowanspan *index, uint64_t view) {
     static const struct shown nothing;
     struct shown it = nothing;
-    WANT_SAME(rowanspan_range(index, NULL, 0, 1000, NULL, 0, it.rows, sizeof it.rows, &it.rows_length), ROWANSPAN_DONE);
-    WANT_SAME(rowanspan_view(index, view, 0, NULL, 0, 1000, it.page, sizeof it.page, &it.page_length), ROWANSPAN_DONE);
-    WANT_SAME(rowanspan_commits(index, &it.commits), ROWANSPAN_DONE);
+    WANT_SAME(rowanspan_range(index, NULL, 0, 1000, NULL, 0, it.rows, sizeof it.rows, &it.rows_length), ROWANSPAN_OK);
+    WANT_SAME(rowanspan_view(index, view, 0, NULL, 0, 1000, it.page, sizeof it.page, &it.page_length), ROWANSPAN_OK);
+    WANT_SAME(rowanspan_commits(index, &it.commits), ROWANSPAN_OK);
     return it;
 }
 
@@ -29,8 +29,8 @@ static bool is_same(const struct shown *a, const struct shown *b) {
 
 enum { KINDS = 10 };
 
-/* A call of each kind that may want memory. The keys go on in new layers, and nodes are full. */
-static uint16_t call_of(struct rowanspan *index, int kind, uint64_t view, uint8_t *room, size_t size, uint64_t *told) {
+/* A call of each kind that allocates. The keys continue in new layers, and nodes are full. */
+static rowanspan_status call_of(rowanspan *index, int kind, uint64_t view, uint8_t *room, size_t size, uint64_t *told) {
     struct rowanspan_set set = rowanspan_set(0, "value", 5);
     switch (kind) {
     case 0: return rowanspan_put(index, "aaaaaaaabbbbbbbbcccc", 20, &set, 1, told);
@@ -46,122 +46,155 @@ static uint16_t call_of(struct rowanspan *index, int kind, uint64_t view, uint8_
     }
 }
 
-static struct rowanspan filled(uint64_t *view) {
-    struct rowanspan index = ROWANSPAN_NONE;
+static rowanspan *filled(uint64_t *view) {
+    rowanspan *index = opened(1, 64, 64);
     uint64_t told;
     char key[8];
     int i;
-    WANT_SAME(rowanspan_open(&index, 1, 64, 64), ROWANSPAN_DONE);
-    WANT_SAME(put_text(&index, "aaaaaaaabbbbbbbbdddd", "v", &told), ROWANSPAN_DONE);
-    WANT_SAME(rowanspan_build_prefix(&index, "k", 1, rowanspan_any(), view), ROWANSPAN_DONE);
+    WANT_SAME(put_text(index, "aaaaaaaabbbbbbbbdddd", "v", &told), ROWANSPAN_OK);
+    WANT_SAME(rowanspan_build_prefix(index, "k", 1, rowanspan_any(), view), ROWANSPAN_OK);
     for (i = 0; i < 14; i++) {
         snprintf(key, sizeof key, "k%02d", i);
-        WANT_SAME(put_text(&index, key, "v", &told), ROWANSPAN_DONE);
+        WANT_SAME(put_text(index, key, "v", &told), ROWANSPAN_OK);
     }
     return index;
 }
 
-/* The allocations of one call are refused from the first on, from the second on, and so on, till it is done. Where it is
- * refused, the rows, the commits and the views are as they were. */
-static void want_of_memory(void) {
+/* A call for which memory ends after some allocations. If it is refused, the rows, the commits and the views are as
+ * they were, and the call is done when there is memory again. */
+static rowanspan_status call_without_memory(int kind, long allocations) {
+    uint8_t room[4096];
+    uint64_t told = 99, view = 0;
+    rowanspan *index = filled(&view);
+    struct shown before = shown_now(index, view), after;
+    rowanspan_status status;
+    memset(room, 0xee, sizeof room);
+    memory_ends_after(allocations);
+    status = call_of(index, kind, view, room, sizeof room, &told);
+    memory_ends_after(-1);
+    if (status == ROWANSPAN_NO_MEMORY) {
+        WANT_SAME(told, 0);
+        WANT_SAME(room[0], 0xee);
+        after = shown_now(index, view);
+        WANT(is_same(&before, &after));
+        WANT_SAME(call_of(index, kind, view, room, sizeof room, &told), ROWANSPAN_OK);
+    }
+    rowanspan_close(index);
+    return status;
+}
+
+/* The allocations of a call are refused from the first on, then from the second on, until it is done. */
+static void out_of_memory(void) {
     int kind, refused = 0;
     begins();
     for (kind = 0; kind < KINDS; kind++) {
-        long calls;
-        uint16_t status = ROWANSPAN_NO_MEMORY;
-        for (calls = 0; status == ROWANSPAN_NO_MEMORY && calls < 500; calls++) {
-            uint8_t room[4096];
-            uint64_t told = 99, view = 0;
-            struct rowanspan index = filled(&view);
-            struct shown before = shown_now(&index, view), after;
-            memset(room, 0xee, sizeof room);
-            memory_ends_after(calls);
-            status = call_of(&index, kind, view, room, sizeof room, &told);
-            memory_ends_after(-1);
-            if (status == ROWANSPAN_NO_MEMORY) {
-                refused++;
-                WANT_SAME(told, 0);
-                WANT_SAME(room[0], 0xee);
-                after = shown_now(&index, view);
-                WANT(is_same(&before, &after));
-                WANT_SAME(call_of(&index, kind, view, room, sizeof room, &told), ROWANSPAN_DONE);
-            } else {
-                WANT_SAME(status, ROWANSPAN_DONE);
-            }
-            WANT_SAME(rowanspan_close(&index), ROWANSPAN_DONE);
+        long allocations = 0;
+        rowanspan_status status = call_without_memory(kind, allocations);
+        while (status == ROWANSPAN_NO_MEMORY && allocations < 500) {
+            refused++;
+            status = call_without_memory(kind, ++allocations);
         }
-        WANT_SAME(status, ROWANSPAN_DONE);
+        WANT_SAME(status, ROWANSPAN_OK);
     }
-    printf("%d calls were refused for want of memory\n", refused);
+    printf("%d calls were refused as out of memory\n", refused);
     WANT(refused > KINDS);
-    ends("want_of_memory");
+    ends("out_of_memory");
 }
 
+/* An open that is refused holds no memory, and answers limits before memory. */
 static void no_memory_to_open(void) {
-    long calls;
-    uint16_t status = ROWANSPAN_NO_MEMORY;
+    long allocations, before = memory_held();
+    rowanspan_status status = ROWANSPAN_NO_MEMORY;
     begins();
-    for (calls = 0; status == ROWANSPAN_NO_MEMORY && calls < 100; calls++) {
-        struct rowanspan index = ROWANSPAN_NONE;
-        memory_ends_after(calls);
+    for (allocations = 0; status == ROWANSPAN_NO_MEMORY && allocations < 100; allocations++) {
+        rowanspan *index;
+        memory_ends_after(allocations);
         status = rowanspan_open(&index, 1, 16, 0);
         memory_ends_after(-1);
-        WANT_SAME(rowanspan_close(&index), status == ROWANSPAN_DONE ? ROWANSPAN_DONE : ROWANSPAN_CLOSED);
+        WANT((index != NULL) == (status == ROWANSPAN_OK));
+        WANT(index != NULL || memory_held() == before);
+        rowanspan_close(index);
+        WANT_SAME(memory_held(), before);
+        memory_ends_after(allocations);
+        WANT_SAME(rowanspan_open(&index, 1, 0, 0), ROWANSPAN_BAD_LIMIT);
+        memory_ends_after(-1);
     }
-    WANT(calls > 1);
-    WANT_SAME(status, ROWANSPAN_DONE);
+    WANT(allocations > 2);
+    WANT_SAME(status, ROWANSPAN_OK);
     ends("no_memory_to_open");
 }
 
-/* A get allocates for a copy of the key, as two blocks, and for nothing else: an empty key needs no memory, and the
- * columns go from the index into the buffer, of which exactly the front is written. */
-static void gets_copy_the_key_alone(void) {
-    enum { COLUMNS = 16, BYTES = 64, LENGTH = 8 + 8 + COLUMNS * (8 + BYTES) };
-    static const char *const keys[2] = {"", "aaaaaaaabbbbbbbbcccccccc"};
-    struct rowanspan index = ROWANSPAN_NONE;
+enum { COLUMNS = 16, BYTES = 64, LENGTH = 8 + 8 + COLUMNS * (8 + BYTES) };
+
+/* Puts a row whose columns all have BYTES bytes, those of column 0 'a', of column 1 'b'. */
+static void put_greatest(rowanspan *index, const char *key) {
     struct rowanspan_set sets[COLUMNS];
-    uint8_t bytes[COLUMNS][BYTES], room[LENGTH + 1];
+    uint8_t bytes[COLUMNS][BYTES];
     uint64_t told;
-    int i, column;
-    begins();
-    WANT_SAME(rowanspan_open(&index, COLUMNS, 16, 0), ROWANSPAN_DONE);
+    int column;
     for (column = 0; column < COLUMNS; column++) {
         memset(bytes[column], 'a' + column, BYTES);
         sets[column] = rowanspan_set((uint8_t)column, bytes[column], BYTES);
     }
+    WANT_SAME(rowanspan_put(index, key, strlen(key), sets, COLUMNS, &told), ROWANSPAN_OK);
+}
+
+static void want_greatest(const uint8_t *room, uint64_t length, uint64_t version) {
+    struct rowanspan_reader reader = rowanspan_reader(room, length);
+    struct rowanspan_row row = rowanspan_read_row(&reader);
+    int column, i;
+    WANT_SAME(row.version, version);
+    WANT_SAME(row.column_count, COLUMNS);
+    for (column = 0; column < COLUMNS; column++) {
+        struct rowanspan_bytes got = rowanspan_read_bytes(&row.columns);
+        WANT_SAME(got.length, BYTES);
+        for (i = 0; i < BYTES; i++) {
+            WANT_SAME(got.at[i], 'a' + column);
+        }
+    }
+    WANT(!reader.is_short && reader.left == 0);
+}
+
+/* How many allocations a get of this key needs; the answer is in the buffer, and nothing after it. */
+static long allocations_of_get(const rowanspan *index, const char *key, uint64_t version) {
+    uint8_t room[LENGTH + 1];
+    uint64_t told;
+    rowanspan_status status;
+    long allocations = -1;
+    memset(room, 0xee, sizeof room);
+    do {
+        WANT_SAME(room[0], 0xee);
+        memory_ends_after(++allocations);
+        status = rowanspan_get(index, key, strlen(key), NULL, 0, room, LENGTH, &told);
+        memory_ends_after(-1);
+    } while (status == ROWANSPAN_NO_MEMORY && allocations < 10);
+    WANT_SAME(status, ROWANSPAN_OK);
+    WANT_SAME(told, LENGTH);
+    WANT_SAME(room[LENGTH], 0xee);
+    want_greatest(room, told, version);
+    return allocations;
+}
+
+/* A get allocates for a copy of the key, as two blocks, and for nothing else: an empty key needs no memory, and the
+ * columns go from the index into the buffer. A buffer that is too small needs no more. */
+static void gets_copy_the_key_alone(void) {
+    static const char *const keys[2] = {"", "aaaaaaaabbbbbbbbcccccccc"};
+    rowanspan *index = opened(COLUMNS, 16, 0);
+    uint8_t room[LENGTH];
+    uint64_t told;
+    int i;
+    begins();
     for (i = 0; i < 2; i++) {
-        size_t key_length = strlen(keys[i]);
-        struct rowanspan_reader reader;
-        struct rowanspan_row row;
-        uint16_t status;
-        long calls = 0;
-        WANT_SAME(rowanspan_put(&index, keys[i], key_length, sets, COLUMNS, &told), ROWANSPAN_DONE);
-        memset(room, 0xee, sizeof room);
+        put_greatest(index, keys[i]);
+        room[0] = 0xee;
         memory_ends_after(2 * i);
-        WANT_SAME(rowanspan_get(&index, keys[i], key_length, NULL, 0, room, LENGTH - 1, &told), ROWANSPAN_NO_ROOM);
+        WANT_SAME(rowanspan_get(index, keys[i], strlen(keys[i]), NULL, 0, room, LENGTH - 1, &told), ROWANSPAN_NO_ROOM);
         memory_ends_after(-1);
         WANT_SAME(told, LENGTH);
         WANT_SAME(room[0], 0xee);
-        do {
-            memory_ends_after(calls++);
-            status = rowanspan_get(&index, keys[i], key_length, NULL, 0, room, LENGTH, &told);
-            memory_ends_after(-1);
-        } while (status == ROWANSPAN_NO_MEMORY && calls < 10);
-        WANT_SAME(status, ROWANSPAN_DONE);
-        WANT_SAME(calls, 2 * i + 1);
-        WANT_SAME(told, LENGTH);
-        WANT_SAME(room[LENGTH], 0xee);
-        reader = rowanspan_reader(room, told);
-        row = rowanspan_read_row(&reader);
-        WANT_SAME(row.version, i + 1);
-        WANT_SAME(row.column_count, COLUMNS);
-        for (column = 0; column < COLUMNS; column++) {
-            struct rowanspan_bytes got = rowanspan_read_bytes(&row.columns);
-            WANT(got.length == BYTES && memcmp(got.at, bytes[column], BYTES) == 0);
-        }
-        WANT(!reader.is_short && reader.left == 0);
+        WANT_SAME(allocations_of_get(index, keys[i], (uint64_t)i + 1), 2 * i);
     }
-    WANT_SAME(rowanspan_close(&index), ROWANSPAN_DONE);
+    rowanspan_close(index);
     ends("gets_copy_the_key_alone");
 }
 
@@ -170,13 +203,13 @@ static void opened_and_closed(void) {
     long before;
     int i;
     uint64_t view;
-    struct rowanspan index = filled(&view);
+    rowanspan *index = filled(&view);
     begins();
-    rowanspan_close(&index);
+    rowanspan_close(index);
     before = memory_held();
     for (i = 0; i < 1000; i++) {
         index = filled(&view);
-        WANT_SAME(rowanspan_close(&index), ROWANSPAN_DONE);
+        rowanspan_close(index);
         WANT_SAME(memory_held(), before);
     }
     ends("opened_and_closed");
@@ -190,7 +223,7 @@ int main(void) {
         return 1;
     }
     setvbuf(stdout, NULL, _IONBF, 0);
-    want_of_memory();
+    out_of_memory();
     no_memory_to_open();
     gets_copy_the_key_alone();
     opened_and_closed();

@@ -1,4 +1,4 @@
-/* 20,000 calls by chance on an index of two columns, each answer held against a plain map: a sorted array of rows. */
+/* 20,000 calls by chance on an index of two columns, whose answers have to be those of a plain map: a sorted array. */
 #include "wanting.h"
 
 enum { COLUMNS = 2, MOST_ROWS = 512, MOST_KEY = 24, MOST_COLUMN = 9, CALLS = 20000, KEEP = 8 };
@@ -106,7 +106,7 @@ static void plain_remove(size_t at) {
     memmove(&rows[at], &rows[at + 1], (row_count - at) * sizeof rows[0]);
 }
 
-static void put_once(struct rowanspan *index) {
+static void put_once(rowanspan *index) {
     uint8_t key[MOST_KEY], bytes[COLUMNS][MOST_COLUMN];
     size_t length = chance_key(key), count = chance(COLUMNS + 1), i, j;
     struct rowanspan_set sets[COLUMNS];
@@ -118,20 +118,20 @@ static void put_once(struct rowanspan *index) {
         }
         sets[i] = rowanspan_set((uint8_t)(count == 1 ? chance(COLUMNS) : i), bytes[i], column_length);
     }
-    WANT_SAME(rowanspan_put(index, key, length, sets, count, &told), ROWANSPAN_DONE);
+    WANT_SAME(rowanspan_put(index, key, length, sets, count, &told), ROWANSPAN_OK);
     plain_put(key, length, sets, count);
     WANT_SAME(told, commits);
 }
 
 /* A conditional put, over the row that is there or over one that isn't. */
-static void put_if_once(struct rowanspan *index) {
+static void put_if_once(rowanspan *index) {
     uint8_t key[MOST_KEY];
     size_t length = chance_key(key), at = place_of(key, length);
     struct rowanspan_set set = rowanspan_set((uint8_t)chance(COLUMNS), "if", 2);
     uint64_t found = is_at(at, key, length) ? rows[at].version : 0, version = found + chance(2), told;
-    uint16_t status = rowanspan_put_if(index, key, length, &set, 1, version, &told);
+    rowanspan_status status = rowanspan_put_if(index, key, length, &set, 1, version, &told);
     if (version == found) {
-        WANT_SAME(status, ROWANSPAN_DONE);
+        WANT_SAME(status, ROWANSPAN_OK);
         plain_put(key, length, &set, 1);
         WANT_SAME(told, commits);
     } else {
@@ -140,13 +140,13 @@ static void put_if_once(struct rowanspan *index) {
     }
 }
 
-static void remove_once(struct rowanspan *index) {
+static void remove_once(rowanspan *index) {
     uint8_t key[MOST_KEY];
     size_t length = chance_key(key), at = place_of(key, length);
     uint64_t told;
-    uint16_t status = rowanspan_remove(index, key, length, &told);
+    rowanspan_status status = rowanspan_remove(index, key, length, &told);
     if (is_at(at, key, length)) {
-        WANT_SAME(status, ROWANSPAN_DONE);
+        WANT_SAME(status, ROWANSPAN_OK);
         plain_remove(at);
         WANT_SAME(told, commits);
     } else {
@@ -154,14 +154,14 @@ static void remove_once(struct rowanspan *index) {
     }
 }
 
-static void get_once(struct rowanspan *index) {
+static void get_once(rowanspan *index) {
     uint8_t key[MOST_KEY], room[64];
     size_t length = chance_key(key), at = place_of(key, length);
     uint64_t told;
-    uint16_t status = rowanspan_get(index, key, length, NULL, 0, room, sizeof room, &told);
+    rowanspan_status status = rowanspan_get(index, key, length, NULL, 0, room, sizeof room, &told);
     if (is_at(at, key, length)) {
         struct rowanspan_reader reader = rowanspan_reader(room, told);
-        WANT_SAME(status, ROWANSPAN_DONE);
+        WANT_SAME(status, ROWANSPAN_OK);
         WANT(same_row(rowanspan_read_row(&reader), &rows[at]));
         WANT(!reader.is_short && reader.left == 0);
     } else {
@@ -171,8 +171,9 @@ static void get_once(struct rowanspan *index) {
 
 static uint8_t answer[1 << 16];
 
-/* Rows of an answer, held against those from a place on that pass. */
-static void want_rows(struct rowanspan_reader *reader, size_t at, size_t limit, bool (*passes)(const struct plain_row *)) {
+/* Wants the rows of an answer to be those from a place on that pass. */
+static void want_rows(struct rowanspan_reader *reader, size_t at, size_t limit,
+                      bool (*passes)(const struct plain_row *)) {
     size_t count = rowanspan_read_count(reader), seen = 0;
     for (; at < row_count && seen < limit; at++) {
         if (passes(&rows[at])) {
@@ -191,13 +192,13 @@ static bool each(const struct plain_row *row) {
     return true;
 }
 
-static void range_once(struct rowanspan *index) {
+static void range_once(rowanspan *index) {
     uint8_t key[MOST_KEY];
     size_t length = chance_key(key);
     uint16_t limit = (uint16_t)(1 + chance(40));
     uint64_t told;
     struct rowanspan_reader reader;
-    WANT_SAME(rowanspan_range(index, key, length, limit, NULL, 0, answer, sizeof answer, &told), ROWANSPAN_DONE);
+    WANT_SAME(rowanspan_range(index, key, length, limit, NULL, 0, answer, sizeof answer, &told), ROWANSPAN_OK);
     reader = rowanspan_reader(answer, told);
     want_rows(&reader, place_of(key, length), limit, each);
 }
@@ -219,15 +220,11 @@ static bool is_shown(const struct plain_row *row) {
     return row->key_length > 0 && row->key[0] == 'a' && amount(row, 1) >= 300;
 }
 
-static void page_once(struct rowanspan *index, uint64_t view) {
-    uint8_t key[MOST_KEY];
-    size_t length = chance_key(key), i;
-    uint64_t told, count = 0, sums[COLUMNS][2] = {{0}}, upper, lower;
-    struct rowanspan_reader reader;
+/* Wants the count and the sums of a page. */
+static void want_sums(struct rowanspan_reader *reader) {
+    uint64_t count = 0, sums[COLUMNS][2] = {{0}}, upper, lower;
+    size_t i;
     int column;
-    WANT_SAME(rowanspan_keep_views(index, &told), ROWANSPAN_CURRENT);
-    WANT_SAME(rowanspan_view(index, view, commits, key, length, 50, answer, sizeof answer, &told), ROWANSPAN_DONE);
-    reader = rowanspan_reader(answer, told);
     for (i = 0; i < row_count; i++) {
         for (column = 0; is_shown(&rows[i]) && column < COLUMNS; column++) {
             sums[column][1] += amount(&rows[i], column);
@@ -235,20 +232,31 @@ static void page_once(struct rowanspan *index, uint64_t view) {
         }
         count += is_shown(&rows[i]);
     }
-    WANT_SAME(rowanspan_read_number(&reader), commits);
-    WANT_SAME(rowanspan_read_number(&reader), count);
-    WANT_SAME(rowanspan_read_count(&reader), COLUMNS);
+    WANT_SAME(rowanspan_read_number(reader), commits);
+    WANT_SAME(rowanspan_read_number(reader), count);
+    WANT_SAME(rowanspan_read_count(reader), COLUMNS);
     for (column = 0; column < COLUMNS; column++) {
-        rowanspan_read_sum(&reader, &upper, &lower);
+        rowanspan_read_sum(reader, &upper, &lower);
         WANT(upper == sums[column][0] && lower == sums[column][1]);
     }
+}
+
+static void page_once(rowanspan *index, uint64_t view) {
+    uint8_t key[MOST_KEY];
+    size_t length = chance_key(key);
+    uint64_t told;
+    struct rowanspan_reader reader;
+    WANT_SAME(rowanspan_keep_views(index, &told), ROWANSPAN_OK);
+    WANT_SAME(rowanspan_view(index, view, commits, key, length, 50, answer, sizeof answer, &told), ROWANSPAN_OK);
+    reader = rowanspan_reader(answer, told);
+    want_sums(&reader);
     want_rows(&reader, place_of(key, length), 50, is_shown);
 }
 
-static void feed_once(struct rowanspan *index) {
+static void feed_once(rowanspan *index) {
     uint64_t told, from = commits < KEEP ? 0 : commits - KEEP, number;
     struct rowanspan_reader reader;
-    WANT_SAME(rowanspan_feed(index, from, KEEP, answer, sizeof answer, &told), ROWANSPAN_DONE);
+    WANT_SAME(rowanspan_feed(index, from, KEEP, answer, sizeof answer, &told), ROWANSPAN_OK);
     reader = rowanspan_reader(answer, told);
     WANT_SAME(rowanspan_read_count(&reader), commits - from);
     for (number = from + 1; number <= commits; number++) {
@@ -264,47 +272,50 @@ static void feed_once(struct rowanspan *index) {
     WANT(!reader.is_short && reader.left == 0);
 }
 
-static void tidy_once(struct rowanspan *index) {
+static void tidy_once(rowanspan *index) {
     uint8_t key[MOST_KEY];
     uint64_t told;
-    WANT_SAME(rowanspan_tidy(index, key, chance_key(key), &told), ROWANSPAN_DONE);
+    WANT_SAME(rowanspan_tidy(index, key, chance_key(key), &told), ROWANSPAN_OK);
     WANT(told <= ROWANSPAN_TIDIED_EMPTY_LAYER);
-    WANT_SAME(rowanspan_advance(index, &told), ROWANSPAN_DONE);
-    WANT_SAME(rowanspan_collect(index, &told), ROWANSPAN_DONE);
+    WANT_SAME(rowanspan_advance(index, &told), ROWANSPAN_OK);
+    WANT_SAME(rowanspan_collect(index, &told), ROWANSPAN_OK);
+}
+
+/* The call of a round, by chance: rows become many, and then few. */
+static void call_once(rowanspan *index, uint64_t view, int round) {
+    uint64_t what = chance(100), puts = round / 2500 % 2 ? 8 : 40;
+    if (what < puts / 4 && row_count < MOST_ROWS) {
+        put_if_once(index);
+    } else if (what < puts && row_count < MOST_ROWS) {
+        put_once(index);
+    } else if (what < 48) {
+        remove_once(index);
+    } else if (what < 70) {
+        get_once(index);
+    } else if (what < 80) {
+        range_once(index);
+    } else if (what < 88) {
+        page_once(index, view);
+    } else if (what < 94) {
+        feed_once(index);
+    } else {
+        tidy_once(index);
+    }
 }
 
 int main(void) {
-    struct rowanspan index = ROWANSPAN_NONE;
+    rowanspan *index = opened(COLUMNS, 65536, KEEP);
     uint64_t told, view;
-    int i;
+    int round;
     begins();
-    WANT_SAME(rowanspan_open(&index, COLUMNS, 65536, KEEP), ROWANSPAN_DONE);
-    WANT_SAME(rowanspan_build_prefix(&index, "a", 1, rowanspan_at_least(1, 300), &view), ROWANSPAN_DONE);
-    for (i = 0; i < CALLS; i++) {
-        /* rows become many, and then few */
-        uint64_t what = chance(100), puts = i / 2500 % 2 ? 8 : 40;
-        if (what < puts / 4 && row_count < MOST_ROWS) {
-            put_if_once(&index);
-        } else if (what < puts && row_count < MOST_ROWS) {
-            put_once(&index);
-        } else if (what < 48) {
-            remove_once(&index);
-        } else if (what < 70) {
-            get_once(&index);
-        } else if (what < 80) {
-            range_once(&index);
-        } else if (what < 88) {
-            page_once(&index, view);
-        } else if (what < 94) {
-            feed_once(&index);
-        } else {
-            tidy_once(&index);
-        }
+    WANT_SAME(rowanspan_build_prefix(index, "a", 1, rowanspan_at_least(1, 300), &view), ROWANSPAN_OK);
+    for (round = 0; round < CALLS; round++) {
+        call_once(index, view, round);
     }
-    WANT_SAME(rowanspan_commits(&index, &told), ROWANSPAN_DONE);
+    WANT_SAME(rowanspan_commits(index, &told), ROWANSPAN_OK);
     WANT_SAME(told, commits);
     printf("%llu commits, %zu rows at the end\n", (unsigned long long)commits, row_count);
-    WANT_SAME(rowanspan_close(&index), ROWANSPAN_DONE);
+    rowanspan_close(index);
     ends("random_calls_against_a_plain_map");
     return all_told();
 }

@@ -1,4 +1,4 @@
-/* What the tests of the library share: a count of what was wanted, and rows with plain bytes. */
+/* What the tests of the library share: a count of what was wanted, indexes, and rows with plain bytes. */
 #ifndef WANTING_H
 #define WANTING_H
 
@@ -11,9 +11,9 @@
 static int wanting_passed;
 static int wanting_failed;
 
-/* Ends a case: it passed unless something in it was not as it is wanted. */
 static int wanting_before;
 
+/* Begins a case, which lasts until `ends`. It passes if all in it is as it is wanted. */
 static inline void begins(void) {
     wanting_before = wanting_failed;
 }
@@ -41,7 +41,7 @@ static inline void ends(const char *name) {
     do {                                                                                            \
         unsigned long long got_ = (unsigned long long)(got), wanted_ = (unsigned long long)(wanted); \
         if (got_ != wanted_) {                                                                      \
-            printf("%s:%d: %s is %llu in place of %llu\n", __FILE__, __LINE__, #got, got_, wanted_); \
+            printf("%s:%d: %s is %llu instead of %llu\n", __FILE__, __LINE__, #got, got_, wanted_); \
             wanting_failed++;                                                                       \
         }                                                                                           \
     } while (0)
@@ -51,8 +51,14 @@ static inline int all_told(void) {
     return wanting_failed != 0;
 }
 
+static inline rowanspan *opened(uint64_t columns, uint64_t feed, uint64_t keep) {
+    rowanspan *index = NULL;
+    WANT_SAME(rowanspan_open(&index, columns, feed, keep), ROWANSPAN_OK);
+    return index;
+}
+
 /* A put of one column, 0. */
-static inline uint16_t put_text(struct rowanspan *index, const char *key, const char *text, uint64_t *told) {
+static inline rowanspan_status put_text(rowanspan *index, const char *key, const char *text, uint64_t *told) {
     struct rowanspan_set set = rowanspan_set(0, text, strlen(text));
     return rowanspan_put(index, key, strlen(key), &set, 1, told);
 }

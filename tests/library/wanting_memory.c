@@ -1,4 +1,4 @@
-/* A malloc and realloc that refuse from a call on that is told, and count what is held: to be preloaded. */
+/* A malloc and realloc that refuse after a number of calls, and count what is held. It is to be preloaded. */
 #define _GNU_SOURCE
 #include <dlfcn.h>
 #include <stddef.h>
@@ -7,7 +7,7 @@
 static long calls_left = -1;
 static long held;
 
-/* The allocation after so many is refused, and each after it; a number below 0: none is. */
+/* All allocations after this number of them are refused. If it is below 0, none is. */
 void memory_ends_after(long calls) {
     calls_left = calls;
 }

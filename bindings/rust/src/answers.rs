@@ -1,7 +1,6 @@
-//! Answers, read from their bytes: numbers have eight bytes, the highest first, and before bytes and lists stands how
-//! many there are.
+//! Answers, read from their bytes. A number has eight bytes, the highest first. Bytes and lists come after their count.
 
-/// A row: the number of the commit that wrote it last, and its columns, in the order in which they were asked.
+/// A row: the number of the commit that wrote it last, and its columns, in the order in which they were asked for.
 #[derive(Clone, Debug, PartialEq, Eq)]
 pub struct Row {
     /// The number of the commit that wrote it last.
@@ -13,11 +12,11 @@ pub struct Row {
 /// What a view shows.
 #[derive(Clone, Debug, PartialEq, Eq)]
 pub struct Page {
-    /// The number of commits at which the view stands.
+    /// The commit at which the view is.
     pub at: u64,
-    /// How many rows it has then.
+    /// How many rows the view has.
     pub count: u64,
-    /// For each column the sum of its amounts over those rows.
+    /// For each column, the sum of its amounts over those rows.
     pub sums: Vec<u128>,
     /// The rows that were asked for, with their keys.
     pub rows: Vec<(Vec<u8>, Row)>,
@@ -36,8 +35,7 @@ pub struct Delta {
     pub after: Option<Row>,
 }
 
-/// What is left of an answer. The library's answers have what is read of them: where one didn't, numbers are 0 and bytes
-/// none from there on.
+/// What is left of an answer. Past its end, numbers are read as 0 and bytes as none.
 pub(crate) struct Reader<'a> {
     left: &'a [u8],
 }

@@ -1,8 +1,8 @@
-//! Why a call is refused.
+//! Why a call fails.
 
 use std::fmt;
 
-/// Why a call was refused. It has changed no row, no commit and no view.
+/// Why a call failed. It has changed no row, no commit and no view.
 #[derive(Clone, Copy, Debug, PartialEq, Eq)]
 #[non_exhaustive]
 pub enum Error {
@@ -10,11 +10,11 @@ pub enum Error {
     NoMemory,
     /// A key has more than [`MAX_KEY_BYTES`](crate::MAX_KEY_BYTES) bytes.
     KeyTooLong,
-    /// A column isn't there, or is named twice; or an index was to have none, or more than 16.
+    /// A column doesn't exist, or is named twice; or an index was to have none, or more than 16.
     BadColumn,
     /// A column has more than 64 bytes.
     ColumnTooLong,
-    /// A limit isn't from 1 to 1000; or `feed` isn't from 1 to 65536, or `keep` is above.
+    /// A limit isn't from 1 to 1000; or `feed` isn't from 1 to 65536, or `keep` is over 65536.
     BadLimit,
     /// No number of a node is free.
     ArenaFull,
@@ -22,23 +22,23 @@ pub enum Error {
     FeedFull(u64),
     /// There are 64 views.
     TooManyViews,
-    /// No view that stands has this number.
+    /// No view has this number.
     NoSuchView,
-    /// The view stands at this commit, before the floor; or the log has only what came after it.
+    /// The view is at this commit, before the floor; or the log has only the commits after it.
     Behind(u64),
     /// The range of a view ends before it begins.
     BadRange,
     /// A number is at its greatest value.
     Spent,
-    /// The key's row is of this version, and not of the one asked; 0: the key has no row.
+    /// The key's row is of this version, not of the one asked; 0: there is no row.
     OtherVersion(u64),
-    /// The library answered what it answers nobody: it is another one.
-    Unknown(u16),
+    /// The library returned a status that no call returns: it is another library.
+    Unknown(u32),
 }
 
 impl Error {
-    /// That of a status, with the number that was told beside it.
-    pub(crate) fn of(status: u16, told: u64) -> Error {
+    /// The error of a status and of the number that was reported with it.
+    pub(crate) fn of(status: u32, told: u64) -> Error {
         match status {
             1 => Error::NoMemory,
             2 => Error::KeyTooLong,
@@ -62,20 +62,25 @@ impl fmt::Display for Error {
     fn fmt(&self, f: &mut fmt::Formatter<'_>) -> fmt::Result {
         match self {
             Error::NoMemory => write!(f, "out of memory"),
-            Error::KeyTooLong => write!(f, "a key is too long"),
-            Error::BadColumn => write!(f, "a column is not there, or is named twice"),
-            Error::ColumnTooLong => write!(f, "a column is too long"),
-            Error::BadLimit => write!(f, "a limit is out of its bounds"),
+            Error::KeyTooLong => write!(f, "a key has more than 1024 bytes"),
+            Error::BadColumn => write!(f, "a column doesn't exist, or is named twice"),
+            Error::ColumnTooLong => write!(f, "a column has more than 64 bytes"),
+            Error::BadLimit => write!(f, "a limit or an option is out of its bounds"),
             Error::ArenaFull => write!(f, "no number of a node is free"),
-            Error::FeedFull(from) => write!(f, "the feed is full from commit {from} on"),
-            Error::TooManyViews => write!(f, "there are too many views"),
-            Error::NoSuchView => write!(f, "there is no such view"),
-            Error::Behind(at) => write!(f, "what was asked for is not there, but at commit {at}"),
-            Error::BadRange => write!(f, "a range ends before it begins"),
+            Error::FeedFull(from) => {
+                write!(f, "the log is full: views hold it from commit {from} on")
+            }
+            Error::TooManyViews => write!(f, "there are 64 views, and no more are possible"),
+            Error::NoSuchView => write!(f, "no view has this number"),
+            Error::Behind(at) => write!(
+                f,
+                "the view is at commit {at}, or the log has only those after it"
+            ),
+            Error::BadRange => write!(f, "the range of a view ends before it begins"),
             Error::Spent => write!(f, "a number is at its greatest value"),
             Error::OtherVersion(0) => write!(f, "the key has no row"),
-            Error::OtherVersion(found) => write!(f, "the row's version is {found}"),
-            Error::Unknown(status) => write!(f, "the library answered {status}"),
+            Error::OtherVersion(found) => write!(f, "the key's row is of version {found}"),
+            Error::Unknown(status) => write!(f, "the library returned the status {status}"),
         }
     }
 }

@@ -2,7 +2,9 @@
 
 use crate::answers::{Delta, Page, Reader, Row};
 use crate::error::Error;
+use crate::range::{KeyRange, Pairs};
 use crate::raw::{ColumnSet, Library, ViewTest};
+use std::fmt;
 
 /// The most rows of a range or page, and the most deltas of a feed.
 pub const MAX_LIMIT: u16 = 1000;
@@ -10,10 +12,10 @@ pub const MAX_LIMIT: u16 = 1000;
 /// The most bytes of a key.
 pub const MAX_KEY_BYTES: usize = 1024;
 
-const DONE: u16 = 0;
-const ABSENT: u16 = 102;
-const NO_ROOM: u16 = 103;
-const CURRENT: u16 = 104;
+const DONE: u32 = 0;
+const ABSENT: u32 = 102;
+const NO_ROOM: u32 = 103;
+const CURRENT: u32 = 104;
 
 /// How an index is opened.
 #[derive(Clone, Copy, Debug, PartialEq, Eq)]
@@ -37,19 +39,19 @@ impl Default for Options {
     }
 }
 
-/// Which keys a view is of.
+/// The keys of a view.
 #[derive(Clone, Copy, Debug, PartialEq, Eq)]
 pub enum Keys<'a> {
-    /// Those that begin so.
+    /// The keys that begin with these bytes.
     Prefix(&'a [u8]),
-    /// Those from this one on.
+    /// The keys from this one on.
     From(&'a [u8]),
-    /// Those from the first on and before the second.
+    /// The keys from the first one on that are before the second.
     Between(&'a [u8], &'a [u8]),
 }
 
-/// What a view asks of a row. The amount of a column is its bytes as a number, the highest first, where there are at most
-/// eight, else 0.
+/// The test that a row passes if a view is to show it. The amount of a column is its bytes as a number, the highest
+/// byte first, or 0 if there are more than eight.
 #[derive(Clone, Copy, Debug, PartialEq, Eq)]
 pub enum RowTest<'a> {
     /// Each row passes.
@@ -60,30 +62,37 @@ pub enum RowTest<'a> {
     AtLeast(u8, u64),
 }
 
-/// What a tidy did.
+/// What a tidy has done.
 #[derive(Clone, Copy, Debug, PartialEq, Eq)]
 pub enum Tidied {
-    /// Nothing was to do.
+    /// There was nothing to do.
     Nothing,
-    /// It took an empty border out.
+    /// It took out an empty border.
     EmptyBorder,
-    /// It took an interior with one child out, below the root.
+    /// It took out an interior with one child, below the root.
     LoneChild,
-    /// It took a root with one child out.
+    /// It took out a root with one child.
     LoneRootChild,
-    /// It took an empty layer out.
+    /// It took out an empty layer.
     EmptyLayer,
 }
 
 /// An ordered key-value index, with views that stay exact. Dropping it frees its memory. It may be moved to another
 /// thread.
 ///
-/// Each call is refused, with an [`Error`], for the causes that it names, and for want of memory.
+/// A key is anything that is bytes: `"apple"`, `b"apple"`, a `Vec<u8>`. Each call fails, with an [`Error`], for the
+/// causes that it names, and if it is out of memory; it has then changed no row, no commit and no view.
 pub struct Index {
     library: Library,
 }
 
-fn done((status, told): (u16, u64)) -> Result<u64, Error> {
+impl fmt::Debug for Index {
+    fn fmt(&self, f: &mut fmt::Formatter<'_>) -> fmt::Result {
+        f.debug_struct("Index").finish_non_exhaustive()
+    }
+}
+
+fn done((status, told): (u32, u64)) -> Result<u64, Error> {
     match status {
         DONE => Ok(told),
         _ => Err(Error::of(status, told)),
@@ -96,11 +105,11 @@ fn column_sets<'a>(sets: &[(u8, &'a [u8])]) -> Vec<ColumnSet<'a>> {
         .collect()
 }
 
-// How many bytes of an answer are read without an allocation: those of a row of 16 columns of 64 bytes.
+// How many bytes of an answer are read without an allocation: those of a row with 16 columns of 64 bytes.
 const ROOM_ON_STACK: usize = 8 + 8 + 16 * (8 + 64);
 
 // The length of an answer, or none if a key has no row.
-fn length(status: u16, told: u64) -> Result<Option<usize>, Error> {
+fn length(status: u32, told: u64) -> Result<Option<usize>, Error> {
     match status {
         DONE => Ok(Some(usize::try_from(told).map_err(|_| Error::NoMemory)?)),
         ABSENT => Ok(None),
@@ -108,10 +117,10 @@ fn length(status: u16, told: u64) -> Result<Option<usize>, Error> {
     }
 }
 
-// What is read of an answer, or none if a key has no row. Asks once more, with room on the heap, if the room on the stack
-// is too small.
+// What is read of an answer, or none if a key has no row. If the room on the stack is too small, it asks again, with
+// room on the heap.
 fn answer<T>(
-    ask: impl Fn(&mut [u8]) -> (u16, u64),
+    ask: impl Fn(&mut [u8]) -> (u32, u64),
     read: impl FnOnce(Reader<'_>) -> T,
 ) -> Result<Option<T>, Error> {
     let mut room = [0; ROOM_ON_STACK];
@@ -125,14 +134,15 @@ fn answer<T>(
 }
 
 fn some_answer<T>(
-    ask: impl Fn(&mut [u8]) -> (u16, u64),
+    ask: impl Fn(&mut [u8]) -> (u32, u64),
     read: impl FnOnce(Reader<'_>) -> T,
 ) -> Result<T, Error> {
     answer(ask, read)?.ok_or(Error::Unknown(ABSENT))
 }
 
 impl Index {
-    /// An empty index. Refused for options out of their bounds.
+    /// An empty index. Fails with [`BadColumn`](Error::BadColumn) or [`BadLimit`](Error::BadLimit) if an option is out
+    /// of its bounds.
     pub fn open(options: Options) -> Result<Index, Error> {
         match Library::open(options.columns, options.feed, options.keep) {
             Ok(library) => Ok(Index { library }),
@@ -140,67 +150,87 @@ impl Index {
         }
     }
 
-    /// Sets columns of a key's row, each by its number; the others stay as they were, or empty in a new row. Gives the
-    /// number of the commit. Refused for a key or column that is too long, columns that aren't there or stand twice, a
-    /// log that views hold, and where no node is free.
-    pub fn put(&mut self, key: &[u8], sets: &[(u8, &[u8])]) -> Result<u64, Error> {
-        done(self.library.put(key, &column_sets(sets)))
+    /// Sets columns of a key's row, each by its number. The other columns stay as they were; those of a new row are
+    /// empty. Returns the number of the commit. Fails if the key or a column is too long, if a column doesn't exist or
+    /// is named twice, if the log is full, or if no number of a node is free.
+    pub fn put(&mut self, key: impl AsRef<[u8]>, sets: &[(u8, &[u8])]) -> Result<u64, Error> {
+        done(self.library.put(key.as_ref(), &column_sets(sets)))
     }
 
-    /// A [`put`](Index::put) that is done only where the key's row is of this version, or where `version` is 0 and the
-    /// key has no row. Else it is refused [`OtherVersion`](Error::OtherVersion), with the version that the row has.
-    pub fn put_if(&mut self, key: &[u8], sets: &[(u8, &[u8])], version: u64) -> Result<u64, Error> {
-        done(self.library.put_if(key, &column_sets(sets), version))
+    /// A [`put`](Index::put) that is done only if the key's row is of this version, or if `version` is 0 and the key
+    /// has no row. Otherwise it fails with [`OtherVersion`](Error::OtherVersion), which has the row's version.
+    pub fn put_if(
+        &mut self,
+        key: impl AsRef<[u8]>,
+        sets: &[(u8, &[u8])],
+        version: u64,
+    ) -> Result<u64, Error> {
+        let sets = column_sets(sets);
+        done(self.library.put_if(key.as_ref(), &sets, version))
     }
 
-    /// Ends a key's row. Gives the number of the commit, or none where there was no row.
-    pub fn remove(&mut self, key: &[u8]) -> Result<Option<u64>, Error> {
-        match self.library.remove(key) {
+    /// Removes a key's row. Returns the number of the commit, or none if the key has no row.
+    pub fn remove(&mut self, key: impl AsRef<[u8]>) -> Result<Option<u64>, Error> {
+        match self.library.remove(key.as_ref()) {
             (ABSENT, _) => Ok(None),
-            told => done(told).map(Some),
+            answer => done(answer).map(Some),
         }
     }
 
-    /// The row of a key. The library copies it into memory on the stack, and allocates for a copy of the key only; the
-    /// columns that are returned are allocated each.
-    pub fn get(&self, key: &[u8]) -> Result<Option<Row>, Error> {
+    /// The row of a key. The library copies it into memory on the stack, and allocates for a copy of the key only; each
+    /// column that is returned is allocated.
+    pub fn get(&self, key: impl AsRef<[u8]>) -> Result<Option<Row>, Error> {
         self.get_columns(key, &[])
     }
 
-    /// The row of a key, with the columns of these numbers in this order; none means all.
-    pub fn get_columns(&self, key: &[u8], columns: &[u8]) -> Result<Option<Row>, Error> {
+    /// The row of a key, with the columns of these numbers in this order, or with all columns if none are named.
+    pub fn get_columns(&self, key: impl AsRef<[u8]>, columns: &[u8]) -> Result<Option<Row>, Error> {
         answer(
-            |room| self.library.get(key, columns, room),
+            |room| self.library.get(key.as_ref(), columns, room),
             |mut reader| reader.row(),
         )
     }
 
-    /// All rows from a key on, in the order of their keys. They are read by a thousand at a time.
-    pub fn range(&self, start: &[u8]) -> Pairs<'_> {
-        Pairs {
-            index: self,
-            next: Some(start.to_vec()),
-            read: Vec::new().into_iter(),
-        }
+    /// The rows whose keys are in a range, in the order of their keys. A range that ends before it begins has none.
+    /// They are read by 32 at first, and then by more, up to 1000 at a time.
+    ///
+    /// ```
+    /// # let mut index = rowanspan::Index::open(rowanspan::Options::default())?;
+    /// # for key in ["a", "b", "c"] { index.put(key, &[])?; }
+    /// use std::ops::Bound;
+    /// assert_eq!(index.range("a".."c").count(), 2);
+    /// assert_eq!(index.range("b"..).count(), 2);
+    /// assert_eq!(index.range((Bound::Excluded("a"), Bound::Included("c"))).count(), 2);
+    /// assert_eq!(index.range(..).count(), 3);
+    /// # Ok::<(), rowanspan::Error>(())
+    /// ```
+    pub fn range(&self, range: impl KeyRange) -> Pairs<'_> {
+        Pairs::of_range(self, &range)
     }
 
-    /// The first rows from a key on, `limit` at most (1 to 1000), with the columns of these numbers; none means all.
+    /// The rows whose keys begin with these bytes, in the order of their keys: see [`range`](Index::range).
+    pub fn prefix(&self, prefix: impl AsRef<[u8]>) -> Pairs<'_> {
+        Pairs::of_prefix(self, prefix.as_ref())
+    }
+
+    /// The first rows from a key on, at most `limit` (1 to 1000), with the columns of these numbers in this order, or
+    /// with all columns if none are named.
     pub fn first(
         &self,
-        start: &[u8],
+        start: impl AsRef<[u8]>,
         limit: u16,
         columns: &[u8],
     ) -> Result<Vec<(Vec<u8>, Row)>, Error> {
         some_answer(
-            |room| self.library.range(start, limit, columns, room),
+            |room| self.library.range(start.as_ref(), limit, columns, room),
             |mut reader| reader.pairs(),
         )
     }
 
-    /// Takes out at most one node near the place of a key that is no longer wanted, after removes. [`Index::collect`]
-    /// frees it.
-    pub fn tidy(&mut self, key: &[u8]) -> Result<Tidied, Error> {
-        match done(self.library.tidy(key))? {
+    /// Takes at most one node out of the tree near the place of a key, if removes have left one that isn't needed.
+    /// [`Index::collect`] frees it.
+    pub fn tidy(&mut self, key: impl AsRef<[u8]>) -> Result<Tidied, Error> {
+        match done(self.library.tidy(key.as_ref()))? {
             0 => Ok(Tidied::Nothing),
             1 => Ok(Tidied::EmptyBorder),
             2 => Ok(Tidied::LoneChild),
@@ -210,7 +240,7 @@ impl Index {
         }
     }
 
-    /// Builds a view, which stands at the newest commit. Gives its number.
+    /// Builds a view, which is at the newest commit. Returns its number.
     pub fn build(&mut self, keys: Keys<'_>, test: RowTest<'_>) -> Result<u64, Error> {
         let test = match test {
             RowTest::Any => ViewTest::new(0, 0, 0, &[]),
@@ -218,32 +248,38 @@ impl Index {
             RowTest::AtLeast(column, least) => ViewTest::new(2, column, least, &[]),
         };
         done(match keys {
-            Keys::Prefix(key) => self.library.build_prefix(key, &test),
-            Keys::From(lo) => self.library.build_from(lo, &test),
-            Keys::Between(lo, hi) => self.library.build_between(lo, hi, &test),
+            Keys::Prefix(key) => self.library.build_prefix(key, test),
+            Keys::From(lo) => self.library.build_from(lo, test),
+            Keys::Between(lo, hi) => self.library.build_between(lo, hi, test),
         })
     }
 
-    /// Takes a view on by one commit, or the one that is furthest behind where `view` is 0. Gives the number of commits
-    /// at which it then stands, or none where nothing was to do.
+    /// Applies the next commit to a view; if `view` is 0, to the view that is furthest behind. Returns the number of
+    /// the commit at which the view then is, or none if there was nothing to apply.
     pub fn apply(&mut self, view: u64) -> Result<Option<u64>, Error> {
         match self.library.apply(view) {
             (CURRENT, _) => Ok(None),
-            told => done(told).map(Some),
+            answer => done(answer).map(Some),
         }
     }
 
-    /// Takes all views on to the newest commit.
-    pub fn keep_views(&mut self) -> Result<(), Error> {
-        while self.apply(0)?.is_some() {}
-        Ok(())
+    /// Applies commits to the views that are behind, until all are at the newest commit. Returns how many times it
+    /// applied a commit to a view. If it fails, the commits that were applied by then stay applied.
+    pub fn keep_views(&mut self) -> Result<u64, Error> {
+        done(self.library.keep_views())
     }
 
-    /// What a view shows that stands at `floor` commits at least, with its first rows from a key on, `limit` at most.
-    /// Refused `Behind` where it doesn't stand there.
-    pub fn view(&self, view: u64, floor: u64, start: &[u8], limit: u16) -> Result<Page, Error> {
+    /// What a view shows if it is at commit `floor` or later, with its first rows from a key on, at most `limit` (1 to
+    /// 1000). Fails with [`Behind`](Error::Behind) if the view is before the floor.
+    pub fn view(
+        &self,
+        view: u64,
+        floor: u64,
+        start: impl AsRef<[u8]>,
+        limit: u16,
+    ) -> Result<Page, Error> {
         some_answer(
-            |room| self.library.view(view, floor, start, limit, room),
+            |room| self.library.view(view, floor, start.as_ref(), limit, room),
             |mut reader| reader.page(),
         )
     }
@@ -253,7 +289,8 @@ impl Index {
         done(self.library.drop_view(view)).map(|_| ())
     }
 
-    /// What the commits after the first `from` did, `limit` of them at most. Refused `Behind` where some were trimmed.
+    /// What the commits after commit `from` did, in their order, at most `limit` (1 to 1000) of them. Fails with
+    /// [`Behind`](Error::Behind) if the log no longer has some of them.
     pub fn feed(&self, from: u64, limit: u16) -> Result<Vec<Delta>, Error> {
         some_answer(
             |room| self.library.feed(from, limit, room),
@@ -261,22 +298,22 @@ impl Index {
         )
     }
 
-    /// Begins the next epoch. Gives its number.
+    /// Begins the next epoch. Returns its number.
     pub fn advance(&mut self) -> Result<u64, Error> {
         done(self.library.advance())
     }
 
-    /// Frees the nodes that tidies took out. Gives how many.
+    /// Frees the nodes that tidies took out. Returns how many.
     pub fn collect(&mut self) -> Result<u64, Error> {
         done(self.library.collect())
     }
 
-    /// How many commits were made.
+    /// How many commits were made, which is the number of the last one.
     pub fn commits(&self) -> Result<u64, Error> {
         done(self.library.commits())
     }
 
-    /// How many numbers of nodes are occupied, of 1,048,576.
+    /// How many nodes are in use, of at most 1,048,576 nodes.
     pub fn nodes(&self) -> Result<u64, Error> {
         done(self.library.nodes())
     }
@@ -284,55 +321,5 @@ impl Index {
     /// How many columns a row has.
     pub fn columns(&self) -> Result<u64, Error> {
         done(self.library.columns())
-    }
-}
-
-/// The rows of an index from a key on, in the order of their keys: see [`Index::range`].
-pub struct Pairs<'a> {
-    index: &'a Index,
-    // the key from which on the next ones are read, if there may be more
-    next: Option<Vec<u8>>,
-    read: std::vec::IntoIter<(Vec<u8>, Row)>,
-}
-
-// The least key after this one, if there is one.
-fn key_after(key: &[u8]) -> Option<Vec<u8>> {
-    if key.len() < MAX_KEY_BYTES {
-        return Some([key, &[0]].concat());
-    }
-    let front = key.len()
-        - key
-            .iter()
-            .rev()
-            .take_while(|byte| **byte == u8::MAX)
-            .count();
-    let mut next = key[..front].to_vec();
-    *next.last_mut()? += 1;
-    Some(next)
-}
-
-impl Pairs<'_> {
-    fn read_more(&mut self, from: &[u8]) -> Result<(), Error> {
-        let pairs = self.index.first(from, MAX_LIMIT, &[])?;
-        if pairs.len() == usize::from(MAX_LIMIT) {
-            self.next = pairs.last().and_then(|(key, _)| key_after(key));
-        }
-        self.read = pairs.into_iter();
-        Ok(())
-    }
-}
-
-impl Iterator for Pairs<'_> {
-    type Item = Result<(Vec<u8>, Row), Error>;
-
-    fn next(&mut self) -> Option<Self::Item> {
-        if let Some(pair) = self.read.next() {
-            return Some(Ok(pair));
-        }
-        let from = self.next.take()?;
-        match self.read_more(&from) {
-            Ok(()) => self.read.next().map(Ok),
-            Err(error) => Some(Err(error)),
-        }
     }
 }

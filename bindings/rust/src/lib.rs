@@ -1,20 +1,21 @@
 //! Rowanspan in a Rust program: an ordered key-value index in memory, with views that stay exact.
 //!
 //! ```
-//! use rowanspan::{Index, Options};
+//! use rowanspan::{Error, Index, Options};
 //!
-//! # fn main() -> Result<(), rowanspan::Error> {
 //! let mut index = Index::open(Options::default())?;
-//! let commit = index.put(b"apple", &[(0, b"red")])?;
-//! let row = index.get(b"apple")?.expect("it was put");
+//! let commit = index.put("apple", &[(0, b"red")])?;
+//! let row = index.get("apple")?.expect("it was put");
 //! assert_eq!((row.version, &row.columns[0][..]), (commit, &b"red"[..]));
-//! for pair in index.range(b"a") {
+//! for pair in index.range("a".."b") {
 //!     let (key, row) = pair?;
 //!     println!("{key:?} {row:?}");
 //! }
-//! # Ok(())
-//! # }
+//! # Ok::<(), Error>(())
 //! ```
+//!
+//! The crate links `librowanspan.a`, from the folder in the environment's `ROWANSPAN_DIST` or from its `lib`; without
+//! that, from the release or the checkout in which the crate is.
 //!
 //! An [`Index`] is `Send`: it may be moved to another thread, and threads share one by an `Arc<Mutex<Index>>`. It isn't
 //! `Sync`: the library takes one call at a time, also if both calls only read.
@@ -29,9 +30,16 @@
 mod answers;
 mod error;
 mod index;
+mod range;
 #[allow(unsafe_code)]
 mod raw;
 
 pub use answers::{Delta, Page, Row};
 pub use error::Error;
-pub use index::{Index, Keys, Options, Pairs, RowTest, Tidied, MAX_KEY_BYTES, MAX_LIMIT};
+pub use index::{Index, Keys, Options, RowTest, Tidied, MAX_KEY_BYTES, MAX_LIMIT};
+pub use range::{KeyRange, Pairs};
+
+/// The version of the library that is linked, as `1.2.3`.
+pub fn version() -> &'static str {
+    raw::version()
+}

@@ -19,7 +19,7 @@ fn rows() -> Result<(), Error> {
     assert_eq!(index.put(b"apple", &[(0, b"red")])?, 1);
     assert_eq!(index.put(b"", &[])?, 2);
     assert_eq!(index.get(b"apple")?, Some(row(1, &[b"red"])));
-    let pairs = index.range(b"").collect::<Result<Vec<_>, Error>>()?;
+    let pairs = index.range(..).collect::<Result<Vec<_>, Error>>()?;
     assert_eq!(
         pairs,
         [
@@ -59,24 +59,25 @@ fn conditional_puts() -> Result<(), Error> {
     Ok(())
 }
 
+const TWO: Options = Options {
+    columns: 2,
+    feed: 2,
+    keep: 1,
+};
+
 #[test]
 fn refusals() -> Result<(), Error> {
-    let two = Options {
-        columns: 2,
-        feed: 2,
-        keep: 1,
-    };
     assert_eq!(
-        Index::open(Options { columns: 17, ..two }).err(),
+        Index::open(Options { columns: 17, ..TWO }).err(),
         Some(Error::BadColumn)
     );
     assert_eq!(
-        Index::open(Options { feed: 0, ..two }).err(),
+        Index::open(Options { feed: 0, ..TWO }).err(),
         Some(Error::BadLimit)
     );
-    let mut index = Index::open(two)?;
+    let mut index = Index::open(TWO)?;
     assert_eq!(
-        index.put(&[0; MAX_KEY_BYTES + 1], &[]),
+        index.put([0u8; MAX_KEY_BYTES + 1], &[]),
         Err(Error::KeyTooLong)
     );
     assert_eq!(index.put(b"k", &[(2, b"")]), Err(Error::BadColumn));
@@ -91,6 +92,12 @@ fn refusals() -> Result<(), Error> {
         index.build(Keys::Between(b"b", b"a"), RowTest::Any),
         Err(Error::BadRange)
     );
+    Ok(())
+}
+
+#[test]
+fn refusals_of_views() -> Result<(), Error> {
+    let mut index = Index::open(TWO)?;
     assert_eq!(index.view(1, 0, b"", 1), Err(Error::NoSuchView));
     let view = index.build(Keys::From(b""), RowTest::Any)?;
     assert_eq!(index.put(b"a", &[])?, 1);
@@ -98,7 +105,8 @@ fn refusals() -> Result<(), Error> {
     assert_eq!(index.put(b"c", &[]), Err(Error::FeedFull(0)));
     assert_eq!(index.view(view, 1, b"", 1), Err(Error::Behind(0)));
     assert_eq!(index.apply(view)?, Some(1));
-    index.keep_views()?;
+    assert_eq!(index.keep_views()?, 1);
+    assert_eq!(index.keep_views()?, 0);
     assert_eq!(index.apply(0)?, None);
     assert_eq!(index.feed(0, 1), Err(Error::Behind(1)));
     index.drop_view(view)?;
@@ -154,12 +162,12 @@ fn ranges_of_many() -> Result<(), Error> {
     let mut index = Index::open(Options::default())?;
     let key = |number: u32| format!("{number:08}").into_bytes();
     for number in 0..2000 {
-        index.put(&key(number), &[(0, &[1; 60])])?;
+        index.put(key(number), &[(0, &[1; 60])])?;
     }
     let last = [255u8; MAX_KEY_BYTES];
-    index.put(&last, &[])?;
+    index.put(last, &[])?;
     let keys = index
-        .range(&key(5))
+        .range(key(5)..)
         .map(|pair| Ok(pair?.0))
         .collect::<Result<Vec<_>, Error>>()?;
     let wanted: Vec<_> = (5..2000).map(key).chain([last.to_vec()]).collect();
@@ -179,7 +187,7 @@ fn rows_of_every_size() -> Result<(), Error> {
         let commit = index.put(b"key", &sets)?;
         let wanted = row(commit, &vec![&bytes[..]; 16]);
         assert_eq!(index.get(b"key")?, Some(wanted));
-        let wanted = row(commit, &vec![&bytes[..]; 2]);
+        let wanted = row(commit, &[&bytes[..]; 2]);
         assert_eq!(index.get_columns(b"key", &[15, 0])?, Some(wanted));
     }
     Ok(())
@@ -208,8 +216,8 @@ fn threads_by_a_lock() -> Result<(), Error> {
             thread::spawn(move || -> Result<(), Error> {
                 for count in 0..250u8 {
                     let mut index = shared.lock().expect("no thread panics");
-                    index.put(&[number, count], &[(0, &[count])])?;
-                    let found = index.get(&[number, count / 2])?.expect("it was put");
+                    index.put([number, count], &[(0, &[count])])?;
+                    let found = index.get([number, count / 2])?.expect("it was put");
                     assert_eq!(found.columns, [[count / 2]]);
                 }
                 Ok(())
@@ -220,7 +228,7 @@ fn threads_by_a_lock() -> Result<(), Error> {
         thread.join().expect("the thread ends")?;
     }
     let index = shared.lock().expect("no thread panics");
-    assert_eq!((index.commits()?, index.range(b"").count()), (1000, 1000));
+    assert_eq!((index.commits()?, index.range(..).count()), (1000, 1000));
     Ok(())
 }
 
@@ -255,7 +263,7 @@ fn put_if_by_chance(
     let found = plain.get(&key).map_or(0, |row| row.version);
     let version = found + chance.below(2);
     match index.put_if(&key, &[(0, &bytes)], version) {
-        Err(Error::OtherVersion(told)) => assert!(version != found && told == found),
+        Err(Error::OtherVersion(other)) => assert!(version != found && other == found),
         put => {
             assert_eq!(version, found);
             let row = plain.entry(key).or_insert_with(|| row(0, &[b"", b""]));
@@ -276,6 +284,21 @@ fn put_by_chance(
     let row = plain.entry(key).or_insert_with(|| row(0, &[b"", b""]));
     row.version = commit;
     row.columns[usize::from(column)] = bytes;
+    Ok(())
+}
+
+fn first_by_chance(
+    index: &Index,
+    plain: &BTreeMap<Vec<u8>, Row>,
+    chance: &mut Chance,
+) -> Result<(), Error> {
+    let (key, limit) = (chance.key(), 1 + chance.below(30) as usize);
+    let wanted: Vec<_> = plain
+        .range(key.clone()..)
+        .take(limit)
+        .map(|(key, row)| (key.clone(), row.clone()))
+        .collect();
+    assert_eq!(index.first(&key, limit as u16, &[])?, wanted);
     Ok(())
 }
 
@@ -300,15 +323,7 @@ fn random_calls_against_a_map() -> Result<(), Error> {
                 let key = chance.key();
                 assert_eq!(index.get(&key)?, plain.get(&key).cloned());
             }
-            8 => {
-                let (key, limit) = (chance.key(), 1 + chance.below(30) as usize);
-                let wanted: Vec<_> = plain
-                    .range(key.clone()..)
-                    .take(limit)
-                    .map(|(k, r)| (k.clone(), r.clone()))
-                    .collect();
-                assert_eq!(index.first(&key, limit as u16, &[])?, wanted);
-            }
+            8 => first_by_chance(&index, &plain, &mut chance)?,
             _ => {
                 index.keep_views()?;
                 let shown = plain.iter().filter(|(key, _)| key.starts_with(b"aa"));

@@ -1,5 +1,5 @@
-//! A cache with prefix invalidation: pages under their paths, and what stands below a path is dropped by one walk over
-//! the rows there. A view counts the bytes of what is cached.
+//! A cache with prefix invalidation: pages under their paths. What is below a path is dropped by one walk over the rows
+//! there. A view counts the bytes of what is cached.
 
 use rowanspan::{Error, Index, Keys, Options, RowTest};
 
@@ -19,28 +19,22 @@ impl Cache {
     }
 
     fn get(&self, path: &str) -> Result<Option<String>, Error> {
-        let row = self.index.get_columns(path.as_bytes(), &[0])?;
+        let row = self.index.get_columns(path, &[0])?;
         Ok(row.map(|row| String::from_utf8_lossy(&row.columns[0]).into_owned()))
     }
 
     fn put(&mut self, path: &str, page: &str) -> Result<(), Error> {
         let size = [page.len() as u8];
-        self.index
-            .put(path.as_bytes(), &[(0, page.as_bytes()), (1, &size)])?;
-        self.index.keep_views()
+        self.index.put(path, &[(0, page.as_bytes()), (1, &size)])?;
+        self.index.keep_views()?;
+        Ok(())
     }
 
-    // Drops what stands below a path; gives how many pages that were.
+    // Drops what is below a path, and returns how many pages that were.
     fn invalidate(&mut self, path: &str) -> Result<usize, Error> {
-        let mut below = Vec::new();
-        for pair in self.index.range(path.as_bytes()) {
-            let (key, _) = pair?;
-            if !key.starts_with(path.as_bytes()) {
-                break;
-            }
-            below.push(key);
-        }
-        for key in &below {
+        let pairs = self.index.prefix(path);
+        let below = pairs.collect::<Result<Vec<_>, Error>>()?;
+        for (key, _) in &below {
             self.index.remove(key)?;
         }
         self.index.keep_views()?;
@@ -48,7 +42,7 @@ impl Cache {
     }
 
     fn print(&self) -> Result<(), Error> {
-        let page = self.index.view(self.sizes, 0, b"", 1)?;
+        let page = self.index.view(self.sizes, 0, "", 1)?;
         println!("{} pages of {} bytes", page.count, page.sums[1]);
         Ok(())
     }

@@ -1,0 +1,193 @@
+/* rowanspan.c: the functions of rowanspan.h. Each passes its arguments to the proved function that raw.h declares.
+ *
+ * A raw function takes no null pointer: it is passed the address of something else then, which it doesn't use. */
+#include "raw.h"
+
+#include <stdlib.h>
+
+/* An index: a raw handle that holds one. */
+struct rowanspan {
+    struct rowanspan_raw raw;
+};
+
+/* The raw handle of an index. A raw function writes to the handle also if it only reads what the handle holds. The
+ * const of a caller's pointer is taken away here: the memory is that of malloc, so it may be written. */
+static raw_handle raw_of(const rowanspan *index) {
+    return &((rowanspan *)index)->raw;
+}
+
+static const struct rowanspan_set *sets_at(const struct rowanspan_set *sets) {
+    static const struct rowanspan_set none = {0, NULL, 0};
+    return sets ? sets : &none;
+}
+
+/* ---- the index */
+
+rowanspan_status rowanspan_open(rowanspan **index, uint64_t columns, uint64_t feed, uint64_t keep) {
+    struct rowanspan_raw raw = {NULL, false};
+    rowanspan_status status = (rowanspan_status)rowanspan_raw_open(&raw, columns, feed, keep);
+    *index = NULL;
+    if (status != ROWANSPAN_OK) {
+        return status;
+    }
+    /* after the raw call, so that limits are answered before memory */
+    *index = malloc(sizeof **index);
+    if (!*index) {
+        rowanspan_raw_close(&raw);
+        return ROWANSPAN_NO_MEMORY;
+    }
+    (*index)->raw = raw;
+    return ROWANSPAN_OK;
+}
+
+void rowanspan_close(rowanspan *index) {
+    if (index) {
+        rowanspan_raw_close(&index->raw);
+        free(index);
+    }
+}
+
+/* ---- rows */
+
+rowanspan_status rowanspan_put(rowanspan *index, const void *key, size_t key_length, const struct rowanspan_set *sets,
+                               size_t count, uint64_t *told) {
+    return (rowanspan_status)rowanspan_raw_put(raw_of(index), rowanspan_bytes_at(key), key_length, sets_at(sets),
+                                               count, told);
+}
+
+rowanspan_status rowanspan_put_if(rowanspan *index, const void *key, size_t key_length,
+                                  const struct rowanspan_set *sets, size_t count, uint64_t version, uint64_t *told) {
+    return (rowanspan_status)rowanspan_raw_put_if(raw_of(index), rowanspan_bytes_at(key), key_length, sets_at(sets),
+                                                  count, version, told);
+}
+
+rowanspan_status rowanspan_remove(rowanspan *index, const void *key, size_t key_length, uint64_t *told) {
+    return (rowanspan_status)rowanspan_raw_remove(raw_of(index), rowanspan_bytes_at(key), key_length, told);
+}
+
+rowanspan_status rowanspan_tidy(rowanspan *index, const void *key, size_t key_length, uint64_t *told) {
+    return (rowanspan_status)rowanspan_raw_tidy(raw_of(index), rowanspan_bytes_at(key), key_length, told);
+}
+
+rowanspan_status rowanspan_get(const rowanspan *index, const void *key, size_t key_length, const uint8_t *columns,
+                               size_t column_count, void *into, size_t room, uint64_t *told) {
+    uint8_t none[1] = {0};
+    return (rowanspan_status)rowanspan_raw_get(raw_of(index), rowanspan_bytes_at(key), key_length,
+                                               rowanspan_bytes_at(columns), column_count, into ? into : none,
+                                               into ? room : 0, told);
+}
+
+rowanspan_status rowanspan_range(const rowanspan *index, const void *start, size_t start_length, uint16_t limit,
+                                 const uint8_t *columns, size_t column_count, void *into, size_t room, uint64_t *told) {
+    uint8_t none[1] = {0};
+    return (rowanspan_status)rowanspan_raw_range(raw_of(index), rowanspan_bytes_at(start), start_length, limit,
+                                                 rowanspan_bytes_at(columns), column_count, into ? into : none,
+                                                 into ? room : 0, told);
+}
+
+/* ---- views */
+
+rowanspan_status rowanspan_build_prefix(rowanspan *index, const void *prefix, size_t prefix_length,
+                                        struct rowanspan_test test, uint64_t *told) {
+    return (rowanspan_status)rowanspan_raw_build_prefix(raw_of(index), rowanspan_bytes_at(prefix), prefix_length,
+                                                        &test, told);
+}
+
+rowanspan_status rowanspan_build_from(rowanspan *index, const void *lo, size_t lo_length, struct rowanspan_test test,
+                                      uint64_t *told) {
+    return (rowanspan_status)rowanspan_raw_build_from(raw_of(index), rowanspan_bytes_at(lo), lo_length, &test, told);
+}
+
+rowanspan_status rowanspan_build_between(rowanspan *index, const void *lo, size_t lo_length, const void *hi,
+                                         size_t hi_length, struct rowanspan_test test, uint64_t *told) {
+    return (rowanspan_status)rowanspan_raw_build_between(raw_of(index), rowanspan_bytes_at(lo), lo_length,
+                                                         rowanspan_bytes_at(hi), hi_length, &test, told);
+}
+
+rowanspan_status rowanspan_view(const rowanspan *index, uint64_t view, uint64_t floor, const void *start,
+                                size_t start_length, uint16_t limit, void *into, size_t room, uint64_t *told) {
+    uint8_t none[1] = {0};
+    return (rowanspan_status)rowanspan_raw_view(raw_of(index), view, floor, rowanspan_bytes_at(start), start_length,
+                                                limit, into ? into : none, into ? room : 0, told);
+}
+
+rowanspan_status rowanspan_apply(rowanspan *index, uint64_t view, uint64_t *told) {
+    return (rowanspan_status)rowanspan_raw_apply(raw_of(index), view, told);
+}
+
+rowanspan_status rowanspan_keep_views(rowanspan *index, uint64_t *told) {
+    uint64_t applied = 0;
+    rowanspan_status status = rowanspan_apply(index, 0, told);
+    while (status == ROWANSPAN_OK) {
+        applied++;
+        status = rowanspan_apply(index, 0, told);
+    }
+    if (status != ROWANSPAN_CURRENT) {
+        return status;
+    }
+    *told = applied;
+    return ROWANSPAN_OK;
+}
+
+rowanspan_status rowanspan_drop(rowanspan *index, uint64_t view, uint64_t *told) {
+    return (rowanspan_status)rowanspan_raw_drop(raw_of(index), view, told);
+}
+
+/* ---- commits, nodes and numbers */
+
+rowanspan_status rowanspan_feed(const rowanspan *index, uint64_t from, uint16_t limit, void *into, size_t room,
+                                uint64_t *told) {
+    uint8_t none[1] = {0};
+    return (rowanspan_status)rowanspan_raw_feed(raw_of(index), from, limit, into ? into : none, into ? room : 0, told);
+}
+
+rowanspan_status rowanspan_advance(rowanspan *index, uint64_t *told) {
+    return (rowanspan_status)rowanspan_raw_advance(raw_of(index), told);
+}
+
+rowanspan_status rowanspan_collect(rowanspan *index, uint64_t *told) {
+    return (rowanspan_status)rowanspan_raw_collect(raw_of(index), told);
+}
+
+rowanspan_status rowanspan_commits(const rowanspan *index, uint64_t *told) {
+    return (rowanspan_status)rowanspan_raw_commits(raw_of(index), told);
+}
+
+rowanspan_status rowanspan_nodes(const rowanspan *index, uint64_t *told) {
+    return (rowanspan_status)rowanspan_raw_nodes(raw_of(index), told);
+}
+
+rowanspan_status rowanspan_columns(const rowanspan *index, uint64_t *told) {
+    return (rowanspan_status)rowanspan_raw_columns(raw_of(index), told);
+}
+
+/* ---- texts */
+
+/* (without a default, so that the compiler names a status that has no text) */
+const char *rowanspan_status_text(rowanspan_status status) {
+    switch (status) {
+    case ROWANSPAN_OK: return "The call was done.";
+    case ROWANSPAN_NO_MEMORY: return "An allocation was refused.";
+    case ROWANSPAN_KEY_TOO_LONG: return "A key has more than 1,024 bytes.";
+    case ROWANSPAN_BAD_COLUMN: return "A column doesn't exist, or is named twice; an index has 1 to 16 columns.";
+    case ROWANSPAN_COLUMN_TOO_LONG: return "A column has more than 64 bytes.";
+    case ROWANSPAN_BAD_LIMIT: return "A limit is not from 1 to 1000, or the option feed or keep is out of its bounds.";
+    case ROWANSPAN_ARENA_FULL: return "No number of a node is free.";
+    case ROWANSPAN_FEED_FULL: return "The log is full: views that are behind hold it.";
+    case ROWANSPAN_TOO_MANY_VIEWS: return "There are 64 views, and no more are possible.";
+    case ROWANSPAN_NO_SUCH_VIEW: return "No view has this number.";
+    case ROWANSPAN_BEHIND: return "The view is not yet at this commit, or the log no longer has some of the commits.";
+    case ROWANSPAN_BAD_RANGE: return "The range of a view ends before it begins.";
+    case ROWANSPAN_SPENT: return "A number is at its greatest value.";
+    case ROWANSPAN_OTHER_VERSION: return "The key's row is of another version.";
+    case ROWANSPAN_ABSENT: return "The key has no row.";
+    case ROWANSPAN_NO_ROOM: return "The buffer is smaller than the answer.";
+    case ROWANSPAN_CURRENT: return "There was nothing to apply: no view is behind.";
+    case ROWANSPAN_NO_SUCH_TEST: return "No test of rows is of this kind.";
+    }
+    return "No status has this number.";
+}
+
+const char *rowanspan_version(void) {
+    return ROWANSPAN_VERSION;
+}

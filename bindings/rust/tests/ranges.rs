@@ -1,0 +1,199 @@
+//! Ranges and prefixes against a `BTreeMap`, and what errors and the version say.
+
+use rowanspan::{Error, Index, Options, MAX_KEY_BYTES};
+use std::collections::{BTreeMap, BTreeSet};
+use std::ops::Bound;
+
+type Keys = Vec<Vec<u8>>;
+
+fn index_of(keys: &[Vec<u8>]) -> Result<Index, Error> {
+    let mut index = Index::open(Options::default())?;
+    for key in keys {
+        index.put(key, &[(0, b"v")])?;
+    }
+    Ok(index)
+}
+
+fn keys_of(pairs: rowanspan::Pairs<'_>) -> Result<Keys, Error> {
+    pairs.map(|pair| Ok(pair?.0)).collect()
+}
+
+#[test]
+fn each_form_of_a_range() -> Result<(), Error> {
+    let index = index_of(&["a", "b", "bb", "c"].map(Vec::from))?;
+    let keys = |wanted: &[&str]| wanted.iter().map(|key| Vec::from(*key)).collect::<Keys>();
+    assert_eq!(keys_of(index.range(..))?, keys(&["a", "b", "bb", "c"]));
+    assert_eq!(keys_of(index.range("b"..))?, keys(&["b", "bb", "c"]));
+    assert_eq!(keys_of(index.range(b"b"..b"c"))?, keys(&["b", "bb"]));
+    assert_eq!(
+        keys_of(index.range("b".to_string()..="c".to_string()))?,
+        keys(&["b", "bb", "c"])
+    );
+    assert_eq!(keys_of(index.range(..b"b".to_vec()))?, keys(&["a"]));
+    assert_eq!(
+        keys_of(index.range(..=&b"bb"[..]))?,
+        keys(&["a", "b", "bb"])
+    );
+    assert_eq!(
+        keys_of(index.range((Bound::Excluded("b"), Bound::Included("c"))))?,
+        keys(&["bb", "c"])
+    );
+    assert_eq!(keys_of(index.range("c".."a"))?, keys(&[]));
+    assert_eq!(keys_of(index.range("b".."b"))?, keys(&[]));
+    assert_eq!(
+        keys_of(index.range((Bound::Excluded("b"), Bound::Excluded("b"))))?,
+        keys(&[])
+    );
+    assert_eq!(keys_of(index.prefix("b"))?, keys(&["b", "bb"]));
+    assert_eq!(keys_of(index.prefix(""))?, keys(&["a", "b", "bb", "c"]));
+    assert_eq!(keys_of(index.prefix(b"bbb"))?, keys(&[]));
+    Ok(())
+}
+
+// Keys that begin alike or with the greatest bytes, and some of the greatest length.
+fn awkward_keys() -> Keys {
+    let mut keys = BTreeSet::new();
+    for front in [
+        &b""[..],
+        b"a",
+        b"a\0",
+        b"a\xff",
+        b"\xff",
+        b"\xff\xff",
+        b"b",
+        b"aaaaaaaabbbbbbbb",
+    ] {
+        for back in [&b""[..], b"\0", b"a", b"\xff", b"\xff\xff"] {
+            keys.insert([front, back].concat());
+        }
+    }
+    for byte in [b'a', b'b', u8::MAX] {
+        keys.insert(vec![byte; MAX_KEY_BYTES]);
+    }
+    keys.into_iter().collect()
+}
+
+fn bounds_of(key: &[u8]) -> [Bound<Vec<u8>>; 3] {
+    [
+        Bound::Included(key.to_vec()),
+        Bound::Excluded(key.to_vec()),
+        Bound::Unbounded,
+    ]
+}
+
+// Whether a map takes these bounds: it panics if the first comes after the second.
+fn is_proper(start: &Bound<Vec<u8>>, end: &Bound<Vec<u8>>) -> bool {
+    match (start, end) {
+        (Bound::Excluded(lo), Bound::Excluded(hi)) => lo < hi,
+        (Bound::Included(lo) | Bound::Excluded(lo), Bound::Included(hi) | Bound::Excluded(hi)) => {
+            lo <= hi
+        }
+        _ => true,
+    }
+}
+
+#[test]
+fn bounds_against_a_map() -> Result<(), Error> {
+    let keys = awkward_keys();
+    let plain: BTreeMap<_, _> = keys.iter().map(|key| (key.clone(), ())).collect();
+    let index = index_of(&keys)?;
+    for lo in &keys {
+        for hi in &keys {
+            for start in bounds_of(lo) {
+                for end in bounds_of(hi) {
+                    let wanted = match is_proper(&start, &end) {
+                        true => plain
+                            .range((start.clone(), end.clone()))
+                            .map(|(key, ())| key.clone())
+                            .collect(),
+                        false => Keys::new(),
+                    };
+                    assert_eq!(
+                        keys_of(index.range((start.clone(), end)))?,
+                        wanted,
+                        "{lo:?} {hi:?}"
+                    );
+                }
+            }
+        }
+    }
+    Ok(())
+}
+
+#[test]
+fn prefixes_against_a_map() -> Result<(), Error> {
+    let keys = awkward_keys();
+    let index = index_of(&keys)?;
+    for prefix in &keys {
+        let wanted: Keys = keys
+            .iter()
+            .filter(|key| key.starts_with(prefix))
+            .cloned()
+            .collect();
+        assert!(!wanted.is_empty());
+        assert_eq!(keys_of(index.prefix(prefix))?, wanted, "{prefix:?}");
+    }
+    Ok(())
+}
+
+// Ends at each place about the numbers of rows that are read at once.
+#[test]
+fn ends_among_many() -> Result<(), Error> {
+    let key = |number: usize| format!("{number:05}").into_bytes();
+    let keys: Keys = (0..3000).map(key).collect();
+    let index = index_of(&keys)?;
+    for count in [
+        0, 1, 31, 32, 33, 159, 160, 161, 671, 672, 673, 1671, 1672, 1673, 2671, 2672, 2673, 3000,
+    ] {
+        assert_eq!(keys_of(index.range(..key(count)))?, keys[..count]);
+        assert_eq!(keys_of(index.range(key(count)..))?, keys[count..]);
+        assert_eq!(
+            keys_of(index.range(key(7)..=key(count)))?,
+            keys[7..(count + 1).clamp(7, 3000)]
+        );
+    }
+    let mut pairs = index.range(key(2999)..);
+    assert!(pairs.next().is_some());
+    assert!(pairs.next().is_none() && pairs.next().is_none());
+    Ok(())
+}
+
+#[test]
+fn keys_that_are_too_long() -> Result<(), Error> {
+    let index = index_of(&[vec![b'k'; MAX_KEY_BYTES]])?;
+    let long = vec![b'k'; MAX_KEY_BYTES + 1];
+    for mut pairs in [
+        index.range(long.clone()..),
+        index.range((Bound::Excluded(&long), Bound::Unbounded)),
+        index.prefix(&long),
+    ] {
+        assert_eq!(pairs.next(), Some(Err(Error::KeyTooLong)));
+        assert_eq!(pairs.next(), None);
+    }
+    assert_eq!(index.range(..long).count(), 1);
+    Ok(())
+}
+
+#[test]
+fn errors_say_what_was_wrong() -> Result<(), Error> {
+    let mut index = Index::open(Options::default())?;
+    let error: Box<dyn std::error::Error> = Box::new(index.put_if("k", &[], 7).unwrap_err());
+    assert_eq!(error.to_string(), "the key has no row");
+    let error = index.put([0; MAX_KEY_BYTES + 1], &[]).unwrap_err();
+    assert_eq!(error.to_string(), "a key has more than 1024 bytes");
+    let error = Index::open(Options {
+        columns: 0,
+        ..Options::default()
+    })
+    .unwrap_err();
+    assert_eq!(
+        error.to_string(),
+        "a column doesn't exist, or is named twice"
+    );
+    Ok(())
+}
+
+#[test]
+fn the_version_is_that_of_the_crate() {
+    assert_eq!(rowanspan::version(), env!("CARGO_PKG_VERSION"));
+}

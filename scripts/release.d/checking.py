@@ -1,0 +1,237 @@
+"""Checks a release from empty folders and without the Rattle kit: what the tarball and the wheel have can be used."""
+from __future__ import annotations
+
+import os
+import re
+import shutil
+import subprocess
+import sys
+import tarfile
+import tempfile
+import threading
+from dataclasses import dataclass
+from pathlib import Path
+from typing import Dict, List, Optional, Sequence, Tuple
+
+import making
+
+SECONDS = 600
+# the Debian packages of the commands that a check needs
+PACKAGES = {"cc": "gcc", "c++": "g++", "cargo": "cargo", "pkg-config": "pkg-config", "sha256sum": "coreutils",
+            "ldd": "libc-bin"}
+# where what a program may need is, but for the release
+OF_SYSTEM = ("linux-vdso", "/lib/", "/lib64/", "/usr/lib/", "/usr/lib64/")
+# a put and a get of the server at the port that is named, by the client of the wheel
+ASKING = """import sys
+from rowanspan import Index
+with Index(int(sys.argv[1])) as index:
+    commit = index.put(b"apple", b"red")
+    print(commit, index.get(b"apple").version, index.get(b"apple").columns, index.get(b"pear"))
+"""
+ASKED = "1 1 (b'red',) None\n"
+
+
+@dataclass(frozen=True)
+class Outcome:
+    """What came of a command."""
+
+    status: int
+    output: str
+    errors: str = ""
+
+    def why(self) -> str:
+        return f"status {self.status}\n{self.output}{self.errors}"
+
+
+class Checks:
+    """The cases, in a folder of their own, by commands whose environment has no kit."""
+
+    def __init__(self, room: Path) -> None:
+        self.room, self.passed, self.failed = room, 0, 0
+        self.unpacked = room / "unpacked" / making.NAME
+        self.python: Optional[Path] = None
+        kept = ("HOME", "LANG", "TMPDIR", "CARGO_HOME", "RUSTUP_HOME")
+        self.environment = {name: os.environ[name] for name in kept if name in os.environ}
+        cargo = shutil.which("cargo")
+        folders = ["/usr/bin", "/bin", *([str(Path(cargo).parent)] if cargo else [])]
+        self.environment["PATH"] = ":".join(folders)
+
+    def case(self, name: str, is_so: bool, why: str = "") -> bool:
+        """Counts a case, and prints whether it passed."""
+        self.passed, self.failed = self.passed + is_so, self.failed + (not is_so)
+        print(f"ok {name}" if is_so else f"FAILED {name}: {why}", flush=True)
+        return is_so
+
+    def has(self, command: str) -> bool:
+        return shutil.which(command, path=self.environment["PATH"]) is not None
+
+    def run(self, command: Sequence[str], folder: Optional[Path] = None, **environment: str) -> Outcome:
+        """Runs a command, which is found on the path without the kit."""
+        found = shutil.which(command[0], path=self.environment["PATH"])
+        if found is None:
+            package = PACKAGES.get(command[0])
+            return Outcome(127, f"there is no {command[0]}" + (f" (Debian package {package})" if package else ""))
+        try:
+            done = subprocess.run([found, *command[1:]], cwd=folder or self.room, text=True, stdin=subprocess.DEVNULL,
+                                  env={**self.environment, **environment}, capture_output=True, timeout=SECONDS,
+                                  check=False)
+        except (OSError, subprocess.TimeoutExpired) as fault:
+            return Outcome(126, str(fault))
+        return Outcome(done.returncode, done.stdout, done.stderr)
+
+    def succeeds(self, name: str, command: Sequence[str], folder: Optional[Path] = None, **environment: str) -> bool:
+        outcome = self.run(command, folder, **environment)
+        return self.case(name, outcome.status == 0, outcome.why())
+
+    def writes(self, name: str, command: Sequence[str], wanted: str, **environment: str) -> None:
+        outcome = self.run(command, None, **environment)
+        self.case(name, outcome.status == 0 and outcome.output == wanted, outcome.why())
+
+
+# ---- the files
+
+def unpack(checks: Checks) -> bool:
+    folder = checks.unpacked.parent
+    folder.mkdir()
+    with tarfile.open(making.TARBALL) as tar:
+        names = tar.getnames()
+        tar.extractall(folder)
+    is_one = [path.name for path in folder.iterdir()] == [making.NAME]
+    return checks.case("unpacked", is_one and len(names) > 20, str(names))
+
+
+def check_sums(checks: Checks) -> None:
+    """Each file is in SHA256SUMS, and is as it says."""
+    checks.succeeds("sums", ["sha256sum", "--check", "--strict", "--quiet", making.SUMS], checks.unpacked)
+    there = {str(path.relative_to(checks.unpacked)) for path in checks.unpacked.rglob("*") if path.is_file()}
+    summed = {line.partition("  ")[2] for line in (checks.unpacked / making.SUMS).read_text().splitlines()}
+    checks.case("each file has a sum", summed == there - {making.SUMS}, str(summed ^ there))
+
+
+def check_programs(checks: Checks) -> None:
+    """Each program says how it is used, and it and the library need nothing but what the system has."""
+    for name in making.PROGRAMS:
+        outcome = checks.run([str(checks.unpacked / "bin" / name), "--help"])
+        checks.case(f"{name} --help", outcome.status == 0 and name in outcome.output, outcome.why())
+    for path in [*(checks.unpacked / "bin" / name for name in making.PROGRAMS),
+                 checks.unpacked / "lib" / "librowanspan.so"]:
+        outcome = checks.run(["ldd", str(path)])
+        is_static = re.search("statically linked|not a dynamic executable", outcome.output + outcome.errors) is not None
+        needed = [line.partition("=>")[2].strip() or line.strip() for line in outcome.output.splitlines()]
+        is_of_system = bool(needed) and all(place.startswith(OF_SYSTEM) for place in needed)
+        checks.case(f"{path.name} needs no kit", is_static or is_of_system, outcome.why())
+
+
+# ---- Python and the server
+
+def install_wheel(checks: Checks) -> None:
+    """Installs the wheel in an environment of its own."""
+    wheels = making.wheels()
+    if not checks.case("there is a wheel", len(wheels) == 1, "dist/ has none of this version, or more than one"):
+        return
+    folder = checks.room / "environment"
+    if checks.run([sys.executable, "-m", "venv", str(folder)]).status != 0:
+        print("skipped: Debian package python3-venv is missing", flush=True)
+        return
+    python = folder / "bin" / "python"
+    if checks.succeeds("install the wheel", [str(python), "-m", "pip", "install", "--no-index", "--quiet",
+                                             "--disable-pip-version-check", str(wheels[0])]):
+        checks.python = python
+
+
+def check_server(checks: Checks) -> None:
+    """The server answers a put and a get of the wheel's client, and ends after the session."""
+    command = [str(checks.unpacked / "bin" / "mtserve"), "--port", "0", "--sessions", "1"]
+    with subprocess.Popen(command, cwd=checks.room, env=checks.environment, text=True, stdin=subprocess.DEVNULL,
+                          stdout=subprocess.PIPE, stderr=subprocess.PIPE) as server:
+        # (if it names no port, or doesn't end)
+        timer = threading.Timer(60, server.kill)
+        timer.start()
+        listening = re.fullmatch("listening ([0-9]+)\n", server.stderr.readline())
+        if checks.case("mtserve listens", listening is not None, "it names no port"):
+            checks.writes("a put and a get of mtserve", [str(checks.python), "-c", ASKING, listening[1]], ASKED)
+        else:
+            server.kill()
+        output, errors = server.communicate()
+        timer.cancel()
+    checks.case("mtserve ends", server.returncode == 0 and output.endswith("commits 1\n"), output + errors)
+
+
+def check_python(checks: Checks) -> None:
+    """The example in Python, away from the repository, so that it imports the package of the wheel."""
+    example = making.TOP / "examples" / "embedding" / "leaderboard.py"
+    copied = checks.room / example.name
+    shutil.copyfile(example, copied)
+    checks.writes("leaderboard", [str(checks.python), "-I", str(copied)], example.with_suffix(".out").read_text())
+
+
+# ---- C and Rust
+
+def flags_of(checks: Checks) -> List[str]:
+    """How a program is compiled with the shared library of the tarball."""
+    library, include = checks.unpacked / "lib", checks.unpacked / "include"
+    if not checks.has("pkg-config"):
+        print("pkg-config is missing (Debian package pkg-config): by -I and -L", flush=True)
+        return [f"-I{include}", f"-L{library}", "-lrowanspan"]
+    outcome = checks.run(["pkg-config", "--cflags", "--libs", "rowanspan"], None,
+                         PKG_CONFIG_PATH=str(library / "pkgconfig"))
+    version = checks.run(["pkg-config", "--modversion", "rowanspan"], None,
+                         PKG_CONFIG_PATH=str(library / "pkgconfig"))
+    checks.case("pkg-config", outcome.status == 0 and version.output.strip() == making.VERSION, outcome.why())
+    return outcome.output.split()
+
+
+def example_of_readme(checks: Checks) -> Tuple[Path, str]:
+    """The program that README.md has first, as a file, and what it prints."""
+    text = (checks.unpacked / "README.md").read_text(encoding="utf-8")
+    program, printed = re.search(r"```c\n(.*?)```", text, re.S), re.search(r"```text\n(.*?)```", text, re.S)
+    path = checks.room / "hello.c"
+    path.write_text(program[1] if program else "")
+    return path, printed[1] if printed else "nothing"
+
+
+def check_c(checks: Checks) -> None:
+    """The example of README.md as C and as C++, with both libraries, and the examples of the tarball."""
+    source, wanted = example_of_readme(checks)
+    flags, warnings = flags_of(checks), ["-Wall", "-Wextra", "-Werror"]
+    library = checks.unpacked / "lib"
+    static = [f"-I{checks.unpacked / 'include'}", str(library / "librowanspan.a")]
+    word_count = checks.unpacked / "examples" / "word_count.c"
+    for name, compiler, path, linked, printed in (
+            ("hello", ["cc"], source, flags, wanted), ("hello-static", ["cc"], source, static, wanted),
+            ("hello-c++", ["c++", "-x", "c++"], source, flags, wanted),
+            ("word_count", ["cc", "-std=c99"], word_count, flags, word_count.with_suffix(".out").read_text())):
+        program = checks.room / name
+        command = [*compiler, *warnings, str(path), "-x", "none", *linked, "-o", str(program)]
+        if checks.succeeds(f"compile {name}", command):
+            checks.writes(name, [str(program)], printed, LD_LIBRARY_PATH="" if linked is static else str(library))
+
+
+def check_rust(checks: Checks) -> None:
+    examples = checks.unpacked / "examples"
+    checks.writes("cache", ["cargo", "run", "--offline", "--quiet", "--manifest-path",
+                            str(examples / "cache" / "Cargo.toml"), "--target-dir", str(checks.room / "target")],
+                  (examples / "cache.out").read_text())
+    checks.succeeds("tests of the crate", ["cargo", "test", "--offline", "--quiet", "--target-dir",
+                                           str(checks.room / "target")], checks.unpacked / "rust")
+
+
+def check() -> int:
+    """Checks what was made, and returns the status."""
+    if not making.TARBALL.is_file():
+        print(f"release: there is no dist/{making.TARBALL.name}; scripts/release makes it", file=sys.stderr)
+        return 1
+    with tempfile.TemporaryDirectory() as folder:
+        checks = Checks(Path(folder))
+        checks.case("no kit on the path", not checks.has("rt"), checks.environment["PATH"])
+        if unpack(checks):
+            check_sums(checks)
+            check_programs(checks)
+            check_c(checks)
+            check_rust(checks)
+            install_wheel(checks)
+            if checks.python is not None:
+                check_server(checks)
+                check_python(checks)
+    print(f"{checks.passed} passed, {checks.failed} failed")
+    return 1 if checks.failed else 0
