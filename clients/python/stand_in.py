@@ -297,7 +297,7 @@ class StandIn:
                 serve(connection, self.index)
             except SessionFault as fault:
                 self.faults.append(fault.number)
-                self._tell(f"session fault {fault.number}")
+                self._tell(f"session fault {fault.number}: {fault}")
 
 
 # ---- the command line

@@ -8,13 +8,23 @@ from rowanspan import (MAX_QUERIES, AnswerKind, AnyRow, AtLeast, Build, Equals, 
                        spelled_bytes, spelled_key, spelled_number)
 
 READ_FAILED, WRITE_FAILED, CUT, BAD_LENGTH, BAD_VERSION, BAD_BODY = 1, 2, 3, 4, 5, 6
+# what the server says of each fault
+FAULTS = {
+    1: "the input could not be read",
+    2: "a reply could not be written",
+    3: "the input ended inside a frame",
+    4: "the length of a frame is out of its bounds",
+    5: "a frame has another version",
+    6: "a frame spells no queries",
+    7: "out of memory",
+}
 
 
 class SessionFault(Exception):
-    """A session ends by this number."""
+    """A session ends by the fault of this number."""
 
     def __init__(self, number: int) -> None:
-        super().__init__(number)
+        super().__init__(FAULTS[number])
         self.number = number
 
 

@@ -234,7 +234,7 @@ def one_crowd(serving: ModuleType, shim: Shim, check: str, seed: int) -> Tuple[i
         lost = sum(member.lost for member in members)
         want(server.process.poll() is None, "the server has ended")
     faults = server.rest_of_lines()
-    want(faults == ["session fault 7"] * lost,
+    want(faults == [serving.fault_line(7)] * lost,
          f"{lost} sessions were lost, and it says {faults[:3]}, {len(faults)} lines")
     return receipts, sum(member.refused for member in members), lost
 

@@ -23,15 +23,15 @@ use std::{env, io};
 const ABOUT: &str = "Audits the log of an index and the receipts of its calls";
 
 const LINES: &str = "\
-Standard input has a line for each commit, from the first on, and behind them a line for each receipt:
+Standard input has a line for each commit, from the first on, and after them a line for each receipt:
   delta N KEY BEFORE AFTER         commit N changed the row of KEY: as `feed` of mtdrive prints it. A row is
                                    VERSION:VALUES, VALUES joined by commas, or `none`
   receipt FROM TO REQUEST => ANSWER   a call that began at FROM commits and ended at TO was answered so
 A REQUEST is `get KEY COLS`, `put KEY SETS`, `putif KEY VERSION SETS`, `remove KEY` or `range START LIMIT COLS`; an
-ANSWER is what mtdrive prints behind `done FROM TO`. A page of a view is `view SPEC FLOOR START LIMIT` with
-`view AT COUNT SUMS K ROWS`. What was refused gives no receipt.
+ANSWER is what mtdrive prints after `done FROM TO`. A page of a view is `view SPEC FLOOR START LIMIT` with
+`view AT COUNT SUMS K ROWS`. A refused call has no receipt.
 Keys and columns are hex, `-` is empty; COLS is `all` or numbers joined by commas, SETS is `-` or COL=BYTES
-joined by commas; a SPEC is `range LO HI TEST`, where HI is a key or `none`, or `prefix KEY TEST`; a TEST is
+joined by commas; a SPEC is `range LO HI TEST`, in which HI is a key or `none`, or `prefix KEY TEST`; a TEST is
 `any`, `equals COL BYTES` or `atleast COL NUMBER`.
 
 One line is printed:
@@ -41,7 +41,8 @@ One line is printed:
                        an earlier receipt claimed, 7 a range, 8 a page
   bad line N           the first line that doesn't read, or breaks a limit
 
-The status is 0 for ok; 1 for a fault; 2 for a bad line or a bad command line; 3 where reading or writing failed.";
+The status is 0 for ok; 1 for a fault; 2 for a bad line or a bad command line; 3 if reading or writing failed, or memory
+was refused.";
 
 fn columns_option<'a>(alloc: Global) -> Arg<'a>
     ensures rule { rule_of result ≡ columns_rule }

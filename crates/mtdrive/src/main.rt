@@ -28,20 +28,20 @@ Each line of standard input is one of
   begin PASS REQUEST   begins a call: prints `call N` or a refusal
   step CALL            one step of it: `moved`, `again`, `commit N`, `done FROM TO ANSWER` or a refusal
   finish CALL          steps until one is neither moved nor a commit, at most 1,000,000; prints the last
-  alone REQUEST        a call from its begin to its end: `done ..` or a refusal; `busy` where others are open
-  apply VIEW           takes a view on by one commit: `applied N`, `current` or a refusal
-  view VIEW FLOOR START LIMIT   reads a view that stands at FLOOR or later: `view AT COUNT SUMS K ROWS` or a refusal
+  alone REQUEST        a call from its begin to its end: `done ..` or a refusal; `busy` if others are open
+  apply VIEW           advances a view by one commit: `applied N`, `current` or a refusal
+  view VIEW FLOOR START LIMIT   reads a view that is at FLOOR or later: `view AT COUNT SUMS K ROWS` or a refusal
   drop VIEW            ends a view: `dropped` or a refusal
   advance, collect     the next epoch: `epoch N`; frees retired nodes: `freed N`
   feed FROM LIMIT      the commits after FROM, at most LIMIT: a line `delta N KEY BEFORE AFTER` for each, or a refusal
 A REQUEST is `get KEY COLS`, `put KEY SETS`, `putif KEY VERSION SETS`, `remove KEY`, `range START LIMIT COLS`,
-`tidy KEY` or `build SPEC`. A `putif` puts only over a row of this version, where VERSION is 0 only over none; else it
-is refused, by `refused 16 N` where the row is of version N. Keys and columns are hex, `-` is empty; COLS is `all` or
-numbers joined by commas, SETS is `-` or COL=BYTES joined by commas. A SPEC is `range LO HI TEST`, where HI is a key
-or `none`, or `prefix KEY TEST`; a TEST is `any`, `equals COL BYTES` or `atleast COL NUMBER`. Other lines print
-`bad line`.
+`tidy KEY` or `build SPEC`. A `putif` puts only if the row has this version, or, for VERSION 0, if there is none;
+otherwise it is refused, by `refused 16 N` if the row has version N. Keys and columns are hex, `-` is empty; COLS is
+`all` or numbers joined by commas, SETS is `-` or COL=BYTES joined by commas. A SPEC is `range LO HI TEST`, in which
+HI is a key or `none`, or `prefix KEY TEST`; a TEST is `any`, `equals COL BYTES` or `atleast COL NUMBER`. Other lines
+print `bad line`.
 
-The status is 0; 1 where a line was bad; 2 for a bad command line; 3 where reading or writing failed.";
+The status is 0; 1 if a line was bad; 2 for a bad command line; 3 if reading or writing failed, or memory was refused.";
 
 // An option that takes a number within these bounds.
 fn number_option<'a>(alloc: Global, name: &'a str, least: u64, most: u64, help: &'a str) -> Arg<'a>

@@ -13,12 +13,12 @@ use std::alloc::{AllocError, Global};
 const ABOUT: &str = "Serves an empty index on 127.0.0.1, over TCP";
 
 const MORE: &str = "\
-Each connection is a session: frames of queries in, for each of them a frame of answers (docs/WIRE.md). Each worker
-serves one connection at a time. Where it listens is told on standard error, as `listening PORT`; so is a session that
-was broken off, as `session fault N`: 1 a read failed, 2 a write failed, 3 the input ended inside a frame, 4 bad length,
-5 bad version, 6 bad body, 7 no memory. When all sessions have ended, `events E commits C` is printed.
+Each connection is a session: frames of queries come in, and each is answered by a frame (docs/WIRE.md). Each worker
+serves one connection at a time. Standard error says where it listens, as `listening PORT`, and why a session was broken
+off, as `session fault N: REASON`. When all sessions have ended, standard output says `events E commits C`.
 
-The status is 0; 2 for a bad command line; 3 where listening, accepting, a thread, memory or the end failed.";
+The status is 0; 2 for a bad command line; 3 if listening, accepting, a thread or standard error failed, if memory was
+refused at the start, or if the counts at the end don't add up.";
 
 /// What is to be served, and how.
 #[derive(Clone, Copy, Debug)]
@@ -87,7 +87,7 @@ fn index_options<'a>(command: Command<'a>, alloc: Global) -> Result<Command<'a>,
 fn command<'a>(alloc: Global) -> Result<Command<'a>, AllocError>
     ensures { IfOk result (λ command. app_of command ≡ mtserve_app) }
 {
-    let forever = "Serves until the process is ended, in place of --sessions";
+    let forever = "Serves until the process is ended, instead of --sessions";
     let named = Command::new(alloc, "mtserve").about(ABOUT).after_help(MORE);
     let flagged = socket_options(named, alloc)?.arg(flag(alloc, "forever", forever))?;
     index_options(flagged, alloc)

@@ -59,7 +59,7 @@ fn serve<R: Wait + Eprint>(
     let mut frames = Frames::new(alloc, stream);
     let mut writer = Sink::new(stream);
     if let Err(fault) = session(alloc, &mut frames, &mut writer, &mut door, pass) {
-        eprintln!(rt; "session fault {}", fault.number())?;
+        eprintln!(rt; "session fault {}: {fault}", fault.number())?;
     }
     let _epoch = door.event(alloc, pass, &Event::Advance);
     let _freed = door.event(alloc, pass, &Event::Collect);
