@@ -2,6 +2,8 @@
 that don't read. test_rowanspan.py runs them."""
 from __future__ import annotations
 
+import copy
+import pickle
 import subprocess
 import sys
 import unittest
@@ -11,7 +13,7 @@ from typing import Any, Dict, List, Sequence, Tuple
 import rowanspan
 import rowanspan.embedded
 from rowanspan import (MAX_KEY_BYTES, AnyRow, AtLeast, Build, Equals, Get, GetRange, Index, NoLibrary, Prefix, Put,
-                       Query, Range, Row, TooLong, ViewDrop, ViewRead)
+                       PutIf, Query, Range, Row, TooLong, ViewDrop, ViewRead)
 from rowanspan.text import HEX, TEXT, BadLine, read_query
 from stand_in import StandIn
 
@@ -65,6 +67,30 @@ class ArgumentTest(unittest.TestCase):
         for arguments in (("7070",), (None,), (7070, b"localhost"), (7070, 5), (7070, "127.0.0.1", "1")):
             with self.subTest(arguments=arguments), self.assertRaises(TypeError):
                 Index(*arguments)
+
+    def test_ports_that_there_are_not(self) -> None:
+        for port in (-1, 65_536, 65_536 + 7070):
+            with self.subTest(port=port), self.assertRaises(rowanspan.TooLong):
+                Index(port)
+
+    def test_queries_by_an_iterator(self) -> None:
+        """They are asked once each, and a conditional put among them makes the frame one of version 2."""
+        with StandIn() as server, Index(server.port, timeout=SECONDS) as index:
+            queries = [Put(b"a", b"1"), PutIf(b"a", b"2", 1)]
+            replies = index.call_all(iter(queries))  # type: ignore[arg-type]
+            self.assertEqual([reply.value for reply in replies], [1, 2])  # type: ignore[union-attr]
+            self.assertEqual(index.get(b"a"), Row(2, (b"2",)))
+
+    def test_copies(self) -> None:
+        """A refusal can be copied, and an index can't."""
+        for fault in (rowanspan.KeyTooLong(), rowanspan.OtherVersion(5)):
+            again = pickle.loads(pickle.dumps(fault))
+            self.assertEqual((type(again), str(again), again.detail), (type(fault), str(fault), fault.detail))
+        with StandIn() as server, Index(server.port, timeout=SECONDS) as index:
+            for copying in (copy.copy, copy.deepcopy, pickle.dumps):
+                with self.assertRaisesRegex(TypeError, "Client objects can't be copied"):
+                    copying(index)
+            self.assertIsNone(index.get(b"a"))
 
     def test_an_embedded_index(self) -> None:
         """Arguments of a wrong type are found before the library is."""

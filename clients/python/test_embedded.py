@@ -4,6 +4,7 @@ test_embedded_threads. Prints 'N passed, M failed' last."""
 from __future__ import annotations
 
 import inspect
+import os
 import random
 import re
 import subprocess
@@ -44,6 +45,19 @@ def rows() -> None:
         assert index.tidy(b"apple") is Tidied.NOTHING
         assert index.put(b"\0\0", b"\0") == 4 and index.get(b"\0\0") == Row(4, (b"\0",))
         assert index.put(b"", b"") == 5 and index.first(limit=1) == [(b"", Row(5, (b"",)))]
+
+
+def a_library_named_without_its_folder() -> None:
+    """It is looked for in the present folder, and not where the loader looks."""
+    named = os.environ.get("ROWANSPAN_LIBRARY")
+    built, before = Path(named) if named else HERE.parents[1] / "dist" / "librowanspan.so", os.getcwd()
+    built = built.resolve()
+    os.chdir(built.parent)
+    try:
+        with Index(library=built.name) as index:
+            assert index.put(b"a", b"") == 1
+    finally:
+        os.chdir(before)
 
 
 def columns() -> None:
@@ -299,8 +313,9 @@ def memory_is_flat() -> None:
     assert int(grown) < 4096, f"{grown.strip()} KiB more after a thousand times"
 
 
-CASES = (rows, columns, conditional_puts, views, *test_embedded_views.CASES, feeds, large_answers, epochs, closed,
-         wrong_types, names_of_the_client, the_examples_of_the_pages, the_shell, random_calls, memory_is_flat)
+CASES = (rows, a_library_named_without_its_folder, columns, conditional_puts, views, *test_embedded_views.CASES, feeds,
+         large_answers, epochs, closed, wrong_types, names_of_the_client, the_examples_of_the_pages, the_shell,
+         random_calls, memory_is_flat)
 
 
 class EmbeddedMapTest(MapCases, unittest.TestCase):

@@ -2,6 +2,8 @@
 them."""
 from __future__ import annotations
 
+import copy
+import pickle
 from typing import Any, Callable
 
 from rowanspan.embedded import Behind, ColumnTooLong, FeedFull, Index, NoMemory, Page, Prefix, Row
@@ -107,4 +109,29 @@ def views_kept_by_hand() -> None:
         assert view.at == 5
 
 
-CASES = (views_by_hand, changes_that_no_view_follows, changes_after_the_log_was_full, views_kept_by_hand)
+def an_interrupt_before_the_views_follow() -> None:
+    """The change is made; the next one brings the views up to date before it, though they hold the whole log."""
+    with Index(feed=1) as index:
+        view = index.build(Prefix(b""))
+        keep_views = index._keep_views
+
+        def interrupted() -> None:
+            raise KeyboardInterrupt
+
+        index._keep_views = interrupted  # type: ignore[method-assign]
+        raises(KeyboardInterrupt, lambda: index.put(b"a", b""))
+        index._keep_views = keep_views  # type: ignore[method-assign]
+        assert index.commits() == 1 and view.at == 0
+        assert index.put(b"b", b"") == 2 and view.page(2).count == 2
+
+
+def copies_of_an_index() -> None:
+    with Index() as index:
+        index.put(b"a", b"")
+        for copying in (copy.copy, copy.deepcopy, pickle.dumps):
+            raises(TypeError, lambda: copying(index))
+        assert index.get(b"a") == Row(1, (b"",))
+
+
+CASES = (an_interrupt_before_the_views_follow, copies_of_an_index, views_by_hand, changes_that_no_view_follows,
+         changes_after_the_log_was_full, views_kept_by_hand)

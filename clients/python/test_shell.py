@@ -121,6 +121,13 @@ class ShellTest(unittest.TestCase):
         said = "done 1 2 put 2\ndone 2 2 rows 2 a:1:v größe:2:a\\x20b\n"
         self.assertEqual(self.run_shell(["--text"], lines), (0, said))
 
+    def test_a_line_that_is_too_long(self) -> None:
+        lines = b"put 62 0=" + b"7" * 3_000_000 + b"\nget 61 all\n" + b"8" * 2_000_000
+        self.assertEqual(self.run_shell([], lines), (1, "bad line\ndone 1 1 row 1 76\nbad line\n"))
+
+    def test_a_line_after_the_options(self) -> None:
+        self.assertEqual(self.run_shell(["--", "get", "61", "all"]), (0, "done 1 1 row 1 76\n"))
+
     def status_of(self, words: Sequence[str]) -> int:
         return subprocess.run([sys.executable, str(SHELL), *words], input=b"", stdout=subprocess.DEVNULL,
                               stderr=subprocess.DEVNULL, timeout=SECONDS, check=False).returncode
@@ -130,7 +137,8 @@ class ShellTest(unittest.TestCase):
             port = str(listener.getsockname()[1])
         self.assertEqual(self.status_of(["--help"]), 0)
         self.assertEqual(self.status_of(["get", "61", "all"]), 2)
-        self.assertEqual(self.status_of(["-p", "x", "get", "61", "all"]), 2)
+        for wrong in ("x", "-1", "65536"):
+            self.assertEqual(self.status_of(["-p", wrong, "get", "61", "all"]), 2)
         for words in (["-p", port, "--embedded"], ["-p", port, "--columns", "2"], ["--embedded", "--timeout", "1"],
                       ["--embedded", "--host", "localhost"], ["--embedded", "--columns", "x"]):
             with self.subTest(words=words):

@@ -114,8 +114,8 @@ def wheels() -> List[Path]:
 def make_wheel() -> bool:
     """Makes the wheel; whether that was done."""
     if not os.access(WHEEL, os.X_OK):
-        print("there is no scripts/wheel, so there is no wheel", flush=True)
-        return True
+        print("release: there is no scripts/wheel that can be run, so there is no wheel", file=sys.stderr)
+        return False
     return subprocess.run([str(WHEEL)], cwd=TOP, check=False).returncode == 0
 
 

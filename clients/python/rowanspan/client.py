@@ -6,7 +6,7 @@ import struct
 from typing import Any, List, Optional, Sequence, TypeVar
 
 from .core import (MAX_LIMIT, BadReply, Closed, ConnectionLost, Page, Pairs, Refused, Row, Sets, Tidied, TooLong,
-                   ViewNo, ViewSpec, checked_int)
+                   ViewNo, ViewSpec, checked_number)
 from .mapping import RowMap
 from .pipeline import Pipeline
 from .wire import (MAX_REPLY_BODY, Build, Get, GetRange, Outcome, Put, PutIf, Query, Remove, Reply, Tidy, ViewDrop,
@@ -43,7 +43,7 @@ def receive_body(connection: socket.socket) -> bytes:
 
 def check_address(port: Any, host: Any, timeout: Any) -> None:
     """Raises TypeError if one of them is of a wrong type, and `TooLong` for a timeout that is no time to wait."""
-    checked_int(port, "a port")
+    checked_number(port, "a port", 65535)
     if not isinstance(host, str):
         raise TypeError(f"a host must be a str, not {type(host).__name__}")
     if timeout is not None and not isinstance(timeout, (int, float)):
@@ -71,7 +71,8 @@ class Client(RowMap):
         try:
             self._connection = socket.create_connection((host, port), timeout)
             self._connection.setsockopt(socket.IPPROTO_TCP, socket.TCP_NODELAY, 1)
-        except (OSError, OverflowError) as fault:
+        except (OSError, OverflowError, ValueError) as fault:
+            # (a ValueError: the host is no name that can be looked up)
             self.close()
             raise ConnectionLost(f"no connection to {host}, port {port}: {fault}") from fault
 
@@ -103,7 +104,8 @@ class Client(RowMap):
     def call_all(self, queries: Sequence[Query[Any]]) -> List[Outcome]:
         """Asks 1 to 64 queries in one frame, which the server does one after another. Returns for each its reply, or
         the `Refused`, not raised."""
-        return self.exchange(queries, [spelled_query(query) for query in queries])
+        asked = list(queries)
+        return self.exchange(asked, [spelled_query(query) for query in asked])
 
     def exchange(self, queries: Sequence[Query[Any]], messages: Sequence[bytes]) -> List[Outcome]:
         """Sends a frame of these queries, which are spelled as these messages, and reads the answers to them."""

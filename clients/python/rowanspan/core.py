@@ -72,6 +72,10 @@ class Refused(RowanspanError):
         self.detail = detail
         super().__init__(self.cause if detail is None else f"{self.cause} ({detail})")
 
+    def __reduce__(self) -> Tuple[Any, ...]:
+        # without it a copy, or one from another process, would have its own text as its detail
+        return type(self), (self.detail,)
+
 
 class NoMemory(Refused):
     number, cause = 1, "out of memory"

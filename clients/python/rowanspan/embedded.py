@@ -148,6 +148,7 @@ class Index(RowMap):
             if status == ABSENT:
                 return None
             if self._keeps_views:
+                self._views_lag = True
                 self._try_to_keep_views()
             return number
 
@@ -155,7 +156,7 @@ class Index(RowMap):
         try:
             self._keep_views()
         except (Refused, MemoryError):
-            self._views_lag = True
+            pass
 
     def _keep_views(self) -> None:
         """Brings all views to the newest commit, for a caller that holds the lock."""

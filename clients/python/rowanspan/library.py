@@ -141,7 +141,8 @@ def loaded(named: Optional[Union[str, Path]]) -> SimpleNamespace:
     if found is None:
         raise NoLibrary(none_at("library", tried))
     try:
-        library = ctypes.CDLL(str(found))
+        # (absolute: a name without a slash would be looked up elsewhere)
+        library = ctypes.CDLL(os.path.abspath(found))
         functions = {name: function(library, name, [*parameters, TOLD]) for name, parameters in PARAMETERS.items()}
         return SimpleNamespace(open=function(library, "open", [U64, U64, U64]), close=function(library, "close", []),
                                **functions)

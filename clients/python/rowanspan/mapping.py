@@ -26,6 +26,10 @@ class RowMap(abc.ABC):
     # without it a loop over an index would ask for the keys 0, 1, ..
     __iter__ = None
 
+    def __reduce_ex__(self, protocol: Any) -> Any:
+        # a copy would have the same connection, or close the same index of the library while it is in use
+        raise TypeError(f"{type(self).__name__} objects can't be copied or pickled")
+
     # -- rows
 
     @abc.abstractmethod

@@ -48,7 +48,19 @@ the server isn't there, or if standard input or output fails; 130 if it was inte
 """
 
 
+# no line that reads has as many bytes as this; what is more is read, and not kept
+MAX_LINE = 1 << 20
+
+
 # ---- the command line
+
+def port(word: str) -> int:
+    """The number of a port."""
+    value = int(word)
+    if not 0 <= value <= 65535:
+        raise ValueError(word)
+    return value
+
 
 def seconds(word: str) -> float:
     """A time to wait."""
@@ -62,7 +74,7 @@ def parser() -> argparse.ArgumentParser:
     made = argparse.ArgumentParser(
         prog="rowan", usage=USES, description="Asks an index of Rowanspan, line by line.", epilog=LINES,
         formatter_class=argparse.RawDescriptionHelpFormatter)
-    made.add_argument("-p", "--port", type=int, help="asks the server at this port")
+    made.add_argument("-p", "--port", type=port, help="asks the server at this port")
     made.add_argument("--host", help="the server's address (127.0.0.1)")
     made.add_argument("--timeout", type=seconds, metavar="SECONDS",
                       help="how long an answer of the server may take (without end)")
@@ -72,7 +84,7 @@ def parser() -> argparse.ArgumentParser:
     made.add_argument("--text", action="store_true", help="keys and columns are text, not hex")
     made.add_argument("--version", action="version", version=f"rowan {version()}")
     made.add_argument("words", nargs=argparse.REMAINDER, metavar="WORD",
-                      help="one line; without it the lines of standard input are answered")
+                      help="one line, after all options; without it the lines of standard input are answered")
     return made
 
 
@@ -135,6 +147,8 @@ def answer_all(ask: Ask, lines: Iterable[str], notation: Notation) -> int:
     status = 0
     for number, line in enumerate(lines, 1):
         try:
+            if len(line) >= MAX_LINE:
+                raise BadLine(f"it has {MAX_LINE} bytes or more")
             query = read_query(line, notation)
             said = outcome_line(query, ask(query), notation)
         except (BadLine, TooLong) as fault:
@@ -161,9 +175,15 @@ def write_line(line: str) -> None:
 
 
 def lines_of_input() -> Iterable[str]:
-    """The lines of standard input, without their line feeds."""
+    """The lines of standard input, without their line feeds. Of a line that is too long, its first bytes."""
     with open(0, "rb", closefd=False) as lines:
-        for line in lines:
+        while True:
+            line = lines.readline(MAX_LINE)
+            rest = line
+            while len(rest) == MAX_LINE and not rest.endswith(b"\n"):
+                rest = lines.readline(MAX_LINE)
+            if not line:
+                return
             yield line.decode("utf-8", "surrogateescape").rstrip("\n")
 
 
@@ -196,7 +216,7 @@ def main(arguments: Optional[Sequence[str]] = None) -> int:
         if given[:1] == ["serve"]:
             become_server(given[1:])
         options = parsed(given)
-        words: List[str] = options.words
+        words: List[str] = options.words[1:] if options.words[:1] == ["--"] else options.words
         lines = [" ".join(words)] if words else lines_of_input()
         for stream in range(3):
             # the connection would take the number of one that is closed
