@@ -154,8 +154,10 @@ class ShellTest(unittest.TestCase):
 
     def test_an_interrupt(self) -> None:
         with StandIn() as server:
+            # (these tests may run in the background of a shell, which ignores interrupts there)
             with subprocess.Popen([sys.executable, str(SHELL), "-p", str(server.port)], stdin=subprocess.PIPE,
-                                  stdout=subprocess.PIPE, stderr=subprocess.PIPE) as shell:
+                                  stdout=subprocess.PIPE, stderr=subprocess.PIPE,
+                                  preexec_fn=lambda: signal.signal(signal.SIGINT, signal.SIG_DFL)) as shell:
                 assert shell.stdin is not None and shell.stdout is not None and shell.stderr is not None
                 shell.stdin.write(b"put 61 0=76\n")
                 shell.stdin.flush()

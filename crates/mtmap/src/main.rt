@@ -18,6 +18,21 @@ fn sets(alloc: Global, value: &'static [u8]) -> Result<Sets, Refusal> {
     Ok(Items::from_vec(Vec::from_array(alloc, [set])?))
 }
 
+// The most rows that are printed.
+const MOST_ROWS: u32 = 100;
+
+// Prints how long each key is, in their order, and which version its row has.
+fn print_rows<R: Print>(rt: &R, map: &Map) -> Result<()> {
+    let mut rows = map.walk(&Key::new(Bytes::new())?)?;
+    for _ in 0..MOST_ROWS {
+        let Some(row) = rows.next()? else {
+            break;
+        };
+        println!(rt; "{} bytes, version {}", rows.key().len(), row.version)?;
+    }
+    Ok(())
+}
+
 fn run<R: Print + AllocGlobal>(rt: &R) -> Result<()> {
     let alloc = rt.alloc();
     let mut map = Map::open(alloc, Options::default())?;
@@ -30,10 +45,7 @@ fn run<R: Print + AllocGlobal>(rt: &R) -> Result<()> {
     let view = map.build(ViewSpec::Prefix { key, test })?;
     let _ = map.put(Bytes::from_static(b"apricot"), sets(alloc, b"orange")?)?;
     let _ = map.put(Bytes::from_static(b"pear"), sets(alloc, b"green")?)?;
-    let mut rows = map.walk(&Key::new(Bytes::new())?)?;
-    while let Some(row) = rows.next()? {
-        println!(rt; "{} bytes, version {}", rows.key().len(), row.version)?;
-    }
+    print_rows(rt, &map)?;
     let _ = map.keep_views(100)?;
     let page = map.page(view, map.commits(), &Bytes::new(), 10)?;
     println!(rt; "{} rows begin with ap", page.count)?;
