@@ -166,6 +166,9 @@ fn tidies_of_a_map(rt: HostRuntime) -> Result<(), Fail> {
     let done = map.tidy(Bytes::from_static(b"apricots/a"));
     assert_eq!(rt; done, Ok(TidyRule::EmptyLayer));
     let freed = map.collect() as usize;
-    assert_eq!(rt; (freed > 0, Some(map.nodes())), (true, nodes.checked_sub(freed)));
+    assert_eq!(rt;
+        (freed > 0, Some(map.nodes())),
+        (true, nodes.checked_sub(freed))
+    );
     Ok(())
 }
