@@ -24,3 +24,4 @@ pub mod QuietStands
 pub mod LawLemmas
 pub mod FeedLemmas
 pub mod MakesLemmas
+pub mod RunLemmas

@@ -8,3 +8,4 @@ pub mod OneStep
 pub mod Events
 pub mod Laws
 pub mod Feed
+pub mod Runs

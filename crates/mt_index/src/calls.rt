@@ -199,6 +199,35 @@ impl Calls {
         Some(self.call(number)?.pass)
     }
 
+    /// Begins a call while no other is open, and returns its number. O(1).
+    pub(crate) fn begin_first(&mut self, call: Call) -> u64
+        requires unspent { self.old.begun < 2 ^ 64 - 1 }
+        requires none { length self.old.calls ≡ 0 }
+        ensures number { result ≡ self.old.begun + 1 }
+        ensures begins { self.new
+            ≡ record { begun = self.old.begun + 1; calls = self.old.calls ++ (self.old.begun + 1, call) ∷ [] } }
+    {
+        let number = self.begun + 1;
+        let more = changes(&call);
+        let None = self.first.replace((number, call)) else {
+            unreachable!()
+        };
+        self.begun = number;
+        self.writers = more;
+        number
+    }
+
+    /// Counts a call that has begun and ended while no other was open, and returns its number. O(1).
+    pub(crate) fn count_one(&mut self) -> u64
+        requires unspent { self.old.begun < 2 ^ 64 - 1 }
+        requires none { length self.old.calls ≡ 0 }
+        ensures number { result ≡ self.old.begun + 1 }
+        ensures counts { self.new ≡ record self.old { begun = self.old.begun + 1 } }
+    {
+        self.begun += 1;
+        self.begun
+    }
+
     /// Begins a call, and returns its number. O(log n) in the open calls. Allocates only if others are open. On an
     /// error nothing changes.
     ///
@@ -213,16 +242,11 @@ impl Calls {
             ≡ record { begun = self.old.begun + 1; calls = self.old.calls ++ (self.old.begun + 1, call) ∷ [] }) }
         ensures err { OnErr result (self.new ≡ self.old) }
     {
+        if self.len() == 0 {
+            return Ok(self.begin_first(call));
+        }
         let number = self.begun + 1;
         let more = changes(&call);
-        if self.len() == 0 {
-            let None = self.first.replace((number, call)) else {
-                unreachable!()
-            };
-            self.begun = number;
-            self.writers = more;
-            return Ok(number);
-        }
         self.others.insert(number, call)?;
         self.begun = number;
         self.writers += more;

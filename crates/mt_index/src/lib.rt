@@ -3,6 +3,7 @@
 #![tactic(auto)]
 
 mod alone;
+pub mod calling;
 mod calls;
 mod epochs;
 mod feed;

@@ -28,7 +28,8 @@ use Rattle.mt_promise.specs.History.{Moment, StandingView, rows, view_of}
 use Rattle.mt_promise.specs.Legal.{begin_fault, MayReadView, MayRead, MayShow, MayDrop, page_of}
 use Rattle.mt_promise.specs.Alone.{IsPlain, IsPlainRefusal}
 use Rattle.mt_serve.proofs.RangeOnce.{range_once}
-use Rattle.mt_shared.specs.Turns.{page_outcome, drop_outcome}
+use Rattle.mt_index.specs.Viewing.{page_outcome}
+use Rattle.mt_shared.specs.Turns.{drop_outcome}
 use Rattle.mt_wire.specs.Answered.{end_of}
 use Rattle.mt_wire.specs.declared.query.Query.{Query}
 use Rattle.mt_wire.specs.declared.query.Query.TheVariants.{Call, ViewRead, ViewDrop}

@@ -22,7 +22,8 @@ use Rattle.mt_shared.specs.declared.trace.Entry.{Entry}
 use Rattle.mt_shared.specs.Passes.{PassView}
 use Rattle.mt_shared.specs.Drives.{Runs, whole, IsDrive}
 use Rattle.mt_shared.specs.Reads.{ReadsNow}
-use Rattle.mt_shared.specs.Turns.{page_outcome, drop_outcome, furthest, turn, IsTurn, HasTurned}
+use Rattle.mt_index.specs.Viewing.{page_outcome}
+use Rattle.mt_shared.specs.Turns.{drop_outcome, furthest, turn, IsTurn, HasTurned}
 use Rattle.mt_shared.specs.Kept.{KeptView, Does}
 use Rattle.mt_wire.specs.declared.query.Query.{Query}
 use Rattle.mt_wire.specs.declared.query.Query.TheVariants.{Call, ViewRead, ViewDrop}

@@ -7,7 +7,8 @@ use Rattle.std.proofs.KnownBytes.{Appends-nil, Appends-trans}
 use Rattle.mt_shared.specs.Passes.{PassView}
 use Rattle.mt_shared.specs.Drives.{EventLaw}
 use Rattle.mt_shared.specs.Reads.{ReadLaw}
-use Rattle.mt_shared.specs.Turns.{drop_outcome, page_outcome}
+use Rattle.mt_index.specs.Viewing.{page_outcome}
+use Rattle.mt_shared.specs.Turns.{drop_outcome}
 use Rattle.mt_types.specs.declared.event.Event.TheVariants.{ViewDrop as DropOf, ViewRead as ReadOf}
 use Rattle.mt_types.specs.declared.numbers.ViewNo.{ViewNo}
 use Rattle.mt_wire.specs.declared.query.Query.{Query}

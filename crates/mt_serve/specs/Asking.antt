@@ -7,7 +7,8 @@ use Rattle.mt_types.specs.declared.view.Page.{Page}
 use Rattle.mt_shared.specs.Passes.{PassView}
 use Rattle.mt_shared.specs.Drives.{EventLaw}
 use Rattle.mt_shared.specs.Reads.{ReadLaw, IsCall}
-use Rattle.mt_shared.specs.Turns.{page_outcome, drop_outcome, KeepsUp, IsStopped}
+use Rattle.mt_index.specs.Viewing.{page_outcome}
+use Rattle.mt_shared.specs.Turns.{drop_outcome, KeepsUp, IsStopped}
 use Rattle.mt_wire.specs.declared.query.Query.{Query}
 use Rattle.mt_wire.specs.declared.query.Query.TheVariants.{Call, ViewRead, ViewDrop}
 use Rattle.mt_wire.specs.declared.response.Response.{Response}

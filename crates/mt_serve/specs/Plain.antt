@@ -29,7 +29,8 @@ use Rattle.mt_index.specs.Stands.{Stands}
 use Rattle.mt_shared.specs.Passes.{PassView, IsNewPass}
 use Rattle.mt_shared.specs.Kept.{KeptView, Does, IsFresh, has_book}
 use Rattle.mt_shared.specs.Reads.{IsRead, ReadsNow}
-use Rattle.mt_shared.specs.Turns.{page_outcome, drop_outcome, furthest}
+use Rattle.mt_index.specs.Viewing.{page_outcome}
+use Rattle.mt_shared.specs.Turns.{drop_outcome, furthest}
 use Rattle.mt_wire.specs.declared.query.Query.{Query}
 use Rattle.mt_wire.specs.declared.query.Query.TheVariants.{Call, ViewRead, ViewDrop}
 use Rattle.mt_wire.specs.declared.response.Response.{Response}

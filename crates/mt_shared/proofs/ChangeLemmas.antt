@@ -1,5 +1,5 @@
 -- Views that are kept up after a call on what a lock keeps are kept up somewhere.
-use Rattle.std.proofs.Common.{◌≡◌, ◌<◌, ◌++◌, ◌∷◌, [], ℕ, Bool, refl, sym, subst, inl, inr}
+use Rattle.std.proofs.Common.{◌≡◌, ◌<◌, ◌++◌, ◌∷◌, [], List, ℕ, Bool, refl, sym, subst, inl, inr}
 use Rattle.std.specs.Prelude.{Ok, MatchBool}
 use Rattle.mt_types.specs.declared.numbers.CallNo.{CallNo}
 use Rattle.mt_types.specs.declared.refusal.Refusal.{Refusal}
@@ -9,6 +9,7 @@ use Rattle.mt_types.specs.declared.event.Outcome.{Outcome}
 use Rattle.mt_types.specs.declared.event.Outcome.TheVariants.{Call, Done, Refused, Applied, Current}
 use Rattle.mt_types.specs.declared.event.Request.{Request}
 use Rattle.mt_types.specs.declared.event.Reply.{Reply}
+use Rattle.mt_shared.specs.declared.trace.Entry.{Entry}
 use Rattle.mt_shared.specs.declared.changing.Changed.{Changed}
 use Rattle.mt_shared.specs.declared.changing.Changed.TheVariants.{Started as StartedOnly, Ended}
 use Rattle.mt_shared.specs.declared.driving.Started.TheVariants.{Ran}
@@ -16,7 +17,7 @@ use Rattle.mt_shared.specs.Changes.{IsChanged, IsDriveKept, KeepsViews}
 use Rattle.mt_shared.specs.Drives.{EventLaw, IsStarted}
 use Rattle.mt_shared.specs.Kept.{KeptView, IsKept, Does}
 use Rattle.mt_shared.specs.Passes.{PassView, IsTold, Suits}
-use Rattle.mt_shared.specs.Turns.{furthest, turn}
+use Rattle.mt_shared.specs.Turns.{HasTurned, furthest, turn}
 use Rattle.mt_shared.proofs.DriveLemmas.{begun_goes, run_finishes}
 use Rattle.mt_shared.proofs.ToldLemmas.{does_tell}
 use Rattle.mt_shared.proofs.TurnLemmas.{Turned, all_current, turn_refused}
@@ -27,37 +28,28 @@ pub started_keep : (s : KeptView) (p : PassView) (request : Request) (call : Cal
 started_keep s p request call last t q k (m, r, begun, gone) = gone_keep m r call last t q (does_keep s p (Begin p.number request) (Call call) m r k begun.0) gone
 
 module _ {S : Type 0} (x : S) where
+  turned_somewhere : (s : KeptView) (p : PassView) (applied : ℕ) (last : List Entry) (t : KeptView) (q : PassView) → IsKept s → (turned : HasTurned Does s p applied last t q) → HasTurned (somewhere S) x p applied last x q
+  turned_somewhere s p applied last t q k turned = record {
+    turns = turned.turns;
+    count = turned.count;
+    are_turns = turned.are_turns;
+    runs = runs_somewhere x s p (turned.turns ++ last) t q k turned.runs;
+  }
+
   keeps_somewhere : (s : KeptView) (p : PassView) (most : ℕ) (t : KeptView) (q : PassView) → IsKept s → KeepsViews Does s p most t q → KeepsViews (somewhere S) x p most x q
-  keeps_somewhere s p most t q k (inl (applied, up)) = inl (
-    applied,
-    record {
-      last = up.last;
-      is_last = up.is_last;
-      turned = record {
-        turns = up.turned.turns;
-        count = up.turned.count;
-        are_turns = up.turned.are_turns;
-        runs = runs_somewhere x s p (up.turned.turns ++ up.last) t q k up.turned.runs;
-      };
-      traced = up.traced;
-    },
-  )
+  keeps_somewhere s p most t q k (inl (applied, up)) =
+      inl (applied, record { last = up.last; is_last = up.is_last; turned = turned_somewhere s p applied up.last t q k up.turned; traced = up.traced })
   keeps_somewhere s p most t q k (inr (refusal, stopped)) = inr (
     refusal,
     record {
       applied = stopped.applied;
       fewer = stopped.fewer;
-      turned = record {
-        turns = stopped.turned.turns;
-        count = stopped.turned.count;
-        are_turns = stopped.turned.are_turns;
-        runs = runs_somewhere x s p (stopped.turned.turns ++ turn p.number (Refused refusal) ∷ []) t q k stopped.turned.runs;
-      };
+      turned = turned_somewhere s p stopped.applied (turn p.number (Refused refusal) ∷ []) t q k stopped.turned;
     },
   )
 
   pub changed_somewhere : (s : KeptView) (p : PassView) (request : Request) (most : ℕ) (changed : Changed) (t : KeptView) (q : PassView) → IsKept s → IsChanged Does s p request most changed t q → IsChanged (somewhere S) x p request most changed x q
-  changed_somewhere s p request most (StartedOnly started) t q k is = started_somewhere x s p request started t q x k is
+  changed_somewhere s p request most (StartedOnly started) t q k is = (started_somewhere x s p request started t q x k is.0, is.1)
   changed_somewhere s p request most (Ended reply) t q k (m, r, call, is, late, change, keeps) = (
     x,
     r,

@@ -1,5 +1,5 @@
 -- Calls after which views are kept up.
-use Rattle.std.specs.Prelude.{ℕ, ◌≡◌, ◌≤◌, ◌⊎◌, Bool, true, false, Result, Ok, Err, MatchBool}
+use Rattle.std.specs.Prelude.{ℕ, ◌≡◌, ◌≤◌, ◌<◌, ◌⊎◌, Bool, true, false, Result, Ok, Err, MatchBool}
 use Rattle.mt_types.specs.Limited.{AnswerIsLimited}
 use Rattle.mt_types.specs.declared.numbers.CallNo.{CallNo}
 use Rattle.mt_types.specs.declared.refusal.Refusal.{Refusal}
@@ -10,6 +10,7 @@ use Rattle.mt_types.specs.declared.event.Request.{Request}
 use Rattle.mt_types.specs.declared.event.Reply.{Reply}
 use Rattle.mt_shared.specs.declared.changing.Changed.{Changed}
 use Rattle.mt_shared.specs.declared.changing.Changed.TheVariants.{Started as StartedOnly, Ended}
+use Rattle.mt_shared.specs.declared.driving.Started.{Started}
 use Rattle.mt_shared.specs.declared.driving.Started.TheVariants.{Ran}
 use Rattle.mt_shared.specs.Passes.{PassView}
 use Rattle.mt_shared.specs.Drives.{EventLaw, IsDrive, IsStarted, StartIsLimited}
@@ -31,10 +32,16 @@ abbrev pub KeepsViews : {S : Type 0} → EventLaw S → S → PassView → ℕ �
 KeepsViews does s p most t q =
     ((applied : ℕ) × KeepsUp does s p most applied t q) ⊎ ((refusal : Refusal) × IsStopped does s p most refusal t q)
 
--- HOW A CALL IS STARTED AFTER WHICH VIEWS ARE KEPT UP: it is started, and no more; or it is started, its run ends it by a
--- change with this reply, and views are then kept up
+-- the start has not ended its call by a change that begins no earlier than what the pass had seen
+abbrev pub LeavesViews : ℕ → Started → Type 0
+LeavesViews seen (Ran call (Done reply)) = (reply.from < seen) ⊎ (is_change reply.answer ≡ false)
+LeavesViews seen started = Unit {0}
+
+-- HOW A CALL IS STARTED AFTER WHICH VIEWS ARE KEPT UP: it is started, and no more if that ends it by no change; or it is
+-- started, its run ends it by a change with this reply, and views are then kept up
 abbrev pub IsChanged : {S : Type 0} → EventLaw S → S → PassView → Request → ℕ → Changed → S → PassView → Type 0
 IsChanged does s p request most (StartedOnly started) t q = IsStarted does s p request started t q
+    × LeavesViews p.seen started
 IsChanged {S} does s p request most (Ended reply) t q =
     (m : S) × (r : PassView) × (call : CallNo) × IsStarted does s p request (Ran call (Done reply)) m r
     × (p.seen ≤ reply.from) × (is_change reply.answer ≡ true) × KeepsViews does m r most t q

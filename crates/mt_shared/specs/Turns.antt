@@ -2,20 +2,14 @@
 use Rattle.std.specs.Prelude.{ℕ, ◌≡◌, ◌<◌, ◌⊎◌, ⊤, List, [], ◌∷◌, ◌++◌, length, All, Result, Ok, Err}
 use Rattle.mt_types.specs.declared.numbers.PassNo.{PassNo}
 use Rattle.mt_types.specs.declared.refusal.Refusal.{Refusal}
-use Rattle.mt_types.specs.declared.view.Page.{Page}
 use Rattle.mt_types.specs.declared.event.Event.{Event}
 use Rattle.mt_types.specs.declared.event.Event.TheVariants.{Apply}
 use Rattle.mt_types.specs.declared.event.Outcome.{Outcome}
-use Rattle.mt_types.specs.declared.event.Outcome.TheVariants.{Applied, Current, View, Dropped, Refused}
+use Rattle.mt_types.specs.declared.event.Outcome.TheVariants.{Applied, Current, Dropped, Refused}
 use Rattle.mt_shared.specs.declared.trace.Entry.{Entry}
 use Rattle.mt_shared.specs.Traces.{entry, Gains}
 use Rattle.mt_shared.specs.Passes.{PassView}
 use Rattle.mt_shared.specs.Drives.{EventLaw, Runs}
-
--- the outcome of the event that returned this page, or this refusal
-abbrev pub page_outcome : Result Page Refusal → Outcome
-page_outcome (Ok page) = View page
-page_outcome (Err refusal) = Refused refusal
 
 -- the outcome of the event that dropped a view, or of one that was refused
 abbrev pub drop_outcome : Result ⊤ Refusal → Outcome

@@ -5,7 +5,8 @@ ghost use Rattle.mt_types.specs.declared.event.Event.TheVariants.{ViewDrop, View
 ghost use Rattle.mt_types.specs.declared.event.Request.TheVariants.{Build, Get, Put, PutIf, Range, Remove, Tidy};
 ghost use Rattle.mt_shared.specs.Drives.{IsDrive};
 ghost use Rattle.mt_shared.specs.Reads.{IsCall};
-ghost use Rattle.mt_shared.specs.Turns.{IsStopped, KeepsUp, drop_outcome, page_outcome};
+ghost use Rattle.mt_index.specs.Viewing.{page_outcome};
+ghost use Rattle.mt_shared.specs.Turns.{IsStopped, KeepsUp, drop_outcome};
 
 use crate::driving::Shared;
 use crate::pass::Pass;

@@ -1,6 +1,6 @@
 //! Calls after which views are kept up: a call and the turns of its views, in one holding of the lock if it is short.
 
-ghost use Rattle.std.specs.Prelude.{◌≡◌, ◌≤◌, IfOk, IsTrue, true};
+ghost use Rattle.std.specs.Prelude.{◌≡◌, ◌≤◌, ◌<◌, ◌⊎◌, IfOk, IsFalse, IsTrue, false, true};
 ghost use Rattle.mt_types.specs.Limited.{AnswerIsLimited};
 ghost use Rattle.mt_shared.specs.Changes.{ChangeIsLimited, IsChanged, IsDriveKept, KeepsViews, has_changed, is_change};
 ghost use Rattle.mt_shared.specs.Kept.{Does, IsKept};
@@ -35,7 +35,8 @@ fn is_change(answer: &Answer) -> bool
 
 // Returns whether a reply is of a change, and begins no earlier than after this many commits.
 fn is_change_since(reply: &Reply, seen: u64) -> bool
-    ensures { IsTrue result → (seen ≤ reply.now.from) × (is_change reply.now.answer ≡ true) }
+    ensures since { IsTrue result → (seen ≤ reply.now.from) × (is_change reply.now.answer ≡ true) }
+    ensures before { IsFalse result → (reply.now.from < seen) ⊎ (is_change reply.now.answer ≡ false) }
 {
     seen <= reply.from && is_change(&reply.answer)
 }

@@ -1,24 +1,46 @@
 //! Runs under the lock: a call is begun, and makes several steps, which are counted together.
 
-ghost use Rattle.std.specs.Prelude.{◌≡◌, ◌+◌, ◌-◌, ◌<◌, ◌≤◌, ◌^◌, ◌⊎◌, ◌↔◌, max, IsFalse, length, slice_index_or, slice_set};
+ghost use Rattle.std.specs.Prelude.{◌≡◌, ◌+◌, ◌-◌, ◌<◌, ◌≤◌, ◌^◌, ◌⊎◌, ◌↔◌, max, IsFalse, true, slice_index_or, slice_set};
 ghost use Rattle.mt_types.specs.Numbers.{greatest_number};
 ghost use Rattle.mt_types.specs.declared.event.Event.TheVariants.{Begin};
 ghost use Rattle.mt_types.specs.Limited.{OutcomeIsLimited};
 ghost use Rattle.mt_shared.specs.declared.trace.Trace.TheVariants.{Off};
 ghost use Rattle.mt_shared.specs.Books.{book_after};
 ghost use Rattle.mt_shared.specs.Drives.{HasGone, IsStarted, StartIsLimited};
-ghost use Rattle.mt_shared.specs.Kept.{Does, IsKept, RunsFully, StartsFully};
-ghost use Rattle.mt_shared.specs.Passes.{IsTold};
+ghost use Rattle.mt_shared.specs.Kept.{Does, IsKept, RunsFully, StartsFully, has_book};
+ghost use Rattle.mt_shared.specs.declared.book.Book.{Book};
+ghost use Rattle.mt_shared.specs.Passes.{IsTold, pass_after};
 
+use crate::book::Book;
 use crate::driving::Started;
 use crate::kept::Kept;
 use crate::pass::Pass;
 use crate::trace::Trace;
+use mt_index::calling::CallRun;
 use mt_index::running::Run;
 use mt_types::event::{Event, Outcome, Request};
 use mt_types::numbers::CallNo;
 use mt_types::refusal::Refusal;
 use std::alloc::Global;
+
+// Counts a run of a pass: in the pass, in its book, and among all events.
+fn count(books: &mut [Book], events: &mut u64, pass: &mut Pass, run: &Run)
+    requires there { has_book pass.old.number books.old ≡ true }
+    requires book { (book : Book) → book ≡ slice_index_or books.old (pass.old.number.0 - 1) book
+        → (book.events + run.now.steps < 2 ^ 64) × (book.commits + run.now.commits < 2 ^ 64) }
+    requires events { events.old + run.now.steps < 2 ^ 64 }
+    requires pass { pass.old.events + run.now.steps < 2 ^ 64 }
+    requires commits { run.now.commits ≤ run.now.steps }
+    ensures books { (book : Book) × (book ≡ slice_index_or books.old (pass.old.number.0 - 1) book)
+        × (books.new ≡ slice_set books.old (pass.old.number.0 - 1) (book_after run.now book)) }
+    ensures events { events.new ≡ events.old + run.now.steps }
+    ensures pass { pass.new ≡ pass_after run.now pass.old }
+{
+    let at = pass.number().0 as usize - 1;
+    books[at] = books[at].after(run);
+    *events += run.steps;
+    pass.count_run(run);
+}
 
 impl Kept {
     // Returns how many events of the pass can still be counted.
@@ -93,6 +115,47 @@ impl Kept {
         run.last
     }
 
+    // Begins a call of a pass and makes a run of it: at most `most` events, which are counted together.
+    fn begin_and_go(
+        &mut self,
+        alloc: Global,
+        pass: &mut Pass,
+        request: Request,
+        most: u64,
+    ) -> Started
+        requires some { 1 < most }
+        requires there { has_book pass.old.number self.old.books ≡ true }
+        requires off { (self.old.trace ≡ Off) × (pass.old.trace ≡ Off) }
+        requires room { (self.old.events + 1 < greatest_number) × (pass.old.events + 1 < greatest_number) }
+        ensures starts { IsStarted Does self.old pass.old request result self.new pass.new }
+        ensures most { pass.new.events ≤ pass.old.events + max 1 most }
+        ensures fully { StartsFully self.old pass.old most result self.new pass.new }
+        ensures limited { StartIsLimited result }
+        ensures kept { IsKept self.old × IsKept self.new }
+    {
+        let number = pass.number();
+        let most = most.min(self.room(pass));
+        match self.machine.call(alloc, number, request, most - 1) {
+            CallRun::Refused(refusal) => {
+                let run = Run {
+                    steps: 1,
+                    commits: 0,
+                    last: Outcome::Refused(refusal),
+                };
+                count(&mut self.books, &mut self.events, pass, &run);
+                Started::Refused(refusal)
+            }
+            CallRun::Ran(call, run) => {
+                let run = Run {
+                    steps: run.steps + 1,
+                    ..run
+                };
+                count(&mut self.books, &mut self.events, pass, &run);
+                Started::Ran(call, run.last)
+            }
+        }
+    }
+
     /// Begins a call of a pass, and makes a run of it: at most `most` events, the begin among them. The request is moved
     /// into the call, unless the index or the pass keeps a trace.
     ///
@@ -106,6 +169,10 @@ impl Kept {
         ensures limited { StartIsLimited result }
         ensures kept { IsKept self.old × IsKept self.new }
     {
+        if most > 1 && self.room(pass) > 1 && !self.is_traced(pass) && self.has_book(pass.number())
+        {
+            return self.begin_and_go(alloc, pass, request, most);
+        }
         match self.open_call(alloc, pass, request) {
             Outcome::Call(call) if most > 1 => {
                 Started::Ran(call, self.go(alloc, pass, call, most - 1))

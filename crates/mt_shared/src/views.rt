@@ -4,7 +4,8 @@ ghost use Rattle.std.specs.Prelude.{◌≡◌, ◌+◌, ◌≤◌, IfOk, IfErr};
 ghost use Rattle.mt_types.specs.declared.event.Event.TheVariants.{ViewRead, ViewDrop};
 ghost use Rattle.mt_types.specs.Limited.{PageIsLimited};
 ghost use Rattle.mt_shared.specs.Passes.{IsTold};
-ghost use Rattle.mt_shared.specs.Turns.{page_outcome, drop_outcome, furthest, KeepsUp, IsStopped};
+ghost use Rattle.mt_index.specs.Viewing.{page_outcome};
+ghost use Rattle.mt_shared.specs.Turns.{drop_outcome, furthest, KeepsUp, IsStopped};
 
 use crate::driving::Shared;
 use crate::pass::Pass;

@@ -13,3 +13,4 @@ pub mod WorkLemmas
 pub mod WriteLasts
 pub mod LoneWrite
 pub mod LoneWrites
+pub mod RunLemmas

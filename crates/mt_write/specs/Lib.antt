@@ -2,3 +2,4 @@
 pub mod Writing
 pub mod Causes
 pub mod Follows
+pub mod Runs

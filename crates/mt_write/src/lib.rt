@@ -6,5 +6,6 @@ mod commit;
 mod ending;
 mod layering;
 mod ready;
+pub mod running;
 mod splitting;
 pub mod writing;

@@ -210,7 +210,13 @@ impl Write {
     }
 
     // At each stage, which it takes out of the write: the stage's function puts the next one in.
-    fn go(&mut self, alloc: Global, columns: u8, tree: &mut Tree, log: &mut Log) -> Progress
+    pub(crate) fn go(
+        &mut self,
+        alloc: Global,
+        columns: u8,
+        tree: &mut Tree,
+        log: &mut Log,
+    ) -> Progress
         requires { MayStep tree.old log.old (write_held self.old) (WriteIsTrue columns self.old) }
         ensures { WriteStep columns tree.old tree.new log.old log.new self.old self.old.stage result self.new }
     {

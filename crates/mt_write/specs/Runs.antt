@@ -1,0 +1,72 @@
+-- Runs of a put or remove: its steps one after the other, after each of which the log is trimmed.
+use Rattle.std.specs.Prelude.{ℕ, ◌≡◌, ◌≤◌, ◌+◌, ◌-◌, min, List, [], ◌∷◌, length, sum_by, All}
+use Rattle.mt_commit.specs.Log.{LogView, IsLog, newest, slowest, trimmed}
+use Rattle.mt_arena.specs.Arena.{ArenaView, IsArena}
+use Rattle.mt_chart.specs.Tree.{Arena}
+use Rattle.mt_steps.specs.declared.progress.Progress.{Progress}
+use Rattle.mt_steps.specs.declared.progress.Progress.TheVariants.{Moved, Committed}
+use Rattle.mt_steps.specs.World.{World, IsWorld}
+use Rattle.mt_steps.specs.Step.{bounds}
+use Rattle.mt_write.specs.declared.running.WriteRun.{WriteRun}
+use Rattle.mt_write.specs.declared.writing.Write.{Write}
+use Rattle.mt_write.specs.Writing.{WriteIsTrue, write_held}
+use Rattle.mt_write.specs.Follows.{WriteStep}
+
+-- the log holds no delta that is to be trimmed
+abbrev pub IsTrimmed : LogView → Type 0
+IsTrimmed log = min (slowest log) (newest log - log.keep) ≡ log.held_after
+
+-- a put or remove on its way, with the tree and the log
+pub record WriteState : Type 0 where
+  pub tree : ArenaView
+  pub log : LogView
+  pub write : Write
+
+-- what a run asks: there is a world in which the call's record is true, the call began in no later epoch than the present
+-- one, and the log has the room that the call has reserved
+pub record MayRun (C : ℕ) (s : WriteState) : Type 0 where
+  pub now : ℕ
+  pub begun : ℕ
+  pub moves : ℕ
+  pub past : List Arena
+  pub w : World
+  pub world : IsWorld s.tree now w
+  pub since : begun ≤ now
+  pub true : WriteIsTrue C s.write begun moves past s.tree w
+  pub room : (write_held s.write).reserves ≤ s.log.reserved
+
+-- the call continues, and has not waited
+abbrev pub Advances : Progress → Type 0
+Advances Moved = Unit {0}
+Advances (Committed number) = Unit {0}
+Advances _ = ⊥
+
+-- how many commits it is
+abbrev pub commits_in : Progress → ℕ
+commits_in (Committed number) = 1
+commits_in _ = 0
+
+-- a step, after which the log is trimmed
+pub record RunStep (C : ℕ) (s : WriteState) (p : Progress) (t : WriteState) : Type 0 where
+  pub log : LogView
+  pub step : WriteStep C s.tree t.tree s.log log s.write s.write.stage p t.write
+  pub sound : IsLog log
+  pub bounds : bounds log ≡ bounds s.log
+  pub trims : t.log ≡ trimmed log
+  pub arena : IsArena s.tree
+  pub arena_after : IsArena t.tree
+
+-- steps one after the other, which come to this
+abbrev pub RunSteps : ℕ → WriteState → List Progress → WriteState → Type 0
+RunSteps C s [] t = t ≡ s
+RunSteps C s (p ∷ ps) t = (next : WriteState) × RunStep C s p next × RunSteps C next ps t
+
+-- A RUN: steps, after each of which but the last the call continues at once
+pub record HasRun (C : ℕ) (s : WriteState) (run : WriteRun) (t : WriteState) : Type 0 where
+  pub steps : List Progress
+  pub advance : All Advances steps
+  pub before : WriteState
+  pub are : RunSteps C s steps before
+  pub last : RunStep C before run.last t
+  pub many : run.steps ≡ length steps + 1
+  pub commits : run.commits ≡ sum_by commits_in steps + commits_in run.last

@@ -1,0 +1,84 @@
+//! Runs of a put or remove: its steps one after the other, while nobody else steps.
+
+ghost use Rattle.std.specs.Prelude.{◌≡◌, ◌≤◌, ◌<◌, ◌↔◌, max, IsTrue};
+ghost use Rattle.mt_commit.specs.Log.{trimmed};
+ghost use Rattle.mt_write.specs.Runs.{Advances, HasRun, IsTrimmed, MayRun, WriteState, commits_in};
+
+use crate::writing::Write;
+use mt_commit::log::Log;
+use mt_steps::progress::Progress;
+use mt_tree::Tree;
+use std::alloc::Global;
+
+/// What a run of a put or remove came to.
+#[derive(Drop)]
+pub struct WriteRun {
+    /// How many steps were made.
+    pub steps: u64,
+    /// How many of them were commits.
+    pub commits: u64,
+    /// What the last step came to.
+    pub last: Progress,
+}
+
+// Returns whether the call continues after a step, and has not waited.
+fn advances(progress: &Progress) -> bool
+    ensures { IsTrue result ↔ Advances progress.now }
+{
+    matches!(progress, Progress::Moved | Progress::Committed(_))
+}
+
+// Trims the log after a step, and returns how many commits the step was. Only a commit leaves something to trim.
+fn trim_after(log: &mut Log, progress: &Progress) -> u64
+    requires { commits_in progress.now ≡ 0 → IsTrimmed log.old }
+    ensures commits { result ≡ commits_in progress.now }
+    ensures trims { log.new ≡ trimmed log.old }
+    ensures trimmed { IsTrimmed log.new }
+{
+    let Progress::Committed(_) = progress else {
+        return 0;
+    };
+    log.trim();
+    1
+}
+
+impl Write {
+    /// Makes steps, one after the other, until one of them ends the call or waits, or `most` are made. At least one is
+    /// made, also if `most` is 0. After each the log is trimmed.
+    ///
+    /// Costs what the steps cost.
+    pub fn run(
+        &mut self,
+        alloc: Global,
+        columns: u8,
+        tree: &mut Tree,
+        log: &mut Log,
+        most: u64,
+    ) -> WriteRun
+        requires may { MayRun columns (record { tree = tree.old; log = log.old; write = self.old }) }
+        requires trimmed { IsTrimmed log.old }
+        ensures runs { HasRun columns (record { tree = tree.old; log = log.old; write = self.old }) result
+            (record { tree = tree.new; log = log.new; write = self.new }) }
+        ensures most { result.steps ≤ max 1 most }
+        ensures ends { result.steps < most → Advances result.last → ⊥ }
+    {
+        let mut steps = 0;
+        let mut commits = 0;
+        let _whole = tree.free_numbers();
+        loop {
+            let last = self.go(alloc, columns, tree, log);
+            let _arena = tree.free_numbers();
+            let _sound = log.number();
+            steps += 1;
+            commits += trim_after(log, &last);
+            if steps >= most || !advances(&last) {
+                return WriteRun {
+                    steps,
+                    commits,
+                    last,
+                };
+            }
+            drop(last);
+        }
+    }
+}
