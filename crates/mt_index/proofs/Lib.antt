@@ -25,3 +25,4 @@ pub mod LawLemmas
 pub mod FeedLemmas
 pub mod MakesLemmas
 pub mod RunLemmas
+pub mod AloneRuns

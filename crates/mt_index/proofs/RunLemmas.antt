@@ -1,7 +1,8 @@
 -- A put or remove that runs while no other call is open: its steps are those of the machine with this call open.
-use Rattle.std.proofs.Common.{ℕ, ◌≡◌, ◌+◌, ◌-◌, ◌∙◌, ◌==◌, inl, inr, min, Bool, true, false, List, [], ◌∷◌, ◌++◌, length, Some, None, refl, sym, ap, subst, arith}
+use Rattle.std.proofs.Common.{ℕ, ◌≡◌, ◌+◌, ◌-◌, ◌∙◌, ◌==◌, inl, inr, min, Bool, true, false, List, [], ◌∷◌, ◌++◌, length, Option, Some, None, ◌≤◌, refl, sym, ap, subst, arith}
 use Rattle.std.specs.Prelude.{All, sum_by}
-use Rattle.std.proofs.lemmas.Bool.{eq-eqb}
+use Rattle.std.proofs.lemmas.Bool.{eq-eqb, ne_eqb}
+use Rattle.std.specs.Option.{option_map}
 use Rattle.std.proofs.lemmas.List.Elements.{All-nil, All-head, All-tail, All-cons}
 use Rattle.std.proofs.lemmas.List.Sums.{sum_by-cons}
 use Rattle.mt_types.specs.declared.numbers.CallNo.{CallNo}
@@ -9,9 +10,9 @@ use Rattle.mt_types.specs.declared.numbers.PassNo.{PassNo}
 use Rattle.mt_types.specs.declared.event.Request.{Request}
 use Rattle.mt_types.specs.declared.event.Event.TheVariants.{Begin, Step}
 use Rattle.mt_types.specs.declared.event.Outcome.{Outcome}
-use Rattle.mt_types.specs.declared.event.Outcome.TheVariants.{Call as Called}
+use Rattle.mt_types.specs.declared.event.Outcome.TheVariants.{Call as Called, Refused as RefusedOutcome}
 use Rattle.mt_types.specs.Limited.{OutcomeIsLimited}
-use Rattle.mt_promise.specs.History.{History, happening, moment}
+use Rattle.mt_promise.specs.History.{History, OpenCall, happening, moment}
 use Rattle.mt_promise.specs.Legal.{reads_log, is_build, held_from}
 use Rattle.mt_commit.specs.Log.{LogView, IsLog, newest, trimmed}
 use Rattle.mt_commit.proofs.LogLemmas.{newest-trimmed}
@@ -26,24 +27,26 @@ use Rattle.mt_write.specs.Writing.{edit_request, write_request, write_held}
 use Rattle.mt_write.specs.Runs.{Advances, HasRun, IsTrimmed, MayRun, RunStep, RunSteps, WriteState, commits_in}
 use Rattle.mt_works.specs.declared.work.Pace.{Pace}
 use Rattle.mt_works.specs.declared.work.Pace.TheVariants.{Field}
-use Rattle.mt_works.specs.declared.work.Work.{Work}
-use Rattle.mt_works.specs.declared.work.Work.TheVariants.{Get as GetWork, Write as WriteWork, Range as RangeWork, Tidy as TidyWork, Build as BuildWork}
-use Rattle.mt_works.specs.Works.{IsNew, request_of}
+use Rattle.mt_works.specs.declared.work.Work.TheVariants.{Write as WriteWork}
+use Rattle.mt_works.specs.Works.{IsNew}
 use Rattle.mt_views.specs.Views.{ViewsView}
 use Rattle.mt_index.specs.declared.calls.Call.{Call}
 use Rattle.mt_index.specs.declared.running.Run.{Run}
-use Rattle.mt_index.specs.declared.calling.CallRun.TheVariants.{Ran}
+use Rattle.mt_index.specs.declared.calling.CallRun.{CallRun}
+use Rattle.mt_index.specs.declared.calling.CallRun.TheVariants.{Ran, Refused as RefusedRun}
 use Rattle.mt_index.specs.Alone.{IsIdle}
-use Rattle.mt_index.specs.Calls.{CallsView, StepsCall, StepsOneCall, IsBuiltCall, with_changed, with_work, without}
-use Rattle.mt_index.specs.Events.{GoesOnAtOnce, GoesThrough, Makes, MakesSteps, commit_count}
-use Rattle.mt_index.specs.Runs.{BeginsAndGoes, CallGoes, StepsGo, is_write}
-use Rattle.mt_index.specs.Stands.{MachineView, Stands, HasBounds, Begins, Steps, StepsOpen, calls_after, fault_of, log_after, outcome_of, pinned, placed, views_after, with_call}
+use Rattle.mt_index.specs.Calls.{CallsView, StepsCall, StepsOneCall, IsBuiltCall, call_at, pass_at, with_changed, with_work, without}
+use Rattle.mt_index.specs.Paired.{Paired}
+use Rattle.mt_index.specs.Events.{EventDoes, GoesOnAtOnce, GoesThrough, Makes, MakesSteps, commit_count}
+use Rattle.mt_index.specs.Runs.{BeginsAndGoes, BeginsOrNot, CallGoes, RunIsLimited, StepsGo, has_ended}
+use Rattle.mt_index.specs.Stands.{MachineView, CallStands, Stands, HasBounds, Begins, Steps, StepsOpen, calls_after, fault_of, log_after, outcome_of, pinned, placed, views_after, with_call}
 use Rattle.mt_index.proofs.EventLemmas.{step-happens}
 use Rattle.mt_index.proofs.EventStands.{begins-stands}
 use Rattle.mt_index.proofs.LimitedLemmas.{outcome-limited}
 use Rattle.mt_index.proofs.LogStands.{slowest_is}
 use Rattle.mt_index.proofs.MakesLemmas.{makes_begin}
-use Rattle.mt_index.proofs.NumberLemmas.{Entries, call_at-here, changed-here, without-here}
+use Rattle.mt_index.proofs.NumberLemmas.{Entries, call_at-here, call_at-there, changed-here, without-here}
+use Rattle.mt_index.proofs.PairedLemmas.{Relation}
 use Rattle.mt_index.proofs.ViewEvents.{steps-stand, steps-columns}
 
 -- ---- a put or remove reads no log, and builds nothing
@@ -350,14 +353,80 @@ call_goes s t pass request call run goes = (
   },
 )
 
--- ---- the work of a put or remove is a write
-abbrev pub IsWriteWork : Work → Type 0
-IsWriteWork (WriteWork write) = Unit {0}
-IsWriteWork _ = ⊥
+pub or_goes : (s t : MachineView) (pass : PassNo) (request : Request) (called : CallRun) → BeginsOrNot Field s pass request called t → CallGoes s pass request called t
+or_goes s t pass request (Ran call run) goes = call_goes s t pass request call run goes
+or_goes s t pass request (RefusedRun refusal) begins = makes_begin s t pass request (RefusedOutcome refusal) begins (ap (λ (m : MachineView). m.log.feed) begins.1, ap (λ (m : MachineView). m.log.keep) begins.1)
 
-pub is_written : (work : Work) (request : Request) → request_of work ≡ request → is_write request ≡ true → IsWriteWork work
-is_written (WriteWork write) request asks writes = tt
-is_written (GetWork get) request asks writes = absurd (let clash : false ≡ true = ap is_write asks ∙ writes in cc)
-is_written (RangeWork range) request asks writes = absurd (let clash : false ≡ true = ap is_write asks ∙ writes in cc)
-is_written (TidyWork tidy) request asks writes = absurd (let clash : false ≡ true = ap is_write asks ∙ writes in cc)
-is_written (BuildWork building) request asks writes = absurd (let clash : false ≡ true = ap is_write asks ∙ writes in cc)
+pub or_limited : (pace : Pace) (s t : MachineView) (pass : PassNo) (request : Request) (called : CallRun) → BeginsOrNot pace s pass request called t → (h : History) → Stands s h → RunIsLimited called
+or_limited pace s t pass request (Ran call run) goes h st = run_limited pace s t pass request call run goes h st
+or_limited pace s t pass request (RefusedRun refusal) begins h st = tt
+
+-- ---- as the code leaves the machine
+module _ (s : MachineView) (pass : PassNo) (pace : Pace) (idle : IsIdle s) where
+  abbrev calls_with : List (ℕ × Call) → CallsView
+  calls_with entries = record { begun = s.calls.begun + 1; calls = entries }
+
+  -- the call has ended, and is only counted
+  pub left_counted : (p : Progress) (y : WriteState) (calls : CallsView) → has_ended p ≡ true → calls ≡ record s.calls { begun = s.calls.begun + 1 } → calls_with (entries_left s pass pace p y.write) ≡ calls
+  left_counted (Answered answer) y calls ended is = ap calls_with (sym idle) ∙ sym is
+  left_counted (Refused refusal) y calls ended is = ap calls_with (sym idle) ∙ sym is
+  left_counted Moved y calls ended is = absurd (let clash : false ≡ true = ended in cc)
+  left_counted Waits y calls ended is = absurd (let clash : false ≡ true = ended in cc)
+  left_counted (Committed commit) y calls ended is = absurd (let clash : false ≡ true = ended in cc)
+
+  -- or it is stored
+  abbrev stored : Write → List (ℕ × Call)
+  stored write = (s.calls.begun + 1, record { pass = pass; from = newest s.log; epoch = s.epoch; pace = pace; work = WriteWork write }) ∷ []
+
+  pub left_stored : (p : Progress) (y : WriteState) (calls : CallsView) → has_ended p ≡ false → calls ≡ calls_with (s.calls.calls ++ stored y.write) → calls_with (entries_left s pass pace p y.write) ≡ calls
+  left_stored Moved y calls open_ is = ap (λ (others : Entries). calls_with (others ++ stored y.write)) (sym idle) ∙ sym is
+  left_stored Waits y calls open_ is = ap (λ (others : Entries). calls_with (others ++ stored y.write)) (sym idle) ∙ sym is
+  left_stored (Committed commit) y calls open_ is = ap (λ (others : Entries). calls_with (others ++ stored y.write)) (sym idle) ∙ sym is
+  left_stored (Answered answer) y calls open_ is = absurd (let clash : true ≡ false = open_ in cc)
+  left_stored (Refused refusal) y calls open_ is = absurd (let clash : true ≡ false = open_ in cc)
+
+  -- a call that has begun and run, with the numbers that the code has read
+  pub has_begun_and_run : (write : Write) (request : Request) (run : WriteRun) (y : WriteState) (number from to : ℕ) (calls : CallsView) → IsNew s.columns from (WriteWork write) → fault_of s request ≡ None → write_request write ≡ request → HasRun s.columns (record { tree = s.tree; log = s.log; write = write }) run y
+      → number ≡ s.calls.begun + 1 → from ≡ newest s.log → to ≡ newest y.log → calls_with (entries_left s pass pace run.last y.write) ≡ calls
+      → BeginsAndGoes pace s pass request (record { 0 = number }) (record { steps = run.steps; commits = run.commits; last = outcome_of number pass from to run.last }) (record { columns = s.columns; epoch = s.epoch; tree = y.tree; log = y.log; calls = calls; views = s.views })
+  has_begun_and_run write request run y number from to calls new none asks has numbered began ended left =
+      subst (λ (c : CallsView). BeginsAndGoes pace s pass request (record { 0 = number }) (record { steps = run.steps; commits = run.commits; last = outcome_of number pass from to run.last }) (record { columns = s.columns; epoch = s.epoch; tree = y.tree; log = y.log; calls = c; views = s.views })) left
+      (subst (λ (n : ℕ). BeginsAndGoes pace s pass request (record { 0 = n }) (record { steps = run.steps; commits = run.commits; last = outcome_of n pass from to run.last }) (after_step s pass pace run.last y)) (sym numbered)
+      (subst (λ (n : ℕ). BeginsAndGoes pace s pass request (record { 0 = s.calls.begun + 1 }) (record { steps = run.steps; commits = run.commits; last = outcome_of (s.calls.begun + 1) pass n to run.last }) (after_step s pass pace run.last y)) (sym began)
+      (subst (λ (n : ℕ). BeginsAndGoes pace s pass request (record { 0 = s.calls.begun + 1 }) (record { steps = run.steps; commits = run.commits; last = outcome_of (s.calls.begun + 1) pass (newest s.log) n run.last }) (after_step s pass pace run.last y)) (sym ended)
+      (begins_and_goes s pass pace write (subst (λ (n : ℕ). IsNew s.columns n (WriteWork write)) began new) request run y idle none asks has))))
+
+-- a call that has begun and made one step
+pub begun_one : (pace : Pace) (s m t : MachineView) (pass : PassNo) (request : Request) (call : CallNo) (o : Outcome) (commits : ℕ) → Begins pace s pass request (Called call) m → HasBounds s.log.feed s.log.keep m.log → Steps m call.0 o t → HasBounds m.log.feed m.log.keep t.log → commits ≡ commit_count o
+    → BeginsAndGoes pace s pass request call (record { steps = 1; commits = commits; last = o }) t
+begun_one pace s m t pass request call o commits begins bounds step then_bounds counted = record {
+  begun = m;
+  begins = begins;
+  begun_bounds = bounds;
+  outcomes = [];
+  go_on = All-nil GoesOnAtOnce;
+  before = m;
+  steps = refl;
+  last = step;
+  last_bounds = then_bounds;
+  many = omega arith;
+  commits = omega (arith, counted);
+}
+
+-- ---- a call that has begun is of its pass
+next_found : (R : Relation) (low high : ℕ) (ks : Entries) (cs : List OpenCall) (new : Call) → Paired R low high ks cs → (call_at (high + 1) (ks ++ (high + 1, new) ∷ []) ≡ Some new) × (low ≤ high)
+next_found R low high [] [] new within = (call_at-here (high + 1) (high + 1, new) [] (eq-eqb (high + 1) (high + 1) refl), within)
+next_found R low high (k ∷ ks) (c ∷ cs) new (below, is, stands, rest) =
+    let (found, less) = next_found R c.number high ks cs new rest in
+    (call_at-there (high + 1) k (ks ++ (high + 1, new) ∷ []) (ne_eqb k.0 (high + 1) (λ e. omega (arith, e, is, less))) ∙ found, omega (arith, below, less))
+next_found R low high [] (c ∷ cs) new never = absurd never
+next_found R low high (k ∷ ks) [] new never = absurd never
+
+pub begun_pass : (s t : MachineView) (h : History) (pass : PassNo) (request : Request) (call : CallNo) → Stands s h → Makes s (Begin pass request) (Called call) t → pass_at call.0 t.calls.calls ≡ Some pass
+unfolding EventDoes
+begun_pass s t h pass request call st makes =
+    let (none, numbered, work, asks, new, next) = makes.happens.does in
+    let kept : Call = record { pass = pass; from = newest s.log; epoch = s.epoch; pace = Field; work = work } in
+    ap (λ (m : MachineView). pass_at call.0 m.calls.calls) next
+    ∙ ap (λ (n : CallNo). pass_at n.0 (s.calls.calls ++ (s.calls.begun + 1, kept) ∷ [])) numbered
+    ∙ ap (λ (c : Option Call). option_map (λ (k : Call). k.pass) c) (next_found (CallStands s.columns s.epoch s.tree st.w h) 0 s.calls.begun s.calls.calls (moment h).calls kept st.calls).0

@@ -1,17 +1,21 @@
 //! Calls alone: from begin to end while no other call is open, with the answers of a plain map.
 
-ghost use Rattle.std.specs.Prelude.{◌≡◌, IfOk, IfErr, MatchOption, Err};
+ghost use Rattle.std.specs.Prelude.{◌≡◌, IfOk, IfErr, MatchOption, Err, None};
 ghost use Rattle.std.specs.Option.{option_copied, option_map, option_or};
 ghost use Rattle.std.specs.FinMap.{get};
 ghost use Rattle.mt_types.specs.Rows.{shown};
 ghost use Rattle.mt_types.specs.Limits.{columns_fault, limit_fault};
 ghost use Rattle.mt_promise.specs.History.{History, moment, rows};
 ghost use Rattle.mt_promise.specs.Alone.{IsRangeOfMap};
-ghost use Rattle.mt_index.specs.Alone.{IsIdle, IsQuiet, AnswersPlainly, RefusesPlainly};
+ghost use Rattle.mt_works.specs.declared.work.Pace.TheVariants.{Node};
+ghost use Rattle.mt_index.specs.Alone.{IsIdle, IsQuiet, AnswersPlainly, RefusesPlainly, pass_0};
+ghost use Rattle.mt_index.specs.Runs.{BeginsOrNot};
 ghost use Rattle.mt_index.specs.Stands.{Stands, HasBounds, fault_of};
 ghost use Rattle.mt_index.specs.Events.{HappensAlone, last_outcome};
 
+use crate::calling::{CallRun, is_write};
 use crate::machine::Machine;
+use crate::running::{Run, commits_in};
 use mt_steps::alone::row_of;
 use mt_types::columns::shown;
 use mt_types::event::{Outcome, Reply, Request};
@@ -110,7 +114,7 @@ impl Machine {
     /// returns, and a put makes the steps of its splits too. A range or build also visits each border that it reads.
     /// Each border is visited whole, in one step. A call allocates for its answer and for what it stores. A range or
     /// build also allocates for what it reads, and a get, range or build to hold the log. The request is moved into the
-    /// call, not copied. No entry is made in the map of open calls.
+    /// call, not copied. A put or remove is never stored among the open calls.
     ///
     /// # Errors
     ///
@@ -130,16 +134,40 @@ impl Machine {
         if let Some(refusal) = self.fault_of(&request) {
             return Err(refusal);
         }
-        let Ok(call) = self.admit(alloc, PassNo(0), Pace::Node, request) else {
-            return Err(Refusal::NoMemory);
+        let (call, run) = match self.start_alone(alloc, request) {
+            CallRun::Ran(call, run) => (call, run),
+            CallRun::Refused(refusal) => return Err(refusal),
         };
+        let mut last = run.last;
         loop {
-            match self.step(alloc, call.0) {
+            match last {
                 Outcome::Moved | Outcome::Commit(_) => {}
                 Outcome::Done(reply) => return Ok(reply),
                 Outcome::Refused(refusal) => return Err(refusal),
                 _ => unreachable!(),
             }
+            last = self.step(alloc, call.0);
         }
+    }
+
+    // Begins a call alone that nothing refuses: a put or remove makes as many steps as it can, another call makes one.
+    fn start_alone(&mut self, alloc: Global, request: Request) -> CallRun
+        requires idle { IsIdle self.old }
+        requires none { fault_of self.old request ≡ None }
+        ensures begins { BeginsOrNot Node self.old pass_0 request result self.new }
+    {
+        if is_write(&request) {
+            return self.run_write(alloc, PassNo(0), Pace::Node, request, u64::MAX);
+        }
+        let Ok(call) = self.admit(alloc, PassNo(0), Pace::Node, request) else {
+            return CallRun::Refused(Refusal::NoMemory);
+        };
+        let last = self.step(alloc, call.0);
+        let run = Run {
+            steps: 1,
+            commits: commits_in(&last),
+            last,
+        };
+        CallRun::Ran(call, run)
     }
 }

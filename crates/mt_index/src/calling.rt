@@ -1,6 +1,7 @@
 //! Calls that begin and run in one function: a put or remove that ends within its run is never stored.
 
 ghost use Rattle.std.specs.Prelude.{◌≡◌, true, None};
+ghost use Rattle.mt_index.specs.declared.calling.CallRun.TheVariants.{Ran};
 ghost use Rattle.mt_index.specs.Alone.{IsIdle};
 ghost use Rattle.mt_index.specs.Stands.{fault_of, outcome_of};
 ghost use Rattle.mt_index.specs.Runs.{BeginsOrNot, CallGoes, RunIsLimited, RunsAtMost, has_ended, is_write};
@@ -13,6 +14,7 @@ use mt_types::event::{Outcome, Reply, Request};
 use mt_types::numbers::{CallNo, PassNo};
 use mt_types::refusal::Refusal;
 use mt_works::work::{Pace, Work, work_of};
+use mt_write::running::WriteRun;
 use std::alloc::Global;
 
 /// What a call came to that was begun and run.
@@ -24,7 +26,7 @@ pub enum CallRun {
     Ran(CallNo, Run),
 }
 
-fn is_write(request: &Request) -> bool
+pub(crate) fn is_write(request: &Request) -> bool
     ensures { result ≡ is_write request.now }
 {
     matches!(
@@ -59,6 +61,19 @@ fn outcome_of(number: u64, pass: PassNo, from: u64, to: u64, progress: Progress)
     }
 }
 
+// Returns what a call came to that began after `from` commits and has made a run, when there are `to`.
+fn ran(number: u64, pass: PassNo, from: u64, to: u64, run: WriteRun) -> CallRun
+    ensures { result ≡ Ran (record { 0 = number })
+        (record { steps = run.steps; commits = run.commits; last = outcome_of number pass from to run.last }) }
+{
+    let run = Run {
+        steps: run.steps,
+        commits: run.commits,
+        last: outcome_of(number, pass, from, to, run.last),
+    };
+    CallRun::Ran(CallNo(number), run)
+}
+
 impl Machine {
     // Begins a put or remove that nothing refuses, while no call is open, and makes a run of it. The call is stored
     // among the open ones only if it has not ended.
@@ -85,23 +100,18 @@ impl Machine {
         };
         let run = write.run(alloc, self.columns, &mut self.tree, &mut self.log, most);
         let to = self.log.number();
-        let number = if has_ended(&run.last) {
-            self.calls.count_one()
-        } else {
-            self.calls.begin_first(Call {
-                pass,
-                from,
-                epoch: self.epoch,
-                pace,
-                work: Work::Write(write),
-            })
-        };
-        let run = Run {
-            steps: run.steps,
-            commits: run.commits,
-            last: outcome_of(number, pass, from, to, run.last),
-        };
-        CallRun::Ran(CallNo(number), run)
+        if has_ended(&run.last) {
+            let number = self.calls.count_one();
+            return ran(number, pass, from, to, run);
+        }
+        let number = self.calls.begin_first(Call {
+            pass,
+            from,
+            epoch: self.epoch,
+            pace,
+            work: Work::Write(write),
+        });
+        ran(number, pass, from, to, run)
     }
 
     /// Begins a call of a pass, and makes a run of it: steps, one after the other, until one of them ends the call or

@@ -30,7 +30,7 @@ fn goes_on(outcome: &Outcome) -> bool
 }
 
 // Returns how many commits an outcome is.
-fn commits_in(outcome: &Outcome) -> u64
+pub(crate) fn commits_in(outcome: &Outcome) -> u64
     ensures { result ≡ commit_count outcome.now }
 {
     match outcome {

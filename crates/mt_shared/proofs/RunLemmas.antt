@@ -22,6 +22,7 @@ use Rattle.mt_commit.specs.Log.{newest}
 use Rattle.mt_promise.specs.History.{History, happening}
 use Rattle.mt_index.specs.Stands.{MachineView, Stands}
 use Rattle.mt_index.proofs.EventLemmas.{pass-kept}
+use Rattle.mt_index.proofs.RunLemmas.{begun_pass}
 use Rattle.mt_shared.specs.declared.book.Book.{Book}
 use Rattle.mt_shared.specs.declared.trace.Entry.{Entry}
 use Rattle.mt_shared.specs.declared.trace.Trace.{Trace}
@@ -33,7 +34,7 @@ use Rattle.mt_shared.specs.declared.driving.Started.{Started}
 use Rattle.mt_shared.specs.declared.driving.Started.TheVariants.{Refused as RefusedStart, Begun, Ran}
 use Rattle.mt_shared.specs.Drives.{EventLaw, Runs, IsRunStep, HasGone, IsBegun, IsStarted}
 use Rattle.mt_shared.specs.Kept.{KeptView, IsKept, IsMade, IsUnmade, Does, DoesSomewhere, has_book, is_foreign, is_other, is_wrong, is_spent}
-use Rattle.mt_shared.proofs.KeptLemmas.{commits_then, does_make, has_its_book, in_books, keeps, not_spent}
+use Rattle.mt_shared.proofs.KeptLemmas.{book_within, commits_then, does_make, has_its_book, in_books, keeps, not_spent}
 use Rattle.mt_shared.proofs.DriveLemmas.{gains_none}
 use Rattle.mt_shared.proofs.ToldLemmas.{does_tell, suits}
 
@@ -264,6 +265,35 @@ opens_own s p request run n a b q off here there' one none_made zero after told 
 
 pub gone_keep : (s : KeptView) (p : PassView) (call : CallNo) (o : Outcome) (t : KeptView) (q : PassView) → IsKept s → HasGone Does s p call o t q → IsKept t
 gone_keep s p call o t q k g = does_keep g.then g.between (Step call) o t q (runs_keep s p g.steps g.then g.between k g.runs) g.made
+
+-- a begin and a run of what the lock keeps, counted together
+pub starts_own : (s : KeptView) (p : PassView) (request : Request) (call : CallNo) (run : Run) (begun n : MachineView) (b : Book) → IsKept s → (s.trace ≡ Off) × (p.trace ≡ Off) → has_book p.number s.books ≡ true → b ≡ get_or s.books (p.number.0 - 1) b
+    → s.events + (run.steps + 1) < 2 ^ 64 → p.events + (run.steps + 1) < 2 ^ 64 → Makes s.machine (Begin p.number request) (Call call) begun → GoesThrough begun call run n
+    → IsStarted Does s p request (Ran call run.last) (record { machine = n; events = s.events + (run.steps + 1); books = set s.books (p.number.0 - 1) (book_after (record run { steps = run.steps + 1 }) b); trace = s.trace }) (pass_after (record run { steps = run.steps + 1 }) p)
+starts_own s p request call run begun n b k off there at here far makes went =
+    let i = p.number.0 - 1 in
+    let within = book_within p.number s.books there in
+    let first : Run = record { steps = 1; commits = 0; last = Call call } in
+    let one : Book = book_after first b in
+    let mid : KeptView = record { machine = begun; events = s.events + 1; books = set s.books i one; trace = s.trace } in
+    let r : PassView = pass_after first p in
+    let does : Does s p (Begin p.number request) (Call call) mid r = opens s p there within off.1 request first begun b off.0 at (omega (arith, here)) (omega (arith, far)) refl refl refl makes in
+    let there_too = ap (λ n. not (eqb p.number.0 0) && leb p.number.0 n) (length-set s.books i one) ∙ there in
+    let (h, st, long, told) = k.stands in
+    let own = ap (λ (w : _). is_other w p.number) (begun_pass s.machine begun h p.number request call st makes) ∙ ap not (eq-eqb p.number.0 p.number.0 refl) in
+    let kept = does_keep s p (Begin p.number request) (Call call) mid r k does in
+    let gone : HasGone Does mid r call run.last (record { machine = n; events = s.events + 1 + run.steps; books = set (set s.books i one) i (book_after run one); trace = s.trace }) (pass_after run r) =
+    goes mid r there_too (book_within p.number mid.books there_too) off.1 call run n one kept off.0 own (sym (get_or-set_same s.books i one one within)) (omega (arith, here)) (omega (arith, far)) went in
+    let then_is = set-set s.books i one (book_after run one) ∙ ap (set s.books i)
+        (book_is s p there within off.1 (book_after run one) (book_after (record run { steps = run.steps + 1 }) b) (omega arith) (omega arith) (omega arith)) in
+    let pass_then = pass_is s p there within off.1 (p.events + 1 + run.steps) (p.commits + 0 + run.commits) (max (max p.seen 0) (seen_in run.last)) (p.events + (run.steps + 1)) (p.commits + run.commits) (max p.seen (seen_in run.last)) (omega arith) (omega arith) (omega arith) in (
+      mid,
+      r,
+      (does, does_tell s p (Begin p.number request) (Call call) mid r k does),
+      subst (λ (q : PassView). HasGone Does mid r call run.last (record { machine = n; events = s.events + (run.steps + 1); books = set s.books i (book_after (record run { steps = run.steps + 1 }) b); trace = s.trace }) q) pass_then
+          (subst (λ (bs : List Book). HasGone Does mid r call run.last (record { machine = n; events = s.events + (run.steps + 1); books = bs; trace = s.trace }) (pass_after run r)) then_is
+          (subst (λ (e : ℕ). HasGone Does mid r call run.last (record { machine = n; events = e; books = set (set s.books i one) i (book_after run one); trace = s.trace }) (pass_after run r)) (omega arith) gone)),
+    )
 
 -- a begin is no commit
 pub begin_is_none : (m n : MachineView) (pass : PassNo) (request : Request) (o : Outcome) → (h : History) × Stands m h → Makes m (Begin pass request) o n → commit_count o ≡ 0

@@ -2,7 +2,7 @@
 
 ghost use Rattle.std.specs.Prelude.{◌≡◌, ◌≤◌, ◌<◌, ◌⊎◌, IfOk, IsFalse, IsTrue, false, true};
 ghost use Rattle.mt_types.specs.Limited.{AnswerIsLimited};
-ghost use Rattle.mt_shared.specs.Changes.{ChangeIsLimited, IsChanged, IsDriveKept, KeepsViews, has_changed, is_change};
+ghost use Rattle.mt_shared.specs.Changes.{ChangeIsLimited, ChangesFully, IsChanged, IsDriveKept, KeepsViews, has_changed, is_change};
 ghost use Rattle.mt_shared.specs.Kept.{Does, IsKept};
 
 use crate::driving::{NoGate, Shared, Started, finish};
@@ -76,6 +76,7 @@ impl Kept {
         turns: u64,
     ) -> Changed
         ensures changes { IsChanged Does self.old pass.old request turns result self.new pass.new }
+        ensures fully { ChangesFully self.old pass.old most result self.new pass.new }
         ensures limited { ChangeIsLimited result }
         ensures kept { IsKept self.old × IsKept self.new }
     {
