@@ -23,7 +23,7 @@ use Rattle.mt_write.specs.declared.running.WriteRun.{WriteRun}
 use Rattle.mt_write.specs.declared.writing.Write.{Write}
 use Rattle.mt_write.specs.declared.writing.Edit.{Edit}
 use Rattle.mt_write.specs.declared.writing.Edit.TheVariants.{Put as PutEdit, Remove as RemoveEdit}
-use Rattle.mt_write.specs.Writing.{edit_request, write_request, write_held}
+use Rattle.mt_write.specs.Writing.{edit_request, write_request}
 use Rattle.mt_write.specs.Runs.{Advances, HasRun, IsTrimmed, MayRun, RunStep, RunSteps, WriteState, commits_in}
 use Rattle.mt_works.specs.declared.work.Pace.{Pace}
 use Rattle.mt_works.specs.declared.work.Pace.TheVariants.{Field}
@@ -37,9 +37,9 @@ use Rattle.mt_index.specs.declared.calling.CallRun.TheVariants.{Ran, Refused as 
 use Rattle.mt_index.specs.Alone.{IsIdle}
 use Rattle.mt_index.specs.Calls.{CallsView, StepsCall, StepsOneCall, IsBuiltCall, call_at, pass_at, with_changed, with_work, without}
 use Rattle.mt_index.specs.Paired.{Paired}
-use Rattle.mt_index.specs.Events.{EventDoes, GoesOnAtOnce, GoesThrough, Makes, MakesSteps, commit_count}
+use Rattle.mt_index.specs.Events.{EventDoes, GoesOnAtOnce, Makes, MakesSteps, commit_count}
 use Rattle.mt_index.specs.Runs.{BeginsAndGoes, BeginsOrNot, CallGoes, RunIsLimited, StepsGo, has_ended}
-use Rattle.mt_index.specs.Stands.{MachineView, CallStands, Stands, HasBounds, Begins, Steps, StepsOpen, calls_after, fault_of, log_after, outcome_of, pinned, placed, views_after, with_call}
+use Rattle.mt_index.specs.Stands.{MachineView, CallStands, Stands, HasBounds, Begins, Steps, StepsOpen, calls_after, fault_of, log_after, outcome_of, pinned, placed, views_after}
 use Rattle.mt_index.proofs.EventLemmas.{step-happens}
 use Rattle.mt_index.proofs.EventStands.{begins-stands}
 use Rattle.mt_index.proofs.LimitedLemmas.{outcome-limited}

@@ -21,11 +21,7 @@ use Rattle.mt_shared.specs.Turns.{HasTurned, furthest, turn}
 use Rattle.mt_shared.proofs.DriveLemmas.{begun_goes, run_finishes}
 use Rattle.mt_shared.proofs.ToldLemmas.{does_tell}
 use Rattle.mt_shared.proofs.TurnLemmas.{Turned, all_current, turn_refused}
-use Rattle.mt_shared.proofs.RunLemmas.{does_keep, gone_keep, runs_somewhere, somewhere, started_somewhere}
-
--- what the lock keeps is kept while a call is started with a run
-pub started_keep : (s : KeptView) (p : PassView) (request : Request) (call : CallNo) (last : Outcome) (t : KeptView) (q : PassView) → IsKept s → IsStarted Does s p request (Ran call last) t q → IsKept t
-started_keep s p request call last t q k (m, r, begun, gone) = gone_keep m r call last t q (does_keep s p (Begin p.number request) (Call call) m r k begun.0) gone
+use Rattle.mt_shared.proofs.RunLemmas.{runs_somewhere, somewhere, started_keeps, started_somewhere}
 
 module _ {S : Type 0} (x : S) where
   turned_somewhere : (s : KeptView) (p : PassView) (applied : ℕ) (last : List Entry) (t : KeptView) (q : PassView) → IsKept s → (turned : HasTurned Does s p applied last t q) → HasTurned (somewhere S) x p applied last x q
@@ -37,6 +33,7 @@ module _ {S : Type 0} (x : S) where
   }
 
   keeps_somewhere : (s : KeptView) (p : PassView) (most : ℕ) (t : KeptView) (q : PassView) → IsKept s → KeepsViews Does s p most t q → KeepsViews (somewhere S) x p most x q
+  unfolding turned_somewhere
   keeps_somewhere s p most t q k (inl (applied, up)) =
       inl (applied, record { last = up.last; is_last = up.is_last; turned = turned_somewhere s p applied up.last t q k up.turned; traced = up.traced })
   keeps_somewhere s p most t q k (inr (refusal, stopped)) = inr (
@@ -57,7 +54,7 @@ module _ {S : Type 0} (x : S) where
     started_somewhere x s p request (Ran call (Done reply)) m r x k is,
     late,
     change,
-    keeps_somewhere m r most t q (started_keep s p request call (Done reply) m r k is) keeps,
+    keeps_somewhere m r most t q (started_keeps s p request call (Done reply) m r k is) keeps,
   )
 
 -- a turn that advances no view is the last

@@ -14,6 +14,7 @@ use Rattle.mt_types.specs.declared.event.Event.TheVariants.{Begin, Step}
 use Rattle.mt_types.specs.declared.event.Request.{Request}
 use Rattle.mt_types.specs.declared.event.Outcome.{Outcome}
 use Rattle.mt_types.specs.declared.event.Outcome.TheVariants.{Call, Moved, Commit, Refused}
+use Rattle.mt_types.specs.declared.refusal.Refusal.{Refusal}
 use Rattle.mt_types.specs.declared.refusal.Refusal.TheVariants.{WrongPass, Spent}
 use Rattle.mt_index.specs.declared.running.Run.{Run}
 use Rattle.mt_index.specs.Calls.{pass_at}
@@ -34,7 +35,7 @@ use Rattle.mt_shared.specs.declared.driving.Started.{Started}
 use Rattle.mt_shared.specs.declared.driving.Started.TheVariants.{Refused as RefusedStart, Begun, Ran}
 use Rattle.mt_shared.specs.Drives.{EventLaw, Runs, IsRunStep, HasGone, IsBegun, IsStarted}
 use Rattle.mt_shared.specs.Kept.{KeptView, IsKept, IsMade, IsUnmade, Does, DoesSomewhere, has_book, is_foreign, is_other, is_wrong, is_spent}
-use Rattle.mt_shared.proofs.KeptLemmas.{book_within, commits_then, does_make, has_its_book, in_books, keeps, not_spent}
+use Rattle.mt_shared.proofs.KeptLemmas.{book_bounds, book_within, commits_then, does_make, has_its_book, in_books, keeps, not_spent}
 use Rattle.mt_shared.proofs.DriveLemmas.{gains_none}
 use Rattle.mt_shared.proofs.ToldLemmas.{does_tell, suits}
 
@@ -295,6 +296,41 @@ starts_own s p request call run begun n b k off there at here far makes went =
           (subst (λ (e : ℕ). HasGone Does mid r call run.last (record { machine = n; events = e; books = set (set s.books i one) i (book_after run one); trace = s.trace }) (pass_after run r)) (omega arith) gone)),
     )
 
+-- a book is within what was counted
+pub book_fits : (s : KeptView) (p : PassView) (items : List Book) (b : Book) → IsKept s → has_book p.number s.books ≡ true → items ≡ s.books → b ≡ get_or items (p.number.0 - 1) b → (b.events ≤ s.events) × (b.commits ≤ newest s.machine.log)
+book_fits s p items b k there same at = book_bounds s (p.number.0 - 1) b k (book_within p.number s.books there) (at ∙ ap (λ (bs : List Book). get_or bs (p.number.0 - 1) b) same)
+
+-- as the code counts them
+module _ (s : KeptView) (p q : PassView) (request : Request) (n : MachineView) (b : Book) (items books : List Book) (events : ℕ) (off : (s.trace ≡ Off) × (p.trace ≡ Off)) (there : has_book p.number s.books ≡ true) (same : items ≡ s.books) (at : b ≡ get_or items (p.number.0 - 1) b) where
+  at_own : b ≡ get_or s.books (p.number.0 - 1) b
+  at_own = at ∙ ap (λ (bs : List Book). get_or bs (p.number.0 - 1) b) same
+
+  set_own : (run : Run) → books ≡ set items (p.number.0 - 1) (book_after run b) → set s.books (p.number.0 - 1) (book_after run b) ≡ books
+  set_own run is = ap (λ (bs : List Book). set bs (p.number.0 - 1) (book_after run b)) (sym same) ∙ sym is
+
+  pub refused_as_counted : (refusal : Refusal) → s.events + 1 < 2 ^ 64 → p.events + 1 < 2 ^ 64 → Makes s.machine (Begin p.number request) (Refused refusal) n → books ≡ set items (p.number.0 - 1) (book_after (record { steps = 1; commits = 0; last = Refused refusal }) b) → events ≡ s.events + 1
+      → q ≡ pass_after (record { steps = 1; commits = 0; last = Refused refusal }) p → Does s p (Begin p.number request) (Refused refusal) (record { machine = n; events = events; books = books; trace = s.trace }) q
+  refused_as_counted refusal here far makes books_are events_are pass_is' =
+      let run : Run = record { steps = 1; commits = 0; last = Refused refusal } in
+      subst (λ (e : ℕ). Does s p (Begin p.number request) (Refused refusal) (record { machine = n; events = e; books = books; trace = s.trace }) q) (sym events_are)
+      (subst (λ (bs : List Book). Does s p (Begin p.number request) (Refused refusal) (record { machine = n; events = s.events + 1; books = bs; trace = s.trace }) q) (set_own run books_are)
+      (subst (λ (r : PassView). Does s p (Begin p.number request) (Refused refusal) (record { machine = n; events = s.events + 1; books = set s.books (p.number.0 - 1) (book_after run b); trace = s.trace }) r) (sym pass_is')
+      (opens s p there (book_within p.number s.books there) off.1 request run n b off.0 at_own here far refl refl refl makes)))
+
+  pub ran_as_counted : (call : CallNo) (run : Run) (begun : MachineView) → IsKept s → s.events + (run.steps + 1) < 2 ^ 64 → p.events + (run.steps + 1) < 2 ^ 64 → Makes s.machine (Begin p.number request) (Call call) begun → GoesThrough begun call run n
+      → books ≡ set items (p.number.0 - 1) (book_after (record run { steps = run.steps + 1 }) b) → events ≡ s.events + (run.steps + 1) → q ≡ pass_after (record run { steps = run.steps + 1 }) p
+      → IsStarted Does s p request (Ran call run.last) (record { machine = n; events = events; books = books; trace = s.trace }) q
+  ran_as_counted call run begun k here far makes went books_are events_are pass_is' =
+      let more : Run = record run { steps = run.steps + 1 } in
+      subst (λ (e : ℕ). IsStarted Does s p request (Ran call run.last) (record { machine = n; events = e; books = books; trace = s.trace }) q) (sym events_are)
+      (subst (λ (bs : List Book). IsStarted Does s p request (Ran call run.last) (record { machine = n; events = s.events + (run.steps + 1); books = bs; trace = s.trace }) q) (set_own more books_are)
+      (subst (λ (r : PassView). IsStarted Does s p request (Ran call run.last) (record { machine = n; events = s.events + (run.steps + 1); books = set s.books (p.number.0 - 1) (book_after more b); trace = s.trace }) r) (sym pass_is')
+      (starts_own s p request call run begun n b k off there at_own here far makes went)))
+
+-- what the lock keeps is kept by a start
+pub started_keeps : (s : KeptView) (p : PassView) (request : Request) (call : CallNo) (last : Outcome) (t : KeptView) (q : PassView) → IsKept s → IsStarted Does s p request (Ran call last) t q → IsKept t
+started_keeps s p request call last t q k (m, r, begun, gone) = gone_keep m r call last t q (does_keep s p (Begin p.number request) (Call call) m r k begun.0) gone
+
 -- a begin is no commit
 pub begin_is_none : (m n : MachineView) (pass : PassNo) (request : Request) (o : Outcome) → (h : History) × Stands m h → Makes m (Begin pass request) o n → commit_count o ≡ 0
 begin_is_none m n pass request o (h, st) makes = none o (suits m n h pass (Begin pass request) o st makes (ap not (eq-eqb pass.0 pass.0 refl)))
@@ -321,6 +357,13 @@ run_newest m n call run (h, st) g =
     let last = (commits_then g.before n (Step call) run.last then stands g.last).0 in
     let is = g.commits in
     omega (arith, before, last, is)
+
+pub start_newest : (m begun n : MachineView) (pass : PassNo) (request : Request) (call : CallNo) (run : Run) → (h : History) × Stands m h → Makes m (Begin pass request) (Call call) begun → GoesThrough begun call run n → newest n.log ≡ newest m.log + run.commits
+start_newest m begun n pass request call run (h, st) makes g =
+    let (opened, then) = makes.stands h st in
+    let first = (commits_then m begun (Begin pass request) (Call call) h st makes).0 in
+    let last = run_newest begun n call run (happening (Begin pass request) (Call call) opened ∷ h, then) g in
+    omega (arith, first, last)
 
 -- one step is a run
 pub goes_once : {S : Type 0} (does : EventLaw S) (s : S) (p : PassView) (call : CallNo) (last : Outcome) (t : S) (q : PassView) → does s p (Step call) last t q → IsTold p (Step call) last q → HasGone does s p call last t q

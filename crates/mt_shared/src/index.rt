@@ -237,7 +237,12 @@ impl<'a, W: Wait> Shared for Door<'a, W> {
 
     /// Begins the call, and does no more.
     fn change(&mut self, alloc: Global, pass: &mut Pass, request: Request, _turns: u64) -> Changed {
-        Changed::Started(self.begin(alloc, pass, request))
+        let begin = Event::Begin(pass.number(), request);
+        match self.event(alloc, pass, &begin) {
+            Outcome::Call(call) => Changed::Started(Started::Begun(call)),
+            Outcome::Refused(refusal) => Changed::Started(Started::Refused(refusal)),
+            _ => unreachable!(),
+        }
     }
 
     /// Makes one step.

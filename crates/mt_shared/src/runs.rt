@@ -23,23 +23,25 @@ use mt_types::numbers::CallNo;
 use mt_types::refusal::Refusal;
 use std::alloc::Global;
 
-// Counts a run of a pass: in the pass, in its book, and among all events.
-fn count(books: &mut [Book], events: &mut u64, pass: &mut Pass, run: &Run)
-    requires there { has_book pass.old.number books.old ≡ true }
-    requires book { (book : Book) → book ≡ slice_index_or books.old (pass.old.number.0 - 1) book
-        → (book.events + run.now.steps < 2 ^ 64) × (book.commits + run.now.commits < 2 ^ 64) }
-    requires events { events.old + run.now.steps < 2 ^ 64 }
-    requires pass { pass.old.events + run.now.steps < 2 ^ 64 }
-    requires commits { run.now.commits ≤ run.now.steps }
-    ensures books { (book : Book) × (book ≡ slice_index_or books.old (pass.old.number.0 - 1) book)
-        × (books.new ≡ slice_set books.old (pass.old.number.0 - 1) (book_after run.now book)) }
-    ensures events { events.new ≡ events.old + run.now.steps }
-    ensures pass { pass.new ≡ pass_after run.now pass.old }
+// Counts a run of a pass: in the pass, in its book, and among all events. Returns the outcome of its last step.
+fn count(books: &mut Vec<Book>, events: &mut u64, pass: &mut Pass, run: Run) -> Outcome
+    requires there { has_book pass.old.number books.old.items ≡ true }
+    requires book { (book : Book) → book ≡ slice_index_or books.old.items (pass.old.number.0 - 1) book
+        → (book.events + run.steps < 2 ^ 64) × (book.commits + run.commits < 2 ^ 64) }
+    requires events { events.old + run.steps < 2 ^ 64 }
+    requires pass { pass.old.events + run.steps < 2 ^ 64 }
+    requires commits { run.commits ≤ run.steps }
+    ensures last { result ≡ run.last }
+    ensures books { (book : Book) × (book ≡ slice_index_or books.old.items (pass.old.number.0 - 1) book)
+        × (books.new.items ≡ slice_set books.old.items (pass.old.number.0 - 1) (book_after run book)) }
+    ensures events { events.new ≡ events.old + run.steps }
+    ensures pass { pass.new ≡ pass_after run pass.old }
 {
     let at = pass.number().0 as usize - 1;
-    books[at] = books[at].after(run);
+    books[at] = books[at].after(&run);
     *events += run.steps;
-    pass.count_run(run);
+    pass.count_run(&run);
+    run.last
 }
 
 impl Kept {
@@ -135,23 +137,27 @@ impl Kept {
     {
         let number = pass.number();
         let most = most.min(self.room(pass));
-        match self.machine.call(alloc, number, request, most - 1) {
+        let called = self.machine.call(alloc, number, request, most - 1);
+        let _commits = self.machine.commits();
+        match called {
             CallRun::Refused(refusal) => {
                 let run = Run {
                     steps: 1,
                     commits: 0,
                     last: Outcome::Refused(refusal),
                 };
-                count(&mut self.books, &mut self.events, pass, &run);
-                Started::Refused(refusal)
+                match count(&mut self.books, &mut self.events, pass, run) {
+                    Outcome::Refused(refusal) => Started::Refused(refusal),
+                    _ => unreachable!(),
+                }
             }
             CallRun::Ran(call, run) => {
                 let run = Run {
                     steps: run.steps + 1,
                     ..run
                 };
-                count(&mut self.books, &mut self.events, pass, &run);
-                Started::Ran(call, run.last)
+                let last = count(&mut self.books, &mut self.events, pass, run);
+                Started::Ran(call, last)
             }
         }
     }

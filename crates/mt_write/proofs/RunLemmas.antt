@@ -15,7 +15,6 @@ use Rattle.mt_steps.specs.declared.progress.Progress.{Progress}
 use Rattle.mt_steps.specs.declared.progress.Progress.TheVariants.{Moved, Waits, Committed, Answered, Refused}
 use Rattle.mt_steps.specs.World.{World}
 use Rattle.mt_steps.specs.Step.{Held, IsQuiet, Does, MayStep, Stepped, ThenTrue, bounds, left_with}
-use Rattle.mt_write.specs.declared.running.WriteRun.{WriteRun}
 use Rattle.mt_write.specs.declared.writing.Write.{Write}
 use Rattle.mt_write.specs.Writing.{WriteIsTrue, write_held, write_request}
 use Rattle.mt_write.specs.Follows.{WriteStep}

@@ -2,7 +2,7 @@
 
 ghost use Rattle.std.specs.Prelude.{◌≡◌, ◌≤◌, ◌<◌, ◌↔◌, max, IsTrue};
 ghost use Rattle.mt_commit.specs.Log.{trimmed};
-ghost use Rattle.mt_write.specs.Runs.{Advances, HasRun, IsTrimmed, MayRun, WriteState, commits_in};
+ghost use Rattle.mt_write.specs.Runs.{Advances, HasRun, IsTrimmed, MayRun, commits_in};
 
 use crate::writing::Write;
 use mt_commit::log::Log;

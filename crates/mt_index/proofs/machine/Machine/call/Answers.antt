@@ -1,4 +1,4 @@
-use Rattle.std.proofs.Common.{◌∙◌, sym, refl, ap, inl, inr}
+use Rattle.std.proofs.Common.{◌∙◌, sym, refl, inl, inr}
 use Rattle.mt_types.specs.declared.event.Outcome.TheVariants.{Call as Called, Refused}
 use Rattle.mt_types.specs.declared.refusal.Refusal.TheVariants.{NoMemory}
 use Rattle.mt_works.specs.declared.work.Pace.TheVariants.{Field}

@@ -1,6 +1,6 @@
-use Rattle.std.proofs.Common.{◌∙◌, inl, inr, subst, sym, refl}
+use Rattle.std.proofs.Common.{◌∙◌, inl, subst, sym, refl}
 use Rattle.mt_types.specs.declared.event.Outcome.{Outcome}
-use Rattle.mt_types.specs.declared.event.Outcome.TheVariants.{Done, Refused}
+use Rattle.mt_types.specs.declared.event.Outcome.TheVariants.{Done}
 use Rattle.mt_index.specs.Alone.{RefusesPlainly}
 use Rattle.mt_index.specs.Stands.{MachineView, Steps}
 use Rattle.mt_works.proofs.LoneWork.{lone_laws}
