@@ -1,0 +1,202 @@
+"""What the board knows: its views with their last pages and samples, and whether the server answers."""
+from __future__ import annotations
+
+import enum
+import secrets
+import threading
+from collections import deque
+from dataclasses import dataclass, field
+from typing import Deque, Dict, List, Optional, Tuple
+
+from ..core import Page, ViewNo, ViewSpec
+from .guard import Tokens
+from .showing import Event, board_event, card_event, samples_event
+
+# how many views a board shows, and how many seconds its lines go back: a sample a second
+MAX_CARDS = 64
+WINDOW = 300
+# no view has this number: that of a view that has to be built again
+NO_VIEW = ViewNo(0)
+UNKNOWN = "The specification isn't known: the board was given the view's number."
+STARTED_AGAIN = " The server was started again since then, so the number may be another view's."
+
+
+class Link(enum.Enum):
+    """How the board is connected to the server."""
+
+    LIVE = "live"
+    LOST = "lost"
+
+
+@dataclass(frozen=True)
+class Sample:
+    """The count and the sums of a view in one second since the board began."""
+
+    second: int
+    count: int
+    sums: Tuple[int, ...]
+
+
+@dataclass
+class Card:
+    """A view on the board: its number at the server, and the last page that was read. `floor` is the commit that the
+    next page has to show at least; `trouble` says why no page comes, and is empty as long as pages come. `note` is there
+    if the specification isn't known."""
+
+    id: int
+    number: ViewNo
+    name: str
+    spec: Optional[ViewSpec]
+    token: str
+    note: str
+    page: Optional[Page] = None
+    lag: int = 0
+    floor: int = 0
+    trouble: str = ""
+    revision: int = 0
+    samples: Deque[Sample] = field(default_factory=lambda: deque(maxlen=WINDOW))
+    # the event of the revision that is named
+    rendered: Tuple[int, Event] = (0, Event("", b""))
+
+    def event(self) -> Event:
+        """What the page shows of it, which is written once for all browsers."""
+        if self.rendered[0] != self.revision:
+            self.rendered = (self.revision, card_event(self))
+        return self.rendered[1]
+
+
+@dataclass
+class Sent:
+    """What a browser has been sent: up to which revision, and of each card up to which second."""
+
+    revision: int = 0
+    seconds: Dict[int, int] = field(default_factory=dict)
+
+
+class Full(Exception):
+    """The board shows as many views as it can."""
+
+
+class Board:
+    """The state that one poller writes, and that any number of browsers are sent. Its methods may be called by any
+    thread."""
+
+    def __init__(self, server: str, rows: int, tokens: Tokens) -> None:
+        self.server, self.rows, self.tokens = server, rows, tokens
+        # another board at this port has another name, so that a page that was open before knows to load again
+        self.instance = secrets.token_hex(8)
+        self._changed = threading.Condition()
+        self._cards: Dict[int, Card] = {}
+        self._last_id = 0
+        self._revision = self._own_revision = 1
+        self._link, self._why = Link.LIVE, ""
+        self._is_closed = False
+
+    # -- what the poller writes
+
+    def cards(self) -> List[Card]:
+        """The views, in the order in which they came to the board."""
+        with self._changed:
+            return list(self._cards.values())
+
+    def card(self, card_id: int) -> Optional[Card]:
+        with self._changed:
+            return self._cards.get(card_id)
+
+    def check_room(self) -> None:
+        """Raises `Full` if there is no room for another view."""
+        with self._changed:
+            if len(self._cards) >= MAX_CARDS:
+                raise Full(f"the board shows {MAX_CARDS} views already")
+
+    def add(self, number: ViewNo, spec: Optional[ViewSpec], name: str = "") -> Card:
+        """Adds a view, whose specification may be unknown."""
+        with self._changed:
+            self._last_id += 1
+            token, note = self.tokens.of(f"drop {self._last_id}"), UNKNOWN if spec is None else ""
+            card = Card(self._last_id, number, name, spec, token, note)
+            self._cards[card.id] = card
+            self._change(card)
+            self._change()
+            return card
+
+    def remove(self, card_id: int) -> None:
+        with self._changed:
+            if self._cards.pop(card_id, None) is not None:
+                self._change()
+
+    def show(self, card: Card, page: Page, lag: int, second: int) -> None:
+        """Takes a page of a view that was read in this second, and by how many commits the view lagged behind."""
+        with self._changed:
+            if (page, lag, "") != (card.page, card.lag, card.trouble):
+                card.page, card.lag, card.floor, card.trouble = page, lag, page.at, ""
+                self._change(card)
+            if not card.samples or card.samples[-1].second < second:
+                card.samples.append(Sample(second, page.count, page.sums))
+                self._revision += 1
+
+    def fail(self, card: Card, why: str) -> None:
+        """No page of a view came; the last one stays."""
+        with self._changed:
+            if card.trouble != why:
+                card.trouble = why
+                self._change(card)
+
+    def start_again(self, card: Card, number: ViewNo) -> None:
+        """The server was started again: a view has this number now, and its commits begin again."""
+        with self._changed:
+            card.number, card.floor, card.trouble = number, 0, "The server was started again."
+            card.note = UNKNOWN + STARTED_AGAIN if card.spec is None else ""
+            self._change(card)
+
+    def set_link(self, link: Link, why: str = "") -> None:
+        with self._changed:
+            if (link, why) != (self._link, self._why):
+                self._link, self._why = link, why
+                self._change()
+
+    def close(self) -> None:
+        """Ends the streams of events."""
+        with self._changed:
+            self._is_closed = True
+            self._changed.notify_all()
+
+    def tell(self) -> None:
+        """Wakes the streams, after a round of changes."""
+        with self._changed:
+            self._changed.notify_all()
+
+    def _change(self, card: Optional[Card] = None) -> None:
+        self._revision += 1
+        if card is None:
+            self._own_revision = self._revision
+        else:
+            card.revision = self._revision
+
+    # -- what a stream of events reads
+
+    def wait(self, sent: Sent, seconds: float) -> bool:
+        """Waits until there is something that wasn't sent, or this time is over; False if the board is closed."""
+        with self._changed:
+            self._changed.wait_for(lambda: self._is_closed or self._revision > sent.revision, seconds)
+            return not self._is_closed
+
+    def events(self, sent: Sent) -> List[Event]:
+        """What has changed since `sent`, which is brought up to date."""
+        with self._changed:
+            events = [board_event(self, self._link.value, self._why, list(self._cards))] \
+                if self._own_revision > sent.revision else []
+            cards = self._cards.values()
+            events += [card.event() for card in cards if card.revision > sent.revision]
+            events += [samples_event(card.id, new) for card in cards for new in [self._unsent(card, sent)] if new]
+            sent.revision = self._revision
+            sent.seconds = {card.id: card.samples[-1].second for card in cards if card.samples}
+            return events
+
+    @staticmethod
+    def _unsent(card: Card, sent: Sent) -> List[Sample]:
+        """The samples of a view that weren't sent; of most calls none or the last one."""
+        last = sent.seconds.get(card.id, -1)
+        if not card.samples or card.samples[-1].second <= last:
+            return []
+        return [sample for sample in card.samples if sample.second > last]
