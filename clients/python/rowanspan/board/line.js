@@ -6,6 +6,8 @@ const HEIGHT = 36;
 const EDGE = 3;
 // a gap between two seconds that is wider than this is left open: no page was read in it
 const GAP = 3;
+// how many seconds a line has at least, and at most
+const LEAST = 30;
 export const WINDOW = 300;
 
 /** An empty line. */
@@ -23,7 +25,8 @@ export function drawLine(svg, label, seconds, values) {
   const least = Math.min(...values);
   const most = Math.max(...values);
   const last = seconds[seconds.length - 1];
-  const place = (second) => WIDTH - ((last - second) * WIDTH) / WINDOW;
+  const width = Math.max(last - seconds[0], LEAST);
+  const place = (second) => WIDTH - ((last - second) * WIDTH) / width;
   // one that doesn't change is in the middle
   const height = (value) => most === least ? HEIGHT / 2
     : HEIGHT - EDGE - ((value - least) / (most - least)) * (HEIGHT - 2 * EDGE);

@@ -12,7 +12,7 @@ from typing import Any, Callable, List, Optional, Sequence, Tuple
 from ..client import Client
 from ..core import BadReply, ConnectionLost, NoSuchView, Page, Range, Refused, RowanspanError, ViewNo, ViewSpec
 from ..wire import MAX_QUERIES, Get, Outcome, Query, Reply, ViewDrop, ViewRead
-from .state import NO_VIEW, Board, Card, Link
+from .state import NO_VIEW, STARTED_AGAIN, Board, Card, Link
 
 # in seconds: from one round to the next, from one try to connect to the next, and how long a form waits
 PERIOD = 0.25
@@ -90,7 +90,8 @@ class Poller(threading.Thread):
         """Drops a view, and takes it off the board. One that isn't there any more is no error."""
         def work(index: Client) -> None:
             try:
-                index.view(card.number).drop()
+                if card.can_be_read():
+                    index.view(card.number).drop()
             except NoSuchView:
                 pass
             self._board.remove(card.id)
@@ -165,7 +166,7 @@ class Poller(threading.Thread):
 
     def _read_all(self, index: Client) -> None:
         """A page of each view, in as few frames as hold them. The first query of a frame is for the number of commits."""
-        cards, size = [card for card in self._board.cards() if card.number != NO_VIEW], MAX_QUERIES - 1
+        cards, size = [card for card in self._board.cards() if card.can_be_read()], MAX_QUERIES - 1
         for first in range(0, max(len(cards), 1), size):
             self._read_some(index, cards[first:first + size])
 
@@ -195,12 +196,12 @@ class Poller(threading.Thread):
 
     def _meet(self, index: Client) -> None:
         """After a lost connection: if this is another index than before, the views that the board has built are built
-        again, and those that it was given are read from the first commit on."""
+        again, and those that it was given are over."""
         if self._is_same(index):
             return
         self._commits = self._greatest = 0
         for card in self._board.cards():
-            self._board.start_again(card, NO_VIEW if card.spec else card.number)
+            self._board.start_again(card)
 
     def _is_same(self, index: Client) -> bool:
         """Whether an index can be the one from before: it has no fewer commits, and a new view has a greater number
@@ -222,9 +223,9 @@ class Poller(threading.Thread):
 
     def _build_again(self, index: Client, card: Card, spec: ViewSpec) -> None:
         try:
-            self._board.start_again(card, self._built(index, spec))
+            self._board.rebuilt(card, self._built(index, spec))
         except Refused as refused:
-            self._board.fail(card, f"The server was started again, and refused to build the view: {refused}.")
+            self._board.fail(card, f"{STARTED_AGAIN} It refused to build the view: {refused}.")
 
     # -- the end
 
@@ -233,7 +234,7 @@ class Poller(threading.Thread):
         self._fail_jobs(Busy("the board ends"))
         if self._index is None:
             return
-        drops = [ViewDrop(card.number) for card in self._board.cards() if card.spec is not None]
+        drops = [ViewDrop(card.number) for card in self._board.cards() if card.spec is not None and card.can_be_read()]
         try:
             for first in range(0, len(drops), MAX_QUERIES):
                 self._index.call_all(drops[first:first + MAX_QUERIES])

@@ -18,7 +18,8 @@ WINDOW = 300
 # no view has this number: that of a view that has to be built again
 NO_VIEW = ViewNo(0)
 UNKNOWN = "The specification isn't known: the board was given the view's number."
-STARTED_AGAIN = " The server was started again since then, so the number may be another view's."
+STARTED_AGAIN = "The server was started again."
+OVER = STARTED_AGAIN + " It has this view no longer, and the number may become another view's."
 
 
 class Link(enum.Enum):
@@ -41,7 +42,7 @@ class Sample:
 class Card:
     """A view on the board: its number at the server, and the last page that was read. `floor` is the commit that the
     next page has to show at least; `trouble` says why no page comes, and is empty as long as pages come. `note` is there
-    if the specification isn't known."""
+    if the specification isn't known. A view that `is_over` can't come back."""
 
     id: int
     number: ViewNo
@@ -53,10 +54,15 @@ class Card:
     lag: int = 0
     floor: int = 0
     trouble: str = ""
+    is_over: bool = False
     revision: int = 0
     samples: Deque[Sample] = field(default_factory=lambda: deque(maxlen=WINDOW))
     # the event of the revision that is named
     rendered: Tuple[int, Event] = (0, Event("", b""))
+
+    def can_be_read(self) -> bool:
+        """Whether its number is that of the view at the server, as far as the board knows."""
+        return self.number != NO_VIEW and not self.is_over
 
     def event(self) -> Event:
         """What the page shows of it, which is written once for all browsers."""
@@ -142,11 +148,18 @@ class Board:
                 card.trouble = why
                 self._change(card)
 
-    def start_again(self, card: Card, number: ViewNo) -> None:
-        """The server was started again: a view has this number now, and its commits begin again."""
+    def start_again(self, card: Card) -> None:
+        """The server was started again, so its commits begin again: a view whose specification is known has to be built
+        again, and another one is over."""
         with self._changed:
-            card.number, card.floor, card.trouble = number, 0, "The server was started again."
-            card.note = UNKNOWN + STARTED_AGAIN if card.spec is None else ""
+            card.floor, card.is_over = 0, card.spec is None
+            card.number, card.trouble = (card.number, OVER) if card.is_over else (NO_VIEW, STARTED_AGAIN)
+            self._change(card)
+
+    def rebuilt(self, card: Card, number: ViewNo) -> None:
+        """A view was built again, and has this number."""
+        with self._changed:
+            card.number = number
             self._change(card)
 
     def set_link(self, link: Link, why: str = "") -> None:
