@@ -43,16 +43,24 @@ const tries = {
     events.onerror = () => { events.close(); fail(); };
   }),
   script: () => new Promise((done, fail) => {
-    document.head.append(Object.assign(document.createElement("script"), { src: board + "board.js", onload: done, onerror: fail }));
+    const src = board + "board.js";
+    document.head.append(Object.assign(document.createElement("script"), { src, onload: done, onerror: fail }));
   }),
   picture: () => new Promise((done, fail) => {
-    document.body.append(Object.assign(document.createElement("img"), { src: board + "icon.svg", onload: done, onerror: fail }));
+    const src = board + "icon.svg";
+    document.body.append(Object.assign(document.createElement("img"), { src, onload: done, onerror: fail }));
   }),
   opaque: () => fetch(board + "build", { method: "POST", mode: "no-cors", body: new URLSearchParams(%(form)s) })
     .then(() => Promise.reject()),
   frame: () => new Promise((done, fail) => {
     const frame = Object.assign(document.createElement("iframe"), { name: "frame", src: board });
-    frame.onload = () => { try { frame.contentDocument.body.textContent.includes("Rowanspan") ? done() : fail(); } catch { fail(); } };
+    frame.onload = () => {
+      try {
+        frame.contentDocument.body.textContent.includes("Rowanspan") ? done() : fail();
+      } catch {
+        fail();
+      }
+    };
     document.body.append(frame);
   }),
   form: () => { form("build", %(form)s); form("drop", { id: 1, token: "%(token)s" }); return Promise.reject(); },
@@ -79,7 +87,8 @@ def refused_requests(serve: Sequence[str]) -> int:
             want_same("the view", index.view(1).page().count, 0)
             # with all of it right, a view is built and is dropped
             reply = board.post("/build", {**FORM, "token": token})
-            want_same("a form as the page sends it", (reply.status, json.loads(reply.body)), (200, {"id": 2, "number": "4"}))
+            want_same("a form as the page sends it", (reply.status, json.loads(reply.body)),
+                      (200, {"id": 2, "number": "4"}))
             reply = board.post("/build", {**FORM, "token": token}, Host=f"localhost:{board.port}",
                                Origin=f"http://localhost:{board.port}")
             want_same("a form by another name of this machine", reply.status, 200)
@@ -94,12 +103,14 @@ def want_refused_hosts(board: Board) -> int:
         "evil.example", f"evil.example:{port}", f"127.0.0.1.evil.example:{port}", "127.0.0.1", f"127.0.0.1:{port + 1}",
         f"[::1]:{port}", f"0.0.0.0:{port}", "", f"127.0.0.1:{port}@evil.example")]
     wrong += [{}] + [{"Host": board.host, "Origin": origin} for origin in (
-        "http://evil.example", "null", f"https://127.0.0.1:{port}", f"http://localhost:{port}", f"http://127.0.0.1:{port + 1}", "")]
+        "http://evil.example", "null", f"https://127.0.0.1:{port}", f"http://localhost:{port}",
+        f"http://127.0.0.1:{port + 1}", "")]
     wrong += [{"Host": board.host, "Sec-Fetch-Site": site} for site in ("cross-site", "same-site", "")]
     for headers in wrong:
         for path in ("/", "/events", "/board.js"):
             reply = board.ask("GET", path, headers)
-            want_same(f"GET {path} with {headers}", (reply.status, reply.headers["Content-Type"]), (403, "application/json"))
+            want_same(f"GET {path} with {headers}", (reply.status, reply.headers["Content-Type"]),
+                      (403, "application/json"))
     visit = {"Host": board.host, "Sec-Fetch-Site": "cross-site", "Sec-Fetch-Mode": "navigate"}
     want_same("a link of another site", [board.ask("GET", path, visit).status for path in ("/", "/events")], [200, 403])
     return 3 * len(wrong)
@@ -233,13 +244,14 @@ def wait_until_answers(board: Board) -> None:
 
 def run(*words: str) -> Tuple[int, str, str]:
     """Runs the command to its end."""
-    done = subprocess.run([sys.executable, str(CLIENTS / "rowan"), "board", *words], stdin=subprocess.DEVNULL, text=True,
-                          capture_output=True, timeout=SECONDS, check=False)
+    done = subprocess.run([sys.executable, str(CLIENTS / "rowan"), "board", *words], stdin=subprocess.DEVNULL,
+                          text=True, capture_output=True, timeout=SECONDS, check=False)
     return done.returncode, done.stdout, done.stderr
 
 
 def command_lines(serve: Sequence[str]) -> None:
-    """What is wrong with a command line, a port or a view is one line and a status; at its end the board drops its views."""
+    """What is wrong with a command line, a port or a view is one line and a status. At its end the board drops the
+    views that it built."""
     with Server(serve) as server, server.index() as index:
         given = ["-p", str(server.port), "--http", "0"]
         with socket.create_server(("127.0.0.1", 0)) as taken:

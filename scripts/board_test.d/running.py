@@ -180,9 +180,9 @@ class Writer(threading.Thread):
 
 
 class PageReader(threading.Thread):
-    """Reads the pages of a view as fast as it can, and keeps each by its commit: the last 20,000 of them."""
+    """Reads the pages of a view as fast as it can, and keeps each by its commit: the last 100,000 of them."""
 
-    KEPT = 20_000
+    KEPT = 100_000
 
     def __init__(self, port: int, view: int, limit: int) -> None:
         super().__init__(daemon=True)

@@ -78,7 +78,7 @@ class Seen:
     heights: List[int]
 
     def view(self) -> int:
-        """The number of the view."""
+        """The number of a view whose specification is known."""
         return int(self.number.split()[1])
 
     def commit(self) -> int:

@@ -6,6 +6,7 @@ import { onSwitch } from "./notation.js";
 
 // after how many milliseconds a stream that was refused is opened again
 const RETRY = 3000;
+const STALE = "What you see is from before. Trying again.";
 
 const cards = new Map();
 const list = document.getElementById("cards");
@@ -36,7 +37,7 @@ function showLink({ link, why }) {
   if (link === "live") {
     setLink("live", "Connected: the views are as of now.");
   } else if (!document.body.classList.contains("lost")) {
-    setLink("lost", `The connection to the server is lost since ${clock()}: ${why}. What you see is from before. Trying again.`);
+    setLink("lost", `The connection to the server is lost since ${clock()}: ${why}. ${STALE}`);
   }
 }
 
@@ -64,7 +65,7 @@ function listen() {
   on("view", (view) => cardOf(view.id).show(view));
   on("samples", ({ id, samples }) => cardOf(id).take(samples));
   events.addEventListener("error", () => {
-    setLink("gone", `The board doesn't answer since ${clock()}. What you see is from before. Trying again.`);
+    setLink("gone", `The board doesn't answer since ${clock()}. ${STALE}`);
     if (events.readyState === EventSource.CLOSED) {
       setTimeout(listen, RETRY);
     }

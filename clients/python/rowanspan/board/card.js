@@ -82,7 +82,7 @@ export class Card {
     const words = view.spec?.map((word) => Array.isArray(word) ? written(word, notationOf("keys")) || "(empty)" : word);
     const spec = words ? words.join(" ") : view.note;
     setText(this.find("h2"), view.name || (words ? spec : `View ${view.number}`));
-    setText(this.find(".number"), view.number === "0" ? "" : `view ${view.number}`);
+    setText(this.find(".number"), words && view.number !== "0" ? `view ${view.number}` : "");
     setText(this.find(".words"), view.name || !words ? spec : "");
     this.find(".drop").setAttribute("aria-label", `Drop view ${view.number}, ${view.name || spec}`);
   }
@@ -113,8 +113,8 @@ export class Card {
     for (let place = 0; place < ROWS; place += 1) {
       drawRow(body[place].cells, page.rows[place], shown);
     }
-    const rows = page.rows.length;
-    setText(this.find("caption"), BigInt(page.count) > rows ? `the first ${rows} rows` : rows === 1 ? "1 row" : `${rows} rows`);
+    const rows = `${page.rows.length} ${page.rows.length === 1 ? "row" : "rows"}`;
+    setText(this.find("caption"), BigInt(page.count) > page.rows.length ? `the first ${rows}` : rows);
   }
 
   /** Columns, once their number is known. */

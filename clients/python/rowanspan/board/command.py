@@ -19,8 +19,8 @@ from .state import MAX_CARDS, Board
 
 USES = "rowan board -p PORT [--http PORT] [--view N].. [--build SPEC].. [OPTION ..]"
 ABOUT = """\
-Shows the standing views of a server in a browser, as they change: count, sums, first rows. It serves a page on 127.0.0.1,
-and writes its address on standard output. The page can build views and drop them.
+Shows the standing views of a server in a browser, as they change: count, sums, first rows. It serves a page on
+127.0.0.1, and writes its address on standard output. The page can build views and drop them.
 """
 NOTES = """\
 A server can't list its views. So the board shows those that it built, by --build or by the form on the page, and those
@@ -127,7 +127,8 @@ def bound(given: int) -> BoardServer:
     try:
         return BoardServer(given)
     except OSError as fault:
-        why = "is taken: --http names another" if fault.errno == errno.EADDRINUSE else f"can't be used: {fault.strerror}"
+        is_taken = fault.errno == errno.EADDRINUSE
+        why = "is taken: --http names another" if is_taken else f"can't be used: {fault.strerror}"
         raise OSError(f"port {given} of {ADDRESS} {why}") from fault
 
 

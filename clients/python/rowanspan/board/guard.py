@@ -52,8 +52,8 @@ def only(headers: Message, name: str) -> Optional[str]:
 def refusal(port: int, method: str, path: str, headers: Message) -> Optional[str]:
     """Why a request isn't answered; None if it may be. It says nothing of tokens.
 
-    The host has to be this machine's own (a name of another domain may lead here too), and the origin that of the board.
-    A browser says from which site a request comes: only a person may come to the page itself from elsewhere.
+    The host has to be this machine's own (a name of another domain may lead here too), and the origin that of the
+    board. A browser says from which site a request comes: only a person may come to the page itself from elsewhere.
     """
     host = only(headers, "Host")
     if host is None or host not in hosts(port):

@@ -165,7 +165,8 @@ class Poller(threading.Thread):
     # -- reading
 
     def _read_all(self, index: Client) -> None:
-        """A page of each view, in as few frames as hold them. The first query of a frame is for the number of commits."""
+        """A page of each view, in as few frames as hold them. The first query of a frame asks how many commits there
+        are."""
         cards, size = [card for card in self._board.cards() if card.can_be_read()], MAX_QUERIES - 1
         for first in range(0, max(len(cards), 1), size):
             self._read_some(index, cards[first:first + size])
@@ -216,7 +217,8 @@ class Poller(threading.Thread):
             return True
 
     def _build_missing(self, index: Client) -> None:
-        """Builds the views that the server was started again without. What it refuses is tried again in the next round."""
+        """Builds the views that the server was started again without. What it refuses is asked again in the next
+        round."""
         for card in self._board.cards():
             if card.number == NO_VIEW and card.spec is not None:
                 self._build_again(index, card, card.spec)

@@ -62,8 +62,8 @@ def test_words(test: RowTest) -> Words:
     if isinstance(test, AnyRow):
         return []
     if isinstance(test, Equals):
-        return [f"column {test.column} equals", shown(test.value)]
-    return [f"column {test.column} at least {test.least:,}"]
+        return [f"with column {test.column} equal to", shown(test.value)]
+    return [f"with column {test.column} at least {test.least:,}"]
 
 
 def spec_words(spec: ViewSpec) -> Words:

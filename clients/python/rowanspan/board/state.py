@@ -17,7 +17,7 @@ MAX_CARDS = 64
 WINDOW = 300
 # no view has this number: that of a view that has to be built again
 NO_VIEW = ViewNo(0)
-UNKNOWN = "The specification isn't known: the board was given the view's number."
+UNKNOWN = "specification unknown: given by number"
 STARTED_AGAIN = "The server was started again."
 OVER = STARTED_AGAIN + " It has this view no longer, and the number may become another view's."
 
@@ -41,8 +41,8 @@ class Sample:
 @dataclass
 class Card:
     """A view on the board: its number at the server, and the last page that was read. `floor` is the commit that the
-    next page has to show at least; `trouble` says why no page comes, and is empty as long as pages come. `note` is there
-    if the specification isn't known. A view that `is_over` can't come back."""
+    next page has to show at least; `trouble` says why no page comes, and is empty as long as pages come. `note` is
+    there if the specification isn't known. A view that `is_over` can't come back."""
 
     id: int
     number: ViewNo
