@@ -10,12 +10,12 @@ from email.message import Message
 from typing import Any, Callable, List, Optional, Tuple
 
 from rowanspan import (MAX_KEY_BYTES, AtLeast, BadRange, Client, ConnectionLost, Equals, NoSuchView, Page, Prefix,
-                       Range, Row, ViewNo)
+                       Range, Reply, Row, ViewNo)
 from rowanspan.board.forms import MAX_FORM, Asked, BadForm, read_form, read_view
 from rowanspan.board.guard import Tokens, refusal
 from rowanspan.board.poller import PERIOD, Poller
 from rowanspan.board.showing import SHOWN_BYTES, as_text, card_event, shown, spec_words
-from rowanspan.board.state import MAX_CARDS, NO_VIEW, UNKNOWN, WINDOW, Board, Card, Full, Sent
+from rowanspan.board.state import CHUNK, MAX_CARDS, NO_VIEW, UNKNOWN, WINDOW, Board, Card, Full, Sent
 from rowanspan.text import read_text
 from stand_in import Options, StandIn
 
@@ -143,7 +143,7 @@ class StateTest(unittest.TestCase):
         self.board.fail(card, "why")
         self.assertEqual((self.names(sent), card.page), (["view"], Page(1, 0, (0,), [])))
         self.board.remove(card.id)
-        self.assertEqual((self.names(sent), sent.seconds, self.names(Sent())), (["board"], {}, ["board"]))
+        self.assertEqual((self.names(sent), sent.marks, self.names(Sent())), (["board"], {}, ["board"]))
         self.board.close()
         self.assertFalse(self.board.wait(sent, SECONDS))
 
@@ -157,6 +157,21 @@ class StateTest(unittest.TestCase):
             self.board.check_room()
             self.board.add(ViewNo(number), None)
         self.assertRaises(Full, self.board.check_room)
+
+    def test_much_is_sent_in_parts(self) -> None:
+        row = Row(1, (b"\xff" * 64,) * 16)
+        cards = [self.board.add(ViewNo(number), None) for number in range(1, MAX_CARDS + 1)]
+        for card in cards:
+            self.board.show(card, Page(1, 10, (0,) * 16, [(bytes((key,)) * 100, row) for key in range(10)]), 0, 0)
+        sent, found, parts = Sent(), [], 0
+        while sent.revision == 0 or parts == 0:
+            self.board.show(cards[0], Page(2 + parts, 0, (0,), []), 0, 0)
+            events = self.board.events(sent)
+            self.assertLess(sum(len(event.data) for event in events), CHUNK + 2 ** 17)
+            found += [json.loads(event.data)["id"] for event in events if event.name == "view"]
+            parts += 1
+        self.assertGreater(parts, 5)
+        self.assertEqual((set(found), found.count(cards[-1].id)), ({card.id for card in cards}, 1))
 
     def test_an_event_is_written_once(self) -> None:
         card = self.board.add(ViewNo(1), None)
@@ -220,6 +235,13 @@ class PollerTest(unittest.TestCase):
             for it in (given, card):
                 self.poller.drop(it)
             self.assertEqual(self.board.cards(), [])
+
+    def test_the_lag(self) -> None:
+        card = self.board.add(ViewNo(1), None)
+        for commits, lag in ((9, 5), (4, 0), (3, 0)):
+            self.poller._commits = commits
+            self.poller._take(card, Reply(Page(4, 0, (0,), [])))
+            self.assertEqual((card.lag, card.floor), (lag, 4))
 
     def test_the_rate(self) -> None:
         cards = [self.board.add(ViewNo(number), None) for number in range(1, MAX_CARDS + 1)]

@@ -54,6 +54,8 @@ function showBoard(board) {
       cards.delete(id);
     }
   }
+  // (each in its place, before what is in it comes)
+  board.cards.forEach(cardOf);
   document.getElementById("none").hidden = wanted.size > 0;
   showLink(board);
 }

@@ -48,7 +48,7 @@ export function useForm() {
 /** Asks whether a view is to be dropped, and drops it. */
 export async function drop(card) {
   const { view } = card;
-  if (!confirm(`Drop view ${view.number}? It ends for all clients of the server.`)) {
+  if (!view || !confirm(`Drop view ${view.number}? It ends for all clients of the server.`)) {
     return;
   }
   try {

@@ -6,7 +6,7 @@ import secrets
 import threading
 from collections import deque
 from dataclasses import dataclass, field
-from typing import Deque, Dict, List, Optional, Tuple
+from typing import Deque, Dict, List, NamedTuple, Optional, Tuple
 
 from ..core import Page, ViewNo, ViewSpec
 from .guard import Tokens
@@ -15,6 +15,8 @@ from .showing import Event, board_event, card_event, samples_event
 # how many views a board shows, and how many seconds its lines go back: a sample a second
 MAX_CARDS = 64
 WINDOW = 300
+# after how many bytes of events a browser is sent what there is, so that a slow one holds no more
+CHUNK = 1 << 18
 # no view has this number: that of a view that has to be built again
 NO_VIEW = ViewNo(0)
 UNKNOWN = "specification unknown: given by number"
@@ -71,12 +73,23 @@ class Card:
         return self.rendered[1]
 
 
-@dataclass
-class Sent:
-    """What a browser has been sent: up to which revision, and of each card up to which second."""
+class Mark(NamedTuple):
+    """What a browser has been sent of a view: the revision, and up to which second."""
 
     revision: int = 0
-    seconds: Dict[int, int] = field(default_factory=dict)
+    second: int = -1
+
+
+@dataclass
+class Sent:
+    """What a browser has been sent: up to which revision all, of the board itself up to which, and of each view."""
+
+    revision: int = 0
+    own_revision: int = 0
+    marks: Dict[int, Mark] = field(default_factory=dict)
+
+    def mark(self, card: Card) -> Mark:
+        return self.marks.get(card.id, Mark())
 
 
 class Full(Exception):
@@ -195,21 +208,31 @@ class Board:
             return not self._is_closed
 
     def events(self, sent: Sent) -> List[Event]:
-        """What has changed since `sent`, which is brought up to date."""
+        """What a browser hasn't been sent, which is noted in `sent`. If it is much, a part of it, and the rest by the next
+        calls: first the views that were sent the longest time ago."""
         with self._changed:
-            events = [board_event(self, self._link.value, self._why, list(self._cards))] \
-                if self._own_revision > sent.revision else []
-            cards = self._cards.values()
-            events += [card.event() for card in cards if card.revision > sent.revision]
-            events += [samples_event(card.id, new) for card in cards for new in [self._unsent(card, sent)] if new]
+            events = self._own_events(sent)
+            for card in sorted(self._cards.values(), key=lambda it: sent.mark(it).revision):
+                if sum(len(event.data) for event in events) > CHUNK:
+                    return events
+                events += self._card_events(card, sent)
             sent.revision = self._revision
-            sent.seconds = {card.id: card.samples[-1].second for card in cards if card.samples}
             return events
 
-    @staticmethod
-    def _unsent(card: Card, sent: Sent) -> List[Sample]:
-        """The samples of a view that weren't sent; of most calls none or the last one."""
-        last = sent.seconds.get(card.id, -1)
-        if not card.samples or card.samples[-1].second <= last:
+    def _own_events(self, sent: Sent) -> List[Event]:
+        if sent.own_revision == self._own_revision:
             return []
-        return [sample for sample in card.samples if sample.second > last]
+        sent.own_revision = self._own_revision
+        sent.marks = {card_id: mark for card_id, mark in sent.marks.items() if card_id in self._cards}
+        return [board_event(self, self._link.value, self._why, list(self._cards))]
+
+    @staticmethod
+    def _card_events(card: Card, sent: Sent) -> List[Event]:
+        """What is new of a view, and of its samples: of most calls none or the last one."""
+        mark, last = sent.mark(card), card.samples[-1].second if card.samples else -1
+        sent.marks[card.id] = Mark(card.revision, last)
+        events = [card.event()] if card.revision > mark.revision else []
+        if last > mark.second:
+            new = [sample for sample in card.samples if sample.second > mark.second]
+            events.append(samples_event(card.id, new))
+        return events
