@@ -3,20 +3,22 @@ from __future__ import annotations
 
 import http.server
 import json
+import signal
 import socket
 import subprocess
 import sys
 import threading
 import time
+from contextlib import ExitStack
 from typing import Dict, List, Optional, Sequence, Tuple
 
 from chromium import Browser
-from running import CLIENTS, SECONDS, Board, Failed, Server, want, want_same
+from running import CLIENTS, SECONDS, Board, Server, want, want_no_view, want_same
 from seeing import seen, wait_for_cards
 
 sys.path.insert(0, str(CLIENTS))
 
-from rowanspan import Index, NoSuchView, Prefix  # noqa: E402
+from rowanspan import Index, Prefix  # noqa: E402
 
 FORM = {"kind": "prefix", "key": "a"}
 # what no reply of the board is without
@@ -77,7 +79,7 @@ def next_view(index: Index) -> int:
         return view.number
 
 
-def refused_requests(serve: Sequence[str]) -> int:
+def refused_requests(serve: Sequence[str]) -> str:
     """Requests with a wrong host, a wrong origin or without the token are refused and change nothing."""
     with Server(serve) as server, server.index() as index:
         with Board(server.port, "--text", "--build", "prefix a any") as board:
@@ -93,7 +95,7 @@ def refused_requests(serve: Sequence[str]) -> int:
                                Origin=f"http://localhost:{board.port}")
             want_same("a form by another name of this machine", reply.status, 200)
             want_headers(board)
-    return count
+    return f"{count} requests"
 
 
 def want_refused_hosts(board: Board) -> int:
@@ -196,9 +198,8 @@ def other_pages(serve: Sequence[str], browser: Browser) -> None:
 
 
 def many_connections(serve: Sequence[str]) -> str:
-    """More connections, or more streams, than the board serves are closed or refused, and the others work."""
+    """More connections than the board serves are closed, and it works again when they have ended."""
     with Server(serve) as server, Board(server.port, "--text", "--build", "prefix a any") as board:
-        before = board.memory()
         idle = [socket.create_connection(("127.0.0.1", board.port), SECONDS) for _ in range(100)]
         time.sleep(0.5)
         closed = sum(is_closed(one) for one in idle)
@@ -206,19 +207,38 @@ def many_connections(serve: Sequence[str]) -> str:
         for one in idle:
             one.close()
         wait_until_answers(board)
-        streams, replies = [], []
-        for _ in range(40):
-            stream = socket.create_connection(("127.0.0.1", board.port), SECONDS)
-            stream.sendall(f"GET /events HTTP/1.1\r\nHost: {board.host}\r\n\r\n".encode())
-            replies.append(stream.recv(12))
-            streams.append(stream)
-        want_same("replies to streams", [reply[-3:] for reply in replies], [b"200"] * 32 + [b"503"] * 8)
-        want_same("the page meanwhile", board.ask("GET", "/", {"Host": board.host}).status, 200)
-        for stream in streams:
-            stream.close()
-        grown = board.memory() - before
+    return f"{closed} of 100 closed"
+
+
+def many_streams(serve: Sequence[str]) -> str:
+    """More streams of events than the board serves are refused, and its page is still served."""
+    with Server(serve) as server, Board(server.port, "--text", "--build", "prefix a any") as board:
+        before = board.memory()
+        with ExitStack() as opened:
+            replies = [opened.enter_context(Stream(board)).status() for _ in range(40)]
+            want_same("replies to streams", replies, [b"200"] * 32 + [b"503"] * 8)
+            want_same("the page meanwhile", board.ask("GET", "/", {"Host": board.host}).status, 200)
+            time.sleep(1)
+            grown = board.memory() - before
         want(grown < 16 << 20, f"the board has grown by {grown} bytes")
-    return f"{closed} of 100 idle connections closed, 8 of 40 streams refused"
+    return f"8 of 40 refused, and {grown / 2 ** 20:.1f} MB more for 32"
+
+
+class Stream:
+    """A stream of events that nobody reads."""
+
+    def __init__(self, board: Board) -> None:
+        self._connection = socket.create_connection(("127.0.0.1", board.port), SECONDS)
+        self._connection.sendall(f"GET /events HTTP/1.1\r\nHost: {board.host}\r\n\r\n".encode())
+
+    def __enter__(self) -> Stream:
+        return self
+
+    def __exit__(self, *_: object) -> None:
+        self._connection.close()
+
+    def status(self) -> bytes:
+        return self._connection.recv(12)[-3:]
 
 
 def is_closed(connection: socket.socket) -> bool:
@@ -227,7 +247,7 @@ def is_closed(connection: socket.socket) -> bool:
         return connection.recv(1) == b""
     except ConnectionResetError:
         return True
-    except TimeoutError:
+    except socket.timeout:
         return False
 
 
@@ -265,25 +285,23 @@ def command_lines(serve: Sequence[str]) -> None:
                             (["--http", "65536"], "expected a number")):
             status, output, errors = run(*given, *words)
             want(status == 2 and output == "" and part in errors.splitlines()[-1], f"{words}: {status} {errors}")
-        first = next_view(index)
-        for number, status in ((15, 143), (2, 130)):
-            with Board(server.port, "--text", "--build", "prefix a any", "--build", "prefix b any") as board:
-                index.view(first + 1).page()
-                want_same(f"the status after signal {number}", board.end(number), status)
-            want_dropped(index, [first + 1, first + 2])
-            first += 2
+        want_end_by(server, signal.SIGTERM, 143)
+        want_end_by(server, signal.SIGINT, 130)
+
+
+def want_end_by(server: Server, number: int, status: int) -> None:
+    """A board that a signal ends has dropped its views, and no other."""
+    with server.index() as index:
+        first = index.build(Prefix(b"a")).number
+        with Board(server.port, "--view", str(first), "--build", "prefix 61 any", "--build", "prefix 62 any") as board:
+            want_same("a view of the board", index.view(first + 2).page().count, 0)
+            want_same(f"the status after signal {number}", board.end(number), status)
+        want_same("the view of another client", index.view(first).page().count, 0)
+        want_no_view(index, first + 1)
+        want_no_view(index, first + 2)
 
 
 def want_said(ended: Tuple[int, str, str], status: int, part: str) -> None:
     """One line on standard error, and this status."""
     want_same("the status", (ended[0], ended[1], ended[2].count("\n")), (status, "", 1))
     want(ended[2].startswith("rowan board: ") and part in ended[2], ended[2])
-
-
-def want_dropped(index: Index, numbers: Sequence[int]) -> None:
-    for number in numbers:
-        try:
-            index.view(number).page()
-        except NoSuchView:
-            continue
-        raise Failed(f"view {number} is still there")

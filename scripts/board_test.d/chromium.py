@@ -7,12 +7,11 @@ import os
 import queue
 import shutil
 import signal
-import subprocess
 import tempfile
 import threading
 import time
 from base64 import b64decode
-from typing import Any, Callable, Dict, List, Optional
+from typing import Any, Dict, Iterator, List, Optional
 
 SECONDS = 30.0
 PACKAGE = "chromium"
@@ -45,13 +44,13 @@ class Browser:
     """A Chromium with a profile of its own, which ends with its `with` block."""
 
     def __init__(self, program: str) -> None:
-        self._room = tempfile.TemporaryDirectory(prefix="board-chromium-", ignore_cleanup_errors=True)
+        self._room = tempfile.mkdtemp(prefix="board-chromium-")
         theirs, ours = map(high, os.pipe())
         reads, writes = map(high, os.pipe())
         null = os.open(os.devnull, os.O_RDWR | os.O_CLOEXEC)
         actions = [(os.POSIX_SPAWN_DUP2, null, number) for number in range(3)]
         actions += [(os.POSIX_SPAWN_DUP2, theirs, 3), (os.POSIX_SPAWN_DUP2, writes, 4)]
-        words = [program, *OPTIONS, f"--user-data-dir={self._room.name}", "about:blank"]
+        words = [program, *OPTIONS, f"--user-data-dir={self._room}", "about:blank"]
         self.process = os.posix_spawn(program, words, dict(os.environ), file_actions=actions, setpgroup=0)
         for descriptor in (theirs, writes, null):
             os.close(descriptor)
@@ -74,7 +73,8 @@ class Browser:
         self._to.close()
         self._reader.join(SECONDS)
         self._from.close()
-        self._room.cleanup()
+        # (what the browser's own processes still write may come in between)
+        shutil.rmtree(self._room, ignore_errors=True)
 
     def _wait(self) -> None:
         """Waits for the end; after a while the browser and its own processes, which are one group, are killed."""
@@ -86,15 +86,18 @@ class Browser:
 
     def _read(self) -> None:
         """Takes each message: an answer to its caller, an event to its page."""
+        for message in self._messages():
+            self._take(json.loads(message))
+        while self._answers:
+            self._answers.popitem()[1].put({"error": {"message": "the browser has ended"}})
+
+    def _messages(self) -> Iterator[bytes]:
         rest = b""
         piece = os.read(self._from.fileno(), 1 << 16)
         while piece:
             *messages, rest = (rest + piece).split(b"\0")
-            for message in messages:
-                self._take(json.loads(message))
+            yield from messages
             piece = os.read(self._from.fileno(), 1 << 16)
-        for waiting in list(self._answers.values()):
-            waiting.put({"error": {"message": "the browser has ended"}})
 
     def _take(self, message: Dict[str, Any]) -> None:
         if "id" in message:

@@ -9,13 +9,13 @@ from pathlib import Path
 from typing import Dict, List, Optional, Sequence
 
 from chromium import Browser, Page
-from running import CLIENTS, TOP, Board, Failed, PageReader, Server, Writer, want, want_same
+from running import CLIENTS, TOP, Board, PageReader, Server, Writer, want, want_no_view, want_same
 from seeing import (CONTRAST, WATCH_SHIFTS, Seen, build, press_drop, seen, seen_one, turn, wait_for_cards,
                     wait_for_text, want_names, want_no_complaint)
 
 sys.path.insert(0, str(CLIENTS))
 
-from rowanspan import NoSuchView, Page as ViewPage, Prefix  # noqa: E402
+from rowanspan import Page as ViewPage, Prefix  # noqa: E402
 
 HEX_TITLE = f"prefix {b'open/'.hex()}"
 KEYS = [f"{state}/{number:03d}".encode() for state in ("open", "closed") for number in range(40)]
@@ -142,17 +142,22 @@ def hostile_keys(serve: Sequence[str], browser: Browser) -> None:
             turn(page, "keys", "hex")
             want_same("the keys as hex", [row[0] for row in seen(page)[0].rows],
                       [key.hex() or "(empty)" for key in sorted(HOSTILE)])
-            for place, name in enumerate(HOSTILE[:3], 2):
-                said = build(page, {"kind": "prefix", "key": SHOWN[place], "name": name.decode()})
-                want_same("a view with such a name", said, f"View {place} is built.")
-                page.wait(f"document.querySelectorAll('.card').length === {place}")
-                want_same("the name", [card.title for card in seen(page)][-1], name.decode())
+            want_hostile_names(page)
             want_same("elements that a key made", page.value(
                 "[...document.querySelectorAll('script, img, b, i')].map((it) => it.outerHTML)"),
                 ['<script type="module" src="/board.js"></script>'])
             want_same("what a key's script set", page.value("typeof window.hostile"), "undefined")
             want_no_complaint(page)
             page.close()
+
+
+def want_hostile_names(page: Page) -> None:
+    """Names with markup are shown as text too."""
+    for place, name in enumerate(SHOWN[:3], 2):
+        said = build(page, {"kind": "prefix", "key": SHOWN[place], "name": name})
+        want_same("a view with such a name", said, f"View {place} is built.")
+        page.wait(f"document.querySelectorAll('.card').length === {place}")
+        want_same("the name", [card.title for card in seen(page)][-1], name)
 
 
 def forms(serve: Sequence[str], browser: Browser) -> None:
@@ -193,14 +198,6 @@ def want_refused_forms(page: Page) -> None:
                          ({"kind": "prefix", "test": "atleast", "column": "0", "value": "x"}, "Value: expected")):
         said = build(page, fields)
         want(said.startswith("Not built: ") and part in said, f"{fields}: {said}")
-
-
-def want_no_view(index: "Index", number: int) -> None:  # noqa: F821
-    try:
-        index.view(number).page(limit=1)
-    except NoSuchView:
-        return
-    raise Failed(f"view {number} is still there")
 
 
 def two_browsers(serve: Sequence[str], browser: Browser, program: str) -> str:
@@ -271,6 +268,24 @@ def server_ends(serve: Sequence[str], browser: Browser) -> None:
                 again.put(KEYS[1], {0: b"\1"})
                 page.wait("document.querySelector('.card:last-child .figures dd').textContent === '2'")
             want_no_complaint(page)
+            page.close()
+
+
+def board_ends(serve: Sequence[str], browser: Browser) -> None:
+    """The board is killed: the page says so and keeps what it showed. There is another one: the page loads again."""
+    with Server(serve) as server, server.index() as index:
+        index.put(b"open/1", {0: b"\5"})
+        with Board(server.port, "--text", "--build", "prefix open/ any") as board:
+            page = browser.page(board.address)
+            wait_for_cards(page, 1)
+            board.end(signal.SIGKILL)
+            page.wait("document.body.classList.contains('gone')")
+            want_same("what is kept", seen_one(page, "prefix open/").totals(), (1, 5, 0))
+            with Board(server.port, "--text", "--build", "prefix o any", http_port=board.port):
+                wait_for_text(page, "h2", "prefix o")
+                page.wait("document.querySelectorAll('.card').length === 1")
+                page.wait("document.body.className === 'live'")
+                want_same("a form of the page", build(page, {"kind": "prefix", "key": "x"}), "View 3 is built.")
             page.close()
 
 

@@ -17,7 +17,7 @@ TOP = Path(__file__).resolve().parent.parent.parent
 CLIENTS = TOP / "clients" / "python"
 sys.path.insert(0, str(CLIENTS))
 
-from rowanspan import Index, Page  # noqa: E402
+from rowanspan import Index, NoSuchView, Page  # noqa: E402
 
 SECONDS = 30.0
 FORM = "application/x-www-form-urlencoded"
@@ -34,6 +34,15 @@ def want(is_so: bool, why: str) -> None:
 
 def want_same(what: str, got: object, wanted: object) -> None:
     want(got == wanted, f"{what}: {str(got)[:400]} instead of {str(wanted)[:400]}")
+
+
+def want_no_view(index: Index, number: int) -> None:
+    """The server has no view of this number."""
+    try:
+        index.view(number).page(limit=1)
+    except NoSuchView:
+        return
+    raise Failed(f"view {number} is still there")
 
 
 class Program:
@@ -100,10 +109,10 @@ class Answer(NamedTuple):
 
 
 class Board(Program):
-    """A board at a free port, over a server."""
+    """A board over a server, at a free port if none is named."""
 
-    def __init__(self, port: int, *options: str) -> None:
-        command = [sys.executable, str(CLIENTS / "rowan"), "board", "-p", str(port), "--http", "0", *options]
+    def __init__(self, port: int, *options: str, http_port: int = 0) -> None:
+        command = [sys.executable, str(CLIENTS / "rowan"), "board", "-p", str(port), "--http", str(http_port), *options]
         super().__init__(command, r"board at http://127\.0\.0\.1:(\d+)/\n")
         self.address = f"http://127.0.0.1:{self.port}/"
         self.host = f"127.0.0.1:{self.port}"
@@ -195,13 +204,15 @@ class PageReader(threading.Thread):
     def run(self) -> None:
         try:
             while not self._is_ending.wait(0.001):
-                page = self._view.page(limit=self._limit)
-                self.pages[page.at] = page
-                while len(self.pages) > self.KEPT:
-                    del self.pages[next(iter(self.pages))]
+                self._keep(self._view.page(limit=self._limit))
         except BaseException as fault:
             self.fault = fault
         self._index.close()
+
+    def _keep(self, page: Page) -> None:
+        self.pages[page.at] = page
+        if len(self.pages) > self.KEPT:
+            del self.pages[next(iter(self.pages))]
 
     def __enter__(self) -> PageReader:
         self.start()

@@ -6,7 +6,8 @@ import errno
 import signal
 import sys
 from contextlib import contextmanager
-from typing import Callable, Iterator, List, Sequence
+from functools import partial
+from typing import Callable, Iterator, List, Sequence, Tuple
 
 from ..client import Client
 from ..core import BadReply, ConnectionLost, RowanspanError, TooLong, ViewNo, ViewSpec
@@ -15,7 +16,7 @@ from ..wire import Build
 from .guard import ADDRESS, Tokens
 from .handler import BoardServer, Served
 from .poller import Poller
-from .state import MAX_CARDS, Board
+from .state import MAX_CARDS, Board, Card
 
 USES = "rowan board -p PORT [--http PORT] [--view N].. [--build SPEC].. [OPTION ..]"
 ABOUT = """\
@@ -134,11 +135,10 @@ def bound(given: int) -> BoardServer:
 
 def fill(poller: Poller, views: Sequence[int], specs: Sequence[ViewSpec], words: Sequence[str]) -> None:
     """Adds the views of the command line. Raises `RowanspanError`, whose text says which view it was."""
-    named: List[Callable[[], object]] = [lambda number=number: poller.watch(ViewNo(number))  # type: ignore[misc]
-                                         for number in views]
-    named += [lambda spec=spec: poller.build(spec) for spec in specs]  # type: ignore[misc]
-    labels = [f"--view {number}" for number in views] + [f"--build {word!r}" for word in words]
-    for label, add in zip(labels, named):
+    named: List[Tuple[str, Callable[[], Card]]] = [
+        *((f"--view {number}", partial(poller.watch, ViewNo(number))) for number in views),
+        *((f"--build {word!r}", partial(poller.build, spec)) for word, spec in zip(words, specs))]
+    for label, add in named:
         try:
             add()
         except (ConnectionLost, BadReply):

@@ -208,8 +208,8 @@ class Board:
             return not self._is_closed
 
     def events(self, sent: Sent) -> List[Event]:
-        """What a browser hasn't been sent, which is noted in `sent`. If it is much, a part of it, and the rest by the next
-        calls: first the views that were sent the longest time ago."""
+        """What a browser hasn't been sent, which is noted in `sent`. If it is much, a part of it, and the next calls
+        return the rest: first the views that were sent the longest time ago."""
         with self._changed:
             events = self._own_events(sent)
             for card in sorted(self._cards.values(), key=lambda it: sent.mark(it).revision):
