@@ -63,7 +63,7 @@ class FormTest(unittest.TestCase):
                 (b"kind=range&lo=61&hi=62&notation=hex", Asked(Range(b"a", b"b"), "")),
                 (b"kind=range&lo=&hi=&test=equals&column=1&value=", Asked(Range(b"", None, Equals(1, b"")), "")),
                 (b"kind=range&test=atleast&column=0&value=7&notation=hex", Asked(Range(b"", None, AtLeast(0, 7)), "")),
-                ("kind=prefix&key=größe".encode(), None),
+                ("kind=prefix&key=größe".encode(), None), (b"kind=number&number=7&name=A", Asked(7, "A")),
                 (b"kind=prefix&key=gr%C3%B6", Asked(Prefix("grö".encode()), ""))):
             with self.subTest(form=form):
                 if asked is None:
@@ -77,7 +77,7 @@ class FormTest(unittest.TestCase):
                      b"kind=prefix&key=6&notation=hex", b"kind=prefix&notation=x",
                      b"kind=prefix&test=equals&column=256&value=", b"kind=prefix&test=equals&value=",
                      b"kind=prefix&test=x", b"kind=prefix&test=atleast&column=0&value=18446744073709551616",
-                     b"kind=prefix&name=" + b"a" * 81):
+                     b"kind=prefix&name=" + b"a" * 81, b"kind=number", b"kind=number&number=-1"):
             with self.subTest(form=form[:60]), self.assertRaises(BadForm):
                 read_view(read_form(form))
 

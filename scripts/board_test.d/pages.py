@@ -10,7 +10,7 @@ from typing import Dict, List, Optional, Sequence
 
 from chromium import Browser, Page
 from running import CLIENTS, TOP, Board, PageReader, Server, Writer, want, want_no_view, want_same
-from seeing import (CONTRAST, WATCH_SHIFTS, Seen, build, press_drop, seen, seen_one, turn, wait_for_cards,
+from seeing import (CONTRAST, WATCH_SHIFTS, Seen, build, press, seen, seen_one, turn, wait_for_cards,
                     wait_for_text, want_names, want_no_complaint)
 
 sys.path.insert(0, str(CLIENTS))
@@ -155,7 +155,7 @@ def want_hostile_names(page: Page) -> None:
     """Names with markup are shown as text too."""
     for place, name in enumerate(SHOWN[:3], 2):
         said = build(page, {"kind": "prefix", "key": SHOWN[place], "name": name})
-        want_same("a view with such a name", said, f"View {place} is built.")
+        want_same("a view with such a name", said, f"View {place} is on the board.")
         page.wait(f"document.querySelectorAll('.card').length === {place}")
         want_same("the name", [card.title for card in seen(page)][-1], name)
 
@@ -173,7 +173,7 @@ def forms(serve: Sequence[str], browser: Browser) -> None:
                      ({"kind": "prefix", "key": "", "test": "equals", "column": "1", "value": "odd"}, 15),
                      ({"kind": "prefix", "key": "2", "test": "atleast", "column": "0", "value": "25"}, 5)]
             for place, (fields, _) in enumerate(asked, 1):
-                want_same(str(fields), build(page, fields), f"View {place} is built.")
+                want_same(str(fields), build(page, fields), f"View {place} is on the board.")
             wait_for_cards(page, len(asked))
             want_same("counts", [card.totals()[0] for card in seen(page)], [count for _, count in asked])
             want_same("titles", [card.title for card in seen(page)], [
@@ -181,8 +181,16 @@ def forms(serve: Sequence[str], browser: Browser) -> None:
                 "prefix 2 with column 0 at least 25"])
             want_no_complaint(page)
             want_refused_forms(page)
-            press_drop(page, "prefix 1")
+            press(page, "prefix 1", "drop")
             page.wait("document.querySelectorAll('.card').length === 4")
+            foreign = index.build(Prefix(b"0"))
+            want_same("a view by its number", build(page, {"kind": "number", "number": str(foreign.number)}),
+                      f"View {foreign.number} is on the board.")
+            wait_for_cards(page, 5)
+            want_same("the view by its number", seen_one(page, f"View {foreign.number}").totals()[0], 10)
+            press(page, f"View {foreign.number}", "hide")
+            page.wait("document.querySelectorAll('.card').length === 4")
+            want_same("the view that is hidden", foreign.count, 10)
             want_same("dialogs", page.dialogs, ["Drop view 1? It ends for all clients of the server."])
             want_no_view(index, 1)
             page.close()
@@ -195,9 +203,10 @@ def want_refused_forms(page: Page) -> None:
                          ({"kind": "range", "lo": "b", "hi": "a"}, "a range ends before it begins"),
                          ({"kind": "prefix", "key": "a" * 1025}, "more than 1,024 bytes"),
                          ({"kind": "prefix", "key": "a", "test": "equals", "column": "9", "value": ""}, "a column"),
+                         ({"kind": "number", "number": "77"}, "no such view"), ({"kind": "number"}, "Number: expected"),
                          ({"kind": "prefix", "test": "atleast", "column": "0", "value": "x"}, "Value: expected")):
         said = build(page, fields)
-        want(said.startswith("Not built: ") and part in said, f"{fields}: {said}")
+        want(said.startswith("Not done: ") and part in said, f"{fields}: {said}")
 
 
 def two_browsers(serve: Sequence[str], browser: Browser, program: str) -> str:
@@ -210,7 +219,7 @@ def two_browsers(serve: Sequence[str], browser: Browser, program: str) -> str:
             counts = [count_events(page) for page in pages]
             build(pages[0], {"kind": "prefix", "key": "closed/", "name": "Closed"})
             wait_for_cards(pages[1], 2)
-            press_drop(pages[1], "prefix open/")
+            press(pages[1], "prefix open/", "drop")
             for page in pages:
                 page.wait("document.querySelectorAll('.card').length === 1")
                 want_same("what is left", [card.title for card in seen(page)], ["Closed"])
@@ -253,7 +262,7 @@ def server_ends(serve: Sequence[str], browser: Browser) -> None:
                 ratio, text = page.value(CONTRAST)
                 want(ratio >= 4.5, f"while it is lost, {scheme}: the contrast of {text!r} is {ratio:.2f}")
             want_same("while it is lost", [card.totals() for card in seen(page)], [card.totals() for card in before])
-            want("Not built: " in build(page, {"kind": "prefix", "key": "a"}), "a view was built at no server")
+            want("Not done: " in build(page, {"kind": "prefix", "key": "a"}), "a view was built at no server")
             # (that reply is one that a browser complains of)
             page.complaints.clear()
             with Server(serve, first.port) as second, second.index() as again:
@@ -285,7 +294,7 @@ def board_ends(serve: Sequence[str], browser: Browser) -> None:
                 wait_for_text(page, "h2", "prefix o")
                 page.wait("document.querySelectorAll('.card').length === 1")
                 page.wait("document.body.className === 'live'")
-                want_same("a form of the page", build(page, {"kind": "prefix", "key": "x"}), "View 3 is built.")
+                want_same("a form of the page", build(page, {"kind": "prefix", "key": "x"}), "View 3 is on the board.")
             page.close()
 
 

@@ -136,14 +136,14 @@ def build(page: Page, fields: Dict[str, str]) -> str:
       document.getElementById("said").textContent = "";
       form.requestSubmit();
     })()""" % json.dumps(fields))
-    return str(page.wait("(document.getElementById('said').textContent !== 'Building.'"
+    return str(page.wait("(document.getElementById('said').textContent !== 'Asking the server.'"
                          " && document.getElementById('said').textContent)"))
 
 
-def press_drop(page: Page, title: str) -> None:
-    """Presses the button that drops the view with this title."""
+def press(page: Page, title: str, button: str) -> None:
+    """Presses the button that drops or hides the view with this title."""
     page.value(f"[...document.querySelectorAll('.card')].find((card) =>"
-               f" card.querySelector('h2').textContent === {json.dumps(title)}).querySelector('.drop').click()")
+               f" card.querySelector('h2').textContent === {json.dumps(title)}).querySelector('.{button}').click()")
 
 
 def want_no_complaint(page: Page) -> None:

@@ -1,7 +1,7 @@
 // The page's stream of events: views come, change and go, and the foot says whether the server answers.
 
 import { Card } from "./card.js";
-import { drop, useForm } from "./form.js";
+import { drop, hide, useForm } from "./form.js";
 import { onSwitch } from "./notation.js";
 
 // after how many milliseconds a stream that was refused is opened again
@@ -25,7 +25,7 @@ function clock() {
 
 function cardOf(id) {
   if (!cards.has(id)) {
-    const card = new Card(id, drop);
+    const card = new Card(id, drop, hide);
     cards.set(id, card);
     list.append(card.element);
   }

@@ -8,7 +8,7 @@ const MARKED = 1200;
 const ROWS = Number(document.body.dataset.rows);
 
 export class Card {
-  constructor(id, onDrop) {
+  constructor(id, onDrop, onHide) {
     this.id = id;
     this.view = null;
     // of the rows that are shown: until when each version is marked
@@ -22,6 +22,7 @@ export class Card {
     this.element.setAttribute("aria-labelledby", heading.id);
     this.find(".rows").setAttribute("aria-labelledby", heading.id);
     this.find(".drop").addEventListener("click", () => onDrop(this));
+    this.find(".hide").addEventListener("click", () => onHide(this));
     this.addRows();
   }
 
@@ -84,7 +85,11 @@ export class Card {
     setText(this.find("h2"), view.name || (words ? spec : `View ${view.number}`));
     setText(this.find(".number"), words && view.number !== "0" ? `view ${view.number}` : "");
     setText(this.find(".words"), view.name || !words ? spec : "");
-    this.find(".drop").setAttribute("aria-label", `Drop view ${view.number}, ${view.name || spec}`);
+    // (a view that the board has built is the board's own)
+    this.find(".hide").hidden = words !== undefined;
+    for (const [button, does] of [[".drop", "Drop"], [".hide", "Hide"]]) {
+      this.find(button).setAttribute("aria-label", `${does} view ${view.number}, ${view.name || spec}`);
+    }
   }
 
   drawFigures(page) {

@@ -25,7 +25,8 @@ Shows the standing views of a server in a browser, as they change: count, sums, 
 """
 NOTES = """\
 A server can't list its views. So the board shows those that it built, by --build or by the form on the page, and those
-that --view names, whose specification it doesn't know. At its end it drops the views that it built, and no others.
+that --view or the form names, whose specification it doesn't know. At its end it drops the views that it built, and no
+others.
 
 SPEC is that of a line of rowan: `range LO HI TEST` or `prefix KEY TEST`, in hex, or with --text as text (rowan --help).
 The board takes one of the server's workers, however many browsers look: start the server with one more.

@@ -1,8 +1,8 @@
-"""The forms of the board: which view a form asks for, and its name."""
+"""The forms of the board: which view a form builds or shows, and its name."""
 from __future__ import annotations
 
 from dataclasses import dataclass
-from typing import Dict, Mapping
+from typing import Dict, Mapping, Union
 from urllib.parse import parse_qsl
 
 from ..core import MAX_KEY_BYTES, AnyRow, AtLeast, Equals, Prefix, Range, RowTest, ViewSpec
@@ -21,9 +21,9 @@ class BadForm(ValueError):
 
 @dataclass(frozen=True)
 class Asked:
-    """The view that a form asks for."""
+    """The view that a form asks for: one to build, or one that is there, by its number."""
 
-    spec: ViewSpec
+    view: Union[ViewSpec, int]
     name: str
 
 
@@ -76,10 +76,13 @@ def read_view(fields: Mapping[str, str]) -> Asked:
     name = fields.get("name", "").strip()
     if len(name) > MAX_NAME:
         raise BadForm(f"Name: at most {MAX_NAME} letters")
-    test, kind = read_test(fields), fields.get("kind", "")
+    kind = fields.get("kind", "")
+    if kind == "number":
+        return Asked(read_count(fields, "number", "Number", LONG), name)
+    test = read_test(fields)
     if kind == "prefix":
         return Asked(Prefix(read_bytes(fields, "key", "Prefix"), test), name)
     if kind == "range":
         hi = read_bytes(fields, "hi", "Before") if fields.get("hi") else None
         return Asked(Range(read_bytes(fields, "lo", "From"), hi, test), name)
-    raise BadForm("the kind is prefix or range")
+    raise BadForm("the kind is prefix, range or number")

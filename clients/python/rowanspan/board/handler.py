@@ -11,7 +11,7 @@ from pathlib import Path
 from string import Template
 from typing import Any, Dict, Mapping, NamedTuple, Optional, Union
 
-from ..core import BadReply, ConnectionLost, Refused, RowanspanError, TooLong
+from ..core import BadReply, ConnectionLost, Refused, RowanspanError, TooLong, ViewNo
 from .forms import MAX_FORM, BadForm, read_form, read_view
 from .guard import ADDRESS, HEADERS, refusal
 from .poller import Busy, Poller
@@ -174,15 +174,18 @@ class Handler(BaseHTTPRequestHandler):
 
     def _build(self, served: Served, fields: Mapping[str, str]) -> Dict[str, Any]:
         self._check_token(served, "build", fields)
-        asked = read_view(fields)
-        card = served.poller.build(asked.spec, asked.name)
+        asked, poller = read_view(fields), served.poller
+        card = (poller.watch(ViewNo(asked.view), asked.name) if isinstance(asked.view, int)
+                else poller.build(asked.view, asked.name))
         return {"id": card.id, "number": str(card.number)}
 
     def _drop(self, served: Served, fields: Mapping[str, str]) -> Dict[str, Any]:
         word = fields.get("id", "")
         self._check_token(served, f"drop {word}", fields)
         card = served.board.card(int(word))
-        if card is not None:
+        if card is not None and card.spec is None and "hide" in fields:
+            served.board.remove(card.id)
+        elif card is not None:
             served.poller.drop(card)
         return {"id": int(word)}
 

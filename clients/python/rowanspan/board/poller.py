@@ -77,13 +77,13 @@ class Poller(threading.Thread):
             return self._board.add(self._built(index, spec), spec, name)
         return self.ask(work)
 
-    def watch(self, number: ViewNo) -> Card:
+    def watch(self, number: ViewNo, name: str = "") -> Card:
         """Adds the view of this number to the board. Raises `NoSuchView` if there is none, and what `build` raises."""
         def work(index: Client) -> Card:
             self._board.check_room()
             index.view(number).page(limit=1)
             self._greatest = max(self._greatest, number)
-            return self._board.add(number, None)
+            return self._board.add(number, None, name)
         return self.ask(work)
 
     def drop(self, card: Card) -> None:
