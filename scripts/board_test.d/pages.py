@@ -304,7 +304,7 @@ def looks(serve: Sequence[str], browser: Browser, picture: Optional[Path]) -> st
         example = str(TOP / "examples" / "orders.py")
         orders = [sys.executable, example, "-p", str(server.port), "--seed", "2", "--rate", "40"]
         options = ["--text", "--columns-as", "number", "--rows", "7"]
-        for spec in ("prefix open/ any", "prefix open/ atleast 0 40000"):
+        for spec in ("prefix open/ any", "prefix open/ada/ any"):
             options += ["--build", spec]
         with Board(server.port, *options) as board, subprocess.Popen(orders) as writing:
             try:
@@ -351,7 +351,7 @@ def want_keys(page: Page) -> None:
 
 def take_picture(page: Page, path: Path) -> None:
     """Writes the picture of docs/VIEWS.md."""
-    page.resize(1240, 620)
+    page.resize(1240, 690)
     page.color("light")
     time.sleep(0.5)
     path.write_bytes(page.picture())
