@@ -122,6 +122,7 @@ def want_updates(lasting: Lasting, seconds: float) -> None:
         want_same(f"{title}: heights of rows", {tuple(card.heights) for card in cards}, {(28,)})
         marked = [(set(card.changed), {row[-1] for row in card.rows}) for card in cards]
         want(all(changed <= shown for changed, shown in marked), f"{title}: an empty row was marked")
+        want_same(f"{title}: rows with another's mark", {card.tinted for card in cards}, {0})
         for label, path in cards[-1].lines:
             is_drawn = " over the last " in label and path.count("L") >= min(seconds / 2, 250)
             want(is_drawn, f"{title}: a line {label!r} {path[:80]!r}")

@@ -20,6 +20,8 @@ CARDS = """[...document.querySelectorAll(".card")].map((card) => {
       [line.getAttribute("aria-label"), line.querySelector("path").getAttribute("d")]),
     rows: [...card.querySelectorAll("tbody tr")].map((row) => [...row.cells].map((cell) => cell.textContent))
       .filter((cells) => cells[0] !== ""),
+    tinted: [...card.querySelectorAll("tbody tr:not(.changed, .fading)")]
+      .filter((row) => getComputedStyle(row).backgroundColor !== "rgba(0, 0, 0, 0)").length,
     changed: [...card.querySelectorAll("tbody tr.changed td.version")].map((cell) => cell.textContent),
     heights: [...new Set([...card.querySelectorAll("tr")].map((row) => row.offsetHeight))],
   };
@@ -74,6 +76,7 @@ class Seen:
     figures: List[List[str]]
     lines: List[List[str]]
     rows: List[List[str]]
+    tinted: int
     changed: List[str]
     heights: List[int]
 

@@ -144,7 +144,12 @@ export class Card {
     const now = performance.now();
     const rows = this.view.page?.rows ?? [];
     [...this.find("tbody").rows].forEach((element, place) => {
-      element.classList.toggle("changed", place < rows.length && this.marked.get(rows[place][1]) > now);
+      const version = rows[place]?.[1] ?? "";
+      const isMarked = this.marked.get(version) > now;
+      // a mark fades in its place: not if another row has come there
+      const wasMarked = element.dataset.version === version && element.className !== "";
+      element.className = isMarked ? "changed" : wasMarked ? "fading" : "";
+      element.dataset.version = version;
     });
   }
 
