@@ -3,6 +3,8 @@ from __future__ import annotations
 
 import http.server
 import json
+import random
+import re
 import signal
 import socket
 import subprocess
@@ -13,7 +15,7 @@ from contextlib import ExitStack
 from typing import Dict, List, Optional, Sequence, Tuple
 
 from chromium import Browser
-from running import CLIENTS, SECONDS, Board, Server, want, want_no_view, want_same
+from running import CLIENTS, FORM_TYPE, SECONDS, Board, Server, want, want_no_view, want_same
 from seeing import seen, wait_for_cards
 
 sys.path.insert(0, str(CLIENTS))
@@ -222,6 +224,43 @@ def many_streams(serve: Sequence[str]) -> str:
             grown = board.memory() - before
         want(grown < 16 << 20, f"the board has grown by {grown} bytes")
     return f"8 of 40 refused, and {grown / 2 ** 20:.1f} MB more for 32"
+
+
+def bad_bytes(board: Board) -> List[bytes]:
+    """What is no request that the board can answer."""
+    head = f"POST /build HTTP/1.1\r\nHost: {board.host}\r\nOrigin: http://{board.host}\r\nContent-Type: {FORM_TYPE}\r\n"
+    lengths = [f"{head}Content-Length: {length}\r\n\r\nkind=prefix".encode()
+               for length in ("-1", "1e3", "99999999999", "9" * 5000, "\u0661", "", "100", "11\r\nContent-Length: 5")]
+    chance = random.Random(5)
+    return [b"", b"\r\n\r\n", b"GET\r\n\r\n", b"GET /\r\n\r\n", b"GET / HTTP/9.9\r\n\r\n", b"GET / HTTP/1.1\r\n\r\n",
+            b"GET /\xff\0 HTTP/1.1\r\nHost: x\r\n\r\n", b"GET " + b"/" * 70_000, b"<b> / HTTP/1.1\r\n\r\n",
+            b"GET / HTTP/1.1\r\nHost: " + b"a" * 70_000, b"GET / HTTP/1.1\r\n" + b"A: b\r\n" * 200 + b"\r\n",
+            f"{head}Transfer-Encoding: chunked\r\n\r\n5\r\nkind=\r\n0\r\n\r\n".encode(), head.encode() + b"\r\n",
+            *lengths, *(chance.randbytes(chance.randrange(1, 2000)) for _ in range(100))]
+
+
+def no_requests(serve: Sequence[str]) -> str:
+    """Bytes that are no request are refused or answered by nothing, and the board writes of no fault of its own."""
+    with Server(serve) as server, server.index() as index, Board(server.port) as board:
+        before, sent = next_view(index), bad_bytes(board)
+        replies = [reply_to(board, request) for request in sent]
+        strange = [reply for reply in replies if reply and not re.match(rb"HTTP/1\.0 [45]|\{\"error\"", reply)]
+        want_same("replies that refuse nothing", strange, [])
+        want_same("views that were built meanwhile", next_view(index) - before, 1)
+        want_same("the page", board.ask("GET", "/", {"Host": board.host}).status, 200)
+        want_same("what the board wrote", board.rest(), b"")
+    return f"{len(sent)} of them, {sum(bool(reply) for reply in replies)} answered"
+
+
+def reply_to(board: Board, request: bytes) -> bytes:
+    """The reply to these bytes, after which nothing comes."""
+    with socket.create_connection(("127.0.0.1", board.port), SECONDS) as connection:
+        try:
+            connection.sendall(request)
+            connection.shutdown(socket.SHUT_WR)
+            return b"".join(iter(lambda: connection.recv(65_536), b""))
+        except (ConnectionResetError, BrokenPipeError):
+            return b""
 
 
 class Stream:

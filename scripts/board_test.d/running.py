@@ -20,7 +20,7 @@ sys.path.insert(0, str(CLIENTS))
 from rowanspan import Index, NoSuchView, Page  # noqa: E402
 
 SECONDS = 30.0
-FORM = "application/x-www-form-urlencoded"
+FORM_TYPE = "application/x-www-form-urlencoded"
 
 
 class Failed(Exception):
@@ -79,6 +79,12 @@ class Program:
         finally:
             if self.process.stdout is not None:
                 self.process.stdout.close()
+
+    def rest(self) -> bytes:
+        """Ends the program; returns what it wrote after its first line."""
+        assert self.process.stdout is not None
+        self.process.terminate()
+        return self.process.stdout.read()
 
     def memory(self) -> int:
         """The bytes of memory that the process has."""
@@ -139,7 +145,7 @@ class Board(Program):
 
     def headers(self, **changed: Optional[str]) -> Dict[str, str]:
         """Those of the board's own page, with some of them changed, or left out."""
-        named = {"Host": self.host, "Origin": self.address.rstrip("/"), "Content-Type": FORM}
+        named = {"Host": self.host, "Origin": self.address.rstrip("/"), "Content-Type": FORM_TYPE}
         named.update({name.replace("_", "-"): value for name, value in changed.items() if value is not None})
         return {name: value for name, value in named.items() if changed.get(name, "") is not None}
 

@@ -15,7 +15,7 @@ from ..text import HEX, LONG, TEXT, BadLine, Notation, read_number, read_query
 from ..wire import Build
 from .guard import ADDRESS, Tokens
 from .handler import BoardServer, Served
-from .poller import Poller
+from .poller import Poller, lost_text
 from .state import MAX_CARDS, Board, Card
 
 USES = "rowan board -p PORT [--http PORT] [--view N].. [--build SPEC].. [OPTION ..]"
@@ -159,7 +159,7 @@ def serve(options: argparse.Namespace, specs: Sequence[ViewSpec], server: BoardS
         print(f"board at http://{ADDRESS}:{server.server_port}/", flush=True)
         server.serve_forever()
     except (ConnectionLost, BadReply) as fault:
-        complain(str(fault))
+        complain(lost_text(fault))
         return 3
     except RowanspanError as fault:
         complain(str(fault))

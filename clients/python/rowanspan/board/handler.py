@@ -3,6 +3,7 @@ from __future__ import annotations
 
 import json
 import socket
+import sys
 import threading
 from html import escape
 from http import HTTPStatus
@@ -89,7 +90,9 @@ class BoardServer(ThreadingHTTPServer):
             self._connections.release()
 
     def handle_error(self, request: Any, client_address: Any) -> None:
-        """A browser that is gone, or doesn't read, is no fault of the board."""
+        """Writes what a request has met; but a browser that is gone, or doesn't read, is no fault of the board."""
+        if not isinstance(sys.exc_info()[1], OSError):
+            super().handle_error(request, client_address)
 
 
 class Handler(BaseHTTPRequestHandler):

@@ -36,6 +36,11 @@ def refused_text(number: ViewNo, refused: Refused) -> str:
     return f"The server refused a page of view {number}: {refused}."
 
 
+def lost_text(fault: RowanspanError) -> str:
+    """Why there is no connection, for people."""
+    return f"{fault}{SILENT if isinstance(fault.__cause__, socket.timeout) else ''}"
+
+
 class Poller(threading.Thread):
     """Reads the views of a board round by round, and does what forms ask for in between.
 
@@ -138,8 +143,7 @@ class Poller(threading.Thread):
         if self._index is not None:
             self._index.close()
         self._index = None
-        is_silent = isinstance(fault.__cause__, socket.timeout)
-        self._board.set_link(Link.LOST, f"{fault}{SILENT if is_silent else ''}")
+        self._board.set_link(Link.LOST, lost_text(fault))
         self._fail_jobs(fault)
 
     def _fail_jobs(self, fault: Exception) -> None:
