@@ -4,6 +4,7 @@ from __future__ import annotations
 
 import json
 import socket
+import threading
 import time
 import unittest
 from email.message import Message
@@ -313,6 +314,16 @@ class PollerTest(unittest.TestCase):
             with self.assertRaises(ConnectionLost):
                 ask()
         self.assertEqual((self.at(card), self.board.cards()), (0, [card]))
+
+    def test_a_fault_of_the_poller(self) -> None:
+        def fail(*_: object) -> None:
+            raise KeyError("a fault")
+        self.poller._read_all = fail  # type: ignore[assignment]
+        before, threading.excepthook = threading.excepthook, lambda _: None
+        self.start()
+        self.poller.join(SECONDS)
+        threading.excepthook = before
+        self.assertIn(b"the board's poller has ended: KeyError", self.board.events(Sent())[0].data)
 
     def test_the_end(self) -> None:
         self.start()

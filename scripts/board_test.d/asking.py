@@ -14,7 +14,7 @@ import time
 from contextlib import ExitStack
 from typing import Dict, List, Optional, Sequence, Tuple
 
-from chromium import Browser
+from chromium import REBOUND, Browser
 from running import CLIENTS, FORM_TYPE, SECONDS, Board, Server, want, want_no_view, want_same
 from seeing import seen, wait_for_cards
 
@@ -181,7 +181,8 @@ class OtherPage:
 
 
 def other_pages(serve: Sequence[str], browser: Browser) -> None:
-    """A page of another origin, in the same browser, can read nothing of the board and change nothing."""
+    """A page of another origin, in the same browser, can read nothing of the board and change nothing. Nor can one
+    whose name leads to the board (DNS rebinding)."""
     with Server(serve) as server, server.index() as index:
         with Board(server.port, "--text", "--build", "prefix a any") as board:
             own = browser.page(board.address)
@@ -193,6 +194,10 @@ def other_pages(serve: Sequence[str], browser: Browser) -> None:
                 page.value("window.tried")
                 want_same("what another page could do", page.value("window.found"), [])
                 page.close()
+            renamed = browser.page(f"http://{REBOUND}:{board.port}/")
+            want_same("the page under another name", renamed.value("document.body.textContent"),
+                      '{"error": "the host isn\'t that of the board"}')
+            renamed.close()
             want_same("views that were built meanwhile", next_view(index) - before, 1)
             want_same("the views of the board", [card.title for card in seen(own)], ["prefix a"])
             want_same("the view", index.view(1).page().count, 0)
@@ -321,7 +326,7 @@ def command_lines(serve: Sequence[str]) -> None:
         want_said(run(*given, "--build", "range 62 61 any"), 1, "--build 'range 62 61 any': a range ends before")
         for words, part in ((["--view", "x"], "expected a number"), (["--view", "0"], "from 1 to"),
                             (["--build", "nonsense"], "expected range or prefix"), (["--rows", "101"], "from 0 to 100"),
-                            (["--http", "65536"], "expected a number")):
+                            (["--http", "65536"], "invalid port value")):
             status, output, errors = run(*given, *words)
             want(status == 2 and output == "" and part in errors.splitlines()[-1], f"{words}: {status} {errors}")
         want_end_by(server, signal.SIGTERM, 143)

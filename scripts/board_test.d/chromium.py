@@ -15,10 +15,13 @@ from typing import Any, Dict, Iterator, List, Optional
 
 SECONDS = 30.0
 PACKAGE = "chromium"
+# a name of another site that leads to this machine
+REBOUND = "rebound.example"
 OPTIONS = ["--headless=new", "--remote-debugging-pipe", "--no-sandbox", "--disable-gpu", "--disable-dev-shm-usage",
            "--no-first-run", "--no-default-browser-check", "--disable-background-networking", "--disable-sync",
            "--disable-component-update", "--disable-extensions", "--disable-default-apps", "--no-proxy-server",
            "--disable-features=Translate,OptimizationHints,MediaRouter,LocalNetworkAccessChecks",
+           f"--host-resolver-rules=MAP {REBOUND} 127.0.0.1",
            "--force-color-profile=srgb", "--hide-scrollbars", "--js-flags=--expose-gc"]
 # what a page reports of itself that isn't as it should be
 COMPLAINTS = ("error", "warning", "assert")

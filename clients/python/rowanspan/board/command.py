@@ -11,6 +11,7 @@ from typing import Callable, Iterator, List, Sequence, Tuple
 
 from ..client import Client
 from ..core import BadReply, ConnectionLost, RowanspanError, TooLong, ViewNo, ViewSpec
+from ..shell import port, seconds
 from ..text import HEX, LONG, TEXT, BadLine, Notation, read_number, read_query
 from ..wire import Build
 from .guard import ADDRESS, Tokens
@@ -43,11 +44,6 @@ class Ended(Exception):
 
 # ---- the command line
 
-def port(word: str) -> int:
-    """The number of a port."""
-    return checked_word(word, 65535)
-
-
 def checked_word(word: str, most: int, least: int = 0) -> int:
     """A number that a word says. Raises `ArgumentTypeError`."""
     try:
@@ -57,14 +53,6 @@ def checked_word(word: str, most: int, least: int = 0) -> int:
     if number < least:
         raise argparse.ArgumentTypeError(f"expected a number from {least} to {most}")
     return number
-
-
-def seconds(word: str) -> float:
-    """A time to wait."""
-    value = float(word)
-    if not 0 < value < float("inf"):
-        raise ValueError(word)
-    return value
 
 
 def parser() -> argparse.ArgumentParser:

@@ -116,6 +116,15 @@ class Poller(threading.Thread):
         super().start()
 
     def run(self) -> None:
+        try:
+            self._run_rounds()
+        except BaseException as fault:
+            # (a fault of the board itself, which no page may take for a view that doesn't change)
+            self._board.set_link(Link.LOST, f"the board's poller has ended: {fault!r}")
+            self._board.tell()
+            raise
+
+    def _run_rounds(self) -> None:
         is_ending = False
         while not is_ending:
             began = time.monotonic()
