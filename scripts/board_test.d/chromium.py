@@ -192,13 +192,20 @@ class Page:
     def wait(self, script: str, seconds: float = SECONDS) -> Any:
         """Waits until a script is something; returns what it is."""
         end = time.monotonic() + seconds
-        value = self.value(script)
+        value = self._value_or_none(script)
         while not value:
             if time.monotonic() > end:
                 raise BrowserFault(f"not so in {seconds:.0f} seconds: {script[:300]}")
             time.sleep(0.05)
-            value = self.value(script)
+            value = self._value_or_none(script)
         return value
+
+    def _value_or_none(self, script: str) -> Any:
+        """What a script is; None if it fails, as it may while the page loads again."""
+        try:
+            return self.value(script)
+        except BrowserFault:
+            return None
 
     def resize(self, width: int, height: int) -> None:
         self.call("Emulation.setDeviceMetricsOverride", width=width, height=height, deviceScaleFactor=1, mobile=False)

@@ -61,8 +61,8 @@ class BoardServer(ThreadingHTTPServer):
 
     daemon_threads = True
     block_on_close = False
-    # the rest that wait for their turn
-    request_queue_size = 16
+    # how many may come at the same moment; a browser whose connection finds no room tries again a second later
+    request_queue_size = 128
 
     def __init__(self, port: int) -> None:
         self.served: Optional[Served] = None
