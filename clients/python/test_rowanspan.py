@@ -1,6 +1,6 @@
 #!/usr/bin/env python3
 """Tests of the client over a stand-in, without the server: broken streams, calls and pipelines. As a program it runs
-test_mapping, test_wire, test_shell, test_bad_input and test_wheel too, and its last line is 'N passed, M failed'."""
+test_mapping, test_wire, test_shell, test_bad_input, test_board and test_wheel too, and its last line is 'N passed, M failed'."""
 from __future__ import annotations
 
 import socket
@@ -11,6 +11,7 @@ from typing import Any, List, Sequence, Tuple
 
 import rowanspan
 import test_bad_input
+import test_board
 import test_mapping
 import test_shell
 import test_wheel
@@ -276,7 +277,8 @@ class PipelineTest(unittest.TestCase):
 
 def main() -> int:
     load = unittest.defaultTestLoader.loadTestsFromModule
-    modules = (test_wire, sys.modules[__name__], test_mapping, test_shell, test_bad_input, test_wheel)
+    modules = (test_wire, sys.modules[__name__], test_mapping, test_shell, test_bad_input, test_board,
+               test_wheel)
     return run_counted(unittest.TestSuite(load(module) for module in modules))
 
 

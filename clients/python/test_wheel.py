@@ -86,7 +86,10 @@ class WheelTest(Folder):
             names = wheel.namelist()
             packed = {name: wheel.read(name) for name in names}
             modes = {info.filename: info.external_attr >> 16 for info in wheel.infolist()}
-        sources = {f"rowanspan/{file.name}" for file in (HERE / "rowanspan").glob("*.py")}
+        package, page = HERE / "rowanspan", "rowanspan/board/"
+        sources = {str(file.relative_to(HERE)) for it in (package, package / "board") for file in it.glob("*.py")}
+        sources |= {page + file for file in ("page.html", "board.css", "icon.svg", "board.js", "card.js", "form.js",
+                                             "line.js", "notation.js")}
         info = f"rowanspan-{VERSION}.dist-info"
         self.assertEqual(set(names), sources | {
             "rowanspan/py.typed", "rowanspan/librowanspan.so", "rowanspan/bin/mtserve", f"{info}/METADATA",
@@ -156,6 +159,9 @@ class InstalledTest(Folder):
         status, output, errors = run([self.rowan, "--help"])
         self.assertEqual((status, errors), (0, ""))
         self.assertIn("rowan serve", output)
+        status, output, errors = run([self.rowan, "board", "--help"])
+        self.assertEqual((status, errors), (0, ""))
+        self.assertIn("--build SPEC", output)
         self.assertEqual(run([self.rowan, "serve", "--port", "7"])[:2], (0, f"--port 7\n{IGNORED}\n"))
         # an installer that drops the mode
         (package / "bin" / "mtserve").chmod(0o644)

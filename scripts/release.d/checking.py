@@ -29,6 +29,19 @@ with Index(int(sys.argv[1])) as index:
     print(commit, index.get(b"apple").version, index.get(b"apple").columns, index.get(b"pear"))
 """
 ASKED = "1 1 (b'red',) None\n"
+# the board of the wheel over the server at the port that is named: each file of its page
+LOOKING = """import re, subprocess, sys, urllib.request
+board = ["board", "-p", sys.argv[1], "--http", "0", "--build", "prefix 61 any"]
+command = [sys.executable, "-m", "rowanspan.shell", *board]
+with subprocess.Popen(command, stdout=subprocess.PIPE, text=True) as board:
+    address = re.fullmatch("board at (.*)\\n", board.stdout.readline())[1]
+    page = urllib.request.urlopen(address).read().decode()
+    for path in sorted({*re.findall('(?:src|href)="/([^"]+)"', page), "card.js", "form.js", "line.js", "notation.js"}):
+        print(path, urllib.request.urlopen(address + path).status)
+    board.terminate()
+"""
+FILES_OF_PAGE = ("board.css", "board.js", "card.js", "form.js", "icon.svg", "line.js", "notation.js")
+LOOKED = "".join(f"{name} 200\n" for name in FILES_OF_PAGE)
 
 
 @dataclass(frozen=True)
@@ -140,8 +153,8 @@ def install_wheel(checks: Checks) -> None:
 
 
 def check_server(checks: Checks) -> None:
-    """The server answers a put and a get of the wheel's client, and ends after the session."""
-    command = [str(checks.unpacked / "bin" / "mtserve"), "--port", "0", "--sessions", "1"]
+    """The server answers a put and a get of the wheel's client, and its board, and ends after both sessions."""
+    command = [str(checks.unpacked / "bin" / "mtserve"), "--port", "0", "--sessions", "2"]
     with subprocess.Popen(command, cwd=checks.room, env=checks.environment, text=True, stdin=subprocess.DEVNULL,
                           stdout=subprocess.PIPE, stderr=subprocess.PIPE) as server:
         # (if it names no port, or doesn't end)
@@ -150,11 +163,18 @@ def check_server(checks: Checks) -> None:
         listening = re.fullmatch("listening ([0-9]+)\n", server.stderr.readline())
         if checks.case("mtserve listens", listening is not None, "it names no port"):
             checks.writes("a put and a get of mtserve", [str(checks.python), "-c", ASKING, listening[1]], ASKED)
+            checks.writes("the page of the board", [str(checks.python), "-c", LOOKING, listening[1]], LOOKED)
         else:
             server.kill()
         output, errors = server.communicate()
         timer.cancel()
     checks.case("mtserve ends", server.returncode == 0 and output.endswith("commits 1\n"), output + errors)
+
+
+def check_board(checks: Checks) -> None:
+    """The command of the wheel says how the board is used."""
+    outcome = checks.run([str(checks.python.parent / "rowan"), "board", "--help"])
+    checks.case("rowan board --help", outcome.status == 0 and "--http PORT" in outcome.output, outcome.why())
 
 
 def check_python(checks: Checks) -> None:
@@ -232,6 +252,7 @@ def check() -> int:
             install_wheel(checks)
             if checks.python is not None:
                 check_server(checks)
+                check_board(checks)
                 check_python(checks)
     print(f"{checks.passed} passed, {checks.failed} failed")
     return 1 if checks.failed else 0

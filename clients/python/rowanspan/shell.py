@@ -20,10 +20,12 @@ if TYPE_CHECKING:
 USES = """\
 rowan [-p PORT [--host HOST] [--timeout SECONDS] | --embedded [--columns N]] [--text] [WORD ..]
        rowan serve [OPTION ..]
+       rowan board -p PORT [OPTION ..]
        rowan --version"""
 
 LINES = """\
-`rowan serve` runs the server mtserve, with the options of mtserve (`rowan serve --help`).
+`rowan serve` runs the server mtserve, with the options of mtserve (`rowan serve --help`). `rowan board` shows the views of
+a server in a browser (`rowan board --help`).
 
 Lines, whose words are separated by one space, and their answers:
   get KEY COLS                   done FROM TO row VERSION VALUES, or done FROM TO absent
@@ -215,6 +217,10 @@ def main(arguments: Optional[Sequence[str]] = None) -> int:
     try:
         if given[:1] == ["serve"]:
             become_server(given[1:])
+        if given[:1] == ["board"]:
+            from .board.command import main as show_board
+
+            return show_board(given[1:])
         options = parsed(given)
         words: List[str] = options.words[1:] if options.words[:1] == ["--"] else options.words
         lines = [" ".join(words)] if words else lines_of_input()

@@ -1,0 +1,258 @@
+"""The poller: one thread with one connection, which reads each view of the board at most four times a second."""
+from __future__ import annotations
+
+import queue
+import socket
+import threading
+import time
+from concurrent.futures import Future
+from concurrent.futures import TimeoutError as FutureTimeout
+from typing import Any, Callable, List, Optional, Sequence, Tuple
+
+from ..client import Client
+from ..core import BadReply, ConnectionLost, NoSuchView, Page, Range, Refused, RowanspanError, ViewNo, ViewSpec
+from ..wire import MAX_QUERIES, Get, Outcome, Query, Reply, ViewDrop, ViewRead
+from .state import NO_VIEW, STARTED_AGAIN, Board, Card, Link
+
+# in seconds: from one round to the next, from one try to connect to the next, and how long a form waits
+PERIOD = 0.25
+RETRY = 1.0
+PATIENCE = 60.0
+MAX_JOBS = 16
+SILENT = " (a server whose workers are all busy with other clients doesn't answer: --workers)"
+
+Work = Callable[[Client], Any]
+Job = Tuple[Work, "Future[Any]"]
+
+
+class Busy(Exception):
+    """Too many forms wait for the server, or an answer didn't come."""
+
+
+def refused_text(number: ViewNo, refused: Refused) -> str:
+    """Why no page of a view comes, for the page."""
+    if isinstance(refused, NoSuchView):
+        return f"The server has no view {number}: it was dropped, or the server was started again."
+    return f"The server refused a page of view {number}: {refused}."
+
+
+def lost_text(fault: RowanspanError) -> str:
+    """Why there is no connection, for people."""
+    return f"{fault}{SILENT if isinstance(fault.__cause__, socket.timeout) else ''}"
+
+
+class Poller(threading.Thread):
+    """Reads the views of a board round by round, and does what forms ask for in between.
+
+    All goes over one connection, so a board takes one of the server's workers, however many browsers look. If it is
+    lost, the poller tries again until there is one.
+    """
+
+    def __init__(self, board: Board, connect: Callable[[], Client]) -> None:
+        super().__init__(name="poller", daemon=True)
+        self._board = board
+        self._connect = connect
+        self._index: Optional[Client] = None
+        self._jobs: queue.Queue[Job] = queue.Queue(MAX_JOBS)
+        self._is_ending = threading.Event()
+        self._began = time.monotonic()
+        # of the index that was seen last: its commits, and the greatest number of a view
+        self._commits = 0
+        self._greatest = 0
+
+    # -- what other threads call
+
+    def ask(self, work: Work) -> Any:
+        """Has the poller do something with its connection, and returns what it returns. Raises what it raises, and
+        `Busy`."""
+        job: Job = (work, Future())
+        try:
+            self._jobs.put_nowait(job)
+            return job[1].result(PATIENCE)
+        except queue.Full:
+            raise Busy("too many forms wait for the server: send it again later") from None
+        except FutureTimeout:
+            job[1].cancel()
+            raise Busy("the server didn't answer in time") from None
+
+    def build(self, spec: ViewSpec, name: str = "") -> Card:
+        """Builds a view, and adds it to the board. Raises `Refused`, `Full`, `ConnectionLost`, `BadReply` or `Busy`."""
+        def work(index: Client) -> Card:
+            self._board.check_room()
+            return self._board.add(self._built(index, spec), spec, name)
+        return self.ask(work)
+
+    def watch(self, number: ViewNo, name: str = "") -> Card:
+        """Adds the view of this number to the board. Raises `NoSuchView` if there is none, and what `build` raises."""
+        def work(index: Client) -> Card:
+            self._board.check_room()
+            index.view(number).page(limit=1)
+            self._greatest = max(self._greatest, number)
+            return self._board.add(number, None, name)
+        return self.ask(work)
+
+    def drop(self, card: Card) -> None:
+        """Drops a view, and takes it off the board. One that isn't there any more is no error."""
+        def work(index: Client) -> None:
+            try:
+                if card.can_be_read():
+                    index.view(card.number).drop()
+            except NoSuchView:
+                pass
+            self._board.remove(card.id)
+        self.ask(work)
+
+    def end(self) -> None:
+        """Drops the views that the board has built, closes the connection, and waits for both."""
+        self._is_ending.set()
+        if self.ident is not None:
+            self.join(PATIENCE)
+
+    # -- the thread
+
+    def start(self) -> None:
+        """Connects, and begins. Raises `ConnectionLost`."""
+        self._index = self._connect()
+        super().start()
+
+    def run(self) -> None:
+        try:
+            self._run_rounds()
+        except BaseException as fault:
+            # (a fault of the board itself, which no page may take for a view that doesn't change)
+            self._board.set_link(Link.LOST, f"the board's poller has ended: {fault!r}")
+            self._board.tell()
+            raise
+
+    def _run_rounds(self) -> None:
+        is_ending = False
+        while not is_ending:
+            began = time.monotonic()
+            pause = PERIOD if self._round() else RETRY
+            self._board.tell()
+            is_ending = self._is_ending.wait(max(0.0, began + pause - time.monotonic()))
+        self._leave()
+
+    def _round(self) -> bool:
+        """Does what forms ask for, and reads each view once; whether the server answered."""
+        try:
+            if self._index is None:
+                self._index = self._connect()
+                self._meet(self._index)
+            self._do_jobs(self._index)
+            self._build_missing(self._index)
+            self._read_all(self._index)
+        except RowanspanError as fault:
+            self._lose(fault)
+            return False
+        self._board.set_link(Link.LIVE)
+        return True
+
+    def _lose(self, fault: RowanspanError) -> None:
+        if self._index is not None:
+            self._index.close()
+        self._index = None
+        self._board.set_link(Link.LOST, lost_text(fault))
+        self._fail_jobs(fault)
+
+    def _fail_jobs(self, fault: Exception) -> None:
+        for _ in range(self._jobs.qsize()):
+            result = self._jobs.get_nowait()[1]
+            if result.set_running_or_notify_cancel():
+                result.set_exception(fault)
+
+    def _do_jobs(self, index: Client) -> None:
+        """Does the jobs that wait now. A fault of the connection is that of the job and of the round."""
+        for _ in range(self._jobs.qsize()):
+            work, result = self._jobs.get_nowait()
+            if not result.set_running_or_notify_cancel():
+                continue
+            try:
+                result.set_result(work(index))
+            except (ConnectionLost, BadReply) as fault:
+                result.set_exception(fault)
+                raise
+            except Exception as fault:
+                result.set_exception(fault)
+
+    # -- reading
+
+    def _read_all(self, index: Client) -> None:
+        """A page of each view, in as few frames as hold them. The first query of a frame asks how many commits there
+        are."""
+        cards, size = [card for card in self._board.cards() if card.can_be_read()], MAX_QUERIES - 1
+        for first in range(0, max(len(cards), 1), size):
+            self._read_some(index, cards[first:first + size])
+
+    def _read_some(self, index: Client, cards: Sequence[Card]) -> None:
+        reads = [ViewRead(card.number, card.floor, limit=self._board.rows) for card in cards]
+        queries: List[Query[Any]] = [Get(b"", (0,)), *reads]
+        counted, *pages = index.call_all(queries)
+        if isinstance(counted, Reply) and counted.to is not None:
+            self._commits = counted.to
+        for card, outcome in zip(cards, pages):
+            self._take(card, outcome)
+
+    def _take(self, card: Card, outcome: Outcome) -> None:
+        if isinstance(outcome, Refused):
+            self._board.fail(card, refused_text(card.number, outcome))
+            return
+        page: Page = outcome.value
+        # (commits that came between the count and the page aren't missing in it)
+        self._board.show(card, page, max(self._commits - page.at, 0), int(time.monotonic() - self._began))
+
+    # -- the server is back
+
+    def _built(self, index: Client, spec: ViewSpec) -> ViewNo:
+        number = index.build(spec).number
+        self._greatest = max(self._greatest, number)
+        return number
+
+    def _meet(self, index: Client) -> None:
+        """After a lost connection: if this is another index than before, the views that the board has built are built
+        again, and those that it was given are over."""
+        if self._is_same(index):
+            return
+        self._commits = self._greatest = 0
+        for card in self._board.cards():
+            self._board.start_again(card)
+
+    def _is_same(self, index: Client) -> bool:
+        """Whether an index can be the one from before: it has no fewer commits, and a new view has a greater number
+        than each that was seen."""
+        commits = index.call(Get(b"", (0,))).to
+        if commits is None or commits < self._commits:
+            return False
+        try:
+            with index.build(Range(b"", b"\0")) as probe:
+                return probe.number > self._greatest
+        except Refused:
+            return True
+
+    def _build_missing(self, index: Client) -> None:
+        """Builds the views that the server was started again without. What it refuses is asked again in the next
+        round."""
+        for card in self._board.cards():
+            if card.number == NO_VIEW and card.spec is not None:
+                self._build_again(index, card, card.spec)
+
+    def _build_again(self, index: Client, card: Card, spec: ViewSpec) -> None:
+        try:
+            self._board.rebuilt(card, self._built(index, spec))
+        except Refused as refused:
+            self._board.fail(card, f"{STARTED_AGAIN} It refused to build the view: {refused}.")
+
+    # -- the end
+
+    def _leave(self) -> None:
+        """Drops what the board has built, as far as the server answers."""
+        self._fail_jobs(Busy("the board ends"))
+        if self._index is None:
+            return
+        drops = [ViewDrop(card.number) for card in self._board.cards() if card.spec is not None and card.can_be_read()]
+        try:
+            for first in range(0, len(drops), MAX_QUERIES):
+                self._index.call_all(drops[first:first + MAX_QUERIES])
+        except RowanspanError:
+            pass
+        self._index.close()
