@@ -1,12 +1,10 @@
 -- Views that are kept up after a call on what a lock keeps are kept up somewhere.
 use Rattle.std.proofs.Common.{◌≡◌, ◌<◌, ◌++◌, ◌∷◌, [], List, ℕ, Bool, refl, sym, subst, inl, inr}
 use Rattle.std.specs.Prelude.{Ok, MatchBool}
-use Rattle.mt_types.specs.declared.numbers.CallNo.{CallNo}
 use Rattle.mt_types.specs.declared.refusal.Refusal.{Refusal}
 use Rattle.mt_types.specs.declared.refusal.Refusal.TheVariants.{Spent, WrongPass}
-use Rattle.mt_types.specs.declared.event.Event.TheVariants.{Begin}
 use Rattle.mt_types.specs.declared.event.Outcome.{Outcome}
-use Rattle.mt_types.specs.declared.event.Outcome.TheVariants.{Call, Done, Refused, Applied, Current}
+use Rattle.mt_types.specs.declared.event.Outcome.TheVariants.{Done, Refused, Applied, Current}
 use Rattle.mt_types.specs.declared.event.Request.{Request}
 use Rattle.mt_types.specs.declared.event.Reply.{Reply}
 use Rattle.mt_shared.specs.declared.trace.Entry.{Entry}
@@ -14,7 +12,7 @@ use Rattle.mt_shared.specs.declared.changing.Changed.{Changed}
 use Rattle.mt_shared.specs.declared.changing.Changed.TheVariants.{Started as StartedOnly, Ended}
 use Rattle.mt_shared.specs.declared.driving.Started.TheVariants.{Ran}
 use Rattle.mt_shared.specs.Changes.{IsChanged, IsDriveKept, KeepsViews}
-use Rattle.mt_shared.specs.Drives.{EventLaw, IsStarted}
+use Rattle.mt_shared.specs.Drives.{EventLaw}
 use Rattle.mt_shared.specs.Kept.{KeptView, IsKept, Does}
 use Rattle.mt_shared.specs.Passes.{PassView, IsTold, Suits}
 use Rattle.mt_shared.specs.Turns.{HasTurned, furthest, turn}

@@ -286,7 +286,7 @@ starts_own s p request call run begun n b k off there at here far makes went =
     let gone : HasGone Does mid r call run.last (record { machine = n; events = s.events + 1 + run.steps; books = set (set s.books i one) i (book_after run one); trace = s.trace }) (pass_after run r) =
     goes mid r there_too (book_within p.number mid.books there_too) off.1 call run n one kept off.0 own (sym (get_or-set_same s.books i one one within)) (omega (arith, here)) (omega (arith, far)) went in
     let then_is = set-set s.books i one (book_after run one) ∙ ap (set s.books i)
-        (book_is s p there within off.1 (book_after run one) (book_after (record run { steps = run.steps + 1 }) b) (omega arith) (omega arith) (omega arith)) in
+    (book_is s p there within off.1 (book_after run one) (book_after (record run { steps = run.steps + 1 }) b) (omega arith) (omega arith) (omega arith)) in
     let pass_then = pass_is s p there within off.1 (p.events + 1 + run.steps) (p.commits + 0 + run.commits) (max (max p.seen 0) (seen_in run.last)) (p.events + (run.steps + 1)) (p.commits + run.commits) (max p.seen (seen_in run.last)) (omega arith) (omega arith) (omega arith) in (
       mid,
       r,

@@ -175,7 +175,10 @@ impl Kept {
         ensures limited { StartIsLimited result }
         ensures kept { IsKept self.old × IsKept self.new }
     {
-        if most > 1 && self.room(pass) > 1 && !self.is_traced(pass) && self.has_book(pass.number())
+        if most > 1
+            && self.room(pass) > 1
+            && !self.is_traced(pass)
+            && self.has_book(pass.number())
         {
             return self.begin_and_go(alloc, pass, request, most);
         }

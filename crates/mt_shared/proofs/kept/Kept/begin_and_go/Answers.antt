@@ -103,7 +103,7 @@ invariant_of-self-in-Ran c =
     let some = room.0 in
     let more = room.1 in
     let starts = ran_as_counted s c.args.pass.now c.count-last.new.pass c.args.request c.call-called.new.self book.0 c.self.inside.books.items c.count-last.new.books.items c.count-last.new.events off there refl book.1 c.in-Ran.call c.in-Ran.run' begun c.self.invariant
-        (omega (arith, here, least, few, some)) (omega (arith, far, least, few, more)) makes goes book.2 c.count-last.ensures.events c.count-last.ensures.pass in
+    (omega (arith, here, least, few, some)) (omega (arith, far, least, few, more)) makes goes book.2 c.count-last.ensures.events c.count-last.ensures.pass in
     started_keeps s c.args.pass.now c.args.request c.in-Ran.call c.in-Ran.run'.last (record { machine = c.call-called.new.self; events = c.count-last.new.events; books = c.count-last.new.books.items; trace = c.self.inside.trace }) c.count-last.new.pass c.self.invariant starts
 
 pub returns-in-Ran-clause-starts : goal.returns-in-Ran-clause-starts
@@ -122,7 +122,7 @@ returns-in-Ran-clause-starts c =
     let some = room.0 in
     let more = room.1 in
     let starts = ran_as_counted s c.args.pass.now c.count-last.new.pass c.args.request c.call-called.new.self book.0 c.self.inside.books.items c.count-last.new.books.items c.count-last.new.events off there refl book.1 c.in-Ran.call c.in-Ran.run' begun c.self.invariant
-        (omega (arith, here, least, few, some)) (omega (arith, far, least, few, more)) makes goes book.2 c.count-last.ensures.events c.count-last.ensures.pass in
+    (omega (arith, here, least, few, some)) (omega (arith, far, least, few, more)) makes goes book.2 c.count-last.ensures.events c.count-last.ensures.pass in
     subst (λ (o : Outcome). IsStarted Does c.args.self.now c.args.pass.now c.args.request (Ran c.in-Ran.call o) (record { machine = c.call-called.new.self; events = c.count-last.new.events; books = c.count-last.new.books.items; trace = c.self.inside.trace }) c.count-last.new.pass) (sym c.count-last.ensures.last)
     (subst (λ (k : KeptView). IsStarted Does k c.args.pass.now c.args.request (Ran c.in-Ran.call c.in-Ran.run'.last) (record { machine = c.call-called.new.self; events = c.count-last.new.events; books = c.count-last.new.books.items; trace = c.self.inside.trace }) c.count-last.new.pass) c.self.view_is starts)
 
