@@ -9,6 +9,8 @@ mod commits;
 #[cfg(test)]
 mod maps;
 #[cfg(test)]
+mod runs;
+#[cfg(test)]
 mod scripts;
 #[cfg(test)]
 mod views;
