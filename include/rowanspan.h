@@ -16,8 +16,8 @@
  * PROOFS
  *     The functions are thin: each passes its arguments to a function inside the library, of which it is proved what
  *     it does, by its contract in crates/rowanspan_c/src/exports.rt. (rowanspan_open also allocates what the pointer
- *     points to, and rowanspan_keep_views repeats rowanspan_apply.) The thin functions, which are in bindings/c, and
- *     the inline functions of this header are only tested.
+ *     points to, rowanspan_keep_views repeats rowanspan_apply, and a cursor repeats rowanspan_range.) The thin
+ *     functions, which are in bindings/c, and the inline functions of this header are only tested.
  *
  * ORDER OF REFUSALS
  *     Limits are answered before memory. A call that breaks a limit of its keys, its columns, its test, its range or
@@ -103,7 +103,7 @@ typedef enum rowanspan_status {
     ROWANSPAN_BAD_RANGE = 13,       /* the range of a view ends before it begins */
     ROWANSPAN_SPENT = 14,           /* a number is at its greatest value, 2^64 - 1 */
     ROWANSPAN_OTHER_VERSION = 16,   /* the key's row is of version *told, not of the one asked; 0: there is no row */
-    ROWANSPAN_ABSENT = 102,         /* the key has no row */
+    ROWANSPAN_ABSENT = 102,         /* the key has no row, or the cursor has no more rows */
     ROWANSPAN_NO_ROOM = 103,        /* the answer has *told bytes, and the buffer is smaller */
     ROWANSPAN_CURRENT = 104,        /* there was nothing to apply: no view is behind */
     ROWANSPAN_NO_SUCH_TEST = 105    /* no test of rows is of this kind */
@@ -226,6 +226,41 @@ rowanspan_status rowanspan_get(const rowanspan *index, const void *key, size_t k
  * BAD_COLUMN, BAD_LIMIT or NO_MEMORY. Unless it returns OK the buffer is as it was. */
 rowanspan_status rowanspan_range(const rowanspan *index, const void *start, size_t start_length, uint16_t limit,
                                  const uint8_t *columns, size_t column_count, void *into, size_t room, uint64_t *told);
+
+/* ---- cursors
+ *
+ * A cursor returns the rows from a key on, one after the other, in the order of their keys. It reads them by
+ * rowanspan_range, up to 64 at a time, into a buffer of its own. The index may be changed between two calls with a
+ * cursor: each key is still returned at most once, each key that has a row throughout is returned, and each row is as
+ * it was when the cursor read it. A call with a cursor is a call on its index too. A cursor has to be closed before its
+ * index is. */
+
+/* A cursor, and a key with its row, which is defined at the end of this file. */
+typedef struct rowanspan_cursor rowanspan_cursor;
+struct rowanspan_pair;
+
+/* rowanspan_cursor_open: opens a cursor over the rows from a key on, and sets *cursor to it. The columns are as of
+ * rowanspan_get. The caller has to close the cursor with rowanspan_cursor_close.
+ *
+ * Cost: that of a range of one row, by which the key and the columns are tested, and two allocations, of some 5,200
+ * bytes together.
+ *
+ * Returns OK, also if there are no rows. Fails with KEY_TOO_LONG, BAD_COLUMN or NO_MEMORY; *cursor is then null. */
+rowanspan_status rowanspan_cursor_open(const rowanspan *index, const void *start, size_t start_length,
+                                       const uint8_t *columns, size_t column_count, rowanspan_cursor **cursor);
+
+/* rowanspan_cursor_next: sets *pair to the next key and its row, whose columns rowanspan_read_bytes reads. Both point
+ * into the cursor's buffer, and are good until the next call with this cursor.
+ *
+ * Cost: for the first row, and again after each 64 rows, that of a range of 64 rows; of two, if the buffer has to grow.
+ * The other calls only read the buffer.
+ *
+ * Returns OK. Returns ABSENT if there are no more rows, and then each time. Fails with NO_MEMORY; the cursor is then as
+ * it was, and can be asked again. Unless it returns OK *pair is as it was. */
+rowanspan_status rowanspan_cursor_next(rowanspan_cursor *cursor, struct rowanspan_pair *pair);
+
+/* rowanspan_cursor_close: closes a cursor and frees its memory. It does nothing if `cursor` is null. */
+void rowanspan_cursor_close(rowanspan_cursor *cursor);
 
 /* ---- views, of keys
  *
@@ -396,6 +431,12 @@ struct rowanspan_row {
     uint64_t version;
     size_t column_count;
     struct rowanspan_reader columns;
+};
+
+/* A key and its row, as a cursor returns them. */
+struct rowanspan_pair {
+    struct rowanspan_bytes key;
+    struct rowanspan_row row;
 };
 
 /* What a commit did to a key: the row before it if `had_row`, and the row after it if `has_row`. */

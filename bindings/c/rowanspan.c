@@ -1,4 +1,5 @@
-/* rowanspan.c: the functions of rowanspan.h. Each passes its arguments to the proved function that raw.h declares.
+/* rowanspan.c: the functions of rowanspan.h, but for cursors. Each passes its arguments to the proved function that
+ * raw.h declares.
  *
  * A raw function takes no null pointer: it is passed the address of something else then, which it doesn't use. */
 #include "raw.h"
@@ -180,7 +181,7 @@ const char *rowanspan_status_text(rowanspan_status status) {
     case ROWANSPAN_BAD_RANGE: return "The range of a view ends before it begins.";
     case ROWANSPAN_SPENT: return "A number is at its greatest value.";
     case ROWANSPAN_OTHER_VERSION: return "The key's row is of another version.";
-    case ROWANSPAN_ABSENT: return "The key has no row.";
+    case ROWANSPAN_ABSENT: return "The key has no row, or the cursor has no more rows.";
     case ROWANSPAN_NO_ROOM: return "The buffer is smaller than the answer.";
     case ROWANSPAN_CURRENT: return "There was nothing to apply: no view is behind.";
     case ROWANSPAN_NO_SUCH_TEST: return "No test of rows is of this kind.";

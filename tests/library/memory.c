@@ -198,6 +198,87 @@ static void gets_copy_the_key_alone(void) {
     ends("gets_copy_the_key_alone");
 }
 
+/* A cursor that is refused holds no memory, and its limits are answered before memory. */
+static void no_memory_to_open_a_cursor(void) {
+    rowanspan *index = opened(1, 16, 0);
+    static const uint8_t none_such[1] = {1};
+    static const char long_key[ROWANSPAN_MAX_KEY_BYTES + 1];
+    long allocations, before = memory_held();
+    rowanspan_status status = ROWANSPAN_NO_MEMORY;
+    begins();
+    for (allocations = 0; status == ROWANSPAN_NO_MEMORY && allocations < 100; allocations++) {
+        rowanspan_cursor *cursor;
+        memory_ends_after(allocations);
+        status = rowanspan_cursor_open(index, "key", 3, NULL, 0, &cursor);
+        memory_ends_after(-1);
+        WANT((cursor != NULL) == (status == ROWANSPAN_OK));
+        rowanspan_cursor_close(cursor);
+        WANT_SAME(memory_held(), before);
+        memory_ends_after(allocations);
+        WANT_SAME(rowanspan_cursor_open(index, "key", 3, none_such, 1, &cursor), ROWANSPAN_BAD_COLUMN);
+        WANT_SAME(rowanspan_cursor_open(index, long_key, sizeof long_key, NULL, 0, &cursor), ROWANSPAN_KEY_TOO_LONG);
+        memory_ends_after(-1);
+    }
+    WANT(allocations > 2);
+    WANT_SAME(status, ROWANSPAN_OK);
+    rowanspan_close(index);
+    ends("no_memory_to_open_a_cursor");
+}
+
+enum { CURSOR_ROWS = 150 };
+
+/* The row of this number, for which memory ends after no allocation, then after one, until the cursor returns it.
+ * Returns how often it was refused. */
+static long refusals_of_next(rowanspan_cursor *cursor, int number) {
+    struct rowanspan_pair pair, before;
+    rowanspan_status status;
+    char key[8];
+    long refusals = -1;
+    memset(&pair, 0xee, sizeof pair);
+    before = pair;
+    do {
+        WANT(pair.key.at == before.key.at && pair.row.version == before.row.version);
+        memory_ends_after(++refusals);
+        status = rowanspan_cursor_next(cursor, &pair);
+        memory_ends_after(-1);
+    } while (status == ROWANSPAN_NO_MEMORY && refusals < 5000);
+    snprintf(key, sizeof key, "k%03d", number);
+    WANT_SAME(status, ROWANSPAN_OK);
+    WANT(status != ROWANSPAN_OK || is_text(pair.key, key));
+    WANT(status != ROWANSPAN_OK || pair.row.version == (uint64_t)number + 1);
+    return refusals;
+}
+
+/* A cursor that was refused memory returns the same row when it is asked again. It allocates only when it reads rows,
+ * and not at the end. Its buffer, which has to grow here, is freed when it is closed. */
+static void no_memory_for_a_cursor(void) {
+    rowanspan *index = opened(COLUMNS, 1024, 0);
+    rowanspan_cursor *cursor;
+    struct rowanspan_pair pair;
+    rowanspan_status status;
+    char key[8];
+    long before;
+    int i;
+    begins();
+    for (i = 0; i < CURSOR_ROWS; i++) {
+        snprintf(key, sizeof key, "k%03d", i);
+        put_greatest(index, key);
+    }
+    before = memory_held();
+    WANT_SAME(rowanspan_cursor_open(index, NULL, 0, NULL, 0, &cursor), ROWANSPAN_OK);
+    for (i = 0; i < CURSOR_ROWS; i++) {
+        WANT((refusals_of_next(cursor, i) > 0) == (i % 64 == 0));
+    }
+    memory_ends_after(0);
+    status = rowanspan_cursor_next(cursor, &pair);
+    memory_ends_after(-1);
+    WANT_SAME(status, ROWANSPAN_ABSENT);
+    rowanspan_cursor_close(cursor);
+    WANT_SAME(memory_held(), before);
+    rowanspan_close(index);
+    ends("no_memory_for_a_cursor");
+}
+
 /* What an index held is freed when it is closed, a thousand times. */
 static void opened_and_closed(void) {
     long before;
@@ -226,6 +307,8 @@ int main(void) {
     out_of_memory();
     no_memory_to_open();
     gets_copy_the_key_alone();
+    no_memory_to_open_a_cursor();
+    no_memory_for_a_cursor();
     opened_and_closed();
     return all_told();
 }

@@ -9,6 +9,8 @@ struct plain_row {
     uint64_t version;
     uint8_t column[COLUMNS][MOST_COLUMN];
     size_t column_length[COLUMNS];
+    /* whether the cursor has yet to return it: it was there when the cursor was opened, and has been since */
+    bool is_to_come;
 };
 
 struct plain_delta {
@@ -203,6 +205,60 @@ static void range_once(rowanspan *index) {
     want_rows(&reader, place_of(key, length), limit, each);
 }
 
+/* A cursor that is open while the other calls are made, and the key after which its next one has to be. */
+static rowanspan_cursor *cursor;
+static bool has_last;
+static struct plain_row last;
+
+static void open_cursor(rowanspan *index) {
+    uint8_t key[MOST_KEY];
+    size_t length = chance_key(key), first = place_of(key, length), i;
+    WANT_SAME(rowanspan_cursor_open(index, key, length, NULL, 0, &cursor), ROWANSPAN_OK);
+    has_last = false;
+    for (i = 0; i < row_count; i++) {
+        rows[i].is_to_come = i >= first;
+    }
+}
+
+/* Wants no row before this place to be yet to come. */
+static void want_none_to_come(size_t before) {
+    size_t i;
+    for (i = 0; i < before; i++) {
+        WANT(!rows[i].is_to_come);
+    }
+}
+
+static void want_pair(struct rowanspan_pair pair) {
+    size_t at = place_of(pair.key.at, pair.key.length);
+    WANT(!has_last || compare(last.key, last.key_length, pair.key.at, pair.key.length) < 0);
+    want_none_to_come(at);
+    if (is_at(at, pair.key.at, pair.key.length)) {
+        WANT(pair.row.version <= rows[at].version);
+        WANT(pair.row.version < rows[at].version || same_row(pair.row, &rows[at]));
+        rows[at].is_to_come = false;
+    }
+    has_last = true;
+    memcpy(last.key, pair.key.at, pair.key.length);
+    last.key_length = pair.key.length;
+}
+
+/* Some rows of the cursor; it is opened again when it has no more. */
+static void cursor_once(rowanspan *index) {
+    uint64_t count = 1 + chance(30);
+    for (; count > 0; count--) {
+        struct rowanspan_pair pair;
+        rowanspan_status status = rowanspan_cursor_next(cursor, &pair);
+        if (status == ROWANSPAN_OK) {
+            want_pair(pair);
+        } else {
+            WANT_SAME(status, ROWANSPAN_ABSENT);
+            want_none_to_come(row_count);
+            rowanspan_cursor_close(cursor);
+            open_cursor(index);
+        }
+    }
+}
+
 static uint64_t amount(const struct plain_row *row, int column) {
     uint64_t sum = 0;
     size_t i;
@@ -292,8 +348,10 @@ static void call_once(rowanspan *index, uint64_t view, int round) {
         remove_once(index);
     } else if (what < 70) {
         get_once(index);
-    } else if (what < 80) {
+    } else if (what < 75) {
         range_once(index);
+    } else if (what < 80) {
+        cursor_once(index);
     } else if (what < 88) {
         page_once(index, view);
     } else if (what < 94) {
@@ -309,9 +367,11 @@ int main(void) {
     int round;
     begins();
     WANT_SAME(rowanspan_build_prefix(index, "a", 1, rowanspan_at_least(1, 300), &view), ROWANSPAN_OK);
+    open_cursor(index);
     for (round = 0; round < CALLS; round++) {
         call_once(index, view, round);
     }
+    rowanspan_cursor_close(cursor);
     WANT_SAME(rowanspan_commits(index, &told), ROWANSPAN_OK);
     WANT_SAME(told, commits);
     printf("%llu commits, %zu rows at the end\n", (unsigned long long)commits, row_count);

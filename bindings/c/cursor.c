@@ -1,0 +1,149 @@
+/* cursor.c: a cursor, which reads some rows at a time by rowanspan_range, and returns one after the other. */
+#include "rowanspan.h"
+
+#include <stdlib.h>
+#include <string.h>
+
+/* How many rows are read at a time, and how many bytes the buffer has at first. */
+enum { ROWS = 64, FIRST_SIZE = 4096 };
+
+struct rowanspan_cursor {
+    const rowanspan *index;
+    /* the rows that were read and not yet returned, and how many they are */
+    struct rowanspan_reader reader;
+    size_t left;
+    /* the key from which the next rows are read, if there may be more */
+    bool may_have_more;
+    uint8_t from[ROWANSPAN_MAX_KEY_BYTES];
+    size_t from_length;
+    /* the answer of a range */
+    uint8_t *buffer;
+    size_t size;
+    size_t column_count;
+    uint8_t columns[];
+};
+
+/* Makes the buffer larger, to at least `needed` bytes, and at least twice as large, so that it seldom grows. What it
+ * holds is lost. If memory is refused, the buffer is as it was. */
+static bool grow(rowanspan_cursor *cursor, uint64_t needed) {
+    size_t size = cursor->size <= SIZE_MAX / 2 ? 2 * cursor->size : SIZE_MAX;
+    uint8_t *buffer;
+    if (size < needed) {
+        size = (size_t)needed;
+    }
+    /* (if a size_t can't hold the number) */
+    if (size < needed) {
+        return false;
+    }
+    buffer = malloc(size);
+    if (!buffer) {
+        return false;
+    }
+    free(cursor->buffer);
+    cursor->buffer = buffer;
+    cursor->size = size;
+    return true;
+}
+
+static rowanspan_status ask(const rowanspan_cursor *cursor, uint64_t *told) {
+    return rowanspan_range(cursor->index, cursor->from, cursor->from_length, ROWS, cursor->columns,
+                           cursor->column_count, cursor->buffer, cursor->size, told);
+}
+
+/* Reads the next rows into the buffer, from which all rows were returned. */
+static rowanspan_status read_rows(rowanspan_cursor *cursor) {
+    uint64_t told;
+    rowanspan_status status = ask(cursor, &told);
+    while (status == ROWANSPAN_NO_ROOM) {
+        if (!grow(cursor, told)) {
+            return ROWANSPAN_NO_MEMORY;
+        }
+        status = ask(cursor, &told);
+    }
+    if (status != ROWANSPAN_OK) {
+        return status;
+    }
+    cursor->reader = rowanspan_reader(cursor->buffer, told);
+    cursor->left = rowanspan_read_count(&cursor->reader);
+    cursor->may_have_more = cursor->left == ROWS;
+    return ROWANSPAN_OK;
+}
+
+/* Sets `from` to the least key after this one. Returns whether there is one. */
+static bool continue_after(rowanspan_cursor *cursor, struct rowanspan_bytes key) {
+    size_t length = key.length;
+    memcpy(cursor->from, key.at, length);
+    if (length < ROWANSPAN_MAX_KEY_BYTES) {
+        cursor->from[length] = 0;
+        cursor->from_length = length + 1;
+        return true;
+    }
+    /* no longer key begins with it, so the next key is greater in some byte: in the last one that can be greater */
+    while (length > 0 && cursor->from[length - 1] == UINT8_MAX) {
+        length--;
+    }
+    if (length == 0) {
+        return false;
+    }
+    cursor->from[length - 1]++;
+    cursor->from_length = length;
+    return true;
+}
+
+rowanspan_status rowanspan_cursor_open(const rowanspan *index, const void *start, size_t start_length,
+                                       const uint8_t *columns, size_t column_count, rowanspan_cursor **cursor) {
+    uint64_t told;
+    /* for its limits alone, which are so answered before memory: no answer fits in no room, since it has a count */
+    rowanspan_status status = rowanspan_range(index, start, start_length, 1, columns, column_count, NULL, 0, &told);
+    rowanspan_cursor *opened;
+    *cursor = NULL;
+    if (status != ROWANSPAN_NO_ROOM) {
+        return status;
+    }
+    /* (each column is named once, so there are at most 16 names; and the key has room) */
+    opened = malloc(sizeof *opened + column_count);
+    if (!opened) {
+        return ROWANSPAN_NO_MEMORY;
+    }
+    opened->index = index;
+    opened->left = 0;
+    opened->may_have_more = true;
+    memcpy(opened->from, rowanspan_bytes_at(start), start_length);
+    opened->from_length = start_length;
+    opened->buffer = NULL;
+    opened->size = 0;
+    memcpy(opened->columns, rowanspan_bytes_at(columns), column_count);
+    opened->column_count = column_count;
+    if (!grow(opened, FIRST_SIZE)) {
+        free(opened);
+        return ROWANSPAN_NO_MEMORY;
+    }
+    *cursor = opened;
+    return ROWANSPAN_OK;
+}
+
+rowanspan_status rowanspan_cursor_next(rowanspan_cursor *cursor, struct rowanspan_pair *pair) {
+    if (cursor->left == 0 && cursor->may_have_more) {
+        rowanspan_status status = read_rows(cursor);
+        if (status != ROWANSPAN_OK) {
+            return status;
+        }
+    }
+    if (cursor->left == 0) {
+        return ROWANSPAN_ABSENT;
+    }
+    pair->key = rowanspan_read_bytes(&cursor->reader);
+    pair->row = rowanspan_read_row(&cursor->reader);
+    cursor->left--;
+    if (cursor->left == 0 && cursor->may_have_more) {
+        cursor->may_have_more = continue_after(cursor, pair->key);
+    }
+    return ROWANSPAN_OK;
+}
+
+void rowanspan_cursor_close(rowanspan_cursor *cursor) {
+    if (cursor) {
+        free(cursor->buffer);
+        free(cursor);
+    }
+}
