@@ -19,9 +19,10 @@ ghost use Rattle.mt_serve.specs.Sessions.{IsServed, IsBroken, BreaksIn};
 use crate::asking::answer;
 use crate::fault::SessionFault;
 use crate::frames::Frames;
-use mt_shared::driving::Shared;
+use mt_shared::driving::{Hold, Shared};
 use mt_shared::pass::Pass;
 use mt_streams::sink::Sink;
+use mt_types::event::Request;
 use mt_wire::encode::encode_replies_into;
 use mt_wire::fault::EncodeError;
 use mt_wire::frame::Frame;
@@ -41,8 +42,20 @@ pub struct Summary {
     pub queries: u64,
 }
 
-// Answers queries, one after the other. If there is no memory for an answer, its query and those before it are done.
-fn answer_all<S: Shared>(
+// Returns for what a lock may be kept while this query is done. Gets and changes of rows are short; the others aren't.
+fn hold_for(query: &Query) -> Hold {
+    match query {
+        Query::Call(Request::Get { .. }) => Hold::Reads,
+        Query::Call(Request::Put { .. } | Request::PutIf { .. } | Request::Remove { .. }) => {
+            Hold::Changes
+        }
+        _ => Hold::Nothing,
+    }
+}
+
+// Answers queries, one after the other. If there is no memory for an answer, its query and those before it are done. A
+// lock may stay held.
+fn answer_each<S: Shared>(
     alloc: Global,
     shared: &mut S,
     pass: &mut Pass,
@@ -57,9 +70,29 @@ fn answer_all<S: Shared>(
 {
     let mut responses = Vec::new(alloc);
     for query in queries {
+        shared.hold(hold_for(&query));
         responses.push(answer(alloc, shared, pass, query))?;
     }
     Ok(responses)
+}
+
+// Does what `answer_each` does. No lock stays held.
+fn answer_all<S: Shared>(
+    alloc: Global,
+    shared: &mut S,
+    pass: &mut Pass,
+    queries: Vec<Query>,
+) -> Result<Vec<Response>, AllocError>
+    ensures all { IfOk result (λ responses. AnswersAll S.does S.shows shared.old pass.old queries.items responses.items shared.new
+        pass.new) }
+    ensures limited { IfOk result (λ responses. AllByRecursion ResponseIsLimited responses.items) }
+    ensures part { OnErr result ((done : List Query) × (undone : List Query) × (responses : List Response)
+        × (queries.items ≡ done ++ undone)
+        × AnswersAll S.does S.shows shared.old pass.old done responses shared.new pass.new) }
+{
+    let answered = answer_each(alloc, shared, pass, queries);
+    shared.hold(Hold::Nothing);
+    answered
 }
 
 // Replaces what `out` has by the frame of these answers. Answers that keep the limits of an index are never too long
@@ -114,6 +147,9 @@ fn answer_frame<W: Write, S: Shared>(
 /// Answers the frames of queries in the bytes of a reader, each by one frame of answers in its version, until the input
 /// ends. A frame is read whole before any of its queries is done. Then its queries are done in order, each by `answer`,
 /// and its answers are written in one piece.
+///
+/// Over a `HoldingDoor` gets that follow one another in a frame are read in one holding of the lock, and puts, conditional
+/// puts and removes are made in one. No lock is held while frames are read or written.
 ///
 /// Costs what the calls and events of the queries cost, and O(n) in the bytes of the frames. A frame takes the memory
 /// of its bytes, its queries and its answers. The memory of a frame of answers is used again for the next.

@@ -43,17 +43,17 @@ module _ {S : Type 0} (x : S) where
     },
   )
 
-  pub changed_somewhere : (s : KeptView) (p : PassView) (request : Request) (most : ℕ) (changed : Changed) (t : KeptView) (q : PassView) → IsKept s → IsChanged Does s p request most changed t q → IsChanged (somewhere S) x p request most changed x q
-  changed_somewhere s p request most (StartedOnly started) t q k is = (started_somewhere x s p request started t q x k is.0, is.1)
-  changed_somewhere s p request most (Ended reply) t q k (m, r, call, is, late, change, keeps) = (
-    x,
-    r,
-    call,
-    started_somewhere x s p request (Ran call (Done reply)) m r x k is,
-    late,
-    change,
-    keeps_somewhere m r most t q (started_keeps s p request call (Done reply) m r k is) keeps,
-  )
+pub changed_somewhere : {S : Type 0} (x y : S) (s : KeptView) (p : PassView) (request : Request) (most : ℕ) (changed : Changed) (t : KeptView) (q : PassView) → IsKept s → IsChanged Does s p request most changed t q → IsChanged (somewhere S) x p request most changed y q
+changed_somewhere x y s p request most (StartedOnly started) t q k is = (started_somewhere x s p request started t q y k is.0, is.1)
+changed_somewhere x y s p request most (Ended reply) t q k (m, r, call, is, late, change, keeps) = (
+  y,
+  r,
+  call,
+  started_somewhere x s p request (Ran call (Done reply)) m r y k is,
+  late,
+  change,
+  keeps_somewhere y m r most t q (started_keeps s p request call (Done reply) m r k is) keeps,
+)
 
 -- a turn that advances no view is the last
 pub turn_stops : (s : KeptView) (p : PassView) (n most : ℕ) (m : KeptView) (r : PassView) (o : Outcome) (t : KeptView) (q : PassView) → IsKept m → Turned Does s p n m r → Does m r furthest o t q

@@ -29,7 +29,7 @@ use Rattle.mt_shared.specs.declared.trace.Entry.{Entry}
 use Rattle.mt_shared.specs.declared.trace.Trace.{Trace}
 use Rattle.mt_shared.specs.declared.trace.Trace.TheVariants.{Off}
 use Rattle.mt_shared.specs.Traces.{entry, Gains}
-use Rattle.mt_shared.specs.Passes.{PassView, IsTold, Suits, pass_after, seen_in}
+use Rattle.mt_shared.specs.Passes.{PassView, IsTold, pass_after, seen_in}
 use Rattle.mt_shared.specs.Books.{book_after, book_with}
 use Rattle.mt_shared.specs.declared.driving.Started.{Started}
 use Rattle.mt_shared.specs.declared.driving.Started.TheVariants.{Refused as RefusedStart, Begun, Ran}
@@ -37,7 +37,7 @@ use Rattle.mt_shared.specs.Drives.{EventLaw, Runs, IsRunStep, HasGone, IsBegun, 
 use Rattle.mt_shared.specs.Kept.{KeptView, IsKept, IsMade, IsUnmade, Does, DoesSomewhere, has_book, is_foreign, is_other, is_wrong, is_spent}
 use Rattle.mt_shared.proofs.KeptLemmas.{book_bounds, book_within, commits_then, does_make, has_its_book, in_books, keeps, not_spent}
 use Rattle.mt_shared.proofs.DriveLemmas.{gains_none}
-use Rattle.mt_shared.proofs.ToldLemmas.{does_tell, suits}
+use Rattle.mt_shared.proofs.ToldLemmas.{does_tell}
 
 -- ---- what the lock keeps is kept
 kept_at : (s : KeptView) (p : PassView) (e : Event) (o : Outcome) (t : KeptView) (q : PassView) (b c : Bool) → b ≡ is_wrong s p.number e → IsKept s
@@ -238,31 +238,17 @@ module _ (s : KeptView) (p : PassView) (there : has_book p.number s.books ≡ tr
       (subst (λ (t : KeptView). Does (now_kept s i s.machine s.events b) p (Begin p.number request) run.last t (pass_after run p)) is_then
       (subst (λ (q : PassView). Does (now_kept s i s.machine s.events b) p (Begin p.number request) run.last (now_kept s i n (s.events + 1) (book_with run.last b)) q) is_pass made)))
 
--- a run of what the lock keeps, as the code makes it
-pub runs_own : (s : KeptView) (p : PassView) (call : CallNo) (run : Run) (n : MachineView) (a b : Book) (q : PassView) → IsKept s → (s.trace ≡ Off) × (p.trace ≡ Off) → s.events + run.steps < 2 ^ 64 → p.events + run.steps < 2 ^ 64 → GoesThrough s.machine call run n → a ≡ book_after run b → q ≡ pass_after run p
-    → (pass : PassNo) → pass ≡ p.number → false ≡ is_wrong s pass (Step call) → b ≡ get_or s.books (pass.0 - 1) b
-    → HasGone Does s p call run.last (record { machine = n; events = s.events + run.steps; books = set s.books (pass.0 - 1) a; trace = s.trace }) q
-runs_own s p call run n a b q k off here there' goes_by after told pass same =
-    subst (λ (m : PassNo). false ≡ is_wrong s m (Step call) → b ≡ get_or s.books (m.0 - 1) b → HasGone Does s p call run.last (record { machine = n; events = s.events + run.steps; books = set s.books (m.0 - 1) a; trace = s.trace }) q)
-    (sym same)
-    (λ mine at.
-    let there = has_its_book s p.number (Step call) mine in
-    let both = in_books s p.number (Step call) mine in
-    subst (λ (c : Book). HasGone Does s p call run.last (record { machine = n; events = s.events + run.steps; books = set s.books (p.number.0 - 1) c; trace = s.trace }) q) (sym after)
-    (subst (λ (r : PassView). HasGone Does s p call run.last (record { machine = n; events = s.events + run.steps; books = set s.books (p.number.0 - 1) (book_after run b); trace = s.trace }) r) (sym told)
-    (goes s p there both.0 off.1 call run n b k off.0 both.1 at here there' goes_by)))
-
--- a begin of what the lock keeps, as the code makes it
-pub opens_own : (s : KeptView) (p : PassView) (request : Request) (run : Run) (n : MachineView) (a b : Book) (q : PassView) → (s.trace ≡ Off) × (p.trace ≡ Off) → s.events + 1 < 2 ^ 64 → p.events + 1 < 2 ^ 64 → run.steps ≡ 1 → run.commits ≡ 0 → commit_count run.last ≡ 0 → a ≡ book_after run b → q ≡ pass_after run p
-    → (pass : PassNo) → pass ≡ p.number → has_book pass s.books ≡ true → pass.0 - 1 < length s.books → b ≡ get_or s.books (pass.0 - 1) b → Makes s.machine (Begin pass request) run.last n
-    → Does s p (Begin p.number request) run.last (record { machine = n; events = s.events + 1; books = set s.books (pass.0 - 1) a; trace = s.trace }) q
-opens_own s p request run n a b q off here there' one none_made zero after told pass same =
-    subst (λ (m : PassNo). has_book m s.books ≡ true → m.0 - 1 < length s.books → b ≡ get_or s.books (m.0 - 1) b → Makes s.machine (Begin m request) run.last n → Does s p (Begin p.number request) run.last (record { machine = n; events = s.events + 1; books = set s.books (m.0 - 1) a; trace = s.trace }) q)
-    (sym same)
-    (λ there within at makes.
-    subst (λ (c : Book). Does s p (Begin p.number request) run.last (record { machine = n; events = s.events + 1; books = set s.books (p.number.0 - 1) c; trace = s.trace }) q) (sym after)
-    (subst (λ (r : PassView). Does s p (Begin p.number request) run.last (record { machine = n; events = s.events + 1; books = set s.books (p.number.0 - 1) (book_after run b); trace = s.trace }) r) (sym told)
-    (opens s p there within off.1 request run n b off.0 at here there' one none_made zero makes)))
+-- a run of what the lock keeps, as the code counts it
+pub gone_as_counted : (s : KeptView) (p q : PassView) (call : CallNo) (run : Run) (n : MachineView) (b : Book) (books : List Book) (events : ℕ) (number : PassNo) → IsKept s → (s.trace ≡ Off) × (p.trace ≡ Off) → number ≡ p.number → false ≡ is_wrong s number (Step call)
+    → b ≡ get_or s.books (p.number.0 - 1) b → s.events + run.steps < 2 ^ 64 → p.events + run.steps < 2 ^ 64 → GoesThrough s.machine call run n → books ≡ set s.books (p.number.0 - 1) (book_after run b) → events ≡ s.events + run.steps → q ≡ pass_after run p
+    → HasGone Does s p call run.last (record { machine = n; events = events; books = books; trace = s.trace }) q
+gone_as_counted s p q call run n b books events number k off same mine at here far went books_are events_are pass_is' =
+    let own = subst (λ (m : PassNo). false ≡ is_wrong s m (Step call)) same mine in
+    let both = in_books s p.number (Step call) own in
+    subst (λ (e : ℕ). HasGone Does s p call run.last (record { machine = n; events = e; books = books; trace = s.trace }) q) (sym events_are)
+    (subst (λ (bs : List Book). HasGone Does s p call run.last (record { machine = n; events = s.events + run.steps; books = bs; trace = s.trace }) q) (sym books_are)
+    (subst (λ (r : PassView). HasGone Does s p call run.last (record { machine = n; events = s.events + run.steps; books = set s.books (p.number.0 - 1) (book_after run b); trace = s.trace }) r) (sym pass_is')
+    (goes s p (has_its_book s p.number (Step call) own) both.0 off.1 call run n b k off.0 both.1 at here far went)))
 
 pub gone_keep : (s : KeptView) (p : PassView) (call : CallNo) (o : Outcome) (t : KeptView) (q : PassView) → IsKept s → HasGone Does s p call o t q → IsKept t
 gone_keep s p call o t q k g = does_keep g.then g.between (Step call) o t q (runs_keep s p g.steps g.then g.between k g.runs) g.made
@@ -330,15 +316,6 @@ module _ (s : KeptView) (p q : PassView) (request : Request) (n : MachineView) (
 -- what the lock keeps is kept by a start
 pub started_keeps : (s : KeptView) (p : PassView) (request : Request) (call : CallNo) (last : Outcome) (t : KeptView) (q : PassView) → IsKept s → IsStarted Does s p request (Ran call last) t q → IsKept t
 started_keeps s p request call last t q k (m, r, begun, gone) = gone_keep m r call last t q (does_keep s p (Begin p.number request) (Call call) m r k begun.0) gone
-
--- a begin is no commit
-pub begin_is_none : (m n : MachineView) (pass : PassNo) (request : Request) (o : Outcome) → (h : History) × Stands m h → Makes m (Begin pass request) o n → commit_count o ≡ 0
-begin_is_none m n pass request o (h, st) makes = none o (suits m n h pass (Begin pass request) o st makes (ap not (eq-eqb pass.0 pass.0 refl)))
-  where
-    none : (w : Outcome) → Suits pass (Begin pass request) w → commit_count w ≡ 0
-    none (Call call) s = refl
-    none (Refused refusal) s = refl
-    none _ s = absurd s
 
 -- the machine's commits after a run
 steps_newest : (m n : MachineView) (call : CallNo) (os : List Outcome) (h : History) → Stands m h → MakesSteps m call os n → (newest n.log ≡ newest m.log + sum_by commit_count os) × ((then : History) × Stands n then)

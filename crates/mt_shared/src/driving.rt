@@ -31,8 +31,27 @@ pub enum Started {
     Ran(CallNo, Outcome),
 }
 
+/// What the next calls of a thread are, for which it may keep a lock.
+#[derive(Clone, Copy, Debug, PartialEq, Eq)]
+pub enum Hold {
+    /// Unknown: no lock is kept.
+    Nothing,
+    /// Gets and ranges that are read at once: the lock is kept together with other reads.
+    Reads,
+    /// Changes: the lock is kept alone.
+    Changes,
+}
+
 /// A machine on which passes make events: under a lock, or of one caller.
 pub trait Shared {
+    /// Says what the next calls are, so that a lock may be kept between them until `hold` is called again. Changes
+    /// nothing.
+    ///
+    /// A thread that has said `Reads` or `Changes` must say `Nothing` before it waits for another thread, or uses
+    /// another door of the same index.
+    fn hold(&mut self, hold: Hold)
+        ensures stays { self.new ≡ self.old };
+
     /// What an event of a pass does, to what is shared and to the pass.
     ghost does: { Self → PassView → Event → Outcome → Self → PassView → Type 0 };
 

@@ -8,7 +8,7 @@ ghost use Rattle.mt_shared.specs.Feeds.{FeedsSomewhere, CopiesSomewhere};
 ghost use Rattle.mt_shared.specs.Reads.{ReadsSomewhere};
 
 use crate::changing::Changed;
-use crate::driving::{Shared, Started};
+use crate::driving::{Hold, Shared, Started};
 use crate::kept::Kept;
 use crate::pass::Pass;
 use crate::settling::Totals;
@@ -216,6 +216,9 @@ impl<'a, W: Wait> Door<'a, W> {
 }
 
 impl<'a, W: Wait> Shared for Door<'a, W> {
+    /// Does nothing: each event and each read has a holding of its own.
+    fn hold(&mut self, _hold: Hold) {}
+
     // somewhere in the order in which the lock is held it was an event on what lay there
     ghost does = { λ _ p event outcome _ q. DoesSomewhere p event outcome q };
 

@@ -8,6 +8,7 @@ pub mod caller;
 pub mod calls;
 pub mod changing;
 pub mod driving;
+pub mod holding;
 pub mod index;
 pub mod kept;
 pub mod lone;

@@ -12,7 +12,7 @@ ghost use Rattle.mt_shared.specs.Reads.{ReadsNow};
 ghost use Rattle.mt_shared.specs.Passes.{IsTold};
 
 use crate::changing::Changed;
-use crate::driving::{Shared, Started};
+use crate::driving::{Hold, Shared, Started};
 use crate::kept::Kept;
 use crate::pass::Pass;
 use mt_index::options::Options;
@@ -90,6 +90,9 @@ impl Lone {
 }
 
 impl Shared for Lone {
+    /// Does nothing: nobody else uses the machine.
+    fn hold(&mut self, _hold: Hold) {}
+
     ghost does = { Does };
 
     /// Does what `Kept::event` does.

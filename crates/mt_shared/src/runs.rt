@@ -85,36 +85,17 @@ impl Kept {
         }
         let run = self.machine.go(alloc, call, most.min(room));
         let _commits = self.machine.commits();
-        let at = number.0 as usize - 1;
-        self.books[at] = self.books[at].after(&run);
-        self.events += run.steps;
-        pass.count_run(&run);
-        run.last
+        count(&mut self.books, &mut self.events, pass, run)
     }
 
-    // Begins a call of a pass. The request is moved into the call, unless the index or the pass keeps a trace.
+    // Begins a call of a pass, by one event.
     fn open_call(&mut self, alloc: Global, pass: &mut Pass, request: Request) -> Outcome
         ensures does { Does self.old pass.old (Begin pass.old.number request) result self.new pass.new }
         ensures told { IsTold pass.old (Begin pass.old.number request) result pass.new }
         ensures kept { IsKept self.old × IsKept self.new }
     {
-        let number = pass.number();
-        let room = self.room(pass);
-        if self.is_traced(pass) || !self.has_book(number) || room == 0 {
-            return self.event(alloc, pass, &Event::Begin(number, request));
-        }
-        let last = self.machine.begin_call(alloc, number, request);
-        let run = Run {
-            steps: 1,
-            commits: 0,
-            last,
-        };
-        let _commits = self.machine.commits();
-        let at = number.0 as usize - 1;
-        self.books[at] = self.books[at].after(&run);
-        self.events += 1;
-        pass.count_run(&run);
-        run.last
+        let begin = Event::Begin(pass.number(), request);
+        self.event(alloc, pass, &begin)
     }
 
     // Begins a call of a pass and makes a run of it: at most `most` events, which are counted together.
@@ -163,7 +144,7 @@ impl Kept {
     }
 
     /// Begins a call of a pass, and makes a run of it: at most `most` events, the begin among them. The request is moved
-    /// into the call, unless the index or the pass keeps a trace.
+    /// into the call, unless `most` is 0 or 1, or the index or the pass keeps a trace.
     ///
     /// # Errors
     ///

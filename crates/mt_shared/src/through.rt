@@ -4,7 +4,7 @@ ghost use Rattle.mt_shared.specs.Kept.{DoesSomewhere};
 ghost use Rattle.mt_shared.specs.Reads.{ReadsSomewhere};
 
 use crate::changing::Changed;
-use crate::driving::{Shared, Started};
+use crate::driving::{Hold, Shared, Started};
 use crate::index::{Door, Index};
 use crate::pass::Pass;
 use mt_types::event::{Answer, Event, Outcome, Request};
@@ -20,8 +20,8 @@ use std::sync::Wait;
 /// and other threads wait longer for the lock. Between two calls of its methods the thread doesn't hold the lock.
 #[derive(Drop)]
 pub struct ThroughDoor<'a, W> {
-    door: Door<'a, W>,
-    most: u64,
+    pub(crate) door: Door<'a, W>,
+    pub(crate) most: u64,
 }
 
 impl<'a, W> ThroughDoor<'a, W> {
@@ -36,6 +36,9 @@ impl<'a, W> ThroughDoor<'a, W> {
 }
 
 impl<'a, W: Wait> Shared for ThroughDoor<'a, W> {
+    /// Does nothing: between two calls of its methods the lock isn't held.
+    fn hold(&mut self, _hold: Hold) {}
+
     // somewhere in the order in which the lock is held it was an event on what lay there
     ghost does = { λ _ p event outcome _ q. DoesSomewhere p event outcome q };
 

@@ -17,17 +17,17 @@ use std::alloc::Global;
 use std::sync::Wait;
 use std::test::Fail;
 
-fn key() -> Bytes {
+pub(crate) fn key() -> Bytes {
     Bytes::from_static(b"apple")
 }
 
-fn sets(alloc: Global) -> Result<Sets, Refusal> {
+pub(crate) fn sets(alloc: Global) -> Result<Sets, Refusal> {
     let set = (0, Bytes::from_static(b"red"));
     Ok(Items::from_vec(Vec::from_array(alloc, [set])?))
 }
 
 // The number that an answer has: of a commit, of a view, or how many rows there are.
-fn number(reply: Result<Reply, Refusal>) -> Result<u64, Refusal> {
+pub(crate) fn number(reply: Result<Reply, Refusal>) -> Result<u64, Refusal> {
     Ok(match reply?.answer {
         Answer::Stored(number) | Answer::Removed(number) => number,
         Answer::Built(view) => view.0,
@@ -54,7 +54,7 @@ fn calls_of_a_caller(rt: HostRuntime) -> Result<(), Fail> {
 }
 
 // A view of all rows that begin with a.
-fn view_of() -> ViewSpec {
+pub(crate) fn view_of() -> ViewSpec {
     let key = Bytes::from_static(b"a");
     let test = RowTest::Any;
     ViewSpec::Prefix { key, test }

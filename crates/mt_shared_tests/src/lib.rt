@@ -5,6 +5,8 @@
 #[cfg(test)]
 mod callers;
 #[cfg(test)]
+mod holding;
+#[cfg(test)]
 mod machines;
 #[cfg(test)]
 mod passes;

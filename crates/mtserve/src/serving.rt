@@ -4,10 +4,10 @@ use crate::command_line::Settings;
 use mt_serve::frames::Frames;
 use mt_serve::session::session;
 use mt_shared::driving::Shared;
+use mt_shared::holding::HoldingDoor;
 use mt_shared::index::Index;
 use mt_shared::pass::Pass;
 use mt_shared::settling::Totals;
-use mt_shared::through::ThroughDoor;
 use mt_streams::sink::Sink;
 use mt_types::event::Event;
 use mt_types::refusal::Refusal;
@@ -55,7 +55,7 @@ fn serve<R: Wait + Eprint>(
 ) -> io::Result<()> {
     // (a reply goes out in one write, and is not to wait for more)
     let _ = stream.set_nodelay(true);
-    let mut door = ThroughDoor::new(index, rt, EVENTS);
+    let mut door = HoldingDoor::new(index, rt, EVENTS);
     let mut frames = Frames::new(alloc, stream);
     let mut writer = Sink::new(stream);
     if let Err(fault) = session(alloc, &mut frames, &mut writer, &mut door, pass) {

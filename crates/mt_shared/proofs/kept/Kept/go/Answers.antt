@@ -1,13 +1,16 @@
-use Rattle.std.proofs.Common.{arith, refl, sym, subst, ◌≡◌, ◌≤◌, ◌⊎◌, ◌||◌, ◌-◌, ◌+◌, eqb, set, true}
+use Rattle.std.proofs.Common.{ℕ, arith, refl, sym, subst, ◌≡◌, ◌≤◌, ◌⊎◌, ◌||◌, ◌+◌, eqb, true}
 use Rattle.mt_types.specs.Numbers.{greatest_number}
 use Rattle.mt_shared.specs.Passes.{PassView}
 use Rattle.mt_types.specs.declared.event.Event.TheVariants.{Step}
+use Rattle.mt_types.specs.declared.event.Outcome.{Outcome}
+use Rattle.mt_types.specs.declared.numbers.PassNo.{PassNo}
+use Rattle.mt_index.specs.Events.{GoesOnAtOnce}
 use Rattle.mt_index.proofs.MakesLemmas.{run_commits}
 use Rattle.mt_shared.specs.Drives.{HasGone}
-use Rattle.mt_shared.specs.Kept.{KeptView, IsKept, Does}
-use Rattle.mt_shared.proofs.KeptLemmas.{in_books, book_bounds}
+use Rattle.mt_shared.specs.Kept.{KeptView, IsKept, Does, has_book}
+use Rattle.mt_shared.proofs.KeptLemmas.{has_its_book}
 use Rattle.mt_shared.proofs.ToldLemmas.{does_tell}
-use Rattle.mt_shared.proofs.RunLemmas.{goes_once, gone_keep, run_newest, runs_fully, runs_own, told_events}
+use Rattle.mt_shared.proofs.RunLemmas.{book_fits, gone_as_counted, gone_keep, goes_once, run_newest, runs_fully, told_events}
 use Rattle.mt_shared.proofs.kept.Kept.go.Goals as goal
 
 pub returns-then-is_traced-clause-goes : goal.returns-then-is_traced-clause-goes
@@ -15,19 +18,29 @@ returns-then-is_traced-clause-goes c =
     goes_once Does c.args.self.now c.args.pass.now c.args.call c.event.result c.event.new.self c.event.new.pass c.event.ensures.does
     (does_tell c.args.self.now c.args.pass.now (Step c.args.call) c.event.result c.event.new.self c.event.new.pass c.event.ensures.kept.0 c.event.ensures.does)
 
-pub after-requires-clause-commits : goal.after-requires-clause-commits
-after-requires-clause-commits c =
+pub count-requires-clause-there : goal.count-requires-clause-there
+count-requires-clause-there c =
     let s : KeptView = record { machine = c.self.inside.machine; events = c.self.inside.events; books = c.self.inside.books.items; trace = c.self.inside.trace } in
     let right = rw (← c.self.view_is) at c.if-is_wrong.ensures in
-    let within = (in_books s c.number-number.result (Step c.args.call) right).0 in
-    let b = (book_bounds s (c.number-number.result.0 - 1) c.index.result.now c.self.invariant within c.index.ensures).1 in
+    subst (λ (m : PassNo). has_book m s.books ≡ true) c.number-number.ensures (has_its_book s c.number-number.result (Step c.args.call) right)
+
+pub count-requires-clause-book : goal.count-requires-clause-book
+count-requires-clause-book c = λ book at.
+    let s : KeptView = record { machine = c.self.inside.machine; events = c.self.inside.events; books = c.self.inside.books.items; trace = c.self.inside.trace } in
+    let fits = book_fits s c.args.pass.now c.self.inside.books.items book c.self.invariant (count-requires-clause-there c) refl at in
+    let events = fits.0 in
+    let commits = fits.1 in
+    let here = rw (← c.self.view_is) at c.room-room.ensures.here in
+    let most = c.go-run.ensures.most in
+    let least = c.min.ensures in
+    let some = c.if-room-eq0.false in
     let then = run_newest c.self.inside.machine c.go-run.new.self c.args.call c.go-run.result (c.self.invariant.stands.0, c.self.invariant.stands.1) c.go-run.ensures.goes in
     let read = c.commits-commits.ensures.number in
-    let fits = c.commits-commits.type_inv in
-    omega (arith, b, then, read, fits)
+    let number = c.commits-commits.type_inv in
+    (omega (arith, events, here, most, least, some), omega (arith, commits, number, then, read))
 
-pub count_run-requires-clause-commits : goal.count_run-requires-clause-commits
-count_run-requires-clause-commits c = run_commits c.self.inside.machine c.args.call c.go-run.result c.go-run.new.self c.go-run.ensures.goes
+pub count-requires-clause-commits : goal.count-requires-clause-commits
+count-requires-clause-commits c = run_commits c.self.inside.machine c.args.call c.go-run.result c.go-run.new.self c.go-run.ensures.goes
 
 pub returns-clause-goes : goal.returns-clause-goes
 returns-clause-goes c =
@@ -38,13 +51,15 @@ returns-clause-goes c =
     let there = c.room-room.ensures.there in
     let most = c.go-run.ensures.most in
     let some = c.if-room-eq0.false in
-    subst (λ (k : KeptView). HasGone Does k c.args.pass.now c.args.call c.go-run.result.last (record { machine = c.go-run.new.self; events = c.self.inside.events + c.go-run.result.steps; books = set c.self.inside.books.items (c.number-number.result.0 - 1) c.after.result; trace = c.self.inside.trace }) c.count_run.new.self) c.self.view_is
-    (runs_own s c.args.pass.now c.args.call c.go-run.result c.go-run.new.self c.after.result c.index.result.now c.count_run.new.self c.self.invariant off (omega (arith, here, most, some)) (omega (arith, there, most, some)) c.go-run.ensures.goes c.after.ensures c.count_run.ensures
-    c.number-number.result c.number-number.ensures right c.index.ensures)
+    let book = c.count.ensures.books in
+    subst (λ (o : Outcome). HasGone Does c.args.self.now c.args.pass.now c.args.call o (record { machine = c.go-run.new.self; events = c.count.new.events; books = c.count.new.books.items; trace = c.self.inside.trace }) c.count.new.pass) (sym c.count.ensures.last)
+    (subst (λ (k : KeptView). HasGone Does k c.args.pass.now c.args.call c.go-run.result.last (record { machine = c.go-run.new.self; events = c.count.new.events; books = c.count.new.books.items; trace = c.self.inside.trace }) c.count.new.pass) c.self.view_is
+    (gone_as_counted s c.args.pass.now c.count.new.pass c.args.call c.go-run.result c.go-run.new.self book.0 c.count.new.books.items c.count.new.events c.number-number.result c.self.invariant off c.number-number.ensures right
+    book.1 (omega (arith, here, most, some)) (omega (arith, there, most, some)) c.go-run.ensures.goes book.2 c.count.ensures.events c.count.ensures.pass))
 
 pub invariant_of-self : goal.invariant_of-self
 invariant_of-self c =
-    gone_keep c.args.self.now c.args.pass.now c.args.call c.go-run.result.last _ c.count_run.new.self
+    gone_keep c.args.self.now c.args.pass.now c.args.call c.count.result _ c.count.new.pass
     (subst IsKept c.self.view_is c.self.invariant) (returns-clause-goes c)
 
 pub returns-clause-kept : goal.returns-clause-kept
@@ -59,5 +74,7 @@ returns-then-is_traced-clause-most c =
 pub returns-clause-fully : goal.returns-clause-fully
 returns-clause-fully c = λ off own on.
     let greatest = rw (← c.self.view_is) at c.room-room.ensures.greatest in
-    subst (λ (q : PassView). (c.args.pass.now.events + c.args.most ≤ q.events) ⊎ ((eqb (c.self.inside.events + c.go-run.result.steps) greatest_number || eqb q.events greatest_number) ≡ true)) (sym c.count_run.ensures)
-    (runs_fully c.self.inside.events c.args.pass.now.events c.args.most c.room-room.result c.min.result c.go-run.result.steps c.min.ensures c.if-room-eq0.false (λ less. c.go-run.ensures.ends less on) c.go-run.ensures.most greatest)
+    let still = subst GoesOnAtOnce c.count.ensures.last on in
+    subst (λ (n : ℕ). (c.args.pass.now.events + c.args.most ≤ c.count.new.pass.events) ⊎ ((eqb n greatest_number || eqb c.count.new.pass.events greatest_number) ≡ true)) (sym c.count.ensures.events)
+    (subst (λ (q : PassView). (c.args.pass.now.events + c.args.most ≤ q.events) ⊎ ((eqb (c.self.inside.events + c.go-run.result.steps) greatest_number || eqb q.events greatest_number) ≡ true)) (sym c.count.ensures.pass)
+    (runs_fully c.self.inside.events c.args.pass.now.events c.args.most c.room-room.result c.min.result c.go-run.result.steps c.min.ensures c.if-room-eq0.false (λ less. c.go-run.ensures.ends less still) c.go-run.ensures.most greatest))

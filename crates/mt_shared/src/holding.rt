@@ -1,0 +1,128 @@
+//! A door that may keep the lock between calls, for a list of calls that one thread makes one after the other.
+
+ghost use Rattle.mt_shared.specs.Kept.{DoesSomewhere};
+ghost use Rattle.mt_shared.specs.Reads.{ReadsSomewhere};
+
+use crate::changing::Changed;
+use crate::driving::{Hold, Shared, Started};
+use crate::index::Index;
+use crate::kept::Kept;
+use crate::pass::Pass;
+use crate::through::ThroughDoor;
+use mt_types::event::{Answer, Event, Outcome, Request};
+use mt_types::numbers::{CallNo, PassNo};
+use mt_types::refusal::Refusal;
+use std::alloc::Global;
+use std::marker::Model;
+use std::sync::{RwLockReadGuard, RwLockWriteGuard, Wait};
+
+/// The access of one thread to an index, for lists of calls. It is a `ThroughDoor` that may keep the lock: after
+/// `hold(Hold::Reads)` gets and ranges at once are read in one holding, and after `hold(Hold::Changes)` changes, and the
+/// turns of views after them, are made in one. Any other call releases the lock first, and so does a change that has to
+/// wait for another call.
+///
+/// While the lock is kept, other threads wait. So a caller keeps it for a list of short calls, and then calls
+/// `hold(Hold::Nothing)`. Before that its thread must not wait for another thread, or use another door of the index.
+#[derive(Drop)]
+pub struct HoldingDoor<'a, W> {
+    door: ThroughDoor<'a, W>,
+    held: Held<'a>,
+}
+
+// How the lock is kept between two calls.
+#[derive(Drop)]
+enum Held<'a> {
+    Nothing,
+    Reads(RwLockReadGuard<'a, Kept>),
+    Changes(RwLockWriteGuard<'a, Kept>),
+}
+
+// (how the lock is kept is no part of what contracts see)
+impl<'a, W> Model for HoldingDoor<'a, W> {
+    ghost use Rattle.mt_shared.specs.declared.through.ThroughDoor.{ThroughDoor};
+
+    ghost Value = { ThroughDoor W };
+
+    ghost view = { λ h. h.door };
+}
+
+impl<'a, W> HoldingDoor<'a, W> {
+    /// Returns a door to `index` that keeps no lock yet. It makes at most `most` events of a call one after the other, as
+    /// `ThroughDoor::new` says. `wait` is the permission to wait for the lock.
+    pub fn new(index: &'a Index, wait: &'a W, most: u32) -> HoldingDoor<'a, W> {
+        HoldingDoor {
+            door: ThroughDoor::new(index, wait, most),
+            held: Held::Nothing,
+        }
+    }
+}
+
+impl<'a, W: Wait> Shared for HoldingDoor<'a, W> {
+    /// Takes the lock for reads or for changes, unless it is kept so already. After `Nothing` it isn't held.
+    fn hold(&mut self, hold: Hold) {
+        match (&self.held, hold) {
+            (Held::Reads(_), Hold::Reads) | (Held::Changes(_), Hold::Changes) => return,
+            _ => {}
+        }
+        self.held = Held::Nothing;
+        let index = self.door.door.index;
+        let wait = self.door.door.wait;
+        self.held = match hold {
+            Hold::Nothing => Held::Nothing,
+            Hold::Reads => Held::Reads(index.kept.read(wait)),
+            Hold::Changes => Held::Changes(index.kept.write(wait)),
+        };
+    }
+
+    // somewhere in the order in which the lock is held it was an event on what lay there
+    ghost does = { λ _ p event outcome _ q. DoesSomewhere p event outcome q };
+
+    /// Releases the lock, and does what `ThroughDoor::event` does.
+    fn event(&mut self, alloc: Global, pass: &mut Pass, event: &Event) -> Outcome {
+        self.held = Held::Nothing;
+        self.door.event(alloc, pass, event)
+    }
+
+    /// Releases the lock, and does what `ThroughDoor::begin` does.
+    fn begin(&mut self, alloc: Global, pass: &mut Pass, request: Request) -> Started {
+        self.held = Held::Nothing;
+        self.door.begin(alloc, pass, request)
+    }
+
+    /// Makes one `Kept::change`, if the lock is kept for changes; otherwise releases it, and does what
+    /// `ThroughDoor::change` does.
+    fn change(&mut self, alloc: Global, pass: &mut Pass, request: Request, turns: u64) -> Changed {
+        if let Held::Changes(kept) = &mut self.held {
+            let changed = kept.change(alloc, pass, request, self.door.most, turns);
+            if matches!(changed, Changed::Started(Started::Ran(_, Outcome::Again))) {
+                self.held = Held::Nothing;
+            }
+            return changed;
+        }
+        self.held = Held::Nothing;
+        self.door.change(alloc, pass, request, turns)
+    }
+
+    /// Releases the lock, and does what `ThroughDoor::go` does.
+    fn go(&mut self, alloc: Global, pass: &mut Pass, call: CallNo) -> Outcome {
+        self.held = Held::Nothing;
+        self.door.go(alloc, pass, call)
+    }
+
+    // somewhere in the order in which the lock is held it was read of what lay there
+    ghost shows = { λ _ pass request result. ReadsSomewhere pass request result };
+
+    /// Makes one `Kept::read`, if the lock is kept; otherwise does what `ThroughDoor::read` does.
+    fn read(
+        &self,
+        alloc: Global,
+        pass: PassNo,
+        request: &Request,
+    ) -> Option<Result<(u64, Answer), Refusal>> {
+        match &self.held {
+            Held::Nothing => self.door.read(alloc, pass, request),
+            Held::Reads(kept) => kept.read(alloc, pass, request),
+            Held::Changes(kept) => kept.read(alloc, pass, request),
+        }
+    }
+}

@@ -1,0 +1,127 @@
+//! A door that keeps the lock between calls: every call still ends, and no commit comes in between.
+
+use crate::callers::{key, number, sets, view_of};
+use bytes::Bytes;
+use mt_index::options::Options;
+use mt_shared::asking::ask;
+use mt_shared::changing::drive_and_keep;
+use mt_shared::driving::{Hold, Shared};
+use mt_shared::holding::HoldingDoor;
+use mt_shared::index::Index;
+use mt_shared::pass::Pass;
+use mt_shared::views::{keep_views, view_read};
+use mt_types::event::Request;
+use mt_types::items::Items;
+use mt_types::numbers::ViewNo;
+use mt_types::refusal::Refusal;
+use std::alloc::Global;
+use std::sync::Wait;
+use std::test::Fail;
+use std::thread;
+use std::thread::Threads;
+
+// How many lists of puts a thread makes, and how many puts a list has.
+const LISTS: u64 = 100;
+
+const PUTS: u64 = 8;
+
+// Puts the row, and returns the number of the commit.
+fn put<S: Shared>(alloc: Global, door: &mut S, pass: &mut Pass) -> Result<u64, Refusal> {
+    let (key, sets) = (key(), sets(alloc)?);
+    number(drive_and_keep(alloc, door, pass, Request::Put { key, sets }, 64))
+}
+
+// Gets the row, and returns its version.
+fn get<S: Shared>(alloc: Global, door: &mut S, pass: &mut Pass) -> Result<u64, Refusal> {
+    let (key, columns) = (key(), Items::new(alloc));
+    number(ask(alloc, door, pass, Request::Get { key, columns }))
+}
+
+// Builds a view of the row, and returns its number.
+fn build<S: Shared>(alloc: Global, door: &mut S, pass: &mut Pass) -> Result<u64, Refusal> {
+    let spec = view_of();
+    number(drive_and_keep(alloc, door, pass, Request::Build { spec }, 64))
+}
+
+// Each call after each way to keep the lock.
+fn mix<S: Shared>(alloc: Global, door: &mut S, pass: &mut Pass) -> Result<[u64; 6], Refusal> {
+    door.hold(Hold::Changes);
+    let first = put(alloc, door, pass)?;
+    let read = get(alloc, door, pass)?;
+    let second = put(alloc, door, pass)?;
+    door.hold(Hold::Reads);
+    let again = get(alloc, door, pass)?;
+    let third = put(alloc, door, pass)?;
+    door.hold(Hold::Reads);
+    let view = build(alloc, door, pass)?;
+    Ok([first, read, second, again, third, view])
+}
+
+#[test]
+fn a_kept_lock_serves_every_call(rt: HostRuntime) -> Result<(), Fail> {
+    let alloc = rt.alloc();
+    let (index, mut passes) = Index::start(alloc, Options::default(), 1)?;
+    let mut pass = passes.pop().ok_or("pass")?;
+    let mut door = HoldingDoor::new(&index, &rt, 64);
+    assert_eq!(rt; mix(alloc, &mut door, &mut pass), Ok([1, 1, 2, 2, 3, 1]));
+    door.hold(Hold::Changes);
+    assert_eq!(rt; put(alloc, &mut door, &mut pass), Ok(4));
+    door.hold(Hold::Changes);
+    assert_eq!(rt; keep_views(alloc, &mut door, &mut pass, 64), Ok(0));
+    door.hold(Hold::Reads);
+    let page = view_read(alloc, &mut door, &mut pass, ViewNo(1), 4, Bytes::new(), 10)?;
+    assert_eq!(rt; (page.at, page.count), (4, 1));
+    door.hold(Hold::Nothing);
+    drop(door);
+    passes.push(pass)?;
+    assert_eq!(rt; index.close(passes)?.commits, 4);
+    Ok(())
+}
+
+// Makes a list of puts while the lock is kept, and gets the row. Returns whether no other commit came in between.
+fn put_list<S: Shared>(alloc: Global, door: &mut S, pass: &mut Pass) -> Result<bool, Refusal> {
+    door.hold(Hold::Changes);
+    let first = put(alloc, door, pass)?;
+    let mut last = first;
+    for _ in 1..PUTS {
+        last = put(alloc, door, pass)?;
+    }
+    let read = get(alloc, door, pass)?;
+    door.hold(Hold::Nothing);
+    Ok(last == first.wrapping_add(PUTS - 1) && read == last)
+}
+
+// Makes lists of puts. Returns the pass, and in how many of them no other commit came in between.
+fn work<W: Wait>(rt: &W, alloc: Global, index: &Index, mut pass: Pass) -> (Pass, u64) {
+    let mut door = HoldingDoor::new(index, rt, 64);
+    let mut whole = 0;
+    for _ in 0..LISTS {
+        if let Ok(true) = put_list(alloc, &mut door, &mut pass) {
+            whole += 1;
+        }
+    }
+    drop(door);
+    (pass, whole)
+}
+
+fn work_together<R: Wait + Threads + Sync>(
+    rt: &R,
+    alloc: Global,
+    index: &Index,
+    passes: Vec<Pass>,
+) -> Result<Vec<(Pass, u64)>, Fail> {
+    Ok(thread::map_vec(rt, passes, &|pass| { work(rt, alloc, index, pass) })?)
+}
+
+#[test]
+fn no_commit_comes_between_those_of_a_list(rt: HostRuntime) -> Result<(), Fail> {
+    let alloc = rt.alloc();
+    let (index, passes) = Index::start(alloc, Options::default(), 3)?;
+    let mut back = Vec::new(alloc);
+    for (pass, whole) in work_together(&rt, alloc, &index, passes)? {
+        assert_eq!(rt; whole, LISTS);
+        back.push(pass)?;
+    }
+    assert_eq!(rt; index.close(back)?.commits, 3 * LISTS * PUTS);
+    Ok(())
+}
