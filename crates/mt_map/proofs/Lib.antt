@@ -1,3 +1,4 @@
 -- The lemmas of this crate.
 pub mod MapLemmas
 pub mod WalkLemmas
+pub mod Ranges

@@ -3,6 +3,7 @@
 ghost use Rattle.std.specs.Prelude.{◌≡◌, IfOk, false};
 ghost use Rattle.std.specs.Option.{option_copied};
 ghost use Rattle.mt_promise.specs.History.{History, moment, rows};
+ghost use Rattle.mt_index.specs.Alone.{IsIdle};
 ghost use Rattle.mt_index.specs.Stands.{Stands};
 ghost use Rattle.mt_map.specs.Walks.{GivesNext};
 
@@ -13,10 +14,12 @@ use mt_types::key::Key;
 use mt_types::refusal::NoMemory;
 use mt_types::row::Row;
 use mt_walk::Walk;
+use std::alloc::Global;
 use std::marker::Model;
 
-/// A walk over the rows of a map, from a key on, in the order of their keys. It borrows the map, and each row is
-/// borrowed from it. Contracts see it as the machine and the key at which it is.
+/// A walk over the rows of a map, or of a machine on which no call is open, from a key on, in the order of their keys.
+/// It borrows the map or the machine, and each row is borrowed from it. Contracts see it as the machine and the key at
+/// which it is.
 #[derive(Drop)]
 pub struct Rows<'m> {
     machine: &'m Machine,
@@ -41,10 +44,7 @@ impl<'m> Model for Rows<'m> {
 }
 
 impl Map {
-    /// Returns a walk that is before the first row whose key is `start` or after it.
-    ///
-    /// Costs the visit of each node on the way to the key. Allocates for a copy of the key, and for the walk's path if
-    /// the key is in a layer below the first.
+    /// Returns a walk that is before the first row whose key is `start` or after it. Does what [`Rows::of`] does.
     ///
     /// # Errors
     ///
@@ -53,18 +53,35 @@ impl Map {
         ensures machine { IfOk result (λ walk. walk.machine ≡ self.now) }
         ensures start { IfOk result (λ walk. walk.at ≡ record { key = start.now; given = false }) }
     {
-        let _stands = self.machine.is_idle();
-        let _bytes = key_bytes(start);
-        let walk = Walk::new(self.alloc, self.machine.tree(), start)?;
-        Ok(Rows {
-            machine: &self.machine,
-            walk,
-            failed: false,
-        })
+        Rows::of(self.alloc, &self.machine, start)
     }
 }
 
 impl<'m> Rows<'m> {
+    /// Returns a walk over a machine on which no call is open. It is before the first row whose key is `start` or after
+    /// it.
+    ///
+    /// Costs the visit of each node on the way to the key. Allocates for a copy of the key, and for the walk's path if
+    /// the key is in a layer below the first.
+    ///
+    /// # Errors
+    ///
+    /// `NoMemory` if an allocation is refused.
+    pub fn of(alloc: Global, machine: &'m Machine, start: &Key) -> Result<Rows<'m>, NoMemory>
+        requires { IsIdle machine.now }
+        ensures machine { IfOk result (λ walk. walk.machine ≡ machine.now) }
+        ensures start { IfOk result (λ walk. walk.at ≡ record { key = start.now; given = false }) }
+    {
+        let _stands = machine.is_idle();
+        let _bytes = key_bytes(start);
+        let walk = Walk::new(alloc, machine.tree(), start)?;
+        Ok(Rows {
+            machine,
+            walk,
+            failed: false,
+        })
+    }
+
     /// Returns the row of the next key, which [`Rows::key`] then returns, or `None` after the last.
     ///
     /// Costs the visit of a border or two, in turn, and the bytes of the key. Allocates only for a longer key and for

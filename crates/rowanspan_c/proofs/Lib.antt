@@ -4,4 +4,5 @@ pub mod Written
 pub mod Placed
 pub mod Crosses
 pub mod RowRead
+pub mod Ranged
 pub mod CallLemmas

@@ -10,6 +10,7 @@ mod handing;
 mod handle;
 mod limiting;
 mod placing;
+mod ranging;
 mod reading;
 mod spelling;
 pub mod status;

@@ -8,11 +8,11 @@ ghost use Rattle.rowanspan_c.specs.Placed.{Writes};
 
 use mt_types::row::{Column, Row};
 
-// How many bytes a number has.
-const NUMBER_BYTES: usize = 8;
+/// How many bytes a number has.
+pub(crate) const NUMBER_BYTES: usize = 8;
 
-// How many columns are shown.
-fn count(columns: &[Column], asked: &[u8]) -> usize
+/// Returns how many columns are shown.
+pub(crate) fn count(columns: &[Column], asked: &[u8]) -> usize
     ensures { result ≡ length (chosen asked.now columns.now) }
 {
     if asked.is_empty() {
@@ -22,8 +22,8 @@ fn count(columns: &[Column], asked: &[u8]) -> usize
     }
 }
 
-// The bytes of one of the columns that are shown.
-fn column<'a>(columns: &'a [Column], asked: &[u8], place: usize) -> &'a [u8]
+/// Returns the bytes of one of the columns that are shown.
+pub(crate) fn column<'a>(columns: &'a [Column], asked: &[u8], place: usize) -> &'a [u8]
     requires { place < length (chosen asked.now columns.now) }
     ensures { result.now ≡ slice_index_or (chosen asked.now columns.now) place [] }
 {

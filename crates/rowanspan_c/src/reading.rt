@@ -1,6 +1,6 @@
 //! Questions to an index that change nothing, answered in bytes. Limits are checked before bytes are copied.
 
-ghost use Rattle.std.specs.Prelude.{◌≡◌, ℕ, List, Option, Result, MatchResult, OnOk, IfOk, None, []};
+ghost use Rattle.std.specs.Prelude.{◌≡◌, ℕ, List, Option, Result, MatchResult, OnOk, None, []};
 ghost use Rattle.mt_types.specs.Limits.{key_fault, request_fault};
 ghost use Rattle.mt_types.specs.declared.event.Request.TheVariants.{Get};
 ghost use Rattle.mt_types.specs.declared.event.Outcome.TheVariants.{View};
@@ -11,6 +11,7 @@ ghost use Rattle.rowanspan_c.specs.Told.{TellsRead};
 
 use crate::handing::{tell_absent, tell_refusal, tell_row};
 use crate::limiting::{get_fault, range_fault};
+use crate::ranging::range_bytes;
 use crate::spelling::{bytes_of, list_bytes_of};
 use bytes::Bytes;
 use mt_index::machine::Machine;
@@ -18,8 +19,7 @@ use mt_types::items::Items;
 use mt_types::key::Key;
 use mt_types::limits::page_fault;
 use mt_types::numbers::ViewNo;
-use mt_types::refusal::{NoMemory, Refusal};
-use mt_types::row::ColumnNumbers;
+use mt_types::refusal::Refusal;
 use mt_types::view::Page;
 use std::alloc::Global;
 
@@ -53,14 +53,6 @@ fn key_of(alloc: Global, bytes: &[u8]) -> Result<Key, Refusal>
     ensures { MatchResult result (λ key. key ≡ bytes.now) (λ refusal. refusal ≡ Refusal.NoMemory) }
 {
     Key::new(Bytes::copy_from_slice(alloc, bytes)?)
-}
-
-fn numbers_of(alloc: Global, columns: &[u8]) -> Result<ColumnNumbers, NoMemory>
-    ensures { IfOk result (λ numbers. numbers ≡ columns.now) }
-{
-    let mut numbers = Vec::new(alloc);
-    numbers.extend_from_slice(columns)?;
-    Ok(Items::from_vec(numbers))
 }
 
 // Reports the row of a key, copied into the buffer, with the columns that are asked for, or with all if none is asked for.
@@ -113,9 +105,7 @@ fn rows(
         return Err(refusal);
     }
     let start = key_of(alloc, start)?;
-    let columns = numbers_of(alloc, columns)?;
-    let pairs = index.range(alloc, start, limit, columns)?;
-    let bytes = list_bytes_of(alloc, pairs.as_slice())?;
+    let bytes = range_bytes(alloc, index, &start, limit, columns)?;
     Ok(Some(bytes))
 }
 

@@ -19,13 +19,15 @@ pub(crate) trait Spelled {
         ensures { OnOk result (out.new.items ≡ out.old.items ++ spelling self.now) };
 }
 
-fn number(out: &mut Vec<u8>, number: u64) -> Result<(), AllocError>
+/// Writes a number.
+pub(crate) fn number(out: &mut Vec<u8>, number: u64) -> Result<(), AllocError>
     ensures { OnOk result (out.new.items ≡ out.old.items ++ number_spelling number) }
 {
     out.extend_from_slice(&number.to_be_bytes())
 }
 
-fn bytes(out: &mut Vec<u8>, bytes: &[u8]) -> Result<(), AllocError>
+/// Writes bytes, with how many there are before them.
+pub(crate) fn bytes(out: &mut Vec<u8>, bytes: &[u8]) -> Result<(), AllocError>
     ensures { OnOk result (out.new.items ≡ out.old.items ++ bytes_spelling bytes.now) }
 {
     number(out, bytes.len() as u64)?;

@@ -1,5 +1,5 @@
 use Rattle.mt_map.proofs.WalkLemmas.{starts_at}
-use Rattle.mt_map.proofs.map.Map.walk.Goals as goal
+use Rattle.mt_map.proofs.walk.Rows.of.Goals as goal
 
 pub returns-clause-start : goal.returns-clause-start
 returns-clause-start c =

@@ -1,0 +1,15 @@
+use Rattle.std.proofs.Common.{◌≡◌, ℕ, List, ◌++◌, OnOk, subst}
+use Rattle.mt_types.specs.Rows.{chosen}
+use Rattle.rowanspan_c.specs.Spelling.{number_spelling, bytes_spelling, list_spelling}
+use Rattle.rowanspan_c.proofs.Written.{last_written}
+use Rattle.rowanspan_c.proofs.ranging.pair.Goals as goal
+
+pub returns : goal.returns
+returns c =
+    let old = c.args.out.now.items in let new = c.columns.new.out.items in
+    let key = bytes_spelling c.args.key.now in let version = number_spelling c.args.row.now.version in
+    let columns = list_spelling bytes_spelling (chosen c.args.asked.now c.as_slice.result.now) in
+    let after_key = last_written c.columns.result c.bytes.new.out.items c.number.new.out.items new version columns c.in_ok-number.ensures c.columns.ensures in
+    subst (λ (columns : List (List ℕ)). OnOk c.columns.result (new ≡ old ++ (key ++ (version ++ list_spelling bytes_spelling (chosen c.args.asked.now columns)))))
+    c.as_slice.ensures
+    (last_written c.columns.result old c.bytes.new.out.items new key (version ++ columns) c.in_ok-bytes.ensures after_key)

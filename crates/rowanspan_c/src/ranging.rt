@@ -1,0 +1,103 @@
+//! The rows of a range, each spelled from the row that the index lends. Nothing is allocated for a row.
+
+ghost use Rattle.std.specs.Prelude.{◌≡◌, ◌≤◌, ◌++◌, ℕ, List, OnOk, IfOk, length, drop};
+ghost use Rattle.std.specs.List.{flat_map};
+ghost use Rattle.mt_types.specs.Rows.{chosen, shown};
+ghost use Rattle.mt_types.specs.declared.row.Row.{Row as RowValue};
+ghost use Rattle.mt_index.specs.Alone.{IsIdle};
+ghost use Rattle.rowanspan_c.specs.Questions.{ArePlainRows};
+ghost use Rattle.rowanspan_c.specs.Spelling.{number_spelling, bytes_spelling, list_spelling, row_spelling, pair_spelling, pairs_spelling};
+
+use crate::placing::{NUMBER_BYTES, column, count};
+use crate::spelling::{bytes, number};
+use mt_index::machine::Machine;
+use mt_map::walk::Rows;
+use mt_types::items::Items;
+use mt_types::key::Key;
+use mt_types::refusal::NoMemory;
+use mt_types::row::{Column, Row};
+use std::alloc::{AllocError, Global};
+
+// Writes the columns that are shown, with how many there are before them.
+fn columns(out: &mut Vec<u8>, columns: &[Column], asked: &[u8]) -> Result<(), AllocError>
+    ensures { OnOk result (out.new.items
+        ≡ out.old.items ++ list_spelling bytes_spelling (chosen asked.now columns.now)) }
+{
+    let count = count(columns, asked);
+    number(out, count as u64)?;
+    for place in 0..count {
+        bytes(out, column(columns, asked, place))?;
+    }
+    Ok(())
+}
+
+// Writes a key, and its row with the columns that are asked for.
+fn pair(out: &mut Vec<u8>, key: &[u8], row: &Row, asked: &[u8]) -> Result<(), AllocError>
+    ensures { OnOk result (out.new.items
+        ≡ out.old.items ++ (bytes_spelling key.now ++ row_spelling (shown asked.now row.now))) }
+{
+    bytes(out, key)?;
+    number(out, row.version)?;
+    columns(out, row.columns.as_slice(), asked)
+}
+
+// Writes the first rows whose keys are at or after `start`, at most `limit`, and returns how many there are.
+fn pairs(
+    alloc: Global,
+    index: &Machine,
+    start: &Key,
+    limit: u16,
+    asked: &[u8],
+    out: &mut Vec<u8>,
+) -> Result<u16, NoMemory>
+    requires { IsIdle index.now }
+    ensures { IfOk result (λ many. (pairs : List (List ℕ × RowValue))
+        × ArePlainRows index.now start.now limit asked.now pairs × (length pairs ≡ many)
+        × (out.new.items ≡ out.old.items ++ flat_map pair_spelling pairs)) }
+{
+    let mut walk = Rows::of(alloc, index, start)?;
+    for many in 0..limit {
+        let Some(row) = walk.next()? else {
+            return Ok(many);
+        };
+        pair(out, walk.key(), row, asked)?;
+    }
+    Ok(limit)
+}
+
+// Writes a number over the first bytes.
+fn put_number(out: &mut Vec<u8>, number: u64)
+    requires { NUMBER_BYTES ≤ length out.old.items }
+    ensures { out.new.items ≡ number_spelling number ++ drop NUMBER_BYTES out.old.items }
+{
+    let (front, _rest) = out.as_mut_slice().split_at_mut(NUMBER_BYTES);
+    front.copy_from_slice(&number.to_be_bytes());
+}
+
+/// Returns the bytes of the first rows whose keys are at or after `start`, at most `limit`, with the columns that are
+/// asked for, or with all if none is asked for.
+///
+/// Costs the visit of the nodes on the way to `start`, and of each border from there on. Allocates for the walk, and
+/// for the bytes, whose room doubles when it is full.
+///
+/// # Errors
+///
+/// `NoMemory` if an allocation is refused.
+pub(crate) fn range_bytes(
+    alloc: Global,
+    index: &Machine,
+    start: &Key,
+    limit: u16,
+    asked: &[u8],
+) -> Result<Items<u8>, NoMemory>
+    requires { IsIdle index.now }
+    ensures { IfOk result (λ bytes. (pairs : List (List ℕ × RowValue))
+        × ArePlainRows index.now start.now limit asked.now pairs × (bytes ≡ pairs_spelling pairs)) }
+{
+    let mut out = Vec::new(alloc);
+    // How many rows there are is known at their end.
+    number(&mut out, 0)?;
+    let many = pairs(alloc, index, start, limit, asked, &mut out)?;
+    put_number(&mut out, u64::from(many));
+    Ok(Items::from_vec(out))
+}
