@@ -1,12 +1,15 @@
 //! Lists: vectors that a contract sees as the lists of their items, and that can be compared.
 
-ghost use Rattle.std.specs.Prelude.{◌≡◌, [], IfOk};
+ghost use Rattle.std.specs.Prelude.{◌≡◌, ◌==◌, [], length, IfOk};
+ghost use Rattle.std.specs.Slice.Iter.{iter_rest};
 ghost use Rattle.std.specs.Cmp.Lexicographic.{pointwise, lists_per, lists_equiv};
 
 use crate::copying::TryCopy;
 use crate::refusal::NoMemory;
 use std::alloc::Global;
 use std::marker::Model;
+use std::ops::Index;
+use std::slice::Iter;
 
 /// Items in their order. Two lists are equal if their items are equal, whatever the capacity of their vectors.
 #[derive(Debug, Drop)]
@@ -52,6 +55,44 @@ impl<T> Items<T> {
         ensures { result.now ≡ self.now }
     {
         self.items.as_slice()
+    }
+
+    /// Returns the number of items.
+    pub fn len(&self) -> usize
+        ensures { result ≡ length self.now }
+    {
+        self.items.len()
+    }
+
+    /// Returns whether there are no items.
+    pub fn is_empty(&self) -> bool
+        ensures { result ≡ (length self.now == 0) }
+    {
+        self.items.is_empty()
+    }
+
+    /// Returns an iterator over the items in their order.
+    pub fn iter(&self) -> Iter<'_, T>
+        ensures { iter_rest result ≡ self.now }
+    {
+        self.items.iter()
+    }
+}
+
+impl<T> Index<usize> for Items<T> {
+    ghost use Rattle.std.specs.Prelude.{◌≡◌, ◌<◌, length, slice_index_or};
+
+    type Output = T;
+
+    ghost can_index = { λ items i. i < length items };
+
+    ghost index_gives = { λ items i x. x ≡ slice_index_or items i x };
+
+    fn index(&self, index: usize) -> &T
+        requires { index < length self.now }
+        ensures { result.now ≡ slice_index_or self.now index result.now }
+    {
+        &self.items[index]
     }
 }
 

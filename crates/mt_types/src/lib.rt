@@ -10,6 +10,7 @@ pub mod items;
 pub mod key;
 pub mod limits;
 pub mod numbers;
+mod piece;
 pub mod refusal;
 pub mod row;
 pub mod view;

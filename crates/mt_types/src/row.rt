@@ -2,6 +2,7 @@
 
 ghost use Rattle.std.specs.Prelude.{◌≡◌, IfOk};
 
+pub use crate::columns::Columns;
 use crate::copying::TryCopy;
 use crate::items::Items;
 use crate::key::Key;
@@ -11,9 +12,6 @@ use std::alloc::Global;
 
 /// The bytes of one column: in a row at most `MAX_COLUMN_BYTES`.
 pub type Column = Bytes;
-
-/// The columns of a row, in the order of their numbers, which begin at 0.
-pub type Columns = Items<Column>;
 
 /// The numbers of the columns that are asked for, in the order of the answer. An empty list asks for all.
 pub type ColumnNumbers = Items<u8>;
@@ -56,7 +54,7 @@ pub struct Delta {
 }
 
 impl TryCopy for Row {
-    /// Shares the bytes. O(n) in the columns, with one allocation.
+    /// Shares the bytes. Allocates nothing.
     fn copy(&self, alloc: Global) -> Result<Row, NoMemory> {
         Ok(Row {
             version: self.version,
@@ -76,7 +74,7 @@ impl TryCopy for Change {
 }
 
 impl TryCopy for Delta {
-    /// Shares the bytes. O(n) in the columns, with one allocation for each of its rows.
+    /// Shares the bytes.
     fn copy(&self, alloc: Global) -> Result<Delta, NoMemory> {
         Ok(Delta {
             number: self.number,

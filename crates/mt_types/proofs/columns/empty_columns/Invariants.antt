@@ -1,5 +1,0 @@
-use Rattle.std.proofs.Common.{◌≡◌, [], replicate}
-use Rattle.mt_types.proofs.columns.empty_columns.Given as goal
-
-abbrev pub invariant-loop : goal.invariant-loop
-invariant-loop l = l.columns.items ≡ replicate l.counter []
