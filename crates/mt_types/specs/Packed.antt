@@ -1,6 +1,6 @@
 -- The columns of a row in one list of bytes, and back.
-use Rattle.std.specs.Prelude.{ℕ, zero, suc, ◌<◌, ◌^◌, List, [], ◌∷◌, ◌++◌, length, take, drop}
-use Rattle.std.specs.List.{AllByRecursion}
+use Rattle.std.specs.Prelude.{ℕ, zero, suc, ◌<◌, ◌^◌, Bool, ◌&&◌, not, nat_le, nat_lt, List, [], ◌∷◌, ◌++◌, length, take, drop}
+use Rattle.std.specs.List.{AllByRecursion, list_any}
 
 -- columns one after the other: of each its length, and then its bytes
 abbrev pub pieces : List (List ℕ) → List ℕ
@@ -22,6 +22,9 @@ unfoldable pub unpacked : List ℕ → List (List ℕ)
 unpacked [] = []
 unpacked (n ∷ rest) = cut n rest
 
--- how many columns there are, and how many bytes each has, is a byte
+-- whether how many columns there are, and how many bytes each has, is a byte
+abbrev pub are_packable : List (List ℕ) → Bool
+are_packable columns = nat_le (length columns) 255 && not (list_any (λ column. nat_lt 255 (length column)) columns)
+
 abbrev pub ArePackable : List (List ℕ) → Type 0
 ArePackable columns = (length columns < 2 ^ 8) × AllByRecursion (λ column. length column < 2 ^ 8) columns

@@ -1,12 +1,12 @@
 //! The columns of a row in one block of bytes, what a put makes of them, and which of them an answer shows.
 
-ghost use Rattle.std.specs.Prelude.{◌≡◌, ◌<◌, [], length, replicate, slice_get, slice_index_or, nat_eq, IfOk};
+ghost use Rattle.std.specs.Prelude.{◌≡◌, ◌<◌, if◌then◌else◌, Some, None, [], length, replicate, slice_get, slice_index_or, nat_eq, IfOk};
 ghost use Rattle.std.specs.Option.{option_copied};
 ghost use Rattle.mt_types.specs.Rows.{new_columns, chosen, shown};
-ghost use Rattle.mt_types.specs.Packed.{packed, ArePackable};
+ghost use Rattle.mt_types.specs.Packed.{packed, are_packable, ArePackable};
 
 use crate::copying::TryCopy;
-use crate::piece::{MAX_PIECE, new_bytes, push_piece, split_first};
+use crate::piece::{MAX_PIECE, are_packable, new_bytes, push_piece, split_first};
 use crate::refusal::NoMemory;
 use crate::row::{Column, ColumnNumbers, Row};
 use std::alloc::Global;
@@ -35,12 +35,22 @@ impl Model for Columns {
 }
 
 impl Columns {
-    /// Returns the columns with these bytes. O(n) in the bytes, with two allocations.
+    /// Returns the columns with these bytes, or `None` if there are more than 255 of them, or if one of them has more
+    /// than 255 bytes. O(n) in the bytes, with two allocations.
     ///
     /// # Errors
     ///
-    /// `NoMemory` if an allocation is refused, or if there are more than 255 columns or bytes of a column.
-    pub fn pack(alloc: Global, parts: &[Column]) -> Result<Columns, NoMemory>
+    /// `NoMemory` if an allocation is refused.
+    pub fn pack(alloc: Global, parts: &[Column]) -> Result<Option<Columns>, NoMemory>
+        ensures { IfOk result (λ made. made ≡ (if are_packable parts.now then Some parts.now else None)) }
+    {
+        if !are_packable(parts) {
+            return Ok(None);
+        }
+        Ok(Some(Columns::of_parts(alloc, parts)?))
+    }
+
+    fn of_parts(alloc: Global, parts: &[Column]) -> Result<Columns, NoMemory>
         ensures { IfOk result (λ made. made ≡ parts.now) }
     {
         if parts.len() > MAX_PIECE {

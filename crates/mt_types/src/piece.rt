@@ -1,6 +1,8 @@
 //! One column among the bytes of a row: its length, and then its bytes.
 
-ghost use Rattle.std.specs.Prelude.{◌≡◌, ◌<◌, ◌++◌, ◌∷◌, length, take, drop, slice_index, OnOk};
+ghost use Rattle.std.specs.Prelude.{◌≡◌, ◌<◌, ◌++◌, ◌∷◌, length, take, drop, slice_index, nat_lt, OnOk};
+ghost use Rattle.std.specs.List.{list_any};
+ghost use Rattle.mt_types.specs.Packed.{are_packable};
 ghost use Rattle.mt_types.specs.Rows.{new_bytes};
 
 use crate::refusal::NoMemory;
@@ -8,6 +10,24 @@ use crate::row::Column;
 
 /// The most columns of a row, and the most bytes of a column, since each number is one byte.
 pub(crate) const MAX_PIECE: usize = 255;
+
+fn has_long_column(columns: &[Column]) -> bool
+    ensures { result ≡ list_any (λ column. nat_lt 255 (length column)) columns.now }
+{
+    for column in columns {
+        if column.len() > MAX_PIECE {
+            return true;
+        }
+    }
+    false
+}
+
+// Whether the number of columns, and the number of bytes of each, is a byte.
+pub(crate) fn are_packable(columns: &[Column]) -> bool
+    ensures { result ≡ are_packable columns.now }
+{
+    columns.len() <= MAX_PIECE && !has_long_column(columns)
+}
 
 // The first column, and the pieces of the others.
 pub(crate) fn split_first(pieces: &[u8]) -> (&[u8], &[u8])

@@ -1,6 +1,6 @@
 use Rattle.std.proofs.Common.{◌∙◌, arith}
 use Rattle.mt_types.proofs.PackedLemmas.{packed_holds, unpacked_of, parts_end}
-use Rattle.mt_types.proofs.columns.Columns.pack.Goals as goal
+use Rattle.mt_types.proofs.columns.Columns.of_parts.Goals as goal
 
 pub invariant_of-result : goal.invariant_of-result
 invariant_of-result c =
