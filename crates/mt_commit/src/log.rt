@@ -1,6 +1,6 @@
 //! The log of commits: a queue of deltas, the numbers from which it is held, and the room that was reserved.
 
-ghost use Rattle.std.specs.Prelude.{◌≡◌, ◌+◌, ◌-◌, ◌<◌, ◌≤◌, [], length, drop, IfErr, IsErrOf, IsTrue, None, OnOk, OnErr, MatchOption, Contains, ◌↔◌, slice_get};
+ghost use Rattle.std.specs.Prelude.{◌≡◌, ◌+◌, ◌-◌, ◌<◌, ◌≤◌, [], length, drop, IfErr, IsErrOf, None, OnOk, OnErr, MatchOption, Contains, slice_get};
 ghost use Rattle.std.specs.VecDeque.{deque_capacity};
 
 use crate::holders::Holders;
@@ -10,7 +10,7 @@ use std::alloc::Global;
 use std::collections::VecDeque;
 use std::marker::Model;
 
-/// The most holders of a log, each number counted as often as it is held. Guarded by `Log::may_pin`.
+/// The most holders of a log, each number counted as often as it is held. `Log::pin` requires that there are fewer.
 pub const MAX_HOLDERS: u64 = u64::MAX;
 
 /// The deltas of the last commits. Commits are numbered from 1 in the order in which they are appended, and what came
@@ -161,14 +161,6 @@ impl Log {
         ensures numbered { result.now.number ≡ number }
     {
         &self.deltas[(number - self.held_after - 1) as usize]
-    }
-
-    /// Returns whether one more holder can be counted.
-    pub fn may_pin(&self) -> bool
-        ensures value { IsTrue result ↔ (length self.now.holders < MAX_HOLDERS) }
-        ensures sound { IsLog self.now }
-    {
-        self.holder_count < MAX_HOLDERS
     }
 
     /// Holds the log from a number of commits on, once more. On an error nothing changes. O(log n) in the numbers that

@@ -264,13 +264,4 @@ impl Scan {
     {
         Items::from_vec(mem::replace(&mut self.taken, Vec::new(alloc)))
     }
-
-    /// The pairs that it has taken, in the order of their keys. Constant cost.
-    pub fn into_pairs(self) -> Pairs
-        ensures value { result ≡ self.taken }
-        ensures bytes { KeysAreBytes self.taken }
-    {
-        let Scan { taken, .. } = self;
-        Items::from_vec(taken)
-    }
 }

@@ -142,13 +142,6 @@ impl Version {
         self.word & DELETED != 0
     }
 
-    /// Whether the node is a border node.
-    pub fn is_border(&self) -> bool
-        ensures { result ≡ self.now.border }
-    {
-        self.word & BORDER != 0
-    }
-
     /// How often keys were inserted into the node since it was made.
     pub fn vinsert(&self) -> u64
         ensures value { result ≡ self.now.vinsert }

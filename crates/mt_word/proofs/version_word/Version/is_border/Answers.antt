@@ -1,7 +1,0 @@
-use Rattle.std.proofs.Common.{ap, ◌∙◌}
-use Rattle.mt_word.specs.Version.{VersionView}
-use Rattle.mt_word.proofs.VersionLemmas.{flag_test}
-use Rattle.mt_word.proofs.version_word.Version.is_border.Goals as goal
-
-pub returns : goal.returns
-returns c = flag_test c.self.inside.word 4 ∙ ap (λ (v : VersionView). v.border) c.self.view_is
