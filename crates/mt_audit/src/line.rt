@@ -13,7 +13,7 @@ use mt_drive::fault::LineError;
 use mt_drive::values::{key_from, row_from};
 use mt_drive::words::{cut, number};
 use mt_types::limits::MAX_COLUMN_BYTES;
-use mt_types::row::{Column, Delta, Row};
+use mt_types::row::{Columns, Delta, Row};
 use std::alloc::Global;
 
 /// What a line of an audit says.
@@ -25,23 +25,17 @@ pub(crate) enum Line {
     Kept(Receipt),
 }
 
-fn has_long_column(columns: &[Column]) -> bool
+fn has_long_column(columns: &Columns) -> bool
     ensures { result ≡ list_any (λ bytes. nat_lt MAX_COLUMN_BYTES (length bytes)) columns.now }
 {
-    for column in columns {
-        if column.len() > MAX_COLUMN_BYTES {
-            return true;
-        }
-    }
-    false
+    columns.iter().any(|column| column.len() > MAX_COLUMN_BYTES)
 }
 
 // Whether a row has all its columns, none of them too long.
 fn is_whole(columns: u8, row: &Row) -> bool
     ensures { result ≡ is_whole columns row.now }
 {
-    let values = row.columns.as_slice();
-    values.len() == columns as usize && !has_long_column(values)
+    row.columns.len() == columns as usize && !has_long_column(&row.columns)
 }
 
 #[tactic(auto, unfolding(crate::specs::Lines::whole_row_of))]

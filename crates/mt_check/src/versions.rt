@@ -1,6 +1,6 @@
 //! The versions of each key: which row each commit of the key left, sorted by its number.
 
-ghost use Rattle.std.specs.Prelude.{◌≡◌, ℕ, if◌then◌else◌, slice_index_or, List, [], ◌∷◌, ◌++◌, None, nat_eq, OnOk};
+ghost use Rattle.std.specs.Prelude.{◌≡◌, ℕ, if◌then◌else◌, List, [], ◌∷◌, ◌++◌, None, nat_eq, OnOk};
 ghost use Rattle.std.specs.Option.{is_none, option_copied};
 ghost use Rattle.std.specs.Ordering.{is_eq};
 ghost use Rattle.std.specs.Cmp.Lexicographic.{pointwise};
@@ -11,7 +11,7 @@ ghost use Rattle.mt_check.specs.Versions.{version_of, versions_in, Rising, stand
 use mt_types::copying::TryCopy;
 use mt_types::key::Key;
 use mt_types::refusal::NoMemory;
-use mt_types::row::{Column, Delta, Row};
+use mt_types::row::{Columns, Delta, Row};
 use std::alloc::Global;
 use std::collections::BTreeMap;
 
@@ -116,17 +116,8 @@ pub(crate) fn lacks_between(versions: &[Version], from: u64, to: u64) -> bool
     standing.is_none() || lacks_until(later, to)
 }
 
-fn column_of(columns: &[Column], number: u8) -> &[u8]
-    ensures { result.now ≡ slice_index_or columns.now number [] }
-{
-    match columns.get(number as usize) {
-        Some(bytes) => bytes.as_slice(),
-        None => &[],
-    }
-}
-
 // Whether the columns that are asked for are these.
-fn columns_show(asked: &[u8], columns: &[Column], answer: &[Column]) -> bool
+fn columns_show(asked: &[u8], columns: &Columns, answer: &Columns) -> bool
     ensures { result ≡ pointwise (pointwise nat_eq) (chosen asked.now columns.now) answer.now }
 {
     if asked.is_empty() {
@@ -136,7 +127,7 @@ fn columns_show(asked: &[u8], columns: &[Column], answer: &[Column]) -> bool
         return false;
     }
     for (i, number) in asked.iter().enumerate() {
-        if column_of(columns, *number) != answer[i].as_slice() {
+        if columns.get_or_empty(*number as usize) != answer.get_or_empty(i) {
             return false;
         }
     }
@@ -149,7 +140,7 @@ fn is_shown(asked: &[u8], row: Option<&Row>, answer: &Row) -> bool
     match row {
         Some(row) => {
             row.version == answer.version
-                && columns_show(asked, row.columns.as_slice(), answer.columns.as_slice())
+                && columns_show(asked, &row.columns, &answer.columns)
         }
         None => false,
     }

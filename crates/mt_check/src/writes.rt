@@ -10,8 +10,7 @@ ghost use Rattle.mt_check.specs.Judging.{MadeBy, MadeOver};
 use crate::ranges::Span;
 use bytes::Bytes;
 use mt_promise::exact::Exact;
-use mt_rows::columns::{new_row, rewrite};
-use mt_types::copying::TryCopy;
+use mt_rows::columns::{new_row, rewritten};
 use mt_types::refusal::NoMemory;
 use mt_types::row::{Delta, Row, Sets};
 use std::alloc::Global;
@@ -47,13 +46,8 @@ fn put_row(
       columns = new_columns sets.now 0 (columns_before columns before.now);
     }) }
 {
-    let sets = sets.copy(alloc)?;
     match before {
-        Some(row) => {
-            let mut made = row.copy(alloc)?;
-            rewrite(alloc, &mut made, number, sets);
-            Ok(made)
-        }
+        Some(row) => rewritten(alloc, row, number, sets),
         None => new_row(alloc, columns, number, sets),
     }
 }

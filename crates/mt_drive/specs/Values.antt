@@ -1,6 +1,7 @@
 -- What the words of rows with their keys say.
 use Rattle.std.specs.Prelude.{ℕ, ◌-◌, ◌^◌, nat_le, ◌==◌, if◌then◌else◌, List, [], length, Option, Some, None}
 use Rattle.mt_types.specs.declared.limits.TheConstants.{MAX_KEY_BYTES}
+use Rattle.mt_types.specs.Packed.{are_packable}
 use Rattle.mt_types.specs.declared.row.Row.{Row}
 use Rattle.mt_drive.specs.Words.{◌>>=◌, word_at, number_of, bytes_of, each, parts}
 
@@ -10,9 +11,11 @@ key_of word = do
   bytes ← bytes_of word
   if nat_le (length bytes) MAX_KEY_BYTES then Some bytes else None
 
--- columns joined by commas
-abbrev pub values_of : List ℕ → Option (List (List ℕ))
-values_of text = each bytes_of (parts 44 text)
+-- columns joined by commas: at most 255, of at most 255 bytes, as many as a row can have
+unfoldable pub values_of : List ℕ → Option (List (List ℕ))
+values_of text = do
+  columns ← each bytes_of (parts 44 text)
+  if are_packable columns then Some columns else None
 
 -- VERSION, a stop and VALUES
 unfoldable pub row_of : ℕ → List ℕ → Option Row

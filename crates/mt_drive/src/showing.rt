@@ -8,7 +8,7 @@ use bytes::Bytes;
 use mt_types::event::{Answer, Outcome, Reply, TidyRule};
 use mt_types::key::Key;
 use mt_types::refusal::Refusal;
-use mt_types::row::{Delta, Row};
+use mt_types::row::{Columns, Delta, Row};
 use mt_types::view::Page;
 use std::alloc::{AllocError, Global};
 
@@ -33,12 +33,12 @@ pub(crate) fn push_comma(out: &mut String, place: usize) -> Result<(), AllocErro
     }
 }
 
-fn push_values(alloc: Global, out: &mut String, columns: &[Bytes]) -> Result<(), AllocError>
+fn push_values(alloc: Global, out: &mut String, columns: &Columns) -> Result<(), AllocError>
     ensures { OnOk result (string_bytes out.new ≡ string_bytes out.old ++ values_text columns.now) }
 {
     for (i, column) in columns.iter().enumerate() {
         push_comma(out, i)?;
-        push_bytes(alloc, out, column.as_slice())?;
+        push_bytes(alloc, out, column)?;
     }
     Ok(())
 }
@@ -51,7 +51,7 @@ fn push_row(alloc: Global, out: &mut String, pair: &(Key, Row)) -> Result<(), Al
     push_bytes(alloc, out, pair.0.as_slice())?;
     let version = pair.1.version;
     write!(out, ":{version}:")?;
-    push_values(alloc, out, pair.1.columns.as_slice())
+    push_values(alloc, out, &pair.1.columns)
 }
 
 fn push_rows(alloc: Global, out: &mut String, pairs: &[(Key, Row)]) -> Result<(), AllocError>
@@ -85,7 +85,7 @@ pub fn push_answer(alloc: Global, out: &mut String, answer: &Answer) -> Result<(
         Answer::Found(row) => {
             let version = row.version;
             write!(out, "row {version} ")?;
-            push_values(alloc, out, row.columns.as_slice())
+            push_values(alloc, out, &row.columns)
         }
         Answer::Stored(number) => write!(out, "put {number}"),
         Answer::Removed(number) => write!(out, "removed {number}"),
@@ -179,7 +179,7 @@ fn push_row_or_none(alloc: Global, out: &mut String, row: &Option<Row>) -> Resul
         Some(row) => {
             let version = row.version;
             write!(out, "{version}:")?;
-            push_values(alloc, out, row.columns.as_slice())
+            push_values(alloc, out, &row.columns)
         }
         None => out.push_str("none"),
     }

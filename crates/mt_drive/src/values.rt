@@ -2,7 +2,7 @@
 
 ghost use Rattle.std.specs.Prelude.{◌≡◌};
 ghost use Rattle.mt_drive.specs.Words.{Gives};
-ghost use Rattle.mt_drive.specs.Values.{key_of, row_of, no_rows_of, some_rows_of, rows_of};
+ghost use Rattle.mt_drive.specs.Values.{key_of, values_of, row_of, no_rows_of, some_rows_of, rows_of};
 
 use crate::fault::LineError;
 use crate::words::{Part, bytes_from, cut, halves, number, read_parts};
@@ -24,18 +24,28 @@ pub fn key_from(alloc: Global, word: &[u8]) -> Result<Key, LineError>
     }
 }
 
-/// A row: its version, a stop, and its columns joined by commas. Takes an allocation or two for each column.
+// Columns joined by commas: at most 255, of at most 255 bytes. Takes an allocation or two for each, and two more.
+#[tactic(auto, unfolding(crate::specs::Values::values_of))]
+fn values(alloc: Global, text: &[u8]) -> Result<Columns, LineError>
+    ensures { Gives (λ c. c) result (values_of text.now) }
+{
+    let columns: Vec<Bytes> = read_parts(alloc, text, b',')?;
+    match Columns::pack(alloc, columns.as_slice()) {
+        Ok(Some(columns)) => Ok(columns),
+        Ok(None) => Err(LineError::Bad),
+        Err(_) => Err(LineError::Memory),
+    }
+}
+
+/// A row: its version, a stop, and its columns joined by commas.
 #[tactic(auto, unfolding(crate::specs::Values::row_of))]
 pub fn row_from(alloc: Global, text: &[u8], stop: u8) -> Result<Row, LineError>
     ensures { Gives (λ r. r) result (row_of stop text.now) }
 {
     let (word, rest) = cut(text, stop)?;
     let version = number(word, u64::MAX)?;
-    let columns: Vec<Bytes> = read_parts(alloc, rest, b',')?;
-    Ok(Row {
-        version,
-        columns: Columns::from_vec(columns),
-    })
+    let columns = values(alloc, rest)?;
+    Ok(Row { version, columns })
 }
 
 impl Part for (Key, Row) {

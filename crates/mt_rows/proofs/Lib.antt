@@ -1,3 +1,2 @@
--- Lemmas on maps and on a put into a map.
+-- Lemmas on maps.
 pub mod MapLemmas
-pub mod PutLemmas

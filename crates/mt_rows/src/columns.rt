@@ -3,36 +3,32 @@
 ghost use Rattle.std.specs.Prelude.{◌≡◌, [], replicate, IfOk};
 ghost use Rattle.mt_types.specs.Rows.{new_columns};
 
-use mt_types::columns::{empty_columns, write_sets};
-use mt_types::items::Items;
+use mt_types::columns::Columns;
 use mt_types::refusal::NoMemory;
 use mt_types::row::{Row, Sets};
 use std::alloc::Global;
-use std::mem;
 
-/// Changes a row in place, as a put by the commit of this number does. O(n) in the sets. Allocates nothing and copies
-/// no bytes.
-pub fn rewrite(alloc: Global, row: &mut Row, number: u64, sets: Sets)
-    ensures { row.new ≡ record { version = number; columns = new_columns sets 0 row.old.columns } }
+/// Returns what a put by the commit of this number makes of a row. O(n) in the bytes of the columns, with two
+/// allocations.
+pub fn rewritten(alloc: Global, row: &Row, number: u64, sets: &Sets) -> Result<Row, NoMemory>
+    ensures { IfOk result (λ made. made ≡ record { version = number; columns = new_columns sets.now 0 row.now.columns }) }
 {
-    let mut columns = mem::replace(&mut row.columns, Items::new(alloc)).into_vec();
-    write_sets(&mut columns, sets);
-    row.columns = Items::from_vec(columns);
-    row.version = number;
+    Ok(Row {
+        version: number,
+        columns: row.columns.with_sets(alloc, sets.as_slice())?,
+    })
 }
 
 /// Returns the row of `count` columns that a put by the commit of this number makes if there was no row. O(n) in the
-/// columns, with one allocation.
-pub fn new_row(alloc: Global, count: u8, number: u64, sets: Sets) -> Result<Row, NoMemory>
+/// bytes of the columns, with two allocations.
+pub fn new_row(alloc: Global, count: u8, number: u64, sets: &Sets) -> Result<Row, NoMemory>
     ensures { IfOk result (λ row. row ≡ record {
       version = number;
-      columns = new_columns sets 0 (replicate count []);
+      columns = new_columns sets.now 0 (replicate count []);
     }) }
 {
-    let mut columns = empty_columns(alloc, count)?;
-    write_sets(&mut columns, sets);
     Ok(Row {
         version: number,
-        columns: Items::from_vec(columns),
+        columns: Columns::first(alloc, count, sets.as_slice())?,
     })
 }

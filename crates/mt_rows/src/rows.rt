@@ -147,12 +147,10 @@ impl Rows {
         ensures ok { OnOk result (self.new ≡ after_change columns number (Change.Put key.now sets.now) self.old) }
         ensures err { OnErr result (self.new ≡ self.old) }
     {
-        let sets = sets.copy(alloc)?;
-        if let Some(row) = self.rows.get_mut(key) {
-            columns::rewrite(alloc, row, number, sets);
-            return Ok(());
-        }
-        let row = columns::new_row(alloc, columns, number, sets)?;
+        let row = match self.get(key) {
+            Some(row) => columns::rewritten(alloc, row, number, sets)?,
+            None => columns::new_row(alloc, columns, number, sets)?,
+        };
         self.set(key.copy(alloc)?, row)?;
         Ok(())
     }

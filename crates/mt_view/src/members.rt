@@ -29,10 +29,7 @@ fn amount(bytes: &[u8]) -> u64
 fn column_of(row: &Row, column: usize) -> &[u8]
     ensures { result.now ≡ column_of column row.now }
 {
-    match row.columns.as_slice().get(column) {
-        Some(bytes) => bytes.as_slice(),
-        None => &[],
-    }
+    row.columns.get_or_empty(column)
 }
 
 /// Returns the amount of a column of a row: its bytes as a big-endian number if there are at most eight, else 0.

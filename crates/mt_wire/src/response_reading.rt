@@ -12,7 +12,7 @@ use mt_types::items::Items;
 use mt_types::key::Key;
 use mt_types::numbers::ViewNo;
 use mt_types::refusal::Refusal;
-use mt_types::row::{Column, Pairs, Row};
+use mt_types::row::{Column, Columns, Pairs, Row};
 use mt_types::view::Page;
 use std::alloc::Global;
 
@@ -44,8 +44,12 @@ fn row(alloc: Global, input: &mut Bytes) -> Result<Row, ReadError>
     ensures { Gives (λ x. (x, input.new)) result (row_at input.old) }
 {
     let version = number64(input)?;
-    let columns = Items::from_vec(counted(alloc, input)?);
-    Ok(Row { version, columns })
+    let columns: Vec<Column> = counted(alloc, input)?;
+    match Columns::pack(alloc, columns.as_slice()) {
+        Ok(Some(columns)) => Ok(Row { version, columns }),
+        // The number of columns and their lengths were bytes: it is memory that is refused.
+        Ok(None) | Err(_) => Err(ReadError::NoMemory),
+    }
 }
 
 #[tactic(auto, unfolding(crate::specs::Reading::index_key_at))]

@@ -1,7 +1,7 @@
 //! Answers, written at the end of bytes.
 
 ghost use Rattle.std.specs.Prelude.{◌≡◌, ◌∷◌, ◌++◌, ◌↔◌, IsTrue, OnOk};
-ghost use Rattle.mt_wire.specs.Spelling.{row_spelling, pairs_spelling, refusal_spelling, rule_spelling, span_spelling, response_spelling};
+ghost use Rattle.mt_wire.specs.Spelling.{columns_spelling, row_spelling, pairs_spelling, refusal_spelling, rule_spelling, span_spelling, response_spelling};
 ghost use Rattle.mt_wire.specs.Fits.{RowLengths, PairsLengths, EndLengthsOf, ResponseLengths};
 ghost use Rattle.mt_wire.specs.declared.response.Response.TheVariants.{Done, View};
 
@@ -13,26 +13,9 @@ use crate::writing::{
 use mt_types::event::TidyRule;
 use mt_types::key::Key;
 use mt_types::refusal::Refusal;
-use mt_types::row::{Column, Row};
+use mt_types::row::{Columns, Row};
 use mt_types::view::Page;
 use std::alloc::AllocError;
-
-impl Writable for Column {
-    ghost use Rattle.mt_wire.specs.Spelling.{short_spelling};
-    ghost use Rattle.mt_wire.specs.Fits.{ShortFits};
-
-    ghost spelling = { short_spelling };
-
-    ghost lengths = { ShortFits };
-
-    fn write(&self, out: &mut Vec<u8>) -> Result<(), AllocError> {
-        short(out, self)
-    }
-
-    fn fits(&self) -> bool {
-        short_fits(self)
-    }
-}
 
 impl Writable for u128 {
     ghost use Rattle.mt_wire.specs.Spelling.{sum_spelling};
@@ -52,12 +35,26 @@ impl Writable for u128 {
     }
 }
 
+// Columns are kept as they are spelled.
+fn write_columns(out: &mut Vec<u8>, columns: &Columns) -> Result<(), AllocError>
+    ensures { OnOk result (out.new.items ≡ out.old.items ++ columns_spelling columns.now) }
+{
+    out.extend_from_slice(columns.as_packed())
+}
+
 fn write_row(out: &mut Vec<u8>, row: &Row) -> Result<(), AllocError>
-    requires { RowLengths row.now }
     ensures { OnOk result (out.new.items ≡ out.old.items ++ row_spelling row.now) }
 {
     number64(out, row.version)?;
-    counted(out, row.columns.as_slice())
+    write_columns(out, &row.columns)
+}
+
+// The lengths of a row are bytes already.
+fn row_fits(row: &Row) -> bool
+    ensures { IsTrue result ↔ RowLengths row.now }
+{
+    let _packable = row.columns.len();
+    true
 }
 
 impl Writable for (Key, Row) {
@@ -74,7 +71,7 @@ impl Writable for (Key, Row) {
     }
 
     fn fits(&self) -> bool {
-        counted_fits(self.1.columns.as_slice())
+        row_fits(&self.1)
     }
 }
 
@@ -148,7 +145,7 @@ fn end_fits(end: &End) -> bool
     ensures { IsTrue result ↔ EndLengthsOf end.now }
 {
     match end {
-        End::Found(row) => counted_fits(row.columns.as_slice()),
+        End::Found(row) => row_fits(row),
         End::Rows(pairs) => pairs_fit(pairs.as_slice()),
         End::Absent | End::Committed(_) | End::Tidied(_) | End::Built(_) => true,
     }

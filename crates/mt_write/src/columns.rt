@@ -4,14 +4,11 @@ ghost use Rattle.std.specs.Prelude.{◌≡◌, IfOk};
 ghost use Rattle.std.specs.Option.{option_copied};
 ghost use Rattle.mt_types.specs.Rows.{new_columns, columns_before};
 
-use mt_types::columns::{empty_columns, write_sets};
-use mt_types::copying::TryCopy;
-use mt_types::items::Items;
 use mt_types::refusal::NoMemory;
 use mt_types::row::{Columns, Row, Sets};
 use std::alloc::Global;
 
-/// Returns the columns that a put makes of the row `old`, or of none. Shares the bytes. Costs two allocations.
+/// Returns the columns that a put makes of the row `old`, or of none. O(n) in their bytes, with two allocations.
 pub fn made_columns(
     alloc: Global,
     count: u8,
@@ -20,10 +17,8 @@ pub fn made_columns(
 ) -> Result<Columns, NoMemory>
     ensures { IfOk result (λ columns. columns ≡ new_columns sets.now 0 (columns_before count (option_copied old.entry))) }
 {
-    let mut columns = match old {
-        None => empty_columns(alloc, count)?,
-        Some(row) => row.columns.copy(alloc)?.into_vec(),
-    };
-    write_sets(&mut columns, sets.copy(alloc)?);
-    Ok(Items::from_vec(columns))
+    match old {
+        None => Columns::first(alloc, count, sets.as_slice()),
+        Some(row) => row.columns.with_sets(alloc, sets.as_slice()),
+    }
 }

@@ -220,6 +220,10 @@ impl Write {
         requires { MayStep tree.old log.old (write_held self.old) (WriteIsTrue columns self.old) }
         ensures { WriteStep columns tree.old tree.new log.old log.new self.old self.old.stage result self.new }
     {
+        // Most steps are of this stage, which needn't be taken out.
+        if let Stage::Seeks = self.stage {
+            return self.seek(tree);
+        }
         match mem::replace(&mut self.stage, Stage::Seeks) {
             Stage::Seeks => self.seek(tree),
             Stage::Locked => self.make_ready(alloc, columns, tree, log),

@@ -6,13 +6,13 @@ ghost use Rattle.mt_types.specs.Rows.{chosen, shown};
 ghost use Rattle.rowanspan_c.specs.Spelling.{number_spelling, bytes_spelling, list_spelling, row_spelling};
 ghost use Rattle.rowanspan_c.specs.Placed.{Writes};
 
-use mt_types::row::{Column, Row};
+use mt_types::row::{Columns, Row};
 
 /// How many bytes a number has.
 pub(crate) const NUMBER_BYTES: usize = 8;
 
 /// Returns how many columns are shown.
-pub(crate) fn count(columns: &[Column], asked: &[u8]) -> usize
+pub(crate) fn count(columns: &Columns, asked: &[u8]) -> usize
     ensures { result ≡ length (chosen asked.now columns.now) }
 {
     if asked.is_empty() {
@@ -23,7 +23,7 @@ pub(crate) fn count(columns: &[Column], asked: &[u8]) -> usize
 }
 
 /// Returns the bytes of one of the columns that are shown.
-pub(crate) fn column<'a>(columns: &'a [Column], asked: &[u8], place: usize) -> &'a [u8]
+pub(crate) fn column<'a>(columns: &'a Columns, asked: &[u8], place: usize) -> &'a [u8]
     requires { place < length (chosen asked.now columns.now) }
     ensures { result.now ≡ slice_index_or (chosen asked.now columns.now) place [] }
 {
@@ -32,14 +32,11 @@ pub(crate) fn column<'a>(columns: &'a [Column], asked: &[u8], place: usize) -> &
     } else {
         asked[place] as usize
     };
-    match columns.get(number) {
-        Some(column) => column.as_slice(),
-        None => &[],
-    }
+    columns.get_or_empty(number)
 }
 
 // How many bytes the columns that are shown have, with the number before each. None if there are too many to count.
-fn columns_length(columns: &[Column], asked: &[u8]) -> Option<usize>
+fn columns_length(columns: &Columns, asked: &[u8]) -> Option<usize>
     ensures { IfSome result (λ n. n ≡ length (flat_map bytes_spelling (chosen asked.now columns.now))) }
 {
     let mut length = 0usize;
@@ -55,7 +52,7 @@ fn columns_length(columns: &[Column], asked: &[u8]) -> Option<usize>
 pub(crate) fn row_length(row: &Row, asked: &[u8]) -> Option<usize>
     ensures { IfSome result (λ n. n ≡ length (row_spelling (shown asked.now row.now))) }
 {
-    columns_length(row.columns.as_slice(), asked)?.checked_add(2 * NUMBER_BYTES)
+    columns_length(&row.columns, asked)?.checked_add(2 * NUMBER_BYTES)
 }
 
 // ---- each of these writes at a place of the buffer, and returns the place after what it has written
@@ -84,7 +81,7 @@ fn counted(into: &mut [u8], at: usize, column: &[u8]) -> usize
     bytes(into, at, column)
 }
 
-fn each(into: &mut [u8], from: usize, columns: &[Column], asked: &[u8]) -> usize
+fn each(into: &mut [u8], from: usize, columns: &Columns, asked: &[u8]) -> usize
     requires { from + length (flat_map bytes_spelling (chosen asked.now columns.now)) ≤ length into.old }
     ensures { Writes (flat_map bytes_spelling (chosen asked.now columns.now)) from into.old into.new result }
 {
@@ -95,7 +92,7 @@ fn each(into: &mut [u8], from: usize, columns: &[Column], asked: &[u8]) -> usize
     at
 }
 
-fn list(into: &mut [u8], at: usize, columns: &[Column], asked: &[u8]) -> usize
+fn list(into: &mut [u8], at: usize, columns: &Columns, asked: &[u8]) -> usize
     requires { at + length (list_spelling bytes_spelling (chosen asked.now columns.now)) ≤ length into.old }
     ensures { Writes (list_spelling bytes_spelling (chosen asked.now columns.now)) at into.old into.new result }
 {
@@ -109,5 +106,5 @@ pub(crate) fn row(into: &mut [u8], row: &Row, asked: &[u8]) -> usize
     ensures { Writes (row_spelling (shown asked.now row.now)) 0 into.old into.new result }
 {
     let at = number(into, 0, row.version);
-    list(into, at, row.columns.as_slice(), asked)
+    list(into, at, &row.columns, asked)
 }

@@ -15,11 +15,11 @@ use mt_map::walk::Rows;
 use mt_types::items::Items;
 use mt_types::key::Key;
 use mt_types::refusal::NoMemory;
-use mt_types::row::{Column, Row};
+use mt_types::row::{Columns, Row};
 use std::alloc::{AllocError, Global};
 
 // Writes the columns that are shown, with how many there are before them.
-fn columns(out: &mut Vec<u8>, columns: &[Column], asked: &[u8]) -> Result<(), AllocError>
+fn columns(out: &mut Vec<u8>, columns: &Columns, asked: &[u8]) -> Result<(), AllocError>
     ensures { OnOk result (out.new.items
         ≡ out.old.items ++ list_spelling bytes_spelling (chosen asked.now columns.now)) }
 {
@@ -38,7 +38,7 @@ fn pair(out: &mut Vec<u8>, key: &[u8], row: &Row, asked: &[u8]) -> Result<(), Al
 {
     bytes(out, key)?;
     number(out, row.version)?;
-    columns(out, row.columns.as_slice(), asked)
+    columns(out, &row.columns, asked)
 }
 
 // Writes the first rows whose keys are at or after `start`, at most `limit`, and returns how many there are.

@@ -6,7 +6,7 @@ ghost use Rattle.rowanspan_c.specs.Spelling.{number_spelling, bytes_spelling, li
 
 use mt_types::items::Items;
 use mt_types::key::Key;
-use mt_types::row::{Column, Delta, Row};
+use mt_types::row::{Columns, Delta, Row};
 use mt_types::view::Page;
 use std::alloc::{AllocError, Global};
 
@@ -50,6 +50,17 @@ fn list<T: Spelled>(out: &mut Vec<u8>, list: &[T]) -> Result<(), AllocError>
     items(out, list)
 }
 
+// Writes columns, with how many there are before them.
+fn columns(out: &mut Vec<u8>, columns: &Columns) -> Result<(), AllocError>
+    ensures { OnOk result (out.new.items ≡ out.old.items ++ list_spelling bytes_spelling columns.now) }
+{
+    number(out, columns.len() as u64)?;
+    for column in columns.iter() {
+        bytes(out, column)?;
+    }
+    Ok(())
+}
+
 fn maybe(out: &mut Vec<u8>, row: &Option<Row>) -> Result<(), AllocError>
     ensures { OnOk result (out.new.items ≡ out.old.items ++ maybe_spelling row.now) }
 {
@@ -59,16 +70,6 @@ fn maybe(out: &mut Vec<u8>, row: &Option<Row>) -> Result<(), AllocError>
             number(out, 1)?;
             row.write(out)
         }
-    }
-}
-
-impl Spelled for Column {
-    ghost use Rattle.rowanspan_c.specs.Spelling.{bytes_spelling};
-
-    ghost spelling = { bytes_spelling };
-
-    fn write(&self, out: &mut Vec<u8>) -> Result<(), AllocError> {
-        bytes(out, self)
     }
 }
 
@@ -91,7 +92,7 @@ impl Spelled for Row {
 
     fn write(&self, out: &mut Vec<u8>) -> Result<(), AllocError> {
         number(out, self.version)?;
-        list(out, self.columns.as_slice())
+        columns(out, &self.columns)
     }
 }
 
