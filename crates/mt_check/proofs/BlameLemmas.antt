@@ -1,9 +1,9 @@
 -- The deltas of a legal history and the receipts that it gives have no fault.
-use Rattle.std.proofs.Common.{◌≡◌, ◌≤◌, ◌<◌, ℕ, zero, suc, ◌+◌, ◌-◌, List, [], ◌∷◌, ◌++◌, take, length, Option, Some, None, refl, ap, sym, ◌∙◌, subst, arith, inl, inr, ◌⊎◌, length-append}
-use Rattle.std.specs.Prelude.{slice_get, IsSome, IfSome}
+use Rattle.std.proofs.Common.{◌≡◌, ◌<◌, ℕ, zero, suc, ◌+◌, ◌-◌, List, [], ◌∷◌, ◌++◌, take, length, Option, Some, None, refl, ap, sym, ◌∙◌, subst, arith, inl, inr, ◌⊎◌}
+use Rattle.std.specs.Prelude.{slice_get, IsSome}
 use Rattle.std.specs.FinMap.{get, empty}
 use Rattle.std.proofs.lemmas.Option.{slice_get_within}
-use Rattle.mt_types.specs.Rows.{Rows, after, after_from, after_change}
+use Rattle.mt_types.specs.Rows.{Rows, after, after_from}
 use Rattle.mt_types.specs.declared.row.Change.{Change}
 use Rattle.mt_types.specs.declared.row.Change.TheVariants.{Put as PutChange, Drop as DropChange}
 use Rattle.mt_types.specs.declared.row.Row.{Row}
@@ -15,22 +15,21 @@ use Rattle.mt_types.specs.declared.event.Outcome.TheVariants.{Call as Called, Mo
 use Rattle.mt_types.specs.declared.event.Request.{Request}
 use Rattle.mt_types.specs.declared.event.Request.TheVariants.{Get, Put, PutIf, Remove, Range, Tidy, Build}
 use Rattle.mt_types.specs.declared.event.Answer.{Answer}
-use Rattle.mt_types.specs.declared.event.Answer.TheVariants.{Absent, Found, Stored, Removed, Rows as RowsAnswer, Tidied, Built}
+use Rattle.mt_types.specs.declared.event.Answer.TheVariants.{Stored, Removed}
 use Rattle.mt_types.specs.declared.numbers.ViewNo.{ViewNo}
 use Rattle.mt_types.specs.declared.view.ViewSpec.{ViewSpec}
-use Rattle.mt_promise.specs.History.{History, happening, moment, call_of, OpenCall, after_event, after_step, after_call_step, change_of}
+use Rattle.mt_promise.specs.History.{History, happening, moment, call_of, OpenCall, after_event, after_call_step, change_of}
 use Rattle.mt_promise.specs.Legal.{Legal, MayHappen, MayStep, MayStepAt}
-use Rattle.mt_promise.specs.Headline.{IsFinished, StandsAt}
+use Rattle.mt_promise.specs.Headline.{StandsAt}
 use Rattle.mt_promise.specs.Finished.{commit_named}
 use Rattle.mt_promise.proofs.FinishedLemmas.{legal_before}
 use Rattle.mt_promise.proofs.OnceLemmas.{carries, calls_finish_once, views_are_built_once}
 use Rattle.mt_promise.proofs.CommitLemmas.{commits_are_named_once}
-use Rattle.mt_commit.specs.Logged.{key_of, delta_made, deltas_from}
+use Rattle.mt_commit.specs.Logged.{key_of, delta_made}
 use Rattle.mt_commit.proofs.DeltaLemmas.{delta_at, get-row_put, deltas_of-length}
-use Rattle.mt_check.specs.declared.fault.Fault.{Fault}
 use Rattle.mt_check.specs.declared.receipt.Receipt.{Receipt}
 use Rattle.mt_check.specs.declared.receipt.Receipt.TheVariants.{Call, Page}
-use Rattle.mt_check.specs.Receipts.{rows_at, HasVersion, FitsRow, GivesReceipt, IsSound, claim, claim_of, IsClaimed, ClaimsAgain}
+use Rattle.mt_check.specs.Receipts.{rows_at, HasVersion, FitsRow, IsSound, claim, claim_of, ClaimsAgain}
 use Rattle.mt_check.specs.Versions.{AreSound}
 use Rattle.mt_check.specs.Worth.{deltas_after, IsGiven, IsOfCall, AreGiven, AuditsBlameNone}
 use Rattle.mt_check.proofs.LogLemmas.{sound_clean}

@@ -139,8 +139,7 @@ fn is_shown(asked: &[u8], row: Option<&Row>, answer: &Row) -> bool
 {
     match row {
         Some(row) => {
-            row.version == answer.version
-                && columns_show(asked, &row.columns, &answer.columns)
+            row.version == answer.version && columns_show(asked, &row.columns, &answer.columns)
         }
         None => false,
     }

@@ -58,10 +58,7 @@ fn filled(alloc: Global) -> Result<Map, Refusal> {
 // The version of the row of a key, and how many bytes its first column has.
 fn seen(map: &Map, key: &'static [u8]) -> Result<Option<(u64, usize)>, Refusal> {
     let row = map.get(Bytes::from_static(key))?;
-    Ok(row.map(|row| {
-        let first = row.columns.as_slice().first();
-        (row.version, first.map_or(0, |column| column.len()))
-    }))
+    Ok(row.map(|row| (row.version, row.columns.get_or_empty(0).len())))
 }
 
 #[test]

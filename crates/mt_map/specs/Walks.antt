@@ -5,7 +5,7 @@ use Rattle.std.specs.declared.cmp.Ordering.TheVariants.{Less}
 use Rattle.mt_types.specs.Keys.{key_cmp}
 use Rattle.mt_types.specs.Rows.{Rows}
 use Rattle.mt_types.specs.declared.row.Row.{Row}
-use Rattle.mt_index.specs.Alone.{IsIdle}
+use Rattle.mt_index.specs.Alone.{IsQuiet}
 use Rattle.mt_index.specs.Stands.{MachineView}
 use Rattle.mt_walk.specs.Standing.{IsWalk}
 use Rattle.mt_walk.specs.Walk.{view_of}
@@ -44,4 +44,4 @@ rows_view machine walk = record { machine = machine; at = record { key = walk.ke
 -- unless memory was refused, it is a walk over the machine's tree; no call is open
 abbrev pub IsWalking : Bool → MachineView → Walk → Type 0
 IsWalking true machine walk = Unit {0}
-IsWalking false machine walk = IsIdle machine × IsWalk (view_of walk) × ((view_of walk).tree ≡ machine.tree)
+IsWalking false machine walk = IsQuiet machine × IsWalk (view_of walk) × ((view_of walk).tree ≡ machine.tree)

@@ -3,7 +3,7 @@
 ghost use Rattle.std.specs.Prelude.{◌≡◌, IfOk, false};
 ghost use Rattle.std.specs.Option.{option_copied};
 ghost use Rattle.mt_promise.specs.History.{History, moment, rows};
-ghost use Rattle.mt_index.specs.Alone.{IsIdle};
+ghost use Rattle.mt_index.specs.Alone.{IsQuiet};
 ghost use Rattle.mt_index.specs.Stands.{Stands};
 ghost use Rattle.mt_map.specs.Walks.{GivesNext};
 
@@ -17,9 +17,9 @@ use mt_walk::Walk;
 use std::alloc::Global;
 use std::marker::Model;
 
-/// A walk over the rows of a map, or of a machine on which no call is open, from a key on, in the order of their keys.
-/// It borrows the map or the machine, and each row is borrowed from it. Contracts see it as the machine and the key at
-/// which it is.
+/// A walk over the rows of a map, or of a machine on which no change is under way, from a key on, in the order of their
+/// keys. It borrows the map or the machine, and each row is borrowed from it. Contracts see it as the machine and the key
+/// at which it is.
 #[derive(Drop)]
 pub struct Rows<'m> {
     machine: &'m Machine,
@@ -58,8 +58,8 @@ impl Map {
 }
 
 impl<'m> Rows<'m> {
-    /// Returns a walk over a machine on which no call is open. It is before the first row whose key is `start` or after
-    /// it.
+    /// Returns a walk over a machine on which no put, remove or tidy is open; gets, ranges and builds may be. It is before
+    /// the first row whose key is `start` or after it.
     ///
     /// Costs the visit of each node on the way to the key. Allocates for a copy of the key, and for the walk's path if
     /// the key is in a layer below the first.
@@ -68,7 +68,7 @@ impl<'m> Rows<'m> {
     ///
     /// `NoMemory` if an allocation is refused.
     pub fn of(alloc: Global, machine: &'m Machine, start: &Key) -> Result<Rows<'m>, NoMemory>
-        requires { IsIdle machine.now }
+        requires { IsQuiet machine.now }
         ensures machine { IfOk result (λ walk. walk.machine ≡ machine.now) }
         ensures start { IfOk result (λ walk. walk.at ≡ record { key = start.now; given = false }) }
     {

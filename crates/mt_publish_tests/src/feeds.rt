@@ -83,8 +83,8 @@ fn has_row(page: &Page, place: usize, key: &[u8], version: u64, column: &[u8]) -
         Some((at, row)) => {
             at.as_slice() == key
                 && row.version == version
-                && row.columns.as_slice().len() == 1
-                && row.columns.as_slice()[0].as_slice() == column
+                && row.columns.len() == 1
+                && row.columns.get_or_empty(0) == column
         }
         None => false,
     }

@@ -40,7 +40,7 @@ fn row_of(alloc: Global, number: u64) -> Result<Row, Refusal> {
     let column = Bytes::copy_from_slice(alloc, &number.to_be_bytes())?;
     Ok(Row {
         version: number,
-        columns: Columns::from_vec(Vec::from_array(alloc, [column])?),
+        columns: Columns::first(alloc, 1, &[(0, column)])?,
     })
 }
 
@@ -98,8 +98,8 @@ impl Changes {
             Some((key, row)) => {
                 key.as_slice() == self.key(number).to_be_bytes().as_slice()
                     && row.version == number
-                    && row.columns.as_slice().len() == 1
-                    && row.columns.as_slice()[0].as_slice() == number.to_be_bytes().as_slice()
+                    && row.columns.len() == 1
+                    && row.columns.get_or_empty(0) == number.to_be_bytes().as_slice()
             }
             None => false,
         }

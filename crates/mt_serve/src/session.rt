@@ -148,8 +148,9 @@ fn answer_frame<W: Write, S: Shared>(
 /// ends. A frame is read whole before any of its queries is done. Then its queries are done in order, each by `answer`,
 /// and its answers are written in one piece.
 ///
-/// Over a `HoldingDoor` gets that follow one another in a frame are read in one holding of the lock, and puts, conditional
-/// puts and removes are made in one. No lock is held while frames are read or written.
+/// Over a `HoldingDoor` gets that follow one another in a frame are read in one holding of the lock. Puts, conditional
+/// puts and removes that follow one another are made in one, with the gets between and after them. No lock is held while
+/// frames are read or written.
 ///
 /// Costs what the calls and events of the queries cost, and O(n) in the bytes of the frames. A frame takes the memory
 /// of its bytes, its queries and its answers. The memory of a frame of answers is used again for the next.

@@ -8,3 +8,4 @@ pub mod Feeds
 pub mod Reads
 pub mod Inside
 pub mod Changes
+pub mod Moments

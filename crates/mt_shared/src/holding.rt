@@ -58,10 +58,11 @@ impl<'a, W> HoldingDoor<'a, W> {
 }
 
 impl<'a, W: Wait> Shared for HoldingDoor<'a, W> {
-    /// Takes the lock for reads or for changes, unless it is kept so already. After `Nothing` it isn't held.
+    /// Takes the lock for reads or for changes, unless it is kept so already. If it is kept for changes, reads are made
+    /// under it too. After `Nothing` it isn't held.
     fn hold(&mut self, hold: Hold) {
         match (&self.held, hold) {
-            (Held::Reads(_), Hold::Reads) | (Held::Changes(_), Hold::Changes) => return,
+            (Held::Reads(_), Hold::Reads) | (Held::Changes(_), Hold::Reads | Hold::Changes) => return,
             _ => {}
         }
         self.held = Held::Nothing;

@@ -10,6 +10,7 @@ ghost use Rattle.mt_shared.specs.Reads.{ReadsSomewhere};
 use crate::changing::Changed;
 use crate::driving::{Hold, Shared, Started};
 use crate::kept::Kept;
+use crate::moment::Moment;
 use crate::pass::Pass;
 use crate::settling::Totals;
 use crate::trace::Entry;
@@ -212,6 +213,15 @@ impl<'a, W: Wait> Door<'a, W> {
     {
         let index = self.index;
         index.kept.read(self.wait).view_copy(alloc, view)
+    }
+
+    /// Takes the lock, together with other reads, and returns the index as it is at this moment. The lock is held until
+    /// the moment is dropped.
+    pub fn moment(&self) -> Moment<'a> {
+        let index = self.index;
+        Moment {
+            kept: index.kept.read(self.wait),
+        }
     }
 }
 

@@ -12,6 +12,7 @@ pub mod holding;
 pub mod index;
 pub mod kept;
 pub mod lone;
+pub mod moment;
 pub mod pass;
 pub mod reads;
 pub mod runs;

@@ -6,6 +6,7 @@ ghost use Rattle.mt_shared.specs.Reads.{ReadsSomewhere};
 use crate::changing::Changed;
 use crate::driving::{Hold, Shared, Started};
 use crate::index::{Door, Index};
+use crate::moment::Moment;
 use crate::pass::Pass;
 use mt_types::event::{Answer, Event, Outcome, Request};
 use mt_types::numbers::{CallNo, PassNo};
@@ -32,6 +33,13 @@ impl<'a, W> ThroughDoor<'a, W> {
             door: Door::new(index, wait),
             most: u64::from(most),
         }
+    }
+}
+
+impl<'a, W: Wait> ThroughDoor<'a, W> {
+    /// Does what [`Door::moment`] does.
+    pub fn moment(&self) -> Moment<'a> {
+        self.door.moment()
     }
 }
 

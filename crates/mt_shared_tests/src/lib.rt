@@ -9,6 +9,8 @@ mod holding;
 #[cfg(test)]
 mod machines;
 #[cfg(test)]
+mod moments;
+#[cfg(test)]
 mod passes;
 #[cfg(test)]
 mod through;

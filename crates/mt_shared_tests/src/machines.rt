@@ -75,7 +75,7 @@ fn gets(alloc: Global, machine: &Machine) -> Result<bool, Refusal> {
     let Some(borrowed) = machine.row(&key) else {
         return Ok(false);
     };
-    if borrowed.columns.as_slice().len() != 1 {
+    if borrowed.columns.len() != 1 {
         return Ok(false);
     }
     let row = machine.get(alloc, key, Items::new(alloc))?;

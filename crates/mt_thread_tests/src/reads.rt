@@ -13,7 +13,7 @@ use mt_types::copying::TryCopy;
 use mt_types::event::{Answer, Reply, Request};
 use mt_types::items::Items;
 use mt_types::refusal::Refusal;
-use mt_types::row::Row;
+use mt_types::row::{Columns, Row};
 use std::alloc::Global;
 use std::sync::Wait;
 use std::test::Fail;
@@ -264,10 +264,9 @@ fn reads_among_open_writes(rt: HostRuntime) -> Result<(), Fail> {
 
 // A row that no commit of these tests leaves: its column is empty.
 fn no_row(alloc: Global) -> Result<Row, Refusal> {
-    let columns = Vec::from_array(alloc, [Bytes::new()])?;
     Ok(Row {
         version: 1,
-        columns: Items::from_vec(columns),
+        columns: Columns::first(alloc, 1, &[])?,
     })
 }
 

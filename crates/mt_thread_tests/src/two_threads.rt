@@ -10,7 +10,7 @@ use mt_types::copying::TryCopy;
 use mt_types::event::{Answer, Outcome, Request};
 use mt_types::items::Items;
 use mt_types::refusal::Refusal;
-use mt_types::row::{Delta, Row};
+use mt_types::row::{Columns, Delta, Row};
 use std::alloc::Global;
 use std::rt::Clock;
 use std::sync::Wait;
@@ -225,12 +225,12 @@ fn sums(passes: &[Pass]) -> (u64, u64) {
 
 // The get that came last, with a row of another version.
 fn changed(alloc: Global) -> Result<Receipt, Refusal> {
-    let columns = Vec::from_array(alloc, [Bytes::from_static(b"v")])?;
+    let columns = Columns::first(alloc, 1, &[(0, Bytes::from_static(b"v"))])?;
     Ok(Receipt::Call {
         request: get_request(alloc),
         answer: Answer::Found(Row {
             version: 2,
-            columns: Items::from_vec(columns),
+            columns,
         }),
         from: 1,
         to: 1,

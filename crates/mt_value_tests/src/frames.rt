@@ -6,7 +6,7 @@ use mt_types::items::Items;
 use mt_types::key::Key;
 use mt_types::numbers::{CallNo, PassNo, ViewNo};
 use mt_types::refusal::Refusal;
-use mt_types::row::Row;
+use mt_types::row::{Columns, Row};
 use mt_types::view::{Page, RowTest, ViewSpec};
 use mt_wire::decoder::Decoder;
 use mt_wire::encode::{encode_replies, encode_requests, replies_fit, requests_fit};
@@ -50,7 +50,7 @@ fn asked(alloc: Global) -> Result<[Query; 2], Fail> {
 }
 
 fn row(alloc: Global, version: u64) -> Result<Row, Fail> {
-    let columns = Items::from_vec(vec![in alloc; v()]?);
+    let columns = Columns::first(alloc, 1, &[(0, v())])?;
     Ok(Row { version, columns })
 }
 

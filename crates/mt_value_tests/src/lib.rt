@@ -5,6 +5,8 @@
 #[cfg(test)]
 mod arenas;
 #[cfg(test)]
+mod columns;
+#[cfg(test)]
 mod frames;
 #[cfg(test)]
 mod interiors;

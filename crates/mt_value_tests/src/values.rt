@@ -8,7 +8,7 @@ use mt_types::items::Items;
 use mt_types::key::Key;
 use mt_types::numbers::{CallNo, PassNo, ViewNo};
 use mt_types::refusal::{NoMemory, Refusal};
-use mt_types::row::{Change, ColumnNumbers, Delta, Row, Sets};
+use mt_types::row::{Change, ColumnNumbers, Columns, Delta, Row, Sets};
 use mt_types::view::{Page, RowTest, ViewSpec};
 use std::alloc::Global;
 use std::test::Fail;
@@ -26,7 +26,7 @@ fn list<T: Drop>(alloc: Global, item: T) -> Result<Items<T>, NoMemory> {
 fn row(alloc: Global) -> Result<Row, NoMemory> {
     Ok(Row {
         version: 7,
-        columns: list(alloc, bytes())?,
+        columns: Columns::first(alloc, 1, &[(0, bytes())])?,
     })
 }
 
