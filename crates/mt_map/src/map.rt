@@ -133,8 +133,8 @@ impl Map {
     /// Returns the first rows whose keys are at or after `start`, at most `limit`, in the order of keys, each with the
     /// columns that are asked for, or with all if none is asked for.
     ///
-    /// Costs the visit of the nodes on the way to `start`, and of each border from there on. Allocates for the key and
-    /// the row of each pair, and shares the bytes of the columns.
+    /// Costs the visit of the nodes on the way to `start`, and of each border from there on. Allocates for the keys,
+    /// and for the columns if some are asked for; all columns of a row are shared.
     ///
     /// # Errors
     ///

@@ -34,7 +34,7 @@ impl Map {
     /// Reads a page of a view: its count, its sums, and its first rows whose keys are at or after `start`, at most
     /// `limit`. The page is at `floor` commits or more. Nothing happens to the map.
     ///
-    /// Costs O(log n + k) for a page of k rows, with an allocation for each.
+    /// Costs O(log n + k) for a page of k rows, which share the bytes of the view's.
     ///
     /// # Errors
     ///

@@ -20,7 +20,7 @@ use std::alloc::Global;
 /// Makes one event. The page is at `floor` commits or more. A caller that wants a page no older than what its pass has
 /// seen passes `pass.seen()`. What a page shows isn't counted as seen.
 ///
-/// Costs O(log n + k) for a page of k rows, with an allocation for each.
+/// Costs O(log n + k) for a page of k rows, which share the bytes of the view's.
 ///
 /// # Errors
 ///
