@@ -62,7 +62,8 @@ impl<'a, W: Wait> Shared for HoldingDoor<'a, W> {
     /// under it too. After `Nothing` it isn't held.
     fn hold(&mut self, hold: Hold) {
         match (&self.held, hold) {
-            (Held::Reads(_), Hold::Reads) | (Held::Changes(_), Hold::Reads | Hold::Changes) => return,
+            (Held::Reads(_), Hold::Reads) | (Held::Changes(_), Hold::Reads | Hold::Changes) =>
+                return,
             _ => {}
         }
         self.held = Held::Nothing;
