@@ -36,9 +36,9 @@ pub(crate) fn push_comma(out: &mut String, place: usize) -> Result<(), AllocErro
 fn push_values(alloc: Global, out: &mut String, columns: &Columns) -> Result<(), AllocError>
     ensures { OnOk result (string_bytes out.new ≡ string_bytes out.old ++ values_text columns.now) }
 {
-    for (i, column) in columns.iter().enumerate() {
+    for i in 0..columns.len() {
         push_comma(out, i)?;
-        push_bytes(alloc, out, column)?;
+        push_bytes(alloc, out, columns.get_or_empty(i))?;
     }
     Ok(())
 }

@@ -30,7 +30,11 @@ fn bytes_of(columns: &Columns) -> usize {
 
 #[test]
 fn columns_are_read_back(rt: HostRuntime) -> Result<(), Fail> {
-    let parts = [Bytes::new(), Bytes::from_static(b"ab"), Bytes::from_static(&LONGEST)];
+    let parts = [
+        Bytes::new(),
+        Bytes::from_static(b"ab"),
+        Bytes::from_static(&LONGEST),
+    ];
     let columns = Columns::pack(rt.alloc(), &parts)?.ok_or("packed")?;
     assert_eq!(rt; columns.len(), 3);
     assert!(rt; !columns.is_empty());
