@@ -2,34 +2,21 @@
 
 ghost use Rattle.std.specs.Prelude.{◌≡◌, ◌≤◌, ◌++◌, ℕ, List, OnOk, IfOk, length, drop};
 ghost use Rattle.std.specs.List.{flat_map};
-ghost use Rattle.mt_types.specs.Rows.{chosen, shown};
+ghost use Rattle.mt_types.specs.Rows.{shown};
 ghost use Rattle.mt_types.specs.declared.row.Row.{Row as RowValue};
 ghost use Rattle.mt_index.specs.Alone.{IsIdle};
 ghost use Rattle.rowanspan_c.specs.Questions.{ArePlainRows};
-ghost use Rattle.rowanspan_c.specs.Spelling.{number_spelling, bytes_spelling, list_spelling, row_spelling, pair_spelling, pairs_spelling};
+ghost use Rattle.rowanspan_c.specs.Spelling.{number_spelling, bytes_spelling, row_spelling, pair_spelling, pairs_spelling};
 
-use crate::placing::{NUMBER_BYTES, column, count};
-use crate::spelling::{bytes, number};
+use crate::placing::NUMBER_BYTES;
+use crate::spelling::{bytes, columns, number};
 use mt_index::machine::Machine;
 use mt_map::walk::Rows;
 use mt_types::items::Items;
 use mt_types::key::Key;
 use mt_types::refusal::NoMemory;
-use mt_types::row::{Columns, Row};
+use mt_types::row::Row;
 use std::alloc::{AllocError, Global};
-
-// Writes the columns that are shown, with how many there are before them.
-fn columns(out: &mut Vec<u8>, columns: &Columns, asked: &[u8]) -> Result<(), AllocError>
-    ensures { OnOk result (out.new.items
-        ≡ out.old.items ++ list_spelling bytes_spelling (chosen asked.now columns.now)) }
-{
-    let count = count(columns, asked);
-    number(out, count as u64)?;
-    for place in 0..count {
-        bytes(out, column(columns, asked, place))?;
-    }
-    Ok(())
-}
 
 // Writes a key, and its row with the columns that are asked for.
 fn pair(out: &mut Vec<u8>, key: &[u8], row: &Row, asked: &[u8]) -> Result<(), AllocError>

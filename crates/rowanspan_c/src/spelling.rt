@@ -2,8 +2,10 @@
 
 ghost use Rattle.std.specs.Prelude.{◌≡◌, ◌++◌, ℕ, List, OnOk, IfOk};
 ghost use Rattle.std.specs.List.{flat_map};
+ghost use Rattle.mt_types.specs.Rows.{chosen};
 ghost use Rattle.rowanspan_c.specs.Spelling.{number_spelling, bytes_spelling, list_spelling, row_spelling, maybe_spelling, page_spelling, pairs_spelling, deltas_spelling};
 
+use crate::placing::{column, count};
 use mt_types::items::Items;
 use mt_types::key::Key;
 use mt_types::row::{Columns, Delta, Row};
@@ -50,13 +52,15 @@ fn list<T: Spelled>(out: &mut Vec<u8>, list: &[T]) -> Result<(), AllocError>
     items(out, list)
 }
 
-// Writes columns, with how many there are before them.
-fn columns(out: &mut Vec<u8>, columns: &Columns) -> Result<(), AllocError>
-    ensures { OnOk result (out.new.items ≡ out.old.items ++ list_spelling bytes_spelling columns.now) }
+/// Writes the columns that are asked for, or all if none is asked for, with how many there are before them.
+pub(crate) fn columns(out: &mut Vec<u8>, columns: &Columns, asked: &[u8]) -> Result<(), AllocError>
+    ensures { OnOk result (out.new.items
+        ≡ out.old.items ++ list_spelling bytes_spelling (chosen asked.now columns.now)) }
 {
-    number(out, columns.len() as u64)?;
-    for column in columns.iter() {
-        bytes(out, column)?;
+    let count = count(columns, asked);
+    number(out, count as u64)?;
+    for place in 0..count {
+        bytes(out, column(columns, asked, place))?;
     }
     Ok(())
 }
@@ -92,7 +96,7 @@ impl Spelled for Row {
 
     fn write(&self, out: &mut Vec<u8>) -> Result<(), AllocError> {
         number(out, self.version)?;
-        columns(out, &self.columns)
+        columns(out, &self.columns, &[])
     }
 }
 

@@ -1,4 +1,4 @@
-use Rattle.std.proofs.Common.{◌≡◌, ℕ, List, ◌++◌, OnOk, subst}
+use Rattle.std.proofs.Common.{◌++◌}
 use Rattle.mt_types.specs.Rows.{chosen}
 use Rattle.rowanspan_c.specs.Spelling.{number_spelling, bytes_spelling, list_spelling}
 use Rattle.rowanspan_c.proofs.Written.{last_written}
@@ -8,8 +8,6 @@ pub returns : goal.returns
 returns c =
     let old = c.args.out.now.items in let new = c.columns.new.out.items in
     let key = bytes_spelling c.args.key.now in let version = number_spelling c.args.row.now.version in
-    let columns = list_spelling bytes_spelling (chosen c.args.asked.now c.as_slice.result.now) in
-    let after_key = last_written c.columns.result c.bytes.new.out.items c.number.new.out.items new version columns c.in_ok-number.ensures c.columns.ensures in
-    subst (λ (columns : List (List ℕ)). OnOk c.columns.result (new ≡ old ++ (key ++ (version ++ list_spelling bytes_spelling (chosen c.args.asked.now columns)))))
-    c.as_slice.ensures
-    (last_written c.columns.result old c.bytes.new.out.items new key (version ++ columns) c.in_ok-bytes.ensures after_key)
+    let columns = list_spelling bytes_spelling (chosen c.args.asked.now c.args.row.now.columns) in
+    last_written c.columns.result old c.bytes.new.out.items new key (version ++ columns) c.in_ok-bytes.ensures
+    (last_written c.columns.result c.bytes.new.out.items c.number.new.out.items new version columns c.in_ok-number.ensures c.columns.ensures)
