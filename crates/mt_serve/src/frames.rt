@@ -30,6 +30,8 @@ pub const MOST_FRAMES: u64 = 70_368_744_177_664;
 pub struct Frames<R> {
     reader: Counted<R>,
     decoder: Decoder,
+    // What the last read gave. It is cleared once, and not for each read.
+    piece: [u8; PIECE],
 }
 
 impl<R: Read> Frames<R> {
@@ -41,6 +43,7 @@ impl<R: Read> Frames<R> {
         Frames {
             reader: Counted::new(reader),
             decoder: Decoder::new(alloc),
+            piece: [0; PIECE],
         }
     }
 
@@ -58,11 +61,10 @@ impl<R: Read> Frames<R> {
             × Keeps (frames_unread R.remaining self.old) (frames_unread R.remaining self.new)) }
         ensures only { IfErr result (λ fault. (fault ≡ ReadFault) ⊎ (fault ≡ NoMemory)) }
     {
-        let mut piece = [0; PIECE];
-        let Ok(count) = self.reader.read(piece.as_mut_slice()) else {
+        let Ok(count) = self.reader.read(self.piece.as_mut_slice()) else {
             return Err(SessionFault::Read);
         };
-        self.decoder.feed(&piece[..count])?;
+        self.decoder.feed(&self.piece[..count])?;
         Ok(count)
     }
 
