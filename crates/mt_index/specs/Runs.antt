@@ -3,7 +3,6 @@ use Rattle.std.specs.Prelude.{ℕ, ◌≡◌, ◌≤◌, ◌<◌, ◌+◌, max, 
 use Rattle.mt_types.specs.declared.numbers.CallNo.{CallNo}
 use Rattle.mt_types.specs.declared.numbers.PassNo.{PassNo}
 use Rattle.mt_types.specs.declared.event.Request.{Request}
-use Rattle.mt_types.specs.declared.event.Request.TheVariants.{Put, PutIf, Remove}
 use Rattle.mt_types.specs.declared.event.Event.TheVariants.{Begin}
 use Rattle.mt_types.specs.declared.event.Outcome.{Outcome}
 use Rattle.mt_types.specs.declared.event.Outcome.TheVariants.{Call as Called, Refused as RefusedOutcome}
@@ -16,13 +15,6 @@ use Rattle.mt_index.specs.declared.calling.CallRun.{CallRun}
 use Rattle.mt_index.specs.declared.calling.CallRun.TheVariants.{Refused, Ran}
 use Rattle.mt_index.specs.Events.{GoesOnAtOnce, GoesThrough, Makes, commit_count}
 use Rattle.mt_index.specs.Stands.{MachineView, HasBounds, Begins, Steps}
-
--- a put or a remove
-abbrev pub is_write : Request → Bool
-is_write (Put key sets) = true
-is_write (PutIf key sets version) = true
-is_write (Remove key) = true
-is_write _ = false
 
 -- the step has ended its call
 abbrev pub has_ended : Progress → Bool

@@ -4,7 +4,8 @@ ghost use Rattle.std.specs.Prelude.{◌≡◌, true, None};
 ghost use Rattle.mt_index.specs.declared.calling.CallRun.TheVariants.{Ran};
 ghost use Rattle.mt_index.specs.Alone.{IsIdle};
 ghost use Rattle.mt_index.specs.Stands.{fault_of, outcome_of};
-ghost use Rattle.mt_index.specs.Runs.{BeginsOrNot, CallGoes, RunIsLimited, RunsAtMost, has_ended, is_write};
+ghost use Rattle.mt_index.specs.Runs.{BeginsOrNot, CallGoes, RunIsLimited, RunsAtMost, has_ended};
+ghost use Rattle.mt_works.specs.Works.{is_write};
 
 use crate::calls::Call;
 use crate::machine::Machine;
@@ -13,7 +14,7 @@ use mt_steps::progress::Progress;
 use mt_types::event::{Outcome, Reply, Request};
 use mt_types::numbers::{CallNo, PassNo};
 use mt_types::refusal::Refusal;
-use mt_works::work::{Pace, Work, work_of};
+use mt_works::work::{Pace, Work, write_of};
 use mt_write::running::WriteRun;
 use std::alloc::Global;
 
@@ -92,11 +93,8 @@ impl Machine {
         ensures most { RunsAtMost most result }
     {
         let from = self.log.number();
-        let Ok(work) = work_of(alloc, self.columns, from, request) else {
+        let Ok(mut write) = write_of(request) else {
             return CallRun::Refused(Refusal::NoMemory);
-        };
-        let Work::Write(mut write) = work else {
-            unreachable!()
         };
         let run = write.run(alloc, self.columns, &mut self.tree, &mut self.log, most);
         let to = self.log.number();

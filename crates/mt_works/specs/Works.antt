@@ -1,5 +1,5 @@
 -- The kinds of calls: what each asks for, what it has, and what is true of it.
-use Rattle.std.specs.Prelude.{ℕ, ◌≡◌, ◌≤◌, List, [], length, None}
+use Rattle.std.specs.Prelude.{ℕ, ◌≡◌, ◌≤◌, Bool, true, false, List, [], length, None}
 use Rattle.mt_types.specs.declared.event.Request.{Request}
 use Rattle.mt_types.specs.declared.event.Request.TheVariants.{Get as GetRequest, Put as PutRequest, PutIf as PutIfRequest, Remove as RemoveRequest, Range as RangeRequest, Tidy as TidyRequest, Build as BuildRequest}
 use Rattle.mt_types.specs.declared.limits.TheConstants.{MAX_KEY_BYTES}
@@ -118,3 +118,10 @@ pub record IsNew (C number : ℕ) (work : Work) : Type 0 where
   pub at_start : IsAtStart work
   pub true : (a : ArenaView) (now begun : ℕ) (w : World) → IsWorld a now w → IsTrue C work begun 0 [] a w
   pub opens : OpensAt C number work
+
+-- a put or a remove
+abbrev pub is_write : Request → Bool
+is_write (PutRequest key sets) = true
+is_write (PutIfRequest key sets version) = true
+is_write (RemoveRequest key) = true
+is_write _ = false

@@ -1,6 +1,6 @@
 //! The kinds of calls.
 
-ghost use Rattle.std.specs.Prelude.{◌≡◌, ◌↔◌, ℕ, IfOk, IsTrue as IsTrueBool};
+ghost use Rattle.std.specs.Prelude.{◌≡◌, ◌↔◌, ℕ, IfOk, true, IsTrue as IsTrueBool};
 ghost use Rattle.mt_types.specs.declared.event.Request.TheVariants.{Range as RangeRequest, Build as BuildRequest};
 ghost use Rattle.mt_promise.specs.Legal.{reads_log, is_build};
 ghost use Rattle.mt_steps.specs.Step.{StepLawIn};
@@ -8,7 +8,7 @@ ghost use Rattle.mt_steps.specs.Ranging.{range_request};
 ghost use Rattle.mt_works.specs.Building.{building_request};
 ghost use Rattle.mt_works.specs.Causes.{WorkWaits, WorkFails};
 ghost use Rattle.mt_works.specs.Follows.{WorkFollows, WorkReads, WorkPosts};
-ghost use Rattle.mt_works.specs.Works.{request_of, held, IsTrue, IsKey, IsNew, MayWork, MayPace, IsBuiltWork, HasNext, WorkBuilds};
+ghost use Rattle.mt_works.specs.Works.{request_of, held, is_write, IsTrue, IsKey, IsNew, MayWork, MayPace, IsBuiltWork, HasNext, WorkBuilds};
 
 use crate::building::Building;
 use bytes::Bytes;
@@ -195,6 +195,34 @@ fn new_building(
     })
 }
 
+/// Returns the work of a put or remove with this request, whose key is not too long. The request is moved into the work,
+/// and nothing is allocated.
+///
+/// # Errors
+///
+/// `NoMemory` if the key is too long: the begin of a call tests that.
+pub fn write_of(request: Request) -> Result<Write, NoMemory>
+    requires { is_write request ≡ true }
+    ensures request { IfOk result (λ write. request_of (Work.Write write) ≡ request) }
+    ensures new { IfOk result (λ write. (C number : ℕ) → IsNew C number (Work.Write write)) }
+{
+    match request {
+        Request::Put { key, sets } => {
+            let edit = Edit::Put { sets, only: None };
+            Ok(new_write(key_of(key)?, edit))
+        }
+        Request::PutIf { key, sets, version } => {
+            let edit = Edit::Put {
+                sets,
+                only: Some(version),
+            };
+            Ok(new_write(key_of(key)?, edit))
+        }
+        Request::Remove { key } => Ok(new_write(key_of(key)?, Edit::Remove)),
+        _ => unreachable!(),
+    }
+}
+
 /// Returns the work of a call with this request, whose keys are not too long, and which begins after `number` commits.
 /// The request is moved into the work: for a get, put, remove or tidy nothing is allocated.
 ///
@@ -212,18 +240,6 @@ pub fn work_of(alloc: Global, columns: u8, number: u64, request: Request) -> Res
             way: START,
             finding: Finding::Begins,
         })),
-        Request::Put { key, sets } => {
-            let edit = Edit::Put { sets, only: None };
-            Ok(Work::Write(new_write(key_of(key)?, edit)))
-        }
-        Request::PutIf { key, sets, version } => {
-            let edit = Edit::Put {
-                sets,
-                only: Some(version),
-            };
-            Ok(Work::Write(new_write(key_of(key)?, edit)))
-        }
-        Request::Remove { key } => Ok(Work::Write(new_write(key_of(key)?, Edit::Remove))),
         Request::Range {
             start,
             limit,
@@ -231,5 +247,6 @@ pub fn work_of(alloc: Global, columns: u8, number: u64, request: Request) -> Res
         } => Ok(Work::Range(new_range(alloc, key_of(start)?, limit, columns)?)),
         Request::Tidy { key } => Ok(Work::Tidy(Tidy::new(key_of(key)?))),
         Request::Build { spec } => Ok(Work::Build(new_building(alloc, columns, number, spec)?)),
+        write => Ok(Work::Write(write_of(write)?)),
     }
 }
