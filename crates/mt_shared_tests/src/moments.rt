@@ -23,7 +23,11 @@ fn sets(alloc: Global, value: &'static [u8]) -> Result<Sets, Refusal> {
 
 // How many rows a moment shows from a key on, and the version of the last of them, by a walk. `None` if it shows none
 // because a change is under way.
-fn rows(alloc: Global, moment: &Moment<'_>, start: &'static [u8]) -> Result<Option<(u64, u64)>, Refusal> {
+fn rows(
+    alloc: Global,
+    moment: &Moment<'_>,
+    start: &'static [u8],
+) -> Result<Option<(u64, u64)>, Refusal> {
     let Some(machine) = moment.machine() else {
         return Ok(None);
     };
@@ -57,12 +61,18 @@ fn a_moment_of_rows(rt: HostRuntime) -> Result<(), Fail> {
     assert_eq!(rt; rows(alloc, &moment, b""), Ok(Some((2, 2))));
     assert_eq!(rt; rows(alloc, &moment, b"b"), Ok(Some((1, 2))));
     assert_eq!(rt; rows(alloc, &moment, b"q"), Ok(Some((0, 0))));
-    assert_eq!(rt; row(&moment, &Key::new(Bytes::from_static(b"apple"))?), Some((1, b"red".as_slice())));
+    assert_eq!(rt;
+        row(&moment, &Key::new(Bytes::from_static(b"apple"))?),
+        Some((1, b"red".as_slice()))
+    );
     assert_eq!(rt; row(&moment, &Key::new(Bytes::from_static(b"plum"))?), None);
     drop(moment);
     let _ = caller.put(Bytes::from_static(b"apple"), sets(alloc, b"yellow")?)?;
     let moment = caller.shared.moment();
-    assert_eq!(rt; row(&moment, &Key::new(Bytes::from_static(b"apple"))?), Some((3, b"yellow".as_slice())));
+    assert_eq!(rt;
+        row(&moment, &Key::new(Bytes::from_static(b"apple"))?),
+        Some((3, b"yellow".as_slice()))
+    );
     Ok(())
 }
 
