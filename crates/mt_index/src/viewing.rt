@@ -140,7 +140,7 @@ pub(crate) fn apply_next(
 }
 
 /// Returns a page of the view of this number, which exists: its count, its sums, and its first rows whose keys are at
-/// or after `start`, at most `limit`. O(log n + k) for k rows, with an allocation for each.
+/// or after `start`, at most `limit`. Shares keys and rows. O(log n + k) for k rows.
 ///
 /// # Errors
 ///
@@ -164,8 +164,7 @@ pub(crate) fn page(
 
 impl Machine {
     /// Returns the number of commits at which a view is, and a copy of its state. From there on a caller can advance
-    /// the copy by deltas. No event happens. O(n log n) in the rows of the view, with an allocation for each. Shares
-    /// the bytes.
+    /// the copy by deltas. No event happens. Shares keys and rows. O(n log n) in the rows of the view.
     ///
     /// # Errors
     ///
@@ -212,7 +211,7 @@ impl Machine {
     /// Reads a page of a view: its count, its sums, and its first rows whose keys are at or after `start`, at most
     /// `limit`. The page is at `floor` commits or more. No event happens.
     ///
-    /// Costs O(log n + k) for a page of k rows, with an allocation for each.
+    /// Shares keys and rows. Costs O(log n + k) for a page of k rows.
     ///
     /// # Errors
     ///

@@ -13,7 +13,7 @@ pub(crate) type Step = (&'static [u8], &'static [u8], u64, u128);
 
 /// A row of one column.
 pub(crate) fn row(alloc: Global, version: u64, column: &'static [u8]) -> Result<Row, Refusal> {
-    let columns = Columns::first(alloc, 1, &[(0, Bytes::from_static(column))])?;
+    let columns = Columns::of_new_row(alloc, 1, &[(0, Bytes::from_static(column))])?;
     Ok(Row { version, columns })
 }
 

@@ -98,7 +98,7 @@ impl Map {
 
     /// Builds a view, and returns its number. It is at the newest commit. [`Map::keep_views`] advances it afterwards.
     ///
-    /// Costs the visit of each border of its range, and O(n log n) in its rows, with an allocation for each.
+    /// Costs the visit of each border of its range, and O(n log n) in its rows.
     ///
     /// # Errors
     ///

@@ -43,8 +43,8 @@ impl ViewReader {
 
     /// Reads a page of what is published: its count, its sums, and its first rows whose keys are at or after `start`,
     /// at most `limit`. The page is that of the opening state after a list of deltas. This list begins with the list of
-    /// the read before, and with each list that the reader has learnt of. Waits for nobody, and takes no lock. O(log n
-    /// + k) for a page of k rows, with an allocation for each.
+    /// the read before, and with each list that the reader has learnt of. Waits for nobody, and takes no lock. Shares
+    /// keys and rows. O(log n + k) for a page of k rows.
     ///
     /// # Errors
     ///

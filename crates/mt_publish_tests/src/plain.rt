@@ -40,7 +40,7 @@ fn row_of(alloc: Global, number: u64) -> Result<Row, Refusal> {
     let column = Bytes::copy_from_slice(alloc, &number.to_be_bytes())?;
     Ok(Row {
         version: number,
-        columns: Columns::first(alloc, 1, &[(0, column)])?,
+        columns: Columns::of_new_row(alloc, 1, &[(0, column)])?,
     })
 }
 

@@ -29,6 +29,6 @@ pub fn new_row(alloc: Global, count: u8, number: u64, sets: &Sets) -> Result<Row
 {
     Ok(Row {
         version: number,
-        columns: Columns::first(alloc, count, sets.as_slice())?,
+        columns: Columns::of_new_row(alloc, count, sets.as_slice())?,
     })
 }

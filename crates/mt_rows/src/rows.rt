@@ -80,7 +80,7 @@ impl Rows {
     }
 
     /// Returns a copy of the first rows whose keys are at or after `start`, at most `limit`, each with its key. Shares
-    /// the bytes. O(log n + m) in the rows and the columns that it returns, with an allocation for each returned row.
+    /// keys and rows. O(log n + m) in the rows and those that it returns.
     pub fn page(&self, alloc: Global, start: &Key, limit: usize) -> Result<Pairs, NoMemory>
         ensures { IfOk result (λ pairs. pairs ≡ page_from start.now limit (map.entries self.now)) }
     {

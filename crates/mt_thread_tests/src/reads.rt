@@ -266,7 +266,7 @@ fn reads_among_open_writes(rt: HostRuntime) -> Result<(), Fail> {
 fn no_row(alloc: Global) -> Result<Row, Refusal> {
     Ok(Row {
         version: 1,
-        columns: Columns::first(alloc, 1, &[])?,
+        columns: Columns::of_new_row(alloc, 1, &[])?,
     })
 }
 

@@ -225,7 +225,7 @@ fn sums(passes: &[Pass]) -> (u64, u64) {
 
 // The get that came last, with a row of another version.
 fn changed(alloc: Global) -> Result<Receipt, Refusal> {
-    let columns = Columns::first(alloc, 1, &[(0, Bytes::from_static(b"v"))])?;
+    let columns = Columns::of_new_row(alloc, 1, &[(0, Bytes::from_static(b"v"))])?;
     Ok(Receipt::Call {
         request: get_request(alloc),
         answer: Answer::Found(Row {

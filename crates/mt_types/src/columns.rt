@@ -77,7 +77,7 @@ impl Columns {
     /// # Errors
     ///
     /// `NoMemory` if an allocation is refused, or if a set has more than 255 bytes.
-    pub fn first(alloc: Global, count: u8, sets: &[(u8, Column)]) -> Result<Columns, NoMemory>
+    pub fn of_new_row(alloc: Global, count: u8, sets: &[(u8, Column)]) -> Result<Columns, NoMemory>
         ensures { IfOk result (λ made. made ≡ new_columns sets.now 0 (replicate count [])) }
     {
         let mut room: usize = 1;
@@ -180,8 +180,9 @@ impl Columns {
         room
     }
 
-    /// Returns what a put makes of these columns: those that `sets` names get new bytes, as in [`first`](Self::first),
-    /// and the others keep theirs. O(n) in the bytes and in the columns times the sets, with two allocations.
+    /// Returns what a put makes of these columns: those that `sets` names get new bytes, as in
+    /// [`of_new_row`](Self::of_new_row), and the others keep theirs. O(n) in the bytes and in the columns times the
+    /// sets, with two allocations.
     ///
     /// # Errors
     ///

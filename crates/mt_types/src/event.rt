@@ -257,8 +257,8 @@ impl TryCopy for Event {
 }
 
 impl TryCopy for Answer {
-    /// Shares the bytes. O(n) in the columns that it holds, with an allocation for each row and one for a list of rows.
-    /// An answer without rows allocates nothing, and its copy cannot fail (`free`).
+    /// Shares keys and rows. O(n) in the rows that it holds, with one allocation, for a list of rows. An answer without
+    /// rows allocates nothing, and its copy cannot fail (`free`).
     fn copy(&self, alloc: Global) -> Result<Answer, NoMemory>
         ensures value { IfOk result (λ made. made ≡ self.now) }
         ensures free { IsBareAnswer self.now → IsOk result }

@@ -11,7 +11,7 @@ use crate::row::Column;
 /// The most columns of a row, and the most bytes of a column, since each number is one byte.
 pub(crate) const MAX_PIECE: usize = 255;
 
-fn has_long_column(columns: &[Column]) -> bool
+fn has_long_part(columns: &[Column]) -> bool
     ensures { result ≡ list_any (λ column. nat_lt 255 (length column)) columns.now }
 {
     for column in columns {
@@ -26,7 +26,7 @@ fn has_long_column(columns: &[Column]) -> bool
 pub(crate) fn are_packable(columns: &[Column]) -> bool
     ensures { result ≡ are_packable columns.now }
 {
-    columns.len() <= MAX_PIECE && !has_long_column(columns)
+    columns.len() <= MAX_PIECE && !has_long_part(columns)
 }
 
 // The first column, and the pieces of the others.

@@ -87,8 +87,7 @@ impl TryCopy for ViewSpec {
 }
 
 impl TryCopy for Page {
-    /// Shares the bytes. O(n) in the columns that it holds, with an allocation for each row and one for each of its two
-    /// lists.
+    /// Shares keys and rows. O(n) in the rows that it holds, with an allocation for each of its two lists.
     fn copy(&self, alloc: Global) -> Result<Page, NoMemory> {
         Ok(Page {
             at: self.at,

@@ -62,7 +62,7 @@ fn columns_whose_lengths_are_no_bytes(rt: HostRuntime) -> Result<(), Fail> {
 #[test]
 fn a_put_of_columns(rt: HostRuntime) -> Result<(), Fail> {
     let alloc = rt.alloc();
-    let first = Columns::first(alloc, 2, &[(1, Bytes::from_static(b"v"))])?;
+    let first = Columns::of_new_row(alloc, 2, &[(1, Bytes::from_static(b"v"))])?;
     assert_eq!(rt; first.as_packed(), b"\x02\x00\x01v".as_slice());
     let sets = [
         (0, Bytes::from_static(b"first")),

@@ -50,7 +50,7 @@ fn asked(alloc: Global) -> Result<[Query; 2], Fail> {
 }
 
 fn row(alloc: Global, version: u64) -> Result<Row, Fail> {
-    let columns = Columns::first(alloc, 1, &[(0, v())])?;
+    let columns = Columns::of_new_row(alloc, 1, &[(0, v())])?;
     Ok(Row { version, columns })
 }
 

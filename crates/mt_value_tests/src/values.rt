@@ -26,7 +26,7 @@ fn list<T: Drop>(alloc: Global, item: T) -> Result<Items<T>, NoMemory> {
 fn row(alloc: Global) -> Result<Row, NoMemory> {
     Ok(Row {
         version: 7,
-        columns: Columns::first(alloc, 1, &[(0, bytes())])?,
+        columns: Columns::of_new_row(alloc, 1, &[(0, bytes())])?,
     })
 }
 

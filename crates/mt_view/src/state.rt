@@ -73,8 +73,8 @@ impl ViewState {
     }
 
     /// Returns the state of a view of these rows, each with its key, at the number of a commit: it holds those that
-    /// belong to the view. Of two rows of one key the later counts. It sums `columns` columns. Shares the bytes.
-    /// O(n log n) in the rows, with an allocation for each.
+    /// belong to the view. Of two rows of one key the later counts. It sums `columns` columns. Shares keys and rows.
+    /// O(n log n) in the rows.
     ///
     /// # Errors
     ///
@@ -140,7 +140,7 @@ impl ViewState {
     }
 
     /// Takes in rows that were read, each with its key, instead of what the state shows under that key: it holds those
-    /// that belong to the view. Its number stays. Shares the bytes. O(m log n) for m rows, with an allocation for each.
+    /// that belong to the view. Its number stays. Shares keys and rows. O(m log n) for m rows.
     ///
     /// # Errors
     ///
@@ -193,8 +193,8 @@ impl ViewState {
     }
 
     /// Returns what the state shows from a key on: its number, its count, its sums, and a copy of the first rows from
-    /// that key on, up to the limit. Shares the bytes. O(log n + m) in the rows that it holds and the columns of the
-    /// page, with an allocation for each row of the page.
+    /// that key on, up to the limit. Shares keys and rows. O(log n + m) in the rows that it holds and those of the
+    /// page.
     pub fn read(&self, start: &Key, limit: u16) -> Result<Page, NoMemory>
         ensures { IfOk result (λ page. page ≡ page_of_state self.now start.now limit) }
     {
@@ -244,8 +244,7 @@ fn copied_rows(alloc: Global, rows: &BTreeMap<Key, Row>) -> Result<BTreeMap<Key,
 }
 
 impl TryCopy for ViewState {
-    /// Shares the bytes. O(n log n) in the rows, with an allocation for each. Applied to the same deltas, both states
-    /// stay equal.
+    /// Shares keys and rows. O(n log n) in the rows. Applied to the same deltas, both states stay equal.
     fn copy(&self, alloc: Global) -> Result<ViewState, NoMemory> {
         Ok(ViewState {
             alloc,

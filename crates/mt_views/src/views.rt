@@ -186,8 +186,8 @@ impl Views {
         Ok(())
     }
 
-    /// Returns a page of a view: what it shows from a key on, up to the limit. O(log n + m) in its rows and the columns
-    /// of the page, with an allocation for each row of the page. Shares the bytes.
+    /// Returns a page of a view: what it shows from a key on, up to the limit. Shares keys and rows. O(log n + m) in its
+    /// rows and those of the page.
     ///
     /// # Errors
     ///
@@ -203,7 +203,7 @@ impl Views {
         }
     }
 
-    /// Returns a copy of a view's state. O(n log n) in its rows, with an allocation for each. Shares the bytes.
+    /// Returns a copy of a view's state. Shares keys and rows. O(n log n) in its rows.
     ///
     /// # Errors
     ///

@@ -18,7 +18,7 @@ pub fn made_columns(
     ensures { IfOk result (λ columns. columns ≡ new_columns sets.now 0 (columns_before count (option_copied old.entry))) }
 {
     match old {
-        None => Columns::first(alloc, count, sets.as_slice()),
+        None => Columns::of_new_row(alloc, count, sets.as_slice()),
         Some(row) => row.columns.with_sets(alloc, sets.as_slice()),
     }
 }

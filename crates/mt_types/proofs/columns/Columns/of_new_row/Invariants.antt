@@ -1,7 +1,7 @@
 use Rattle.std.proofs.Common.{◌≡◌, ◌++◌, [], drop, replicate}
 use Rattle.mt_types.specs.Rows.{new_columns}
 use Rattle.mt_types.specs.Packed.{pieces, packed}
-use Rattle.mt_types.proofs.columns.Columns.first.Given as goal
+use Rattle.mt_types.proofs.columns.Columns.of_new_row.Given as goal
 
 abbrev pub invariant-loop-number-2 : goal.invariant-loop-number-2
 invariant-loop-number-2 l =

@@ -2,7 +2,7 @@ use Rattle.std.proofs.Common.{◌≡◌, ◌∙◌, sym, arith, length, get_or, 
 use Rattle.std.proofs.lemmas.List.{length-replicate, get_or-replicate}
 use Rattle.mt_types.specs.Rows.{new_columns}
 use Rattle.mt_types.proofs.PackedLemmas.{packed_holds, unpacked_of, put_start, put_step, put_end}
-use Rattle.mt_types.proofs.columns.Columns.first.Goals as goal
+use Rattle.mt_types.proofs.columns.Columns.of_new_row.Goals as goal
 
 pub loop-number-2-init : goal.loop-number-2-init
 loop-number-2-init c =
