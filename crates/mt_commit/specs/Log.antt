@@ -43,6 +43,10 @@ trimmed log =
     let bound = min (slowest log) (newest log - log.keep) in
     record log { held_after = bound; deltas = drop (bound - log.held_after) log.deltas }
 
+-- no delta stays in it: nobody holds it, and it keeps none
+abbrev pub IsUnread : LogView → Type 0
+IsUnread log = (log.holders ≡ []) × (log.keep ≡ 0)
+
 -- the deltas are those of the commits after this number, one by one
 abbrev pub Numbered : ℕ → List Delta → Type 0
 Numbered number [] = Unit {0}

@@ -1,7 +1,8 @@
 //! The log of commits: a queue of deltas, the numbers from which it is held, and the room that was reserved.
 
-ghost use Rattle.std.specs.Prelude.{◌≡◌, ◌+◌, ◌-◌, ◌<◌, ◌≤◌, [], length, drop, IfErr, IsErrOf, None, OnOk, OnErr, MatchOption, Contains, slice_get};
+ghost use Rattle.std.specs.Prelude.{◌≡◌, ◌↔◌, ◌+◌, ◌-◌, ◌<◌, ◌≤◌, [], length, drop, IsTrue, IfErr, IsErrOf, None, OnOk, OnErr, MatchOption, Contains, slice_get};
 ghost use Rattle.std.specs.VecDeque.{deque_capacity};
+ghost use Rattle.mt_types.specs.declared.row.Delta.{Delta as DeltaView};
 
 use crate::holders::Holders;
 use mt_types::refusal::{NoMemory, Refusal};
@@ -50,7 +51,7 @@ fn drop_front(deltas: &mut VecDeque<Delta>, count: u64)
 }
 
 impl Log {
-    ghost use Rattle.mt_commit.specs.Log.{LogView, IsLog, newest, slowest, delta_of, reserve_fault, with_delta, trimmed};
+    ghost use Rattle.mt_commit.specs.Log.{LogView, IsLog, newest, slowest, delta_of, reserve_fault, with_delta, trimmed, IsUnread};
     ghost use Rattle.mt_commit.specs.Holders.{with_holder, without_holder};
 
     /// Returns the log before any commit. It is to hold at most `feed` deltas for its slowest reader, and to keep the
@@ -150,6 +151,28 @@ impl Log {
         ensures sound { IsLog self.new }
     {
         self.deltas.push_back_reserved(delta);
+        self.reserved -= 1;
+    }
+
+    /// Returns whether no delta would stay in the log: no reader holds it, and it keeps none.
+    pub fn is_unread(&self) -> bool
+        ensures { IsTrue result ↔ IsUnread self.now }
+    {
+        self.holder_count == 0 && self.keep == 0
+    }
+
+    /// Counts the next commit, in room that was reserved, if no delta would stay in the log. That is what an append of
+    /// its delta and a trim come to. O(n) in the deltas that the log has.
+    pub fn pass(&mut self)
+        requires reserved { 0 < self.old.reserved }
+        requires unread { IsUnread self.old }
+        ensures after { (delta : DeltaView) → self.new ≡ trimmed (with_delta self.old delta) }
+        ensures next { newest self.new ≡ newest self.old + 1 }
+        ensures sound { IsLog self.new }
+    {
+        let number = self.number();
+        drop_front(&mut self.deltas, number - self.held_after);
+        self.held_after = number + 1;
         self.reserved -= 1;
     }
 

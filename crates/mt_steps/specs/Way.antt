@@ -2,14 +2,16 @@
 use Rattle.std.specs.Prelude.{ℕ, ◌≡◌, ◌≤◌, ◌+◌, ◌-◌, ◌*◌, ◌⊎◌, List, length, false, Some, IsSomeAnd}
 use Rattle.mt_slice.specs.Place.{place_of, under, slices_above, rest_at, slice_number}
 use Rattle.mt_arena.specs.Arena.{ArenaView, IsArena}
-use Rattle.mt_arena.specs.Node.{node_at}
+use Rattle.mt_border.specs.Border.{BorderView}
+use Rattle.mt_border.specs.declared.found.Found.{Found}
+use Rattle.mt_arena.specs.Node.{node_at, border_at}
 use Rattle.mt_arena.specs.declared.node.Node.{Node}
 use Rattle.mt_chart.specs.Chart.{Holds, top}
 use Rattle.mt_chart.specs.Walk.{Known, Moves}
 use Rattle.mt_tree.specs.Seen.{arena_seen}
 use Rattle.mt_tree.specs.declared.visit.Visit.{Visit}
 use Rattle.mt_tree.specs.declared.visit.Visit.TheVariants.{Again as VisitAgain, To as VisitTo, Below, Here as VisitHere}
-use Rattle.mt_tree.specs.Descent.{IsHere, IsLast, MayVisit, MayVisitNode, found_for, node_visit}
+use Rattle.mt_tree.specs.Descent.{IsFoundAt, IsHere, IsLast, MayVisit, MayVisitNode, found_for, node_visit}
 use Rattle.mt_steps.specs.declared.way.Way.{Way}
 use Rattle.mt_steps.specs.declared.way.Went.{Went}
 use Rattle.mt_steps.specs.declared.way.Went.TheVariants.{Again, To, Here}
@@ -95,3 +97,10 @@ pub record Names (a : ArenaView) (number : ℕ) (node : Node) : Type 0 where
 pub record Visits (a : ArenaView) (key : List ℕ) (way : Way) (went : Went) : Type 0 where
   pub goes : (now : ℕ) (w : World) (begun : ℕ) → IsWorld a now w → IsOnWay begun key way w
       → GoesTo a begun key way w went
+
+-- a search of the border at which a call is finds this for its key
+pub record Finds (a : ArenaView) (key : List ℕ) (way : Way) (found : Found) : Type 0 where
+  pub border : BorderView
+  pub named : border_at a.nodes way.node.0 ≡ Some border
+  pub is : found ≡ found_for (rest_of key way) border.live
+  pub stands : IsFoundAt (rest_of key way) border.live found

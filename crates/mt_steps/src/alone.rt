@@ -1,22 +1,20 @@
 //! The row of a key, read of a tree in which no change is under way.
 
-ghost use Rattle.std.specs.Prelude.{◌≡◌, ◌≤◌, ◌≢◌, true, Err, IfOk, IfErr};
+ghost use Rattle.std.specs.Prelude.{◌≡◌, ◌≢◌, true, Err, IfOk, IfErr};
 ghost use Rattle.std.specs.Option.{option_copied};
-ghost use Rattle.mt_types.specs.declared.limits.TheConstants.{MAX_KEY_BYTES};
 ghost use Rattle.mt_slice.specs.Place.{AreBytes};
 ghost use Rattle.mt_border.specs.Order.{IsBorder};
 ghost use Rattle.mt_tree.specs.Descent.{is_marked, visit_border, found_for, row_found};
 ghost use Rattle.mt_arena.specs.Arena.{ArenaView};
 ghost use Rattle.mt_steps.specs.Step.{RowIs};
-ghost use Rattle.mt_steps.specs.Way.{Names, MayGoAt, Visits, went_by};
+ghost use Rattle.mt_steps.specs.Way.{Names, MayGoAt, Visits};
 ghost use Rattle.mt_steps.specs.Lone.{EndsAt, IsLoneTree};
 
 use crate::getting::row_at;
-use crate::way::{START, Way, Went, rest_of};
+use crate::way::{START, Way, Went, led, rest_of};
 use mt_arena::Node;
 use mt_border::{Border, Found};
-use mt_slice::slice_of;
-use mt_tree::{Tree, Visit, find};
+use mt_tree::{Tree, Visit, arrive};
 use mt_types::key::Key;
 use mt_types::row::Row;
 
@@ -30,36 +28,9 @@ fn look_in<'t>(border: &'t Border, rest: &[u8]) -> Result<Option<&'t Row>, Visit
     ensures again { result ≡ Err Visit.Again → border.now.version.deleted ≡ true }
     ensures sound { IsBorder border.now }
 {
-    if border.is_deleted() {
-        return Err(Visit::Again);
-    }
-    let (slice, _) = slice_of(rest);
-    if let Some(right) = border.right_for(slice) {
-        return Err(Visit::To(right));
-    }
-    match find(border, rest) {
-        Found::Link(_, head) => Err(Visit::Below(head)),
+    match arrive(border, rest)? {
         Found::Row(place) => Ok(Some(row_at(border, place))),
-        Found::Absent(_) | Found::OtherSuffix(_) => Ok(None),
-    }
-}
-
-// Returns where a visit leads from a place on a way.
-fn led(way: Way, visit: Visit) -> Went
-    requires { way.layer ≤ MAX_KEY_BYTES }
-    ensures { result ≡ went_by way visit }
-{
-    match visit {
-        Visit::Again => Went::Again,
-        Visit::To(node) => Went::To(Way {
-            node,
-            layer: way.layer,
-        }),
-        Visit::Below(node) => Went::To(Way {
-            node,
-            layer: way.layer + 1,
-        }),
-        Visit::Here => Went::Here,
+        Found::Absent(_) | Found::OtherSuffix(_) | Found::Link(_, _) => Ok(None),
     }
 }
 

@@ -1,6 +1,6 @@
 //! How a call goes down the tree to a key, and what it knows on the way.
 
-ghost use Rattle.std.specs.Prelude.{◌≡◌, ◌<◌, ◌≤◌, length, drop, true, false, IsSome, IsSomeAnd};
+ghost use Rattle.std.specs.Prelude.{◌≡◌, ◌≢◌, ◌<◌, ◌≤◌, length, drop, true, false, Err, IfOk, IfErr, IsSome, IsSomeAnd};
 ghost use Rattle.mt_slice.specs.Place.{slice_number};
 ghost use Rattle.mt_border.specs.Order.{IsBorder};
 ghost use Rattle.mt_interior.specs.Head.{IsHead};
@@ -54,22 +54,40 @@ pub fn find(border: &Border, rest: &[u8]) -> Found
     border.find(slice, class, rest_of(rest))
 }
 
-// A descent leaves a border to the right if the slice is there or beyond, or to the layer below if a link leads on.
+/// What a search in a border finds for a key, of which `rest` is what the layers above have left, if the key's way ends
+/// there. Otherwise returns where the way leads: to the right if the slice is there or beyond, or to the layer below if
+/// there is a link. Searches that border once, and takes no memory.
+pub fn arrive(border: &Border, rest: &[u8]) -> Result<Found, Visit>
+    ensures ends { IfOk result (λ found. (visit_border rest.now border.now ≡ Visit.Here)
+        × (found ≡ found_for rest.now border.now.live)) }
+    ensures stands { IfOk result (IsFoundAt rest.now border.now.live) }
+    ensures leads { IfErr result (λ visit. visit ≡ visit_border rest.now border.now) }
+    ensures on { IfErr result (λ visit. visit ≢ Visit.Here) }
+    ensures again { result ≡ Err Visit.Again → border.now.version.deleted ≡ true }
+    ensures sound { IsBorder border.now }
+{
+    if border.is_deleted() {
+        return Err(Visit::Again);
+    }
+    let (slice, _) = slice_of(rest);
+    if let Some(right) = border.right_for(slice) {
+        return Err(Visit::To(right));
+    }
+    match find(border, rest) {
+        Found::Link(_, head) => Err(Visit::Below(head)),
+        found => Ok(found),
+    }
+}
+
+// What a descent sees at a border.
 fn visit_border(border: &Border, rest: &[u8]) -> Visit
     ensures value { result ≡ visit_border rest.now border.now }
     ensures again { result ≡ Visit.Again → border.now.version.deleted ≡ true }
     ensures sound { IsBorder border.now }
 {
-    if border.is_deleted() {
-        return Visit::Again;
-    }
-    let (slice, _) = slice_of(rest);
-    if let Some(right) = border.right_for(slice) {
-        return Visit::To(right);
-    }
-    match find(border, rest) {
-        Found::Link(_, top) => Visit::Below(top),
-        Found::Absent(_) | Found::Row(_) | Found::OtherSuffix(_) => Visit::Here,
+    match arrive(border, rest) {
+        Ok(_) => Visit::Here,
+        Err(visit) => visit,
     }
 }
 

@@ -10,6 +10,6 @@ mod spares;
 mod tree;
 mod visit;
 
-pub use descent::{find, visit_head, visit_interior, visit_node};
+pub use descent::{arrive, find, visit_head, visit_interior, visit_node};
 pub use tree::{TOP, Tree};
 pub use visit::Visit;

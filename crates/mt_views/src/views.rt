@@ -186,8 +186,8 @@ impl Views {
         Ok(())
     }
 
-    /// Returns a page of a view: what it shows from a key on, up to the limit. Shares keys and rows. O(log n + m) in its
-    /// rows and those of the page.
+    /// Returns a page of a view: what it shows from a key on, up to the limit. Shares keys and rows. O(log n + m) in
+    /// its rows and those of the page.
     ///
     /// # Errors
     ///

@@ -9,8 +9,10 @@ pub mod LinkLemmas
 pub mod NewLayerLemmas
 pub mod StageSteps
 pub mod VersionLemmas
+pub mod FindLemmas
 pub mod WorkLemmas
 pub mod WriteLasts
 pub mod LoneWrite
 pub mod LoneWrites
 pub mod RunLemmas
+pub mod FinishLemmas

@@ -2,7 +2,7 @@
 use Rattle.std.proofs.Common.{ℕ, ◌≡◌, ◌≤◌, ◌+◌, ◌-◌, ◌∙◌, min, List, [], ◌∷◌, ◌++◌, length, drop, refl, sym, ap, subst, arith}
 use Rattle.std.specs.Prelude.{All, sum_by}
 use Rattle.std.proofs.lemmas.List.{length-append}
-use Rattle.std.proofs.lemmas.List.Elements.{All-nil, All-push}
+use Rattle.std.proofs.lemmas.List.Elements.{All-append, All-nil, All-push}
 use Rattle.std.proofs.lemmas.List.Sums.{sum_by-append}
 use Rattle.mt_types.specs.declared.row.Delta.{Delta}
 use Rattle.mt_types.specs.declared.event.Request.{Request}
@@ -15,6 +15,7 @@ use Rattle.mt_steps.specs.declared.progress.Progress.{Progress}
 use Rattle.mt_steps.specs.declared.progress.Progress.TheVariants.{Moved, Waits, Committed, Answered, Refused}
 use Rattle.mt_steps.specs.World.{World}
 use Rattle.mt_steps.specs.Step.{Held, IsQuiet, Does, MayStep, Stepped, ThenTrue, bounds, left_with}
+use Rattle.mt_write.specs.declared.running.WriteRun.{WriteRun}
 use Rattle.mt_write.specs.declared.writing.Write.{Write}
 use Rattle.mt_write.specs.Writing.{WriteIsTrue, write_held, write_request}
 use Rattle.mt_write.specs.Follows.{WriteStep}
@@ -111,18 +112,47 @@ run_more : (C : ℕ) (s m t : WriteState) (ps : List Progress) (p : Progress) �
 run_more C s m t [] p same more = (t, subst (λ (x : WriteState). RunStep C x p t) same more, refl)
 run_more C s m t (q ∷ ps) p (next, one, rest) more = (next, one, run_more C next m t ps p rest more)
 
-pub runs_further : (C : ℕ) (s m t : WriteState) (steps commits more : ℕ) (p : Progress) → Running C s steps commits m → RunStep C m p t → more ≡ commits_in p → Advances p → Running C s (steps + 1) (commits + more) t
-runs_further C s m t steps commits more p running step is on =
-    let many = length-append running.done (p ∷ []) in
-    let whole = sum_by-append commits_in running.done (p ∷ []) in
+run_all : (C : ℕ) (s m t : WriteState) (ps qs : List Progress) → RunSteps C s ps m → RunSteps C m qs t → RunSteps C s (ps ++ qs) t
+run_all C s m t [] qs same more = subst (λ (x : WriteState). RunSteps C x qs t) same more
+run_all C s m t (p ∷ ps) qs (next, one, rest) more = (next, one, run_all C next m t ps qs rest more)
+
+-- a run after which the call continues makes it longer
+pub runs_further : (C : ℕ) (s m t : WriteState) (steps commits : ℕ) (part : WriteRun) → Running C s steps commits m → HasRun C m part t → Advances part.last → Running C s (steps + part.steps) (commits + part.commits) t
+runs_further C s m t steps commits part running run on =
+    let ps = run.steps ++ part.last ∷ [] in
+    let many = length-append running.done ps in
+    let own = length-append run.steps (part.last ∷ []) in
+    let whole = sum_by-append commits_in running.done ps in
+    let most = sum_by-append commits_in run.steps (part.last ∷ []) in
     let a = running.many in
     let b = running.commits_are in
+    let c = run.many in
+    let d = run.commits in
     record {
-      done = running.done ++ p ∷ [];
-      advance = All-push Advances running.done p running.advance on;
-      are = run_more C s m t running.done p running.are step;
-      many = omega (arith, many, a);
-      commits_are = omega (arith, whole, b, is);
+      done = running.done ++ ps;
+      advance = All-append Advances running.done ps running.advance (All-push Advances run.steps part.last run.advance on);
+      are = run_all C s m t running.done ps running.are (run_more C m run.before t run.steps part.last run.are run.last);
+      many = omega (arith, many, own, a, c);
+      commits_are = omega (arith, whole, most, b, d);
+    }
+
+-- and with a run that ends, it is a run
+pub ends_run : (C : ℕ) (s m t : WriteState) (steps commits : ℕ) (part : WriteRun) → Running C s steps commits m → HasRun C m part t → HasRun C s (record { steps = steps + part.steps; commits = commits + part.commits; last = part.last }) t
+ends_run C s m t steps commits part running run =
+    let many = length-append running.done run.steps in
+    let whole = sum_by-append commits_in running.done run.steps in
+    let a = running.many in
+    let b = running.commits_are in
+    let c = run.many in
+    let d = run.commits in
+    record {
+      steps = running.done ++ run.steps;
+      advance = All-append Advances running.done run.steps running.advance run.advance;
+      before = run.before;
+      are = run_all C s m run.before running.done run.steps running.are run.are;
+      last = run.last;
+      many = omega (arith, many, a, c);
+      commits = omega (arith, whole, b, d);
     }
 
 pub runs_none : (C : ℕ) (s : WriteState) → Running C s 0 0 s
@@ -143,17 +173,17 @@ as_many (p ∷ ps) = let a = one_commit p in let b = as_many ps in let whole = s
 pub few_commits : {C : ℕ} {s : WriteState} {steps commits : ℕ} {t : WriteState} → Running C s steps commits t → commits ≤ steps
 few_commits running = let a = as_many running.done in let b = running.many in let c = running.commits_are in omega (arith, a, b, c)
 
--- and with one step more it is a run
-pub has_run : (C : ℕ) (s m t : WriteState) (steps commits more : ℕ) (p : Progress) → Running C s steps commits m → RunStep C m p t → more ≡ commits_in p → HasRun C s (record { steps = steps + 1; commits = commits + more; last = p }) t
-has_run C s m t steps commits more p running step is =
-    let a = running.many in
-    let b = running.commits_are in
-    record {
-      steps = running.done;
-      advance = running.advance;
-      before = m;
-      are = running.are;
-      last = step;
-      many = omega (arith, a);
-      commits = omega (arith, b, is);
-    }
+pub run_commits : {C : ℕ} {s : WriteState} {run : WriteRun} {t : WriteState} → HasRun C s run t → run.commits ≤ run.steps
+run_commits {C} {s} {run} run_is = let a = as_many run_is.steps in let b = one_commit run.last in let c = run_is.many in let d = run_is.commits in omega (arith, a, b, c, d)
+
+-- a step is a run
+pub one_step : (C : ℕ) (s t : WriteState) (commits : ℕ) (p : Progress) → RunStep C s p t → commits ≡ commits_in p → HasRun C s (record { steps = 1; commits = commits; last = p }) t
+one_step C s t commits p step is = record {
+  steps = [];
+  advance = All-nil Advances;
+  before = s;
+  are = refl;
+  last = step;
+  many = refl;
+  commits = omega (arith, is);
+}

@@ -20,12 +20,12 @@ use Rattle.mt_tree.specs.Keeping.{KeepsTree, KeepsUnknown}
 use Rattle.mt_tree.specs.Descent.{found_for, row_found}
 use Rattle.mt_slice.specs.Place.{AreBytes}
 use Rattle.mt_border.specs.Order.{IsBorder}
-use Rattle.std.specs.Option.{option_or}
+use Rattle.std.specs.Option.{IfSome, option_or}
 use Rattle.mt_tree.specs.BorderSteps.{HasLayerFor, HasRowAt, HidesRowAt, IsUpperHalf, LinksHalfAt, MakesLayerAt, MayShowAt, SetsRowAt, ShowsNext}
 use Rattle.mt_tree.proofs.RowLemmas.{stands_at}
 use Rattle.mt_steps.specs.declared.way.Way.{Way}
 use Rattle.mt_steps.specs.declared.way.Went.{Went}
-use Rattle.mt_steps.specs.declared.way.Went.TheVariants.{To, Here}
+use Rattle.mt_steps.specs.declared.way.Went.TheVariants.{Again, To, Here}
 use Rattle.mt_steps.specs.declared.progress.Progress.{Progress}
 use Rattle.mt_steps.specs.declared.progress.Progress.TheVariants.{Moved, Waits, Committed, Answered, Refused}
 use Rattle.mt_steps.specs.Causes.{IsMarkedAt, IsLockedAlready}
@@ -50,7 +50,7 @@ use Rattle.mt_write.specs.declared.writing.Stage.{Stage}
 use Rattle.mt_write.specs.declared.writing.Stage.TheVariants.{Seeks, Locked, Spared, HalfFilled, Halved, Posts, LayerSpared, LayerFilled, LayerReady, Layered, Filled, Made, Taken, Stored, Failed}
 use Rattle.mt_write.specs.Writing.{edit_request, write_held, stage_held, written_answer, ending_stage, StageIsTrue, WriteIsTrue, MayStage, IsHalfOf, SomeSets, Prepares, PreparesRemove, put_delta, remove_delta, way_below}
 use Rattle.mt_write.specs.Causes.{StageWaits, StageFails, IsNotFailed, EndsWith, FailsBy, RemoveFailsBy, edit_fault, version_fault, put_fault, remove_fault, fill_fault}
-use Rattle.mt_write.specs.Follows.{WriteStep, TreeStep, MayBeAt, Follows, HeadGoes, PostsGo, PostingSteps, IsNewPosting, IsMadeReady, IsReadyIn}
+use Rattle.mt_write.specs.Follows.{WriteStep, TreeStep, MayBeAt, FindsNone, Follows, HeadGoes, PostsGo, PostingSteps, IsNewPosting, IsMadeReady, IsReadyIn}
 use Rattle.mt_write.proofs.WriteLemmas.{seek_waits, seek_locks, has_border_here, readies, differs, takes, lacks, half_readies, shows, writes, hides, answers, refuses, may_at}
 use Rattle.mt_write.proofs.HalfLemmas.{spared_fill, fills_half, filled_link, links, half_prefix}
 use Rattle.mt_write.proofs.NewLayerLemmas.{spared_root, fills_root, filled_head, unlocks_head, ready_link, links_layer, layered_locked, goes_below}
@@ -104,7 +104,7 @@ module _ (C : ℕ) (a after : ArenaView) (log left : LogView) (write : Write) (s
 
 -- ---- what the calls of a stage ask for
 -- a row that is found at a place is there
-row_there : (live : List Entry) (place : ℕ) (entry : Entry) → slice_get live place ≡ Some entry → IsSome (entry_row entry) → (place < length live) × IsSome (row_at place live)
+pub row_there : (live : List Entry) (place : ℕ) (entry : Entry) → slice_get live place ≡ Some entry → IsSome (entry_row entry) → (place < length live) × IsSome (row_at place live)
 row_there [] place entry e has = absurd (let clash : ◌≡◌ {A = Option Entry} None (Some entry) = e in cc)
 row_there (one ∷ live) zero entry e has =
     let same : ◌≡◌ {A = Option Entry} (Some one) (Some entry) = e in
@@ -201,6 +201,21 @@ module _ (a : ArenaView) (write : Write) (went : Went) (visits : Visits a write.
       (leads C a (with_border_changed a write.way.node.0 (λ b. with_lock b true)) log log write Seeks Moved Locked write.way refl
       (seek_locks C a write.key write.edit write.way went visits b named unlocked is (subst (λ (x : ArenaView). KeepsTree a x) value keeps) log) tt (tt, tt) (inl (refl, refl)) (inl (refl, refl)) tt)
 
+-- where a visit leads that doesn't end at its border
+pub seeks_led : (a : ArenaView) (write : Write) (went : Went) (p : Progress) (then : Write) → Visits a write.key write.way went → write.stage ≡ Seeks → went ≢ Here → (went ≡ Again → IsMarkedAt a write.way.node.0)
+    → (went ≡ Again → (p ≡ Waits) × (then ≡ record write { way = start; head = start.node }))
+    → ((next : Way) → went ≡ To next → (p ≡ Moved) × (then ≡ record write { way = next; head = then.head }) × (((next.layer ≡ write.way.layer) × (then.head ≡ write.head)) ⊎ ((next.layer ≢ write.way.layer) × (then.head ≡ next.node))))
+    → TreeStep a a write Seeks p then
+seeks_led a write Again p then visits idle on marked again to =
+    let (waits, is) = again refl in
+    subst (λ (q : Progress). TreeStep a a write Seeks q then) (sym waits)
+    (turned_tree a a write Seeks Waits (record write { way = start; head = start.node }) then is (seeks_again a write Again visits idle (marked refl)))
+seeks_led a write (To next) p then visits idle on marked again to =
+    let (moved, is, either) = to next refl in
+    subst (λ (q : Progress). TreeStep a a write Seeks q then) (sym moved)
+    (turned_tree a a write Seeks Moved (record write { way = next; head = then.head }) then is (seeks_on a write (To next) visits idle next then.head refl either))
+seeks_led a write Here p then visits idle on marked again to = absurd (on refl)
+
 -- ---- at its border
 -- what a put makes ready, which has split no border
 put_ready : (C : ℕ) (a after : ArenaView) (log left : LogView) (key : List ℕ) (sets : List (ℕ × List ℕ)) (way : Way) (stage : Stage) → Prepares C key sets way a log None stage after left → IsMadeReady a way stage
@@ -284,6 +299,27 @@ module _ (C : ℕ) (a after : ArenaView) (log left : LogView) (write : Write) wh
       leads C a after log left write (Taken place stored before) (Committed number) (Stored number None) write.way refl
       (hides C a log write.key write.edit write.way place stored before number after left next hidden keeps appended room) tt (tt, tt) (tt, (refl, refl)) refl tt
 
+-- ---- a commit of what is ready, at a stage that is known to be so
+module _ (C : ℕ) (a after : ArenaView) (log left : LogView) (write : Write) (stage : Stage) where
+  at_stage : (at : Stage) → stage ≡ at → ((D : ℕ) × MayStage D a log write stage) → (D : ℕ) × MayStage D a log write at
+  at_stage at is (D, may) = (D, subst (λ (st : Stage). MayStage D a log write st) is may)
+
+  pub commits_shown : (place : ℕ) (stored : List ℕ) (logged : List (List ℕ)) (number : ℕ) → stage ≡ Filled place stored logged None → number ≡ newest log + 1 → after ≡ with_border_changed a write.way.node.0 (λ b. with_shown b place (newest log + 1)) → ShowsNext a after write.way.node.0 (newest log + 1)
+      → left ≡ with_delta log (put_delta (newest log + 1) stored None logged) → ((D : ℕ) × MayStage D a log write stage) → WriteStep C a after log left write stage (Committed number) (record write { stage = Stored number None })
+  commits_shown place stored logged number is next shown keeps appended may = subst (λ (st : Stage). WriteStep C a after log left write st (Committed number) (record write { stage = Stored number None })) (sym is)
+      (shows_row C a after log left write place stored logged None number next shown keeps appended (at_stage (Filled place stored logged None) is may).1.room)
+
+  pub commits_written : (place : ℕ) (stored : List ℕ) (columns logged : List (List ℕ)) (number : ℕ) → stage ≡ Made place stored columns logged → number ≡ newest log + 1 → after ≡ with_border_changed a write.way.node.0 (λ b. with_value b place (record { version = newest log + 1; columns = columns }))
+      → SetsRowAt a after write.way.node.0 place (record { version = newest log + 1; columns = columns }) → IsSomeAnd (border_at a.nodes write.way.node.0) (λ b. left ≡ with_delta log (put_delta (newest log + 1) stored (row_at place b.live) logged)) → ((D : ℕ) × MayStage D a log write stage)
+      → WriteStep C a after log left write stage (Committed number) (record write { stage = Stored number None })
+  commits_written place stored columns logged number is next written sets appended may = subst (λ (st : Stage). WriteStep C a after log left write st (Committed number) (record write { stage = Stored number None })) (sym is)
+      (writes_row C a after log left write place stored columns logged number next written sets appended (at_stage (Made place stored columns logged) is may).1.room)
+
+  pub commits_hidden : (place : ℕ) (stored : List ℕ) (before : Row) (number : ℕ) → stage ≡ Taken place stored before → number ≡ newest log + 1 → after ≡ with_border_changed a write.way.node.0 (λ b. with_hidden b place) → HidesRowAt a after write.way.node.0 place → left ≡ with_delta log (remove_delta (newest log + 1) stored before)
+      → ((D : ℕ) × MayStage D a log write stage) → WriteStep C a after log left write stage (Committed number) (record write { stage = Stored number None })
+  commits_hidden place stored before number is next hidden keeps appended may = subst (λ (st : Stage). WriteStep C a after log left write st (Committed number) (record write { stage = Stored number None })) (sym is)
+      (hides_row C a after log left write place stored before number next hidden keeps appended (at_stage (Taken place stored before) is may).1.room)
+
 module _ (C : ℕ) (a : ArenaView) (log left : LogView) (write : Write) (is : write.edit ≡ RemoveEdit) (made : Option Stage) (ready : PreparesRemove write.key write.way a log made left)
     (fault : IsSomeAnd (border_at a.nodes write.way.node.0) (λ b. RemoveFailsBy (remove_fault log (found_for (rest_of write.key write.way) b.live)) made)) where
   pub readies_remove : (stage : Stage) → made ≡ Some stage → WriteStep C a a log left write Locked Moved (record write { stage = stage })
@@ -302,6 +338,15 @@ module _ (C : ℕ) (a : ArenaView) (log left : LogView) (write : Write) (is : wr
       closes C a after log left write Locked (Answered AbsentAnswer) (lacks C a log write.key write.edit write.way (write_held write) (WriteIsTrue C write) after is value keeps lacking left same) tt
       (subst (λ (e : Edit). IsSomeAnd (border_at a.nodes write.way.node.0) (λ b. edit_fault a log e b (found_for (rest_of write.key write.way) b.live) ≡ None)) (sym is)
       (subst (λ (s : Option Stage). IsSomeAnd (border_at a.nodes write.way.node.0) (λ b. RemoveFailsBy (remove_fault log (found_for (rest_of write.key write.way) b.live)) s)) none fault)) tt refl tt
+
+pub removes_some : (C : ℕ) (a : ArenaView) (log left : LogView) (write : Write) → write.edit ≡ RemoveEdit → (made : Option Stage) → PreparesRemove write.key write.way a log made left
+    → IsSomeAnd (border_at a.nodes write.way.node.0) (λ b. RemoveFailsBy (remove_fault log (found_for (rest_of write.key write.way) b.live)) made) → IfSome made (λ stage. WriteStep C a a log left write Locked Moved (record write { stage = stage }))
+removes_some C a log left write is None ready fault = tt
+removes_some C a log left write is (Some stage) ready fault = readies_remove C a log left write is (Some stage) ready fault stage refl
+
+pub removes_none : (C : ℕ) (a : ArenaView) (log left : LogView) (write : Write) → write.edit ≡ RemoveEdit → (made : Option Stage) → PreparesRemove write.key write.way a log made left
+    → IsSomeAnd (border_at a.nodes write.way.node.0) (λ b. RemoveFailsBy (remove_fault log (found_for (rest_of write.key write.way) b.live)) made) → made ≡ None → FindsNone C a a log left write
+removes_none C a log left write is made ready fault none = (refl, λ after value keeps. finds_none C a log left write is made ready fault after none value keeps)
 
 -- a put that asks for another version than its key's row is of
 module _ (C : ℕ) (a : ArenaView) (log : LogView) (write : Write) where

@@ -1,8 +1,11 @@
 -- Which stage of a put or remove follows which: said of the nodes before the step, and of the call before and after it.
-use Rattle.std.specs.Prelude.{ℕ, ◌≡◌, ◌≢◌, ◌⊎◌, ◌+◌, List, [], Option, Some, None, IsSomeAnd}
+use Rattle.std.specs.Prelude.{ℕ, ◌≡◌, ◌≢◌, ◌⊎◌, ◌+◌, List, [], Option, Some, None, IsSomeAnd, false}
 use Rattle.mt_border.specs.Cut.{IsBestCut}
 use Rattle.mt_arena.specs.Node.{border_at}
-use Rattle.mt_arena.specs.Arena.{ArenaView}
+use Rattle.mt_arena.specs.Arena.{ArenaView, with_border_changed}
+use Rattle.mt_border.specs.Border.{with_lock}
+use Rattle.mt_tree.specs.Keeping.{KeepsTree}
+use Rattle.mt_types.specs.declared.event.Answer.TheVariants.{Absent}
 use Rattle.mt_types.specs.declared.numbers.NodeNo.{NodeNo}
 use Rattle.mt_steps.specs.declared.progress.Progress.{Progress}
 use Rattle.mt_steps.specs.declared.progress.Progress.TheVariants.{Moved, Waits, Committed, Answered, Refused}
@@ -185,3 +188,9 @@ TreeStep a after write stage p then = (C : ℕ) (log : LogView) → WriteStep C 
 -- and what it asks: there are a log and a number of columns with which the write may be at the stage
 abbrev pub MayBeAt : ArenaView → WriteView → Stage → Type 0
 MayBeAt a write stage = (C : ℕ) × (log : LogView) × MayStage C a log write stage
+
+-- there is no row to remove: the write has changed nothing, and with the unlock of its border it answers
+abbrev pub FindsNone : ℕ → ArenaView → ArenaView → LogView → LogView → WriteView → Type 0
+FindsNone C a same log left write = (same ≡ a) × ((after : ArenaView)
+    → after ≡ with_border_changed a write.way.node.0 (λ b. with_lock b false) → KeepsTree a after
+    → WriteStep C a after log left write Locked (Answered Absent) write)

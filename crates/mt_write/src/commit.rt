@@ -18,7 +18,7 @@ use mt_types::numbers::NodeNo;
 use mt_types::row::{Columns, Delta, Row};
 
 // The commit of a row that is in the first unused slot: it is shown, and its delta is logged.
-fn show(
+pub fn show(
     tree: &mut Tree,
     log: &mut Log,
     number: NodeNo,
@@ -48,7 +48,7 @@ fn show(
 }
 
 // The commit of a row that is written over another, and its delta is logged.
-fn overwrite(
+pub fn overwrite(
     tree: &mut Tree,
     log: &mut Log,
     number: NodeNo,
@@ -86,7 +86,14 @@ fn overwrite(
 }
 
 // The commit of a remove: the row is hidden, and its delta is logged.
-fn hide(tree: &mut Tree, log: &mut Log, number: NodeNo, place: usize, key: Key, before: Row) -> u64
+pub fn hide(
+    tree: &mut Tree,
+    log: &mut Log,
+    number: NodeNo,
+    place: usize,
+    key: Key,
+    before: Row,
+) -> u64
     requires row { IsSomeAnd (border_at tree.old.nodes number.0) (λ b. HasRowAt b place) }
     requires room { 0 < log.old.reserved }
     ensures number { result ≡ newest log.old + 1 }

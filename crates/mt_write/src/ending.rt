@@ -14,7 +14,7 @@ use mt_types::refusal::Refusal;
 use std::alloc::Global;
 
 // What a write answers that has made its commit.
-fn written(edit: &Edit, commit: u64) -> Answer
+pub fn written(edit: &Edit, commit: u64) -> Answer
     ensures { result ≡ written_answer edit.now commit }
 {
     match edit {

@@ -4,6 +4,7 @@
 mod columns;
 mod commit;
 mod ending;
+mod finishing;
 mod layering;
 mod ready;
 pub mod running;

@@ -1,6 +1,6 @@
 //! Making ready at the border that a put or remove has locked: the new row, the columns of the row, or the row's copy.
 
-ghost use Rattle.std.specs.Prelude.{◌≡◌, ℕ, ◌≤◌, ◌<◌, ◌+◌, ◌-◌, ◌*◌, length, MatchResult, IfOk, OnErr, IsFalse, IsSome, IsSomeAnd, Some, None};
+ghost use Rattle.std.specs.Prelude.{◌≡◌, ℕ, List, ◌≤◌, ◌<◌, ◌+◌, ◌-◌, ◌*◌, length, MatchResult, IfOk, OnErr, IsFalse, IsSome, IsSomeAnd, Some, None};
 ghost use Rattle.mt_border.specs.Border.{row_at, fill_is_spent};
 ghost use Rattle.mt_commit.specs.Log.{reserve_fault};
 ghost use Rattle.mt_types.specs.declared.event.Request.TheVariants.{Put as PutRequest, Remove as RemoveRequest};
@@ -11,8 +11,8 @@ ghost use Rattle.mt_word.specs.declared.permutation_word.TheConstants.{SLOTS};
 ghost use Rattle.mt_arena.specs.Node.{border_at};
 ghost use Rattle.mt_slice.specs.Place.{AreBytes};
 ghost use Rattle.mt_border.specs.Order.{IsBorder};
-ghost use Rattle.mt_tree.specs.Descent.{IsLast, found_for, row_found};
-ghost use Rattle.mt_steps.specs.Way.{rest_of};
+ghost use Rattle.mt_tree.specs.Descent.{IsFoundAt, IsLast, found_for, row_found};
+ghost use Rattle.mt_steps.specs.Way.{Finds, rest_of};
 ghost use Rattle.mt_steps.specs.Step.{MayFail, columns_after};
 ghost use Rattle.mt_write.specs.Causes.{version_fault, fill_fault, put_fault, remove_fault, ReadyFor, FailsBy, RemoveFailsBy};
 ghost use Rattle.mt_write.specs.Writing.{FillsNew, Prepares, PreparesRemove, IsBack};
@@ -42,22 +42,20 @@ pub struct NewRow<'a> {
     pub way: Way,
 }
 
-// Why a put is refused that asks for a version, at the border that its call has locked: the row is of another one.
-pub fn other_version(tree: &Tree, way: Way, key: &Key, only: Option<u64>) -> Option<Refusal>
-    requires within { 8 * way.layer ≤ length key.now - 1 }
-    requires border { IsSome (border_at tree.now.nodes way.node.0) }
-    ensures fault { IsSomeAnd (border_at tree.now.nodes way.node.0)
-        (λ b. IsBorder b × (result ≡ version_fault only (row_found b.live (found_for (rest_of key.now way) b.live)))) }
-    ensures bytes { AreBytes key.now }
+// Why a put is refused that asks for a version, by what was found at the border that its call has locked: the row is of
+// another one.
+pub fn other_version(border: &Border, found: Found, only: Option<u64>) -> Option<Refusal>
+    requires { (rest : List ℕ) × IsFoundAt rest border.now.live found }
+    ensures fault { result ≡ version_fault only (row_found border.now.live found) }
+    ensures sound { IsBorder border.now }
 {
-    let _sound = tree.border(way.node).len();
-    let rest = rest_of(key, way.layer);
+    let _sound = border.len();
     let only = only?;
-    let found = match tree.find(way.node, rest) {
-        Found::Row(place) => row_at(tree.border(way.node), place).version,
+    let version = match found {
+        Found::Row(place) => row_at(border, place).version,
         Found::Absent(_) | Found::OtherSuffix(_) | Found::Link(_, _) => 0,
     };
-    (found != only).then_some(Refusal::OtherVersion(found))
+    (version != only).then_some(Refusal::OtherVersion(version))
 }
 
 // The entry of a key with these columns, before its commit.
@@ -186,16 +184,25 @@ fn make(
 
 // Makes a put ready at the border that its call has locked: its row is in an unused slot, or its columns are made,
 // and there is room in the log; or it fails.
-pub fn prepare(alloc: Global, tree: &mut Tree, log: &mut Log, row: &NewRow<'_>) -> Stage
+pub fn prepare(
+    alloc: Global,
+    tree: &mut Tree,
+    log: &mut Log,
+    row: &NewRow<'_>,
+    found: Found,
+) -> Stage
     requires within { 8 * row.now.way.layer ≤ length row.now.key.now - 1 }
-    requires last { IsSomeAnd (border_at tree.old.nodes row.now.way.node.0)
-        (λ b. IsLast (found_for (rest_of row.now.key.now row.now.way) b.live)) }
+    requires last { IsLast found }
+    requires value { IsSomeAnd (border_at tree.old.nodes row.now.way.node.0)
+        (λ b. found ≡ found_for (rest_of row.now.key.now row.now.way) b.live) }
+    requires stands { IsSomeAnd (border_at tree.old.nodes row.now.way.node.0)
+        (λ b. IsFoundAt (rest_of row.now.key.now row.now.way) b.live found) }
     ensures ready { Prepares row.now.columns row.now.key.now row.now.sets.now row.now.way tree.old log.old None result tree.new
         log.new }
     ensures fault { IsSomeAnd (border_at tree.old.nodes row.now.way.node.0)
         (λ b. FailsBy (put_fault tree.old log.old b (found_for (rest_of row.now.key.now row.now.way) b.live)) None result) }
 {
-    let made = match tree.find(row.way.node, rest_of(row.key, row.way.layer)) {
+    let made = match found {
         Found::Row(place) => make(alloc, tree, log, row, place),
         Found::Absent(place) => {
             if tree.border(row.way.node).is_full() {
@@ -260,15 +267,17 @@ pub fn prepare_remove(
     log: &mut Log,
     way: Way,
     key: &Key,
+    found: Found,
 ) -> Option<Stage>
     requires within { 8 * way.layer ≤ length key.now - 1 }
-    requires border { IsSome (border_at tree.now.nodes way.node.0) }
+    requires finds { Finds tree.now key.now way found }
     ensures ready { PreparesRemove key.now way tree.now log.old result log.new }
     ensures fault { IsSomeAnd (border_at tree.now.nodes way.node.0)
         (λ b. RemoveFailsBy (remove_fault log.old (found_for (rest_of key.now way) b.live)) result) }
 {
     let _sound = tree.border(way.node).len();
-    match tree.find(way.node, rest_of(key, way.layer)) {
+    let _bytes = rest_of(key, way.layer);
+    match found {
         Found::Row(place) => match take(alloc, tree, log, way, place, key) {
             Ok(stage) => Some(stage),
             Err(refusal) => Some(Stage::Failed(refusal, None)),

@@ -21,6 +21,10 @@ pub struct WriteRun {
     pub last: Progress,
 }
 
+// How many steps a put or remove makes at the border of its key, if it need not split it or make a layer: it locks the
+// border, makes ready, commits and unlocks.
+const STEPS_AT_BORDER: u64 = 4;
+
 // Returns whether the call continues after a step, and has not waited.
 fn advances(progress: &Progress) -> bool
     ensures { IsTrue result ↔ Advances progress.now }
@@ -42,11 +46,60 @@ fn trim_after(log: &mut Log, progress: &Progress) -> u64
     1
 }
 
+// Returns what a step came to that was no commit.
+fn one_step(last: Progress) -> WriteRun
+    ensures { result ≡ record { steps = 1; commits = 0; last = last } }
+{
+    WriteRun {
+        steps: 1,
+        commits: 0,
+        last,
+    }
+}
+
 impl Write {
+    // Makes one step. At the border of its key, if four are left, it makes all from the lock to the unlock.
+    fn advance(
+        &mut self,
+        alloc: Global,
+        columns: u8,
+        tree: &mut Tree,
+        log: &mut Log,
+        most: u64,
+    ) -> WriteRun
+        requires may { MayRun columns (record { tree = tree.old; log = log.old; write = self.old }) }
+        requires trimmed { IsTrimmed log.old }
+        ensures runs { HasRun columns (record { tree = tree.old; log = log.old; write = self.old }) result
+            (record { tree = tree.new; log = log.new; write = self.new }) }
+        ensures some { 0 < result.steps }
+        ensures most { result.steps ≤ max 1 most }
+        ensures next { Advances result.last → MayRun columns (record { tree = tree.new; log = log.new; write = self.new }) }
+        ensures trimmed { IsTrimmed log.new }
+    {
+        let _before = tree.free_numbers();
+        let _trimmed = log.number();
+        if most < STEPS_AT_BORDER || !self.is_seeking() {
+            let last = self.go(alloc, columns, tree, log);
+            let _after = tree.free_numbers();
+            let _sound = log.number();
+            let commits = trim_after(log, &last);
+            return WriteRun {
+                steps: 1,
+                commits,
+                last,
+            };
+        }
+        match self.way.arrive(tree, &self.key) {
+            Ok(_) if tree.border(self.way.node).is_locked() => one_step(Progress::Waits),
+            Ok(found) => self.finish(alloc, columns, tree, log, found),
+            Err(went) => one_step(self.follow(went)),
+        }
+    }
+
     /// Makes steps, one after the other, until one of them ends the call or waits, or `most` are made. At least one is
     /// made, also if `most` is 0. After each the log is trimmed.
     ///
-    /// Costs what the steps cost.
+    /// Costs what the steps cost. The border of the key is searched once, if four steps are left when it is reached.
     pub fn run(
         &mut self,
         alloc: Global,
@@ -64,21 +117,18 @@ impl Write {
     {
         let mut steps = 0;
         let mut commits = 0;
-        let _whole = tree.free_numbers();
         loop {
-            let last = self.go(alloc, columns, tree, log);
-            let _arena = tree.free_numbers();
-            let _sound = log.number();
-            steps += 1;
-            commits += trim_after(log, &last);
-            if steps >= most || !advances(&last) {
+            let part = self.advance(alloc, columns, tree, log, most - steps);
+            steps += part.steps;
+            commits += part.commits;
+            if steps >= most || !advances(&part.last) {
                 return WriteRun {
                     steps,
                     commits,
-                    last,
+                    last: part.last,
                 };
             }
-            drop(last);
+            drop(part);
         }
     }
 }

@@ -1,17 +1,21 @@
 //! A put or a remove: it goes to its key's border, locks it, makes ready there, commits, and unlocks it.
 
-ghost use Rattle.std.specs.Prelude.{◌≡◌, ◌≢◌, ◌⊎◌};
+ghost use Rattle.std.specs.Prelude.{◌≡◌, ◌≢◌, ◌⊎◌, ◌↔◌, None, IsTrue};
+ghost use Rattle.std.specs.Option.{IfSome};
 ghost use Rattle.mt_steps.specs.Step.{StepLaw, MayStep};
+ghost use Rattle.mt_steps.specs.Way.{Finds, start};
+ghost use Rattle.mt_steps.specs.declared.way.Way.{Way as WayView};
 ghost use Rattle.mt_write.specs.Writing.{write_request, write_held, WriteIsTrue, MayStage};
 ghost use Rattle.mt_write.specs.Causes.{WriteWaits, WriteFails};
-ghost use Rattle.mt_write.specs.Follows.{WriteStep, TreeStep, MayBeAt, WriteFollows, HeadFollows, PostsFollow};
+ghost use Rattle.mt_write.specs.Runs.{commits_in};
+ghost use Rattle.mt_write.specs.Follows.{WriteStep, TreeStep, MayBeAt, WriteFollows, HeadFollows, PostsFollow, FindsNone};
 
 use crate::ready::{NewRow, other_version, prepare, prepare_remove};
-use mt_border::Entry;
+use mt_border::{Entry, Found};
 use mt_commit::log::Log;
 use mt_post::Posting;
 use mt_steps::progress::Progress;
-use mt_steps::way::{START, Way, Went};
+use mt_steps::way::{START, Way, Went, rest_of};
 use mt_tree::Tree;
 use mt_types::event::Answer;
 use mt_types::items::Items;
@@ -148,13 +152,44 @@ impl Write {
         self.stage = stage;
     }
 
+    // Whether it is on its way.
+    pub(crate) fn is_seeking(&self) -> bool
+        ensures { IsTrue result ↔ (self.now.stage ≡ Stage.Seeks) }
+    {
+        matches!(self.stage, Stage::Seeks)
+    }
+
     // On its way to the border, and its lock there.
     fn seek(&mut self, tree: &mut Tree) -> Progress
         requires may { MayBeAt tree.old self.old Stage.Seeks }
         requires idle { self.old.stage ≡ Stage.Seeks }
         ensures { TreeStep tree.old tree.new self.old Stage.Seeks result self.new }
     {
-        match self.way.visit(tree, &self.key) {
+        match self.way.arrive(tree, &self.key) {
+            Ok(_) => {
+                if tree.border(self.way.node).is_locked() {
+                    return Progress::Waits;
+                }
+                tree.lock_border(self.way.node);
+                self.turn_to(Stage::Locked);
+                Progress::Moved
+            }
+            Err(went) => self.follow(went),
+        }
+    }
+
+    // Continues where a visit on its way leads.
+    pub(crate) fn follow(&mut self, went: Went) -> Progress
+        requires { went ≢ Went.Here }
+        ensures again { went ≡ Went.Again → (result ≡ Progress.Waits)
+            × (self.new ≡ record self.old { way = start; head = start.node }) }
+        ensures to { (next : WayView) → went ≡ Went.To next → (result ≡ Progress.Moved)
+            × (self.new ≡ record self.old { way = next; head = self.new.head })
+            × (((next.layer ≡ self.old.way.layer) × (self.new.head ≡ self.old.head))
+            ⊎ ((next.layer ≢ self.old.way.layer) × (self.new.head ≡ next.node))) }
+        ensures quiet { commits_in result ≡ 0 }
+    {
+        match went {
             Went::Again => {
                 self.way = START;
                 self.head = START.node;
@@ -165,14 +200,42 @@ impl Write {
                 self.way = next;
                 Progress::Moved
             }
-            Went::Here => {
-                if tree.border(self.way.node).is_locked() {
-                    return Progress::Waits;
+            Went::Here => unreachable!(),
+        }
+    }
+
+    // At its border, which it has locked: makes ready with what was found there, and returns the next stage, or none if
+    // there is no row to remove.
+    pub(crate) fn ready(
+        &self,
+        alloc: Global,
+        columns: u8,
+        tree: &mut Tree,
+        log: &mut Log,
+        found: Found,
+    ) -> Option<Stage>
+        requires may { MayStage columns tree.old log.old self.now Stage.Locked }
+        requires finds { Finds tree.old self.now.key self.now.way found }
+        ensures some { IfSome result (λ stage. WriteStep columns tree.old tree.new log.old log.new self.now Stage.Locked
+            Progress.Moved (record self.now { stage = stage })) }
+        ensures none { result ≡ None → FindsNone columns tree.old tree.new log.old log.new self.now }
+    {
+        let _bytes = rest_of(&self.key, self.way.layer);
+        match &self.edit {
+            Edit::Put { sets, only } => {
+                let border = tree.border(self.way.node);
+                if let Some(refusal) = other_version(border, found, *only) {
+                    return Some(Stage::Failed(refusal, None));
                 }
-                tree.lock_border(self.way.node);
-                self.turn_to(Stage::Locked);
-                Progress::Moved
+                let row = NewRow {
+                    columns,
+                    key: &self.key,
+                    sets,
+                    way: self.way,
+                };
+                Some(prepare(alloc, tree, log, &row, found))
             }
+            Edit::Remove => prepare_remove(alloc, tree, log, self.way, &self.key, found),
         }
     }
 
@@ -181,32 +244,13 @@ impl Write {
         requires { MayStage columns tree.old log.old self.old Stage.Locked }
         ensures { WriteStep columns tree.old tree.new log.old log.new self.old Stage.Locked result self.new }
     {
-        let number = self.way.node;
-        match &self.edit {
-            Edit::Put { sets, only } => {
-                if let Some(refusal) = other_version(tree, self.way, &self.key, *only) {
-                    self.turn_to(Stage::Failed(refusal, None));
-                    return Progress::Moved;
-                }
-                let row = NewRow {
-                    columns,
-                    key: &self.key,
-                    sets,
-                    way: self.way,
-                };
-                let stage = prepare(alloc, tree, log, &row);
-                self.turn_to(stage);
-                Progress::Moved
-            }
-            Edit::Remove => {
-                let Some(stage) = prepare_remove(alloc, tree, log, self.way, &self.key) else {
-                    tree.unlock_border(number);
-                    return Progress::Answered(Answer::Absent);
-                };
-                self.turn_to(stage);
-                Progress::Moved
-            }
-        }
+        let found = tree.find(self.way.node, rest_of(&self.key, self.way.layer));
+        let Some(stage) = self.ready(alloc, columns, tree, log, found) else {
+            tree.unlock_border(self.way.node);
+            return Progress::Answered(Answer::Absent);
+        };
+        self.turn_to(stage);
+        Progress::Moved
     }
 
     // At each stage, which it takes out of the write: the stage's function puts the next one in.
@@ -221,7 +265,7 @@ impl Write {
         ensures { WriteStep columns tree.old tree.new log.old log.new self.old self.old.stage result self.new }
     {
         // Most steps are of this stage, which needn't be taken out.
-        if let Stage::Seeks = self.stage {
+        if self.is_seeking() {
             return self.seek(tree);
         }
         match mem::replace(&mut self.stage, Stage::Seeks) {

@@ -1,6 +1,4 @@
 use Rattle.std.proofs.Common.{◌≡◌, ◌<◌, ◌∙◌, length, Result, Option, Some, sym, subst}
-use Rattle.std.specs.Prelude.{ℕ, List, IsSomeAnd}
-use Rattle.mt_tree.specs.Descent.{found_for}
 use Rattle.mt_types.specs.declared.refusal.Refusal.{Refusal}
 use Rattle.mt_border.specs.Border.{BorderView}
 use Rattle.mt_border.specs.declared.found.Found.{Found}
@@ -15,18 +13,18 @@ use Rattle.mt_write.proofs.ready.prepare.Goals as goal
 
 pub returns-in-Ok-clause-fault : goal.returns-in-Ok-clause-fault
 returns-in-Ok-clause-fault c =
-    prepares_ok c.args.tree.now c.args.log.now c.args.row.now.key.now c.args.row.now.way c.find.result c.match-find.made c.in-Ok.stage
-    (subst (λ (r : List ℕ). IsSomeAnd (border_at c.args.tree.now.nodes c.args.row.now.way.node.0) (λ b. c.find.result ≡ found_for r b.live)) c.rest_of.ensures.value c.find.ensures.value) c.in-Ok.is (elim c.match-find.branch [
-      | in-Row w ↦ λ b named. by_found c.find.result c.match-find.made _ _ b w.in-Row.is w.made-is w.make-made.ensures.fault
+    prepares_ok c.args.tree.now c.args.log.now c.args.row.now.key.now c.args.row.now.way c.args.found c.match-found.made c.in-Ok.stage
+    c.requires.value c.in-Ok.is (elim c.match-found.branch [
+      | in-Row w ↦ λ b named. by_found c.args.found c.match-found.made _ _ b w.in-Row.is w.made-is w.make-made.ensures.fault
       | in-Absent+then-is_full w ↦ λ b named.
           let here = one_border (border_at c.args.tree.now.nodes c.args.row.now.way.node.0) w.border.result.now b w.border.ensures.value named in
-          by_found c.find.result c.match-find.made _ _ b w.in-Absent.is w.made-is
+          by_found c.args.found c.match-found.made _ _ b w.in-Absent.is w.made-is
           (full_ready c.args.tree.now c.args.log.now b w.in-Absent.place _ (subst (λ (x : BorderView). length x.live ≡ SLOTS) here (w.is_full.ensures.full.0 w.if-is_full.true)) (some_at _ (border_at c.args.tree.now.nodes c.args.row.now.way.node.0) b w.spare.ensures.fault named))
       | in-Absent+else-is_full w ↦ λ b named.
           let here = one_border (border_at c.args.tree.now.nodes c.args.row.now.way.node.0) w.border.result.now b w.border.ensures.value named in
-          by_found c.find.result c.match-find.made _ _ b w.in-Absent.is w.made-is
+          by_found c.args.found c.match-found.made _ _ b w.in-Absent.is w.made-is
           (room_ready c.args.tree.now c.args.log.now b w.in-Absent.place _ (subst (λ (x : BorderView). length x.live < SLOTS) here (w.is_full.ensures.room.0 w.if-is_full.false)) (some_at _ (border_at c.args.tree.now.nodes c.args.row.now.way.node.0) b w.fill.ensures.fault named))
-      | in-OtherSuffix w ↦ λ b named. by_found c.find.result c.match-find.made _ _ b w.in-OtherSuffix.is w.made-is w.spare_layer-made.ensures.fault
+      | in-OtherSuffix w ↦ λ b named. by_found c.args.found c.match-found.made _ _ b w.in-OtherSuffix.is w.made-is w.spare_layer-made.ensures.fault
     ])
   where
     by_found : (found : Found) (made : Result Stage Refusal) (at : Found) (result : Result Stage Refusal) (b : BorderView) → found ≡ at → made ≡ result → ReadyFor (put_fault c.args.tree.now c.args.log.now b at) result → ReadyFor (put_fault c.args.tree.now c.args.log.now b found) made

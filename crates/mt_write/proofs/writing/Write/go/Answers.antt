@@ -3,10 +3,16 @@ use Rattle.mt_write.proofs.StageSteps.{at_step, may_be}
 use Rattle.mt_write.proofs.writing.Write.go.Goals as goal
 
 pub seek-requires-clause-may : goal.seek-requires-clause-may
-seek-requires-clause-may c = (c.args.columns, c.args.log.now, may_be c.args.columns c.args.tree.now c.args.log.now c.args.self.now c.args.self.now.stage _ c.in-Seeks.is c.requires)
+seek-requires-clause-may c = (c.args.columns, c.args.log.now, may_be c.args.columns c.args.tree.now c.args.log.now c.args.self.now c.args.self.now.stage _ (c.is_seeking.ensures.0 c.if-is_seeking.true) c.requires)
+
+pub returns-then-is_seeking : goal.returns-then-is_seeking
+returns-then-is_seeking c = at_step c.args.columns c.args.tree.now c.seek.new.tree c.args.log.now c.args.log.now c.args.self.now c.args.self.now.stage _ c.seek.result c.seek.new.self (c.is_seeking.ensures.0 c.if-is_seeking.true) (c.seek.ensures c.args.columns c.args.log.now)
+
+pub seek-requires-in-Seeks-clause-may : goal.seek-requires-in-Seeks-clause-may
+seek-requires-in-Seeks-clause-may c = (c.args.columns, c.args.log.now, may_be c.args.columns c.args.tree.now c.args.log.now c.args.self.now c.replace.new.dest _ (sym c.replace.ensures.value ∙ c.in-Seeks.is) c.requires)
 
 pub returns-in-Seeks : goal.returns-in-Seeks
-returns-in-Seeks c = at_step c.args.columns c.args.tree.now c.seek.new.tree c.args.log.now c.args.log.now c.args.self.now c.args.self.now.stage _ c.seek.result c.seek.new.self c.in-Seeks.is (c.seek.ensures c.args.columns c.args.log.now)
+returns-in-Seeks c = at_step c.args.columns c.args.tree.now c.seek-in-Seeks.new.tree c.args.log.now c.args.log.now c.args.self.now c.replace.new.dest _ c.seek-in-Seeks.result c.seek-in-Seeks.new.self (sym c.replace.ensures.value ∙ c.in-Seeks.is) (c.seek-in-Seeks.ensures c.args.columns c.args.log.now)
 
 pub make_ready-requires : goal.make_ready-requires
 make_ready-requires c = may_be c.args.columns c.args.tree.now c.args.log.now c.args.self.now c.replace.new.dest _ (sym c.replace.ensures.value ∙ c.in-Locked.is) c.requires

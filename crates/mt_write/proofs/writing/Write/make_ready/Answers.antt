@@ -1,22 +1,24 @@
-use Rattle.std.proofs.Common.{Option, subst}
-use Rattle.mt_types.specs.declared.refusal.Refusal.{Refusal}
-use Rattle.mt_write.proofs.StageSteps.{turned, Faults, turns_away, readies_put, readies_remove, finds_none}
+use Rattle.std.proofs.Common.{◌≡◌, true, false, sym, subst}
+use Rattle.std.specs.Prelude.{IsSomeAnd, Option}
+use Rattle.mt_border.specs.Border.{BorderView, with_lock}
+use Rattle.mt_arena.specs.Node.{border_at}
+use Rattle.mt_arena.specs.Arena.{ArenaView, with_border_changed}
+use Rattle.mt_tree.specs.Keeping.{KeepsTree}
+use Rattle.mt_write.proofs.StageSteps.{turned}
 use Rattle.mt_write.proofs.writing.Write.make_ready.Goals as goal
 
-pub returns-in-Some : goal.returns-in-Some
-returns-in-Some c = turned c.args.columns c.args.tree.now c.args.tree.now c.args.log.now c.args.log.now c.args.self.now _ _ _ _ c.turn_to.ensures
-    (turns_away c.args.columns c.args.tree.now c.args.log.now c.args.self.now c.in-Put.sets c.in-Put.only c.in-Some.refusal c.in-Put.is c.other_version.ensures.bytes
-    (subst (λ (o : Option Refusal). Faults c.args.columns c.args.tree.now c.args.tree.now c.args.log.now c.args.log.now c.args.self.now c.in-Put.only o) c.in-Some.is c.other_version.ensures.fault))
+pub unlock_border-requires : goal.unlock_border-requires
+unlock_border-requires c =
+    let (b, at) = c.requires.true.0 in
+    subst (λ (x : ArenaView). IsSomeAnd (border_at x.nodes c.args.self.now.way.node.0) (λ b. b.version.locked ≡ true)) (sym (c.ready.ensures.none c.in_default.is).0)
+    (subst (λ (o : Option BorderView). IsSomeAnd o (λ b. b.version.locked ≡ true)) (sym at.named) at.locked)
 
 pub returns-in_default : goal.returns-in_default
-returns-in_default c = turned c.args.columns c.args.tree.now c.prepare-stage.new.tree c.args.log.now c.prepare-stage.new.log c.args.self.now _ _ _ _ c.turn_to-in-Put.ensures
-    (readies_put c.args.columns c.args.tree.now c.prepare-stage.new.tree c.args.log.now c.prepare-stage.new.log c.args.self.now c.in-Put.sets c.in-Put.only c.prepare-stage.result c.in-Put.is
-    (subst (λ (o : Option Refusal). Faults c.args.columns c.args.tree.now c.prepare-stage.new.tree c.args.log.now c.prepare-stage.new.log c.args.self.now c.in-Put.only o) c.in_default.is c.other_version.ensures.fault)
-    c.prepare-stage.ensures.ready c.prepare-stage.ensures.fault)
+returns-in_default c =
+    let none = c.ready.ensures.none c.in_default.is in
+    none.1 c.unlock_border.new.self
+    (subst (λ (x : ArenaView). c.unlock_border.new.self ≡ with_border_changed x c.args.self.now.way.node.0 (λ b. with_lock b false)) none.0 c.unlock_border.ensures.value)
+    (subst (λ (x : ArenaView). KeepsTree x c.unlock_border.new.self) none.0 c.unlock_border.ensures.keeps)
 
-pub returns-in-Some-prepare_remove : goal.returns-in-Some-prepare_remove
-returns-in-Some-prepare_remove c = turned c.args.columns c.args.tree.now c.args.tree.now c.args.log.now c.prepare_remove.new.log c.args.self.now _ _ _ _ c.turn_to-in-Remove.ensures
-    (readies_remove c.args.columns c.args.tree.now c.args.log.now c.prepare_remove.new.log c.args.self.now c.in-Remove.is c.prepare_remove.result c.prepare_remove.ensures.ready c.prepare_remove.ensures.fault c.in-Some-prepare_remove.stage c.in-Some-prepare_remove.is)
-
-pub returns-in_default-prepare_remove : goal.returns-in_default-prepare_remove
-returns-in_default-prepare_remove c = finds_none c.args.columns c.args.tree.now c.args.log.now c.prepare_remove.new.log c.args.self.now c.in-Remove.is c.prepare_remove.result c.prepare_remove.ensures.ready c.prepare_remove.ensures.fault c.unlock_border.new.self c.in_default-prepare_remove.is c.unlock_border.ensures.value c.unlock_border.ensures.keeps
+pub returns : goal.returns
+returns c = turned c.args.columns c.args.tree.now c.ready.new.tree c.args.log.now c.ready.new.log c.args.self.now _ _ _ _ c.turn_to.ensures c.in-Some.ensures.some

@@ -1,5 +1,4 @@
 use Rattle.std.proofs.Common.{◌≤◌, ◌-◌}
-use Rattle.mt_arena.specs.Arena.{IsArena}
 use Rattle.mt_write.specs.Runs.{IsTrimmed, MayRun}
 use Rattle.mt_write.proofs.RunLemmas.{Running}
 use Rattle.mt_write.proofs.writing.Write.run.Given as goal
@@ -10,7 +9,6 @@ invariant-loop-steps l = record {
   running : Running l.fn.columns (record { tree = l.fn.tree; log = l.fn.log; write = l.fn.self }) l.steps l.commits (record { tree = l.tree; log = l.log; write = l.self });
   may : MayRun l.fn.columns (record { tree = l.tree; log = l.log; write = l.self });
   trimmed : IsTrimmed l.log;
-  arena : IsArena l.tree;
   few : l.steps ≤ l.most - 1;
 }
 
