@@ -1,5 +1,5 @@
 -- Runs of a put or remove: its steps one after the other, after each of which the log is trimmed.
-use Rattle.std.specs.Prelude.{ℕ, ◌≡◌, ◌≤◌, ◌+◌, ◌-◌, min, List, [], ◌∷◌, length, sum_by, All}
+use Rattle.std.specs.Prelude.{ℕ, ◌≡◌, ◌≤◌, ◌+◌, ◌-◌, min, List, [], ◌∷◌, length, sum_by, All, None}
 use Rattle.mt_commit.specs.Log.{LogView, IsLog, newest, slowest, trimmed}
 use Rattle.mt_arena.specs.Arena.{ArenaView, IsArena}
 use Rattle.mt_chart.specs.Tree.{Arena}
@@ -8,9 +8,13 @@ use Rattle.mt_steps.specs.declared.progress.Progress.TheVariants.{Moved, Committ
 use Rattle.mt_steps.specs.World.{World, IsWorld}
 use Rattle.mt_steps.specs.Step.{bounds}
 use Rattle.mt_write.specs.declared.running.WriteRun.{WriteRun}
+use Rattle.mt_write.specs.declared.finishing.AtBorder.{AtBorder}
+use Rattle.mt_write.specs.declared.finishing.AtBorder.TheVariants.{Absent, Commits, Ready}
 use Rattle.mt_write.specs.declared.writing.Write.{Write}
+use Rattle.mt_write.specs.declared.writing.Stage.{Stage}
+use Rattle.mt_write.specs.declared.writing.Stage.TheVariants.{Locked, Stored}
 use Rattle.mt_write.specs.Writing.{WriteIsTrue, write_held}
-use Rattle.mt_write.specs.Follows.{WriteStep}
+use Rattle.mt_write.specs.Follows.{FindsNone, WriteStep}
 
 -- the log holds no delta that is to be trimmed
 abbrev pub IsTrimmed : LogView → Type 0
@@ -70,3 +74,25 @@ pub record HasRun (C : ℕ) (s : WriteState) (run : WriteRun) (t : WriteState) :
   pub last : RunStep C before run.last t
   pub many : run.steps ≡ length steps + 1
   pub commits : run.commits ≡ sum_by commits_in steps + commits_in run.last
+
+-- AT ITS BORDER, which it has locked, a write makes a stage ready and commits: two steps, and the log is trimmed
+pub record CommitsAt (C : ℕ) (a after : ArenaView) (log left : LogView) (write : Write) (commit : ℕ) : Type 0 where
+  pub between : ArenaView
+  pub reserved : LogView
+  pub appended : LogView
+  pub stage : Stage
+  pub ready : WriteStep C a between log reserved write Locked Moved (record write { stage = stage })
+  pub commits : WriteStep C between after reserved appended write stage (Committed commit)
+      (record write { stage = Stored commit None })
+  pub arena : IsArena between
+  pub sound_reserved : IsLog reserved
+  pub sound : IsLog appended
+  pub trims : left ≡ trimmed appended
+  pub newest_stays : newest left ≡ newest appended
+
+-- so much it has done there: it has found no row to remove, or committed, or made another stage ready
+abbrev pub ComesTo : ℕ → ArenaView → ArenaView → LogView → LogView → Write → AtBorder → Type 0
+ComesTo C a after log left write Absent = FindsNone C a after log left write
+ComesTo C a after log left write (Commits commit) = CommitsAt C a after log left write commit
+ComesTo C a after log left write (Ready stage) = WriteStep C a after log left write Locked Moved
+    (record write { stage = stage })

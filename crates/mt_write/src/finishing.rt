@@ -1,24 +1,43 @@
 //! What a run does at the border of its key: it locks the border, makes ready, commits and unlocks it, and stores no stage
 //! between.
 
-ghost use Rattle.std.specs.Prelude.{◌≡◌, ℕ, ◌<◌, ◌≤◌, IfOk, IfErr, IsSomeAnd, None, false};
+ghost use Rattle.std.specs.Prelude.{◌≡◌, ℕ, ◌<◌, ◌≤◌, IfOk, IfErr, IsSomeAnd, MatchResult, None, true, false};
+ghost use Rattle.std.specs.Option.{IfSome};
+ghost use Rattle.mt_commit.specs.Log.{IsLog};
+ghost use Rattle.mt_border.specs.Border.{with_lock};
 ghost use Rattle.mt_arena.specs.Node.{border_at};
+ghost use Rattle.mt_arena.specs.Arena.{IsArena, with_border_changed};
+ghost use Rattle.mt_tree.specs.Keeping.{KeepsTree};
 ghost use Rattle.mt_steps.specs.Way.{Finds, Visits};
 ghost use Rattle.mt_steps.specs.declared.way.Went.{Went};
 ghost use Rattle.mt_write.specs.Writing.{MayStage};
 ghost use Rattle.mt_write.specs.Follows.{WriteStep};
-ghost use Rattle.mt_write.specs.Runs.{Advances, HasRun, IsTrimmed, MayRun};
+ghost use Rattle.mt_write.specs.Runs.{Advances, CommitsAt, ComesTo, HasRun, IsTrimmed, MayRun};
 
-use crate::commit::{hide, overwrite, show};
+use crate::commit::{hide, overwrite, overwrite_unread, show};
 use crate::ending::written;
+use crate::ready::{NewRow, make_columns, other_version};
 use crate::running::WriteRun;
-use crate::writing::{Stage, Write};
+use crate::writing::{Edit, Stage, Write};
 use mt_border::Found;
 use mt_commit::log::Log;
 use mt_steps::progress::Progress;
+use mt_steps::way::rest_of;
 use mt_tree::Tree;
 use mt_types::event::Answer;
+use mt_types::refusal::Refusal;
 use std::alloc::Global;
+
+/// What a put or remove came to at the border of its key, which it had locked.
+#[derive(Drop)]
+pub enum AtBorder {
+    /// There is no row to remove.
+    Absent,
+    /// It has made the commit of this number.
+    Commits(u64),
+    /// It has made this stage ready, and no commit.
+    Ready(Stage),
+}
 
 impl Write {
     // Commits a row that is ready to be shown, written over another, or hidden. Otherwise returns the stage as it was.
@@ -44,6 +63,105 @@ impl Write {
             } => Ok(overwrite(tree, log, number, place, key, columns, logged)),
             Stage::Taken { place, key, before } => Ok(hide(tree, log, number, place, key, before)),
             stage => Err(stage),
+        }
+    }
+
+    // Writes over the row that was found, and makes nothing for the log, if no delta would stay there. Returns the
+    // number of the commit, or why the put has failed; `None` if it is for another function.
+    fn put_unread(
+        &self,
+        alloc: Global,
+        columns: u8,
+        tree: &mut Tree,
+        log: &mut Log,
+        found: Found,
+    ) -> Option<Result<u64, Refusal>>
+        requires may { MayStage columns tree.old log.old self.now Stage.Locked }
+        requires finds { Finds tree.old self.now.key self.now.way found }
+        ensures none { result ≡ None → (tree.new ≡ tree.old) × (log.new ≡ log.old) }
+        ensures some { IfSome result (λ put. MatchResult put (CommitsAt columns tree.old tree.new log.old log.new self.now)
+            (λ refusal. WriteStep columns tree.old tree.new log.old log.new self.now Stage.Locked Progress.Moved
+            (record self.now { stage = Stage.Failed refusal None }))) }
+        ensures sound { IsLog log.new }
+    {
+        let _sound = log.number();
+        let _arena = tree.free_numbers();
+        let _bytes = rest_of(&self.key, self.way.layer);
+        let (Edit::Put { sets, only }, Found::Row(place)) = (&self.edit, found) else {
+            return None;
+        };
+        if !log.is_unread() {
+            return None;
+        }
+        let border = tree.border(self.way.node);
+        let None = other_version(border, found, *only) else {
+            return None;
+        };
+        let row = NewRow {
+            columns,
+            key: &self.key,
+            sets,
+            way: self.way,
+        };
+        match make_columns(alloc, log, &row, border, place) {
+            Ok(made) => Some(Ok(overwrite_unread(tree, log, self.way.node, place, made))),
+            Err(refusal) => Some(Err(refusal)),
+        }
+    }
+
+    // At its border, which it has locked: makes ready with what was found there, and commits if that is next.
+    fn act(
+        &self,
+        alloc: Global,
+        columns: u8,
+        tree: &mut Tree,
+        log: &mut Log,
+        found: Found,
+    ) -> AtBorder
+        requires may { MayRun columns (record {
+          tree = tree.old;
+          log = log.old;
+          write = record self.now { stage = Stage.Locked };
+        }) }
+        requires trimmed { IsTrimmed log.old }
+        requires finds { Finds tree.old self.now.key self.now.way found }
+        ensures { ComesTo columns tree.old tree.new log.old log.new self.now result }
+    {
+        let _before = tree.free_numbers();
+        match self.put_unread(alloc, columns, tree, log, found) {
+            Some(Ok(commit)) => return AtBorder::Commits(commit),
+            Some(Err(refusal)) => return AtBorder::Ready(Stage::Failed(refusal, None)),
+            None => {}
+        }
+        let Some(stage) = self.ready(alloc, columns, tree, log, found) else {
+            return AtBorder::Absent;
+        };
+        let _arena = tree.free_numbers();
+        let _reserved = log.number();
+        match self.commit(tree, log, stage) {
+            Ok(commit) => {
+                let _appended = log.number();
+                log.trim();
+                AtBorder::Commits(commit)
+            }
+            Err(stage) => AtBorder::Ready(stage),
+        }
+    }
+
+    // Unlocks its border, and answers. Returns the run that has made this number of steps, and of commits among them.
+    fn unlock(&self, tree: &mut Tree, steps: u64, commits: u64, answer: Answer) -> WriteRun
+        requires { IsSomeAnd (border_at tree.old.nodes self.now.way.node.0) (λ b. b.version.locked ≡ true) }
+        ensures run { result ≡ record { steps = steps; commits = commits; last = Progress.Answered answer } }
+        ensures unlocked { tree.new ≡ with_border_changed tree.old self.now.way.node.0 (λ b. with_lock b false) }
+        ensures keeps { KeepsTree tree.old tree.new }
+        ensures arena { IsArena tree.new }
+    {
+        tree.unlock_border(self.way.node);
+        let _arena = tree.free_numbers();
+        WriteRun {
+            steps,
+            commits,
+            last: Progress::Answered(answer),
         }
     }
 
@@ -74,32 +192,13 @@ impl Write {
         let _trimmed = log.number();
         tree.lock_border(self.way.node);
         let _locked = tree.free_numbers();
-        let Some(stage) = self.ready(alloc, columns, tree, log, found) else {
-            let _sound = log.number();
-            tree.unlock_border(self.way.node);
-            let _after = tree.free_numbers();
-            return WriteRun {
-                steps: 2,
-                commits: 0,
-                last: Progress::Answered(Answer::Absent),
-            };
-        };
-        let _ready = tree.free_numbers();
-        let _reserved = log.number();
-        match self.commit(tree, log, stage) {
-            Ok(commit) => {
-                let _committed = tree.free_numbers();
-                let _appended = log.number();
-                log.trim();
-                tree.unlock_border(self.way.node);
-                let _after = tree.free_numbers();
-                WriteRun {
-                    steps: 4,
-                    commits: 1,
-                    last: Progress::Answered(written(&self.edit, commit)),
-                }
-            }
-            Err(stage) => {
+        let came_to = self.act(alloc, columns, tree, log, found);
+        let _acted = tree.free_numbers();
+        let _sound = log.number();
+        match came_to {
+            AtBorder::Absent => self.unlock(tree, 2, 0, Answer::Absent),
+            AtBorder::Commits(commit) => self.unlock(tree, 4, 1, written(&self.edit, commit)),
+            AtBorder::Ready(stage) => {
                 self.turn_to(stage);
                 WriteRun {
                     steps: 2,

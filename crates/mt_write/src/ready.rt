@@ -1,8 +1,8 @@
 //! Making ready at the border that a put or remove has locked: the new row, the columns of the row, or the row's copy.
 
-ghost use Rattle.std.specs.Prelude.{◌≡◌, ℕ, List, ◌≤◌, ◌<◌, ◌+◌, ◌-◌, ◌*◌, length, MatchResult, IfOk, OnErr, IsFalse, IsSome, IsSomeAnd, Some, None};
+ghost use Rattle.std.specs.Prelude.{◌≡◌, ℕ, List, ◌≤◌, ◌<◌, ◌+◌, ◌-◌, ◌*◌, length, MatchOption, MatchResult, Err, IfOk, IfErr, OnErr, IsFalse, IsSome, IsSomeAnd, Some, None};
 ghost use Rattle.mt_border.specs.Border.{row_at, fill_is_spent};
-ghost use Rattle.mt_commit.specs.Log.{reserve_fault};
+ghost use Rattle.mt_commit.specs.Log.{IsLog, reserve_fault};
 ghost use Rattle.mt_types.specs.declared.event.Request.TheVariants.{Put as PutRequest, Remove as RemoveRequest};
 ghost use Rattle.mt_slice.specs.Place.{rest_at};
 ghost use Rattle.mt_border.specs.Entry.{entry_of_row};
@@ -15,7 +15,7 @@ ghost use Rattle.mt_tree.specs.Descent.{IsFoundAt, IsLast, found_for, row_found}
 ghost use Rattle.mt_steps.specs.Way.{Finds, rest_of};
 ghost use Rattle.mt_steps.specs.Step.{MayFail, columns_after};
 ghost use Rattle.mt_write.specs.Causes.{version_fault, fill_fault, put_fault, remove_fault, ReadyFor, FailsBy, RemoveFailsBy};
-ghost use Rattle.mt_write.specs.Writing.{FillsNew, Prepares, PreparesRemove, IsBack};
+ghost use Rattle.mt_write.specs.Writing.{with_room, FillsNew, Prepares, PreparesRemove, IsBack};
 
 use crate::columns::made_columns;
 use crate::layering::spare_layer;
@@ -131,21 +131,39 @@ pub fn fill(
     }
 }
 
-// The columns that the row at a place is to have, for the row and for the log, and the key once more.
-fn make_columns(
+// Reserves room in the log, and makes the columns that the row at a place is to have.
+pub fn make_columns(
     alloc: Global,
+    log: &mut Log,
     row: &NewRow<'_>,
     border: &Border,
     place: usize,
-) -> Result<(Key, Columns, Columns), NoMemory>
+) -> Result<Columns, Refusal>
     requires within { place < length border.now.live }
     requires row { IsSome (row_at place border.now.live) }
-    ensures { IfOk result (λ made. (made.0 ≡ row.now.key.now)
-        × (made.1 ≡ columns_after row.now.columns row.now.sets.now (row_at place border.now.live)) × (made.2 ≡ made.1)) }
+    ensures ready { MatchResult result
+        (λ made. (made ≡ columns_after row.now.columns row.now.sets.now (row_at place border.now.live))
+        × (log.new ≡ with_room log.old))
+        (λ refusal. MayFail log.old (PutRequest row.now.key.now row.now.sets.now) refusal × (log.new ≡ log.old)) }
+    ensures fault { MatchOption (reserve_fault log.old) (IfErr result (λ refusal. refusal ≡ Refusal.NoMemory))
+        (λ fault. result ≡ Err fault) }
+    ensures sound { IsLog log.new }
 {
-    let made = made_columns(alloc, row.columns, Some(row_at(border, place)), row.sets)?;
-    let logged = made.copy(alloc)?;
-    Ok((row.key.copy(alloc)?, made, logged))
+    log.reserve()?;
+    match made_columns(alloc, row.columns, Some(row_at(border, place)), row.sets) {
+        Ok(made) => Ok(made),
+        Err(_) => {
+            log.unreserve();
+            Err(Refusal::NoMemory)
+        }
+    }
+}
+
+// The key and the columns once more, for the log.
+fn copy_for_log(alloc: Global, key: &Key, columns: &Columns) -> Result<(Key, Columns), NoMemory>
+    ensures { IfOk result (λ made. (made.0 ≡ key.now) × (made.1 ≡ columns.now)) }
+{
+    Ok((key.copy(alloc)?, columns.copy(alloc)?))
 }
 
 // Reserves room in the log, and makes the columns that the row at a place is to have.
@@ -167,9 +185,9 @@ fn make(
     let border = tree.border(row.way.node);
     let _sound = border.len();
     let _bytes = rest_of(row.key, row.way.layer);
-    log.reserve()?;
-    match make_columns(alloc, row, border, place) {
-        Ok((key, columns, logged)) => Ok(Stage::Made {
+    let columns = make_columns(alloc, log, row, border, place)?;
+    match copy_for_log(alloc, row.key, &columns) {
+        Ok((key, logged)) => Ok(Stage::Made {
             place,
             key,
             columns,
