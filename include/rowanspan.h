@@ -61,9 +61,9 @@
  *
  * MEMORY
  *     The library copies the keys, columns and tests that it is passed: they stay the caller's. A call that stores or
- *     returns something allocates with malloc; rowanspan_get allocates for a copy of the key only. malloc and realloc
- *     have to align blocks as ISO C requires. No call may be made in a signal handler, or in the forked child of a
- *     process with threads.
+ *     returns something allocates with malloc, except rowanspan_get, which takes no memory. malloc and realloc have to
+ *     align blocks as ISO C requires. No call may be made in a signal handler, or in the forked child of a process with
+ *     threads.
  *
  * It isn't proved that a caller in C meets the conditions that are stated here, nor what a compiler makes of the header
  * and of bindings/c. See docs/EMBEDDING.md. */
@@ -206,8 +206,7 @@ rowanspan_status rowanspan_tidy(rowanspan *index, const void *key, size_t key_le
  * in this order, or with all columns if `column_count` is 0. *told is the length of the answer in bytes.
  *
  * Cost: a visit of each node on the way to the key, and one copy of the columns, from the index into the buffer. It
- * allocates for a copy of the key only, which is freed before the call returns, and not at all if the key is empty. A
- * row with all its columns fits in 16 bytes, and 72 for each column.
+ * takes no memory. A row with all its columns fits in 16 bytes, and 72 for each column.
  *
  * Returns OK. Returns ABSENT if the key has no row, and NO_ROOM if the answer doesn't fit. Fails with KEY_TOO_LONG,
  * BAD_COLUMN or NO_MEMORY. Unless it returns OK the buffer is as it was. */
@@ -218,9 +217,8 @@ rowanspan_status rowanspan_get(const rowanspan *index, const void *key, size_t k
  * 1000). The answer is read by rowanspan_read_count, and then for each row by rowanspan_read_bytes (its key) and
  * rowanspan_read_row. The columns and *told are as of rowanspan_get.
  *
- * Cost: a visit of each border that it reads and of the nodes on the way there, and memory for the rows, which is freed
- * before the call returns. After the last row of a layer it descends again from the top: two keys of n slices of eight
- * bytes, of which only the last slices differ, cost n (n + 1) visits if the range continues after them.
+ * Cost: a visit of each border that it reads and of the nodes on the way there, and memory for the answer, which is
+ * freed before the call returns. After the last row of a layer it continues in the border above.
  *
  * Returns OK, also if there are no rows. Returns NO_ROOM if the answer doesn't fit. Fails with KEY_TOO_LONG,
  * BAD_COLUMN, BAD_LIMIT or NO_MEMORY. Unless it returns OK the buffer is as it was. */

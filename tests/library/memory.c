@@ -175,9 +175,8 @@ static long allocations_of_get(const rowanspan *index, const char *key, uint64_t
     return allocations;
 }
 
-/* A get allocates for a copy of the key, as two blocks, and for nothing else: an empty key needs no memory, and the
- * columns go from the index into the buffer. A buffer that is too small needs no more. */
-static void gets_copy_the_key_alone(void) {
+/* A get takes no memory: the row goes from the index into the buffer. Nor does one whose buffer is too small. */
+static void gets_take_no_memory(void) {
     static const char *const keys[2] = {"", "aaaaaaaabbbbbbbbcccccccc"};
     rowanspan *index = opened(COLUMNS, 16, 0);
     uint8_t room[LENGTH];
@@ -187,15 +186,15 @@ static void gets_copy_the_key_alone(void) {
     for (i = 0; i < 2; i++) {
         put_greatest(index, keys[i]);
         room[0] = 0xee;
-        memory_ends_after(2 * i);
+        memory_ends_after(0);
         WANT_SAME(rowanspan_get(index, keys[i], strlen(keys[i]), NULL, 0, room, LENGTH - 1, &told), ROWANSPAN_NO_ROOM);
         memory_ends_after(-1);
         WANT_SAME(told, LENGTH);
         WANT_SAME(room[0], 0xee);
-        WANT_SAME(allocations_of_get(index, keys[i], (uint64_t)i + 1), 2 * i);
+        WANT_SAME(allocations_of_get(index, keys[i], (uint64_t)i + 1), 0);
     }
     rowanspan_close(index);
-    ends("gets_copy_the_key_alone");
+    ends("gets_take_no_memory");
 }
 
 /* A cursor that is refused holds no memory, and its limits are answered before memory. */
@@ -306,7 +305,7 @@ int main(void) {
     setvbuf(stdout, NULL, _IONBF, 0);
     out_of_memory();
     no_memory_to_open();
-    gets_copy_the_key_alone();
+    gets_take_no_memory();
     no_memory_to_open_a_cursor();
     no_memory_for_a_cursor();
     opened_and_closed();

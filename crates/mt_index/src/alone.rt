@@ -1,8 +1,9 @@
 //! Calls alone: from begin to end while no other call is open, with the answers of a plain map.
 
-ghost use Rattle.std.specs.Prelude.{◌≡◌, IfOk, IfErr, MatchOption, Err, None};
+ghost use Rattle.std.specs.Prelude.{◌≡◌, ◌≤◌, IfOk, IfErr, MatchOption, Err, None, length};
 ghost use Rattle.std.specs.Option.{option_copied, option_map, option_or};
 ghost use Rattle.std.specs.FinMap.{get};
+ghost use Rattle.mt_types.specs.declared.limits.TheConstants.{MAX_KEY_BYTES};
 ghost use Rattle.mt_types.specs.Rows.{shown};
 ghost use Rattle.mt_types.specs.Limits.{columns_fault, limit_fault};
 ghost use Rattle.mt_promise.specs.History.{History, moment, rows};
@@ -33,8 +34,9 @@ impl Machine {
     /// builds may be. The result is that of a plain map. Begins no call, and changes nothing.
     ///
     /// Costs the visit of each node on the way to the key. Allocates nothing, and copies nothing.
-    pub fn row(&self, key: &Key) -> Option<&Row>
-        requires { IsQuiet self.now }
+    pub fn row(&self, key: &[u8]) -> Option<&Row>
+        requires quiet { IsQuiet self.now }
+        requires fits { length key.now ≤ MAX_KEY_BYTES }
         ensures { (h : History) → Stands self.now h
             → option_copied result ≡ get (rows self.now.columns (moment h)) key.now }
     {
@@ -66,7 +68,7 @@ impl Machine {
         if let Some(refusal) = columns_fault(self.columns, columns.as_slice()) {
             return Err(refusal);
         }
-        let Some(row) = self.row(&key) else {
+        let Some(row) = self.row(key.as_slice()) else {
             return Ok(None);
         };
         Ok(Some(shown(alloc, &columns, row)?))

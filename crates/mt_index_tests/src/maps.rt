@@ -57,7 +57,7 @@ fn filled(alloc: Global) -> Result<Map, Refusal> {
 
 // The version of the row of a key, and how many bytes its first column has.
 fn seen(map: &Map, key: &'static [u8]) -> Result<Option<(u64, usize)>, Refusal> {
-    let row = map.get(Bytes::from_static(key))?;
+    let row = map.get(key)?;
     Ok(row.map(|row| (row.version, row.columns.get_or_empty(0).len())))
 }
 
@@ -70,7 +70,7 @@ fn rows_of_a_map(rt: HostRuntime) -> Result<(), Fail> {
     assert_eq!(rt; seen(&map, b"apple"), Ok(Some((2, 5))));
     assert_eq!(rt; map.remove(Bytes::from_static(b"apple")), Ok(Some(3)));
     assert_eq!(rt; map.remove(Bytes::from_static(b"apple")), Ok(None));
-    assert_eq!(rt; map.contains_key(Bytes::from_static(b"apple")), Ok(false));
+    assert_eq!(rt; map.contains_key(b"apple"), Ok(false));
     assert_eq!(rt; (map.commits(), map.feed(1, 10)?.len()), (3, 2));
     Ok(())
 }

@@ -16,6 +16,7 @@ use bytes::Bytes;
 use mt_index::machine::Machine;
 use mt_index::options::Options;
 use mt_types::key::Key;
+use mt_types::limits::MAX_KEY_BYTES;
 use mt_types::refusal::Refusal;
 use mt_types::row::{ColumnNumbers, Delta, Pairs, Row};
 use std::alloc::Global;
@@ -100,7 +101,7 @@ impl Map {
         ensures { (h : History) → Stands self.now h
             → option_copied result ≡ get (rows self.now.columns (moment h)) key.now }
     {
-        self.machine.row(key)
+        self.machine.row(key.as_slice())
     }
 
     /// Returns the row of `key`, borrowed, or `None` if it has none. Does what [`Map::row`] does, of bytes of any length.
@@ -108,13 +109,15 @@ impl Map {
     /// # Errors
     ///
     /// `KeyTooLong` if the key has more than `MAX_KEY_BYTES` bytes.
-    pub fn get(&self, key: Bytes) -> Result<Option<&Row>, Refusal>
+    pub fn get(&self, key: &[u8]) -> Result<Option<&Row>, Refusal>
         ensures row { IfOk result (λ row. (h : History) → Stands self.now h
-            → option_copied row ≡ get (rows self.now.columns (moment h)) key) }
-        ensures fault { IfErr result (λ refusal. key_fault key ≡ Some refusal) }
+            → option_copied row ≡ get (rows self.now.columns (moment h)) key.now) }
+        ensures fault { IfErr result (λ refusal. key_fault key.now ≡ Some refusal) }
     {
-        let key = Key::new(key)?;
-        Ok(self.machine.row(&key))
+        if key.len() > MAX_KEY_BYTES {
+            return Err(Refusal::KeyTooLong);
+        }
+        Ok(self.machine.row(key))
     }
 
     /// Returns whether `key` has a row. Costs what [`Map::get`] costs.
@@ -122,10 +125,10 @@ impl Map {
     /// # Errors
     ///
     /// `KeyTooLong` if the key has more than `MAX_KEY_BYTES` bytes.
-    pub fn contains_key(&self, key: Bytes) -> Result<bool, Refusal>
+    pub fn contains_key(&self, key: &[u8]) -> Result<bool, Refusal>
         ensures there { IfOk result (λ there. (h : History) → Stands self.now h
-            → IsTrue there ↔ IsSome (get (rows self.now.columns (moment h)) key)) }
-        ensures fault { IfErr result (λ refusal. key_fault key ≡ Some refusal) }
+            → IsTrue there ↔ IsSome (get (rows self.now.columns (moment h)) key.now)) }
+        ensures fault { IfErr result (λ refusal. key_fault key.now ≡ Some refusal) }
     {
         Ok(self.get(key)?.is_some())
     }

@@ -33,10 +33,7 @@ fn get(
     requires within { request_fault machine.now.columns (Get key.now columns.now) ≡ None }
     ensures { IfOk result (IsPlainNow machine.now (Get key.now columns.now)) }
 {
-    let Ok(key) = Key::new(key.copy(alloc)?) else {
-        unreachable!()
-    };
-    match machine.row(&key) {
+    match machine.row(key.as_slice()) {
         Some(row) => Ok(Answer::Found(shown(alloc, columns, row)?)),
         None => Ok(Answer::Absent),
     }

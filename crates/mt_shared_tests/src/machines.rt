@@ -72,7 +72,7 @@ fn gets(alloc: Global, machine: &Machine) -> Result<bool, Refusal> {
         return Ok(false);
     }
     let key = Key::new(Bytes::from_static(b"a"))?;
-    let Some(borrowed) = machine.row(&key) else {
+    let Some(borrowed) = machine.row(key.as_slice()) else {
         return Ok(false);
     };
     if borrowed.columns.len() != 1 {

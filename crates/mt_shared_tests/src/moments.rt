@@ -45,7 +45,7 @@ fn rows(
 
 // The version and the first column of the row of a key, both borrowed.
 fn row<'m>(moment: &'m Moment<'_>, key: &Key) -> Option<(u64, &'m [u8])> {
-    let row = moment.machine()?.row(key)?;
+    let row = moment.machine()?.row(key.as_slice())?;
     Some((row.version, row.columns.get_or_empty(0)))
 }
 

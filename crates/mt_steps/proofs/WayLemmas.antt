@@ -129,6 +129,12 @@ border_here rest (HeadNode h) e = absurd (leads_on h.version.deleted (VisitTo h.
 border_here rest (InteriorNode i) e = absurd (leads_on i.version.deleted (to_child (slice_get i.children (children_up_to (slice_number rest) i.children - 1))) (no_child_here _) e)
 border_here rest (BorderNode b) e = refl
 
+-- a way ends in a border
+pub no_border_here : (rest : List ℕ) (way : Way) (node : Node) (went : Went) → went ≡ went_by way (node_visit rest node) → ((b : BorderView) → node ≡ BorderNode b → ⊥) → went ≡ Here → ⊥
+no_border_here rest way (HeadNode h) went is not e = (let some : IsSome (border_of (HeadNode h)) = border_here rest (HeadNode h) (if_here (node_visit rest (HeadNode h)) way (sym is ∙ e)) in cc)
+no_border_here rest way (InteriorNode i) went is not e = (let some : IsSome (border_of (InteriorNode i)) = border_here rest (InteriorNode i) (if_here (node_visit rest (InteriorNode i)) way (sym is ∙ e)) in cc)
+no_border_here rest way (BorderNode b) went is not e = not b refl
+
 pub has_border : (key : List ℕ) (way : Way) (node : Node) → Here ≡ went_at key way node → IsSome (border_of node)
 has_border key way node is = border_here (rest_of key way) node (if_here (node_visit (rest_of key way) node) way (sym is))
 

@@ -157,7 +157,7 @@ pub extern "C" fn rowanspan_raw_get(
         *told = 0;
         return CLOSED;
     };
-    let status = get(alloc, &index, key, columns, into, told);
+    let status = get(&index, key, columns, into, told);
     handle.fill(index);
     status
 }

@@ -56,7 +56,7 @@ fn key_of(alloc: Global, bytes: &[u8]) -> Result<Key, Refusal>
 }
 
 // Reports the row of a key, copied into the buffer, with the columns that are asked for, or with all if none is asked for.
-fn tell_row_of(index: &Machine, key: &Key, columns: &[u8], into: &mut [u8], told: &mut u64) -> u16
+fn tell_row_of(index: &Machine, key: &[u8], columns: &[u8], into: &mut [u8], told: &mut u64) -> u16
     requires idle { IsIdle index.now }
     requires fits { request_fault index.now.columns (Get key.now columns.now) ≡ None }
     ensures { (read : Result (Option (List ℕ)) Refusal) × ReadsRow index.now key.now columns.now read
@@ -69,9 +69,8 @@ fn tell_row_of(index: &Machine, key: &Key, columns: &[u8], into: &mut [u8], told
 }
 
 /// Copies the row of a key from the index into a buffer, with the columns that are asked for, or with all if none is
-/// asked for. Allocates for a copy of the key only.
+/// asked for. Allocates nothing.
 pub(crate) fn get(
-    alloc: Global,
     index: &Machine,
     key: &[u8],
     columns: &[u8],
@@ -85,10 +84,7 @@ pub(crate) fn get(
     if let Some(refusal) = get_fault(index.columns(), key, columns) {
         return tell_refusal(refusal, told);
     }
-    match key_of(alloc, key) {
-        Ok(key) => tell_row_of(index, &key, columns, into, told),
-        Err(refusal) => tell_refusal(refusal, told),
-    }
+    tell_row_of(index, key, columns, into, told)
 }
 
 fn rows(

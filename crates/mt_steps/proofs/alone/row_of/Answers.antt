@@ -6,13 +6,13 @@ use Rattle.mt_steps.proofs.LoneRow.{sought_begins, sought_may_go, sought_may_go_
 use Rattle.mt_steps.proofs.alone.row_of.Goals as goal
 
 pub loop-row-init : goal.loop-row-init
-loop-row-init c = sought_begins c.args.tree.now c.args.key.now c.requires c.rest_of-bytes.ensures.bytes c.rest_of-bytes.ensures.fits
+loop-row-init c = sought_begins c.args.tree.now c.args.key.now c.requires.lone c.rest_in-bytes.ensures.bytes c.requires.fits
 
 pub node-requires : goal.node-requires
 node-requires c = (sought_may_go c.args.tree.now c.args.key.now c.loop-row.way c.loop-row.invariant).may.named
 
-pub look-requires : goal.look-requires
-look-requires c = sought_may_go_at c.args.tree.now c.args.key.now c.loop-row.way c.node.result.now c.loop-row.invariant (record { named = c.node.ensures.value; sound = c.node.ensures.arena })
+pub look-requires-clause-may : goal.look-requires-clause-may
+look-requires-clause-may c = sought_may_go_at c.args.tree.now c.args.key.now c.loop-row.way c.node.result.now c.loop-row.invariant (record { named = c.node.ensures.value; sound = c.node.ensures.arena })
 
 pub returns-in-Ok-clause-row : goal.returns-in-Ok-clause-row
 returns-in-Ok-clause-row c =

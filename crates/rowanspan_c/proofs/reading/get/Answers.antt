@@ -12,9 +12,3 @@ returns-in-Some c =
     let caused = subst (λ (f : Option Refusal). IsCausedBy f c.in-Some.refusal) (sym c.in-Some.is ∙ c.get_fault.ensures) refl in
     refused c.args.index.now c.args.key.now c.args.columns.now c.args.into.now c.args.into.now c.tell_refusal.result c.tell_refusal.new.told c.in-Some.refusal
     (subst (λ (count : ℕ). IsCausedBy (request_fault count (Get c.args.key.now c.args.columns.now)) c.in-Some.refusal) c.columns.ensures caused) refl c.tell_refusal.ensures
-
-pub returns-in-Err : goal.returns-in-Err
-returns-in-Err c =
-    let fits = subst (λ (count : ℕ). request_fault count (Get c.args.key.now c.args.columns.now) ≡ None) c.columns.ensures (sym c.get_fault.ensures ∙ c.in_default.is) in
-    refused c.args.index.now c.args.key.now c.args.columns.now c.args.into.now c.args.into.now c.tell_refusal-in-Err.result c.tell_refusal-in-Err.new.told c.in-Err.refusal
-    (subst (λ (f : Option Refusal). IsCausedBy f c.in-Err.refusal) (sym fits) c.in-Err.ensures) refl c.tell_refusal-in-Err.ensures

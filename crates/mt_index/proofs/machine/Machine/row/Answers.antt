@@ -8,11 +8,11 @@ use Rattle.mt_index.proofs.LaterStands.{seen}
 use Rattle.mt_index.proofs.QuietStands.{quiet_tree, read_row}
 use Rattle.mt_index.proofs.machine.Machine.row.Goals as goal
 
-pub row_of-requires : goal.row_of-requires
-row_of-requires c =
+pub row_of-requires-clause-lone : goal.row_of-requires-clause-lone
+row_of-requires-clause-lone c =
     let (h, st) = c.self.invariant in
     quiet_tree (seen c.self.inside.columns c.self.inside.epoch c.self.inside.tree c.self.inside.log c.self.inside.calls c.self.inside.views) h st
-    (subst (λ (m : MachineView). IsQuiet m) (sym c.self.view_is) c.requires)
+    (subst (λ (m : MachineView). IsQuiet m) (sym c.self.view_is) c.requires.quiet)
 
 pub returns : goal.returns
 returns c = λ h st.

@@ -1,6 +1,5 @@
 -- A search at the border of a key is of the border that is there.
-use Rattle.std.proofs.Common.{ℕ, ◌≡◌, List, sym, subst, ap, ◌∙◌}
-use Rattle.mt_arena.specs.declared.node.Node.{Node}
+use Rattle.std.proofs.Common.{ℕ, List, sym, subst, ap, ◌∙◌}
 use Rattle.mt_arena.specs.Node.{IsNode, border_of}
 use Rattle.mt_tree.specs.Descent.{IsFoundAt, found_for, node_visit}
 use Rattle.mt_tree.specs.declared.visit.Visit.TheVariants.{Here as VisitHere}
