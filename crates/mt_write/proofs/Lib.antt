@@ -14,6 +14,6 @@ pub mod WorkLemmas
 pub mod WriteLasts
 pub mod LoneWrite
 pub mod LoneWrites
-pub mod UnreadLemmas
 pub mod RunLemmas
 pub mod FinishLemmas
+pub mod UnreadLemmas

@@ -70,6 +70,7 @@ lone_sound number entry whole = record {
   left_of = tt;
   deleted_empty = λ deleted. cc;
   border = refl;
+  unflagged = (refl, refl);
   counters = record { vinsert_fits = omega arith; vsplit_fits = omega arith };
 }
 

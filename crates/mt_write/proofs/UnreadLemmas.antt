@@ -1,90 +1,217 @@
--- A put over a row of which no delta stays in the log: its two steps, as if the delta were appended and trimmed.
-use Rattle.std.proofs.Common.{ℕ, ◌≡◌, ◌≤◌, ◌+◌, ◌∙◌, List, [], ◌∷◌, ◌++◌, length, Option, Some, None, Result, Ok, Err, inl, refl, sym, ap, subst, arith}
+-- A put or remove of which no delta stays in the log: its two steps, as if the delta were appended and trimmed.
+use Rattle.std.proofs.Common.{ℕ, ◌≡◌, ◌≤◌, ◌<◌, ◌+◌, ◌∙◌, List, [], ◌∷◌, ◌++◌, length, Option, Some, None, IsSome, Result, Ok, Err, Bool, true, false, inl, refl, sym, ap, subst, arith}
 use Rattle.std.specs.Prelude.{IsSomeAnd, IfErr, MatchOption}
+use Rattle.std.specs.Option.{option_or}
 use Rattle.std.proofs.lemmas.List.{length-append}
+use Rattle.mt_types.specs.Limits.{refused_if}
 use Rattle.mt_types.specs.declared.limits.TheConstants.{MAX_KEY_BYTES}
-use Rattle.mt_types.specs.declared.event.Request.TheVariants.{Put as PutRequest}
+use Rattle.mt_types.specs.declared.event.Request.TheVariants.{Put as PutRequest, Remove as RemoveRequest}
 use Rattle.mt_types.specs.declared.refusal.Refusal.{Refusal}
-use Rattle.mt_types.specs.declared.refusal.Refusal.TheVariants.{NoMemory}
+use Rattle.mt_types.specs.declared.refusal.Refusal.TheVariants.{NoMemory, Spent, FeedFull}
 use Rattle.mt_types.specs.declared.row.Delta.{Delta}
+use Rattle.mt_types.specs.declared.row.Row.{Row}
 use Rattle.mt_slice.specs.Place.{AreBytes}
-use Rattle.mt_commit.specs.Log.{LogView, IsLog, newest, reserve_fault, trimmed, with_delta}
+use Rattle.mt_word.specs.declared.permutation_word.TheConstants.{SLOTS}
+use Rattle.mt_commit.specs.Log.{LogView, IsLog, newest, reserve_fault, slowest, trimmed, with_delta}
 use Rattle.mt_commit.proofs.LogLemmas.{appended_log}
-use Rattle.mt_border.specs.Border.{BorderView, row_at, with_value}
+use Rattle.mt_border.specs.Border.{BorderView, row_at, with_filled, with_hidden, with_shown, with_value}
 use Rattle.mt_border.specs.Order.{IsBorder}
 use Rattle.mt_border.specs.declared.found.Found.{Found}
-use Rattle.mt_border.specs.declared.found.Found.TheVariants.{Row as RowFound}
+use Rattle.mt_border.specs.declared.found.Found.TheVariants.{Absent as AbsentFound, Row as RowFound}
 use Rattle.mt_arena.specs.Node.{border_at}
 use Rattle.mt_arena.specs.Arena.{ArenaView, IsArena, with_border_changed}
-use Rattle.mt_tree.specs.Descent.{found_for, row_found}
-use Rattle.mt_tree.specs.BorderSteps.{SetsRowAt}
+use Rattle.mt_tree.specs.Descent.{IsFoundAt, found_for, row_found}
+use Rattle.mt_tree.specs.BorderSteps.{HidesRowAt, MayShowAt, SetsRowAt, ShowsNext}
 use Rattle.mt_steps.specs.Way.{Finds, rest_of}
 use Rattle.mt_steps.specs.Step.{MayFail, columns_after}
-use Rattle.mt_steps.specs.declared.progress.Progress.TheVariants.{Moved}
+use Rattle.mt_steps.specs.declared.progress.Progress.TheVariants.{Committed, Moved}
 use Rattle.mt_write.specs.declared.writing.Write.{Write}
-use Rattle.mt_write.specs.declared.writing.Edit.TheVariants.{Put as PutEdit}
+use Rattle.mt_write.specs.declared.writing.Edit.TheVariants.{Put as PutEdit, Remove as RemoveEdit}
 use Rattle.mt_write.specs.declared.writing.Stage.{Stage}
-use Rattle.mt_write.specs.declared.writing.Stage.TheVariants.{Failed, Locked, Made}
-use Rattle.mt_write.specs.Writing.{put_delta, with_room}
-use Rattle.mt_write.specs.Causes.{FailsBy, put_fault, version_fault}
+use Rattle.mt_write.specs.declared.writing.Stage.TheVariants.{Failed, Filled, Locked, Made, Stored, Taken}
+use Rattle.mt_write.specs.Writing.{Fills, FillsNew, Prepares, new_entry, put_delta, remove_delta, with_room}
+use Rattle.mt_write.specs.Causes.{FailsBy, IsNotFailed, ReadyFor, RemoveFailsBy, fill_fault, put_fault, remove_fault, version_fault}
 use Rattle.mt_write.specs.Follows.{WriteStep}
-use Rattle.mt_write.specs.Runs.{CommitsAt}
-use Rattle.mt_write.proofs.FindLemmas.{faults_told, found_is}
-use Rattle.mt_write.proofs.StageSteps.{readies_put, writes_row}
+use Rattle.mt_write.specs.Runs.{CommitsAt, IsTrimmed, MayRun}
+use Rattle.mt_write.proofs.CauseLemmas.{ready_err, ready_ok, room_ready}
+use Rattle.mt_write.proofs.FindLemmas.{faults_told, found_is, found_stands}
+use Rattle.mt_write.proofs.FinishLemmas.{may_commit, state}
+use Rattle.mt_write.proofs.StageSteps.{hides_row, may_show, readies_put, readies_remove, row_there, shows_row, writes_row}
 
--- why columns were not made, if they were not
-abbrev pub ColumnsFor : LogView → Result (List (List ℕ)) Refusal → Type 0
-ColumnsFor log result = MatchOption (reserve_fault log) (IfErr result (λ refusal. refusal ≡ NoMemory)) (λ fault. result ≡ Err fault)
+-- ---- why what was to be made was not made
+-- for a fault, if there is one, and otherwise only if out of memory
+abbrev pub MadeFor : (T : Type 0) → Option Refusal → Result T Refusal → Type 0
+MadeFor T fault result = MatchOption fault (IfErr result (λ refusal. refusal ≡ NoMemory)) (λ due. result ≡ Err due)
 
-made_fails : (fault : Option Refusal) (made : List (List ℕ)) (place : ℕ) (stored : List ℕ) (logged : List (List ℕ))
-    → MatchOption fault (IfErr {T = List (List ℕ)} (Ok made) (λ refusal. refusal ≡ NoMemory)) (λ due. ◌≡◌ {A = Result (List (List ℕ)) Refusal} (Ok made) (Err due)) → FailsBy fault None (Made place stored made logged)
-made_fails None made place stored logged never = tt
-made_fails (Some due) made place stored logged never = (let clash : ◌≡◌ {A = Result (List (List ℕ)) Refusal} (Ok made) (Err due) = never in absurd (cc))
+-- the same of the stage that was made ready with it
+pub made_ready : (T : Type 0) (fault : Option Refusal) (made : T) (stage : Stage) → IsNotFailed stage → MadeFor T fault (Ok made) → ReadyFor fault (Ok stage)
+made_ready T None made stage stands never = stands
+made_ready T (Some due) made stage stands never = (let clash : ◌≡◌ {A = Result T Refusal} (Ok made) (Err due) = never in absurd (cc))
 
-failed_fails : (fault : Option Refusal) (refusal : Refusal)
-    → MatchOption fault (IfErr {T = List (List ℕ)} (Err refusal) (λ due. due ≡ NoMemory)) (λ due. ◌≡◌ {A = Result (List (List ℕ)) Refusal} (Err refusal) (Err due)) → FailsBy fault None (Failed refusal None)
-failed_fails None refusal memory = memory
-failed_fails (Some due) refusal is = (let both : ◌≡◌ {A = Result (List (List ℕ)) Refusal} (Err refusal) (Err due) = is in let same : refusal ≡ due = cc in ap (λ (r : Refusal). Failed r None) same)
+pub made_refused : (T : Type 0) (fault : Option Refusal) (refusal : Refusal) → MadeFor T fault (Err refusal) → ReadyFor fault (Err refusal)
+made_refused T None refusal memory = memory
+made_refused T (Some due) refusal is =
+    let both : ◌≡◌ {A = Result T Refusal} (Err refusal) (Err due) = is in
+    let same : refusal ≡ due = cc in
+    let turned : ◌≡◌ {A = Result Stage Refusal} (Err refusal) (Err due) = ap (λ (r : Refusal). Err r) same in
+    turned
 
-module _ (C : ℕ) (a : ArenaView) (log left : LogView) (write : Write) (sets : List (ℕ × List ℕ)) (only : Option ℕ) (is : write.edit ≡ PutEdit sets only) (found : Found) (f : Finds a write.key write.way found) (place : ℕ) (row : found ≡ RowFound place)
+-- a remove may fail for lack of room in the log
+room_fails : (T : Type 0) (log : LogView) (key : List ℕ) (spent full : Bool) (refusal : Refusal) → MadeFor T (option_or (refused_if spent Spent) (refused_if full (FeedFull (slowest log)))) (Err refusal) → MayFail log (RemoveRequest key) refusal
+room_fails T log key true full refusal is =
+    let both : ◌≡◌ {A = Result T Refusal} (Err refusal) (Err Spent) = is in
+    let same : Spent ≡ refusal = cc in
+    subst (λ (r : Refusal). MayFail log (RemoveRequest key) r) same (tt, tt)
+room_fails T log key false true refusal is =
+    let both : ◌≡◌ {A = Result T Refusal} (Err refusal) (Err (FeedFull (slowest log))) = is in
+    let same : FeedFull (slowest log) ≡ refusal = cc in
+    subst (λ (r : Refusal). MayFail log (RemoveRequest key) r) same (tt, refl)
+room_fails T log key false false refusal is = subst (λ (r : Refusal). MayFail log (RemoveRequest key) r) (sym is) (tt, tt)
+
+-- ---- its two steps, of which the second appends a delta that doesn't stay
+module _ (C : ℕ) (a between after : ArenaView) (log left last : LogView) (write : Write) (stage : Stage) (number : ℕ) (delta : Delta) where
+  passes : WriteStep C a between log left write Locked Moved (record write { stage = stage }) → WriteStep C between after left (with_delta left delta) write stage (Committed number) (record write { stage = Stored number None })
+      → delta.number ≡ newest left + 1 → 1 ≤ left.reserved → last ≡ trimmed (with_delta left delta) → newest last ≡ newest left + 1 → IsLog left → IsArena between → CommitsAt C a after log last write number
+  passes ready commits next room passed newest_is sound arena =
+      let long = length-append left.deltas (delta ∷ []) in
+      record {
+        between = between;
+        reserved = left;
+        appended = with_delta left delta;
+        stage = stage;
+        ready = ready;
+        commits = commits;
+        arena = arena;
+        sound_reserved = sound;
+        sound = appended_log left delta (left.deltas ++ delta ∷ []) sound room next refl;
+        trims = passed;
+        newest_stays = omega (arith, newest_is, long);
+      }
+
+-- there is room for the delta
+has_room : (log left : LogView) → left ≡ with_room log → 1 ≤ left.reserved
+has_room log left reserved = subst (λ (l : LogView). 1 ≤ l.reserved) (sym reserved) (omega arith)
+
+-- ---- a put
+module _ (C : ℕ) (a : ArenaView) (log left : LogView) (write : Write) (sets : List (ℕ × List ℕ)) (only : Option ℕ) (is : write.edit ≡ PutEdit sets only) (found : Found) (f : Finds a write.key write.way found)
     (b : BorderView) (named : border_at a.nodes write.way.node.0 ≡ Some b) (sound : IsBorder b) (agrees : None ≡ version_fault only (row_found b.live found)) where
-  there : found_for (rest_of write.key write.way) b.live ≡ RowFound place
-  there = sym (found_is a write.key write.way found f b named) ∙ row
+  there : (at : Found) → found ≡ at → found_for (rest_of write.key write.way) b.live ≡ at
+  there at is_at = sym (found_is a write.key write.way found f b named) ∙ is_at
 
-  -- a stage fails at the border by the fault of the room in the log
-  by_log : (stage : Stage) → FailsBy (reserve_fault log) None stage → IsSomeAnd (border_at a.nodes write.way.node.0) (λ x. FailsBy (put_fault a log x (found_for (rest_of write.key write.way) x.live)) None stage)
-  by_log stage fails = subst (λ (o : Option BorderView). IsSomeAnd o (λ x. FailsBy (put_fault a log x (found_for (rest_of write.key write.way) x.live)) None stage)) (sym named)
-      (subst (λ (at : Found). FailsBy (put_fault a log b at) None stage) (sym there) fails)
+  -- a stage fails at the border by the fault of what was found
+  by_fault : (at : Found) → found ≡ at → (stage : Stage) → FailsBy (put_fault a log b at) None stage → IsSomeAnd (border_at a.nodes write.way.node.0) (λ x. FailsBy (put_fault a log x (found_for (rest_of write.key write.way) x.live)) None stage)
+  by_fault at is_at stage fails = subst (λ (o : Option BorderView). IsSomeAnd o (λ x. FailsBy (put_fault a log x (found_for (rest_of write.key write.way) x.live)) None stage)) (sym named)
+      (subst (λ (at : Found). FailsBy (put_fault a log b at) None stage) (sym (there at is_at)) fails)
 
-  pub put_fails : (refusal : Refusal) → MayFail log (PutRequest write.key sets) refusal × (left ≡ log) → ColumnsFor log (Err refusal) → WriteStep C a a log left write Locked Moved (record write { stage = Failed refusal None })
-  put_fails refusal (may, same) fault = readies_put C a a log left write sets only (Failed refusal None) is
+  readies : (at : Found) → found ≡ at → (after : ArenaView) (stage : Stage) → Prepares C write.key sets write.way a log None stage after left → ReadyFor (put_fault a log b at) (Ok stage) → WriteStep C a after log left write Locked Moved (record write { stage = stage })
+  readies at is_at after stage ready fault = readies_put C a after log left write sets only stage is
       (faults_told a write.key write.way found f b named only None sound agrees)
-      (refl, may, inl refl, same) (by_log (Failed refusal None) (failed_fails (reserve_fault log) refusal fault))
+      ready (by_fault at is_at stage (ready_ok (put_fault a log b at) (Ok stage) stage None fault refl))
 
-  module _ (bytes : AreBytes write.key) (fits : length write.key ≤ MAX_KEY_BYTES) (made : List (List ℕ)) (ready : (made ≡ columns_after C sets (row_at place b.live)) × (left ≡ with_room log)) (fault : ColumnsFor log (Ok made)) where
-    made_ready : WriteStep C a a log left write Locked Moved (record write { stage = Made place write.key made made })
-    made_ready = readies_put C a a log left write sets only (Made place write.key made made) is
-        (faults_told a write.key write.way found f b named only None sound agrees)
-        (refl, record { b = b; named = named; made = record { bytes = bytes; fits = fits; sound = sound; stored_is = refl; there = there; made = ready.0; copied = refl }; same = refl; reserved = ready.1 })
-        (by_log (Made place write.key made made) (made_fails (reserve_fault log) made place write.key made fault))
+  fails : (at : Found) → found ≡ at → (after : ArenaView) → after ≡ a → (refusal : Refusal) → MayFail log (PutRequest write.key sets) refusal → left ≡ log → ReadyFor (put_fault a log b at) (Err refusal) → WriteStep C a after log left write Locked Moved (record write { stage = Failed refusal None })
+  fails at is_at after same refusal may kept fault = readies_put C a after log left write sets only (Failed refusal None) is
+      (faults_told a write.key write.way found f b named only None sound agrees)
+      (refl, may, inl same, kept) (by_fault at is_at (Failed refusal None) (ready_err (put_fault a log b at) (Err refusal) refusal None fault refl))
+
+  -- ---- over a row
+  pub over_fails : (place : ℕ) → found ≡ RowFound place → (refusal : Refusal) → MayFail log (PutRequest write.key sets) refusal × (left ≡ log) → MadeFor (List (List ℕ)) (reserve_fault log) (Err refusal) → WriteStep C a a log left write Locked Moved (record write { stage = Failed refusal None })
+  over_fails place row refusal (may, kept) fault = fails (RowFound place) row a refl refusal may kept (made_refused (List (List ℕ)) (reserve_fault log) refusal fault)
+
+  module _ (place : ℕ) (row : found ≡ RowFound place) (bytes : AreBytes write.key) (fits : length write.key ≤ MAX_KEY_BYTES) (made : List (List ℕ)) (ready : (made ≡ columns_after C sets (row_at place b.live)) × (left ≡ with_room log)) (fault : MadeFor (List (List ℕ)) (reserve_fault log) (Ok made)) where
+    readies_over : WriteStep C a a log left write Locked Moved (record write { stage = Made place write.key made made })
+    readies_over = readies (RowFound place) row a (Made place write.key made made)
+        (refl, record { b = b; named = named; made = record { bytes = bytes; fits = fits; sound = sound; stored_is = refl; there = there (RowFound place) row; made = ready.0; copied = refl }; same = refl; reserved = ready.1 })
+        (made_ready (List (List ℕ)) (reserve_fault log) made (Made place write.key made made) tt fault)
 
     pub passes_over : (after : ArenaView) (last : LogView) (number : ℕ) → number ≡ newest left + 1 → after ≡ with_border_changed a write.way.node.0 (λ x. with_value x place (record { version = newest left + 1; columns = made }))
         → SetsRowAt a after write.way.node.0 place (record { version = newest left + 1; columns = made }) → ((delta : Delta) → last ≡ trimmed (with_delta left delta)) → newest last ≡ newest left + 1 → IsLog left → IsArena a → CommitsAt C a after log last write number
     passes_over after last number next written sets_row passed newest_is sound_left arena =
         let delta : Delta = put_delta (newest left + 1) write.key (row_at place b.live) made in
-        let room : 1 ≤ left.reserved = subst (λ (l : LogView). 1 ≤ l.reserved) (sym ready.1) (omega arith) in
-        let long = length-append left.deltas (delta ∷ []) in
+        let room = has_room log left ready.1 in
+        passes C a a after log left last write (Made place write.key made made) number delta readies_over
+        (writes_row C a after left (with_delta left delta) write place write.key made made number next written sets_row
+        (subst (λ (o : Option BorderView). IsSomeAnd o (λ x. with_delta left delta ≡ with_delta left (put_delta (newest left + 1) write.key (row_at place x.live) made))) (sym named) refl) room)
+        refl room (passed delta) newest_is sound_left arena
+
+  -- ---- of a new key
+  pub new_fails : (T : Type 0) (place : ℕ) → found ≡ AbsentFound place → length b.live < SLOTS → (after : ArenaView) (refusal : Refusal) → MayFail log (PutRequest write.key sets) refusal × (after ≡ a) × (left ≡ log) → MadeFor T (fill_fault log b) (Err refusal)
+      → WriteStep C a after log left write Locked Moved (record write { stage = Failed refusal None })
+  new_fails T place none room after refusal (may, same, kept) fault = fails (AbsentFound place) none after same refusal may kept (room_ready a log b place (Err refusal) room (made_refused T (fill_fault log b) refusal fault))
+
+  module _ (T : Type 0) (done : T) (place : ℕ) (none : found ≡ AbsentFound place) (room : length b.live < SLOTS) (between : ArenaView) (fills : FillsNew C write.key sets write.way a write.key (columns_after C sets None) between) (reserved : left ≡ with_room log) (fault : MadeFor T (fill_fault log b) (Ok done)) where
+    abbrev filled : Stage
+    filled = Filled place write.key (columns_after C sets None) None
+
+    fills_there : Fills C write.key sets write.way a log place write.key (columns_after C sets None) between left
+    fills_there =
+        let same : fills.b ≡ b = (let both : ◌≡◌ {A = Option BorderView} (Some fills.b) (Some b) = sym fills.named ∙ named in cc) in
         record {
-          between = a;
-          reserved = left;
-          appended = with_delta left delta;
-          stage = Made place write.key made made;
-          ready = made_ready;
-          commits = writes_row C a after left (with_delta left delta) write place write.key made made number next written sets_row
-              (subst (λ (o : Option BorderView). IsSomeAnd o (λ x. with_delta left delta ≡ with_delta left (put_delta (newest left + 1) write.key (row_at place x.live) made))) (sym named) refl) room;
-          arena = arena;
-          sound_reserved = sound_left;
-          sound = appended_log left delta (left.deltas ++ delta ∷ []) sound_left room refl refl;
-          trims = passed delta;
-          newest_stays = omega (arith, newest_is, long);
+          b = b;
+          named = named;
+          bytes = fills.bytes;
+          fits = fills.fits;
+          sound = sound;
+          room = room;
+          absent = there (AbsentFound place) none;
+          stored_is = refl;
+          columns = refl;
+          filled = fills.filled;
+          whole = subst (λ (x : BorderView). IsBorder (with_filled x (new_entry write.key write.way (columns_after C sets None)))) same fills.whole;
+          keeps = fills.keeps;
+          reserved = reserved;
         }
+
+    readies_new : WriteStep C a between log left write Locked Moved (record write { stage = filled })
+    readies_new = readies (AbsentFound place) none between filled (refl, fills_there) (room_ready a log b place (Ok filled) room (made_ready T (fill_fault log b) done filled tt fault))
+
+    pub may_show_new : MayRun C (state a log (record write { stage = Locked })) → IsTrimmed log → IsArena a → IsSomeAnd (border_at between.nodes write.way.node.0) (λ x. (version : ℕ) → MayShowAt x place version)
+    may_show_new may is_trimmed arena = may_show between write left place write.key (columns_after C sets None) None (C, may_commit C a log write may is_trimmed arena between left filled readies_new)
+
+    pub passes_new : (after : ArenaView) (last : LogView) (number : ℕ) → number ≡ newest left + 1 → after ≡ with_border_changed between write.way.node.0 (λ x. with_shown x place (newest left + 1))
+        → ShowsNext between after write.way.node.0 (newest left + 1) → ((delta : Delta) → last ≡ trimmed (with_delta left delta)) → newest last ≡ newest left + 1 → IsLog left → IsArena between → CommitsAt C a after log last write number
+    passes_new after last number next shown shows passed newest_is sound_left arena =
+        let delta : Delta = put_delta (newest left + 1) write.key None (columns_after C sets None) in
+        let room = has_room log left reserved in
+        passes C a between after log left last write filled number delta readies_new
+        (shows_row C between after left (with_delta left delta) write place write.key (columns_after C sets None) None number next shown shows refl room)
+        refl room (passed delta) newest_is sound_left arena
+
+-- ---- a remove
+row_is : (o : Option Row) → IsSome o → (row : Row) × (o ≡ Some row)
+row_is None has = absurd (let clash : false ≡ true = has in cc)
+row_is (Some row) has = (row, refl)
+
+module _ (C : ℕ) (a : ArenaView) (log left : LogView) (write : Write) (is : write.edit ≡ RemoveEdit) (found : Found) (f : Finds a write.key write.way found) (place : ℕ) (row : found ≡ RowFound place) (b : BorderView) (named : border_at a.nodes write.way.node.0 ≡ Some b) where
+  has_row : IsSome (row_at place b.live)
+  has_row =
+      let at = subst (λ (x : Found). IsFoundAt (rest_of write.key write.way) b.live x) row (found_stands a write.key write.way found f b named) in
+      (row_there b.live place at.entry at.stands at.row).1
+
+  there_is : found_for (rest_of write.key write.way) b.live ≡ RowFound place
+  there_is = sym (found_is a write.key write.way found f b named) ∙ row
+
+  -- a stage fails at the border by the fault of the room in the log
+  by_log : (stage : Stage) → FailsBy (reserve_fault log) None stage → IsSomeAnd (border_at a.nodes write.way.node.0) (λ x. RemoveFailsBy (remove_fault log (found_for (rest_of write.key write.way) x.live)) (Some stage))
+  by_log stage fails = subst (λ (o : Option BorderView). IsSomeAnd o (λ x. RemoveFailsBy (remove_fault log (found_for (rest_of write.key write.way) x.live)) (Some stage))) (sym named)
+      (subst (λ (at : Found). FailsBy (remove_fault log at) None stage) (sym there_is) fails)
+
+  pub remove_fails : (T : Type 0) (refusal : Refusal) → left ≡ log → MadeFor T (reserve_fault log) (Err refusal) → WriteStep C a a log left write Locked Moved (record write { stage = Failed refusal None })
+  remove_fails T refusal kept fault = readies_remove C a log left write is (Some (Failed refusal None)) (refl, room_fails T log write.key _ _ refusal fault, kept)
+      (by_log (Failed refusal None) (ready_err (reserve_fault log) (Err refusal) refusal None (made_refused T (reserve_fault log) refusal fault) refl)) (Failed refusal None) refl
+
+  module _ (sound : IsBorder b) (bytes : AreBytes write.key) (fits : length write.key ≤ MAX_KEY_BYTES) (T : Type 0) (done : T) (reserved : left ≡ with_room log) (fault : MadeFor T (reserve_fault log) (Ok done)) where
+    readies_found : (before : Row) → row_at place b.live ≡ Some before → WriteStep C a a log left write Locked Moved (record write { stage = Taken place write.key before })
+    readies_found before copied = readies_remove C a log left write is (Some (Taken place write.key before))
+        (record { b = b; named = named; found = record { bytes = bytes; fits = fits; sound = sound; stored_is = refl; there = there_is; is_remove = refl; copied = copied }; reserved = reserved })
+        (by_log (Taken place write.key before) (ready_ok (reserve_fault log) (Ok (Taken place write.key before)) (Taken place write.key before) None (made_ready T (reserve_fault log) done (Taken place write.key before) tt fault) refl))
+        (Taken place write.key before) refl
+
+    pub passes_found : (after : ArenaView) (last : LogView) (number : ℕ) → number ≡ newest left + 1 → after ≡ with_border_changed a write.way.node.0 (λ x. with_hidden x place) → HidesRowAt a after write.way.node.0 place
+        → ((delta : Delta) → last ≡ trimmed (with_delta left delta)) → newest last ≡ newest left + 1 → IsLog left → IsArena a → CommitsAt C a after log last write number
+    passes_found after last number next hidden hides passed newest_is sound_left arena =
+        let (before, copied) = row_is (row_at place b.live) has_row in
+        let delta : Delta = remove_delta (newest left + 1) write.key before in
+        let room = has_room log left reserved in
+        passes C a a after log left last write (Taken place write.key before) number delta (readies_found before copied)
+        (hides_row C a after left (with_delta left delta) write place write.key before number next hidden hides refl room)
+        refl room (passed delta) newest_is sound_left arena

@@ -48,6 +48,24 @@ pub fn show(
     commit
 }
 
+// The commit of a row that is in the first unused slot, if no delta would stay in the log.
+pub fn show_unread(tree: &mut Tree, log: &mut Log, number: NodeNo, place: usize) -> u64
+    requires shows { IsSomeAnd (border_at tree.old.nodes number.0) (λ b. (version : ℕ) → MayShowAt b place version) }
+    requires room { 0 < log.old.reserved }
+    requires unread { IsUnread log.old }
+    ensures number { result ≡ newest log.old + 1 }
+    ensures shown { tree.new ≡ with_border_changed tree.old number.0 (λ b. with_shown b place (newest log.old + 1)) }
+    ensures shows { ShowsNext tree.old tree.new number.0 (newest log.old + 1) }
+    ensures passed { (delta : DeltaView) → log.new ≡ trimmed (with_delta log.old delta) }
+    ensures next { newest log.new ≡ newest log.old + 1 }
+    ensures sound { IsLog log.old × IsLog log.new }
+{
+    let commit = log.number() + 1;
+    tree.show(number, place, commit);
+    log.pass();
+    commit
+}
+
 // The commit of a row that is written over another, and its delta is logged.
 pub fn overwrite(
     tree: &mut Tree,
@@ -140,6 +158,24 @@ pub fn hide(
         before: Some(before),
         after: None,
     });
+    commit
+}
+
+// The commit of a remove, if no delta would stay in the log.
+pub fn hide_unread(tree: &mut Tree, log: &mut Log, number: NodeNo, place: usize) -> u64
+    requires row { IsSomeAnd (border_at tree.old.nodes number.0) (λ b. HasRowAt b place) }
+    requires room { 0 < log.old.reserved }
+    requires unread { IsUnread log.old }
+    ensures number { result ≡ newest log.old + 1 }
+    ensures hidden { tree.new ≡ with_border_changed tree.old number.0 (λ b. with_hidden b place) }
+    ensures hides { HidesRowAt tree.old tree.new number.0 place }
+    ensures passed { (delta : DeltaView) → log.new ≡ trimmed (with_delta log.old delta) }
+    ensures next { newest log.new ≡ newest log.old + 1 }
+    ensures sound { IsLog log.old × IsLog log.new }
+{
+    let commit = log.number() + 1;
+    tree.hide_row(number, place);
+    log.pass();
     commit
 }
 

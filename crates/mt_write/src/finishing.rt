@@ -1,9 +1,7 @@
 //! What a run does at the border of its key: it locks the border, makes ready, commits and unlocks it, and stores no stage
 //! between.
 
-ghost use Rattle.std.specs.Prelude.{◌≡◌, ℕ, ◌<◌, ◌≤◌, IfOk, IfErr, IsSomeAnd, MatchResult, None, true, false};
-ghost use Rattle.std.specs.Option.{IfSome};
-ghost use Rattle.mt_commit.specs.Log.{IsLog};
+ghost use Rattle.std.specs.Prelude.{◌≡◌, ℕ, ◌<◌, ◌≤◌, IfOk, IfErr, IsSomeAnd, None, true, false};
 ghost use Rattle.mt_border.specs.Border.{with_lock};
 ghost use Rattle.mt_arena.specs.Node.{border_at};
 ghost use Rattle.mt_arena.specs.Arena.{IsArena, with_border_changed};
@@ -12,20 +10,17 @@ ghost use Rattle.mt_steps.specs.Way.{Finds, Visits};
 ghost use Rattle.mt_steps.specs.declared.way.Went.{Went};
 ghost use Rattle.mt_write.specs.Writing.{MayStage};
 ghost use Rattle.mt_write.specs.Follows.{WriteStep};
-ghost use Rattle.mt_write.specs.Runs.{Advances, CommitsAt, ComesTo, HasRun, IsTrimmed, MayRun};
+ghost use Rattle.mt_write.specs.Runs.{Advances, ComesTo, HasRun, IsTrimmed, MayRun};
 
-use crate::commit::{hide, overwrite, overwrite_unread, show};
+use crate::commit::{hide, overwrite, show};
 use crate::ending::written;
-use crate::ready::{NewRow, make_columns, other_version};
 use crate::running::WriteRun;
-use crate::writing::{Edit, Stage, Write};
+use crate::writing::{Stage, Write};
 use mt_border::Found;
 use mt_commit::log::Log;
 use mt_steps::progress::Progress;
-use mt_steps::way::rest_of;
 use mt_tree::Tree;
 use mt_types::event::Answer;
-use mt_types::refusal::Refusal;
 use std::alloc::Global;
 
 /// What a put or remove came to at the border of its key, which it had locked.
@@ -66,49 +61,6 @@ impl Write {
         }
     }
 
-    // Writes over the row that was found, and makes nothing for the log, if no delta would stay there. Returns the
-    // number of the commit, or why the put has failed; `None` if it is for another function.
-    fn put_unread(
-        &self,
-        alloc: Global,
-        columns: u8,
-        tree: &mut Tree,
-        log: &mut Log,
-        found: Found,
-    ) -> Option<Result<u64, Refusal>>
-        requires may { MayStage columns tree.old log.old self.now Stage.Locked }
-        requires finds { Finds tree.old self.now.key self.now.way found }
-        ensures none { result ≡ None → (tree.new ≡ tree.old) × (log.new ≡ log.old) }
-        ensures some { IfSome result (λ put. MatchResult put (CommitsAt columns tree.old tree.new log.old log.new self.now)
-            (λ refusal. WriteStep columns tree.old tree.new log.old log.new self.now Stage.Locked Progress.Moved
-            (record self.now { stage = Stage.Failed refusal None }))) }
-        ensures sound { IsLog log.new }
-    {
-        let _sound = log.number();
-        let _arena = tree.free_numbers();
-        let _bytes = rest_of(&self.key, self.way.layer);
-        let (Edit::Put { sets, only }, Found::Row(place)) = (&self.edit, found) else {
-            return None;
-        };
-        if !log.is_unread() {
-            return None;
-        }
-        let border = tree.border(self.way.node);
-        let None = other_version(border, found, *only) else {
-            return None;
-        };
-        let row = NewRow {
-            columns,
-            key: &self.key,
-            sets,
-            way: self.way,
-        };
-        match make_columns(alloc, log, &row, border, place) {
-            Ok(made) => Some(Ok(overwrite_unread(tree, log, self.way.node, place, made))),
-            Err(refusal) => Some(Err(refusal)),
-        }
-    }
-
     // At its border, which it has locked: makes ready with what was found there, and commits if that is next.
     fn act(
         &self,
@@ -128,7 +80,7 @@ impl Write {
         ensures { ComesTo columns tree.old tree.new log.old log.new self.now result }
     {
         let _before = tree.free_numbers();
-        match self.put_unread(alloc, columns, tree, log, found) {
+        match self.commit_unread(alloc, columns, tree, log, found) {
             Some(Ok(commit)) => return AtBorder::Commits(commit),
             Some(Err(refusal)) => return AtBorder::Ready(Stage::Failed(refusal, None)),
             None => {}

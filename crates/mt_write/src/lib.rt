@@ -9,4 +9,5 @@ mod layering;
 mod ready;
 pub mod running;
 mod splitting;
+mod unread;
 pub mod writing;

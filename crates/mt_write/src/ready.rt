@@ -1,6 +1,6 @@
 //! Making ready at the border that a put or remove has locked: the new row, the columns of the row, or the row's copy.
 
-ghost use Rattle.std.specs.Prelude.{◌≡◌, ℕ, List, ◌≤◌, ◌<◌, ◌+◌, ◌-◌, ◌*◌, length, MatchOption, MatchResult, Err, IfOk, IfErr, OnErr, IsFalse, IsSome, IsSomeAnd, Some, None};
+ghost use Rattle.std.specs.Prelude.{◌≡◌, ℕ, List, ◌≤◌, ◌<◌, ◌+◌, ◌-◌, ◌*◌, length, MatchOption, MatchResult, Err, IfOk, IfErr, OnOk, OnErr, IsFalse, IsSome, IsSomeAnd, Some, None};
 ghost use Rattle.mt_border.specs.Border.{row_at, fill_is_spent};
 ghost use Rattle.mt_commit.specs.Log.{IsLog, reserve_fault};
 ghost use Rattle.mt_types.specs.declared.event.Request.TheVariants.{Put as PutRequest, Remove as RemoveRequest};
@@ -73,8 +73,65 @@ fn new_entry(alloc: Global, key: &Key, layer: usize, columns: Columns) -> Result
     Ok(Entry::of_row(rest, row)?)
 }
 
+// Reserves room in the log for a new row, if its slot's counter of insertions isn't spent.
+fn reserve_new(tree: &Tree, log: &mut Log, row: &NewRow<'_>) -> Result<(), Refusal>
+    requires room { IsSomeAnd (border_at tree.now.nodes row.now.way.node.0) (λ b. length b.live < SLOTS) }
+    ensures ok { OnOk result (IsSomeAnd (border_at tree.now.nodes row.now.way.node.0) (λ b. IsFalse (fill_is_spent b))
+        × (log.new ≡ with_room log.old)) }
+    ensures err { IfErr result (λ refusal. MayFail log.old (PutRequest row.now.key.now row.now.sets.now) refusal
+        × (log.new ≡ log.old)) }
+    ensures fault { IsSomeAnd (border_at tree.now.nodes row.now.way.node.0)
+        (λ b. MatchOption (fill_fault log.old b)
+        (IfErr result (λ refusal. refusal ≡ Refusal.NoMemory)) (λ fault. result ≡ Err fault)) }
+    ensures sound { IsLog log.new }
+{
+    let _sound = log.number();
+    if tree.border(row.way.node).is_fill_spent() {
+        return Err(Refusal::Spent);
+    }
+    log.reserve()
+}
+
+// Writes a new row of these columns into the first unused slot.
+fn put_columns(
+    alloc: Global,
+    tree: &mut Tree,
+    row: &NewRow<'_>,
+    columns: Columns,
+) -> Result<(), NoMemory>
+    requires within { 8 * row.now.way.layer ≤ length row.now.key.now - 1 }
+    requires room { IsSomeAnd (border_at tree.old.nodes row.now.way.node.0)
+        (λ b. (length b.live < SLOTS) × IsFalse (fill_is_spent b)) }
+    requires made { columns ≡ columns_after row.now.columns row.now.sets.now None }
+    ensures ok { OnOk result (FillsNew row.now.columns row.now.key.now row.now.sets.now row.now.way tree.old row.now.key.now
+        columns tree.new) }
+    ensures err { OnErr result (tree.new ≡ tree.old) }
+{
+    let _sound = tree.border(row.way.node).len();
+    let entry = new_entry(alloc, row.key, row.way.layer, columns)?;
+    let _bytes = rest_of(row.key, row.way.layer);
+    let Ok(()) = tree.fill_slot(row.way.node, entry) else {
+        unreachable!();
+    };
+    let _whole = tree.border(row.way.node).len();
+    Ok(())
+}
+
+// Writes a new row into the first unused slot.
+fn put_new(alloc: Global, tree: &mut Tree, row: &NewRow<'_>) -> Result<(), NoMemory>
+    requires within { 8 * row.now.way.layer ≤ length row.now.key.now - 1 }
+    requires room { IsSomeAnd (border_at tree.old.nodes row.now.way.node.0)
+        (λ b. (length b.live < SLOTS) × IsFalse (fill_is_spent b)) }
+    ensures ok { OnOk result (FillsNew row.now.columns row.now.key.now row.now.sets.now row.now.way tree.old row.now.key.now
+        (columns_after row.now.columns row.now.sets.now None) tree.new) }
+    ensures err { OnErr result (tree.new ≡ tree.old) }
+{
+    let columns = made_columns(alloc, row.columns, None, row.sets)?;
+    put_columns(alloc, tree, row, columns)
+}
+
 // Writes a new row into the first unused slot. Returns a copy of the key and the columns, for the log.
-fn put_new(alloc: Global, tree: &mut Tree, row: &NewRow<'_>) -> Result<(Key, Columns), NoMemory>
+fn put_logged(alloc: Global, tree: &mut Tree, row: &NewRow<'_>) -> Result<(Key, Columns), NoMemory>
     requires within { 8 * row.now.way.layer ≤ length row.now.key.now - 1 }
     requires room { IsSomeAnd (border_at tree.old.nodes row.now.way.node.0)
         (λ b. (length b.live < SLOTS) × IsFalse (fill_is_spent b)) }
@@ -82,17 +139,10 @@ fn put_new(alloc: Global, tree: &mut Tree, row: &NewRow<'_>) -> Result<(Key, Col
         tree.new) }
     ensures err { OnErr result (tree.new ≡ tree.old) }
 {
-    let _sound = tree.border(row.way.node).len();
-    let made = made_columns(alloc, row.columns, None, row.sets)?;
-    let logged = made.copy(alloc)?;
-    let entry = new_entry(alloc, row.key, row.way.layer, made)?;
-    let stored = row.key.copy(alloc)?;
-    let _bytes = rest_of(row.key, row.way.layer);
-    let Ok(()) = tree.fill_slot(row.way.node, entry) else {
-        unreachable!();
-    };
-    let _whole = tree.border(row.way.node).len();
-    Ok((stored, logged))
+    let columns = made_columns(alloc, row.columns, None, row.sets)?;
+    let copies = copy_for_log(alloc, row.key, &columns)?;
+    put_columns(alloc, tree, row, columns)?;
+    Ok(copies)
 }
 
 // Reserves room in the log, and writes a new row into the first unused slot, to be shown at a place.
@@ -113,17 +163,42 @@ pub fn fill(
         × (log.new ≡ log.old)) }
     ensures fault { IsSomeAnd (border_at tree.old.nodes row.now.way.node.0) (λ b. ReadyFor (fill_fault log.old b) result) }
 {
-    if tree.border(row.way.node).is_fill_spent() {
-        return Err(Refusal::Spent);
-    }
-    log.reserve()?;
-    match put_new(alloc, tree, row) {
+    reserve_new(tree, log, row)?;
+    match put_logged(alloc, tree, row) {
         Ok((key, logged)) => Ok(Stage::Filled {
             place,
             key,
             logged,
             split,
         }),
+        Err(_) => {
+            log.unreserve();
+            Err(Refusal::NoMemory)
+        }
+    }
+}
+
+// Reserves room in the log, and writes a new row into the first unused slot. Makes nothing for the log.
+pub fn fill_unread(
+    alloc: Global,
+    tree: &mut Tree,
+    log: &mut Log,
+    row: &NewRow<'_>,
+) -> Result<(), Refusal>
+    requires within { 8 * row.now.way.layer ≤ length row.now.key.now - 1 }
+    requires room { IsSomeAnd (border_at tree.old.nodes row.now.way.node.0) (λ b. length b.live < SLOTS) }
+    ensures ok { OnOk result (FillsNew row.now.columns row.now.key.now row.now.sets.now row.now.way tree.old row.now.key.now
+        (columns_after row.now.columns row.now.sets.now None) tree.new × (log.new ≡ with_room log.old)) }
+    ensures err { IfErr result (λ refusal. MayFail log.old (PutRequest row.now.key.now row.now.sets.now) refusal
+        × (tree.new ≡ tree.old) × (log.new ≡ log.old)) }
+    ensures fault { IsSomeAnd (border_at tree.old.nodes row.now.way.node.0)
+        (λ b. MatchOption (fill_fault log.old b)
+        (IfErr result (λ refusal. refusal ≡ Refusal.NoMemory)) (λ fault. result ≡ Err fault)) }
+    ensures sound { IsLog log.new }
+{
+    reserve_new(tree, log, row)?;
+    match put_new(alloc, tree, row) {
+        Ok(()) => Ok(()),
         Err(_) => {
             log.unreserve();
             Err(Refusal::NoMemory)
