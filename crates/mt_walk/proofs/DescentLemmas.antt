@@ -10,8 +10,8 @@ use Rattle.mt_steps.specs.Causes.{IsMarkedAt}
 use Rattle.mt_steps.specs.Lone.{IsLoneTree}
 use Rattle.mt_steps.specs.Ranging.{IsHeldFor, Seeks}
 use Rattle.mt_steps.specs.declared.ranging.Sought.TheVariants.{To, Here}
-use Rattle.mt_steps.proofs.LoneRange.{ScanStands, scan_nearer, scan_waits_not}
-use Rattle.mt_steps.proofs.LoneWay.{way_left}
+use Rattle.mt_steps.proofs.LoneRange.{ScanStands, scan_nearer}
+use Rattle.mt_steps.proofs.LoneWay.{way_left, not_marked}
 use Rattle.mt_walk.specs.Descent.{HoldsNow, MaySeek, SeeksBorder}
 
 module _ (a : ArenaView) (lone : IsLoneTree a) where
@@ -38,7 +38,9 @@ module _ (a : ArenaView) (lone : IsLoneTree a) where
   }
 
   pub unmarked : (number slice : ℕ) (prefix : List ℕ) → HoldsNow a lone prefix number slice → IsMarkedAt a number → ⊥
-  unmarked number slice prefix held marked = scan_waits_not a lone.now lone.w lone.world number prefix (held_on number slice prefix held) lone.free marked
+  unmarked number slice prefix held marked =
+      let s = held_on number slice prefix held in
+      not_marked a lone.now lone.w lone.world number (lone.free number) (record { role = s.role; prefix = prefix; low = s.low; posted = s.posted; place = s.place }) marked
 
   -- with each move less is left
   pub nearer : (number next slice : ℕ) (prefix : List ℕ) → slice < 2 ^ 64 → HoldsNow a lone prefix number slice → Moves (arena_seen a) number next → HoldsNow a lone prefix next slice → way_left a 0 next < way_left a 0 number

@@ -1,6 +1,8 @@
 -- The lemmas of this crate.
 mod Advance
 mod DescentLemmas
+mod Found
+mod Gathering
 mod Layers
 mod Moves
 mod Places

@@ -23,14 +23,14 @@ use Rattle.mt_chart.specs.Scan.{Pair}
 use Rattle.mt_chart.proofs.PlaceOrder.{slices_rise}
 use Rattle.mt_tree.specs.Seen.{arena_seen, content_seen, content_place, entry_place}
 use Rattle.mt_scan.specs.Onward.{cursor_of, all_cursors}
-use Rattle.mt_walk.specs.Descent.{MaySeek}
+use Rattle.mt_walk.specs.Descent.{MaySeek, SeeksBorder}
 use Rattle.std.specs.Option.{option_map}
 use Rattle.mt_arena.specs.Arena.{ArenaView}
 use Rattle.mt_walk.specs.Walk.{WalkAt, behind, IsNextPair, Gives, WalkView, stands_at, GivesRow}
 use Rattle.mt_walk.proofs.Layers.{few_layers, left_at, advance_falls}
 use Rattle.mt_walk.specs.Standing.{slices_of, prefix_of, ArePath, AreNarrow, IsVisiting, IsWalk}
-use Rattle.mt_walk.specs.Steps.{walk_cursor, Advances, StandsOn, IsAtEntry, IsAtEnd, TakesEntry, EntersLayer}
-use Rattle.mt_walk.specs.declared.walk.Stop.{Stop}
+use Rattle.mt_walk.specs.Steps.{walk_cursor, Advances, StandsOn, IsAtEntry, IsAtEnd, TakesEntry, GoesOn}
+use Rattle.mt_walk.specs.declared.course.Stop.{Stop}
 use Rattle.mt_walk.proofs.Visits.{held_alive, takes_goes, takes_gives, before_layer, enters_held, enters_above, enters_layer, slice_less, goes_right, ends_all, goes_above}
 use Rattle.mt_walk.proofs.Advance.{coarse, Gets, coarse_within, enter_advances, right_advances, leave_advances}
 
@@ -61,6 +61,10 @@ coarse_before at slice link false same is before = go (sizes slice link)
 longer : (path : List Stop) (stop : Stop) → reverse (path ++ stop ∷ []) ≡ stop ∷ reverse path
 longer path stop = reverse-append path (stop ∷ [])
 
+-- what has a name is there
+is_named : (found : Option BorderView) (b : BorderView) → found ≡ Some b → IsSome found
+is_named found b named = subst (λ (o : Option BorderView). IsSome o) (sym named) refl
+
 module _ (walk : WalkView) (s : IsWalk walk) where
   abbrev prefix : List ℕ
   prefix = prefix_of walk.path
@@ -72,7 +76,7 @@ module _ (walk : WalkView) (s : IsWalk walk) where
   same_border b named = let both : ◌≡◌ {A = Option BorderView} (Some b) (Some s.visits.b) = sym named ∙ s.visits.named in cc
 
   -- ---- at an entry
-  module _ (entry : Entry) (e : IsAtEntry walk entry) where
+  module _ (entry : Entry) (e : IsAtEntry walk.tree walk.here entry) where
     sound : IsBorder s.visits.b
     sound = subst IsBorder (same_border e.b e.named) e.sound
 
@@ -120,6 +124,8 @@ module _ (walk : WalkView) (s : IsWalk walk) where
         after = s.after;
         visits = takes_goes walk.tree s.lone s.start s.limit (prefix_of walk.path) s.at walk.here s.given s.visits sound entry there (entry_place entry) row holds;
         path = s.path;
+        arena = s.arena;
+        borrowed = s.borrowed;
         narrow = s.narrow;
         fits = s.fits;
         bytes = takes.2;
@@ -145,12 +151,12 @@ module _ (walk : WalkView) (s : IsWalk walk) where
         held = enters_held walk.tree s.lone s.start s.limit (prefix_of walk.path) s.at walk.here s.given s.visits sound entry there head is slice;
       }
 
-      module _ (new : WalkView) (enters : EntersLayer walk entry.slice head new) where
+      module _ (node : NodeNo) (found : SeeksBorder walk.tree head.0 0 node.0) (border : BorderView) (named : border_at walk.tree.nodes node.0 ≡ Some border) where
         abbrev stop : Stop
         stop = record { node = walk.here.node; place = walk.here.place + 1; slice = entry.slice }
 
         abbrev inside : WalkView
-        inside = record walk { path = walk.path ++ stop ∷ []; here = record { node = enters.0; place = 0; slice = 0 }; after = false }
+        inside = record walk { path = walk.path ++ stop ∷ []; here = record { node = node; place = 0; slice = 0 }; border = border; after = false }
 
         longer_path : stop ∷ reverse walk.path ≡ reverse (walk.path ++ stop ∷ [])
         longer_path = sym (longer walk.path stop)
@@ -168,10 +174,12 @@ module _ (walk : WalkView) (s : IsWalk walk) where
           at = last 0 0;
           slice = refl;
           after = λ off. absurd (cc);
-          visits = subst (λ (stops : List Stop). IsVisiting walk.tree s.lone s.start s.limit (slices_of stops) (last 0 0) (record { node = enters.0; place = 0; slice = 0 }) s.given) longer_path
-              (enters_layer walk.tree s.lone s.start s.limit (prefix_of walk.path) s.at walk.here s.given s.visits sound entry there head is enters.0 enters.1);
+          visits = subst (λ (stops : List Stop). IsVisiting walk.tree s.lone s.start s.limit (slices_of stops) (last 0 0) (record { node = node; place = 0; slice = 0 }) s.given) longer_path
+              (enters_layer walk.tree s.lone s.start s.limit (prefix_of walk.path) s.at walk.here s.given s.visits sound entry there head is node found);
           path = subst (λ (stops : List Stop). ArePath walk.tree s.lone stops) longer_path
               (enters_above walk.tree s.lone s.start s.limit (prefix_of walk.path) s.at walk.here s.given s.visits sound entry there head is, s.path);
+          arena = s.arena;
+          borrowed = named;
           narrow = subst (λ (stops : List Stop). AreNarrow (slices_of stops)) longer_path (e.whole.slice_fits, s.narrow);
           fits = omega arith;
           bytes = s.bytes;
@@ -186,13 +194,11 @@ module _ (walk : WalkView) (s : IsWalk walk) where
               (enter_advances (prefix_of walk.path) walk.here.slice walk.after entry.slice head s.fits (coarse_before s.at walk.here.slice entry.slice walk.after s.slice s.after before) places deep);
         }
 
-        pub walk_enters : StandsOn walk new × (stands_at new ≡ stands_at walk) × Advances walk.tree (walk_cursor walk) (walk_cursor new)
-        walk_enters =
-            subst (λ (n : WalkView). StandsOn walk n × (stands_at n ≡ stands_at walk) × Advances walk.tree (walk_cursor walk) (walk_cursor n)) (sym enters.2)
-            (record { stands = stands_inside; tree = refl }, refl, advances_inside)
+        pub walk_enters : StandsOn walk inside × (stands_at inside ≡ stands_at walk) × Advances walk.tree (walk_cursor walk) (walk_cursor inside)
+        walk_enters = (record { stands = stands_inside; tree = refl }, refl, advances_inside)
 
   -- ---- at the end of its border
-  module _ (right : Option RightLink) (e : IsAtEnd walk right) where
+  module _ (right : Option RightLink) (e : IsAtEnd walk.tree walk.here right) where
     sound_end : IsBorder s.visits.b
     sound_end = subst IsBorder (same_border e.b e.named) e.sound
 
@@ -207,42 +213,50 @@ module _ (walk : WalkView) (s : IsWalk walk) where
       named_right : s.visits.b.right ≡ Some link
       named_right = sym right_is ∙ is
 
-      abbrev beside : WalkView
-      beside = record walk { here = record { node = link.node; place = 0; slice = link.low }; after = false }
+      visits_right : IsVisiting walk.tree s.lone s.start s.limit (prefix_of walk.path) (last link.low 0) (record { node = link.node; place = 0; slice = link.low }) s.given
+      visits_right = goes_right walk.tree s.lone s.start s.limit (prefix_of walk.path) s.at walk.here s.given s.visits sound_end few link named_right
+
+      pub walk_has_right : IsSome (border_at walk.tree.nodes link.node.0)
+      walk_has_right = is_named (border_at walk.tree.nodes link.node.0) visits_right.b visits_right.named
 
       further : walk.here.slice < link.low
       further =
           let less = slice_less walk.tree s.lone s.start s.limit (prefix_of walk.path) s.at walk.here s.given s.visits sound_end few link named_right (first_slice s.at) s.visits.to_right in
           omega (arith, less, s.slice)
 
-      pub walk_goes_right : StandsOn walk beside × (stands_at beside ≡ stands_at walk) × Advances walk.tree (walk_cursor walk) (walk_cursor beside)
-      walk_goes_right = (
-        record {
-          stands = record {
-            lone = s.lone;
-            start = s.start;
-            limit = s.limit;
-            given = s.given;
-            has_given = s.has_given;
-            at = last link.low 0;
-            slice = refl;
-            after = λ off. absurd (cc);
-            visits = goes_right walk.tree s.lone s.start s.limit (prefix_of walk.path) s.at walk.here s.given s.visits sound_end few link named_right;
-            path = s.path;
-            narrow = s.narrow;
-            fits = e.narrow link is;
-            bytes = s.bytes;
-            short = s.short;
-          };
-          tree = refl;
-        },
-        refl,
-        record {
+      module _ (border : BorderView) (named : border_at walk.tree.nodes link.node.0 ≡ Some border) where
+        abbrev beside : WalkView
+        beside = record walk { here = record { node = link.node; place = 0; slice = link.low }; border = border; after = false }
+
+        stands_beside : IsWalk beside
+        stands_beside = record {
+          lone = s.lone;
+          start = s.start;
+          limit = s.limit;
+          given = s.given;
+          has_given = s.has_given;
+          at = last link.low 0;
+          slice = refl;
+          after = λ off. absurd (cc);
+          visits = visits_right;
+          path = s.path;
+          arena = s.arena;
+          borrowed = named;
+          narrow = s.narrow;
+          fits = e.narrow link is;
+          bytes = s.bytes;
+          short = s.short;
+        }
+
+        advances_beside : Advances walk.tree (walk_cursor walk) (walk_cursor beside)
+        advances_beside = record {
           sound = e.arena;
           within = within;
           gets_on = λ places deep. right_advances (prefix_of walk.path) walk.here.slice walk.after link s.fits further places deep;
-        },
-      )
+        }
+
+        pub walk_goes_right : StandsOn walk beside × (stands_at beside ≡ stands_at walk) × Advances walk.tree (walk_cursor walk) (walk_cursor beside)
+        walk_goes_right = (record { stands = stands_beside; tree = refl }, refl, advances_beside)
 
     -- with nothing to the right
     module _ (is : right ≡ None) where
@@ -259,55 +273,51 @@ module _ (walk : WalkView) (s : IsWalk walk) where
         shorter : reverse walk.path ≡ stop ∷ reverse path
         shorter = ap reverse whole ∙ longer path stop
 
-        abbrev outside : WalkView
-        outside = record walk { path = path; here = stop; after = true }
-
         above : ArePath walk.tree s.lone (stop ∷ reverse path)
         above = subst (λ (stops : List Stop). ArePath walk.tree s.lone stops) shorter s.path
 
         narrow_all : AreNarrow (slices_of (stop ∷ reverse path))
         narrow_all = subst (λ (stops : List Stop). AreNarrow (slices_of stops)) shorter s.narrow
 
-        pub walk_leaves : StandsOn walk outside × (stands_at outside ≡ stands_at walk) × Advances walk.tree (walk_cursor walk) (walk_cursor outside)
-        walk_leaves = (
-          record {
-            stands = record {
-              lone = s.lone;
-              start = s.start;
-              limit = s.limit;
-              given = s.given;
-              has_given = s.has_given;
-              at = last stop.slice 10;
-              slice = refl;
-              after = λ off. refl;
-              visits = goes_above walk.tree s.lone s.start s.limit (prefix_of walk.path) s.at walk.here s.given s.visits sound_end few last_border stop (prefix_of path) (ap slices_of shorter) above.0;
-              path = above.1;
-              narrow = narrow_all.1;
-              fits = narrow_all.0;
-              bytes = s.bytes;
-              short = s.short;
-            };
-            tree = refl;
-          },
-          refl,
-          record {
+        pub walk_has_above : IsSome (border_at walk.tree.nodes stop.node.0)
+        walk_has_above = is_named (border_at walk.tree.nodes stop.node.0) above.0.b above.0.named
+
+        module _ (border : BorderView) (named : border_at walk.tree.nodes stop.node.0 ≡ Some border) where
+          abbrev outside : WalkView
+          outside = record walk { path = path; here = stop; border = border; after = true }
+
+          stands_outside : IsWalk outside
+          stands_outside = record {
+            lone = s.lone;
+            start = s.start;
+            limit = s.limit;
+            given = s.given;
+            has_given = s.has_given;
+            at = last stop.slice 10;
+            slice = refl;
+            after = λ off. refl;
+            visits = goes_above walk.tree s.lone s.start s.limit (prefix_of walk.path) s.at walk.here s.given s.visits sound_end few last_border stop (prefix_of path) (ap slices_of shorter) above.0;
+            path = above.1;
+            arena = s.arena;
+            borrowed = named;
+            narrow = narrow_all.1;
+            fits = narrow_all.0;
+            bytes = s.bytes;
+            short = s.short;
+          }
+
+          advances_outside : Advances walk.tree (walk_cursor walk) (walk_cursor outside)
+          advances_outside = record {
             sound = e.arena;
             within = within;
             gets_on = λ places deep. subst (λ (stops : List Stop). length (slices_of stops) < places → Gets places (record { prefix = slices_of stops; at = coarse walk.here.slice walk.after }) (walk_cursor outside)) (sym shorter)
                 (λ under. leave_advances (prefix_of path) stop.slice walk.here.slice walk.after s.fits places under) deep;
-          },
-        )
+          }
 
--- ---- its border can be read
-pub walk_has_border : (walk : WalkView) → IsWalk walk → IsSome (border_at walk.tree.nodes walk.here.node.0)
-walk_has_border walk s = subst (λ (o : Option BorderView). IsSome o) (sym s.visits.named) refl
+          pub walk_leaves : StandsOn walk outside × (stands_at outside ≡ stands_at walk) × Advances walk.tree (walk_cursor walk) (walk_cursor outside)
+          walk_leaves = (record { stands = stands_outside; tree = refl }, refl, advances_outside)
 
 -- ---- a walk that continues without a pair
--- in the same tree, and in the same place in the order of keys
-pub record GoesOn (begun walk : WalkView) : Type 0 where
-  pub on : StandsOn begun walk
-  pub same : stands_at walk ≡ stands_at begun
-
 pub walk_begins : (walk : WalkView) → IsWalk walk → GoesOn walk walk
 walk_begins walk s = record { on = record { stands = s; tree = refl }; same = refl }
 

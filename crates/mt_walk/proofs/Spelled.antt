@@ -9,7 +9,7 @@ use Rattle.mt_tree.specs.Seen.{entry_place}
 use Rattle.mt_scan.specs.Scan.{HoldsKey}
 use Rattle.mt_scan.proofs.PairLemmas.{is_held_key}
 use Rattle.mt_walk.specs.Standing.{slices_of, prefix_of}
-use Rattle.mt_walk.specs.declared.walk.Stop.{Stop}
+use Rattle.mt_walk.specs.declared.course.Stop.{Stop}
 
 slices_reverse : (path : List Stop) → slices_of (reverse path) ≡ reverse (slices_of path)
 slices_reverse [] = refl

@@ -15,7 +15,7 @@ use Rattle.mt_border.specs.declared.entry.Entry.{Entry}
 use Rattle.mt_border.specs.declared.entry.Content.{Content}
 use Rattle.mt_border.specs.declared.entry.Content.TheVariants.{Short, Long, Link}
 use Rattle.mt_arena.specs.Node.{border_at}
-use Rattle.mt_arena.specs.Arena.{ArenaView}
+use Rattle.mt_arena.specs.Arena.{ArenaView, IsArena}
 use Rattle.mt_chart.specs.Tree.{PlainEntry, PlainContent, Below, link, Among, first, Has, HoldsRow}
 use Rattle.mt_chart.specs.Chart.{class}
 use Rattle.mt_chart.specs.Scan.{Scanned}
@@ -30,7 +30,7 @@ use Rattle.mt_walk.specs.Descent.{HoldsNow, MaySeek, SeeksBorder}
 use Rattle.mt_walk.specs.Standing.{slices_of, prefix_of, ArePath, AreNarrow, HasOne, IsAhead, IsAbove, done_of, left_in, IsVisiting}
 use Rattle.mt_walk.specs.Start.{BeginsAt, LinksAt, LinksNot}
 use Rattle.mt_walk.specs.Steps.{Begins}
-use Rattle.mt_walk.specs.declared.walk.Stop.{Stop}
+use Rattle.mt_walk.specs.declared.course.Stop.{Stop}
 use Rattle.mt_walk.proofs.Places.{parts, left_more, is_live, none_left, past_link, place_before, in_order, before_parts}
 use Rattle.mt_walk.proofs.StartLemmas.{first_of_rest}
 use Rattle.mt_walk.proofs.Visits.{noted_border}
@@ -220,8 +220,8 @@ module _ (a : ArenaView) (start : List ℕ) (path : List Stop) (head : ℕ) (res
         done = λ pair i. elim i [ ];
       }
 
-      pub starting_stands : AreBytes start → length start ≤ MAX_KEY_BYTES → Begins a start (record { tree = a; key = start; given = false; path = path; here = here; after = false })
-      starting_stands bytes short = record {
+      pub starting_stands : IsArena a → AreBytes start → length start ≤ MAX_KEY_BYTES → Begins a start (record { tree = a; key = start; given = false; path = path; here = here; border = b; after = false })
+      starting_stands arena bytes short = record {
         stands = record {
           lone = s.lone;
           start = place_of start;
@@ -233,6 +233,8 @@ module _ (a : ArenaView) (start : List ℕ) (path : List Stop) (head : ℕ) (res
           after = λ off. absurd (cc);
           visits = starting_visits;
           path = s.path_is;
+          arena = arena;
+          borrowed = named;
           narrow = s.narrow;
           fits = fits;
           bytes = bytes;

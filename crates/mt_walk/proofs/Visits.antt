@@ -33,7 +33,7 @@ use Rattle.mt_steps.specs.Lone.{IsLoneTree}
 use Rattle.mt_walk.specs.Descent.{HoldsNow, SeeksBorder}
 use Rattle.mt_walk.specs.Walk.{WalkAt, NoneToCome, IsNextPair, HasGiven}
 use Rattle.mt_walk.specs.Standing.{IsAbove, HasOne, IsAhead, IsDone, done_of, left_in, IsVisiting}
-use Rattle.mt_walk.specs.declared.walk.Stop.{Stop}
+use Rattle.mt_walk.specs.declared.course.Stop.{Stop}
 use Rattle.mt_walk.proofs.DescentLemmas.{unmarked}
 use Rattle.mt_walk.proofs.Places.{parts, left_more, done_more, is_next, is_left, is_live, none_left, all_done, in_order, past_link, done_before, done_ahead, done_behind}
 use Rattle.mt_walk.proofs.WalkLemmas.{scan_gives, scan_ends}

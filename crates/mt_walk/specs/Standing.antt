@@ -1,22 +1,22 @@
 -- A walk, for its proof: its place in the tree.
-use Rattle.std.specs.Prelude.{ℕ, ◌≡◌, ◌<◌, ◌≤◌, ◌+◌, ◌^◌, ◌⊎◌, List, [], ◌∷◌, length, map, reverse, take, drop, slice_get, Some, true}
+use Rattle.std.specs.Prelude.{ℕ, ◌≡◌, ◌<◌, ◌≤◌, ◌+◌, ◌^◌, ◌⊎◌, List, [], ◌∷◌, ◌++◌, length, map, reverse, take, drop, slice_get, Some, Bool, true}
 use Rattle.mt_types.specs.declared.limits.TheConstants.{MAX_KEY_BYTES}
 use Rattle.mt_types.specs.declared.row.Row.{Row}
 use Rattle.mt_types.specs.declared.numbers.NodeNo.{NodeNo}
-use Rattle.mt_slice.specs.Place.{Place, last, deeper, under, Precedes, first_slice, AreBytes}
+use Rattle.mt_slice.specs.Place.{Place, last, deeper, under, Precedes, first_slice, AreBytes, place_of}
 use Rattle.mt_border.specs.Border.{BorderView}
 use Rattle.mt_border.specs.Order.{IsBorder}
 use Rattle.mt_border.specs.declared.entry.Entry.{Entry}
 use Rattle.mt_border.specs.declared.entry.Content.TheVariants.{Link}
 use Rattle.mt_arena.specs.Node.{border_at}
-use Rattle.mt_arena.specs.Arena.{ArenaView}
+use Rattle.mt_arena.specs.Arena.{ArenaView, IsArena}
 use Rattle.mt_chart.specs.Tree.{Arena, PlainEntry, link, Among, Below, Has, HoldsRow}
 use Rattle.mt_chart.specs.Scan.{AtMost, Pair, Visiting}
-use Rattle.mt_tree.specs.Seen.{arena_seen, border_seen, entries_seen}
+use Rattle.mt_tree.specs.Seen.{arena_seen, border_seen, entries_seen, entry_place}
 use Rattle.mt_steps.specs.Lone.{IsLoneTree}
 use Rattle.mt_walk.specs.Descent.{HoldsNow}
-use Rattle.mt_walk.specs.Walk.{HasGiven, WalkView, stands_at}
-use Rattle.mt_walk.specs.declared.walk.Stop.{Stop}
+use Rattle.mt_walk.specs.Walk.{HasGiven, CourseView, WalkView, walk_of, stands_at}
+use Rattle.mt_walk.specs.declared.course.Stop.{Stop}
 
 -- the slices of stops
 abbrev pub slices_of : List Stop → List ℕ
@@ -98,7 +98,18 @@ pub record IsWalk (walk : WalkView) : Type 0 where
   pub after : walk.after ≡ true → at ≡ last walk.here.slice 10
   pub visits : IsVisiting walk.tree lone start limit (prefix_of walk.path) at walk.here given
   pub path : ArePath walk.tree lone (reverse walk.path)
+  pub arena : IsArena walk.tree
+  pub borrowed : border_at walk.tree.nodes walk.here.node.0 ≡ Some walk.border
   pub narrow : AreNarrow (prefix_of walk.path)
   pub fits : walk.here.slice < 2 ^ 64
   pub bytes : AreBytes walk.key
   pub short : length walk.key ≤ MAX_KEY_BYTES
+
+-- a walk of some key stands on the course
+abbrev pub IsOnCourse : CourseView → Type 0
+IsOnCourse course = (key : List ℕ) × (given : Bool) × IsWalk (walk_of course key given)
+
+-- the key of an entry, below the stops of a path, is behind what was there
+abbrev pub Spells : List ℕ → List Stop → Entry → List ℕ → Type 0
+Spells old path entry new = (key : List ℕ) × (new ≡ old ++ key) × (place_of key ≡ under (prefix_of path) (entry_place entry))
+    × AreBytes key × (length key ≤ MAX_KEY_BYTES)

@@ -3,11 +3,13 @@ use Rattle.std.specs.Prelude.{ℕ, ◌≡◌, ◌⊎◌, List, [], ◌∷◌, �
 use Rattle.std.specs.Option.{option_map}
 use Rattle.mt_types.specs.declared.row.Row.{Row}
 use Rattle.mt_slice.specs.Place.{Place, Precedes, place_of}
+use Rattle.mt_border.specs.Border.{BorderView}
 use Rattle.mt_chart.specs.Tree.{Arena, Has}
 use Rattle.mt_chart.specs.Scan.{AtMost, Pair}
 use Rattle.mt_tree.specs.Seen.{arena_seen}
 use Rattle.mt_arena.specs.Arena.{ArenaView}
-use Rattle.mt_walk.specs.declared.walk.Stop.{Stop}
+use Rattle.mt_walk.specs.declared.course.Course.{Course}
+use Rattle.mt_walk.specs.declared.course.Stop.{Stop}
 use Rattle.mt_walk.specs.declared.walk.Walk.{Walk}
 
 -- before the first key at or after a place, or after the last key that it has given
@@ -50,24 +52,46 @@ HasGiven start given at = ((given ≡ []) × (at ≡ from start))
     ⊎ ((before : List (Pair Row)) × (pair : Pair Row) × (given ≡ before ++ pair ∷ []) × (at ≡ behind pair.key))
 
 -- a walk: its tree, the key in its buffer, whether that is the key of a pair that it has given, its path, where it is,
--- and whether it came there from the layer below
+-- the border there, and whether it came there from the layer below
 pub record WalkView : Type 0 where
   pub tree : ArenaView
   pub key : List ℕ
   pub given : Bool
   pub path : List Stop
   pub here : Stop
+  pub border : BorderView
   pub after : Bool
 
-abbrev pub view_of : Walk → WalkView
-view_of walk = record {
-  tree = walk.tree.now;
-  key = walk.key.items;
-  given = walk.given;
-  path = walk.path.items;
-  here = walk.here;
-  after = walk.after;
+-- its course: what it is without its key
+pub record CourseView : Type 0 where
+  pub tree : ArenaView
+  pub path : List Stop
+  pub here : Stop
+  pub border : BorderView
+  pub after : Bool
+
+abbrev pub course_of : Course → CourseView
+course_of course = record {
+  tree = course.tree.now;
+  path = course.path.items;
+  here = course.here;
+  border = course.border.now;
+  after = course.after;
 }
+
+abbrev pub walk_of : CourseView → List ℕ → Bool → WalkView
+walk_of course key given = record {
+  tree = course.tree;
+  key = key;
+  given = given;
+  path = course.path;
+  here = course.here;
+  border = course.border;
+  after = course.after;
+}
+
+abbrev pub view_of : Walk → WalkView
+view_of walk = walk_of (course_of walk.course) walk.key.items walk.given
 
 -- its place in the order of keys: its buffer has the key of the last pair, or the key from which it began
 abbrev pub stands_at : WalkView → WalkAt

@@ -1,6 +1,7 @@
 //! Walks: the pairs of a tree in which no change is under way, one by one, each row borrowed.
 #![tactic(auto)]
 
+mod course;
 mod descent;
 mod range;
 mod spelling;

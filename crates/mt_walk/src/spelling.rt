@@ -1,16 +1,15 @@
 //! The spelling of a key in a buffer: the slices above a layer, and what an entry of the layer has of the key.
 
-ghost use Rattle.std.specs.Prelude.{◌≡◌, ◌≤◌, ◌++◌, length, IsSome, OnOk};
+ghost use Rattle.std.specs.Prelude.{◌≡◌, ◌++◌, IsSome, OnOk};
 ghost use Rattle.std.specs.Int.{w64, to_be_bytes};
 ghost use Rattle.std.specs.List.{flat_map};
-ghost use Rattle.mt_slice.specs.Place.{AreBytes, place_of, under, bytes_of_place};
-ghost use Rattle.mt_types.specs.declared.limits.TheConstants.{MAX_KEY_BYTES};
+ghost use Rattle.mt_slice.specs.Place.{bytes_of_place};
 ghost use Rattle.mt_border.specs.Entry.{entry_row};
 ghost use Rattle.mt_scan.specs.Scan.{HoldsKey};
 ghost use Rattle.mt_tree.specs.Seen.{entry_place};
-ghost use Rattle.mt_walk.specs.Standing.{prefix_of, slices_of};
+ghost use Rattle.mt_walk.specs.Standing.{prefix_of, slices_of, Spells};
 
-use crate::walk::Stop;
+use crate::course::Stop;
 use mt_border::{Content, Entry};
 use mt_types::refusal::NoMemory;
 
@@ -24,25 +23,22 @@ fn push_slices(key: &mut Vec<u8>, path: &[Stop]) -> Result<(), NoMemory>
     Ok(())
 }
 
-// Appends what an entry with a row has of its key.
+// Appends what an entry with a row has of its key: its slice, which is then cut if the key ends in it.
 fn push_entry(key: &mut Vec<u8>, entry: &Entry) -> Result<(), NoMemory>
     requires { IsSome (entry_row entry.now) }
     ensures { OnOk result (key.new.items ≡ key.old.items ++ bytes_of_place (entry_place entry.now)) }
 {
-    let slice = entry.slice.to_be_bytes();
+    let before = key.len();
+    key.extend_from_slice(&entry.slice.to_be_bytes())?;
     match &entry.content {
-        Content::Short(length, _) => key.extend_from_slice(&slice[..length.get()])?,
-        Content::Long(suffix, _) => {
-            key.extend_from_slice(&slice)?;
-            key.extend_from_slice(suffix.as_slice())?;
-        }
+        Content::Short(length, _) => key.truncate(before + length.get()),
+        Content::Long(suffix, _) => key.extend_from_slice(suffix.as_slice())?,
         Content::Link(_) => unreachable!(),
     }
     Ok(())
 }
 
-/// Spells the key of an entry with a row, below the stops of a path instead of what the buffer has. Allocates only if
-/// the buffer has to grow.
+/// Appends the key of an entry with a row, below the stops of a path. Allocates only if the buffer has to grow.
 ///
 /// # Errors
 ///
@@ -50,11 +46,8 @@ fn push_entry(key: &mut Vec<u8>, entry: &Entry) -> Result<(), NoMemory>
 pub(crate) fn spell(key: &mut Vec<u8>, path: &[Stop], entry: &Entry) -> Result<(), NoMemory>
     requires row { IsSome (entry_row entry.now) }
     requires key { HoldsKey (prefix_of path.now) entry.now }
-    ensures place { OnOk result (place_of key.new.items ≡ under (prefix_of path.now) (entry_place entry.now)) }
-    ensures bytes { OnOk result (AreBytes key.new.items) }
-    ensures fits { OnOk result (length key.new.items ≤ MAX_KEY_BYTES) }
+    ensures { OnOk result (Spells key.old.items path.now entry.now key.new.items) }
 {
-    key.clear();
     push_slices(key, path)?;
     push_entry(key, entry)?;
     Ok(())

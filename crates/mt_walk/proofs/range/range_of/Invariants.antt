@@ -1,11 +1,12 @@
-use Rattle.std.proofs.Common.{◌≡◌, []}
-use Rattle.mt_walk.specs.Walk.{view_of}
+use Rattle.std.proofs.Common.{ℕ, Bool, List}
+use Rattle.mt_walk.specs.Walk.{course_of, walk_of}
+use Rattle.mt_walk.specs.Gathered.{AreKeys, pairs_of}
 use Rattle.mt_walk.proofs.Ranges.{IsRanging}
 use Rattle.mt_walk.proofs.range.range_of.Given as goal
 
--- it has as many pairs as the walk has given, and its keys are out of the buffer
+-- it has gathered as many pairs as a walk of some key has given
 abbrev pub invariant-loop : goal.invariant-loop
 invariant-loop l = record {
-  ranging : IsRanging l.tree l.start l.columns (view_of l.walk) l.pairs.items l.counter;
-  empty : l.keys.items ≡ [];
+  keys : AreKeys l.keys.items 0 l.rows.items;
+  ranging : (key : List ℕ) × (given : Bool) × IsRanging l.tree l.start l.columns (walk_of (course_of l.course) key given) (pairs_of l.columns l.keys.items 0 l.rows.items) l.counter;
 }

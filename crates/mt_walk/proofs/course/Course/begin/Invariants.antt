@@ -1,6 +1,6 @@
 use Rattle.std.proofs.Common.{length}
 use Rattle.mt_walk.proofs.Starts.{IsStarting}
-use Rattle.mt_walk.proofs.walk.Walk.new.Given as goal
+use Rattle.mt_walk.proofs.course.Course.begin.Given as goal
 
 -- it is in the layer of its path, at its head
 abbrev pub invariant-loop-below : goal.invariant-loop-below
