@@ -62,7 +62,7 @@ pub(crate) fn answer(
         *told = 0;
         return CLOSED;
     };
-    let read = read(alloc, &index, question);
+    let read = read(alloc, &index, question, into.len());
     handle.fill(index);
     tell_read(read, into, told)
 }

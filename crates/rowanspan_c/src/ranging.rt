@@ -18,6 +18,9 @@ use mt_types::refusal::NoMemory;
 use mt_types::row::Row;
 use std::alloc::{AllocError, Global};
 
+// The most room that is made for the bytes of a range before there are any.
+const MOST_ROOM: usize = 1 << 16;
+
 // Writes a key, and its row with the columns that are asked for.
 fn pair(out: &mut Vec<u8>, key: &[u8], row: &Row, asked: &[u8]) -> Result<(), AllocError>
     ensures { OnOk result (out.new.items
@@ -65,7 +68,7 @@ fn put_number(out: &mut Vec<u8>, number: u64)
 /// asked for, or with all if none is asked for.
 ///
 /// Costs the visit of the nodes on the way to `start`, and of each border from there on. Allocates for the walk, and
-/// for the bytes, whose room doubles when it is full.
+/// for the bytes: `room` at first, but at most 64 KiB, and twice as much when that is full.
 ///
 /// # Errors
 ///
@@ -76,12 +79,13 @@ pub(crate) fn range_bytes(
     start: &Key,
     limit: u16,
     asked: &[u8],
+    room: usize,
 ) -> Result<Items<u8>, NoMemory>
     requires { IsIdle index.now }
     ensures { IfOk result (λ bytes. (pairs : List (List ℕ × RowValue))
         × ArePlainRows index.now start.now limit asked.now pairs × (bytes ≡ pairs_spelling pairs)) }
 {
-    let mut out = Vec::new(alloc);
+    let mut out = Vec::with_capacity(alloc, room.min(MOST_ROOM))?;
     // How many rows there are is known at their end.
     number(&mut out, 0)?;
     let many = pairs(alloc, index, start, limit, asked, &mut out)?;

@@ -93,6 +93,7 @@ fn rows(
     start: &[u8],
     limit: u16,
     columns: &[u8],
+    room: usize,
 ) -> Result<Option<Items<u8>>, Refusal>
     requires { IsIdle index.now }
     ensures { ReadsRows index.now start.now limit columns.now result }
@@ -101,7 +102,7 @@ fn rows(
         return Err(refusal);
     }
     let start = key_of(alloc, start)?;
-    let bytes = range_bytes(alloc, index, &start, limit, columns)?;
+    let bytes = range_bytes(alloc, index, &start, limit, columns, room)?;
     Ok(Some(bytes))
 }
 
@@ -168,11 +169,12 @@ fn deltas(
     Ok(Some(bytes))
 }
 
-/// Returns the answer to a question. Changes nothing.
+/// Returns the answer to a question, for a buffer with this room. Changes nothing.
 pub(crate) fn read(
     alloc: Global,
     index: &Machine,
     question: &Question<'_>,
+    room: usize,
 ) -> Result<Option<Items<u8>>, Refusal>
     requires { IsIdle index.now }
     ensures { IsAnswer index.now question.now result }
@@ -182,7 +184,7 @@ pub(crate) fn read(
             start,
             limit,
             columns,
-        } => rows(alloc, index, start, *limit, columns),
+        } => rows(alloc, index, start, *limit, columns, room),
         Question::Page {
             view,
             floor,
