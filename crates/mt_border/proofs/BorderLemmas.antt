@@ -122,6 +122,7 @@ border_changed b i f within slices whole ranks h = record {
   left_of = left_of_kept b.low b.live _ b.right (λ bound below. record { each = All-changed_at (λ e. e.slice < bound) f (λ e g. rw (slices e) g) i b.live below.each }) h.left_of;
   deleted_empty = λ deleted. absurd (nothing_deleted b.live i within (h.deleted_empty deleted));
   border = h.border;
+  unflagged = h.unflagged;
   counters = h.counters;
 }
 
@@ -158,6 +159,7 @@ border_hidden b i within h = record {
   left_of = left_of_kept b.low b.live _ b.right (λ bound below. record { each = All-remove (λ e. e.slice < bound) i b.live below.each }) h.left_of;
   deleted_empty = λ deleted. absurd (nothing_deleted b.live i within (h.deleted_empty deleted));
   border = h.border;
+  unflagged = h.unflagged;
   counters = h.counters;
 }
 
@@ -169,6 +171,10 @@ filled_deleted false v = refl
 filled_border : (held : Bool) (v : VersionView) → (filled_version held v).border ≡ v.border
 filled_border true v = refl
 filled_border false v = refl
+
+filled_unflagged : (held : Bool) (v : VersionView) → (v.inserting ≡ false) × (v.splitting ≡ false) → ((filled_version held v).inserting ≡ false) × ((filled_version held v).splitting ≡ false)
+filled_unflagged true v none = none
+filled_unflagged false v none = none
 
 hold_filled : (entry : Entry) (slots : List Slot) → IsEntry entry → HoldEntries slots → HoldEntries (first_changed (filled entry) slots)
 hold_filled entry [] g h = h
@@ -194,6 +200,7 @@ border_filled b entry room g counters h = record {
   left_of = h.left_of;
   deleted_empty = λ deleted. h.deleted_empty (sym (filled_deleted (first_held b.unused) b.version) ∙ deleted);
   border = filled_border (first_held b.unused) b.version ∙ h.border;
+  unflagged = filled_unflagged (first_held b.unused) b.version h.unflagged;
   counters = counters;
 }
 
@@ -213,5 +220,6 @@ border_split b keep right within above below unspent h = record {
   left_of = (above, below);
   deleted_empty = λ deleted. take_none keep b.live (h.deleted_empty deleted);
   border = h.border;
+  unflagged = h.unflagged;
   counters = record { vinsert_fits = h.counters.vinsert_fits; vsplit_fits = omega arith };
 }

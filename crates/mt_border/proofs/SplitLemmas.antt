@@ -94,5 +94,6 @@ cut_upper b i first locked h full cut there =
       left_of = left_of_drop b.low b.live i first b.right inside there h.left_of;
       deleted_empty = λ deleted. cc;
       border = refl;
+      unflagged = (refl, refl);
       counters = record { vinsert_fits = omega arith; vsplit_fits = omega arith };
     }

@@ -1,5 +1,5 @@
 -- The invariant of a border.
-use Rattle.std.specs.Prelude.{◌≡◌, ℕ, ◌+◌, ◌^◌, ◌<◌, ◌≤◌, List, [], ◌∷◌, length, true, Option, Some, None}
+use Rattle.std.specs.Prelude.{◌≡◌, ℕ, ◌+◌, ◌^◌, ◌<◌, ◌≤◌, List, [], ◌∷◌, length, true, false, Option, Some, None}
 use Rattle.std.specs.List.{All, AllPairs}
 use Rattle.mt_word.specs.Slots.{Slots}
 use Rattle.mt_word.specs.Version.{IsVersion}
@@ -58,4 +58,5 @@ pub record IsBorder (b : BorderView) : Type 0 where
   pub left_of : IsLeftOf b.low b.live b.right
   pub deleted_empty : b.version.deleted ≡ true → b.live ≡ []
   pub border : b.version.border ≡ true
+  pub unflagged : (b.version.inserting ≡ false) × (b.version.splitting ≡ false)
   pub counters : IsVersion b.version

@@ -11,25 +11,22 @@ use Rattle.mt_types.specs.declared.row.Row.{Row}
 use Rattle.mt_slice.specs.Place.{Place, Precedes, AreBytes, first_slice, place_of, under}
 use Rattle.mt_types.specs.declared.view.ViewSpec.{ViewSpec}
 use Rattle.mt_slice.proofs.KeyOrder.{cmp_equal, place_order}
-use Rattle.mt_border.specs.Border.{BorderView}
-use Rattle.mt_border.specs.Order.{IsBorder}
 use Rattle.mt_word.specs.declared.permutation_word.TheConstants.{SLOTS}
 use Rattle.mt_rows.proofs.MapLemmas.{Entries, key_order}
-use Rattle.mt_chart.specs.Tree.{Arena, Among, first, later, border, Below, Has, Right}
+use Rattle.mt_chart.specs.Tree.{Arena, Among, first, later, Below, Has, Right}
 use Rattle.mt_chart.specs.Tree.{PlainEntry}
 use Rattle.mt_chart.specs.Chart.{Chart, Holds, IsTree}
 use Rattle.mt_chart.specs.Scan.{Pair, AtMost, Listed, OpenRange, VisitOutcome, answers, goes, AtEnd, BorderVisit, Comes}
 use Rattle.mt_chart.specs.ScanRun.{Stood, AllHave, EntriesInOrder}
 use Rattle.mt_chart.specs.NotedList.{IsNotedList}
 use Rattle.mt_chart.specs.KeyAnswer.{as_places, KeysAreBytes}
-use Rattle.mt_chart.proofs.HeldNodes.{holds_kept, border_is_on}
+use Rattle.mt_chart.proofs.HeldNodes.{holds_kept}
 use Rattle.mt_chart.proofs.KeyAnswers.{key_bytes, among_place, place_among, place_is_one}
 use Rattle.mt_chart.proofs.PlaceOrder.{either}
-use Rattle.mt_chart.proofs.Ranges.{holds_top, scan_begins, noted_visits, border_is_noted}
+use Rattle.mt_chart.proofs.Ranges.{holds_top, scan_begins, noted_visits}
 use Rattle.mt_chart.proofs.ScanRuns.{in_order}
-use Rattle.mt_tree.specs.Seen.{border_seen, entry_seen}
-use Rattle.mt_tree.proofs.IntervalLemmas.{entries_in_order}
-use Rattle.mt_scan.specs.Listed.{ListView, list_of, list_entries, list_right}
+use Rattle.mt_tree.specs.Seen.{entry_seen}
+use Rattle.mt_scan.specs.Listed.{ListView, list_entries, list_right}
 use Rattle.mt_scan.specs.Scan.{ScanView, VisitsList, outcome_of}
 use Rattle.mt_scan.specs.declared.scan.ScanMove.{ScanMove}
 use Rattle.mt_scan.specs.declared.scan.ScanMove.TheVariants.{Done, To, Top}
@@ -197,16 +194,6 @@ visits_all old list move new visit behind = record {
     all chart begun arenas Done read = read
     all chart begun arenas (To node) scanning = all_read arenas scanning.read
     all chart begun arenas Top scanning = all_read arenas scanning.read
-
--- the visit of a border of the tree that isn't marked deleted, whole
-pub border_visited : (old : BuildView) (b : BorderView) (move : ScanMove) (new : BuildView) → VisitsOn old (list_of b) move new → IsBorder b
-    → (chart : Chart) (begun number : ℕ) (arena : Arena) (past : List Arena) → IsTree arena chart → arena number ≡ Some (border (border_seen b)) → b.version.deleted ≡ false
-    → Below (first_slice old.at) (border_seen b).right → IsScanning chart begun (arena ∷ past) number old → ComesTo chart begun (arena ∷ past) move new
-border_visited old b move new visit sound chart begun number arena past tree there alive below scanning =
-    let (on, from_low) = border_is_on arena chart tree begun number (first_slice old.at) old.prefix (border_seen b) scanning.held there alive in
-    visit.comes chart begun number b.low (arena ∷ past) (holds_top arena chart tree begun)
-    (border_is_noted (shown []) arena chart tree begun (Stood (shown []) (arena ∷ past)) (AllHave (arena ∷ past)) (λ key row h. inl (row, h, refl)) (λ key all. all.0) old.prefix number (border_seen b) on)
-    (entries_in_order b sound) from_low below scanning
 
 -- ---- the begin
 pub begins : (chart : Chart) (begun : ℕ) (arena : Arena) (build : BuildView) → IsTree arena chart → build.prefix ≡ [] → build.at ≡ place_of (first_key build.state.spec) → AreBytes (first_key build.state.spec)

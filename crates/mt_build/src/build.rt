@@ -10,7 +10,7 @@ ghost use Rattle.mt_chart.specs.Tree.{Arena};
 ghost use Rattle.mt_chart.specs.Chart.{Chart, IsTree};
 ghost use Rattle.mt_word.specs.declared.permutation_word.TheConstants.{SLOTS};
 ghost use Rattle.mt_scan.specs.Scan.{HoldsKeys};
-ghost use Rattle.mt_scan.specs.Listed.{list_in};
+ghost use Rattle.mt_scan.specs.Listed.{list_of};
 ghost use Rattle.mt_view.specs.State.{IsAfresh, applied};
 ghost use Rattle.mt_build.specs.History.{LeadsTo};
 ghost use Rattle.mt_scan.specs.Onward.{cursor_of, all_cursors, GoesOnward, GoesFrom};
@@ -18,7 +18,8 @@ ghost use Rattle.mt_build.specs.Build.{BuildView, build_cursor, first_key, IsSca
 
 use crate::end::{end_of, first_key};
 use bytes::Bytes;
-use mt_scan::{Listed, Scan, ScanMove};
+use mt_border::{Entry, RightLink};
+use mt_scan::{Scan, ScanMove};
 use mt_slice::key_bytes;
 use mt_types::items::Items;
 use mt_types::key::Key;
@@ -122,18 +123,23 @@ impl Build {
     ///
     /// `NoMemory` if an allocation is refused. The build then has to be refused too: nothing more is said of what it
     /// has read.
-    pub fn visit(&mut self, alloc: Global, listed: Listed<'_>) -> Result<ScanMove, NoMemory>
-        requires keys { HoldsKeys self.old.prefix (list_in listed).entries }
-        requires few { length (list_in listed).entries ≤ SLOTS }
-        ensures visited { IfOk result (λ visited. VisitsOn self.old (list_in listed.entry) visited self.new) }
-        ensures onward { IfOk result (λ visited. GoesOnward (build_cursor self.old) (list_in listed.entry) visited
+    pub fn visit(
+        &mut self,
+        alloc: Global,
+        entries: &[Entry],
+        right: Option<RightLink>,
+    ) -> Result<ScanMove, NoMemory>
+        requires keys { HoldsKeys self.old.prefix entries.now }
+        requires few { length entries.now ≤ SLOTS }
+        ensures visited { IfOk result (λ visited. VisitsOn self.old (list_of entries.now right) visited self.new) }
+        ensures onward { IfOk result (λ visited. GoesOnward (build_cursor self.old) (list_of entries.now right) visited
             (build_cursor self.new)) }
         ensures within { IfOk result (λ visited. (places : ℕ)
             → cursor_of places (build_cursor self.old) < all_cursors places) }
-        ensures leads { IfOk result (λ visited. GoesFrom (list_in listed.entry) visited) }
+        ensures leads { IfOk result (λ visited. GoesFrom (list_of entries.now right) visited) }
         ensures state { self.new.state ≡ record self.old.state { rows = self.new.state.rows } }
     {
-        let visited = self.scan.visit(alloc, listed);
+        let visited = self.scan.visit(alloc, entries, right);
         let pairs = self.scan.take_pairs(alloc);
         let visited = visited?;
         self.state.take_in(pairs.as_slice())?;

@@ -7,7 +7,6 @@ use Rattle.mt_types.specs.declared.event.Request.{Request}
 use Rattle.mt_types.specs.declared.event.Outcome.{Outcome}
 use Rattle.mt_types.specs.declared.event.Outcome.TheVariants.{Call as Called, Moved, Commit}
 use Rattle.mt_promise.specs.History.{History}
-use Rattle.mt_works.specs.declared.work.Pace.TheVariants.{Node}
 use Rattle.mt_works.proofs.LoneWork.{LoneLaws}
 use Rattle.mt_index.specs.declared.running.Run.{Run}
 use Rattle.mt_index.specs.Alone.{IsIdle, pass_0}
@@ -22,7 +21,7 @@ pub record AloneSoFar (s : MachineView) (request : Request) (call : CallNo) (out
   pub before : MachineView
   pub from : RunsFrom s before request call
   pub begun : MachineView
-  pub begins : Begins Node s pass_0 request (Called call) begun
+  pub begins : Begins s pass_0 request (Called call) begun
   pub outcomes : List Outcome
   pub happen : StepsHappen begun call outcomes before
   pub last : Steps before call.0 outcome t
@@ -57,7 +56,7 @@ module _ (laws : LoneLaws) (s : MachineView) (request : Request) (call : CallNo)
   go_bounds m t [] same = subst (λ (x : MachineView). HasBounds m.log.feed m.log.keep x.log) (sym same) (refl, refl)
   go_bounds m t (o ∷ os) (next, step, bounds, rest) = bounds_on m next t bounds (go_bounds next t os rest)
 
-  pub alone_started : (h : History) (run : Run) (t : MachineView) → IsIdle s → Stands s h → BeginsAndGoes Node s pass_0 request call run t → AloneSoFar s request call run.last t
+  pub alone_started : (h : History) (run : Run) (t : MachineView) → IsIdle s → Stands s h → BeginsAndGoes s pass_0 request call run t → AloneSoFar s request call run.last t
   alone_started h run t idle st goes = record {
     before = goes.before;
     from = runs_on_by goes.begun goes.before goes.outcomes goes.go_on goes.steps (runs_from_begin laws s goes.begun request call idle h st goes.begins);

@@ -1,5 +1,5 @@
 -- A machine on which one call runs alone: from its begin on, at each step, and once it has ended.
-use Rattle.std.proofs.Common.{ℕ, ◌≡◌, ◌<◌, ◌≤◌, ◌⊎◌, Bool, true, false, inl, inr, List, [], ◌∷◌, ◌++◌, length, Option, Some, None, refl, sym, ap, subst, ◌∙◌, arith}
+use Rattle.std.proofs.Common.{ℕ, ◌≡◌, ◌<◌, ◌≤◌, ◌*◌, ◌⊎◌, Bool, true, false, inl, inr, List, [], ◌∷◌, ◌++◌, length, Option, Some, None, refl, sym, ap, subst, ◌∙◌, arith}
 use Rattle.std.specs.Prelude.{if◌then◌else◌, ◌+◌}
 use Rattle.std.proofs.lemmas.Bool.{eq-eqb}
 use Rattle.mt_types.specs.declared.numbers.PassNo.{PassNo}
@@ -25,6 +25,7 @@ use Rattle.mt_types.specs.declared.event.Outcome.TheVariants.{Call as Called, Mo
 use Rattle.mt_types.specs.declared.refusal.Refusal.{Refusal}
 use Rattle.mt_promise.specs.History.{History, happening, moment, rows, OpenCall}
 use Rattle.mt_promise.specs.Legal.{reads_log}
+use Rattle.mt_promise.specs.declared.limits.TheConstants.{MAX_READS}
 use Rattle.mt_promise.specs.Alone.{ShowsRow, IsRangeOfMap, GoesOnBy, RunsAlone, RunsThrough, EndsPlainly, EndsRefused}
 use Rattle.mt_promise.proofs.AloneLemmas.{lone_calls_are_plain, lone_refusals_do_nothing}
 use Rattle.mt_promise.proofs.RefusalLemmas.{turned_away_plainly}
@@ -43,8 +44,6 @@ use Rattle.mt_write.specs.Writing.{edit_request}
 use Rattle.mt_arena.specs.Node.{occupied}
 use Rattle.mt_works.specs.Works.{request_of, held, IsTrue, IsBuiltWork, WorkBuilds}
 use Rattle.mt_works.specs.Causes.{WorkWaits}
-use Rattle.mt_works.specs.declared.work.Pace.{Pace}
-use Rattle.mt_works.specs.declared.work.Pace.TheVariants.{Node}
 use Rattle.mt_works.specs.Follows.{WorkFollows, WorkPosts, WorkReads}
 use Rattle.mt_steps.specs.Step.{StepLawIn}
 use Rattle.mt_works.proofs.LoneWork.{LoneLaws, RunsLone, IsGet, lone_get_steps, work_left, lone_begins, lone_moves, lone_commits, lone_waits_not}
@@ -61,7 +60,6 @@ use Rattle.mt_index.proofs.ViewEvents.{steps-stand, steps-columns}
 -- the call of this number is the only open one, after `made` steps
 pub record IsRunning (s : MachineView) (number made : ℕ) : Type 0 where
   pub call : Call
-  pub paced : call.pace ≡ Node
   pub only : s.calls.calls ≡ (number, call) ∷ []
   pub lone : RunsLone s.columns s.epoch made s.tree (newest s.log) call.work
 
@@ -95,14 +93,13 @@ pinned_newest true log = refl
 pinned_newest false log = refl
 
 -- ---- its begin
-pub begins_running : LoneLaws → (s t : MachineView) (h : History) (pass : PassNo) (request : Request) (number : CallNo) → IsIdle s → Stands s h → Begins Node s pass request (Called number) t → (runs : IsRunning t number.0 0) × (request_of runs.call.work ≡ request) × (t.tree ≡ s.tree)
+pub begins_running : LoneLaws → (s t : MachineView) (h : History) (pass : PassNo) (request : Request) (number : CallNo) → IsIdle s → Stands s h → Begins s pass request (Called number) t → (runs : IsRunning t number.0 0) × (request_of runs.call.work ≡ request) × (t.tree ≡ s.tree)
 begins_running laws s t h pass request number idle st (none, numbered, work, asks, new, next) =
     subst (λ (m : MachineView). (runs : IsRunning m number.0 0) × (request_of runs.call.work ≡ request) × (m.tree ≡ s.tree)) (sym next) (
       record {
-        call = record { pass = pass; from = newest s.log; epoch = s.epoch; pace = Node; work = work };
-        paced = refl;
-        only = ap (λ (l : List (ℕ × Call)). l ++ (s.calls.begun + 1, record { pass = pass; from = newest s.log; epoch = s.epoch; pace = Node; work = work }) ∷ []) idle
-            ∙ ap (λ (n : ℕ). (n, record { pass = pass; from = newest s.log; epoch = s.epoch; pace = Node; work = work }) ∷ []) (sym (ap (λ (c : CallNo). c.0) numbered));
+        call = record { pass = pass; from = newest s.log; epoch = s.epoch; work = work };
+        only = ap (λ (l : List (ℕ × Call)). l ++ (s.calls.begun + 1, record { pass = pass; from = newest s.log; epoch = s.epoch; work = work }) ∷ []) idle
+            ∙ ap (λ (n : ℕ). (n, record { pass = pass; from = newest s.log; epoch = s.epoch; work = work }) ∷ []) (sym (ap (λ (c : CallNo). c.0) numbered));
         lone = subst (λ (n : ℕ). RunsLone s.columns s.epoch 0 s.tree n work) (sym (pinned_newest (reads_log (request_of work)) s.log)) (lone_begins laws s.columns s.epoch (newest s.log) s.tree st.w st.world free work new);
       },
       asks,
@@ -167,9 +164,6 @@ module _ (laws : LoneLaws) (s t : MachineView) (number made : ℕ) (runs : IsRun
       views = views_after o.builds p s.views;
     }
 
-    pace_is : o.steps.call.pace ≡ Node
-    pace_is = ap (λ (c : Call). c.pace) same ∙ runs.paced
-
     -- the call has come so far
     calls_now : o.calls.calls ≡ (number, with_work o.steps.next.work runs.call) ∷ []
     calls_now = ap (λ (c : CallsView). c.calls) o.steps.changed ∙ ap (with_changed (with_work o.steps.next.work) number) runs.only ∙ one_changed number runs.call o.steps.next.work
@@ -180,7 +174,6 @@ module _ (laws : LoneLaws) (s t : MachineView) (number made : ℕ) (runs : IsRun
     goes_on p calls log sound (further, falls) = record {
       runs = record {
         call = with_work o.steps.next.work runs.call;
-        paced = runs.paced;
         only = ap (λ (c : CallsView). c.calls) calls ∙ calls_now;
         lone = subst (λ (n : ℕ). RunsLone s.columns s.epoch (made + 1) o.tree n o.steps.next.work) (sym (ap (λ (l : LogView). newest (trimmed l)) log ∙ trimmed_newest o.log sound)) further;
       };
@@ -200,12 +193,13 @@ module _ (laws : LoneLaws) (s t : MachineView) (number made : ℕ) (runs : IsRun
     comes_by WentOn e = goes_on WentOn refl refl (subst (λ (p : Progress). IsLog (log_after o.reads o.from p o.log)) e o.sound)
         (lone_moves laws s.columns s.epoch made s.tree o.tree s.log o.log o.steps.call.work lone unbuilt o.steps.next.work
         (subst (λ (p : Progress). StepLawIn s.epoch s.columns s.tree o.tree s.log o.log (request_of o.steps.call.work) (held o.steps.call.work) p (held o.steps.next.work) (IsTrue s.columns o.steps.call.work) (IsTrue s.columns o.steps.next.work)) e o.steps.made.law)
-        o.steps.made.same_request (subst (λ (p : Progress). WorkFollows Node s.tree s.log o.steps.call.work p o.steps.next.work) e (subst (λ (q : Pace). WorkFollows q s.tree s.log o.steps.call.work o.p o.steps.next.work) pace_is o.steps.made.follows)) (subst (λ (p : Progress). WorkBuilds s.tree s.log o.steps.call.work p o.steps.next.work) e o.steps.made.goes_on) o.steps.made.read (subst (λ (p : Progress). WorkPosts s.tree o.tree o.steps.call.work p o.steps.next.work) e o.steps.made.posts))
-    comes_by Waits e = lone_waits_not laws s.columns s.epoch made s.tree o.tree s.log o.log o.steps.call.work lone unbuilt (subst (λ (p : Progress). WorkWaits Node s.tree o.steps.call.work p) e (subst (λ (q : Pace). WorkWaits q s.tree o.steps.call.work o.p) pace_is o.steps.made.waits))
+        o.steps.made.same_request (subst (λ (p : Progress). WorkFollows s.tree s.log o.steps.call.work p o.steps.next.work) e o.steps.made.follows) (subst (λ (p : Progress). WorkBuilds s.tree s.log o.steps.call.work p o.steps.next.work) e o.steps.made.goes_on) o.steps.made.read (subst (λ (p : Progress). WorkPosts s.tree o.tree o.steps.call.work p o.steps.next.work) e o.steps.made.posts))
+    comes_by Waits e = lone_waits_not laws s.columns s.epoch made s.tree o.tree s.log o.log o.steps.call.work lone unbuilt o.steps.next.work (subst (λ (p : Progress). WorkWaits s.tree o.steps.call.work p) e o.steps.made.waits)
+        (subst (λ (p : Progress). WorkFollows s.tree s.log o.steps.call.work p o.steps.next.work) e o.steps.made.follows)
     comes_by (Committed n) e = goes_on (Committed n) refl refl (subst (λ (p : Progress). IsLog (log_after o.reads o.from p o.log)) e o.sound)
         (lone_commits laws s.columns s.epoch made s.tree o.tree s.log o.log o.steps.call.work lone unbuilt o.steps.next.work n
         (subst (λ (p : Progress). StepLawIn s.epoch s.columns s.tree o.tree s.log o.log (request_of o.steps.call.work) (held o.steps.call.work) p (held o.steps.next.work) (IsTrue s.columns o.steps.call.work) (IsTrue s.columns o.steps.next.work)) e o.steps.made.law)
-        o.steps.made.same_request (subst (λ (p : Progress). WorkFollows Node s.tree s.log o.steps.call.work p o.steps.next.work) e (subst (λ (q : Pace). WorkFollows q s.tree s.log o.steps.call.work o.p o.steps.next.work) pace_is o.steps.made.follows)) (subst (λ (p : Progress). WorkBuilds s.tree s.log o.steps.call.work p o.steps.next.work) e o.steps.made.goes_on) o.steps.made.read (subst (λ (p : Progress). WorkPosts s.tree o.tree o.steps.call.work p o.steps.next.work) e o.steps.made.posts))
+        o.steps.made.same_request (subst (λ (p : Progress). WorkFollows s.tree s.log o.steps.call.work p o.steps.next.work) e o.steps.made.follows) (subst (λ (p : Progress). WorkBuilds s.tree s.log o.steps.call.work p o.steps.next.work) e o.steps.made.goes_on) o.steps.made.read (subst (λ (p : Progress). WorkPosts s.tree o.tree o.steps.call.work p o.steps.next.work) e o.steps.made.posts))
     comes_by (Answered answer) e = ended
     comes_by (EndsProgress refusal) e = ended
 
@@ -262,7 +256,7 @@ pub record RunsFrom (begun s : MachineView) (request : Request) (number : CallNo
   pub numbered : number ≡ record { 0 = begun.calls.begun + 1 }
   pub since : (h : History) → Stands begun h → (past : History) × Stands s past × (run : RunsAlone request number h past) × (run.pass ≡ pass_0) × (length run.steps ≡ made)
 
-pub runs_from_begin : LoneLaws → (s t : MachineView) (request : Request) (number : CallNo) → IsIdle s → (h : History) → Stands s h → Begins Node s pass_0 request (Called number) t → RunsFrom s t request number
+pub runs_from_begin : LoneLaws → (s t : MachineView) (request : Request) (number : CallNo) → IsIdle s → (h : History) → Stands s h → Begins s pass_0 request (Called number) t → RunsFrom s t request number
 runs_from_begin laws s t request number idle h st begins =
     let (runs, asks, same) = begins_running laws s t h pass_0 request number idle st begins in
     record {
@@ -272,10 +266,10 @@ runs_from_begin laws s t request number idle h st begins =
       reads = λ is. same;
       unfaulted = begins.0;
       numbered = begins.1;
-      columns = begins-columns Node s t pass_0 request (Called number) begins;
+      columns = begins-columns s t pass_0 request (Called number) begins;
       since = λ past stands. (
         happening (Begin pass_0 request) (Called number) 0 ∷ past,
-        begins-stands Node s t pass_0 request (Called number) past begins stands,
+        begins-stands s t pass_0 request (Called number) past begins stands,
         record { nothing_open = none_open s idle past stands; pass = pass_0; note = 0; steps = []; are_steps = tt; is_past = refl },
         refl,
         refl,
@@ -317,12 +311,12 @@ runs_on begun s t request number outcome from steps goes further = record {
       );
 }
 
--- a get has made no more steps than there were nodes at its begin
+-- a get has made few steps for each node that there was at its begin
 is_short : (begun s : MachineView) (request : Request) (number : CallNo) → (from : RunsFrom begun s request number) → IsShort request (occupied begun.tree.nodes) (from.made + 1)
 is_short begun s (GetRequest key asked) number from =
     let get = asks_get from.runs.call.work key asked from.asks in
     let few = lone_get_steps s.columns s.epoch from.made s.tree (newest s.log) from.runs.call.work from.runs.lone get in
-    subst (λ (a : ArenaView). from.made + 1 ≤ occupied a.nodes) (from.reads get) (omega (arith, few))
+    subst (λ (a : ArenaView). from.made + 1 ≤ MAX_READS * occupied a.nodes) (from.reads get) (omega (arith, few))
 is_short begun s _ number from = tt
 
 pub answers_plainly : (begun s t : MachineView) (request : Request) (number : CallNo) (reply : Reply) → RunsFrom begun s request number → Steps s number.0 (Done reply) t → AnswersPlainly begun request reply t
@@ -362,13 +356,13 @@ refuses_plainly begun s t request number refusal from steps h stands =
     }
 
 -- or its begin is refused
-pub begin_refuses_plainly : (s : MachineView) (request : Request) (refusal : Refusal) → IsIdle s → Begins Node s pass_0 request (Refused refusal) s → RefusesPlainly s request refusal s
+pub begin_refuses_plainly : (s : MachineView) (request : Request) (refusal : Refusal) → IsIdle s → Begins s pass_0 request (Refused refusal) s → RefusesPlainly s request refusal s
 begin_refuses_plainly s request refusal idle begins h stands = record {
   then = happening (Begin pass_0 request) (Refused refusal) 0 ∷ h;
-  stands = begins-stands Node s s pass_0 request (Refused refusal) h begins stands;
+  stands = begins-stands s s pass_0 request (Refused refusal) h begins stands;
   ran = inl refl;
   short = tt;
-  nothing = record { plain = turned_away_plainly s.columns h pass_0 request refusal 0 (begins-stands Node s s pass_0 request (Refused refusal) h begins stands).legal.1; commits = refl; views = refl; closed = none_open s idle h stands };
+  nothing = record { plain = turned_away_plainly s.columns h pass_0 request refusal 0 (begins-stands s s pass_0 request (Refused refusal) h begins stands).legal.1; commits = refl; views = refl; closed = none_open s idle h stands };
 }
 
 -- a step comes to nothing else

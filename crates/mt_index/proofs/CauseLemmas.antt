@@ -28,7 +28,7 @@ module _ (s : MachineView) (number : CallNo) (kept : Call) (found : call_at numb
   abbrev after : Progress → MachineView
   after p = record { columns = s.columns; epoch = s.epoch; tree = tree; log = left; calls = calls_after number.0 p calls; views = views }
 
-  by_progress : (p : Progress) → WorkWaits kept.pace s.tree kept.work p → WorkFails s.tree s.log kept.work p work → IsCaused s (Step number) (outcome_of number.0 pass from to p) (after p)
+  by_progress : (p : Progress) → WorkWaits s.tree kept.work p → WorkFails s.tree s.log kept.work p work → IsCaused s (Step number) (outcome_of number.0 pass from to p) (after p)
   by_progress Waits waits fails = subst (λ (call : Option Call). WaitsFor s call) (sym found) waits
   by_progress Moved waits fails = λ before new at now.
       let same : kept ≡ before = (let both : ◌≡◌ {A = Option Call} (Some kept) (Some before) = sym found ∙ at in cc) in

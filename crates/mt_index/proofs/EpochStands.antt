@@ -87,7 +87,6 @@ module _ (s : MachineView) (h : History) (st : Stands s h) (before : ℕ) (oldes
       true = stays s.tree after st.w left.next s.columns k.1.epoch c.moves r.past (left.evolves k.1.epoch (since k i)) s.epoch left.world left.age k.1.work
           (λ number owned. left.leaves number (owned_taken s.columns k.1.epoch c.moves r.past s.tree st.w k.1.work r.true number owned)) r.true;
       reads = reads_still s.columns (moment h) (moment (x ∷ h)) (inl refl) c.from k.1.work r.reads;
-      paced = r.paced;
     }
 
     all_left : Paired (CallStands s.columns s.epoch after left.next (x ∷ h)) 0 s.calls.begun s.calls.calls (moment h).calls

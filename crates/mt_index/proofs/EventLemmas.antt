@@ -20,7 +20,6 @@ use Rattle.mt_steps.specs.declared.progress.Progress.TheVariants.{Moved as WentO
 use Rattle.mt_works.specs.declared.work.Work.{Work}
 use Rattle.mt_index.specs.declared.calls.Call.{Call}
 use Rattle.mt_index.specs.Calls.{CallsView, call_at, pass_at, with_changed, with_work}
-use Rattle.mt_works.specs.declared.work.Pace.TheVariants.{Field, Node}
 use Rattle.mt_index.specs.Stands.{MachineView, Begins, Steps, Applies, ReadsView, Drops, Advances, Collects, outcome_of, calls_after}
 use Rattle.mt_index.specs.Alone.{pass_0, next_call}
 use Rattle.mt_index.specs.Events.{EventDoes, Happens, AllHappen, StepsHappen, HappensAlone, Makes, MakesSteps, GoesOnAtOnce}
@@ -40,7 +39,7 @@ steps-more s m t call (o ∷ os) outcome (next, one, rest) more = (next, one, st
 
 -- ---- what an event of each kind does
 module _ (s t : MachineView) (outcome : Outcome) where
-  pub begin-does : (pass : PassNo) (request : Request) → Begins Field s pass request outcome t → EventDoes s (Begin pass request) outcome t
+  pub begin-does : (pass : PassNo) (request : Request) → Begins s pass request outcome t → EventDoes s (Begin pass request) outcome t
   unfolding EventDoes
   begin-does pass request begins = begins
 
@@ -78,23 +77,23 @@ step-happens s t call outcome steps = record {
 
 -- a call alone has begun, has made these steps, and makes its last one
 abbrev Ran : MachineView → Request → CallNo → MachineView → Type 0
-Ran s request call m = (begun : MachineView) × Begins Node s pass_0 request (Called call) begun × (outcomes : List Outcome)
+Ran s request call m = (begun : MachineView) × Begins s pass_0 request (Called call) begun × (outcomes : List Outcome)
     × StepsHappen begun call outcomes m
 
-pub ends_alone : (s m t : MachineView) (request : Request) (call : CallNo) (last : Outcome) {begun : MachineView} → Begins Node s pass_0 request (Called call) begun → Ran s request call m → Steps m call.0 last t → HappensAlone s request last t
+pub ends_alone : (s m t : MachineView) (request : Request) (call : CallNo) (last : Outcome) {begun : MachineView} → Begins s pass_0 request (Called call) begun → Ran s request call m → Steps m call.0 last t → HappensAlone s request last t
 unfolding HappensAlone
 ends_alone s m t request call last begins (begun, happens, outcomes, steps) ends =
     let is : call ≡ next_call s = begins.1 in
     inr (record {
       begun = begun;
-      begins = subst (λ (n : CallNo). Begins Node s pass_0 request (Called n) begun) is happens;
+      begins = subst (λ (n : CallNo). Begins s pass_0 request (Called n) begun) is happens;
       outcomes = outcomes;
       steps = subst (λ (n : CallNo). StepsHappen begun n (outcomes ++ last ∷ []) t) is
           (steps-more begun m t call outcomes last steps (step-happens m t call last ends));
     })
 
 -- its begin is refused
-pub turned_away : (s t : MachineView) (request : Request) (refusal : Refusal) → Begins Node s pass_0 request (Refused refusal) t → HappensAlone s request (Refused refusal) t
+pub turned_away : (s t : MachineView) (request : Request) (refusal : Refusal) → Begins s pass_0 request (Refused refusal) t → HappensAlone s request (Refused refusal) t
 unfolding HappensAlone
 turned_away s t request refusal begins = inl (record { does = begin-does s t (Refused refusal) pass_0 request begins; caused = tt; one_step = tt })
 

@@ -68,10 +68,7 @@ use Rattle.mt_write.specs.declared.writing.Write.{Write}
 use Rattle.mt_write.specs.declared.writing.Edit.{Edit}
 use Rattle.mt_write.specs.declared.writing.Edit.TheVariants.{Put as PutEdit, Remove as RemoveEdit}
 use Rattle.mt_write.specs.Writing.{edit_request}
-use Rattle.mt_works.specs.declared.work.Pace.{Pace}
-use Rattle.mt_works.specs.declared.work.Pace.TheVariants.{Field as FieldPace, Node as NodePace}
-use Rattle.mt_works.specs.Follows.{WorkFollows}
-use Rattle.mt_works.specs.Works.{MayPace, IsAtStart, request_of, held, IsTrue, IsNew, OpensAt, IsBuiltWork, WorkBuilds}
+use Rattle.mt_works.specs.Works.{request_of, held, IsTrue, IsNew, OpensAt, IsBuiltWork, WorkBuilds}
 use Rattle.mt_views.specs.Views.{ViewsView, places, standing}
 use Rattle.mt_index.specs.Viewing.{ViewsStand, ReadsFrom, ReadsOf}
 use Rattle.mt_index.proofs.Reading.{reads_on, has_next}
@@ -113,44 +110,10 @@ held_reaches s h st n kept at reads =
     let less = min-le_left (held_from (moment h)) (length (moment h).commits - s.log.keep) in
     omega (arith, low, is, trim, less)
 
--- ---- the pace of a call
--- at its begin it has read nothing, and if it visits whole nodes, none of its steps leaves anything read
-new_paced : (pace : Pace) (work : Work) → IsAtStart work → MayPace pace work
-new_paced FieldPace work begins = tt
-new_paced NodePace (GetWork get) begins = begins.1
-new_paced NodePace (WriteWork write) begins = tt
-new_paced NodePace (RangeWork range) begins = begins.2
-new_paced NodePace (TidyWork tidy) begins = tt
-new_paced NodePace (BuildWork building) begins = begins.2
-
-still_paced : (pace : Pace) (a : ArenaView) (log : LogView) (work : Work) (p : Progress) (new : Work) → WorkFollows pace a log work p new → MayPace pace new
-still_paced FieldPace a log work p new follows = tt
-still_paced NodePace a log (GetWork get) Moved (GetWork new) follows = follows.1
-still_paced NodePace a log (GetWork get) Waits (GetWork new) follows = follows.1
-still_paced NodePace a log (GetWork get) (Committed number) (GetWork new) follows = follows.1
-still_paced NodePace a log (GetWork get) (Answered answer) (GetWork new) follows = follows.1
-still_paced NodePace a log (GetWork get) (Refused refusal) (GetWork new) follows = follows.1
-still_paced NodePace a log (WriteWork write) p (GetWork new) follows = absurd follows
-still_paced NodePace a log (RangeWork range) p (GetWork new) follows = absurd follows
-still_paced NodePace a log (TidyWork tidy) p (GetWork new) follows = absurd follows
-still_paced NodePace a log (BuildWork building) p (GetWork new) follows = absurd follows
-still_paced NodePace a log work p (WriteWork new) follows = tt
-still_paced NodePace a log (RangeWork range) p (RangeWork new) follows = follows.1
-still_paced NodePace a log (GetWork get) p (RangeWork new) follows = absurd follows
-still_paced NodePace a log (WriteWork write) p (RangeWork new) follows = absurd follows
-still_paced NodePace a log (TidyWork tidy) p (RangeWork new) follows = absurd follows
-still_paced NodePace a log (BuildWork building) p (RangeWork new) follows = absurd follows
-still_paced NodePace a log work p (TidyWork new) follows = tt
-still_paced NodePace a log (BuildWork building) p (BuildWork new) follows = follows.1
-still_paced NodePace a log (GetWork get) p (BuildWork new) follows = absurd follows
-still_paced NodePace a log (WriteWork write) p (BuildWork new) follows = absurd follows
-still_paced NodePace a log (RangeWork range) p (BuildWork new) follows = absurd follows
-still_paced NodePace a log (TidyWork tidy) p (BuildWork new) follows = absurd follows
-
 -- ---- a step of an open call
 module _ (s : MachineView) (h : History) (n : ℕ) (st : Stands s h) (kept : Call) (at : call_at n s.calls.calls ≡ Some kept) (f : Found (CallStands s.columns s.epoch s.tree st.w h) n kept (moment h).calls)
     (then_tree : ArenaView) (left : LogView) (work : Work) (request : request_of work ≡ request_of kept.work) (pass : PassNo) (pass_is : pass ≡ kept.pass) (reads builds : Bool) (reads_is : reads ≡ reads_log (request_of kept.work)) (builds_is : builds ≡ is_build (request_of kept.work)) (from : ℕ) (from_is : from ≡ kept.from)
-    (unbuilt : IsBuiltWork kept.work → ⊥) (paced : MayPace kept.pace work) where
+    (unbuilt : IsBuiltWork kept.work → ⊥) where
   abbrev Law : Progress → Type 0
   Law p = Stepped s.columns s.epoch f.call.moves f.related.past s.tree then_tree s.log left st.w (request_of kept.work) (held kept.work) p (held work) (λ m next. IsTrue s.columns work kept.epoch m (arena_seen s.tree ∷ f.related.past) then_tree next)
 
@@ -248,21 +211,21 @@ module _ (s : MachineView) (h : History) (n : ℕ) (st : Stands s h) (kept : Cal
       commit_stands s h n kept st at f then_tree left work _ _ l.goes request l.bounds g.key before (Some (put_row s.columns number sets before)) number changes (PutChange g.key sets) refl (ap change_of asked)
       (λ stood. ap (λ (b : Option Row). insert (rows s.columns (moment h)) g.key (put_row s.columns number sets b)) stood)
       (λ next stood. subst (λ (r : Request). MayCommit s.columns h f.call r number) (sym asked) (next, f.related.committed ∙ l.does.1))
-      refl l.does.2 l.blocked l.goes.true (reads_then (Committed number) goes_on (λ refusal e. let clash : Committed number ≡ Refused refusal = e in cc)) paced (room_on l.reserved) sound (held_on l.bounds) building_on
+      refl l.does.2 l.blocked l.goes.true (reads_then (Committed number) goes_on (λ refusal e. let clash : Committed number ≡ Refused refusal = e in cc)) (room_on l.reserved) sound (held_on l.bounds) building_on
   commit_write number g (PutEdit sets (Some version)) e is l goes_on sound =
       let asked : f.call.request ≡ PutIf g.key sets version = f.related.request ∙ (ap request_of is ∙ ap (edit_request g.key) e) in
       let (before, of_version, changes) = subst (λ (r : Request). Commits s.columns s.tree then_tree s.log left r number) (ap request_of is ∙ ap (edit_request g.key) e) l.does.0 in
       commit_stands s h n kept st at f then_tree left work _ _ l.goes request l.bounds g.key before (Some (put_row s.columns number sets before)) number changes (PutChange g.key sets) refl (ap change_of asked)
       (λ stood. ap (λ (b : Option Row). insert (rows s.columns (moment h)) g.key (put_row s.columns number sets b)) stood)
       (λ next stood. subst (λ (r : Request). MayCommit s.columns h f.call r number) (sym asked) (next, f.related.committed ∙ l.does.1, ap version_of stood ∙ of_version))
-      refl l.does.2 l.blocked l.goes.true (reads_then (Committed number) goes_on (λ refusal e. let clash : Committed number ≡ Refused refusal = e in cc)) paced (room_on l.reserved) sound (held_on l.bounds) building_on
+      refl l.does.2 l.blocked l.goes.true (reads_then (Committed number) goes_on (λ refusal e. let clash : Committed number ≡ Refused refusal = e in cc)) (room_on l.reserved) sound (held_on l.bounds) building_on
   commit_write number g RemoveEdit e is l goes_on sound =
       let asked : f.call.request ≡ Remove g.key = f.related.request ∙ (ap request_of is ∙ ap (edit_request g.key) e) in
       let (before, changes) = subst (λ (r : Request). Commits s.columns s.tree then_tree s.log left r number) (ap request_of is ∙ ap (edit_request g.key) e) l.does.0 in
       commit_stands s h n kept st at f then_tree left work _ _ l.goes request l.bounds g.key (Some before) None number changes (Drop g.key) refl (ap change_of asked)
       (λ stood. refl)
       (λ next stood. subst (λ (r : Request). MayCommit s.columns h f.call r number) (sym asked) (next, f.related.committed ∙ l.does.1, subst (λ (x : Option Row). IsSome x) (sym stood) refl))
-      refl l.does.2 l.blocked l.goes.true (reads_then (Committed number) goes_on (λ refusal e. let clash : Committed number ≡ Refused refusal = e in cc)) paced (room_on l.reserved) sound (held_on l.bounds) building_on
+      refl l.does.2 l.blocked l.goes.true (reads_then (Committed number) goes_on (λ refusal e. let clash : Committed number ≡ Refused refusal = e in cc)) (room_on l.reserved) sound (held_on l.bounds) building_on
 
   commit_leads : (number : ℕ) (kind : Work) → kept.work ≡ kind → Law (Committed number) → Leads (Committed number)
   commit_leads number (GetWork g) is l goes_on sound =
@@ -281,13 +244,13 @@ module _ (s : MachineView) (h : History) (n : ℕ) (st : Stands s h) (kept : Cal
       (λ get. l.may (subst (λ (r : Request). IsTrueBool (is_get r)) f.related.request get)) refl refl refl refl
       (calls_on s h n kept st at f then_tree left work _ _ l.goes request l.bounds MovedOutcome (record f.call { moves = f.call.moves + 1 }) _ refl refl refl refl refl refl (f.related.committed ∙ sym l.does.1) l.blocked (alike l.goes l.bounds l.does.0 MovedOutcome refl)
       (keys_still s h n kept st at f then_tree left work _ _ l.goes request l.bounds l.does.0 MovedOutcome refl) (grows_still s h n kept st at f then_tree left work _ _ l.goes request l.bounds l.does.0 MovedOutcome refl) l.goes.true
-      (reads_then Moved goes_on (λ refusal e. let clash : Moved ≡ Refused refusal = e in cc)) paced)
+      (reads_then Moved goes_on (λ refusal e. let clash : Moved ≡ Refused refusal = e in cc)))
       (apart_changed s h n kept st at f then_tree work _ _ l.goes refl) (owned_on s h n kept st at f then_tree work _ _ l.goes refl) (room_on l.reserved) sound (held_on l.bounds) building_on (omega arith) refl (order_changed work n 0 s.calls.calls st.in_order)
   leads Waits l goes_on sound =
       still s h n kept st at f then_tree left work _ _ l.goes request l.bounds l.does.0 Again _ left.holders s.views.building tt refl refl refl refl
       (calls_on s h n kept st at f then_tree left work _ _ l.goes request l.bounds Again (record f.call { moves = 0 }) _ refl refl refl refl refl refl (f.related.committed ∙ sym l.does.1) l.blocked (alike l.goes l.bounds l.does.0 Again refl)
       (keys_still s h n kept st at f then_tree left work _ _ l.goes request l.bounds l.does.0 Again refl) (grows_still s h n kept st at f then_tree left work _ _ l.goes request l.bounds l.does.0 Again refl) l.goes.true
-      (reads_then Waits goes_on (λ refusal e. let clash : Waits ≡ Refused refusal = e in cc)) paced)
+      (reads_then Waits goes_on (λ refusal e. let clash : Waits ≡ Refused refusal = e in cc)))
       (apart_changed s h n kept st at f then_tree work _ _ l.goes refl) (owned_on s h n kept st at f then_tree work _ _ l.goes refl) (room_on l.reserved) sound (held_on l.bounds) building_on (omega arith) refl (order_changed work n 0 s.calls.calls st.in_order)
   leads (Committed number) l goes_on sound = commit_leads number kept.work refl l goes_on sound
   leads (Answered answer) l goes_on sound =
@@ -328,7 +291,7 @@ step_open s t n outcome h o st =
     ∙ ap (next log calls) (views_after_is o.builds o.p s.views)))
     (subst (λ (z : Outcome). Stands (next log calls views) (happening (step_event n) z 0 ∷ h)) (sym o.is_outcome)
     (leads s h n st so.call so.is_open f o.tree o.log so.next.work so.made.same_request o.pass so.made.pass_is o.reads o.builds so.made.reads_is so.made.builds_is o.from so.made.from_is
-    (λ built. o.unbuilt (subst IsBuiltCall (sym so.is_open) built)) (still_paced so.call.pace s.tree s.log so.call.work o.p so.next.work so.made.follows) o.p l so.made.goes_on (subst IsLog log_is o.sound)))
+    (λ built. o.unbuilt (subst IsBuiltCall (sym so.is_open) built)) o.p l so.made.goes_on (subst IsLog log_is o.sound)))
 
 -- ---- a step of a call that is not open
 pub unknown : (s : MachineView) (n : ℕ) (h : History) → call_at n s.calls.calls ≡ None → Stands s h → Stands s (happening (step_event n) (RefusedOutcome NoSuchCall) 0 ∷ h)
@@ -363,9 +326,9 @@ begun_place C begun opened taken request none builds =
     not_refused false e = refl
     not_refused true e = absurd (let clash : ◌≡◌ {A = Option Refusal} (Some TooManyViews) None = e in cc)
 
-pub called : (pace : Pace) (s : MachineView) (pass : PassNo) (request : Request) (work : Work) (h : History) → Stands s h → fault_of s request ≡ None → request_of work ≡ request → IsNew s.columns (newest s.log) work
-    → Stands (with_call pace s pass work) (happening (Begin pass request) (Called (record { 0 = s.calls.begun + 1 })) 0 ∷ h)
-called pace s pass request work h st none is new =
+pub called : (s : MachineView) (pass : PassNo) (request : Request) (work : Work) (h : History) → Stands s h → fault_of s request ≡ None → request_of work ≡ request → IsNew s.columns (newest s.log) work
+    → Stands (with_call s pass work) (happening (Begin pass request) (Called (record { 0 = s.calls.begun + 1 })) 0 ∷ h)
+called s pass request work h st none is new =
     let log_is = pinned_is (reads_log (request_of work)) s.log in
     subst (λ (g : LogView). Stands (record s { log = g; calls = calls; views = placed (is_build (request_of work)) s.views }) (x ∷ h)) (sym log_is) (record {
       legal = (
@@ -402,7 +365,7 @@ called pace s pass request work h st none is new =
     x = happening (Begin pass request) (Called (record { 0 = s.calls.begun + 1 })) 0
 
     call : Call
-    call = record { pass = pass; from = newest s.log; epoch = s.epoch; pace = pace; work = work }
+    call = record { pass = pass; from = newest s.log; epoch = s.epoch; work = work }
 
     calls : CallsView
     calls = record { begun = s.calls.begun + 1; calls = s.calls.calls ++ (s.calls.begun + 1, call) ∷ [] }
@@ -432,7 +395,6 @@ called pace s pass request work h st none is new =
           passed = subst (λ (m : ℕ). IsPast s.columns m (length (moment h).commits) (x ∷ h) (arena_seen s.tree ∷ [])) (sym (happened_is h)) (past_new s.columns x h s.tree st.content st.keys);
           true = new.true s.tree s.epoch s.epoch st.w st.world;
           reads = new_reads work new.opens;
-          paced = new_paced pace work new.at_start;
         })
 
     -- a build keeps a place
@@ -477,12 +439,12 @@ called pace s pass request work h st none is new =
         ∙ sym (least_pinned (reads_log (request_of work)) s.log)
         ∙ slowest_is (record s.log { holders = cond (reads_log (request_of work)) (with_holder (newest s.log) s.log.holders) s.log.holders }) (moment (x ∷ h)) st.commits now_holds
 
-pub begins-stands : (pace : Pace) (s t : MachineView) (pass : PassNo) (request : Request) (outcome : Outcome) (h : History)
-    → Begins pace s pass request outcome t → Stands s h → Stands t (happening (Begin pass request) outcome 0 ∷ h)
-begins-stands pace s t pass request (Called number) h b st =
+pub begins-stands : (s t : MachineView) (pass : PassNo) (request : Request) (outcome : Outcome) (h : History)
+    → Begins s pass request outcome t → Stands s h → Stands t (happening (Begin pass request) outcome 0 ∷ h)
+begins-stands s t pass request (Called number) h b st =
     subst (λ (n : CallNo). Stands t (happening (Begin pass request) (Called n) 0 ∷ h)) (sym b.1)
-    (subst (λ (u : MachineView). Stands u (happening (Begin pass request) (Called (record { 0 = s.calls.begun + 1 })) 0 ∷ h)) (sym b.5) (called pace s pass request b.2 h st b.0 b.3 b.4))
-begins-stands pace s t pass request (RefusedOutcome refusal) h b st =
+    (subst (λ (u : MachineView). Stands u (happening (Begin pass request) (Called (record { 0 = s.calls.begun + 1 })) 0 ∷ h)) (sym b.5) (called s pass request b.2 h st b.0 b.3 b.4))
+begins-stands s t pass request (RefusedOutcome refusal) h b st =
     subst (λ (u : MachineView). Stands u (happening (Begin pass request) (RefusedOutcome refusal) 0 ∷ h)) (sym b.1)
     (same_stands s h (happening (Begin pass request) (RefusedOutcome refusal) 0) st
     (elim b.0 [
@@ -490,16 +452,16 @@ begins-stands pace s t pass request (RefusedOutcome refusal) h b st =
       | inr e ↦ subst (λ r. MayBegin (moment h) r (RefusedOutcome refusal)) (sym e.0 ∙ machine_fault s h request st) (inr (ap (λ r. RefusedOutcome r) e.1))
     ])
     refl refl refl refl refl refl)
-begins-stands pace s t pass request MovedOutcome h b st = absurd b
-begins-stands pace s t pass request Again h b st = absurd b
-begins-stands pace s t pass request (Commit n) h b st = absurd b
-begins-stands pace s t pass request (Done r) h b st = absurd b
-begins-stands pace s t pass request (Applied n) h b st = absurd b
-begins-stands pace s t pass request Current h b st = absurd b
-begins-stands pace s t pass request (View p) h b st = absurd b
-begins-stands pace s t pass request Dropped h b st = absurd b
-begins-stands pace s t pass request (Epoch n) h b st = absurd b
-begins-stands pace s t pass request (Freed n) h b st = absurd b
+begins-stands s t pass request MovedOutcome h b st = absurd b
+begins-stands s t pass request Again h b st = absurd b
+begins-stands s t pass request (Commit n) h b st = absurd b
+begins-stands s t pass request (Done r) h b st = absurd b
+begins-stands s t pass request (Applied n) h b st = absurd b
+begins-stands s t pass request Current h b st = absurd b
+begins-stands s t pass request (View p) h b st = absurd b
+begins-stands s t pass request Dropped h b st = absurd b
+begins-stands s t pass request (Epoch n) h b st = absurd b
+begins-stands s t pass request (Freed n) h b st = absurd b
 
 -- ---- each call may step
 pub may_step : (s : MachineView) (h : History) (n : ℕ) → Stands s h → (IsBuiltCall (call_at n s.calls.calls) → ⊥) → MayStepOf s.epoch s.columns s.tree s.log (call_at n s.calls.calls)
@@ -519,7 +481,6 @@ may_step s h n st = go (call_at n s.calls.calls) refl
             room = let all = st.reserved in let rest = total_without n kept reserves s.calls.calls at in omega (arith, all, rest);
           },
           has_next s h st f.call.from f.call.began kept.epoch f.related.past f.related.passed kept.work (λ reader. let low = held_reaches s h st n kept at reader in let same = f.related.from in omega (arith, low, same)) f.related.reads unbuilt,
-          f.related.paced,
         )
 
 -- ---- who holds the log
@@ -620,14 +581,14 @@ module _ (C epoch : ℕ) (a after_tree : ArenaView) (log left : LogView) (calls 
   )
 
 -- a begin leaves the machine with its call
-pub begun-stands : (pace : Pace) (s : MachineView) (pinned_log : LogView) (new : CallsView) (kept_views : ViewsView) (pass : PassNo) (from : ℕ) (request : Request) (work : Work) → fault_of s request ≡ None → request_of work ≡ request → IsNew s.columns (newest s.log) work → from ≡ newest s.log
-    → new ≡ record { begun = s.calls.begun + 1; calls = s.calls.calls ++ (s.calls.begun + 1, record { pass = pass; from = from; epoch = s.epoch; pace = pace; work = work }) ∷ [] } → pinned_log ≡ pinned (reads_log (request_of work)) s.log → kept_views ≡ placed (is_build (request_of work)) s.views
-    → seen s.columns s.epoch s.tree pinned_log new kept_views ≡ with_call pace s pass work
-begun-stands pace s pinned_log new kept_views pass from request work none is is_new from_is more log_is views_are =
+pub begun-stands : (s : MachineView) (pinned_log : LogView) (new : CallsView) (kept_views : ViewsView) (pass : PassNo) (from : ℕ) (request : Request) (work : Work) → fault_of s request ≡ None → request_of work ≡ request → IsNew s.columns (newest s.log) work → from ≡ newest s.log
+    → new ≡ record { begun = s.calls.begun + 1; calls = s.calls.calls ++ (s.calls.begun + 1, record { pass = pass; from = from; epoch = s.epoch; work = work }) ∷ [] } → pinned_log ≡ pinned (reads_log (request_of work)) s.log → kept_views ≡ placed (is_build (request_of work)) s.views
+    → seen s.columns s.epoch s.tree pinned_log new kept_views ≡ with_call s pass work
+begun-stands s pinned_log new kept_views pass from request work none is is_new from_is more log_is views_are =
     ap (λ (g : LogView). seen s.columns s.epoch s.tree g new kept_views) log_is
     ∙ ap (λ (c : CallsView). seen s.columns s.epoch s.tree (pinned (reads_log (request_of work)) s.log) c kept_views)
-    (more ∙ ap (λ (m : ℕ). record { begun = s.calls.begun + 1; calls = s.calls.calls ++ (s.calls.begun + 1, record { pass = pass; from = m; epoch = s.epoch; pace = pace; work = work }) ∷ [] }) from_is)
-    ∙ ap (seen s.columns s.epoch s.tree (pinned (reads_log (request_of work)) s.log) (record { begun = s.calls.begun + 1; calls = s.calls.calls ++ (s.calls.begun + 1, record { pass = pass; from = newest s.log; epoch = s.epoch; pace = pace; work = work }) ∷ [] })) views_are
+    (more ∙ ap (λ (m : ℕ). record { begun = s.calls.begun + 1; calls = s.calls.calls ++ (s.calls.begun + 1, record { pass = pass; from = m; epoch = s.epoch; work = work }) ∷ [] }) from_is)
+    ∙ ap (seen s.columns s.epoch s.tree (pinned (reads_log (request_of work)) s.log) (record { begun = s.calls.begun + 1; calls = s.calls.calls ++ (s.calls.begun + 1, record { pass = pass; from = newest s.log; epoch = s.epoch; work = work }) ∷ [] })) views_are
 
 -- a new tree has no row
 pub new_keys : (a : ArenaView) → ((place : Place) (row : Row) → Has (arena_seen a) place row → ⊥) → RowsAreOfKeys a
@@ -721,7 +682,7 @@ no_fault M P machine None h = refl
 no_fault M P machine (Some refusal) h = absurd (cc)
 
 -- an event leaves the number of columns
-pub begins-columns : (pace : Pace) (s t : MachineView) (pass : PassNo) (request : Request) (outcome : Outcome) → Begins pace s pass request outcome t → t.columns ≡ s.columns
-begins-columns pace s t pass request (Called number) (none, numbered, work, asks, new, next) = ap (λ (m : MachineView). m.columns) next
-begins-columns pace s t pass request (RefusedOutcome refusal) (why, same) = ap (λ (m : MachineView). m.columns) same
-begins-columns pace s t pass request _ never = absurd never
+pub begins-columns : (s t : MachineView) (pass : PassNo) (request : Request) (outcome : Outcome) → Begins s pass request outcome t → t.columns ≡ s.columns
+begins-columns s t pass request (Called number) (none, numbered, work, asks, new, next) = ap (λ (m : MachineView). m.columns) next
+begins-columns s t pass request (RefusedOutcome refusal) (why, same) = ap (λ (m : MachineView). m.columns) same
+begins-columns s t pass request _ never = absurd never

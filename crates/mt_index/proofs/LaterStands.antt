@@ -45,7 +45,6 @@ call_since s h x w now later commits k c r = record {
   passed = past_later s.columns c.began c.from x h (arena_seen s.tree ∷ r.past) commits r.passed;
   true = r.true;
   reads = reads_still s.columns (moment h) (moment (x ∷ h)) (inl commits) c.from k.1.work r.reads;
-  paced = r.paced;
 }
 
 pub call_later : (s : MachineView) (h : History) (x : Happening) (w : World) → (moment (x ∷ h)).commits ≡ (moment h).commits → (k : ℕ × Call) (c : OpenCall) → CallStands s.columns s.epoch s.tree w h k c → CallStands s.columns s.epoch s.tree w (x ∷ h) k c

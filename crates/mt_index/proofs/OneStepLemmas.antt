@@ -27,16 +27,16 @@ module _ (s : MachineView) (number : CallNo) (kept : Call) (found : call_at numb
   same_before : (before : Call) → call_at number.0 s.calls.calls ≡ Some before → kept ≡ before
   same_before before at = (let both : ◌≡◌ {A = Option Call} (Some kept) (Some before) = sym found ∙ at in cc)
 
-  goes : (p : Progress) → WorkFollows kept.pace s.tree s.log kept.work p work → (before new : Call) → call_at number.0 s.calls.calls ≡ Some before → call_at number.0 calls.calls ≡ Some new
-      → WorkFollows before.pace s.tree s.log before.work p new.work
+  goes : (p : Progress) → WorkFollows s.tree s.log kept.work p work → (before new : Call) → call_at number.0 s.calls.calls ≡ Some before → call_at number.0 calls.calls ≡ Some new
+      → WorkFollows s.tree s.log before.work p new.work
   goes p follows before new at now =
       let now_is : new ≡ with_work work kept = changed_at (with_work work) number.0 kept new s.calls.calls found (ap (λ (c : CallsView). call_at number.0 c.calls) (sym changed) ∙ now) in
-      subst (λ (b : Call). WorkFollows b.pace s.tree s.log b.work p new.work) (same_before before at) (subst (λ (n : Call). WorkFollows kept.pace s.tree s.log kept.work p n.work) (sym now_is) follows)
+      subst (λ (b : Call). WorkFollows s.tree s.log b.work p new.work) (same_before before at) (subst (λ (n : Call). WorkFollows s.tree s.log kept.work p n.work) (sym now_is) follows)
 
-  ends : (p : Progress) → WorkFollows kept.pace s.tree s.log kept.work p work → EndsSo s number.0 p
-  ends p follows = λ before at. inr (work, subst (λ (b : Call). WorkFollows b.pace s.tree s.log b.work p work) (same_before before at) follows)
+  ends : (p : Progress) → WorkFollows s.tree s.log kept.work p work → EndsSo s number.0 p
+  ends p follows = λ before at. inr (work, subst (λ (b : Call). WorkFollows s.tree s.log b.work p work) (same_before before at) follows)
 
-  by_progress : (p : Progress) → WorkFollows kept.pace s.tree s.log kept.work p work → IsOneStep s (Step number) (outcome_of number.0 pass from to p) (after p)
+  by_progress : (p : Progress) → WorkFollows s.tree s.log kept.work p work → IsOneStep s (Step number) (outcome_of number.0 pass from to p) (after p)
   by_progress Waits follows = goes Waits follows
   by_progress Moved follows = goes Moved follows
   by_progress (Committed commit) follows = goes (Committed commit) follows

@@ -25,8 +25,6 @@ use Rattle.mt_write.specs.declared.writing.Edit.{Edit}
 use Rattle.mt_write.specs.declared.writing.Edit.TheVariants.{Put as PutEdit, Remove as RemoveEdit}
 use Rattle.mt_write.specs.Writing.{edit_request, write_request}
 use Rattle.mt_write.specs.Runs.{Advances, HasRun, IsTrimmed, MayRun, RunStep, RunSteps, WriteState, commits_in}
-use Rattle.mt_works.specs.declared.work.Pace.{Pace}
-use Rattle.mt_works.specs.declared.work.Pace.TheVariants.{Field}
 use Rattle.mt_works.specs.declared.work.Work.TheVariants.{Write as WriteWork}
 use Rattle.mt_works.specs.Works.{IsNew}
 use Rattle.mt_views.specs.Views.{ViewsView}
@@ -102,12 +100,12 @@ newest_after : (log left : LogView) → IsLog log → left ≡ trimmed log → n
 newest_after log left sound trims = ap newest trims ∙ newest-trimmed log (trimmed log).held_after (trimmed log).deltas sound refl refl
 
 -- ---- the machine, while this call alone is open
-module _ (s : MachineView) (pass : PassNo) (pace : Pace) where
+module _ (s : MachineView) (pass : PassNo) where
   abbrev number : ℕ
   number = s.calls.begun + 1
 
   abbrev as_call : Write → Call
-  as_call write = record { pass = pass; from = newest s.log; epoch = s.epoch; pace = pace; work = WriteWork write }
+  as_call write = record { pass = pass; from = newest s.log; epoch = s.epoch; work = WriteWork write }
 
   abbrev pub with_calls : List (ℕ × Call) → WriteState → MachineView
   with_calls entries x = record { columns = s.columns; epoch = s.epoch; tree = x.tree; log = x.log; calls = record { begun = s.calls.begun + 1; calls = entries }; views = s.views }
@@ -246,7 +244,7 @@ module _ (s : MachineView) (pass : PassNo) (pace : Pace) where
     abbrev begun_with : Bool → List (ℕ × Call) → Bool → MachineView
     begun_with reads others builds = record s { log = pinned reads s.log; calls = record { begun = number; calls = others ++ (number, as_call write) ∷ [] }; views = placed builds s.views }
 
-    begins_so : (request : Request) → IsIdle s → fault_of s request ≡ None → write_request write ≡ request → Begins pace s pass request (Called (record { 0 = number })) (while_open at_first)
+    begins_so : (request : Request) → IsIdle s → fault_of s request ≡ None → write_request write ≡ request → Begins s pass request (Called (record { 0 = number })) (while_open at_first)
     begins_so request idle none asks = (
       none,
       refl,
@@ -274,7 +272,7 @@ module _ (s : MachineView) (pass : PassNo) (pace : Pace) where
 
     -- A CALL THAT BEGINS AND RUNS
     pub begins_and_goes : (request : Request) (run : WriteRun) (y : WriteState) → IsIdle s → fault_of s request ≡ None → write_request write ≡ request → HasRun s.columns at_first run y
-        → BeginsAndGoes pace s pass request (record { 0 = number }) (record { steps = run.steps; commits = run.commits; last = outcome_of number pass (newest s.log) (newest y.log) run.last }) (after_step run.last y)
+        → BeginsAndGoes s pass request (record { 0 = number }) (record { steps = run.steps; commits = run.commits; last = outcome_of number pass (newest s.log) (newest y.log) run.last }) (after_step run.last y)
     begins_and_goes request run y idle none asks has =
         let going = goes at_first has.before has.steps has.advance has.are in
         let many = going.many in
@@ -309,9 +307,9 @@ go_stand s t call (o ∷ os) (next, step, bounds, rest) h st =
     let (opens, then) = steps-stand s next call.0 o h step st in
     go_stand next t call os rest (happening (Step call) o opens ∷ h) then
 
-module _ (pace : Pace) (s t : MachineView) (pass : PassNo) (request : Request) (call : CallNo) (run : Run) (goes : BeginsAndGoes pace s pass request call run t) where
+module _ (s t : MachineView) (pass : PassNo) (request : Request) (call : CallNo) (run : Run) (goes : BeginsAndGoes s pass request call run t) where
   before_stands : (h : History) → Stands s h → (then : History) × Stands goes.before then
-  before_stands h st = go_stand goes.begun goes.before call goes.outcomes goes.steps (happening (Begin pass request) (Called call) 0 ∷ h) (begins-stands pace s goes.begun pass request (Called call) h goes.begins st)
+  before_stands h st = go_stand goes.begun goes.before call goes.outcomes goes.steps (happening (Begin pass request) (Called call) 0 ∷ h) (begins-stands s goes.begun pass request (Called call) h goes.begins st)
 
   pub run_stands : (h : History) → Stands s h → (then : History) × Stands t then
   run_stands h st =
@@ -338,7 +336,7 @@ all_made : (s t : MachineView) (call : CallNo) (outcomes : List Outcome) → Ste
 all_made s t call [] same = same
 all_made s t call (o ∷ os) (next, step, bounds, rest) = (next, makes_step s next call o step bounds, all_made next t call os rest)
 
-pub call_goes : (s t : MachineView) (pass : PassNo) (request : Request) (call : CallNo) (run : Run) → BeginsAndGoes Field s pass request call run t → CallGoes s pass request (Ran call run) t
+pub call_goes : (s t : MachineView) (pass : PassNo) (request : Request) (call : CallNo) (run : Run) → BeginsAndGoes s pass request call run t → CallGoes s pass request (Ran call run) t
 call_goes s t pass request call run goes = (
   goes.begun,
   makes_begin s goes.begun pass request (Called call) goes.begins goes.begun_bounds,
@@ -353,21 +351,21 @@ call_goes s t pass request call run goes = (
   },
 )
 
-pub or_goes : (s t : MachineView) (pass : PassNo) (request : Request) (called : CallRun) → BeginsOrNot Field s pass request called t → CallGoes s pass request called t
+pub or_goes : (s t : MachineView) (pass : PassNo) (request : Request) (called : CallRun) → BeginsOrNot s pass request called t → CallGoes s pass request called t
 or_goes s t pass request (Ran call run) goes = call_goes s t pass request call run goes
 or_goes s t pass request (RefusedRun refusal) begins = makes_begin s t pass request (RefusedOutcome refusal) begins (ap (λ (m : MachineView). m.log.feed) begins.1, ap (λ (m : MachineView). m.log.keep) begins.1)
 
-pub or_limited : (pace : Pace) (s t : MachineView) (pass : PassNo) (request : Request) (called : CallRun) → BeginsOrNot pace s pass request called t → (h : History) → Stands s h → RunIsLimited called
-or_limited pace s t pass request (Ran call run) goes h st = run_limited pace s t pass request call run goes h st
-or_limited pace s t pass request (RefusedRun refusal) begins h st = tt
+pub or_limited : (s t : MachineView) (pass : PassNo) (request : Request) (called : CallRun) → BeginsOrNot s pass request called t → (h : History) → Stands s h → RunIsLimited called
+or_limited s t pass request (Ran call run) goes h st = run_limited s t pass request call run goes h st
+or_limited s t pass request (RefusedRun refusal) begins h st = tt
 
 -- ---- as the code leaves the machine
-module _ (s : MachineView) (pass : PassNo) (pace : Pace) (idle : IsIdle s) where
+module _ (s : MachineView) (pass : PassNo) (idle : IsIdle s) where
   abbrev calls_with : List (ℕ × Call) → CallsView
   calls_with entries = record { begun = s.calls.begun + 1; calls = entries }
 
   -- the call has ended, and is only counted
-  pub left_counted : (p : Progress) (y : WriteState) (calls : CallsView) → has_ended p ≡ true → calls ≡ record s.calls { begun = s.calls.begun + 1 } → calls_with (entries_left s pass pace p y.write) ≡ calls
+  pub left_counted : (p : Progress) (y : WriteState) (calls : CallsView) → has_ended p ≡ true → calls ≡ record s.calls { begun = s.calls.begun + 1 } → calls_with (entries_left s pass p y.write) ≡ calls
   left_counted (Answered answer) y calls ended is = ap calls_with (sym idle) ∙ sym is
   left_counted (Refused refusal) y calls ended is = ap calls_with (sym idle) ∙ sym is
   left_counted Moved y calls ended is = absurd (let clash : false ≡ true = ended in cc)
@@ -376,9 +374,9 @@ module _ (s : MachineView) (pass : PassNo) (pace : Pace) (idle : IsIdle s) where
 
   -- or it is stored
   abbrev stored : Write → List (ℕ × Call)
-  stored write = (s.calls.begun + 1, record { pass = pass; from = newest s.log; epoch = s.epoch; pace = pace; work = WriteWork write }) ∷ []
+  stored write = (s.calls.begun + 1, record { pass = pass; from = newest s.log; epoch = s.epoch; work = WriteWork write }) ∷ []
 
-  pub left_stored : (p : Progress) (y : WriteState) (calls : CallsView) → has_ended p ≡ false → calls ≡ calls_with (s.calls.calls ++ stored y.write) → calls_with (entries_left s pass pace p y.write) ≡ calls
+  pub left_stored : (p : Progress) (y : WriteState) (calls : CallsView) → has_ended p ≡ false → calls ≡ calls_with (s.calls.calls ++ stored y.write) → calls_with (entries_left s pass p y.write) ≡ calls
   left_stored Moved y calls open_ is = ap (λ (others : Entries). calls_with (others ++ stored y.write)) (sym idle) ∙ sym is
   left_stored Waits y calls open_ is = ap (λ (others : Entries). calls_with (others ++ stored y.write)) (sym idle) ∙ sym is
   left_stored (Committed commit) y calls open_ is = ap (λ (others : Entries). calls_with (others ++ stored y.write)) (sym idle) ∙ sym is
@@ -387,19 +385,19 @@ module _ (s : MachineView) (pass : PassNo) (pace : Pace) (idle : IsIdle s) where
 
   -- a call that has begun and run, with the numbers that the code has read
   pub has_begun_and_run : (write : Write) (request : Request) (run : WriteRun) (y : WriteState) (number from to : ℕ) (calls : CallsView) → IsNew s.columns from (WriteWork write) → fault_of s request ≡ None → write_request write ≡ request → HasRun s.columns (record { tree = s.tree; log = s.log; write = write }) run y
-      → number ≡ s.calls.begun + 1 → from ≡ newest s.log → to ≡ newest y.log → calls_with (entries_left s pass pace run.last y.write) ≡ calls
-      → BeginsAndGoes pace s pass request (record { 0 = number }) (record { steps = run.steps; commits = run.commits; last = outcome_of number pass from to run.last }) (record { columns = s.columns; epoch = s.epoch; tree = y.tree; log = y.log; calls = calls; views = s.views })
+      → number ≡ s.calls.begun + 1 → from ≡ newest s.log → to ≡ newest y.log → calls_with (entries_left s pass run.last y.write) ≡ calls
+      → BeginsAndGoes s pass request (record { 0 = number }) (record { steps = run.steps; commits = run.commits; last = outcome_of number pass from to run.last }) (record { columns = s.columns; epoch = s.epoch; tree = y.tree; log = y.log; calls = calls; views = s.views })
   has_begun_and_run write request run y number from to calls new none asks has numbered began ended left =
-      subst (λ (c : CallsView). BeginsAndGoes pace s pass request (record { 0 = number }) (record { steps = run.steps; commits = run.commits; last = outcome_of number pass from to run.last }) (record { columns = s.columns; epoch = s.epoch; tree = y.tree; log = y.log; calls = c; views = s.views })) left
-      (subst (λ (n : ℕ). BeginsAndGoes pace s pass request (record { 0 = n }) (record { steps = run.steps; commits = run.commits; last = outcome_of n pass from to run.last }) (after_step s pass pace run.last y)) (sym numbered)
-      (subst (λ (n : ℕ). BeginsAndGoes pace s pass request (record { 0 = s.calls.begun + 1 }) (record { steps = run.steps; commits = run.commits; last = outcome_of (s.calls.begun + 1) pass n to run.last }) (after_step s pass pace run.last y)) (sym began)
-      (subst (λ (n : ℕ). BeginsAndGoes pace s pass request (record { 0 = s.calls.begun + 1 }) (record { steps = run.steps; commits = run.commits; last = outcome_of (s.calls.begun + 1) pass (newest s.log) n run.last }) (after_step s pass pace run.last y)) (sym ended)
-      (begins_and_goes s pass pace write (subst (λ (n : ℕ). IsNew s.columns n (WriteWork write)) began new) request run y idle none asks has))))
+      subst (λ (c : CallsView). BeginsAndGoes s pass request (record { 0 = number }) (record { steps = run.steps; commits = run.commits; last = outcome_of number pass from to run.last }) (record { columns = s.columns; epoch = s.epoch; tree = y.tree; log = y.log; calls = c; views = s.views })) left
+      (subst (λ (n : ℕ). BeginsAndGoes s pass request (record { 0 = n }) (record { steps = run.steps; commits = run.commits; last = outcome_of n pass from to run.last }) (after_step s pass run.last y)) (sym numbered)
+      (subst (λ (n : ℕ). BeginsAndGoes s pass request (record { 0 = s.calls.begun + 1 }) (record { steps = run.steps; commits = run.commits; last = outcome_of (s.calls.begun + 1) pass n to run.last }) (after_step s pass run.last y)) (sym began)
+      (subst (λ (n : ℕ). BeginsAndGoes s pass request (record { 0 = s.calls.begun + 1 }) (record { steps = run.steps; commits = run.commits; last = outcome_of (s.calls.begun + 1) pass (newest s.log) n run.last }) (after_step s pass run.last y)) (sym ended)
+      (begins_and_goes s pass write (subst (λ (n : ℕ). IsNew s.columns n (WriteWork write)) began new) request run y idle none asks has))))
 
 -- a call that has begun and made one step
-pub begun_one : (pace : Pace) (s m t : MachineView) (pass : PassNo) (request : Request) (call : CallNo) (o : Outcome) (commits : ℕ) → Begins pace s pass request (Called call) m → HasBounds s.log.feed s.log.keep m.log → Steps m call.0 o t → HasBounds m.log.feed m.log.keep t.log → commits ≡ commit_count o
-    → BeginsAndGoes pace s pass request call (record { steps = 1; commits = commits; last = o }) t
-begun_one pace s m t pass request call o commits begins bounds step then_bounds counted = record {
+pub begun_one : (s m t : MachineView) (pass : PassNo) (request : Request) (call : CallNo) (o : Outcome) (commits : ℕ) → Begins s pass request (Called call) m → HasBounds s.log.feed s.log.keep m.log → Steps m call.0 o t → HasBounds m.log.feed m.log.keep t.log → commits ≡ commit_count o
+    → BeginsAndGoes s pass request call (record { steps = 1; commits = commits; last = o }) t
+begun_one s m t pass request call o commits begins bounds step then_bounds counted = record {
   begun = m;
   begins = begins;
   begun_bounds = bounds;
@@ -426,7 +424,7 @@ pub begun_pass : (s t : MachineView) (h : History) (pass : PassNo) (request : Re
 unfolding EventDoes
 begun_pass s t h pass request call st makes =
     let (none, numbered, work, asks, new, next) = makes.happens.does in
-    let kept : Call = record { pass = pass; from = newest s.log; epoch = s.epoch; pace = Field; work = work } in
+    let kept : Call = record { pass = pass; from = newest s.log; epoch = s.epoch; work = work } in
     ap (λ (m : MachineView). pass_at call.0 m.calls.calls) next
     ∙ ap (λ (n : CallNo). pass_at n.0 (s.calls.calls ++ (s.calls.begun + 1, kept) ∷ [])) numbered
     ∙ ap (λ (c : Option Call). option_map (λ (k : Call). k.pass) c) (next_found (CallStands s.columns s.epoch s.tree st.w h) 0 s.calls.begun s.calls.calls (moment h).calls kept st.calls).0

@@ -44,7 +44,7 @@ use Rattle.mt_steps.specs.Step.{RowIs, IsQuiet, Changes, IsRight, MayRefuse, Tel
 use Rattle.mt_write.specs.declared.writing.Edit.{Edit}
 use Rattle.mt_write.specs.declared.writing.Edit.TheVariants.{Put as PutEdit, Remove as RemoveEdit}
 use Rattle.mt_write.specs.Writing.{edit_request}
-use Rattle.mt_works.specs.Works.{MayPace, request_of, held, IsTrue}
+use Rattle.mt_works.specs.Works.{request_of, held, IsTrue}
 use Rattle.mt_commit.specs.Logged.{key_of, delta_made, deltas_of}
 use Rattle.mt_index.specs.Paired.{Paired}
 use Rattle.mt_index.specs.Calls.{call_at, with_changed, with_work, without, AreApart, total, all_reserved, BeganInOrder}
@@ -207,7 +207,6 @@ module _ (s : MachineView) (h : History) (n : ℕ) (kept : Call) (st : Stands s 
     passed = let b = r.began in past_more s.columns c.began c.from x h after_tree (arena_seen s.tree ∷ r.past) (omega arith) content keys grows r.passed;
     true = stays s.tree after_tree st.w goes.next s.columns k.1.epoch c.moves r.past (goes.evolves k.1.epoch r.epoch) s.epoch goes.world goes.age k.1.work (λ number owned. (others_left k i ne c r number owned).0) r.true;
     reads = reads_still s.columns (moment h) (moment (x ∷ h)) grows c.from k.1.work r.reads;
-    paced = r.paced;
   }
 
   each : (k : ℕ × Call) → Among k s.calls.calls → (c : OpenCall) × before k c
@@ -320,9 +319,9 @@ module _ (s : MachineView) (h : History) (n : ℕ) (kept : Call) (st : Stands s 
       → new.number ≡ f.call.number → new.pass ≡ f.call.pass → new.request ≡ f.call.request → new.began ≡ f.call.began → new.from ≡ f.call.from → new.committed ≡ (held work).committed
       → ((held work).blocked ≡ (held kept.work).blocked) ⊎ ((held work).blocked ≡ Some (slowest s.log))
       → HasRowsOf s.columns after_tree (happening (step_event n) o 0 ∷ h) → HasKeys s.columns (happening (step_event n) o 0 ∷ h) → Grows s.columns (moment h) (moment (happening (step_event n) o 0 ∷ h))
-      → IsTrue s.columns work kept.epoch new.moves (arena_seen s.tree ∷ f.related.past) after_tree goes.next → ReadsOf s.columns (moment h).commits f.call.from work → MayPace kept.pace work
+      → IsTrue s.columns work kept.epoch new.moves (arena_seen s.tree ∷ f.related.past) after_tree goes.next → ReadsOf s.columns (moment h).commits f.call.from work
       → Paired (R (happening (step_event n) o 0 ∷ h)) 0 s.calls.begun ks (moment (happening (step_event n) o 0 ∷ h)).calls
-  calls_on o new commits makes number pass asked began from committed blocks content keys grows truth reads paced =
+  calls_on o new commits makes number pass asked began from committed blocks content keys grows truth reads =
       let x : Happening = happening (step_event n) o 0 in
       let r = f.related in
       subst (λ cs. Paired (R (x ∷ h)) 0 s.calls.begun ks cs) (sym (ap (λ m. m.calls) (then_is o _ makes)))
@@ -343,7 +342,6 @@ module _ (s : MachineView) (h : History) (n : ℕ) (kept : Call) (st : Stands s 
             (subst (λ (m : ℕ). IsPast s.columns new.began m h (arena_seen s.tree ∷ r.past)) (sym from) (subst (λ (m : ℕ). IsPast s.columns m f.call.from h (arena_seen s.tree ∷ r.past)) (sym began) r.passed));
         true = truth;
         reads = subst (λ (m : ℕ). ReadsOf s.columns (moment (x ∷ h)).commits m work) (sym from) (reads_still s.columns (moment h) (moment (x ∷ h)) grows f.call.from work reads);
-        paced = paced;
       }))
 
   -- the calls, if this one ends
@@ -484,15 +482,15 @@ module _ (s : MachineView) (h : History) (n : ℕ) (kept : Call) (st : Stands s 
     grows = inr (record { change = change; commits = commits_are; delta = delta; deltas = sym made_now; made = rows_are })
 
     pub commit_stands : (held work).owns ≡ owns → (held work).committed ≡ Some number → ((held work).blocked ≡ (held kept.work).blocked) ⊎ ((held work).blocked ≡ Some (slowest s.log))
-        → IsTrue s.columns work kept.epoch 0 (arena_seen s.tree ∷ f.related.past) after_tree goes.next → ReadsOf s.columns (moment h).commits f.call.from work → MayPace kept.pace work → left.reserved ≡ all_reserved ks
+        → IsTrue s.columns work kept.epoch 0 (arena_seen s.tree ∷ f.related.past) after_tree goes.next → ReadsOf s.columns (moment h).commits f.call.from work → left.reserved ≡ all_reserved ks
         → IsLog left → HoldersAre s h left.holders ks → s.views.building ≡ total builds_of ks
         → Stands (next_seen s after_tree (trimmed left) s.views ks) (happened ∷ h)
-    commit_stands same_owns committed blocks truth reads paced reserved sound held building_is =
+    commit_stands same_owns committed blocks truth reads reserved sound held building_is =
         let longer : length (s.log.deltas ++ delta ∷ []) ≡ length s.log.deltas + 1 = length-append s.log.deltas (delta ∷ []) in
         let longer_commits : length ((moment h).commits ++ change ∷ []) ≡ length (moment h).commits + 1 = length-append (moment h).commits (change ∷ []) in
         let as_many = st.commits in
         let counted : newest (with_delta s.log delta) ≡ length ((moment h).commits ++ change ∷ []) = omega (arith, longer, longer_commits, as_many) in
-        let calls = calls_on (Commit number) (record f.call { committed = Some number; moves = 0 }) _ refl refl refl refl refl refl (sym committed) blocks content_then keys_then grows truth reads paced in
+        let calls = calls_on (Commit number) (record f.call { committed = Some number; moves = 0 }) _ refl refl refl refl refl refl (sym committed) blocks content_then keys_then grows truth reads in
         let then = then_is (Commit number) _ refl in
         let log = trims s.columns left (moment (happened ∷ h)) sound (record {
           commits = ap newest changes.logged ∙ counted ∙ sym (ap length commits_are);

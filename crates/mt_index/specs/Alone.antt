@@ -1,5 +1,5 @@
 -- What a call that runs alone leaves, whichever history the machine is at.
-use Rattle.std.specs.Prelude.{ℕ, ◌≡◌, ◌≤◌, ◌+◌, ◌⊎◌, [], length}
+use Rattle.std.specs.Prelude.{ℕ, ◌≡◌, ◌≤◌, ◌+◌, ◌*◌, ◌⊎◌, [], length}
 use Rattle.std.proofs.Common.{inl, inr}
 use Rattle.mt_types.specs.declared.numbers.PassNo.{PassNo}
 use Rattle.mt_types.specs.declared.numbers.CallNo.{CallNo}
@@ -9,6 +9,7 @@ use Rattle.mt_types.specs.declared.event.Request.TheVariants.{Get}
 use Rattle.mt_types.specs.declared.event.Reply.{Reply}
 use Rattle.mt_types.specs.declared.event.Outcome.TheVariants.{Done, Refused}
 use Rattle.mt_promise.specs.History.{History, moment}
+use Rattle.mt_promise.specs.declared.limits.TheConstants.{MAX_READS}
 use Rattle.mt_promise.specs.Alone.{RunsThrough, IsTurnedAway, EndsPlainly, EndsRefused}
 use Rattle.mt_arena.specs.Node.{occupied}
 use Rattle.mt_index.specs.Calls.{changing}
@@ -29,13 +30,13 @@ pass_0 = record { 0 = 0 }
 abbrev pub next_call : MachineView → CallNo
 next_call s = record { 0 = s.calls.begun + 1 }
 
--- a get makes at most `nodes` steps
+-- a get makes at most MAX_READS steps for each of the nodes
 abbrev pub IsShort : Request → ℕ → ℕ → Type 0
-IsShort (Get key asked) nodes steps = steps ≤ nodes
+IsShort (Get key asked) nodes steps = steps ≤ MAX_READS * nodes
 IsShort _ nodes steps = Unit {0}
 
 -- The call ran from its begin to its end, and nothing else happened; it has answered as a plain map of the rows that
--- there were, and has made the commit that this asks for, or none; a get has visited no more nodes than there are.
+-- there were, and has made the commit that this asks for, or none; a get has made few steps for each node.
 pub record AnswersFrom (s : MachineView) (h : History) (request : Request) (reply : Reply)
     (t : MachineView) : Type 0 where
   pub then : History
@@ -44,7 +45,7 @@ pub record AnswersFrom (s : MachineView) (h : History) (request : Request) (repl
   pub plain : EndsPlainly s.columns h pass_0 (next_call s) request reply (moment then)
   pub short : IsShort request (occupied s.tree.nodes) (length ran.run.steps + 1)
 
--- a call that ran until it was refused: a get has visited no more nodes than there were
+-- a call that ran until it was refused: a get has made few steps for each node
 abbrev pub RanShortly : (s : MachineView) (h : History) (request : Request) (refusal : Refusal) (then : History)
     → IsTurnedAway pass_0 request h refusal then ⊎ RunsThrough pass_0 (next_call s) request h (Refused refusal) then
     → Type 0

@@ -15,7 +15,7 @@ use Rattle.mt_steps.specs.World.{NotAmong}
 use Rattle.mt_steps.specs.Step.{StepLawIn}
 use Rattle.mt_works.specs.Causes.{WorkWaits, WorkFails}
 use Rattle.mt_works.specs.Follows.{WorkFollows, WorkReads, WorkPosts}
-use Rattle.mt_works.specs.Works.{MayPace, request_of, held, IsTrue, MayWork, HasNext, IsBuiltWork, WorkBuilds}
+use Rattle.mt_works.specs.Works.{request_of, held, IsTrue, MayWork, HasNext, IsBuiltWork, WorkBuilds}
 
 pub record CallsView : Type 0 where
   pub begun : ℕ  -- how many calls have begun
@@ -96,7 +96,7 @@ oldest_epoch (entry ∷ entries) = Some entry.1.epoch
 -- the call of this number may step
 abbrev pub MayStepOf : ℕ → ℕ → ArenaView → LogView → Option Call → Type 0
 MayStepOf now C a log None = Unit {0}
-MayStepOf now C a log (Some call) = MayWork now C a log call.work × HasNext log call.work × MayPace call.pace call.work
+MayStepOf now C a log (Some call) = MayWork now C a log call.work × HasNext log call.work
 
 -- a step of a call, in this epoch: it comes so far
 pub record StepsOneCall (now C : ℕ) (call new : Call) (a after : ArenaView) (log left : LogView) (pass : PassNo)
@@ -105,9 +105,9 @@ pub record StepsOneCall (now C : ℕ) (call new : Call) (a after : ArenaView) (l
   pub law : StepLawIn now C a after log left (request_of call.work) (held call.work) p (held new.work)
       (IsTrue C call.work) (IsTrue C new.work)
   pub goes_on : WorkBuilds a log call.work p new.work
-  pub waits : WorkWaits call.pace a call.work p
+  pub waits : WorkWaits a call.work p
   pub fails : WorkFails a log call.work p new.work
-  pub follows : WorkFollows call.pace a log call.work p new.work
+  pub follows : WorkFollows a log call.work p new.work
   pub read : WorkReads a after call.work
   pub posts : WorkPosts a after call.work p new.work
   pub same_call : new ≡ with_work new.work call

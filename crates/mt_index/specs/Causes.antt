@@ -20,7 +20,7 @@ use Rattle.mt_index.specs.Stands.{MachineView}
 -- the call waits for what is in the tree
 abbrev pub WaitsFor : MachineView → Option Call → Type 0
 WaitsFor s None = ⊥
-WaitsFor s (Some call) = WorkWaits call.pace s.tree call.work Waits
+WaitsFor s (Some call) = WorkWaits s.tree call.work Waits
 
 -- the call of this number, before and after a step by which it continues: a put or remove fails only for a fault at the
 -- node at which it makes ready, or, if there is none, because it is out of memory

@@ -11,7 +11,6 @@ use Rattle.mt_types.specs.declared.refusal.Refusal.{Refusal}
 use Rattle.mt_promise.specs.History.{History, GoesOn, happening}
 use Rattle.mt_promise.specs.Headline.{GetsAreRight, RangesAreRight, ViewsAreRight}
 use Rattle.mt_promise.specs.Legal.{Legal}
-use Rattle.mt_works.specs.declared.work.Pace.TheVariants.{Field, Node}
 use Rattle.mt_index.specs.declared.options.Options.{Options}
 use Rattle.mt_index.specs.declared.running.Run.{Run}
 use Rattle.mt_index.specs.Alone.{pass_0, next_call}
@@ -21,7 +20,7 @@ use Rattle.mt_index.specs.Stands.{MachineView, Stands, HasBounds, Begins, Steps,
 
 -- WHAT AN EVENT DOES, by its kind: it leads from one machine to the next with this outcome, and changes nothing else
 unfoldable pub EventDoes : MachineView → Event → Outcome → MachineView → Type 0
-EventDoes s (Begin pass request) outcome t = Begins Field s pass request outcome t
+EventDoes s (Begin pass request) outcome t = Begins s pass request outcome t
 EventDoes s (Step call) outcome t = Steps s call.0 outcome t
 EventDoes s (Apply view) outcome t = Applies s view.0 outcome t
 EventDoes s (ViewRead view floor start limit) outcome t = ReadsView s view.0 floor start limit outcome × (t ≡ s)
@@ -92,7 +91,7 @@ last_outcome (Err refusal) = Refused refusal
 -- A CALL ALONE IS ITS BEGIN AND THEN ITS STEPS, of which the last has this outcome; each step of a get visits a node
 pub record StepsToEnd (s : MachineView) (request : Request) (last : Outcome) (t : MachineView) : Type 0 where
   pub begun : MachineView
-  pub begins : Begins Node s pass_0 request (Called (next_call s)) begun
+  pub begins : Begins s pass_0 request (Called (next_call s)) begun
   pub outcomes : List Outcome
   pub steps : StepsHappen begun (next_call s) (outcomes ++ last ∷ []) t
 

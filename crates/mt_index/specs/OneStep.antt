@@ -16,12 +16,12 @@ use Rattle.mt_index.specs.Stands.{MachineView}
 -- the call of this number, before and after a step by which it continues
 abbrev pub GoesSo : MachineView → ℕ → Progress → MachineView → Type 0
 GoesSo s number p t = (before after : Call) → call_at number s.calls.calls ≡ Some before
-    → call_at number t.calls.calls ≡ Some after → WorkFollows before.pace s.tree s.log before.work p after.work
+    → call_at number t.calls.calls ≡ Some after → WorkFollows s.tree s.log before.work p after.work
 
 -- the call of this number, before the step by which it ends; a build that has taken all visits no node in it
 abbrev pub EndsSo : MachineView → ℕ → Progress → Type 0
 EndsSo s number p = (before : Call) → call_at number s.calls.calls ≡ Some before
-    → IsBuiltWork before.work ⊎ ((last : Work) × WorkFollows before.pace s.tree s.log before.work p last)
+    → IsBuiltWork before.work ⊎ ((last : Work) × WorkFollows s.tree s.log before.work p last)
 
 -- A STEP OF A CALL IS ONE STEP OF ITS KIND: it visits one node, of which a get, range or build reads one field if it is
 -- a border; or it takes one delta. The tree before the step determines what the step comes to.

@@ -9,7 +9,6 @@ use Rattle.mt_types.specs.declared.event.Outcome.TheVariants.{Call as Called, Re
 use Rattle.mt_types.specs.Limited.{OutcomeIsLimited}
 use Rattle.mt_steps.specs.declared.progress.Progress.{Progress}
 use Rattle.mt_steps.specs.declared.progress.Progress.TheVariants.{Answered, Refused as EndsRefused}
-use Rattle.mt_works.specs.declared.work.Pace.{Pace}
 use Rattle.mt_index.specs.declared.running.Run.{Run}
 use Rattle.mt_index.specs.declared.calling.CallRun.{CallRun}
 use Rattle.mt_index.specs.declared.calling.CallRun.TheVariants.{Refused, Ran}
@@ -28,11 +27,11 @@ StepsGo s call [] t = t ≡ s
 StepsGo s call (outcome ∷ outcomes) t = (next : MachineView) × Steps s call.0 outcome next
     × HasBounds s.log.feed s.log.keep next.log × StepsGo next call outcomes t
 
--- a call begins at this pace, and makes a run of steps, after each of which but the last it continues at once
-pub record BeginsAndGoes (pace : Pace) (s : MachineView) (pass : PassNo) (request : Request) (call : CallNo) (run : Run)
+-- a call begins, and makes a run of steps, after each of which but the last it continues at once
+pub record BeginsAndGoes (s : MachineView) (pass : PassNo) (request : Request) (call : CallNo) (run : Run)
     (t : MachineView) : Type 0 where
   pub begun : MachineView
-  pub begins : Begins pace s pass request (Called call) begun
+  pub begins : Begins s pass request (Called call) begun
   pub begun_bounds : HasBounds s.log.feed s.log.keep begun.log
   pub outcomes : List Outcome
   pub go_on : All GoesOnAtOnce outcomes
@@ -44,9 +43,9 @@ pub record BeginsAndGoes (pace : Pace) (s : MachineView) (pass : PassNo) (reques
   pub commits : run.commits ≡ sum_by commit_count outcomes + commit_count run.last
 
 -- or its begin is refused
-abbrev pub BeginsOrNot : Pace → MachineView → PassNo → Request → CallRun → MachineView → Type 0
-BeginsOrNot pace s pass request (Refused refusal) t = Begins pace s pass request (RefusedOutcome refusal) t
-BeginsOrNot pace s pass request (Ran call run) t = BeginsAndGoes pace s pass request call run t
+abbrev pub BeginsOrNot : MachineView → PassNo → Request → CallRun → MachineView → Type 0
+BeginsOrNot s pass request (Refused refusal) t = Begins s pass request (RefusedOutcome refusal) t
+BeginsOrNot s pass request (Ran call run) t = BeginsAndGoes s pass request call run t
 
 -- A CALL BEGINS AND MAKES A RUN, or its begin is refused
 abbrev pub CallGoes : MachineView → PassNo → Request → CallRun → MachineView → Type 0

@@ -35,8 +35,7 @@ use Rattle.mt_steps.specs.declared.progress.Progress.{Progress}
 use Rattle.mt_steps.specs.declared.progress.Progress.TheVariants.{Moved as WentOn, Waits, Committed, Answered, Refused as EndsRefused}
 use Rattle.mt_steps.specs.World.{World, IsWorld, IsTaken}
 use Rattle.mt_steps.specs.Collecting.{IsCollected, CollectLaw}
-use Rattle.mt_works.specs.declared.work.Pace.{Pace}
-use Rattle.mt_works.specs.Works.{MayPace, request_of, held, IsTrue, IsNew}
+use Rattle.mt_works.specs.Works.{request_of, held, IsTrue, IsNew}
 use Rattle.mt_build.specs.History.{GoesBy}
 use Rattle.mt_build.specs.Build.{HadRows}
 use Rattle.mt_view.specs.State.{StateView, applied, page_of_state}
@@ -105,7 +104,6 @@ pub record CallStands (C now : ℕ) (a : ArenaView) (w : World) (h : History) (k
   pub passed : IsPast C call.began call.from h (arena_seen a ∷ past)
   pub true : IsTrue C kept.1.work kept.1.epoch call.moves past a w
   pub reads : ReadsOf C (moment h).commits call.from kept.1.work
-  pub paced : MayPace kept.1.pace kept.1.work
 
 -- the machine is at a history: this history may have led to it
 pub record Stands (s : MachineView) (h : History) : Type 0 where
@@ -373,20 +371,20 @@ abbrev pub pinned : Bool → LogView → LogView
 pinned reads log = if reads then record log { holders = with_holder (newest log) log.holders } else log
 
 -- the machine, once one more call has begun
-abbrev pub with_call : Pace → MachineView → PassNo → Work → MachineView
-with_call pace s pass work =
-    let call : Call = record { pass = pass; from = newest s.log; epoch = s.epoch; pace = pace; work = work } in
+abbrev pub with_call : MachineView → PassNo → Work → MachineView
+with_call s pass work =
+    let call : Call = record { pass = pass; from = newest s.log; epoch = s.epoch; work = work } in
     record s {
       log = pinned (reads_log (request_of work)) s.log;
       calls = record { begun = s.calls.begun + 1; calls = s.calls.calls ++ (s.calls.begun + 1, call) ∷ [] };
       views = placed (is_build (request_of work)) s.views;
     }
 
--- a begin leads from one machine to the next, with this outcome, and its steps are of this pace
-abbrev pub Begins : Pace → MachineView → PassNo → Request → Outcome → MachineView → Type 0
-Begins pace s pass request (Called number) t =
+-- a begin leads from one machine to the next, with this outcome
+abbrev pub Begins : MachineView → PassNo → Request → Outcome → MachineView → Type 0
+Begins s pass request (Called number) t =
     (fault_of s request ≡ None) × (number ≡ record { 0 = s.calls.begun + 1 }) × (work : Work)
-    × (request_of work ≡ request) × IsNew s.columns (newest s.log) work × (t ≡ with_call pace s pass work)
-Begins pace s pass request (Refused refusal) t =
+    × (request_of work ≡ request) × IsNew s.columns (newest s.log) work × (t ≡ with_call s pass work)
+Begins s pass request (Refused refusal) t =
     ((fault_of s request ≡ Some refusal) ⊎ ((fault_of s request ≡ None) × (refusal ≡ NoMemory))) × (t ≡ s)
-Begins pace s pass request _ t = ⊥
+Begins s pass request _ t = ⊥

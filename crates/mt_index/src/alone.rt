@@ -8,7 +8,6 @@ ghost use Rattle.mt_types.specs.Rows.{shown};
 ghost use Rattle.mt_types.specs.Limits.{columns_fault, limit_fault};
 ghost use Rattle.mt_promise.specs.History.{History, moment, rows};
 ghost use Rattle.mt_promise.specs.Alone.{IsRangeOfMap};
-ghost use Rattle.mt_works.specs.declared.work.Pace.TheVariants.{Node};
 ghost use Rattle.mt_index.specs.Alone.{IsIdle, IsQuiet, AnswersPlainly, RefusesPlainly, pass_0};
 ghost use Rattle.mt_index.specs.Runs.{BeginsOrNot};
 ghost use Rattle.mt_index.specs.Stands.{Stands, HasBounds, fault_of};
@@ -26,7 +25,6 @@ use mt_types::numbers::PassNo;
 use mt_types::refusal::Refusal;
 use mt_types::row::{ColumnNumbers, Pairs, Row};
 use mt_walk::range_of;
-use mt_works::work::Pace;
 use std::alloc::Global;
 
 impl Machine {
@@ -112,9 +110,9 @@ impl Machine {
     /// that of a plain map, and a put or remove has made its one commit. The call ends, because each of its steps
     /// brings it nearer to its end. What happens is its begin and its steps, each with its cause (`happens`).
     ///
-    /// A get, put, remove or tidy costs the visit of each node on its way: a get visits at most as many as `nodes`
-    /// returns, and a put makes the steps of its splits too. A range or build also visits each border that it reads.
-    /// Each border is visited whole, in one step. A call allocates for its answer and for what it stores. A range or
+    /// A get, put, remove or tidy costs the visit of each node on its way, and a put makes the steps of its splits too. A
+    /// range or build also visits each border that it reads. A get, range or build reads one field of a border in each of
+    /// its steps: a get makes at most 64 steps for each node that there is (`nodes`). A call allocates for its answer and for what it stores. A range or
     /// build also allocates for what it reads, and a get, range or build to hold the log. The request is moved into the
     /// call, not copied. A put or remove is never stored among the open calls.
     ///
@@ -156,12 +154,12 @@ impl Machine {
     fn start_alone(&mut self, alloc: Global, request: Request) -> CallRun
         requires idle { IsIdle self.old }
         requires none { fault_of self.old request ≡ None }
-        ensures begins { BeginsOrNot Node self.old pass_0 request result self.new }
+        ensures begins { BeginsOrNot self.old pass_0 request result self.new }
     {
         if is_write(&request) {
-            return self.run_write(alloc, PassNo(0), Pace::Node, request, u64::MAX);
+            return self.run_write(alloc, PassNo(0), request, u64::MAX);
         }
-        let Ok(call) = self.admit(alloc, PassNo(0), Pace::Node, request) else {
+        let Ok(call) = self.admit(alloc, PassNo(0), request) else {
             return CallRun::Refused(Refusal::NoMemory);
         };
         let last = self.step(alloc, call.0);

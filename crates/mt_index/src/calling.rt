@@ -14,7 +14,7 @@ use mt_steps::progress::Progress;
 use mt_types::event::{Outcome, Reply, Request};
 use mt_types::numbers::{CallNo, PassNo};
 use mt_types::refusal::Refusal;
-use mt_works::work::{Pace, Work, write_of};
+use mt_works::work::{Work, write_of};
 use mt_write::running::WriteRun;
 use std::alloc::Global;
 
@@ -82,14 +82,13 @@ impl Machine {
         &mut self,
         alloc: Global,
         pass: PassNo,
-        pace: Pace,
         request: Request,
         most: u64,
     ) -> CallRun
         requires idle { IsIdle self.old }
         requires none { fault_of self.old request ≡ None }
         requires write { is_write request ≡ true }
-        ensures begins { BeginsOrNot pace self.old pass request result self.new }
+        ensures begins { BeginsOrNot self.old pass request result self.new }
         ensures most { RunsAtMost most result }
     {
         let from = self.log.number();
@@ -106,7 +105,6 @@ impl Machine {
             pass,
             from,
             epoch: self.epoch,
-            pace,
             work: Work::Write(write),
         });
         ran(number, pass, from, to, run)
@@ -128,9 +126,9 @@ impl Machine {
             return CallRun::Refused(refusal);
         }
         if self.calls.len() == 0 && is_write(&request) {
-            return self.run_write(alloc, pass, Pace::Field, request, most);
+            return self.run_write(alloc, pass, request, most);
         }
-        match self.admit(alloc, pass, Pace::Field, request) {
+        match self.admit(alloc, pass, request) {
             Ok(call) => CallRun::Ran(call, self.go(alloc, call, most)),
             Err(_) => CallRun::Refused(Refusal::NoMemory),
         }

@@ -11,7 +11,7 @@ use mt_steps::progress::Progress;
 use mt_tree::Tree;
 use mt_types::numbers::PassNo;
 use mt_types::refusal::NoMemory;
-use mt_works::work::{Pace, Work};
+use mt_works::work::Work;
 use std::alloc::Global;
 use std::collections::BTreeMap;
 use std::marker::Model;
@@ -24,8 +24,6 @@ pub(crate) struct Call {
     pub(crate) from: u64,
     /// The epoch in which it began.
     pub(crate) epoch: u64,
-    /// How much of a border each of its steps reads.
-    pub(crate) pace: Pace,
     pub(crate) work: Work,
 }
 
@@ -118,7 +116,7 @@ impl Call {
         if self.work.is_built() {
             return Found::Built;
         }
-        let progress = self.work.step(alloc, self.pace, columns, epoch, tree, log);
+        let progress = self.work.step(alloc, columns, epoch, tree, log);
         Found::Stepped(Stepped {
             pass: self.pass,
             from: self.from,

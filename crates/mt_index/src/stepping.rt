@@ -23,7 +23,7 @@ use mt_types::numbers::{CallNo, PassNo, ViewNo};
 use mt_types::refusal::{NoMemory, Refusal};
 use mt_views::views::Views;
 use mt_works::building::Building;
-use mt_works::work::{Pace, Work, work_of};
+use mt_works::work::{Work, work_of};
 use std::alloc::Global;
 
 fn is_build(request: &Request) -> bool
@@ -177,11 +177,10 @@ impl Machine {
         &mut self,
         alloc: Global,
         pass: PassNo,
-        pace: Pace,
         request: Request,
     ) -> Result<CallNo, NoMemory>
         requires { fault_of self.old request ≡ None }
-        ensures begins { IfOk result (λ number. Begins pace self.old pass request (Called number) self.new) }
+        ensures begins { IfOk result (λ number. Begins self.old pass request (Called number) self.new) }
         ensures err { OnErr result (self.new ≡ self.old) }
         ensures bounds { HasBounds self.old.log.feed self.old.log.keep self.new.log }
     {
@@ -193,7 +192,6 @@ impl Machine {
             pass,
             from,
             epoch: self.epoch,
-            pace,
             work,
         };
         let Ok(number) = self.calls.begin(call) else {
@@ -207,10 +205,10 @@ impl Machine {
     // Begins a call that nothing refuses.
     pub(crate) fn admitted(&mut self, alloc: Global, pass: PassNo, request: Request) -> Outcome
         requires { fault_of self.old request ≡ None }
-        ensures begins { Begins Pace.Field self.old pass request result self.new }
+        ensures begins { Begins self.old pass request result self.new }
         ensures bounds { HasBounds self.old.log.feed self.old.log.keep self.new.log }
     {
-        match self.admit(alloc, pass, Pace::Field, request) {
+        match self.admit(alloc, pass, request) {
             Ok(number) => Outcome::Call(number),
             Err(_) => Outcome::Refused(Refusal::NoMemory),
         }
@@ -218,7 +216,7 @@ impl Machine {
 
     // Begins a call with a copy of a request, unless something refuses it.
     pub(crate) fn begin(&mut self, alloc: Global, pass: PassNo, request: &Request) -> Outcome
-        ensures begins { Begins Pace.Field self.old pass request.now result self.new }
+        ensures begins { Begins self.old pass request.now result self.new }
         ensures bounds { HasBounds self.old.log.feed self.old.log.keep self.new.log }
     {
         if let Some(refusal) = self.fault_of(request) {

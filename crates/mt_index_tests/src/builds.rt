@@ -1,10 +1,10 @@
-//! Builds by example, over a border without entries, and over what was read of one: a scan that ends with its view's
-//! keys. What a build reads of entries is said by its contract in full.
+//! Builds by example, over what was read of a border without entries: a scan that ends with its view's keys. What a build
+//! reads of entries is said by its contract in full.
 
 use bytes::Bytes;
-use mt_border::{Border, RightLink};
+use mt_border::RightLink;
 use mt_build::build::Build;
-use mt_scan::{Listed, ScanMove};
+use mt_scan::ScanMove;
 use mt_types::numbers::NodeNo;
 use mt_types::refusal::Refusal;
 use mt_types::view::{RowTest, ViewSpec};
@@ -17,18 +17,10 @@ const RIGHT: RightLink = RightLink {
     node: NodeNo(2),
 };
 
-// The next move of the scan of a view's keys, after an empty border with this right link.
-fn from_border(alloc: Global, spec: ViewSpec) -> Result<ScanMove, Refusal> {
-    let mut build = Build::new(alloc, 1, spec, 0)?;
-    let mut border = Border::new(alloc, 0, 0);
-    border.set_right(Some(RIGHT));
-    Ok(build.visit(alloc, Listed::Border(&border))?)
-}
-
-// The next move of that scan, after what was read of that border.
+// The next move of the scan of a view's keys, after an empty border was read with this right link.
 fn from_what_was_read(alloc: Global, spec: ViewSpec) -> Result<ScanMove, Refusal> {
     let mut build = Build::new(alloc, 1, spec, 0)?;
-    Ok(build.visit(alloc, Listed::Entries(&[], Some(RIGHT)))?)
+    Ok(build.visit(alloc, &[], Some(RIGHT))?)
 }
 
 fn prefixed(key: &'static [u8]) -> ViewSpec {
@@ -39,16 +31,6 @@ fn prefixed(key: &'static [u8]) -> ViewSpec {
 
 #[test]
 fn scans_end_with_their_keys(rt: HostRuntime) -> Result<(), Fail> {
-    let alloc = rt.alloc();
-    let first = from_border(alloc, prefixed(b"\x07\xff"))?;
-    assert_eq!(rt; first, ScanMove::Done);
-    let second = from_border(alloc, prefixed(b"\x09"))?;
-    assert_eq!(rt; second, ScanMove::To(NodeNo(2)));
-    Ok(())
-}
-
-#[test]
-fn what_was_read_leads_where_the_border_does(rt: HostRuntime) -> Result<(), Fail> {
     let alloc = rt.alloc();
     let first = from_what_was_read(alloc, prefixed(b"\x07\xff"))?;
     assert_eq!(rt; first, ScanMove::Done);

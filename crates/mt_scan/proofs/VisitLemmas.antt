@@ -1,8 +1,8 @@
 -- The visit of a border, entry by entry.
-use Rattle.std.proofs.Common.{ℕ, ◌≡◌, ◌≢◌, ◌<◌, ◌≤◌, ◌+◌, ◌⊎◌, inl, inr, cond, List, [], ◌∷◌, ◌++◌, length, drop, Option, Some, IsSome, slice_get, refl, sym, ap, subst, ◌∙◌, arith}
+use Rattle.std.proofs.Common.{ℕ, ◌≡◌, ◌≢◌, ◌<◌, ◌≤◌, ◌+◌, ◌⊎◌, inl, inr, cond, List, [], ◌∷◌, ◌++◌, length, drop, Option, Some, IsSome, slice_get, get_or, refl, sym, ap, subst, ◌∙◌, arith}
 use Rattle.std.proofs.lemmas.List.{drop_more}
 use Rattle.std.proofs.lemmas.List.Elements.{All-get_or}
-use Rattle.std.proofs.lemmas.Option.{slice_get_within, get_or_from_slice_get}
+use Rattle.std.proofs.lemmas.Option.{slice_get-get_or, slice_get_within, get_or_from_slice_get}
 use Rattle.mt_types.specs.Rows.{shown}
 use Rattle.mt_types.specs.declared.row.Row.{Row}
 use Rattle.mt_types.specs.declared.numbers.NodeNo.{NodeNo}
@@ -175,3 +175,7 @@ module _ (old now : ScanView) (list : ListView) (place : ℕ) (so_far : Visiting
       subst (λ (s : ScanView). HoldsKey s.prefix entry) (sym so_far.same)
       (subst (λ (e : Entry). IsSome (entry_row e) → HoldsKey old.prefix e) (get_or_from_slice_get list.entries place entry entry here)
       (All-get_or (λ e. IsSome (entry_row e) → HoldsKey old.prefix e) list.entries place entry within holds.each) row)
+
+-- the entry at which a loop over entries is
+pub entry-there : (entries : List Entry) (place : ℕ) (entry : Entry) → place < length entries → entry ≡ get_or entries place entry → slice_get entries place ≡ Some entry
+entry-there entries place entry within is = slice_get-get_or entries place entry within ∙ ap Some (sym is)

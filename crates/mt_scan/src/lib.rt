@@ -2,9 +2,7 @@
 #![tactic(auto)]
 
 mod cursor;
-mod listed;
 mod pair;
 mod scan;
 
-pub use listed::Listed;
 pub use scan::{Scan, ScanMove};

@@ -8,11 +8,10 @@ ghost use Rattle.mt_chart.specs.KeyAnswer.{as_places, KeysAreBytes};
 ghost use Rattle.mt_tree.specs.Seen.{right_seen};
 ghost use Rattle.mt_scan.specs.Cursor.{StepsAt, entered_at};
 ghost use Rattle.mt_scan.specs.Scan.{HoldsKey, HoldsKeys, TakesPair, WasTaken, IsNext, VisitsList, outcome_of};
-ghost use Rattle.mt_scan.specs.Listed.{list_in};
+ghost use Rattle.mt_scan.specs.Listed.{list_of};
 ghost use Rattle.mt_scan.specs.Onward.{HasDigits, cursor_in, cursor_of, all_cursors, GoesOnward};
 
 use crate::cursor::{Cursor, Step};
-use crate::listed::Listed;
 use crate::pair::{key_of, row_of};
 use mt_border::{Entry, RightLink};
 use mt_slice::compare;
@@ -223,23 +222,27 @@ impl Scan {
     ///
     /// `NoMemory` if an allocation is refused. The call has to be refused then too: nothing is said of what the scan
     /// has done of the visit, except that its limit and its columns stay.
-    pub fn visit(&mut self, alloc: Global, listed: Listed<'_>) -> Result<ScanMove, NoMemory>
-        requires { HoldsKeys self.old.prefix (list_in listed).entries }
-        ensures visited { IfOk result (λ visited. VisitsList self.old (list_in listed.entry) visited self.new) }
+    pub fn visit(
+        &mut self,
+        alloc: Global,
+        entries: &[Entry],
+        right: Option<RightLink>,
+    ) -> Result<ScanMove, NoMemory>
+        requires { HoldsKeys self.old.prefix entries.now }
+        ensures visited { IfOk result (λ visited. VisitsList self.old (list_of entries.now right) visited self.new) }
         ensures full { IfOk result (λ visited. length self.new.taken ≡ self.old.limit → visited ≡ ScanMove.Done) }
         ensures home { IfOk result (λ visited. visited ≡ ScanMove.Top → self.new.prefix ≡ []) }
-        ensures onward { IfOk result (λ visited. GoesOnward (cursor_in self.old) (list_in listed.entry) visited
+        ensures onward { IfOk result (λ visited. GoesOnward (cursor_in self.old) (list_of entries.now right) visited
             (cursor_in self.new)) }
         ensures within { (places : ℕ) → cursor_of places (cursor_in self.old) < all_cursors places }
         ensures limit { self.new.limit ≡ self.old.limit }
         ensures asked { self.new.asked ≡ self.old.asked }
     {
         self.cursor_has_digits();
-        for place in 0..listed.len() {
+        for entry in entries {
             if self.is_full() {
                 return Ok(ScanMove::Done);
             }
-            let entry = listed.entry(place);
             match self.step(entry) {
                 Step::Pass => {}
                 Step::Take => self.take(alloc, entry)?,
@@ -252,7 +255,7 @@ impl Scan {
         if self.is_full() {
             return Ok(ScanMove::Done);
         }
-        Ok(self.leave(listed.right()))
+        Ok(self.leave(right))
     }
 
     /// Takes out the pairs that it has taken, in the order of their keys: it is then as if it had taken none. Constant

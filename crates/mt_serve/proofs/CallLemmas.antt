@@ -35,7 +35,6 @@ use Rattle.mt_write.specs.Causes.{fill_fault, split_fault, layer_fault, version_
 use Rattle.mt_write.specs.Writing.{stage_held}
 use Rattle.mt_works.specs.declared.work.Work.{Work}
 use Rattle.mt_works.specs.declared.work.Work.TheVariants.{Write}
-use Rattle.mt_works.specs.declared.work.Pace.TheVariants.{Field}
 use Rattle.mt_works.specs.Works.{request_of, held, IsAtStart, IsBuiltWork}
 use Rattle.mt_works.specs.Causes.{WorkRefuses}
 use Rattle.mt_index.specs.declared.calls.Call.{Call}
@@ -223,16 +222,16 @@ module _ (s : Store) (pass : PassNo) (request : Request) (number : CallNo) where
   pub says_on : (m : Store) (n : MachineView) (one : OpenCall) (o : Only m.machine m.past one) → ComesTo s pass request number m → (one.committed ≡ None → newest_of m.machine.log ≡ newest s) → m.machine.log.feed ≡ s.machine.log.feed
       → (outcome : Outcome) → Continues outcome → Happens m.machine (Step number) outcome n → CallSays m.machine → CallSays n
   says_on m n one o comes quiet feed Moved on h says = λ c at.
-      work_moved Says m.machine.tree m.machine.log o.kept.pace o.kept.work c.work (explains m one o comes quiet feed)
+      work_moved Says m.machine.tree m.machine.log o.kept.work c.work (explains m one o comes quiet feed)
       (h.one_step o.kept c (found_one m.machine m.past one o) at) (h.caused o.kept c (found_one m.machine m.past one o) at) (says o.kept (found_one m.machine m.past one o))
   says_on m n one o comes quiet feed Again on h says = λ c at.
-      work_rests Says m.machine.tree m.machine.log o.kept.pace o.kept.work c.work (h.one_step o.kept c (found_one m.machine m.past one o) at) (says o.kept (found_one m.machine m.past one o))
+      work_rests Says m.machine.tree m.machine.log o.kept.work c.work (h.one_step o.kept c (found_one m.machine m.past one o) at) (says o.kept (found_one m.machine m.past one o))
   says_on m n one o comes quiet feed (Commit commit) on h says = λ c at.
-      work_commits Says m.machine.tree m.machine.log o.kept.pace o.kept.work c.work commit (h.one_step o.kept c (found_one m.machine m.past one o) at)
+      work_commits Says m.machine.tree m.machine.log o.kept.work c.work commit (h.one_step o.kept c (found_one m.machine m.past one o) at)
   says_on m n one o comes quiet feed _ on h says = absurd on
 
   -- it is so when the call has begun, if no other call is open
-  begins_of : (m n : MachineView) (own : PassNo) (asked : Request) → EventDoes m (Begin own asked) (Called number) n → Begins Field m own asked (Called number) n
+  begins_of : (m n : MachineView) (own : PassNo) (asked : Request) → EventDoes m (Begin own asked) (Called number) n → Begins m own asked (Called number) n
   unfolding EventDoes
   begins_of m n own asked does = does
 
@@ -247,12 +246,12 @@ module _ (s : Store) (pass : PassNo) (request : Request) (number : CallNo) where
   says_begun m n past own asked st none h =
       let (unfaulted, next, work, asks, new, is) = begins_of m n own asked h.does in
       λ c at. by_number m (m.calls.begun + 1 == number.0) work c new.at_start
-      (sym (ap (λ (l : List (ℕ × Call)). call_at number.0 (l ++ (m.calls.begun + 1, record { pass = own; from = newest_of m.log; epoch = m.epoch; pace = Field; work = work }) ∷ [])) (no_entries m past st none))
+      (sym (ap (λ (l : List (ℕ × Call)). call_at number.0 (l ++ (m.calls.begun + 1, record { pass = own; from = newest_of m.log; epoch = m.epoch; work = work }) ∷ [])) (no_entries m past st none))
       ∙ (sym (ap (λ (x : MachineView). call_at number.0 x.calls.calls) is) ∙ at))
     where
       by_number : (m : MachineView) (here : Bool) (work : Work) (c : Call) → IsAtStart work
-          → (if here then Some (record { pass = own; from = newest_of m.log; epoch = m.epoch; pace = Field; work = work }) else None) ≡ Some c → WorkSays Says c.work
-      by_number m true work c start e = let same : record { pass = own; from = newest_of m.log; epoch = m.epoch; pace = Field; work = work } ≡ c = cc e in subst (λ (x : Call). WorkSays Says x.work) same (work_begins Says work start)
+          → (if here then Some (record { pass = own; from = newest_of m.log; epoch = m.epoch; work = work }) else None) ≡ Some c → WorkSays Says c.work
+      by_number m true work c start e = let same : record { pass = own; from = newest_of m.log; epoch = m.epoch; work = work } ≡ c = cc e in subst (λ (x : Call). WorkSays Says x.work) same (work_begins Says work start)
       by_number m false work c start e = let clash : ◌≡◌ {A = Option Call} None (Some c) = e in cc
 
   -- a put or remove is refused for what is so

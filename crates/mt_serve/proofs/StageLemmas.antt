@@ -24,7 +24,6 @@ use Rattle.mt_write.specs.declared.writing.Stage.TheVariants.{Seeks, Locked, Spa
 use Rattle.mt_write.specs.Writing.{ending_stage}
 use Rattle.mt_write.specs.Causes.{edit_fault, fill_fault, FailsBy, StageFails}
 use Rattle.mt_write.specs.Follows.{StageFollows, StageRests}
-use Rattle.mt_works.specs.declared.work.Pace.{Pace}
 use Rattle.mt_works.specs.declared.work.Work.{Work}
 use Rattle.mt_works.specs.declared.work.Work.TheVariants.{Get, Write, Range, Tidy, Build}
 use Rattle.mt_works.specs.Works.{request_of, IsAtStart, IsBuiltWork}
@@ -112,41 +111,41 @@ module _ (P : Refusal → Type 0) where
     rests _ new never says = absurd never
 
   -- ---- of a call's work
-  pub work_moved : (a : ArenaView) (log : LogView) (pace : Pace) (work new : Work) → ((write : WriteView) → work ≡ Write write → Explains a log write)
-      → WorkFollows pace a log work Moved new → WorkFails a log work Moved new → WorkSays work → WorkSays new
-  work_moved a log pace (Write write) (Write new) e follows fails says =
+  pub work_moved : (a : ArenaView) (log : LogView) (work new : Work) → ((write : WriteView) → work ≡ Write write → Explains a log write)
+      → WorkFollows a log work Moved new → WorkFails a log work Moved new → WorkSays work → WorkSays new
+  work_moved a log (Write write) (Write new) e follows fails says =
       let x = e write refl in
       moved a log write.key write.edit write.way new.way write.stage new.stage (record { memory = x.memory; locked = x.locked; halved = x.halved }) follows fails says
-  work_moved a log pace (Get get) (Write new) e follows fails says = absurd follows
-  work_moved a log pace (Range range) (Write new) e follows fails says = absurd follows
-  work_moved a log pace (Tidy tidy) (Write new) e follows fails says = absurd follows
-  work_moved a log pace (Build building) (Write new) e follows fails says = absurd follows
-  work_moved a log pace work (Get new) e follows fails says = tt
-  work_moved a log pace work (Range new) e follows fails says = tt
-  work_moved a log pace work (Tidy new) e follows fails says = tt
-  work_moved a log pace work (Build new) e follows fails says = tt
+  work_moved a log (Get get) (Write new) e follows fails says = absurd follows
+  work_moved a log (Range range) (Write new) e follows fails says = absurd follows
+  work_moved a log (Tidy tidy) (Write new) e follows fails says = absurd follows
+  work_moved a log (Build building) (Write new) e follows fails says = absurd follows
+  work_moved a log work (Get new) e follows fails says = tt
+  work_moved a log work (Range new) e follows fails says = tt
+  work_moved a log work (Tidy new) e follows fails says = tt
+  work_moved a log work (Build new) e follows fails says = tt
 
-  pub work_rests : (a : ArenaView) (log : LogView) (pace : Pace) (work new : Work) → WorkFollows pace a log work Waits new → WorkSays work → WorkSays new
-  work_rests a log pace (Write write) (Write new) follows says = rests a log write.key write.edit write.way new.way write.stage new.stage follows says
-  work_rests a log pace (Get get) (Write new) follows says = absurd follows
-  work_rests a log pace (Range range) (Write new) follows says = absurd follows
-  work_rests a log pace (Tidy tidy) (Write new) follows says = absurd follows
-  work_rests a log pace (Build building) (Write new) follows says = absurd follows
-  work_rests a log pace work (Get new) follows says = tt
-  work_rests a log pace work (Range new) follows says = tt
-  work_rests a log pace work (Tidy new) follows says = tt
-  work_rests a log pace work (Build new) follows says = tt
+  pub work_rests : (a : ArenaView) (log : LogView) (work new : Work) → WorkFollows a log work Waits new → WorkSays work → WorkSays new
+  work_rests a log (Write write) (Write new) follows says = rests a log write.key write.edit write.way new.way write.stage new.stage follows says
+  work_rests a log (Get get) (Write new) follows says = absurd follows
+  work_rests a log (Range range) (Write new) follows says = absurd follows
+  work_rests a log (Tidy tidy) (Write new) follows says = absurd follows
+  work_rests a log (Build building) (Write new) follows says = absurd follows
+  work_rests a log work (Get new) follows says = tt
+  work_rests a log work (Range new) follows says = tt
+  work_rests a log work (Tidy new) follows says = tt
+  work_rests a log work (Build new) follows says = tt
 
-  pub work_commits : (a : ArenaView) (log : LogView) (pace : Pace) (work new : Work) (number : ℕ) → WorkFollows pace a log work (Committed number) new → WorkSays new
-  work_commits a log pace (Write write) (Write new) number follows = subst StageSays (sym follows.1.0) tt
-  work_commits a log pace (Get get) (Write new) number follows = absurd follows
-  work_commits a log pace (Range range) (Write new) number follows = absurd follows
-  work_commits a log pace (Tidy tidy) (Write new) number follows = absurd follows
-  work_commits a log pace (Build building) (Write new) number follows = absurd follows
-  work_commits a log pace work (Get new) number follows = tt
-  work_commits a log pace work (Range new) number follows = tt
-  work_commits a log pace work (Tidy new) number follows = tt
-  work_commits a log pace work (Build new) number follows = tt
+  pub work_commits : (a : ArenaView) (log : LogView) (work new : Work) (number : ℕ) → WorkFollows a log work (Committed number) new → WorkSays new
+  work_commits a log (Write write) (Write new) number follows = subst StageSays (sym follows.1.0) tt
+  work_commits a log (Get get) (Write new) number follows = absurd follows
+  work_commits a log (Range range) (Write new) number follows = absurd follows
+  work_commits a log (Tidy tidy) (Write new) number follows = absurd follows
+  work_commits a log (Build building) (Write new) number follows = absurd follows
+  work_commits a log work (Get new) number follows = tt
+  work_commits a log work (Range new) number follows = tt
+  work_commits a log work (Tidy new) number follows = tt
+  work_commits a log work (Build new) number follows = tt
 
   -- one that has just begun has not failed
   pub work_begins : (work : Work) → IsAtStart work → WorkSays work

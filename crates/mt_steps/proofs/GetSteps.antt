@@ -112,7 +112,7 @@ module _ (a : ArenaView) (now : ℕ) (w : World) (world : IsWorld a now w) (begu
 
 -- ---- the law of its step
 -- at one node it makes few moves
-reads_few : (finding : Finding) (key asked : List ℕ) (way : Way) (begun : ℕ) (arenas : List Arena) (a : ArenaView) (w : World) → FindingIsTrue key asked way finding begun arenas a w → reads_made finding ≤ 20
+pub reads_few : (finding : Finding) (key asked : List ℕ) (way : Way) (begun : ℕ) (arenas : List Arena) (a : ArenaView) (w : World) → FindingIsTrue key asked way finding begun arenas a w → reads_made finding ≤ 20
 reads_few Begins key asked way begun arenas a w truth = omega arith
 reads_few (Looked counters) key asked way begun arenas a w truth = omega arith
 reads_few (Bounded counters right) key asked way begun arenas a w truth = omega arith

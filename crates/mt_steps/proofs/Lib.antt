@@ -15,6 +15,10 @@ pub mod RangeLemmas
 pub mod LoneLemmas
 pub mod LoneWay
 pub mod LoneRow
+pub mod LoneFields
+pub mod LoneListing
+pub mod LoneFinding
+pub mod LoneGet
 pub mod LoneRange
 pub mod PartLemmas
 pub mod StandLemmas

@@ -14,15 +14,39 @@ use Rattle.mt_chart.proofs.Rise.{rises, at_height}
 use Rattle.mt_chart.proofs.Walk.{run_bound}
 use Rattle.mt_tree.specs.Seen.{arena_seen}
 use Rattle.mt_scan.specs.Cursor.{CursorView}
-use Rattle.mt_scan.specs.Onward.{cursor_in, cursor_of, all_cursors, GetsOn}
-use Rattle.mt_scan.specs.declared.scan.ScanMove.TheVariants.{To}
-use Rattle.mt_steps.specs.declared.progress.Progress.TheVariants.{Moved, Waits}
+use Rattle.mt_scan.specs.Onward.{cursor_in, cursor_of, all_cursors, GetsOn, LeadsOn}
+use Rattle.mt_scan.specs.declared.scan.ScanMove.{ScanMove}
+use Rattle.mt_scan.specs.declared.scan.ScanMove.TheVariants.{Done, To, Top}
+use Rattle.mt_scan.specs.Listed.{list_of}
+use Rattle.mt_scan.specs.Scan.{ScanView}
+use Rattle.mt_scan.proofs.LeadLemmas.{visit_leads}
+use Rattle.mt_steps.specs.declared.progress.Progress.{Progress}
+use Rattle.mt_steps.specs.declared.progress.Progress.TheVariants.{Moved, Waits, Answered, Refused}
 use Rattle.mt_steps.specs.declared.ranging.Range.{Range}
 use Rattle.mt_steps.specs.World.{World, IsWorld, IsTaken}
-use Rattle.mt_steps.specs.Causes.{ReadWaits}
-use Rattle.mt_steps.specs.Ranging.{RangeIsTrue, SeeksOn, ScansOn, ScanGoes, RangeFollows}
+use Rattle.mt_steps.specs.Standing.{Lends}
+use Rattle.mt_steps.specs.Way.{start}
+use Rattle.mt_steps.specs.Listing.{list_wants, list_reading, ListingIsTrue, ListLeads, IsReadList}
+use Rattle.mt_steps.specs.Ranging.{RangeIsTrue, SeeksOn, ScansOn, ScanGoes, ScanEnds, RangeScans, RangeDoes, RangeReads, unread}
+use Rattle.mt_types.specs.Rows.{shown}
+use Rattle.mt_types.specs.declared.row.Row.{Row}
+use Rattle.mt_types.specs.declared.numbers.NodeNo.{NodeNo}
+use Rattle.mt_types.specs.declared.event.Answer.TheVariants.{Rows as RowsAnswer}
+use Rattle.mt_types.specs.declared.refusal.Refusal.TheVariants.{NoMemory}
+use Rattle.mt_border.specs.declared.entry.Entry.{Entry}
+use Rattle.mt_border.specs.declared.entry.RightLink.{RightLink}
+use Rattle.mt_arena.specs.declared.part.Part.{Part}
+use Rattle.mt_steps.specs.declared.listing.Listing.{Listing}
+use Rattle.mt_steps.specs.declared.listing.Listing.TheVariants.{Begins, Looked, Bounded as BoundedListing, Reads, AtValue, Settles}
+use Rattle.mt_steps.specs.declared.listing.ListReading.{ListReading}
+use Rattle.mt_steps.specs.declared.listing.ListReading.TheVariants.{Restarts, Repeats, GoesOn, To as ReadTo, Lists}
 use Rattle.mt_steps.proofs.FrameLemmas.{chart_bounded}
-use Rattle.mt_steps.proofs.LoneWay.{layer_height, way_left, height_told, still_there, not_marked}
+use Rattle.mt_steps.proofs.LoneLemmas.{untaken_alive}
+use Rattle.mt_steps.proofs.LoneListing.{ListStands, ListGoes, PlaceFits, list_left, list_goes}
+use Rattle.mt_steps.proofs.ListSteps.{list_may_read}
+use Rattle.mt_steps.proofs.RangeLemmas.{scans_on, scans_top}
+use Rattle.mt_steps.proofs.RangeSteps.{range_leads}
+use Rattle.mt_steps.proofs.LoneWay.{layer_height, way_left, height_told, still_there}
 
 -- ---- the layers of a tree are fewer than its nodes
 module _ (arena : Arena) (chart : Chart) (tree : IsTree arena chart) where
@@ -219,10 +243,6 @@ module _ (a : ArenaView) (now : ℕ) (w : World) (world : IsWorld a now w) where
       there = seeks_nearer number next begun then slice c s held seeks (subst (λ (e : CursorView). Holds w.chart then next e.prefix slice) same held_next)
   scan_nearer number next begun then slice c d s held (inr scans) held_next = scans_nearer number next then slice c d s scans held_next
 
-  -- a scan that runs alone doesn't wait
-  pub scan_waits_not : (number : ℕ) (prefix : List ℕ) → ScanStands w.chart number prefix → ((other : ℕ) → IsTaken a w other → ⊥) → ReadWaits a number Waits → ⊥
-  scan_waits_not number prefix s free marked = not_marked a now w world number (free number) (is_on w.chart number prefix s) marked
-
 -- if both charts have the number at the same place, the scan is there in the next world as in this one
 stands_in_next : (chart new : Chart) (number : ℕ) (prefix : List ℕ) → new number ≡ chart number → ScanStands chart number prefix → ScanStands new number prefix
 stands_in_next chart new number prefix same s = record { role = s.role; low = s.low; posted = s.posted; place = same ∙ s.place }
@@ -238,24 +258,103 @@ scan_nearer_in a now w next_world world same number next begun then slice c d s 
     let (stands, falls) = scan_nearer a now w world number next begun then slice c d s held goes (held_before w.chart next_world.chart then next slice d.prefix (same next) held_next) in
     (stands_in_next w.chart next_world.chart next d.prefix (same next) stands, falls)
 
+-- ---- a scan that reads one field a step
+-- WHAT IS LEFT of it: what is left at its node, and of the fields that it reads there
+abbrev pub reading_left : ArenaView → ℕ → CursorView → Listing → ℕ
+reading_left a number c listing = 64 * scan_left a number c + list_left listing
+
+pub field_falls : (scan one other : ℕ) → one < other → 64 * scan + one < 64 * scan + other
+field_falls scan one other less = omega (arith, less)
+
+pub node_falls : (scan left one other : ℕ) → left < scan → one ≤ 40 → 64 * left + one < 64 * scan + other
+node_falls scan left one other less few = omega (arith, less, few)
+
+place_fits : (show : Row → Row) (prefix : List ℕ) (slice number : ℕ) (listing : Listing) (begun : ℕ) (arenas : List Arena) (a : ArenaView) (w : World) → ListingIsTrue show prefix slice number listing begun arenas a w → PlaceFits listing
+place_fits show prefix slice number Begins begun arenas a w truth = tt
+place_fits show prefix slice number (Looked counters) begun arenas a w truth = tt
+place_fits show prefix slice number (BoundedListing counters right) begun arenas a w truth = tt
+place_fits show prefix slice number (Reads notes) begun arenas a w (at, bounded, within, few, lists) = (within, few)
+place_fits show prefix slice number (AtValue notes own key) begun arenas a w (at, bounded, within, few, lists, has) = (within, few)
+place_fits show prefix slice number (Settles counters right entries) begun arenas a w truth = tt
+
+-- what a scan alone reads brings it nearer to its end, and it doesn't wait
+pub scan_reads : (show : Row → Row) (a : ArenaView) (now : ℕ) (w : World) → IsWorld a now w → (begun : ℕ) (prefix : List ℕ) (slice number : ℕ) (past : List Arena) → slice < 2 ^ 64 → Holds w.chart begun number prefix slice
+    → ((other : ℕ) → IsTaken a w other → ⊥) → ScanStands w.chart number prefix → (listing : Listing) → ListingIsTrue show prefix slice number listing begun (arena_seen a ∷ past) a w → ListStands a number listing
+    → (part : Part) → Lends a number (list_wants listing) part → ListGoes a number listing (list_reading listing slice part)
+scan_reads show a now w world begun prefix slice number past fits held free stands listing truth noted part lent =
+    list_goes a number slice (untaken_alive a now w world number (free number) (is_on w.chart number prefix stands)) listing
+    (list_may_read show a now w world begun prefix slice number past fits held listing truth) (place_fits show prefix slice number listing begun (arena_seen a ∷ past) a w truth) noted part lent
+
 -- ---- a range
--- the node where it stands is on, in the layer of its scan
-abbrev pub range_stands : World → Range → Type 0
-range_stands w range = ScanStands w.chart range.node.0 range.scan.prefix
+-- the node where it stands is on, in the layer of its scan, and it has noted what the border there has
+pub record RangeStands (a : ArenaView) (w : World) (range : Range) : Type 0 where
+  pub node : ScanStands w.chart range.node.0 range.scan.prefix
+  pub noted : ListStands a range.node.0 range.listing
 
 abbrev pub range_left : ArenaView → Range → ℕ
-range_left a range = scan_left a range.node.0 (cursor_in range.scan)
+range_left a range = reading_left a range.node.0 (cursor_in range.scan) range.listing
 
--- a range that runs alone doesn't wait
-pub lone_range_waits_not : (a : ArenaView) (now : ℕ) (w : World) (range : Range) → IsWorld a now w → range_stands w range → ((number : ℕ) → IsTaken a w number → ⊥) → ReadWaits a range.node.0 Waits → ⊥
-lone_range_waits_not a now w range world stands free marked = scan_waits_not a now w world range.node.0 range.scan.prefix stands free marked
+module _ (a : ArenaView) (now begun moves : ℕ) (past : List Arena) (w : World) (range new : Range) (world : IsWorld a now w) (truth : RangeIsTrue range begun moves past a w) (stands : RangeStands a w range) (free : (other : ℕ) → IsTaken a w other → ⊥) where
+  goes : (p : Progress) → (reads : RangeReads a range p new) → ListGoes a range.node.0 range.listing (list_reading range.listing (first_slice range.scan.at) reads.part)
+  goes p reads = scan_reads (shown range.columns) a now w world begun range.scan.prefix (first_slice range.scan.at) range.node.0 past reads.fits truth.scans.held free stands.node range.listing truth.listing stands.noted reads.part reads.lent
 
--- and with each of its moves what is left of it falls
-pub lone_range_nearer : (a : ArenaView) (now begun moves : ℕ) (past : List Arena) (w : World) (range new : Range) → IsWorld a now w → RangeIsTrue range begun moves past a w → range_stands w range → RangeFollows a range Moved new
-    → (next : World) → ((number : ℕ) → next.chart number ≡ w.chart number) → (then made : ℕ) (since : List Arena) → RangeIsTrue new then made since a next
-    → range_stands next new × (range_left a new < range_left a range)
-lone_range_nearer a now begun moves past w range new world truth stands follows next same then made since true_then =
-    scan_nearer_in a now w next world same range.node.0 new.node.0 begun then (first_slice new.scan.at) (cursor_in range.scan) (cursor_in new.scan) stands truth.scans.held follows.0 true_then.scans.held
+  -- a range that runs alone doesn't wait
+  pub lone_range_waits_not : RangeReads a range Waits new → ⊥
+  lone_range_waits_not reads = elim reads.does [
+    | inl refused ↦ (let clash : Waits ≡ Refused NoMemory = refused.0 in cc)
+    | inr done ↦ go (list_reading range.listing (first_slice range.scan.at) reads.part) (goes Waits reads) done
+  ]
+    where
+      ends : (scan : ScanView) (visited : ScanMove) → ScanEnds (unread range) scan visited Waits new → ⊥
+      ends scan Done (is, bytes) = (let clash : Waits ≡ Answered (RowsAnswer scan.taken) = is in cc)
+      ends scan (To next) (is, then) = (let clash : Waits ≡ Moved = is in cc)
+      ends scan Top (is, then) = (let clash : Waits ≡ Moved = is in cc)
+
+      go : (reading : ListReading) → ListGoes a range.node.0 range.listing reading → RangeDoes (unread range) reading Waits new → ⊥
+      go Restarts never done = never
+      go Repeats never done = never
+      go (GoesOn next) near (is, then) = (let clash : Waits ≡ Moved = is in cc)
+      go (ReadTo node) move (is, then) = (let clash : Waits ≡ Moved = is in cc)
+      go (Lists entries right) leads (inl refused) = (let clash : Waits ≡ Refused NoMemory = refused in cc)
+      go (Lists entries right) leads (inr s) = ends s.scan s.visited s.ends
+
+  -- and with each of its moves what is left of it falls
+  module _ (next : World) (same : (number : ℕ) → next.chart number ≡ w.chart number) (then made : ℕ) (since : List Arena) where
+    abbrev Nearer : Range → Type 0
+    Nearer x = RangeIsTrue x then made since a next → RangeStands a next x × (range_left a x < range_left a range)
+
+    on_there : (next_node : NodeNo) (scan : ScanView) → ScanGoes a range.node.0 next_node.0 (cursor_in range.scan) (cursor_in scan) → Nearer (record (unread range) { scan = scan; node = next_node })
+    on_there next_node scan goes_on true_then =
+        let (there, falls) = scan_nearer_in a now w next world same range.node.0 next_node.0 begun then (first_slice scan.at) (cursor_in range.scan) (cursor_in scan) stands.node truth.scans.held goes_on true_then.scans.held in
+        (record { node = there; noted = tt }, node_falls (scan_left a range.node.0 (cursor_in range.scan)) (scan_left a next_node.0 (cursor_in scan)) 40 (list_left range.listing) falls (omega arith))
+
+    at : (x : Range) → new ≡ x → Nearer x → Nearer new
+    at x is nearer = subst Nearer (sym is) nearer
+
+    pub lone_range_nearer : RangeReads a range Moved new → Nearer new
+    lone_range_nearer reads = elim reads.does [
+      | inl refused ↦ absurd (let clash : Moved ≡ Refused NoMemory = refused.0 in cc)
+      | inr done ↦ go (list_reading range.listing (first_slice range.scan.at) reads.part) (goes Moved reads) (range_leads a range reads.fits reads.part reads.lent now begun moves past w world truth) done
+    ]
+      where
+        lists : (entries : List Entry) (right : Option RightLink) → IsReadList (shown range.columns) range.scan.prefix (first_slice range.scan.at) begun (arena_seen a ∷ past) w entries right
+            → ((other : ℕ) → LeadsOn (list_of entries right) other → Moves (arena_seen a) range.node.0 other) → (s : RangeScans (unread range) (list_of entries right) Moved new) → (visited : ScanMove) → s.visited ≡ visited → ScanEnds (unread range) s.scan visited Moved new → Nearer new
+        lists entries right read leads s Done is (ended, bytes) = absurd (let clash : Moved ≡ Answered (RowsAnswer s.scan.taken) = ended in cc)
+        lists entries right read leads s (To there) is (moved, then_is) =
+            at _ then_is (on_there there s.scan (inr (scans_on a range.node.0 (list_of entries right) (cursor_in range.scan) (cursor_in s.scan) s.visited read.passes leads (visit_leads range.scan (list_of entries right) s.visited s.scan s.visits) s.onward s.within reads.lent.arena there is)))
+        lists entries right read leads s Top is (moved, then_is) =
+            at _ then_is (on_there start.node s.scan (inr (scans_top a range.node.0 (list_of entries right) (cursor_in range.scan) (cursor_in s.scan) s.visited read.passes leads (visit_leads range.scan (list_of entries right) s.visited s.scan s.visits) s.onward s.within reads.lent.arena is)))
+
+        go : (reading : ListReading) → ListGoes a range.node.0 range.listing reading → ListLeads (shown range.columns) range.scan.prefix (first_slice range.scan.at) range.node.0 begun past a w reading → RangeDoes (unread range) reading Moved new → Nearer new
+        go Restarts never leads done = absurd never
+        go Repeats never leads done = absurd never
+        go (GoesOn listing) (less, noted) leads (moved, is) = at (record range { listing = listing }) is (λ true_then. (
+          record { node = stands_in_next w.chart next.chart range.node.0 range.scan.prefix (same range.node.0) stands.node; noted = noted },
+          field_falls (scan_left a range.node.0 (cursor_in range.scan)) (list_left listing) (list_left range.listing) less,
+        ))
+        go (ReadTo node) move leads (moved, is) = at (record (unread range) { node = node }) is (on_there node range.scan (inl (record { fits = reads.fits; moves = move }, refl)))
+        go (Lists entries right) moves_on leads (inl refused) = absurd (let clash : Moved ≡ Refused NoMemory = refused in cc)
+        go (Lists entries right) moves_on leads (inr s) = lists entries right leads moves_on s s.visited refl s.ends
 
 -- it begins at a node that is on
 pub range_begins : (a : ArenaView) (now : ℕ) (w : World) → IsWorld a now w → ScanStands w.chart 0 []

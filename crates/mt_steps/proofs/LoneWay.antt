@@ -134,10 +134,10 @@ stands_in w begun key way bytes held there = record {
     same_low one other low least standing stands prefix layer e = cc
 
 -- after a move of the way the call is at a node that is on, and less is left
-pub way_moves : (a : ArenaView) (now begun : ℕ) (w : World) (key : List ℕ) (way next : Way) → IsWorld a now w → AreBytes key → length key ≤ MAX_KEY_BYTES
-    → IsOnWay begun key way w → IsOnThere w key way → GoesTo a begun key way w (To next)
+pub move_nearer : (a : ArenaView) (now begun : ℕ) (w : World) (key : List ℕ) (way next : Way) → IsWorld a now w → AreBytes key → length key ≤ MAX_KEY_BYTES
+    → IsOnWay begun key way w → IsOnThere w key way → IsOnWay begun key next w → Moves (arena_seen a) way.node.0 next.node.0
     → IsOnThere w key next × (way_left a next.layer next.node.0 < way_left a way.layer way.node.0)
-way_moves a now begun w key way next world bytes fits held there (further, move, deeper) =
+move_nearer a now begun w key way next world bytes fits held there further move =
     let within = held.layer.within in
     let many = layers_above way.layer key in
     let many_next = layers_above next.layer key in
@@ -151,6 +151,12 @@ way_moves a now begun w key way next world bytes fits held there (further, move,
   where
     same_prefix : (one other : Role) (low least : ℕ) (standing stands : Standing) (prefix layer : List ℕ) → ◌≡◌ {A = Option Spot} (Some (spot one prefix low standing)) (Some (spot other layer least stands)) → prefix ≡ layer
     same_prefix one other low least standing stands prefix layer e = cc
+
+-- and so after a visit that leads on
+pub way_moves : (a : ArenaView) (now begun : ℕ) (w : World) (key : List ℕ) (way next : Way) → IsWorld a now w → AreBytes key → length key ≤ MAX_KEY_BYTES
+    → IsOnWay begun key way w → IsOnThere w key way → GoesTo a begun key way w (To next)
+    → IsOnThere w key next × (way_left a next.layer next.node.0 < way_left a way.layer way.node.0)
+way_moves a now begun w key way next world bytes fits held there (further, move, deeper) = move_nearer a now begun w key way next world bytes fits held there further move
 
 -- what is on, and that no call has taken, is not marked
 pub not_marked : (a : ArenaView) (now : ℕ) (w : World) → IsWorld a now w → (number : ℕ) → (IsTaken a w number → ⊥) → IsOn w.chart number → IsMarkedAt a number → ⊥

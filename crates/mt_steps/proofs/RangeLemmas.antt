@@ -1,5 +1,5 @@
 -- The steps of a range.
-use Rattle.std.proofs.Common.{ℕ, zero, suc, ◌≡◌, ◌<◌, ◌+◌, ◌^◌, ◌⊎◌, inl, inr, List, [], ◌∷◌, length, Option, Some, IsSome, true, false, refl, sym, ap, subst, ◌∙◌, arith}
+use Rattle.std.proofs.Common.{ℕ, zero, suc, ◌≡◌, ◌<◌, ◌+◌, ◌^◌, ◌⊎◌, inl, inr, List, [], ◌∷◌, length, Some, IsSome, true, false, refl, sym, ap, subst, ◌∙◌, arith}
 use Rattle.std.specs.Prelude.{All}
 use Rattle.std.specs.Int.{w64, to_be_bytes, from_be_bytes, bytes_high_first}
 use Rattle.std.specs.Slice.Scan.{big_endian}
@@ -16,11 +16,10 @@ use Rattle.mt_slice.proofs.Slices.{from_be_bytes-big_endian, slice_number-long}
 use Rattle.mt_commit.specs.Log.{LogView}
 use Rattle.mt_border.specs.Border.{BorderView}
 use Rattle.mt_border.specs.Entry.{entry_row, content_row}
-use Rattle.mt_border.specs.Order.{IsBorder}
 use Rattle.mt_border.specs.declared.entry.Entry.{Entry}
 use Rattle.mt_border.specs.declared.entry.Content.{Content}
 use Rattle.mt_border.specs.declared.entry.Content.TheVariants.{Short, Long, Link}
-use Rattle.mt_arena.specs.Node.{border_of, border_at, node_at, IsNode}
+use Rattle.mt_arena.specs.Node.{border_at, IsNode}
 use Rattle.mt_arena.specs.declared.node.Node.{Node}
 use Rattle.mt_arena.specs.Arena.{ArenaView, IsArena}
 use Rattle.mt_chart.specs.Tree.{Arena, Among, first, later, HoldsRow, Below}
@@ -32,7 +31,7 @@ use Rattle.mt_chart.specs.ScanRun.{Stood, AllHave, EntriesInOrder}
 use Rattle.mt_chart.specs.KeyAnswer.{as_places, KeysAreBytes}
 use Rattle.mt_chart.proofs.Entries.{InOrder}
 use Rattle.mt_chart.proofs.HeldNodes.{evolves_same, border_is_on}
-use Rattle.mt_chart.proofs.Ranges.{range_kept, range_again, range_visits}
+use Rattle.mt_chart.proofs.Ranges.{range_kept, range_again}
 use Rattle.mt_chart.proofs.TreeLemmas.{rows_in_borders}
 use Rattle.mt_chart.proofs.ScanLemmas.{of_keys}
 use Rattle.mt_tree.specs.Seen.{arena_seen, border_seen, entry_seen, content_seen, content_place, entry_place}
@@ -41,13 +40,12 @@ use Rattle.mt_tree.specs.declared.visit.Visit.{Visit}
 use Rattle.mt_tree.specs.declared.visit.Visit.TheVariants.{To as VisitTo, Below as VisitBelow, Here as VisitHere}
 use Rattle.mt_tree.proofs.DescentLemmas.{slice_of_place, may_visit, leads_node, tells_node}
 use Rattle.mt_tree.proofs.HeldLemmas.{held_may_visit}
-use Rattle.mt_tree.proofs.IntervalLemmas.{entries_in_order}
 use Rattle.mt_tree.proofs.SeenLemmas.{seen-border, among_map}
-use Rattle.mt_chart.specs.Walk.{Moves, to_right, to_link}
+use Rattle.mt_chart.specs.Walk.{Moves}
 use Rattle.mt_scan.specs.Cursor.{CursorView}
 use Rattle.mt_scan.specs.Onward.{cursor_of, all_cursors, GetsOn, GoesOnward, LeadsOn, GoesFrom}
-use Rattle.mt_scan.specs.Listed.{list_of}
-use Rattle.mt_scan.specs.Scan.{ScanView, HoldsKey, HoldsKeys, VisitsList, outcome_of}
+use Rattle.mt_scan.specs.Listed.{ListView, list_right}
+use Rattle.mt_scan.specs.Scan.{ScanView, HoldsKey, HoldsKeys, outcome_of}
 use Rattle.mt_scan.specs.declared.scan.ScanMove.{ScanMove}
 use Rattle.mt_scan.specs.declared.scan.ScanMove.TheVariants.{Done, To as VisitedTo, Top}
 use Rattle.mt_steps.specs.declared.listing.Listing.{Listing}
@@ -60,10 +58,10 @@ use Rattle.mt_steps.specs.declared.progress.Progress.{Progress}
 use Rattle.mt_steps.specs.declared.progress.Progress.TheVariants.{Moved, Waits, Answered, Refused}
 use Rattle.mt_steps.specs.World.{World, IsWorld, AreOfKeys}
 use Rattle.mt_steps.specs.Way.{Names}
-use Rattle.mt_steps.specs.Step.{StepLaw, MayStep, nothing}
-use Rattle.mt_steps.specs.Ranging.{range_request, RangeIsTrue, RangeStays, RangeMayVisit, IsHeldFor, IsHeldNode, IsAtSlice, KnowsOfSlice, Seeks, ScansOn}
+use Rattle.mt_steps.specs.Step.{StepLaw, nothing}
+use Rattle.mt_steps.specs.Ranging.{range_request, RangeIsTrue, IsHeldFor, IsHeldNode, Seeks, ScansOn}
 use Rattle.mt_steps.proofs.FrameLemmas.{goes_same, quiet_same}
-use Rattle.mt_steps.proofs.WayLemmas.{names_may, names_border}
+use Rattle.mt_steps.proofs.WayLemmas.{names_may}
 
 -- ---- a slice as a rest of eight bytes
 length_high : (k n : ℕ) → length (bytes_high_first k n) ≡ k
@@ -146,37 +144,30 @@ pub in_order : (es : List PlainEntry) → EntriesInOrder es → InOrder es
 in_order [] o = tt
 in_order (e ∷ es) o = (o.0, in_order es o.1)
 
--- ---- a visit of a border advances
--- the border is not marked deleted, and the slice stands before its right neighbour
-pub record IsAliveFor (b : BorderView) (slice : ℕ) : Type 0 where
-  pub alive : b.version.deleted ≡ false
-  pub to_right : Below slice (border_seen b).right
+-- ---- a visit of what was read of a border advances: each node to which that leads, there is a move
+module _ (a : ArenaView) (number : ℕ) (list : ListView) (c d : CursorView) (visited : ScanMove) (passes : Below (first_slice c.at) (list_right list)) (moves : (next : ℕ) → LeadsOn list next → Moves (arena_seen a) number next)
+    (leads : GoesFrom list visited) (onward : GoesOnward c list visited d) (within : (places : ℕ) → cursor_of places c < all_cursors places) (arena : IsArena a) where
+  move_or_home : (next : ℕ) → LeadsOn list next ⊎ (next ≡ 0) → Moves (arena_seen a) number next ⊎ (next ≡ 0)
+  move_or_home next (inl on) = inl (moves next on)
+  move_or_home next (inr home) = inr home
 
--- to each node to which a border leads, there is a move
-border_moves : (a : ArenaView) (number : ℕ) (b : BorderView) → border_at a.nodes number ≡ Some b → IsBorder b → b.version.deleted ≡ false → (next : ℕ) → LeadsOn (list_of b) next ⊎ (next ≡ 0)
-    → Moves (arena_seen a) number next ⊎ (next ≡ 0)
-border_moves a number b named sound alive next (inl (inl (right, is, same))) = inl (to_right (border_seen b) right (seen-border a number b named) alive is same)
-border_moves a number b named sound alive next (inl (inr (slice, there))) = inl (to_link (border_seen b) slice next (seen-border a number b named) alive sound.low_fits there refl)
-border_moves a number b named sound alive next (inr home) = inr home
-
-module _ (a : ArenaView) (number : ℕ) (b : BorderView) (c d : CursorView) (visited : ScanMove) (named : border_at a.nodes number ≡ Some b) (sound : IsBorder b) (alive : IsAliveFor b (first_slice c.at))
-    (leads : GoesFrom (list_of b) visited) (onward : GoesOnward c (list_of b) visited d) (within : (places : ℕ) → cursor_of places c < all_cursors places) (arena : IsArena a) where
   pub scans_on : (next : NodeNo) → visited ≡ VisitedTo next → ScansOn a number next.0 c d
   scans_on next to = record {
-    gets_on = λ places layer. subst (λ (v : ScanMove). GetsOn places c v d) to (onward places (record { layer = layer; to_right = alive.to_right }));
+    gets_on = λ places layer. subst (λ (v : ScanMove). GetsOn places c v d) to (onward places (record { layer = layer; to_right = passes }));
     within = within;
-    leads = border_moves a number b named sound alive.alive next.0 (subst (λ (v : ScanMove). GoesFrom (list_of b) v) to leads);
+    leads = move_or_home next.0 (subst (λ (v : ScanMove). GoesFrom list v) to leads);
     sound = arena;
   }
 
   pub scans_top : visited ≡ Top → ScansOn a number 0 c d
   scans_top to = record {
-    gets_on = λ places layer. inl (subst (λ (v : ScanMove). GetsOn places c v d) to (onward places (record { layer = layer; to_right = alive.to_right })));
+    gets_on = λ places layer. inl (subst (λ (v : ScanMove). GetsOn places c v d) to (onward places (record { layer = layer; to_right = passes })));
     within = within;
     leads = inr refl;
     sound = arena;
   }
 
+-- ---- the rows of a border are those of keys
 module _ (a : ArenaView) (now begun number slice : ℕ) (w : World) (prefix : List ℕ) (b : BorderView) (world : IsWorld a now w) (held : Holds w.chart begun number prefix slice) (named : border_at a.nodes number ≡ Some b) (alive : b.version.deleted ≡ false) where
   stands : OnBorder (arena_seen a) w.chart number prefix (border_seen b)
   stands = (border_is_on (arena_seen a) w.chart world.index.tree begun number slice prefix (border_seen b) held (seen-border a number b named) alive).0
@@ -309,28 +300,6 @@ module _ (a : ArenaView) (range : Range) where
           };
     }
 
-    -- what is true of it stays
-    pub goes_by_stays : scan.limit ≡ range.scan.limit → scan.asked ≡ range.scan.asked → (next : NodeNo) → visited ≡ VisitedTo next → RangeStays a range Moved (with_scan scan next)
-    goes_by_stays limit asked next to now begun moves past w world truth = record {
-      bytes = truth.bytes;
-      limit = limit ∙ truth.limit;
-      asked = asked ∙ truth.asked;
-      keys = truth.keys;
-      listing = tt;
-      scans = subst (λ (v : ScanMove). ComesIf w begun past v) to (comes now begun moves past w world truth);
-    }
-
-    pub tops_by_stays : scan.limit ≡ range.scan.limit → scan.asked ≡ range.scan.asked → (visited ≡ Top → scan.prefix ≡ []) → visited ≡ Top → RangeStays a range Moved (with_scan scan (record { 0 = 0 }))
-    tops_by_stays limit asked home to now begun moves past w world truth = record {
-      bytes = truth.bytes;
-      limit = limit ∙ truth.limit;
-      asked = asked ∙ truth.asked;
-      keys = truth.keys;
-      listing = tt;
-      scans = subst (λ (p : List ℕ). OpenRange w.chart begun (Stood (shown range.columns) (arena_seen a ∷ past)) (AllHave (arena_seen a ∷ past)) (place_of range.start) range.limit p 0 scan.at (as_places scan.taken)) (sym (home to))
-          (subst (λ (v : ScanMove). ComesIf w begun past v) to (comes now begun moves past w world truth));
-    }
-
     pub answers_by : visited ≡ Done → (pairs : List (List ℕ × Row)) → pairs ≡ scan.taken → KeysAreBytes scan.taken → (next : Range) (log : LogView) → RangeLaw log (Answered (RowsAnswer pairs)) next
     answers_by to pairs are bytes next log C = subst (λ (ps : List (List ℕ × Row)). StepLaw C a a log log (range_request range) nothing (Answered (RowsAnswer ps)) nothing (RangeIsTrue range) (RangeIsTrue next)) (sym are) (record {
       steps = λ now begun moves past w world before truth.
@@ -345,51 +314,6 @@ module _ (a : ArenaView) (range : Range) where
           };
     })
 
-  module _ (sought : Sought) (seeks : Seeks a range.node.0 (first_slice range.scan.at) sought) where
-    pub range_moves : (next : NodeNo) → sought ≡ To next → (log : LogView) → RangeLaw log Moved (with_scan range.scan next)
-    range_moves next is = moves_by next (λ now begun moves past w world truth.
-        subst (λ (s : Sought). KnowsOfSlice a w.chart begun range.node.0 range.scan.prefix (first_slice range.scan.at) s) is (seeks.leads now w.twins w.chart begun range.scan.prefix world.index truth.scans.held))
-
-    -- what is true of it stays
-    pub range_moves_stays : (next : NodeNo) → sought ≡ To next → RangeStays a range Moved (with_scan range.scan next)
-    range_moves_stays next is now begun moves past w world truth =
-        let held = subst (λ (s : Sought). KnowsOfSlice a w.chart begun range.node.0 range.scan.prefix (first_slice range.scan.at) s) is (seeks.leads now w.twins w.chart begun range.scan.prefix world.index truth.scans.held) in
-        record { bytes = truth.bytes; limit = truth.limit; asked = truth.asked; scans = record { held = held; scanned = truth.scans.scanned }; keys = truth.keys; listing = tt }
-
-    here_is : (now begun : ℕ) (w : World) → IsWorld a now w → Holds w.chart begun range.node.0 range.scan.prefix (first_slice range.scan.at) → sought ≡ Here → IsAtSlice a range.node.0 (first_slice range.scan.at)
-    here_is now begun w world held is = subst (λ (s : Sought). KnowsOfSlice a w.chart begun range.node.0 range.scan.prefix (first_slice range.scan.at) s) is (seeks.leads now w.twins w.chart begun range.scan.prefix world.index held)
-
-    module _ (b : BorderView) (named : border_at a.nodes range.node.0 ≡ Some b) (is : sought ≡ Here) where
-      same_border : (here : IsAtSlice a range.node.0 (first_slice range.scan.at)) → here.border ≡ b
-      same_border here = let both : ◌≡◌ {A = Option BorderView} (Some here.border) (Some b) = sym here.named ∙ named in cc
-
-      -- whose rows are those of keys
-      range_keys : (now begun moves : ℕ) (past : List Arena) (w : World) → IsWorld a now w → RangeIsTrue range begun moves past a w → HoldsKeys range.scan.prefix b.live
-      range_keys now begun moves past w world truth =
-          let here = here_is now begun w world truth.scans.held is in
-          holds_keys a now begun range.node.0 (first_slice range.scan.at) w range.scan.prefix b world truth.scans.held named (ap (λ (x : BorderView). x.version.deleted) (sym (same_border here)) ∙ here.alive)
-
-      -- which is not marked deleted, and in whose interval the slice is
-      range_may_get_on : (now begun moves : ℕ) (past : List Arena) (w : World) → IsWorld a now w → RangeIsTrue range begun moves past a w → IsAliveFor b (first_slice range.scan.at)
-      range_may_get_on now begun moves past w world truth =
-          let here = here_is now begun w world truth.scans.held is in
-          subst (λ (x : BorderView). IsAliveFor x (first_slice range.scan.at)) (same_border here) (record { alive = here.alive; to_right = here.to_right })
-
-      module _ (sound : IsBorder b) (visited : ScanMove) (scan : ScanView) (visits : VisitsList range.scan (list_of b) visited scan) where
-        pub comes : (now begun moves : ℕ) (past : List Arena) (w : World) → IsWorld a now w → RangeIsTrue range begun moves past a w
-            → Comes w.chart begun (Stood (shown range.columns) (arena_seen a ∷ past)) (AllHave (arena_seen a ∷ past)) (place_of range.start) range.limit (outcome_of visited scan)
-        comes now begun moves past w world truth =
-            let here = here_is now begun w world truth.scans.held is in
-            let same = same_border here in
-            range_visits (shown range.columns) (arena_seen a) w.chart world.index.tree begun (Stood (shown range.columns) (arena_seen a ∷ past)) (AllHave (arena_seen a ∷ past)) (λ key row h. inl (row, h, refl)) (λ key t. t.0)
-            (place_of range.start) range.limit range.scan.prefix range.node.0 range.scan.at (as_places range.scan.taken) truth.scans
-            (border_seen b) (seen-border a range.node.0 b named) (ap (λ (x : BorderView). x.version.deleted) (sym same) ∙ here.alive) (in_order (border_seen b).entries (entries_in_order b sound))
-            (subst (λ (x : BorderView). Below (first_slice range.scan.at) (border_seen x).right) same here.to_right)
-            (outcome_of visited scan) (at_own truth.limit truth.asked)
-          where
-            at_own : range.scan.limit ≡ range.limit → range.scan.asked ≡ range.columns → VisitsList (record range.scan { limit = range.limit; asked = range.columns }) (list_of b) visited scan
-            at_own limit asked = subst (λ (s : ScanView). VisitsList s (list_of b) visited scan) (ap (λ (l : ℕ). record range.scan { limit = l }) limit ∙ ap (λ (c : List ℕ). record range.scan { limit = range.limit; asked = c }) asked) visits
-
   pub range_fails : (next : Range) (log : LogView) → RangeLaw log (Refused NoMemory) next
   range_fails next log C = record {
     steps = λ now begun moves past w world before truth. record {
@@ -401,40 +325,3 @@ module _ (a : ArenaView) (range : Range) where
       may = tt;
     };
   }
-
--- what a range holds
-range_may : (a : ArenaView) (range : Range) (now begun moves : ℕ) (past : List Arena) (w : World) → IsWorld a now w → RangeIsTrue range begun moves past a w → (slice : ℕ) → slice ≡ first_slice range.scan.at → IsHeldFor a range.node.0 slice
-range_may a range now begun moves past w world truth slice is =
-    record { now = now; twins = w.twins; chart = w.chart; begun = begun; prefix = range.scan.prefix; index = world.index; holds = subst (λ (s : ℕ). Holds w.chart begun range.node.0 range.scan.prefix s) (sym is) truth.scans.held }
-
-pub range_node : (a : ArenaView) (range : Range) (log : LogView) → MayStep a log nothing (RangeIsTrue range) → IsSome (node_at a.nodes range.node.0)
-range_node a range log may =
-    let held = range_may a range may.now may.begun may.moves may.past may.w may.world may.true (first_slice range.scan.at) refl in
-    (held_may_visit a held.now held.twins held.chart held.begun range.node.0 (first_slice range.scan.at) held.prefix held.index held.holds).named
-
--- ---- it is lent the node at which it is
-module _ (range : Range) (node : Node) (may : RangeMayVisit range node) where
-  pub range_may_visit : (slice : ℕ) → slice ≡ first_slice range.scan.at → IsHeldNode node slice
-  range_may_visit slice is =
-      let at = may.may in
-      record { arena = may.arena; number = range.node.0; names = may.names; held = range_may may.arena range at.now at.begun at.moves at.past at.w at.world at.true slice is }
-
-  module _ (sought : Sought) (slice : ℕ) (seeks : (a : ArenaView) (number : ℕ) → Names a number node → Seeks a number slice sought) (slice_is : slice ≡ first_slice range.scan.at)
-      (b : BorderView) (is_border : border_of node ≡ Some b) (is : sought ≡ Here) where
-    sought_here : Seeks may.arena range.node.0 (first_slice range.scan.at) sought
-    sought_here = subst (λ (s : ℕ). Seeks may.arena range.node.0 s sought) slice_is (seeks may.arena range.node.0 may.names)
-
-    named_here : border_at may.arena.nodes range.node.0 ≡ Some b
-    named_here = names_border may.arena range.node.0 node b may.names is_border
-
-    -- the border's rows are those of keys
-    pub range_keys_of : HoldsKeys range.scan.prefix b.live
-    range_keys_of =
-        let at = may.may in
-        range_keys may.arena range sought sought_here b named_here is at.now at.begun at.moves at.past at.w at.world at.true
-
-    -- it is not marked deleted, and the slice is in its interval
-    pub alive_for : IsAliveFor b (first_slice range.scan.at)
-    alive_for =
-        let at = may.may in
-        range_may_get_on may.arena range sought sought_here b named_here is at.now at.begun at.moves at.past at.w at.world at.true

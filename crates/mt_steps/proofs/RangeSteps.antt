@@ -20,6 +20,7 @@ use Rattle.mt_chart.specs.KeyAnswer.{as_places}
 use Rattle.mt_chart.proofs.Ranges.{holds_top, noted_visits}
 use Rattle.mt_tree.specs.Seen.{arena_seen, entry_seen, entry_place, entries_seen, right_seen}
 use Rattle.mt_tree.proofs.SeenLemmas.{among_map}
+use Rattle.mt_scan.specs.Listed.{list_of}
 use Rattle.mt_scan.specs.Scan.{ScanView, HoldsKey, HoldsKeys, VisitsList, outcome_of}
 use Rattle.mt_scan.specs.declared.scan.ScanMove.{ScanMove}
 use Rattle.mt_scan.specs.declared.scan.ScanMove.TheVariants.{Done, To as VisitedTo, Top}
@@ -66,7 +67,7 @@ module _ (a : ArenaView) (range : Range) (fits : first_slice range.scan.at < 2 ^
   range_leads part lent now begun moves past w world truth = list_leads (shown range.columns) a now w world begun range.scan.prefix slice range.node.0 past fits truth.scans.held range.listing truth.listing part lent
 
   -- the visit of what it has read keeps the fact of its scan, or ends with the right answer
-  list_comes : (entries : List Entry) (right : Option RightLink) → LeadsAt (Lists entries right) → (visited : ScanMove) (scan : ScanView) → VisitsList range.scan (record { entries = entries; right = right }) visited scan
+  list_comes : (entries : List Entry) (right : Option RightLink) → LeadsAt (Lists entries right) → (visited : ScanMove) (scan : ScanView) → VisitsList range.scan (list_of entries right) visited scan
       → (now begun moves : ℕ) (past : List Arena) (w : World) → IsWorld a now w → RangeIsTrue range begun moves past a w
       → Comes w.chart begun (Stood (shown range.columns) (arena_seen a ∷ past)) (AllHave (arena_seen a ∷ past)) (place_of range.start) range.limit (outcome_of visited scan)
   list_comes entries right leads visited scan visits now begun moves past w world truth =
@@ -78,8 +79,8 @@ module _ (a : ArenaView) (range : Range) (fits : first_slice range.scan.at < 2 ^
       as_node : ℕ → BorderNode
       as_node low = record { deleted = false; locked = false; low = low; entries = entries_seen entries; right = option_map right_seen right }
 
-      at_own : range.scan.limit ≡ range.limit → range.scan.asked ≡ range.columns → VisitsList (record range.scan { limit = range.limit; asked = range.columns }) (record { entries = entries; right = right }) visited scan
-      at_own limit asked = subst (λ (s : ScanView). VisitsList s (record { entries = entries; right = right }) visited scan) (ap (λ (l : ℕ). record range.scan { limit = l }) limit ∙ ap (λ (c : List ℕ). record range.scan { limit = range.limit; asked = c }) asked) visits
+      at_own : range.scan.limit ≡ range.limit → range.scan.asked ≡ range.columns → VisitsList (record range.scan { limit = range.limit; asked = range.columns }) (list_of entries right) visited scan
+      at_own limit asked = subst (λ (s : ScanView). VisitsList s (list_of entries right) visited scan) (ap (λ (l : ℕ). record range.scan { limit = l }) limit ∙ ap (λ (c : List ℕ). record range.scan { limit = range.limit; asked = c }) asked) visits
 
   abbrev Law : LogView → Progress → Range → Type 0
   Law log p new = (C : ℕ) → StepLaw C a a log log (range_request range) nothing p nothing (RangeIsTrue range) (RangeIsTrue new)
@@ -87,7 +88,7 @@ module _ (a : ArenaView) (range : Range) (fits : first_slice range.scan.at < 2 ^
   at : (log : LogView) (p q : Progress) (new then : Range) → p ≡ q → new ≡ then → Law log q then → Law log p new
   at log p q new then progress is law = subst (λ (x : Progress). Law log x new) (sym progress) (subst (λ (x : Range). Law log q x) (sym is) law)
 
-  scans : (log : LogView) (p : Progress) (new : Range) (entries : List Entry) (right : Option RightLink) → LeadsAt (Lists entries right) → RangeScans (unread range) (record { entries = entries; right = right }) p new → Law log p new
+  scans : (log : LogView) (p : Progress) (new : Range) (entries : List Entry) (right : Option RightLink) → LeadsAt (Lists entries right) → RangeScans (unread range) (list_of entries right) p new → Law log p new
   scans log p new entries right leads s = go s.visited refl s.ends
     where
       coming : (now begun moves : ℕ) (past : List Arena) (w : World) → IsWorld a now w → RangeIsTrue range begun moves past a w
@@ -161,7 +162,7 @@ module _ (a : ArenaView) (range : Range) (slice : ℕ) (is_slice : slice ≡ fir
     reads_does reading is dest begins p new done =
         let same = subst (λ (r : Result ListReading NoMemoryError). IfOk r (λ x. x ≡ list_reading range.listing (first_slice range.scan.at) own_reads.part)) is own_reads.does in
         let unread_does = subst (λ (l : Listing). RangeDoes (record range { listing = l }) reading p new) begins done in
-        record { part = own_reads.part; lent = own_reads.lent; does = inr (subst (λ (r : ListReading). RangeDoes (unread range) r p new) same unread_does) }
+        record { part = own_reads.part; fits = own_fits; lent = own_reads.lent; does = inr (subst (λ (r : ListReading). RangeDoes (unread range) r p new) same unread_does) }
 
     pub steps_on : (reading : ListReading) → result ≡ Ok reading → (dest : Listing) → dest ≡ Begins → (p : Progress) (new : Range) → RangeDoes (record range { listing = dest }) reading p new
         → (C : ℕ) (log : LogView) → StepLaw C a a log log (range_request range) nothing p nothing (RangeIsTrue range) (RangeIsTrue new)

@@ -23,7 +23,7 @@ use Rattle.mt_steps.specs.declared.way.Way.{Way}
 use Rattle.mt_steps.specs.declared.way.Went.{Went}
 use Rattle.mt_steps.specs.declared.way.Went.TheVariants.{To, Here}
 use Rattle.mt_steps.specs.World.{World, IsWorld}
-use Rattle.mt_steps.specs.Way.{prefix_of, rest_of, IsLayerOf, IsOnWay, IsAtPlace, IsHeadOf, Names, Visits, VisitIs, went_by, went_at}
+use Rattle.mt_steps.specs.Way.{prefix_of, rest_of, IsLayerOf, IsOnWay, IsAtPlace, IsHeadOf, Names, Visits, went_by, went_at}
 use Rattle.mt_steps.specs.Causes.{IsMarkedAt}
 
 -- one layer deeper
@@ -135,18 +135,9 @@ no_border_here rest way (HeadNode h) went is not e = (let some : IsSome (border_
 no_border_here rest way (InteriorNode i) went is not e = (let some : IsSome (border_of (InteriorNode i)) = border_here rest (InteriorNode i) (if_here (node_visit rest (InteriorNode i)) way (sym is ∙ e)) in cc)
 no_border_here rest way (BorderNode b) went is not e = not b refl
 
-pub has_border : (key : List ℕ) (way : Way) (node : Node) → Here ≡ went_at key way node → IsSome (border_of node)
-has_border key way node is = border_here (rest_of key way) node (if_here (node_visit (rest_of key way) node) way (sym is))
-
 -- ---- what is true of a node that is lent, said of its number
 pub names_border : (a : ArenaView) (number : ℕ) (node : Node) (b : BorderView) → Names a number node → border_of node ≡ Some b → border_at a.nodes number ≡ Some b
 names_border a number node b names is = ap (option_and_then border_of) names.named ∙ is
 
-pub names_some : (a : ArenaView) (number : ℕ) (node : Node) → Names a number node → IsSome (border_of node) → IsSome (border_at a.nodes number)
-names_some a number node names some = subst (λ (b : Option BorderView). IsSome b) (sym (ap (option_and_then border_of) names.named)) some
-
 pub names_marked : (a : ArenaView) (number : ℕ) (node : Node) → Names a number node → is_marked node ≡ true → IsMarkedAt a number
 names_marked a number node names marked = subst (λ (n : Option Node). IsSomeAnd n (λ x. is_marked x ≡ true)) (sym names.named) marked
-
-pub names_visit : (a : ArenaView) (key : List ℕ) (way : Way) (node : Node) (went : Went) → Names a way.node.0 node → went ≡ went_at key way node → VisitIs a key way went
-names_visit a key way node went names is = subst (λ (n : Option Node). IsSomeAnd n (λ x. went ≡ went_at key way x)) (sym names.named) is

@@ -9,7 +9,7 @@ use Rattle.mt_steps.specs.declared.finding.Finding.TheVariants.{AtValue}
 use Rattle.mt_steps.specs.declared.listing.Listing.{Listing}
 use Rattle.mt_steps.specs.declared.listing.Listing.TheVariants.{Reads as ReadsKey, AtValue as ReadsValue}
 use Rattle.mt_steps.specs.declared.progress.Progress.{Progress}
-use Rattle.mt_steps.specs.declared.progress.Progress.TheVariants.{Waits, Refused}
+use Rattle.mt_steps.specs.declared.progress.Progress.TheVariants.{Refused}
 
 -- the number names a node that is marked deleted
 abbrev pub IsMarkedAt : ArenaView → ℕ → Type 0
@@ -18,11 +18,6 @@ IsMarkedAt a number = IsSomeAnd (node_at a.nodes number) (λ node. is_marked nod
 -- the number names a border that is locked
 abbrev pub IsLockedAlready : ArenaView → ℕ → Type 0
 IsLockedAlready a number = IsSomeAnd (border_at a.nodes number) (λ b. b.version.locked ≡ true)
-
--- a get or range that visits nodes whole waits only if the node is marked deleted: never at a lock
-abbrev pub ReadWaits : ArenaView → ℕ → Progress → Type 0
-ReadWaits a number Waits = IsMarkedAt a number
-ReadWaits a number _ = Unit {0}
 
 -- a get or range is refused only when it is out of memory, and only at a border: a visit of a head or an interior takes
 -- none

@@ -2,7 +2,6 @@
 use Rattle.std.specs.Prelude.{ℕ, ◌≡◌, ◌≢◌, ◌≤◌, ◌<◌, ◌+◌, ◌*◌, ◌⊎◌, List, ◌∷◌, length, slice_index, Option, None, IsSomeAnd, true}
 use Rattle.std.specs.Option.{option_map}
 use Rattle.mt_types.specs.Rows.{shown}
-use Rattle.mt_types.specs.declared.event.Answer.{Answer}
 use Rattle.mt_types.specs.declared.event.Request.{Request}
 use Rattle.mt_types.specs.declared.event.Request.TheVariants.{Get as GetRequest}
 use Rattle.mt_types.specs.declared.refusal.Refusal.TheVariants.{NoMemory}
@@ -45,12 +44,10 @@ use Rattle.mt_steps.specs.declared.getting.Get.{Get}
 use Rattle.mt_steps.specs.declared.progress.Progress.{Progress}
 use Rattle.mt_steps.specs.declared.progress.Progress.TheVariants.{Moved, Waits, Answered, Refused}
 use Rattle.mt_steps.specs.Finding.{counters_of, is_flagged, at_version, at_right, at_order, at_key, at_value}
-use Rattle.mt_steps.specs.declared.way.Went.TheVariants.{To as WentTo, Here as WentHere}
 use Rattle.mt_steps.specs.Causes.{TakesMemory}
-use Rattle.mt_steps.specs.World.{World, IsWorld}
+use Rattle.mt_steps.specs.World.{World}
 use Rattle.mt_steps.specs.Standing.{Lends, StandsAt, Still, IsBounded}
-use Rattle.mt_steps.specs.Way.{IsLayerOf, IsOnWay, IsAtPlace, Visits, VisitIs, prefix_of, rest_of, start}
-use Rattle.mt_steps.specs.Step.{IsRight}
+use Rattle.mt_steps.specs.Way.{IsLayerOf, IsOnWay, prefix_of, rest_of, start}
 
 abbrev pub get_request : Get → Request
 get_request get = GetRequest get.key get.columns
@@ -203,15 +200,3 @@ pub record GetFollows (a : ArenaView) (get : Get) (p : Progress) (new : Get) : T
   pub lent : Lends a get.way.node.0 (wants get.finding) part
   pub does : ((p ≡ Refused NoMemory) × TakesMemory get.finding)
       ⊎ ((p ≡ progress_of (reading_of get part)) × (new ≡ get_after get (reading_of get part)))
-
--- ---- whole visits, of a get alone: what is read at the place of a key is right at that moment
-pub record ReadsWhole (a : ArenaView) (key : List ℕ) (way : Way) (asked : List ℕ) (answer : Answer) : Type 0 where
-  pub reads : (now : ℕ) (w : World) → IsWorld a now w → IsAtPlace a key way w → (past : List Arena)
-      → IsRight past a (GetRequest key asked) None answer
-
--- If it moves, it goes to the node to which that visit leads; if it waits, it begins its way again; it answers, or is
--- refused, only if the node is its key's border. It has read nothing of the next node.
-abbrev pub GetVisits : ArenaView → Get → Progress → Get → Type 0
-GetVisits a get Moved new = Visits a get.key get.way (WentTo new.way) × (new.finding ≡ Begins)
-GetVisits a get Waits new = (new.way ≡ start) × (new.finding ≡ Begins)
-GetVisits a get _ new = VisitIs a get.key get.way WentHere × (new.finding ≡ Begins)

@@ -1,5 +1,5 @@
 -- What is true of a range.
-use Rattle.std.specs.Prelude.{ℕ, ◌≡◌, ◌<◌, ◌+◌, ◌⊎◌, ◌^◌, List, [], ◌∷◌, length, Some, false}
+use Rattle.std.specs.Prelude.{ℕ, ◌≡◌, ◌<◌, ◌⊎◌, ◌^◌, List, [], ◌∷◌, length, Some, false}
 use Rattle.mt_types.specs.declared.refusal.Refusal.TheVariants.{NoMemory}
 use Rattle.mt_types.specs.Rows.{shown}
 use Rattle.mt_types.specs.declared.event.Answer.TheVariants.{Rows}
@@ -11,7 +11,6 @@ use Rattle.mt_arena.specs.Node.{border_at}
 use Rattle.mt_arena.specs.declared.part.Part.{Part}
 use Rattle.mt_arena.specs.declared.node.Node.{Node}
 use Rattle.mt_arena.specs.Arena.{ArenaView, IsArena}
-use Rattle.mt_commit.specs.Log.{LogView}
 use Rattle.mt_chart.specs.Tree.{Arena, Below}
 use Rattle.mt_chart.specs.Chart.{Chart, Holds}
 use Rattle.mt_chart.specs.Steps.{Twin}
@@ -22,7 +21,7 @@ use Rattle.mt_chart.specs.Walk.{Moves}
 use Rattle.mt_tree.specs.Seen.{arena_seen, border_seen}
 use Rattle.mt_tree.specs.Keeping.{IsIndexAt}
 use Rattle.mt_scan.specs.Cursor.{CursorView}
-use Rattle.mt_scan.specs.Onward.{cursor_in, cursor_of, all_cursors, GetsOn}
+use Rattle.mt_scan.specs.Onward.{cursor_in, cursor_of, all_cursors, GetsOn, GoesOnward}
 use Rattle.mt_scan.specs.declared.scan.ScanMove.{ScanMove}
 use Rattle.mt_scan.specs.declared.scan.ScanMove.TheVariants.{To as VisitedTo, Top as VisitedTop, Done as VisitDone}
 use Rattle.mt_scan.specs.Listed.{ListView, list_of}
@@ -37,10 +36,9 @@ use Rattle.mt_steps.specs.declared.ranging.Sought.{Sought}
 use Rattle.mt_steps.specs.declared.ranging.Sought.TheVariants.{Again, To, Here}
 use Rattle.mt_steps.specs.Causes.{KeepsSlot}
 use Rattle.mt_steps.specs.Way.{start, Names}
-use Rattle.mt_steps.specs.Step.{MayStep, nothing}
 use Rattle.mt_steps.specs.Standing.{Lends}
 use Rattle.mt_steps.specs.Listing.{list_wants, list_reading, WaitsForField, ListingIsTrue}
-use Rattle.mt_steps.specs.World.{World, IsWorld, AreOfKeys}
+use Rattle.mt_steps.specs.World.{World, AreOfKeys}
 
 abbrev pub range_request : Range → Request
 range_request range = RangeRequest range.start range.limit range.columns
@@ -74,13 +72,6 @@ pub record IsHeldNode (node : Node) (slice : ℕ) : Type 0 where
   pub number : ℕ
   pub names : Names arena number node
   pub held : IsHeldFor arena number slice
-
--- a range is lent the node at which it is, and may visit it
-pub record RangeMayVisit (range : Range) (node : Node) : Type 0 where
-  pub arena : ArenaView
-  pub log : LogView
-  pub names : Names arena range.node.0 node
-  pub may : MayStep arena log nothing (RangeIsTrue range)
 
 -- the border is the one in whose interval the slice is, and is not marked deleted
 pub record IsAtSlice (a : ArenaView) (number slice : ℕ) : Type 0 where
@@ -121,39 +112,6 @@ ScanGoes a number next c d = (SeeksOn a number next c × (d ≡ c)) ⊎ ScansOn 
 abbrev pub restarted : ScanView → ScanView
 restarted scan = record scan { prefix = []; at = under scan.prefix scan.at }
 
--- the visit of the one border at which it is leads its scan further in this way
-pub record ScansBorder (a : ArenaView) (range : Range) (visited : ScanMove) (scan : ScanView) : Type 0 where
-  pub border : BorderView
-  pub stands : border_at a.nodes range.node.0 ≡ Some border
-  pub visits : VisitsList range.scan (list_of border) visited scan
-
--- a scan that continues is then at the node of this number
-abbrev pub IsThen : ScanMove → ℕ → Type 0
-IsThen (VisitedTo next) number = number ≡ next.0
-IsThen VisitedTop number = number ≡ start.node.0
-IsThen VisitDone number = ⊥
-
--- on its way its scan is as it was; and else it visits the border at which it is
-abbrev pub Scans : ArenaView → Range → Range → Type 0
-Scans a range new = (new.scan ≡ range.scan)
-    ⊎ ((visited : ScanMove) × ScansBorder a range visited new.scan × IsThen visited new.node.0)
-
--- A STEP VISITS ONE NODE. If it moves, its scan advances; if it waits, it begins its way again; it answers if that node
--- is the border at which its scan ends, with all that the scan has taken.
-abbrev pub RangeFollows : ArenaView → Range → Progress → Range → Type 0
-RangeFollows a range Moved new =
-    ScanGoes a range.node.0 new.node.0 (cursor_in range.scan) (cursor_in new.scan) × Scans a range new
-RangeFollows a range Waits new = (new.node ≡ start.node) × (new.scan ≡ restarted range.scan)
-RangeFollows a range (Answered answer) new =
-    (scan : ScanView) × ScansBorder a range VisitDone scan × (answer ≡ Rows scan.taken)
-RangeFollows a range _ new = Unit {0}
-
--- if it moves, and nothing else happens meanwhile, what was true of it is true again
-abbrev pub RangeStays : ArenaView → Range → Progress → Range → Type 0
-RangeStays a range Moved new = (now begun moves : ℕ) (past : List Arena) (w : World) → IsWorld a now w
-    → RangeIsTrue range begun moves past a w → RangeIsTrue new begun (moves + 1) past a w
-RangeStays a range _ new = Unit {0}
-
 -- ---- one field a step
 -- its scan has visited what it has read of a border, and comes to this
 abbrev pub ScanEnds : Range → ScanView → ScanMove → Progress → Range → Type 0
@@ -168,6 +126,8 @@ pub record RangeScans (range : Range) (list : ListView) (p : Progress) (new : Ra
   pub limit : scan.limit ≡ range.scan.limit
   pub asked : scan.asked ≡ range.scan.asked
   pub home : visited ≡ VisitedTop → scan.prefix ≡ []
+  pub onward : GoesOnward (cursor_in range.scan) list visited (cursor_in scan)
+  pub within : (places : ℕ) → cursor_of places (cursor_in range.scan) < all_cursors places
   pub ends : ScanEnds range scan visited p new
 
 -- what it does by a reading
@@ -177,7 +137,7 @@ RangeDoes range Repeats p new = (p ≡ Waits) × (new ≡ range)
 RangeDoes range (GoesOn next) p new = (p ≡ Moved) × (new ≡ record range { listing = next })
 RangeDoes range (ReadTo node) p new = (p ≡ Moved) × (new ≡ record range { node = node })
 RangeDoes range (Lists entries right) p new = (p ≡ Refused NoMemory)
-    ⊎ RangeScans range (record { entries = entries; right = right }) p new
+    ⊎ RangeScans range (list_of entries right) p new
 
 -- the rows of what it has read are those of keys
 abbrev pub ListHasKeys : List ℕ → ListReading → Type 0
@@ -188,10 +148,11 @@ ListHasKeys prefix _ = Unit {0}
 abbrev pub unread : Range → Range
 unread range = record range { listing = Begins }
 
--- A STEP READS ONE FIELD of one border, or visits one head or interior: it is lent that, and does what follows from it;
--- or it is out of memory, at a field that takes some
+-- A STEP READS ONE FIELD of one border, or visits one head or interior, on its way to a slice of 64 bits: it is lent that,
+-- and does what follows from it; or it is out of memory, at a field that takes some
 pub record RangeReads (a : ArenaView) (range : Range) (p : Progress) (new : Range) : Type 0 where
   pub part : Part
+  pub fits : first_slice range.scan.at < 2 ^ 64
   pub lent : Lends a range.node.0 (list_wants range.listing) part
   pub does : ((p ≡ Refused NoMemory) × KeepsSlot range.listing)
       ⊎ RangeDoes (unread range) (list_reading range.listing (first_slice range.scan.at) part) p new

@@ -1,34 +1,30 @@
-//! A get: its way to its key's border, and what it reads there. Among other calls it reads one field of a border a
-//! step.
+//! A get: its way to its key's border, and what it reads there, one field a step.
 
 ghost use Rattle.std.specs.Prelude.{◌≡◌, ℕ, ◌≤◌, ◌<◌, ◌-◌, ◌*◌, ◌⊎◌, length, IfOk, IsSome, Some, false, true};
 ghost use Rattle.mt_types.specs.declared.refusal.Refusal.TheVariants.{NoMemory as NoMemoryRefusal};
 ghost use Rattle.mt_slice.specs.Place.{AreBytes, slice_number};
 ghost use Rattle.mt_border.specs.Border.{row_at};
 ghost use Rattle.mt_commit.specs.Log.{LogView};
-ghost use Rattle.mt_arena.specs.Arena.{ArenaView};
-ghost use Rattle.mt_arena.specs.Node.{border_at};
 ghost use Rattle.mt_arena.specs.Parts.{IsField};
 ghost use Rattle.mt_tree.specs.Descent.{visit_head, visit_interior};
 ghost use Rattle.mt_steps.specs.Step.{StepLaw, MayStep, nothing};
-ghost use Rattle.mt_steps.specs.Causes.{ReadWaits, ReadFails};
-ghost use Rattle.mt_steps.specs.Way.{MayGoAt, Names, rest_of};
+ghost use Rattle.mt_steps.specs.Causes.{ReadFails};
+ghost use Rattle.mt_steps.specs.Way.{rest_of};
 ghost use Rattle.mt_steps.specs.declared.progress.Progress.TheVariants.{Refused};
 ghost use Rattle.mt_steps.specs.declared.finding.Reading.TheVariants.{Restarts};
-ghost use Rattle.mt_steps.specs.Getting.{get_request, wants, IsReading, by_visit, reading_of, progress_of, get_after, GetIsTrue, GetWaits, GetFollows, GetVisits, ReadsWhole};
+ghost use Rattle.mt_steps.specs.Getting.{get_request, wants, IsReading, by_visit, reading_of, progress_of, get_after, GetIsTrue, GetWaits, GetFollows};
 
 use crate::finding::{Finding, Reading, at_key, at_order, at_right, at_value, at_version};
 use crate::progress::Progress;
-use crate::way::{START, Way, Went, rest_of};
-use mt_arena::{Field, Node, Part};
-use mt_border::{Border, Content, Found};
+use crate::way::{START, Way, rest_of};
+use mt_arena::{Field, Part};
+use mt_border::{Border, Content};
 use mt_interior::{Head, Interior};
 use mt_slice::slice_of;
-use mt_tree::{Tree, Visit, find, visit_head, visit_interior};
-use mt_types::columns::shown;
+use mt_tree::{Tree, Visit, visit_head, visit_interior};
 use mt_types::event::Answer;
 use mt_types::key::Key;
-use mt_types::refusal::{NoMemory, Refusal};
+use mt_types::refusal::Refusal;
 use mt_types::row::{ColumnNumbers, Row};
 use std::alloc::Global;
 use std::mem;
@@ -53,27 +49,6 @@ pub fn row_at(border: &Border, place: usize) -> &Row
         Content::Short(_, row) => row,
         Content::Long(_, row) => row,
         Content::Link(_) => unreachable!(),
-    }
-}
-
-// Reads the row at the place of a key, if there is one.
-fn read(
-    alloc: Global,
-    border: &Border,
-    key: &Key,
-    way: Way,
-    asked: &ColumnNumbers,
-) -> Result<Answer, NoMemory>
-    requires { 8 * way.layer ≤ length key.now - 1 }
-    ensures { IfOk result (λ answer. (a : ArenaView) → border_at a.nodes way.node.0 ≡ Some border.now
-        → ReadsWhole a key.now way asked.now answer) }
-{
-    match find(border, rest_of(key, way.layer)) {
-        Found::Row(place) => {
-            let row = row_at(border, place);
-            Ok(Answer::Found(shown(alloc, asked, row)?))
-        }
-        Found::Absent(_) | Found::OtherSuffix(_) | Found::Link(_, _) => Ok(Answer::Absent),
     }
 }
 
@@ -160,53 +135,6 @@ impl Get {
             }
             Reading::Answers(answer) => Progress::Answered(answer),
         }
-    }
-
-    // Visits the node at which it is, whole, and is lent no other.
-    fn visit_whole(&mut self, alloc: Global, node: &Node) -> Progress
-        requires may { MayGoAt self.old.key self.old.way node.now }
-        requires begins { self.old.finding ≡ Finding.Begins }
-        ensures request { get_request self.new ≡ get_request self.old }
-        ensures steps { (a : ArenaView) → Names a self.old.way.node.0 node.now → (C : ℕ) (log : LogView)
-            → StepLaw C a a log log (get_request self.old) nothing result nothing (GetIsTrue self.old)
-            (GetIsTrue self.new) }
-        ensures waits { (a : ArenaView) → Names a self.old.way.node.0 node.now
-            → ReadWaits a self.old.way.node.0 result }
-        ensures fails { (a : ArenaView) → Names a self.old.way.node.0 node.now
-            → ReadFails a self.old.way.node.0 result }
-        ensures gets_on { (a : ArenaView) → Names a self.old.way.node.0 node.now
-            → GetVisits a self.old result self.new }
-    {
-        self.finding = Finding::Begins;
-        match self.way.visit_node(node, &self.key) {
-            Went::Again => {
-                self.way = START;
-                Progress::Waits
-            }
-            Went::To(next) => {
-                self.way = next;
-                Progress::Moved
-            }
-            Went::Here => match read(alloc, node.as_border(), &self.key, self.way, &self.columns) {
-                Ok(answer) => Progress::Answered(answer),
-                Err(_) => Progress::Refused(Refusal::NoMemory),
-            },
-        }
-    }
-
-    /// Visits one node, whole, as a get alone does: it is lent that node.
-    pub fn step_whole(&mut self, alloc: Global, tree: &Tree) -> Progress
-        requires may { (log : LogView) × MayStep tree.now log nothing (GetIsTrue self.old) }
-        requires begins { self.old.finding ≡ Finding.Begins }
-        ensures request { get_request self.new ≡ get_request self.old }
-        ensures steps { (C : ℕ) (log : LogView)
-            → StepLaw C tree.now tree.now log log (get_request self.old) nothing result nothing (GetIsTrue self.old)
-            (GetIsTrue self.new) }
-        ensures waits { ReadWaits tree.now self.old.way.node.0 result }
-        ensures fails { ReadFails tree.now self.old.way.node.0 result }
-        ensures gets_on { GetVisits tree.now self.old result self.new }
-    {
-        self.visit_whole(alloc, tree.node(self.way.node))
     }
 
     /// Reads one field of the border at which it is, or visits the head or interior node at which it is. It is lent

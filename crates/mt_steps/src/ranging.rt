@@ -2,6 +2,7 @@
 
 ghost use Rattle.std.specs.Prelude.{◌≡◌, ℕ, ◌⊎◌, IsSome, true};
 ghost use Rattle.mt_types.specs.declared.refusal.Refusal.TheVariants.{NoMemory as NoMemoryRefusal};
+ghost use Rattle.mt_scan.specs.Listed.{list_of};
 ghost use Rattle.mt_scan.specs.Scan.{HoldsKeys};
 ghost use Rattle.mt_steps.specs.declared.progress.Progress.TheVariants.{Refused};
 ghost use Rattle.mt_commit.specs.Log.{LogView};
@@ -12,14 +13,14 @@ ghost use Rattle.mt_tree.specs.Seen.{arena_seen};
 ghost use Rattle.mt_tree.specs.Descent.{is_marked};
 ghost use Rattle.mt_steps.specs.Way.{Names};
 ghost use Rattle.mt_steps.specs.Step.{StepLaw, MayStep, nothing};
-ghost use Rattle.mt_steps.specs.Causes.{IsMarkedAt, ReadWaits, ReadFails};
-ghost use Rattle.mt_steps.specs.Ranging.{range_request, RangeIsTrue, RangeFollows, RangeStays, RangeScans, RangeDoes, ListHasKeys, RangeReads, RangeWaits, IsHeldFor, IsHeldNode, RangeMayVisit, Seeks};
+ghost use Rattle.mt_steps.specs.Causes.{IsMarkedAt, ReadFails};
+ghost use Rattle.mt_steps.specs.Ranging.{range_request, RangeIsTrue, RangeScans, RangeDoes, ListHasKeys, RangeReads, RangeWaits, IsHeldFor, IsHeldNode, Seeks};
 
 use crate::listing::{ListReading, Listing};
 use crate::progress::Progress;
 use mt_arena::Node;
 use mt_border::{Entry, RightLink};
-use mt_scan::{Listed, Scan, ScanMove};
+use mt_scan::{Scan, ScanMove};
 use mt_tree::{TOP, Tree, Visit, visit_node};
 use mt_types::event::Answer;
 use mt_types::items::Items;
@@ -53,8 +54,8 @@ pub struct Range {
     pub listing: Listing,
 }
 
-/// Visits a node on the way to a slice of its layer, and is lent no other. No link leads further from a slice alone.
-pub fn seek_node(node: &Node, slice: u64) -> Sought
+// Visits a node on the way to a slice of its layer, and is lent no other. No link leads further from a slice alone.
+fn seek_node(node: &Node, slice: u64) -> Sought
     requires { IsHeldNode node.now slice }
     ensures seeks { (a : ArenaView) (number : ℕ) → Names a number node.now → Seeks a number slice result }
     ensures again { result ≡ Sought.Again → is_marked node.now ≡ true }
@@ -81,46 +82,6 @@ pub fn seek(tree: &Tree, number: NodeNo, slice: u64) -> Sought
 }
 
 impl Range {
-    // Visits the node at which it is, whole, and is lent no other.
-    fn visit_whole(&mut self, alloc: Global, node: &Node) -> Progress
-        requires may { RangeMayVisit self.old node.now }
-        requires begins { self.old.listing ≡ Listing.Begins }
-        ensures begins { self.new.listing ≡ Listing.Begins }
-        ensures request { range_request self.new ≡ range_request self.old }
-        ensures steps { (a : ArenaView) → Names a self.old.node.0 node.now → (C : ℕ) (log : LogView)
-            → StepLaw C a a log log (range_request self.old) nothing result nothing (RangeIsTrue self.old)
-            (RangeIsTrue self.new) }
-        ensures waits { (a : ArenaView) → Names a self.old.node.0 node.now → ReadWaits a self.old.node.0 result }
-        ensures fails { (a : ArenaView) → Names a self.old.node.0 node.now → ReadFails a self.old.node.0 result }
-        ensures gets_on { (a : ArenaView) → Names a self.old.node.0 node.now → RangeFollows a self.old result self.new }
-        ensures stays { (a : ArenaView) → Names a self.old.node.0 node.now → RangeStays a self.old result self.new }
-    {
-        self.listing = Listing::Begins;
-        match seek_node(node, self.scan.slice()) {
-            Sought::Again => {
-                self.scan.restart();
-                self.node = TOP;
-                Progress::Waits
-            }
-            Sought::To(next) => {
-                self.node = next;
-                Progress::Moved
-            }
-            Sought::Here => match self.scan.visit(alloc, Listed::Border(node.as_border())) {
-                Ok(ScanMove::To(next)) => {
-                    self.node = next;
-                    Progress::Moved
-                }
-                Ok(ScanMove::Top) => {
-                    self.node = TOP;
-                    Progress::Moved
-                }
-                Ok(ScanMove::Done) => Progress::Answered(Answer::Rows(self.scan.take_pairs(alloc))),
-                Err(_) => Progress::Refused(Refusal::NoMemory),
-            },
-        }
-    }
-
     // Its scan visits what it has read of a border.
     fn scan_list(
         &mut self,
@@ -131,12 +92,9 @@ impl Range {
         requires { HoldsKeys self.old.scan.prefix entries }
         ensures request { range_request self.new ≡ range_request self.old }
         ensures scans { (result ≡ Refused NoMemoryRefusal)
-            ⊎ RangeScans self.old (record { entries = entries; right = right }) result self.new }
+            ⊎ RangeScans self.old (list_of entries right) result self.new }
     {
-        match self
-            .scan
-            .visit(alloc, Listed::Entries(entries.as_slice(), right))
-        {
+        match self.scan.visit(alloc, entries.as_slice(), right) {
             Ok(ScanMove::To(next)) => {
                 self.node = next;
                 Progress::Moved
@@ -173,23 +131,6 @@ impl Range {
             }
             ListReading::Lists(entries, right) => self.scan_list(alloc, entries, right),
         }
-    }
-
-    /// Visits one node, whole, as a range alone does: it is lent that node.
-    pub fn step_whole(&mut self, alloc: Global, tree: &Tree) -> Progress
-        requires may { (log : LogView) × MayStep tree.now log nothing (RangeIsTrue self.old) }
-        requires begins { self.old.listing ≡ Listing.Begins }
-        ensures begins { self.new.listing ≡ Listing.Begins }
-        ensures request { range_request self.new ≡ range_request self.old }
-        ensures steps { (C : ℕ) (log : LogView)
-            → StepLaw C tree.now tree.now log log (range_request self.old) nothing result nothing (RangeIsTrue self.old)
-            (RangeIsTrue self.new) }
-        ensures waits { ReadWaits tree.now self.old.node.0 result }
-        ensures fails { ReadFails tree.now self.old.node.0 result }
-        ensures gets_on { RangeFollows tree.now self.old result self.new }
-        ensures stays { RangeStays tree.now self.old result self.new }
-    {
-        self.visit_whole(alloc, tree.node(self.node))
     }
 
     /// Reads one field of the border at which it is, or visits the head or interior node at which it is. It is lent

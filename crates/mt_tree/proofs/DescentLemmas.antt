@@ -170,7 +170,8 @@ first_up_to i slice sound some low = go i.children sound.starts some
         let passed : children_up_to slice (child ∷ children) ≡ 1 + children_up_to slice children = ap (λ b. cond b (1 + children_up_to slice children) 0) (le-leb child.low slice at_most) in
         omega (arith, passed)
 
-record UpTo (i : InteriorView) (slice : ℕ) : Type 0 where
+-- an interior node's child for a slice
+pub record UpTo (i : InteriorView) (slice : ℕ) : Type 0 where
   pub child : Child
   pub is : slice_get i.children (children_up_to slice i.children - 1) ≡ Some child
   pub among : Among child i.children
@@ -181,7 +182,7 @@ read_among [] k x e = absurd (cc)
 read_among (y ∷ ys) zero x e = let same : y ≡ x = cc in subst (λ (z : _). Among z (y ∷ ys)) same first
 read_among (y ∷ ys) (suc k) x e = later (read_among ys k x e)
 
-last_up_to : (i : InteriorView) (slice : ℕ) → IsInterior i → 0 < length i.children → i.low ≤ slice → UpTo i slice
+pub last_up_to : (i : InteriorView) (slice : ℕ) → IsInterior i → 0 < length i.children → i.low ≤ slice → UpTo i slice
 last_up_to i slice sound some low =
     let positive = first_up_to i slice sound some low in
     let count = children_up_to slice i.children in

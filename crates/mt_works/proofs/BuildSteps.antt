@@ -14,9 +14,11 @@ use Rattle.mt_arena.specs.declared.part.Part.{Part}
 use Rattle.mt_chart.specs.Tree.{Arena}
 use Rattle.mt_chart.proofs.Ranges.{holds_top}
 use Rattle.mt_tree.specs.Seen.{arena_seen}
+use Rattle.mt_scan.specs.Listed.{list_of}
+use Rattle.mt_scan.specs.Onward.{GoesFrom, GoesOnward, all_cursors, cursor_of}
 use Rattle.mt_scan.specs.declared.scan.ScanMove.{ScanMove}
 use Rattle.mt_scan.specs.declared.scan.ScanMove.TheVariants.{Done, To as VisitedTo, Top}
-use Rattle.mt_build.specs.Build.{BuildView, ComesTo, VisitsOn}
+use Rattle.mt_build.specs.Build.{BuildView, build_cursor, ComesTo, VisitsOn}
 use Rattle.mt_build.proofs.ReadLemmas.{restarts_keep, ways_keep}
 use Rattle.mt_steps.specs.declared.listing.Listing.{Listing}
 use Rattle.mt_steps.specs.declared.listing.Listing.TheVariants.{Begins}
@@ -47,7 +49,7 @@ module _ (a : ArenaView) (log : LogView) (old : Building) (scanning : old.upto �
   build_leads part lent now begun past w world truth = list_leads (shown []) a now w world begun old.build.prefix slice old.node.0 past fits truth.scans.held old.listing truth.reads part lent
 
   -- the visit of what it has read
-  list_comes : (entries : List Entry) (right : Option RightLink) → LeadsAt (Lists entries right) → (visited : ScanMove) (view : BuildView) → VisitsOn old.build (record { entries = entries; right = right }) visited view
+  list_comes : (entries : List Entry) (right : Option RightLink) → LeadsAt (Lists entries right) → (visited : ScanMove) (view : BuildView) → VisitsOn old.build (list_of entries right) visited view
       → (now begun : ℕ) (past : List Arena) (w : World) → IsWorld a now w → ScanIsTrue old.build old.node.0 old.listing begun past a w → ComesTo w.chart begun (arena_seen a ∷ past) visited view
   list_comes entries right leads visited view visits now begun past w world truth =
       let read = leads now begun past w world truth in
@@ -71,7 +73,7 @@ module _ (a : ArenaView) (log : LogView) (old : Building) (scanning : old.upto �
   own begun moves past w truth = as_truth a old scanning begun moves past w truth
 
   -- ---- what its law is
-  lists : (p : Progress) (new : Building) (entries : List Entry) (right : Option RightLink) → LeadsAt (Lists entries right) → p ≡ Moved → BuildLists log (unread old) (record { entries = entries; right = right }) new → Law p new
+  lists : (p : Progress) (new : Building) (entries : List Entry) (right : Option RightLink) → LeadsAt (Lists entries right) → p ≡ Moved → BuildLists log (unread old) (list_of entries right) new → Law p new
   lists p new entries right leads progress s = go s.visited refl s.ends
     where
       coming : (now begun moves : ℕ) (past : List Arena) (w : World) → IsWorld a now w → BuildingIsTrue old begun moves past a w → ComesTo w.chart begun (arena_seen a ∷ past) s.visited s.view
@@ -113,7 +115,7 @@ module _ (a : ArenaView) (log : LogView) (old : Building) (scanning : old.upto �
   keeps : (new : Building) → new.upto ≡ old.upto → KeepsView old.build.state new.build.state → Says new
   keeps new same kept = subst (λ (u : Option ℕ). GoesOn a log old.upto old.build old.node.0 old.listing u new.build) (sym same) (scans_on a log old scanning new.build kept)
 
-  says_lists : (new : Building) (entries : List Entry) (right : Option RightLink) → LeadsAt (Lists entries right) → BuildLists log (unread old) (record { entries = entries; right = right }) new → Says new
+  says_lists : (new : Building) (entries : List Entry) (right : Option RightLink) → LeadsAt (Lists entries right) → BuildLists log (unread old) (list_of entries right) new → Says new
   says_lists new entries right leads s = go s.visited refl s.ends
     where
       go : (visited : ScanMove) → s.visited ≡ visited → ListEnds log (unread old) s.view visited new → Says new
@@ -177,10 +179,27 @@ module _ (a : ArenaView) (log : LogView) (old : Building) (scanning : old.upto �
     pub reads_does : (reading : ListReading) → result ≡ Ok reading → (dest : Listing) → dest ≡ Begins → (p : Progress) (new : Building) → BuildDoes log (record old { listing = dest }) reading p new → BuildReads a log old p new
     reads_does reading is dest begins p new done =
         let unread_does = subst (λ (l : Listing). BuildDoes log (record old { listing = l }) reading p new) begins done in
-        record { part = own_reads.part; lent = own_reads.lent; does = inr (subst (λ (r : ListReading). BuildDoes log (unread old) r p new) (same_reading reading is) unread_does) }
+        record { part = own_reads.part; fits = own_fits; lent = own_reads.lent; does = inr (subst (λ (r : ListReading). BuildDoes log (unread old) r p new) (same_reading reading is) unread_does) }
 
     pub steps_on : (reading : ListReading) → result ≡ Ok reading → (dest : Listing) → dest ≡ Begins → (p : Progress) (new : Building) → BuildDoes log (record old { listing = dest }) reading p new → (C : ℕ) → BuildingLaw C a log old p new
     steps_on reading is dest begins p new done = build_reads a log old scanning own_fits p new (reads_does reading is dest begins p new done)
 
     pub builds_on : (reading : ListReading) → result ≡ Ok reading → (dest : Listing) → dest ≡ Begins → (p : Progress) (new : Building) → BuildDoes log (record old { listing = dest }) reading p new → BuildsOn a log old p new
     builds_on reading is dest begins p new done = build_says a log old scanning own_fits p new (reads_does reading is dest begins p new done)
+
+-- its scan has visited these entries, which it has as a slice
+module _ (log : LogView) (old : Building) (entries slice : List Entry) (is : slice ≡ entries) (right : Option RightLink) (visited : ScanMove) (view : BuildView) (visits : VisitsOn old.build (list_of slice right) visited view)
+    (keeps : KeepsView old.build.state view.state) (leads : GoesFrom (list_of slice right) visited) (onward : GoesOnward (build_cursor old.build) (list_of slice right) visited (build_cursor view))
+    (within : (places : ℕ) → cursor_of places (build_cursor old.build) < all_cursors places) where
+  pub lists_so : (move : ScanMove) → visited ≡ move → (new : Building) → ListEnds log old view move new → BuildLists log old (list_of entries right) new
+  lists_so move to new ends = record {
+    visited = move;
+    view = view;
+    visits = subst (λ (v : ScanMove). VisitsOn old.build (list_of entries right) v view) to (subst (λ (es : List Entry). VisitsOn old.build (list_of es right) visited view) is visits);
+    keeps = keeps;
+    leads = subst (λ (v : ScanMove). GoesFrom (list_of entries right) v) to (subst (λ (es : List Entry). GoesFrom (list_of es right) visited) is leads);
+    onward = subst (λ (v : ScanMove). GoesOnward (build_cursor old.build) (list_of entries right) v (build_cursor view)) to
+        (subst (λ (es : List Entry). GoesOnward (build_cursor old.build) (list_of es right) visited (build_cursor view)) is onward);
+    within = within;
+    ends = ends;
+  }

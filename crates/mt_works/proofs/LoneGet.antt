@@ -1,4 +1,4 @@
--- A get that runs alone makes fewer steps than there are nodes.
+-- A get comes through fewer nodes than there are.
 use Rattle.std.proofs.Common.{ℕ, suc, zero, ◌≡◌, ◌<◌, ◌+◌, List, [], ◌∷◌, length, Option, Some, None, refl, sym, ap, subst, ◌∙◌, arith}
 use Rattle.std.specs.Prelude.{cond, is_some}
 use Rattle.std.specs.Option.{option_map}

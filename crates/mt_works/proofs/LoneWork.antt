@@ -1,5 +1,5 @@
 -- A call that runs alone, of any kind: what is known of it between its steps, and that each step brings it nearer to its end.
-use Rattle.std.proofs.Common.{ℕ, ◌≡◌, ◌≤◌, ◌<◌, ◌+◌, ◌⊎◌, inl, inr, List, [], ◌∷◌, length, Option, refl, sym, ap, subst, ◌∙◌, arith, None, Some}
+use Rattle.std.proofs.Common.{ℕ, ◌≡◌, ◌≤◌, ◌<◌, ◌+◌, ◌*◌, ◌⊎◌, inl, inr, List, [], ◌∷◌, length, Option, refl, sym, ap, subst, ◌∙◌, arith, None, Some}
 use Rattle.mt_types.specs.declared.row.Delta.{Delta}
 use Rattle.mt_commit.specs.Log.{LogView, newest}
 use Rattle.mt_arena.specs.Arena.{ArenaView}
@@ -16,37 +16,41 @@ use Rattle.mt_write.specs.declared.writing.Write.{Write as WriteView}
 use Rattle.mt_write.specs.declared.writing.Edit.{Edit}
 use Rattle.mt_write.specs.declared.writing.Edit.TheVariants.{Put, Remove}
 use Rattle.mt_write.specs.Writing.{write_request, edit_request}
-use Rattle.mt_steps.proofs.LoneWay.{way_left, IsOnThere, starts_on}
-use Rattle.mt_steps.proofs.LoneRange.{ScanStands, range_stands, range_left, lone_range_waits_not, range_begins}
+use Rattle.mt_steps.specs.declared.finding.Finding.{Finding}
+use Rattle.mt_steps.specs.declared.listing.Listing.{Listing}
+use Rattle.mt_steps.specs.Getting.{reads_made}
+use Rattle.mt_steps.proofs.GetSteps.{reads_few}
+use Rattle.mt_steps.proofs.LoneFinding.{FindStands}
+use Rattle.mt_steps.proofs.LoneGet.{GetStands, get_left, lone_get_waits_not}
+use Rattle.mt_steps.proofs.LoneListing.{ListStands}
+use Rattle.mt_steps.proofs.LoneWay.{IsOnThere, starts_on}
+use Rattle.mt_steps.proofs.LoneRange.{ScanStands, RangeStands, range_left, lone_range_waits_not, range_begins}
 use Rattle.mt_remove.proofs.LoneTidy.{tidy_stands, tidy_left, tidy_begins, lone_tidy_waits_not, lone_tidy_nearer}
 use Rattle.mt_write.proofs.LoneWrite.{request_key}
 use Rattle.mt_write.proofs.LoneWrites.{lone_stands as write_stands, lone_left as write_left, begins as write_begins, waits_not as write_waits_not, nearer as write_nearer}
 use Rattle.mt_works.specs.Works.{IsKey}
 use Rattle.mt_arena.specs.Node.{occupied}
 use Rattle.mt_works.proofs.LoneGet.{trail_short}
-use Rattle.mt_works.proofs.LoneBuild.{StandsBy, build_left}
-use Rattle.mt_works.proofs.LoneKinds.{lone_build_stands, StandsWithin, GetStands, get_waits_not, get_comes, get_nearer, range_nearer, build_waits_not, build_nearer}
-use Rattle.mt_chart.specs.Walk.{Trail}
-use Rattle.mt_steps.proofs.FrameLemmas.{trail_begins}
-use Rattle.mt_steps.proofs.WayLemmas.{starts}
-use Rattle.mt_works.specs.declared.work.Pace.TheVariants.{Node}
+use Rattle.mt_promise.specs.declared.limits.TheConstants.{MAX_READS}
+use Rattle.mt_works.proofs.LoneBuild.{StandsBy, build_left, lone_build_waits_not}
+use Rattle.mt_works.proofs.LoneKinds.{lone_build_stands, StandsWithin, get_nearer, range_nearer, build_nearer}
 use Rattle.mt_works.specs.declared.work.Work.{Work}
 use Rattle.mt_works.specs.declared.work.Work.TheVariants.{Get, Write, Range, Tidy, Build}
-use Rattle.mt_works.specs.Works.{request_of, held, IsTrue, AsksForKey, IsNew, IsAtStart, IsBuiltWork, WorkBuilds}
+use Rattle.mt_works.specs.Works.{request_of, held, IsTrue, AsksForKey, IsNew, IsBuiltWork, WorkBuilds}
 use Rattle.mt_works.specs.Causes.{WorkWaits}
 use Rattle.mt_works.specs.Follows.{WorkFollows, WorkReads, WorkPosts}
 
 -- what else is true of a call that runs alone, in a world, after `commits` commits
 abbrev pub work_stands : ArenaView → ℕ → World → Work → Type 0
-work_stands a commits w (Get get) = GetStands w get
+work_stands a commits w (Get get) = GetStands a w get
 work_stands a commits w (Write write) = write_stands a w write
-work_stands a commits w (Range range) = range_stands w range
+work_stands a commits w (Range range) = RangeStands a w range
 work_stands a commits w (Tidy tidy) = tidy_stands w tidy
-work_stands a commits w (Build building) = lone_build_stands commits w building
+work_stands a commits w (Build building) = lone_build_stands a commits w building
 
 -- WHAT IS LEFT of it, at most
 abbrev pub work_left : ArenaView → ℕ → Work → ℕ
-work_left a commits (Get get) = way_left a get.way.layer get.way.node.0
+work_left a commits (Get get) = get_left a get
 work_left a commits (Write write) = write_left a write
 work_left a commits (Range range) = range_left a range
 work_left a commits (Tidy tidy) = tidy_left a tidy
@@ -70,17 +74,17 @@ pub record IsLone (C now begun moves : ℕ) (past : List Arena) (a : ArenaView) 
   pub owns : OwnsAll a w (held work).owns
   pub stands : work_stands a commits w work
 
--- a get has come through `made` nodes
-abbrev pub CameBy : ℕ → World → ℕ → Work → Type 0
-CameBy begun w made (Get get) = Trail begun w.chart get.way.node.0 made
-CameBy begun w made _ = Unit {0}
+-- a get has moved with each of its steps
+abbrev pub MovedBy : ℕ → ℕ → Work → Type 0
+MovedBy moves made (Get get) = made ≡ moves
+MovedBy moves made _ = Unit {0}
 
 -- it is a get
 abbrev pub IsGet : Work → Type 0
 IsGet (Get get) = Unit {0}
 IsGet _ = ⊥
 
--- the same in some world, after `made` steps, and what it asks for is a key; a get has come through as many nodes
+-- the same in some world, after `made` steps, and what it asks for is a key; a get has made as many moves
 pub record RunsLone (C now made : ℕ) (a : ArenaView) (commits : ℕ) (work : Work) : Type 0 where
   pub begun : ℕ
   pub moves : ℕ
@@ -88,7 +92,7 @@ pub record RunsLone (C now made : ℕ) (a : ArenaView) (commits : ℕ) (work : W
   pub w : World
   pub lone : IsLone C now begun moves past a commits w work
   pub key : AsksForKey (request_of work)
-  pub came : CameBy begun w made work
+  pub moved : MovedBy moves made work
 
 -- what its step states if it continues, and the next world
 pub record StepsOn (C now begun moves : ℕ) (before : List Arena) (a after : ArenaView) (log left : LogView) (w next : World) (work : Work) (p : Progress) (new : Work) : Type 0 where
@@ -101,7 +105,7 @@ pub record StepsOn (C now begun moves : ℕ) (before : List Arena) (a after : Ar
   pub true : IsTrue C new begun then past after next
   pub owns : OwnsAll after next (held new).owns
   pub request : request_of new ≡ request_of work
-  pub follows : WorkFollows Node a log work p new
+  pub follows : WorkFollows a log work p new
   pub builds : WorkBuilds a log work p new
   pub read : WorkReads a after work
   pub posts : WorkPosts a after work p new
@@ -111,7 +115,7 @@ pub record StepsOn (C now begun moves : ℕ) (before : List Arena) (a after : Ar
 -- the laws of calls alone
 pub record LoneLaws : Type 0 where
   pub begins : (C number : ℕ) (a : ArenaView) (now : ℕ) (w : World) → IsWorld a now w → ((n : ℕ) → IsTaken a w n → ⊥) → (work : Work) → IsNew C number work → work_stands a number w work
-  pub waits_not : (C now begun moves : ℕ) (past : List Arena) (a : ArenaView) (commits : ℕ) (w : World) (work : Work) → IsLone C now begun moves past a commits w work → (IsBuiltWork work → ⊥) → AsksForKey (request_of work) → WorkWaits Node a work Waits → ⊥
+  pub waits_not : (C now begun moves : ℕ) (past : List Arena) (a : ArenaView) (log : LogView) (w : World) (work new : Work) → IsLone C now begun moves past a (newest log) w work → (IsBuiltWork work → ⊥) → AsksForKey (request_of work) → WorkWaits a work Waits → WorkFollows a log work Waits new → ⊥
   pub nearer : (C now begun moves : ℕ) (past : List Arena) (a after : ArenaView) (log left : LogView) (w next : World) (work : Work) (p : Progress) (new : Work)
       → IsLone C now begun moves past a (newest log) w work → (IsBuiltWork work → ⊥) → AsksForKey (request_of work) → StepsOn C now begun moves past a after log left w next work p new
       → work_stands after (newest left) next new × (work_left after (newest left) new < work_left a (newest log) work)
@@ -124,7 +128,7 @@ then_owned owned owns a after w next takes all number taken = elim (takes number
 ]
 
 -- it was a get before
-was_get : (a : ArenaView) (log : LogView) (work new : Work) (p : Progress) → WorkFollows Node a log work p new → IsGet new → IsGet work
+was_get : (a : ArenaView) (log : LogView) (work new : Work) (p : Progress) → WorkFollows a log work p new → IsGet new → IsGet work
 was_get a log (Get get) new p follows is = tt
 was_get a log (Write write) (Get new) p follows is = absurd follows
 was_get a log (Range range) (Get new) p follows is = absurd follows
@@ -144,25 +148,24 @@ get_commits_not C past a after log left (Range range) number then is does = is
 get_commits_not C past a after log left (Tidy tidy) number then is does = is
 get_commits_not C past a after log left (Build building) number then is does = is
 
--- it has come one node further
-comes_by : (a : ArenaView) (log : LogView) (now begun moves made : ℕ) (past : List Arena) (w next : World) (work new : Work) (C commits : ℕ) → IsWorld a now w → IsTrue C work begun moves past a w → work_stands a commits w work → Evolves begun w.chart next.chart
-    → CameBy begun w made work → WorkFollows Node a log work Moved new → CameBy begun next (made + 1) new
-comes_by a log now begun moves made past w next (Get get) (Get new) C commits world truth stands evolves came follows = get_comes a now begun moves past w get new world truth stands.1 follows next made evolves came
-comes_by a log now begun moves made past w next (Write write) (Get new) C commits world truth stands evolves came follows = absurd follows
-comes_by a log now begun moves made past w next (Range range) (Get new) C commits world truth stands evolves came follows = absurd follows
-comes_by a log now begun moves made past w next (Tidy tidy) (Get new) C commits world truth stands evolves came follows = absurd follows
-comes_by a log now begun moves made past w next (Build building) (Get new) C commits world truth stands evolves came follows = absurd follows
-comes_by a log now begun moves made past w next work (Write new) C commits world truth stands evolves came follows = tt
-comes_by a log now begun moves made past w next work (Range new) C commits world truth stands evolves came follows = tt
-comes_by a log now begun moves made past w next work (Tidy new) C commits world truth stands evolves came follows = tt
-comes_by a log now begun moves made past w next work (Build new) C commits world truth stands evolves came follows = tt
+-- it has made one move more
+moves_by : (a : ArenaView) (log : LogView) (moves made : ℕ) (work new : Work) → MovedBy moves made work → WorkFollows a log work Moved new → MovedBy (moves + 1) (made + 1) new
+moves_by a log moves made (Get get) (Get new) moved follows = ap (λ (n : ℕ). n + 1) moved
+moves_by a log moves made (Write write) (Get new) moved follows = absurd follows
+moves_by a log moves made (Range range) (Get new) moved follows = absurd follows
+moves_by a log moves made (Tidy tidy) (Get new) moved follows = absurd follows
+moves_by a log moves made (Build building) (Get new) moved follows = absurd follows
+moves_by a log moves made work (Write new) moved follows = tt
+moves_by a log moves made work (Range new) moved follows = tt
+moves_by a log moves made work (Tidy new) moved follows = tt
+moves_by a log moves made work (Build new) moved follows = tt
 
-no_get : (begun : ℕ) (next : World) (made : ℕ) (new : Work) → (IsGet new → ⊥) → CameBy begun next made new
-no_get begun next made (Get new) not = absurd (not tt)
-no_get begun next made (Write new) not = tt
-no_get begun next made (Range new) not = tt
-no_get begun next made (Tidy new) not = tt
-no_get begun next made (Build new) not = tt
+no_get : (moves made : ℕ) (new : Work) → (IsGet new → ⊥) → MovedBy moves made new
+no_get moves made (Get new) not = absurd (not tt)
+no_get moves made (Write new) not = tt
+no_get moves made (Range new) not = tt
+no_get moves made (Tidy new) not = tt
+no_get moves made (Build new) not = tt
 
 module _ (laws : LoneLaws) (C now made : ℕ) (a after : ArenaView) (log left : LogView) (work : Work) (lone : RunsLone C now made a (newest log) work) (unbuilt : IsBuiltWork work → ⊥) where
   abbrev Law : Progress → Work → Type 0
@@ -173,9 +176,9 @@ module _ (laws : LoneLaws) (C now made : ℕ) (a after : ArenaView) (log left : 
 
   ends_so : (new : Work) (p : Progress) (moves : ℕ) (s : Stepped C now lone.moves lone.past a after log left lone.w (request_of work) (held work) p (held new) (λ m next. IsTrue C new lone.begun m (arena_seen a ∷ lone.past) after next))
       → GoesOn p → left_with p (held new) ≡ held new → IsTrue C new lone.begun moves (arena_seen a ∷ lone.past) after s.goes.next → (p ≡ Moved → newest left ≡ newest log)
-      → CameBy lone.begun s.goes.next (made + 1) new
-      → request_of new ≡ request_of work → WorkFollows Node a log work p new → WorkBuilds a log work p new → WorkReads a after work → WorkPosts a after work p new → Goes_on after (newest left) new
-  ends_so new p moves s goes kept true quiet came request follows builds read posts =
+      → MovedBy moves (made + 1) new
+      → request_of new ≡ request_of work → WorkFollows a log work p new → WorkBuilds a log work p new → WorkReads a after work → WorkPosts a after work p new → Goes_on after (newest left) new
+  ends_so new p moves s goes kept true quiet moved request follows builds read posts =
       let next = s.goes.next in
       let owns = then_owned (held work).owns (held new).owns a after lone.w next (subst (λ (h : Held). (number : ℕ) → IsTaken after next number → Among number h.owns ⊎ (IsTaken a lone.w number × NotAmong number (held work).owns)) kept s.goes.takes) lone.lone.owns in
       let steps : StepsOn C now lone.begun lone.moves lone.past a after log left lone.w next work p new = record {
@@ -203,32 +206,32 @@ module _ (laws : LoneLaws) (C now made : ℕ) (a after : ArenaView) (log left : 
           w = next;
           lone = record { world = s.goes.world; before = lone.lone.before; true = true; owns = owns; stands = stands };
           key = subst AsksForKey (sym request) lone.key;
-          came = came;
+          moved = moved;
         },
         falls,
       )
 
-  pub lone_moves : (new : Work) → Law Moved new → request_of new ≡ request_of work → WorkFollows Node a log work Moved new → WorkBuilds a log work Moved new → WorkReads a after work → WorkPosts a after work Moved new → Goes_on after (newest left) new
+  pub lone_moves : (new : Work) → Law Moved new → request_of new ≡ request_of work → WorkFollows a log work Moved new → WorkBuilds a log work Moved new → WorkReads a after work → WorkPosts a after work Moved new → Goes_on after (newest left) new
   lone_moves new law request follows builds read posts =
       let s = law.steps lone.begun lone.moves lone.past lone.w lone.lone.world lone.lone.before lone.lone.true in
       ends_so new Moved (lone.moves + 1) s tt refl s.goes.true (λ moved. ap (λ (n : ℕ). n + length left.deltas) s.does.0.trimmed ∙ ap (λ (l : List Delta). log.held_after + length l) s.does.0.deltas)
-      (comes_by a log now lone.begun lone.moves made lone.past lone.w s.goes.next work new C (newest log) lone.lone.world lone.lone.true lone.lone.stands (s.goes.evolves lone.begun lone.lone.before) lone.came follows) request follows builds read posts
+      (moves_by a log lone.moves made work new lone.moved follows) request follows builds read posts
 
-  pub lone_commits : (new : Work) (number : ℕ) → Law (Committed number) new → request_of new ≡ request_of work → WorkFollows Node a log work (Committed number) new → WorkBuilds a log work (Committed number) new → WorkReads a after work → WorkPosts a after work (Committed number) new → Goes_on after (newest left) new
+  pub lone_commits : (new : Work) (number : ℕ) → Law (Committed number) new → request_of new ≡ request_of work → WorkFollows a log work (Committed number) new → WorkBuilds a log work (Committed number) new → WorkReads a after work → WorkPosts a after work (Committed number) new → Goes_on after (newest left) new
   lone_commits new number law request follows builds read posts =
       let s = law.steps lone.begun lone.moves lone.past lone.w lone.lone.world lone.lone.before lone.lone.true in
       ends_so new (Committed number) 0 s tt refl s.goes.true (λ moved. absurd (let clash : Committed number ≡ Moved = moved in cc))
-      (no_get lone.begun s.goes.next (made + 1) new (λ is. get_commits_not C lone.past a after log left work number (held new).committed (was_get a log work new (Committed number) follows is) s.does)) request follows builds read posts
+      (no_get 0 (made + 1) new (λ is. get_commits_not C lone.past a after log left work number (held new).committed (was_get a log work new (Committed number) follows is) s.does)) request follows builds read posts
 
-  pub lone_waits_not : WorkWaits Node a work Waits → ⊥
-  lone_waits_not waits = laws.waits_not C now lone.begun lone.moves lone.past a (newest log) lone.w work lone.lone unbuilt lone.key waits
+  pub lone_waits_not : (new : Work) → WorkWaits a work Waits → WorkFollows a log work Waits new → ⊥
+  lone_waits_not new waits follows = laws.waits_not C now lone.begun lone.moves lone.past a log lone.w work new lone.lone unbuilt lone.key waits follows
 
-came_none : (a : ArenaView) (now : ℕ) (w : World) → IsWorld a now w → (work : Work) → IsAtStart work → CameBy now w 0 work
-came_none a now w world (Get get) at_start = subst (λ (way : Way). Trail now w.chart way.node.0 0) (sym at_start.0) (trail_begins w.chart now 0 _ _ (starts a now w now get.key world).held)
-came_none a now w world (Write write) at_start = tt
-came_none a now w world (Range range) at_start = tt
-came_none a now w world (Tidy tidy) at_start = tt
-came_none a now w world (Build building) at_start = tt
+moved_none : (work : Work) → MovedBy 0 0 work
+moved_none (Get get) = refl
+moved_none (Write write) = tt
+moved_none (Range range) = tt
+moved_none (Tidy tidy) = tt
+moved_none (Build building) = tt
 
 -- from its begin on, if nothing is taken
 pub lone_begins : (laws : LoneLaws) (C now number : ℕ) (a : ArenaView) (w : World) → IsWorld a now w → ((n : ℕ) → IsTaken a w n → ⊥) → (work : Work) → IsNew C number work → RunsLone C now 0 a number work
@@ -245,13 +248,18 @@ lone_begins laws C now number a w world free work new = record {
     stands = laws.begins C number a now w world free work new;
   };
   key = new.key;
-  came = came_none a now w world work new.at_start;
+  moved = moved_none work;
 }
 
--- a get has made fewer steps than there are nodes
-pub lone_get_steps : (C now made : ℕ) (a : ArenaView) (commits : ℕ) (work : Work) → RunsLone C now made a commits work → IsGet work → made < occupied a.nodes
+-- a get has made few steps for each node
+few_steps : (made moves came reads nodes : ℕ) → made ≡ moves → moves ≤ MAX_READS * came + reads → reads ≤ 20 → came < nodes → made < MAX_READS * nodes
+few_steps made moves came reads nodes same most few less = omega (arith, same, most, few, less)
+
+pub lone_get_steps : (C now made : ℕ) (a : ArenaView) (commits : ℕ) (work : Work) → RunsLone C now made a commits work → IsGet work → made < MAX_READS * occupied a.nodes
 lone_get_steps C now made a commits (Get get) runs is =
-    trail_short a now runs.w runs.lone.world runs.begun get.way.node.0 made runs.came
+    let on = runs.lone.true.1 in
+    few_steps made runs.moves on.came (reads_made get.finding) (occupied a.nodes) runs.moved on.few (reads_few get.finding get.key get.columns get.way runs.begun (arena_seen a ∷ runs.past) a runs.w runs.lone.true.0)
+    (trail_short a now runs.w runs.lone.world runs.begun get.way.node.0 on.came on.trail)
 lone_get_steps C now made a commits (Write write) runs is = absurd is
 lone_get_steps C now made a commits (Range range) runs is = absurd is
 lone_get_steps C now made a commits (Tidy tidy) runs is = absurd is
@@ -277,29 +285,39 @@ not_in_none : (number : ℕ) → NotAmong number []
 not_in_none number i = elim i [ ]
 
 begins_so : (C number : ℕ) (a : ArenaView) (now : ℕ) (w : World) → IsWorld a now w → ((n : ℕ) → IsTaken a w n → ⊥) → (work : Work) → IsNew C number work → work_stands a number w work
-begins_so C number a now w world free (Get get) new = (subst (λ (way : Way). IsOnThere w get.key way) (sym new.at_start.0) (starts_on a now w get.key world), new.at_start.1)
+begins_so C number a now w world free (Get get) new = record {
+  there = subst (λ (way : Way). IsOnThere w get.key way) (sym new.at_start.0) (starts_on a now w get.key world);
+  noted = subst (λ (finding : Finding). FindStands a get.way.node.0 finding) (sym new.at_start.1) tt;
+}
 begins_so C number a now w world free (Write write) new = write_begins a now w write world free new.at_start.0 new.at_start.2 new.at_start.1
-begins_so C number a now w world free (Range range) new =
-    subst (λ (n : NodeNo). ScanStands w.chart n.0 range.scan.prefix) (sym new.at_start.0) (subst (λ (p : List ℕ). ScanStands w.chart 0 p) (sym new.at_start.1) (range_begins a now w world))
+begins_so C number a now w world free (Range range) new = record {
+  node = subst (λ (n : NodeNo). ScanStands w.chart n.0 range.scan.prefix) (sym new.at_start.0) (subst (λ (p : List ℕ). ScanStands w.chart 0 p) (sym new.at_start.1) (range_begins a now w world));
+  noted = subst (λ (listing : Listing). ListStands a range.node.0 listing) (sym new.at_start.2) tt;
+}
 begins_so C number a now w world free (Tidy tidy) new = tidy_begins a now w tidy world new.at_start.0 new.at_start.1
 begins_so C number a now w world free (Build building) new = (
-  subst (λ (u : Option ℕ). StandsBy u w building.node.0 building.build) (sym new.opens.0)
-      (subst (λ (n : NodeNo). ScanStands w.chart n.0 building.build.prefix) (sym new.at_start.0) (subst (λ (p : List ℕ). ScanStands w.chart 0 p) (sym new.at_start.1) (range_begins a now w world))),
+  subst (λ (u : Option ℕ). StandsBy u a w building.node.0 building.build building.listing) (sym new.opens.0) (
+    subst (λ (n : NodeNo). ScanStands w.chart n.0 building.build.prefix) (sym new.at_start.0) (subst (λ (p : List ℕ). ScanStands w.chart 0 p) (sym new.at_start.1) (range_begins a now w world)),
+    subst (λ (listing : Listing). ListStands a building.node.0 listing) (sym new.at_start.2) tt,
+  ),
   subst (λ (u : Option ℕ). StandsWithin u building.build.state.at number) (sym new.opens.0) (omega (arith, new.opens.1)),
 )
 
-waits_so : (C now begun moves : ℕ) (past : List Arena) (a : ArenaView) (commits : ℕ) (w : World) (work : Work) → IsLone C now begun moves past a commits w work → (IsBuiltWork work → ⊥) → AsksForKey (request_of work) → WorkWaits Node a work Waits → ⊥
-waits_so C now begun moves past a commits w (Get get) lone unbuilt key waits = get_waits_not a now w get lone.world lone.stands.0 (none_owned a w lone.owns) waits
-waits_so C now begun moves past a commits w (Write write) lone unbuilt key waits = write_waits_not C now begun a w write lone.world lone.before lone.true.0 lone.stands (write_key write key).0 (write_key write key).1 lone.owns waits
-waits_so C now begun moves past a commits w (Range range) lone unbuilt key waits = lone_range_waits_not a now w range lone.world lone.stands (none_owned a w lone.owns) waits
-waits_so C now begun moves past a commits w (Tidy tidy) lone unbuilt key waits = lone_tidy_waits_not a now begun w tidy lone.world lone.true lone.stands lone.owns waits
-waits_so C now begun moves past a commits w (Build building) lone unbuilt key waits = build_waits_not a now w building lone.world lone.stands.0 (none_owned a w lone.owns) waits
+waits_so : (C now begun moves : ℕ) (past : List Arena) (a : ArenaView) (log : LogView) (w : World) (work new : Work) → IsLone C now begun moves past a (newest log) w work → (IsBuiltWork work → ⊥) → AsksForKey (request_of work) → WorkWaits a work Waits → WorkFollows a log work Waits new → ⊥
+waits_so C now begun moves past a log w (Get get) (Get new) lone unbuilt key waits follows = lone_get_waits_not a now begun moves past w get new lone.world lone.true lone.stands (none_owned a w lone.owns) follows
+waits_so C now begun moves past a log w (Get get) _ lone unbuilt key waits follows = absurd follows
+waits_so C now begun moves past a log w (Write write) new lone unbuilt key waits follows = write_waits_not C now begun a w write lone.world lone.before lone.true.0 lone.stands (write_key write key).0 (write_key write key).1 lone.owns waits
+waits_so C now begun moves past a log w (Range range) (Range new) lone unbuilt key waits follows = lone_range_waits_not a now begun moves past w range new lone.world lone.true lone.stands (none_owned a w lone.owns) follows
+waits_so C now begun moves past a log w (Range range) _ lone unbuilt key waits follows = absurd follows
+waits_so C now begun moves past a log w (Tidy tidy) new lone unbuilt key waits follows = lone_tidy_waits_not a now begun w tidy lone.world lone.true lone.stands lone.owns waits
+waits_so C now begun moves past a log w (Build building) (Build new) lone unbuilt key waits follows = lone_build_waits_not a log now begun moves past w building new lone.world lone.true lone.stands.0 (none_owned a w lone.owns) follows waits
+waits_so C now begun moves past a log w (Build building) _ lone unbuilt key waits follows = absurd follows
 
 nearer_so : (C now begun moves : ℕ) (past : List Arena) (a after : ArenaView) (log left : LogView) (w next : World) (work : Work) (p : Progress) (new : Work)
     → IsLone C now begun moves past a (newest log) w work → (IsBuiltWork work → ⊥) → AsksForKey (request_of work) → StepsOn C now begun moves past a after log left w next work p new
     → work_stands after (newest left) next new × (work_left after (newest left) new < work_left a (newest log) work)
 nearer_so C now begun moves past a after log left w next (Get get) Moved (Get new) lone unbuilt key s =
-    get_nearer a now begun moves past w get new lone.world lone.true lone.stands.1 s.follows after next lone.stands.0 key s.request s.read (λ n. s.spots n (not_in_none n) (not_in_none n))
+    get_nearer a after now begun moves past w next get new lone.world lone.true lone.stands (none_owned a w lone.owns) key s.follows s.read (λ n. s.spots n (not_in_none n) (not_in_none n))
 nearer_so C now begun moves past a after log left w next (Get get) (Committed number) (Get new) lone unbuilt key s = absurd s.does.0
 nearer_so C now begun moves past a after log left w next (Get get) p (Get new) lone unbuilt key s = absurd s.goes
 nearer_so C now begun moves past a after log left w next (Get get) p _ lone unbuilt key s = absurd s.follows
@@ -310,7 +328,7 @@ nearer_so C now begun moves past a after log left w next (Write write) (Committe
 nearer_so C now begun moves past a after log left w next (Write write) p (Write new) lone unbuilt key s = absurd s.goes
 nearer_so C now begun moves past a after log left w next (Write write) p _ lone unbuilt key s = absurd s.follows
 nearer_so C now begun moves past a after log left w next (Range range) Moved (Range new) lone unbuilt key s =
-    range_nearer a after now begun moves begun s.then past s.past w next range new lone.world lone.true lone.stands s.follows.0 s.read (λ n. s.spots n (not_in_none n) (not_in_none n)) s.true
+    range_nearer a after now begun moves begun s.then past s.past w next range new lone.world lone.true lone.stands (none_owned a w lone.owns) s.follows s.read (λ n. s.spots n (not_in_none n) (not_in_none n)) s.true
 nearer_so C now begun moves past a after log left w next (Range range) (Committed number) (Range new) lone unbuilt key s = absurd s.does.0
 nearer_so C now begun moves past a after log left w next (Range range) p (Range new) lone unbuilt key s = absurd s.goes
 nearer_so C now begun moves past a after log left w next (Range range) p _ lone unbuilt key s = absurd s.follows
@@ -320,7 +338,7 @@ nearer_so C now begun moves past a after log left w next (Tidy tidy) (Committed 
 nearer_so C now begun moves past a after log left w next (Tidy tidy) p (Tidy new) lone unbuilt key s = absurd s.goes
 nearer_so C now begun moves past a after log left w next (Tidy tidy) p _ lone unbuilt key s = absurd s.follows
 nearer_so C now begun moves past a after log left w next (Build building) Moved (Build new) lone unbuilt key s =
-    build_nearer a after log left now begun moves begun s.then past s.past w next building new lone.world lone.true lone.stands unbuilt s.builds s.follows.0 s.read (λ n. s.spots n (not_in_none n) (not_in_none n)) (s.quiet refl) s.true
+    build_nearer a after log left now begun moves begun s.then past s.past w next building new lone.world lone.true lone.stands (none_owned a w lone.owns) unbuilt s.builds s.follows s.read (λ n. s.spots n (not_in_none n) (not_in_none n)) (s.quiet refl) s.true
 nearer_so C now begun moves past a after log left w next (Build building) (Committed number) (Build new) lone unbuilt key s = absurd s.does.0
 nearer_so C now begun moves past a after log left w next (Build building) p (Build new) lone unbuilt key s = absurd s.goes
 nearer_so C now begun moves past a after log left w next (Build building) p _ lone unbuilt key s = absurd s.follows

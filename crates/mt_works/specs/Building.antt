@@ -1,5 +1,5 @@
 -- A build as a call: what it asks for, what is true of it while it scans the tree, and what its steps do.
-use Rattle.std.specs.Prelude.{ℕ, ◌≡◌, ◌≤◌, ◌<◌, ◌+◌, ◌⊎◌, List, [], ◌∷◌, length, Option, Some, None, IsSomeAnd}
+use Rattle.std.specs.Prelude.{ℕ, ◌≡◌, ◌≤◌, ◌<◌, ◌+◌, ◌^◌, ◌⊎◌, List, [], ◌∷◌, length, Option, Some, None}
 use Rattle.mt_types.specs.declared.row.Delta.{Delta}
 use Rattle.mt_types.specs.declared.refusal.Refusal.TheVariants.{NoMemory}
 use Rattle.mt_types.specs.declared.event.Request.{Request}
@@ -9,13 +9,12 @@ use Rattle.mt_types.specs.Rows.{shown}
 use Rattle.mt_slice.specs.Place.{first_slice, under}
 use Rattle.mt_word.specs.declared.permutation_word.TheConstants.{SLOTS}
 use Rattle.mt_arena.specs.declared.part.Part.{Part}
-use Rattle.mt_arena.specs.Node.{border_at}
-use Rattle.mt_arena.specs.declared.node.Node.{Node}
 use Rattle.mt_arena.specs.Arena.{ArenaView}
 use Rattle.mt_chart.specs.Tree.{Arena}
 use Rattle.mt_tree.specs.Seen.{arena_seen}
 use Rattle.mt_view.specs.State.{StateView, applied}
 use Rattle.mt_scan.specs.Listed.{ListView, list_of}
+use Rattle.mt_scan.specs.Onward.{GoesFrom, GoesOnward, all_cursors, cursor_of}
 use Rattle.mt_scan.specs.Scan.{HoldsKeys}
 use Rattle.mt_scan.specs.declared.scan.ScanMove.{ScanMove}
 use Rattle.mt_scan.specs.declared.scan.ScanMove.TheVariants.{Done as VisitDone, To as VisitTo, Top as VisitTop}
@@ -29,10 +28,9 @@ use Rattle.mt_steps.specs.declared.listing.ListReading.TheVariants.{Restarts, Re
 use Rattle.mt_steps.specs.World.{World, IsWorld, AreOfKeys}
 use Rattle.mt_steps.specs.Standing.{Lends}
 use Rattle.mt_steps.specs.Listing.{list_wants, list_reading, ListingIsTrue, WaitsForField}
-use Rattle.mt_steps.specs.Way.{start, Names}
-use Rattle.mt_steps.specs.Ranging.{ScanGoes, IsThen}
-use Rattle.mt_steps.specs.Causes.{ReadWaits, ReadFails, KeepsSlot}
-use Rattle.mt_steps.specs.Step.{StepLaw, MayStep, nothing}
+use Rattle.mt_steps.specs.Way.{start}
+use Rattle.mt_steps.specs.Causes.{ReadFails, KeepsSlot}
+use Rattle.mt_steps.specs.Step.{StepLaw, nothing}
 use Rattle.mt_works.specs.declared.building.Building.{Building}
 
 abbrev pub building_request : Building → Request
@@ -54,12 +52,6 @@ ScansOn (Some upto) build number listing begun past a w = Unit {0}
 abbrev pub BuildingIsTrue : Building → ℕ → ℕ → List Arena → ArenaView → World → Type 0
 BuildingIsTrue building begun moves past a w =
     ScansOn building.upto building.build building.node.0 building.listing begun past a w
-
--- it is lent the node at which it is, and may visit it
-pub record BuildMayVisit (log : LogView) (building : Building) (node : Node) : Type 0 where
-  pub arena : ArenaView
-  pub names : Names arena building.node.0 node
-  pub may : MayStep arena log nothing (BuildingIsTrue building)
 
 -- it has taken each delta that it was to take
 abbrev pub IsUpTo : Option ℕ → ℕ → Type 0
@@ -106,31 +98,6 @@ BuildsOn a log old p new = GoesOn a log old.upto old.build old.node.0 old.listin
 abbrev pub resumed : BuildView → BuildView
 resumed build = record build { prefix = []; at = under build.prefix build.at }
 
--- the visit of the one border at which it is advances its scan in this way
-abbrev pub BuildVisits : ArenaView → ℕ → BuildView → ScanMove → BuildView → Type 0
-BuildVisits a number old visited new = IsSomeAnd (border_at a.nodes number) (λ b. VisitsOn old (list_of b) visited new)
-
--- on its way it is as it was; otherwise it visits the border at which it is
-abbrev pub BuildScans : ArenaView → ℕ → BuildView → ℕ → BuildView → Type 0
-BuildScans a number old next new = (new ≡ old)
-    ⊎ ((visited : ScanMove) × BuildVisits a number old visited new × IsThen visited next)
-
--- A STEP VISITS ONE NODE: if it scans and moves, its scan advances, or has ended there. Or it takes a delta: its view
--- is then at the next commit.
-abbrev pub BuildMoves : ArenaView → Option ℕ → Option ℕ → ℕ → BuildView → ℕ → BuildView → Type 0
-BuildMoves a None None number old next new =
-    ScanGoes a number next (build_cursor old) (build_cursor new) × BuildScans a number old next new
-BuildMoves a None (Some upto) number old next new = BuildVisits a number old VisitDone new
-BuildMoves a (Some upto) then number old next new = (then ≡ Some upto) × (new.state.at ≡ old.state.at + 1)
-
--- if it waits, it begins its way again, with its cursor as it was
-abbrev pub BuildFollows : ArenaView → Building → Progress → Building → Type 0
-BuildFollows a old Moved new = BuildMoves a old.upto new.upto old.node.0 old.build new.node.0 new.build
-BuildFollows a old Waits new =
-    new ≡ record { build = resumed old.build; node = start.node; upto = old.upto; listing = Begins }
-BuildFollows a old _ new = Unit {0}
-
--- ---- one field a step
 -- its scan has visited what it has read of a border, and comes to this
 abbrev pub ListEnds : LogView → Building → BuildView → ScanMove → Building → Type 0
 ListEnds log old view (VisitTo next) new = new ≡ record old { build = view; node = next }
@@ -142,6 +109,9 @@ pub record BuildLists (log : LogView) (old : Building) (list : ListView) (new : 
   pub view : BuildView
   pub visits : VisitsOn old.build list visited view
   pub keeps : KeepsView old.build.state view.state
+  pub leads : GoesFrom list visited
+  pub onward : GoesOnward (build_cursor old.build) list visited (build_cursor view)
+  pub within : (places : ℕ) → cursor_of places (build_cursor old.build) < all_cursors places
   pub ends : ListEnds log old view visited new
 
 -- what it does by a reading
@@ -151,7 +121,7 @@ BuildDoes log old Repeats p new = (p ≡ Waits) × (new ≡ old)
 BuildDoes log old (ReadsOn next) p new = (p ≡ Moved) × (new ≡ record old { listing = next })
 BuildDoes log old (ReadTo node) p new = (p ≡ Moved) × (new ≡ record old { node = node })
 BuildDoes log old (Lists entries right) p new = (p ≡ Refused NoMemory)
-    ⊎ ((p ≡ Moved) × BuildLists log old (record { entries = entries; right = right }) new)
+    ⊎ ((p ≡ Moved) × BuildLists log old (list_of entries right) new)
 
 -- what a scan may visit of a reading: few entries, whose rows are those of keys
 abbrev pub MayScan : List ℕ → ListReading → Type 0
@@ -162,43 +132,40 @@ MayScan prefix _ = Unit {0}
 abbrev pub unread : Building → Building
 unread building = record building { listing = Begins }
 
--- WHILE IT SCANS, A STEP READS ONE FIELD of one border, or visits one head or interior: it is lent that, and does what
--- follows from it; or it is out of memory, at a field that takes some
+-- WHILE IT SCANS, A STEP READS ONE FIELD of one border, or visits one head or interior, on its way to a slice of 64 bits:
+-- it is lent that, and does what follows from it; or it is out of memory, at a field that takes some
 pub record BuildReads (a : ArenaView) (log : LogView) (old : Building) (p : Progress) (new : Building) : Type 0 where
   pub part : Part
+  pub fits : first_slice old.build.at < 2 ^ 64
   pub lent : Lends a old.node.0 (list_wants old.listing) part
   pub does : ((p ≡ Refused NoMemory) × KeepsSlot old.listing)
       ⊎ BuildDoes log (unread old) (list_reading old.listing (first_slice old.build.at) part) p new
 
--- then it takes a delta
-abbrev pub ReadsBy : ArenaView → LogView → Option ℕ → Building → Progress → Building → Type 0
-ReadsBy a log None old p new = BuildReads a log old p new
-ReadsBy a log (Some upto) old p new = BuildFollows a old p new
+-- then it takes a delta: its view is at the next commit
+abbrev pub BuildTakes : ℕ → Building → Progress → Building → Type 0
+BuildTakes upto old Moved new = (new.upto ≡ Some upto) × (new.build.state.at ≡ old.build.state.at + 1)
+BuildTakes upto old _ new = Unit {0}
 
-abbrev pub BuildStepsOn : ArenaView → LogView → Building → Progress → Building → Type 0
-BuildStepsOn a log old p new = ReadsBy a log old.upto old p new
+abbrev pub FollowsBy : ArenaView → LogView → Option ℕ → Building → Progress → Building → Type 0
+FollowsBy a log None old p new = BuildReads a log old p new
+FollowsBy a log (Some upto) old p new = BuildTakes upto old p new
+
+abbrev pub BuildFollows : ArenaView → LogView → Building → Progress → Building → Type 0
+BuildFollows a log old p new = FollowsBy a log old.upto old p new
 
 -- its step is the law's, whatever the tree has: it changes neither the tree nor the log
 abbrev pub BuildingLaw : ℕ → ArenaView → LogView → Building → Progress → Building → Type 0
 BuildingLaw C a log old p new =
     StepLaw C a a log log (building_request old) nothing p nothing (BuildingIsTrue old) (BuildingIsTrue new)
 
--- it waits only while it scans, if the node that its scan visits is marked deleted
-abbrev pub WaitsBy : ArenaView → ℕ → Option ℕ → Progress → Type 0
-WaitsBy a number None p = ReadWaits a number p
-WaitsBy a number (Some upto) Waits = ⊥
-WaitsBy a number (Some upto) _ = Unit {0}
+-- it waits only while it scans, for what it has read of a border
+abbrev pub WaitsBy : ArenaView → ℕ → Listing → Option ℕ → Progress → Type 0
+WaitsBy a number listing None p = WaitsForField a number listing p
+WaitsBy a number listing (Some upto) Waits = ⊥
+WaitsBy a number listing (Some upto) _ = Unit {0}
 
 abbrev pub BuildWaits : ArenaView → Building → Progress → Type 0
-BuildWaits a building p = WaitsBy a building.node.0 building.upto p
-
--- or, if it reads one field per step, for what it has read of a border
-abbrev pub FieldWaitsBy : ArenaView → ℕ → Listing → Option ℕ → Progress → Type 0
-FieldWaitsBy a number listing None p = WaitsForField a number listing p
-FieldWaitsBy a number listing (Some upto) p = WaitsBy a number (Some upto) p
-
-abbrev pub BuildFieldWaits : ArenaView → Building → Progress → Type 0
-BuildFieldWaits a building p = FieldWaitsBy a building.node.0 building.listing building.upto p
+BuildWaits a building p = WaitsBy a building.node.0 building.listing building.upto p
 
 abbrev pub OnlyForMemory : Progress → Type 0
 OnlyForMemory (Refused refusal) = refusal ≡ NoMemory

@@ -5,42 +5,24 @@ use Rattle.mt_commit.specs.Log.{LogView}
 use Rattle.mt_arena.specs.Arena.{ArenaView}
 use Rattle.mt_steps.specs.declared.progress.Progress.{Progress}
 use Rattle.mt_steps.specs.declared.progress.Progress.TheVariants.{Refused}
-use Rattle.mt_steps.specs.Causes.{ReadWaits, ReadFails}
+use Rattle.mt_steps.specs.Causes.{ReadFails}
 use Rattle.mt_write.specs.declared.writing.Stage.TheVariants.{Failed}
 use Rattle.mt_write.specs.Causes.{WriteWaits, WriteFails}
 use Rattle.mt_remove.specs.Tidy.{IsTidied}
 use Rattle.mt_remove.specs.Follows.{TidyWaits}
-use Rattle.mt_steps.specs.declared.getting.Get.{Get as GetView}
 use Rattle.mt_steps.specs.Getting.{GetWaits}
 use Rattle.mt_steps.specs.Ranging.{RangeWaits}
-use Rattle.mt_steps.specs.declared.ranging.Range.{Range as RangeView}
-use Rattle.mt_works.specs.declared.building.Building.{Building}
-use Rattle.mt_works.specs.declared.work.Pace.{Pace}
-use Rattle.mt_works.specs.declared.work.Pace.TheVariants.{Field, Node}
 use Rattle.mt_works.specs.declared.work.Work.{Work}
 use Rattle.mt_works.specs.declared.work.Work.TheVariants.{Get, Write, Range, Tidy, Build}
-use Rattle.mt_works.specs.Building.{BuildWaits, BuildFieldWaits, BuildFails}
+use Rattle.mt_works.specs.Building.{BuildWaits, BuildFails}
 
--- a get waits for what it has read of a border, or, if it reads whole nodes, for a node that is marked deleted
-abbrev pub GetWaitsBy : Pace → ArenaView → GetView → Progress → Type 0
-GetWaitsBy Field a get p = GetWaits a get p
-GetWaitsBy Node a get p = ReadWaits a get.way.node.0 p
-
--- and so do a range and a build
-abbrev pub RangeWaitsBy : Pace → ArenaView → RangeView → Progress → Type 0
-RangeWaitsBy Field a range p = RangeWaits a range p
-RangeWaitsBy Node a range p = ReadWaits a range.node.0 p
-
-abbrev pub BuildWaitsBy : Pace → ArenaView → Building → Progress → Type 0
-BuildWaitsBy Field a building p = BuildFieldWaits a building p
-BuildWaitsBy Node a building p = BuildWaits a building p
-
-abbrev pub WorkWaits : Pace → ArenaView → Work → Progress → Type 0
-WorkWaits pace a (Get get) p = GetWaitsBy pace a get p
-WorkWaits pace a (Write write) p = WriteWaits a write p
-WorkWaits pace a (Range range) p = RangeWaitsBy pace a range p
-WorkWaits pace a (Tidy tidy) p = TidyWaits a tidy p
-WorkWaits pace a (Build building) p = BuildWaitsBy pace a building p
+-- a get, range or build waits for what it has read of a border
+abbrev pub WorkWaits : ArenaView → Work → Progress → Type 0
+WorkWaits a (Get get) p = GetWaits a get p
+WorkWaits a (Write write) p = WriteWaits a write p
+WorkWaits a (Range range) p = RangeWaits a range p
+WorkWaits a (Tidy tidy) p = TidyWaits a tidy p
+WorkWaits a (Build building) p = BuildWaits a building p
 
 abbrev pub WorkFails : ArenaView → LogView → Work → Progress → Work → Type 0
 WorkFails a log (Get get) p new = ReadFails a get.way.node.0 p

@@ -21,8 +21,6 @@ use Rattle.mt_remove.specs.Tidy.{tidy_request, tidy_held, TidyTruth}
 use Rattle.mt_works.specs.Building.{building_request, BuildingIsTrue, IsInLog, IsBuilt, BuildsOn}
 use Rattle.mt_steps.specs.declared.finding.Finding.TheVariants.{Begins}
 use Rattle.mt_steps.specs.declared.listing.Listing.TheVariants.{Begins as ListBegins}
-use Rattle.mt_works.specs.declared.work.Pace.{Pace}
-use Rattle.mt_works.specs.declared.work.Pace.TheVariants.{Node}
 use Rattle.mt_works.specs.declared.work.Work.{Work}
 use Rattle.mt_works.specs.declared.work.Work.TheVariants.{Get, Write, Range, Tidy, Build}
 
@@ -59,13 +57,6 @@ pub record MayWork (now C : ℕ) (a : ArenaView) (log : LogView) (work : Work) :
   pub world : IsWorld a now w
   pub true : IsTrue C work begun moves past a w
   pub room : (held work).reserves ≤ log.reserved
-
--- a get, range or build whose step reads all of a border has read nothing of it
-abbrev pub MayPace : Pace → Work → Type 0
-MayPace Node (Get get) = get.finding ≡ Begins
-MayPace Node (Range range) = range.listing ≡ ListBegins
-MayPace Node (Build building) = building.listing ≡ ListBegins
-MayPace _ _ = Unit {0}
 
 -- the delta that a build is to take next is one of the log's
 abbrev pub HasNext : LogView → Work → Type 0

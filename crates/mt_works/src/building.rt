@@ -1,26 +1,24 @@
 //! A build of a view as a call: a scan of the view's keys, border by border, and then a step for each delta since its
 //! begin.
 
-ghost use Rattle.std.specs.Prelude.{◌≡◌, ◌≢◌, ◌↔◌, ◌⊎◌, ◌≤◌, ℕ, length, IsTrue, IsSome, None};
+ghost use Rattle.std.specs.Prelude.{◌≡◌, ◌≢◌, ◌↔◌, ◌⊎◌, ◌≤◌, ℕ, length, IsTrue, IsSome, Some, None};
 ghost use Rattle.mt_types.specs.declared.refusal.Refusal.TheVariants.{NoMemory as NoMemoryRefusal};
 ghost use Rattle.mt_word.specs.declared.permutation_word.TheConstants.{SLOTS};
+ghost use Rattle.mt_scan.specs.Listed.{list_of};
 ghost use Rattle.mt_scan.specs.Scan.{HoldsKeys};
 ghost use Rattle.mt_steps.specs.declared.progress.Progress.TheVariants.{Moved, Refused};
 ghost use Rattle.mt_steps.specs.Listing.{WaitsForField};
 ghost use Rattle.mt_arena.specs.Arena.{ArenaView};
 ghost use Rattle.mt_steps.specs.Step.{MayStep, nothing};
-ghost use Rattle.mt_steps.specs.Way.{Names};
-ghost use Rattle.mt_steps.specs.Causes.{ReadWaits, ReadFails};
-ghost use Rattle.mt_works.specs.Building.{building_request, BuildingIsTrue, BuildMayVisit, BuildingLaw, IsBuilt, IsInLog, BuildsOn, BuildFollows, BuildLists, BuildDoes, MayScan, BuildReads, BuildStepsOn, BuildWaits, BuildFieldWaits, BuildFails, OnlyForMemory};
+ghost use Rattle.mt_steps.specs.Causes.{ReadFails};
+ghost use Rattle.mt_works.specs.Building.{building_request, BuildingIsTrue, BuildingLaw, IsBuilt, IsInLog, BuildsOn, BuildFollows, BuildLists, BuildDoes, MayScan, BuildReads, BuildTakes, BuildWaits, BuildFails, OnlyForMemory};
 
-use mt_arena::Node;
 use mt_border::{Entry, RightLink};
 use mt_build::build::Build;
 use mt_commit::log::Log;
-use mt_scan::{Listed, ScanMove};
+use mt_scan::ScanMove;
 use mt_steps::listing::{ListReading, Listing};
 use mt_steps::progress::Progress;
-use mt_steps::ranging::{Sought, seek_node};
 use mt_tree::{TOP, Tree};
 use mt_types::items::Items;
 use mt_types::numbers::NodeNo;
@@ -59,33 +57,13 @@ impl Building {
         ensures request { building_request self.new ≡ building_request self.old }
         ensures steps { (C : ℕ) → BuildingLaw C tree.now log.now self.old result self.new }
         ensures builds { BuildsOn tree.now log.now self.old result self.new }
-        ensures gets_on { BuildStepsOn tree.now log.now self.old result self.new }
-        ensures waits { BuildFieldWaits tree.now self.old result }
-        ensures fails { BuildFails tree.now self.old result }
-    {
-        match self.upto {
-            Some(_) => self.take(log),
-            None => self.read(alloc, tree, log),
-        }
-    }
-
-    /// Visits one node, whole, as a build alone does, and is lent that node; or takes the next delta, once it has scanned
-    /// all.
-    pub fn step_whole(&mut self, alloc: Global, tree: &Tree, log: &Log) -> Progress
-        requires may { MayStep tree.now log.now nothing (BuildingIsTrue self.old) }
-        requires next { IsInLog log.now self.old.build.state.at self.old.upto }
-        requires begins { self.old.listing ≡ Listing.Begins }
-        ensures begins { self.new.listing ≡ Listing.Begins }
-        ensures request { building_request self.new ≡ building_request self.old }
-        ensures steps { (C : ℕ) → BuildingLaw C tree.now log.now self.old result self.new }
-        ensures builds { BuildsOn tree.now log.now self.old result self.new }
-        ensures gets_on { BuildFollows tree.now self.old result self.new }
+        ensures gets_on { BuildFollows tree.now log.now self.old result self.new }
         ensures waits { BuildWaits tree.now self.old result }
         ensures fails { BuildFails tree.now self.old result }
     {
         match self.upto {
             Some(_) => self.take(log),
-            None => self.scan(alloc, tree.node(self.node), log),
+            None => self.read(alloc, tree, log),
         }
     }
 
@@ -101,12 +79,9 @@ impl Building {
         requires few { length entries ≤ SLOTS }
         ensures request { building_request self.new ≡ building_request self.old }
         ensures lists { (result ≡ Refused NoMemoryRefusal) ⊎ ((result ≡ Moved)
-            × BuildLists log.now self.old (record { entries = entries; right = right }) self.new) }
+            × BuildLists log.now self.old (list_of entries right) self.new) }
     {
-        match self
-            .build
-            .visit(alloc, Listed::Entries(entries.as_slice(), right))
-        {
+        match self.build.visit(alloc, entries.as_slice(), right) {
             Ok(ScanMove::To(next)) => {
                 self.node = next;
                 Progress::Moved
@@ -167,50 +142,6 @@ impl Building {
         }
     }
 
-    // Visits the node at which it is: one on the way to the border of its cursor, or that border. It is lent no other.
-    fn scan(&mut self, alloc: Global, node: &Node, log: &Log) -> Progress
-        requires may { BuildMayVisit log.now self.old node.now }
-        requires scans { self.old.upto ≡ None }
-        requires begins { self.old.listing ≡ Listing.Begins }
-        ensures begins { self.new.listing ≡ Listing.Begins }
-        ensures request { building_request self.new ≡ building_request self.old }
-        ensures steps { (a : ArenaView) → Names a self.old.node.0 node.now
-            → (C : ℕ) → BuildingLaw C a log.now self.old result self.new }
-        ensures builds { (a : ArenaView) → Names a self.old.node.0 node.now
-            → BuildsOn a log.now self.old result self.new }
-        ensures gets_on { (a : ArenaView) → Names a self.old.node.0 node.now → BuildFollows a self.old result self.new }
-        ensures waits { (a : ArenaView) → Names a self.old.node.0 node.now → ReadWaits a self.old.node.0 result }
-        ensures fails { (a : ArenaView) → Names a self.old.node.0 node.now → ReadFails a self.old.node.0 result }
-    {
-        self.listing = Listing::Begins;
-        match seek_node(node, self.build.slice()) {
-            Sought::Again => {
-                self.build.restart();
-                self.node = TOP;
-                Progress::Waits
-            }
-            Sought::To(next) => {
-                self.node = next;
-                Progress::Moved
-            }
-            Sought::Here => match self.build.visit(alloc, Listed::Border(node.as_border())) {
-                Ok(ScanMove::To(next)) => {
-                    self.node = next;
-                    Progress::Moved
-                }
-                Ok(ScanMove::Top) => {
-                    self.node = TOP;
-                    Progress::Moved
-                }
-                Ok(ScanMove::Done) => {
-                    self.upto = Some(log.number());
-                    Progress::Moved
-                }
-                Err(_) => Progress::Refused(Refusal::NoMemory),
-            },
-        }
-    }
-
     // Takes the delta of the next commit.
     fn take(&mut self, log: &Log) -> Progress
         requires next { IsInLog log.now self.old.build.state.at self.old.upto }
@@ -219,7 +150,7 @@ impl Building {
         ensures request { building_request self.new ≡ building_request self.old }
         ensures steps { (a : ArenaView) (C : ℕ) → BuildingLaw C a log.now self.old result self.new }
         ensures builds { (a : ArenaView) → BuildsOn a log.now self.old result self.new }
-        ensures gets_on { (a : ArenaView) → BuildFollows a self.old result self.new }
+        ensures takes { (upto : ℕ) → self.old.upto ≡ Some upto → BuildTakes upto self.old result self.new }
         ensures waits { result ≢ Progress.Waits }
         ensures fails { OnlyForMemory result }
     {

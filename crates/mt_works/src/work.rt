@@ -8,7 +8,7 @@ ghost use Rattle.mt_steps.specs.Ranging.{range_request};
 ghost use Rattle.mt_works.specs.Building.{building_request};
 ghost use Rattle.mt_works.specs.Causes.{WorkWaits, WorkFails};
 ghost use Rattle.mt_works.specs.Follows.{WorkFollows, WorkReads, WorkPosts};
-ghost use Rattle.mt_works.specs.Works.{request_of, held, is_write, IsTrue, IsKey, IsNew, MayWork, MayPace, IsBuiltWork, HasNext, WorkBuilds};
+ghost use Rattle.mt_works.specs.Works.{request_of, held, is_write, IsTrue, IsKey, IsNew, MayWork, IsBuiltWork, HasNext, WorkBuilds};
 
 use crate::building::Building;
 use bytes::Bytes;
@@ -31,15 +31,6 @@ use mt_types::row::ColumnNumbers;
 use mt_types::view::ViewSpec;
 use mt_write::writing::{Edit, Stage, Write};
 use std::alloc::Global;
-
-/// How much of a border a step of a get, range or build reads.
-#[derive(Clone, Copy, Debug, PartialEq, Eq)]
-pub enum Pace {
-    /// One field, as among other calls.
-    Field,
-    /// All of it, as of a call alone.
-    Node,
-}
 
 /// What a call is at work on.
 #[derive(Drop)]
@@ -76,12 +67,11 @@ impl Work {
         }
     }
 
-    /// Visits one node. `epoch` is the present epoch. A get, range or build reads one field of a border, or all of it,
-    /// as `pace` states. A build that has scanned its keys takes one delta.
+    /// Makes one step. `epoch` is the present epoch. A get, range or build reads one field of a border, or visits a head or
+    /// an interior node; a build that has scanned its keys takes one delta. A put, remove or tidy visits one node.
     pub fn step(
         &mut self,
         alloc: Global,
-        pace: Pace,
         columns: u8,
         epoch: u64,
         tree: &mut Tree,
@@ -89,37 +79,27 @@ impl Work {
     ) -> Progress
         requires may { MayWork epoch columns tree.old log.old self.old }
         requires next { HasNext log.old self.old }
-        requires pace { MayPace pace self.old }
         ensures request { request_of self.new ≡ request_of self.old }
         ensures steps { StepLawIn epoch columns tree.old tree.new log.old log.new (request_of self.old) (held self.old)
             result (held self.new) (IsTrue columns self.old) (IsTrue columns self.new) }
         ensures builds { WorkBuilds tree.old log.old self.old result self.new }
-        ensures waits { WorkWaits pace tree.old self.old result }
+        ensures waits { WorkWaits tree.old self.old result }
         ensures fails { WorkFails tree.old log.old self.old result self.new }
-        ensures gets_on { WorkFollows pace tree.old log.old self.old result self.new }
+        ensures gets_on { WorkFollows tree.old log.old self.old result self.new }
         ensures reads { WorkReads tree.old tree.new self.old }
         ensures posts { WorkPosts tree.old tree.new self.old result self.new }
     {
         match self {
-            Work::Get(get) => match pace {
-                Pace::Field => get.step(alloc, tree),
-                Pace::Node => get.step_whole(alloc, tree),
-            },
+            Work::Get(get) => get.step(alloc, tree),
             Work::Write(write) => {
                 let _before = tree.free_numbers();
                 let progress = write.step(alloc, columns, tree, log);
                 let _after = tree.free_numbers();
                 progress
             }
-            Work::Range(range) => match pace {
-                Pace::Field => range.step(alloc, tree),
-                Pace::Node => range.step_whole(alloc, tree),
-            },
+            Work::Range(range) => range.step(alloc, tree),
             Work::Tidy(tidy) => tidy.step(tree, epoch),
-            Work::Build(building) => match pace {
-                Pace::Field => building.step(alloc, tree, log),
-                Pace::Node => building.step_whole(alloc, tree, log),
-            },
+            Work::Build(building) => building.step(alloc, tree, log),
         }
     }
 }

@@ -43,7 +43,7 @@ invariant_of-self-2 c =
     let none = subst (λ (s : MachineView). fault_of s c.args.request ≡ None) (sym c.self.view_is) c.requires in (
       happening (Begin c.args.pass c.args.request) (Called (record { 0 = c.self.inside.calls.begun + 1 })) 0 ∷ h,
       subst (λ (u : MachineView). Stands u (happening (Begin c.args.pass c.args.request) (Called (record { 0 = c.self.inside.calls.begun + 1 })) 0 ∷ h))
-          (sym (begun-stands c.args.pace s c.hold.new.log c.begin.new.self c.occupy.new.views c.args.pass c.number-from.result c.args.request c.in_ok-work.work none c.in_ok-work.ensures.request (subst (λ n. IsNew c.self.inside.columns n c.in_ok-work.work) c.number-from.ensures.value c.in_ok-work.ensures.new) c.number-from.ensures.value
+          (sym (begun-stands s c.hold.new.log c.begin.new.self c.occupy.new.views c.args.pass c.number-from.result c.args.request c.in_ok-work.work none c.in_ok-work.ensures.request (subst (λ n. IsNew c.self.inside.columns n c.in_ok-work.work) c.number-from.ensures.value c.in_ok-work.ensures.new) c.number-from.ensures.value
           c.in-Ok.ensures.ok (c.in_ok-hold.ensures.ok ∙ ap (λ reads. pinned reads c.self.inside.log) c.reads_log-reads.ensures) (c.occupy.ensures ∙ ap (λ builds. placed builds c.self.inside.views) c.is_build-builds.ensures)))
-          (called c.args.pace s c.args.pass c.args.request c.in_ok-work.work h st none c.in_ok-work.ensures.request (subst (λ n. IsNew c.self.inside.columns n c.in_ok-work.work) c.number-from.ensures.value c.in_ok-work.ensures.new)),
+          (called s c.args.pass c.args.request c.in_ok-work.work h st none c.in_ok-work.ensures.request (subst (λ n. IsNew c.self.inside.columns n c.in_ok-work.work) c.number-from.ensures.value c.in_ok-work.ensures.new)),
     )

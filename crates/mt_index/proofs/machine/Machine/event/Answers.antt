@@ -2,7 +2,6 @@ use Rattle.std.proofs.Common.{subst, sym, ◌∷◌}
 use Rattle.mt_types.specs.declared.event.Event.{Event}
 use Rattle.mt_types.specs.declared.event.Event.TheVariants.{Begin, Step, Apply, ViewRead, ViewDrop, Advance, Collect}
 use Rattle.mt_promise.specs.History.{happening}
-use Rattle.mt_works.specs.declared.work.Pace.TheVariants.{Field}
 use Rattle.mt_index.specs.Stands.{Stands}
 use Rattle.mt_index.specs.Causes.{IsCaused}
 use Rattle.mt_index.specs.OneStep.{IsOneStep}
@@ -22,7 +21,7 @@ returns-in-Begin c = record {
   stands = λ h st. (
     0,
     subst (λ (e : Event). Stands c.begin.new.self (happening e c.begin.result 0 ∷ h)) (sym c.in-Begin.is)
-        (begins-stands Field c.args.self.now c.begin.new.self c.in-Begin.pass c.in-Begin.request c.begin.result h c.begin.ensures.begins st),
+        (begins-stands c.args.self.now c.begin.new.self c.in-Begin.pass c.in-Begin.request c.begin.result h c.begin.ensures.begins st),
   );
   does = subst (λ (e : Event). EventDoes c.args.self.now e c.begin.result c.begin.new.self) (sym c.in-Begin.is)
       (begin-does c.args.self.now c.begin.new.self c.begin.result c.in-Begin.pass c.in-Begin.request c.begin.ensures.begins);
@@ -30,8 +29,8 @@ returns-in-Begin c = record {
   one_step = subst (λ (e : Event). IsOneStep c.args.self.now e c.begin.result c.begin.new.self) (sym c.in-Begin.is) tt;
   limited =
       let (h, st) = c.is_idle-stands.ensures.stands in
-      outcome-limited c.begin.new.self h (Begin c.in-Begin.pass c.in-Begin.request) c.begin.result 0 (begins-stands Field c.args.self.now c.begin.new.self c.in-Begin.pass c.in-Begin.request c.begin.result h c.begin.ensures.begins st);
-  columns = begins-columns Field c.args.self.now c.begin.new.self c.in-Begin.pass c.in-Begin.request c.begin.result c.begin.ensures.begins;
+      outcome-limited c.begin.new.self h (Begin c.in-Begin.pass c.in-Begin.request) c.begin.result 0 (begins-stands c.args.self.now c.begin.new.self c.in-Begin.pass c.in-Begin.request c.begin.result h c.begin.ensures.begins st);
+  columns = begins-columns c.args.self.now c.begin.new.self c.in-Begin.pass c.in-Begin.request c.begin.result c.begin.ensures.begins;
   bounds = c.begin.ensures.bounds;
 }
 

@@ -1,7 +1,7 @@
-use Rattle.mt_scan.specs.Listed.{list_in}
+use Rattle.mt_scan.specs.Listed.{list_of}
 use Rattle.mt_scan.proofs.VisitLemmas.{Visiting}
 use Rattle.mt_scan.proofs.scan.Scan.visit.Given as goal
 
 -- what the visit has done so far
-abbrev pub invariant-loop-place : goal.invariant-loop-place
-invariant-loop-place l = Visiting l.fn.self l.self (list_in l.listed) l.place
+abbrev pub invariant-loop-entry : goal.invariant-loop-entry
+invariant-loop-entry l = Visiting l.fn.self l.self (list_of l.entries l.right) l.entry-index

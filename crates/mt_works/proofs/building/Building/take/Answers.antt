@@ -1,6 +1,6 @@
 use Rattle.std.proofs.Common.{ℕ, ◌+◌, ap, ◌∙◌}
 use Rattle.mt_build.specs.Build.{BuildView}
-use Rattle.mt_works.proofs.BuildingLemmas.{is_scanned, take_moves, take_follows, build_fails}
+use Rattle.mt_works.proofs.BuildingLemmas.{is_scanned, take_moves, build_fails}
 use Rattle.mt_works.proofs.building.Building.take.Goals as goal
 
 pub returns-in-Ok-clause-steps : goal.returns-in-Ok-clause-steps
@@ -11,8 +11,5 @@ returns-in-Ok-clause-steps c = λ a C.
 pub returns-in-Err-clause-steps : goal.returns-in-Err-clause-steps
 returns-in-Err-clause-steps c = λ a C. build_fails a c.args.log.now c.args.self.now _ C
 
-pub returns-in-Ok-clause-gets_on : goal.returns-in-Ok-clause-gets_on
-returns-in-Ok-clause-gets_on c = λ a.
-    let (upto, is) = is_scanned c.args.self.now.upto c.requires.scanned in
-    take_follows a c.args.log.now c.args.self.now upto is _
-    (ap (λ (v : BuildView). v.state.at) c.in-Ok.ensures.ok ∙ (c.delta.ensures.numbered ∙ ap (λ (n : ℕ). n + 1) c.at-at.ensures))
+pub returns-in-Ok-clause-takes : goal.returns-in-Ok-clause-takes
+returns-in-Ok-clause-takes c = λ upto is. (is, ap (λ (v : BuildView). v.state.at) c.in-Ok.ensures.ok ∙ (c.delta.ensures.numbered ∙ ap (λ (n : ℕ). n + 1) c.at-at.ensures))

@@ -1,14 +1,8 @@
 use Rattle.mt_works.proofs.WorkLemmas.{step_get, step_write, step_range, step_tidy, step_build, may_get, may_range, may_tidy}
 use Rattle.mt_works.proofs.work.Work.step.Goals as goal
 
-pub returns-in-Field-clause-steps : goal.returns-in-Field-clause-steps
-returns-in-Field-clause-steps c = step_get c.args.epoch c.args.columns c.args.tree.now c.args.tree.now c.args.log.now c.args.log.now c.args.self.now c.in-Get.get _ _ _ c.in-Get.is (c.step.ensures.steps c.args.columns c.args.log.now)
-
-pub returns-in-Node-clause-steps : goal.returns-in-Node-clause-steps
-returns-in-Node-clause-steps c = step_get c.args.epoch c.args.columns c.args.tree.now c.args.tree.now c.args.log.now c.args.log.now c.args.self.now c.in-Get.get _ _ _ c.in-Get.is (c.step_whole.ensures.steps c.args.columns c.args.log.now)
-
-pub step_whole-requires-clause-may : goal.step_whole-requires-clause-may
-step_whole-requires-clause-may c = (c.args.log.now, may_get c.args.epoch c.args.columns c.args.tree.now c.args.log.now c.args.self.now c.in-Get.get c.in-Get.is c.requires.may)
+pub returns-in-Get-clause-steps : goal.returns-in-Get-clause-steps
+returns-in-Get-clause-steps c = step_get c.args.epoch c.args.columns c.args.tree.now c.args.tree.now c.args.log.now c.args.log.now c.args.self.now c.in-Get.get _ _ _ c.in-Get.is (c.step.ensures.steps c.args.columns c.args.log.now)
 
 pub returns-in-Write-clause-steps : goal.returns-in-Write-clause-steps
 returns-in-Write-clause-steps c = step_write c.args.epoch c.args.columns c.args.tree.now c.step-progress.new.tree c.args.log.now c.step-progress.new.log c.args.self.now c.in-Write.write _ _ _ c.in-Write.is c.step-progress.ensures.steps
@@ -22,20 +16,11 @@ step-requires c = (c.args.log.now, may_get c.args.epoch c.args.columns c.args.tr
 pub step-requires-in-Tidy : goal.step-requires-in-Tidy
 step-requires-in-Tidy c = may_tidy c.args.epoch c.args.columns c.args.tree.now c.args.log.now c.args.self.now c.in-Tidy.tidy c.in-Tidy.is c.requires.may
 
-pub step-requires-in-Field-pace : goal.step-requires-in-Field-pace
-step-requires-in-Field-pace c = (c.args.log.now, may_range c.args.epoch c.args.columns c.args.tree.now c.args.log.now c.args.self.now c.in-Range.range c.in-Range.is c.requires.may)
+pub step-requires-in-Range : goal.step-requires-in-Range
+step-requires-in-Range c = (c.args.log.now, may_range c.args.epoch c.args.columns c.args.tree.now c.args.log.now c.args.self.now c.in-Range.range c.in-Range.is c.requires.may)
 
-pub step_whole-requires-in-Node-pace-clause-may : goal.step_whole-requires-in-Node-pace-clause-may
-step_whole-requires-in-Node-pace-clause-may c = (c.args.log.now, may_range c.args.epoch c.args.columns c.args.tree.now c.args.log.now c.args.self.now c.in-Range.range c.in-Range.is c.requires.may)
+pub returns-in-Range-clause-steps : goal.returns-in-Range-clause-steps
+returns-in-Range-clause-steps c = step_range c.args.epoch c.args.columns c.args.tree.now c.args.tree.now c.args.log.now c.args.log.now c.args.self.now c.in-Range.range _ _ _ c.in-Range.is (c.step-in-Range.ensures.steps c.args.columns c.args.log.now)
 
-pub returns-in-Field-pace-clause-steps : goal.returns-in-Field-pace-clause-steps
-returns-in-Field-pace-clause-steps c = step_range c.args.epoch c.args.columns c.args.tree.now c.args.tree.now c.args.log.now c.args.log.now c.args.self.now c.in-Range.range _ _ _ c.in-Range.is (c.step-in-Field-pace.ensures.steps c.args.columns c.args.log.now)
-
-pub returns-in-Node-pace-clause-steps : goal.returns-in-Node-pace-clause-steps
-returns-in-Node-pace-clause-steps c = step_range c.args.epoch c.args.columns c.args.tree.now c.args.tree.now c.args.log.now c.args.log.now c.args.self.now c.in-Range.range _ _ _ c.in-Range.is (c.step_whole-in-Node-pace.ensures.steps c.args.columns c.args.log.now)
-
-pub returns-in-Field-pace-2-clause-steps : goal.returns-in-Field-pace-2-clause-steps
-returns-in-Field-pace-2-clause-steps c = step_build c.args.epoch c.args.columns c.args.tree.now c.args.log.now c.args.self.now c.in-Build.building _ c.step-in-Field-pace-2.new.self c.in-Build.is (c.step-in-Field-pace-2.ensures.steps c.args.columns)
-
-pub returns-in-Node-pace-2-clause-steps : goal.returns-in-Node-pace-2-clause-steps
-returns-in-Node-pace-2-clause-steps c = step_build c.args.epoch c.args.columns c.args.tree.now c.args.log.now c.args.self.now c.in-Build.building _ c.step_whole-in-Node-pace-2.new.self c.in-Build.is (c.step_whole-in-Node-pace-2.ensures.steps c.args.columns)
+pub returns-in-Build-clause-steps : goal.returns-in-Build-clause-steps
+returns-in-Build-clause-steps c = step_build c.args.epoch c.args.columns c.args.tree.now c.args.log.now c.args.self.now c.in-Build.building _ c.step-in-Build.new.self c.in-Build.is (c.step-in-Build.ensures.steps c.args.columns)
