@@ -1,12 +1,11 @@
 -- What holds of every interior node holds after each change.
-use Rattle.std.proofs.Common.{◌≡◌, ℕ, zero, suc, ◌^◌, ◌<◌, ◌≤◌, List, [], ◌∷◌, length, drop, get_or, Some, slice_get, refl, ap, arith, lit<, lit≤, length-drop}
-use Rattle.std.proofs.lemmas.List.Elements.{All-cons, All-nil, All-drop}
-use Rattle.std.proofs.lemmas.List.Sorted.{IsNonDecreasingBy-drop}
+use Rattle.std.proofs.Common.{◌≡◌, ℕ, zero, suc, ◌<◌, ◌≤◌, [], ◌∷◌, length, get_or, refl, arith, lit<, lit≤}
+use Rattle.std.proofs.lemmas.List.Elements.{All-cons, All-nil}
 use Rattle.std.proofs.lemmas.List.Edits.{length-insert, length-remove}
 use Rattle.std.proofs.lemmas.List.Sums.{prefix_len-le-length}
 use Rattle.std.specs.Prelude.{nat_le}
 use Rattle.mt_types.specs.declared.numbers.NodeNo.{NodeNo}
-use Rattle.mt_interior.specs.Interior.{InteriorView, IsInterior, StartsAt, new_interior, children_up_to, with_children, with_child, without_child, with_bypass}
+use Rattle.mt_interior.specs.Interior.{InteriorView, IsInterior, new_interior, children_up_to, with_children, with_child, without_child, with_bypass}
 use Rattle.mt_interior.specs.declared.child.Child.{Child}
 use Rattle.mt_interior.proofs.ChildrenLemmas.{some_up_to, All-inserted, All-removed, starts-inserted, starts-removed, rising-inserted, rising-removed, length-renamed, rising-renamed, starts-renamed, lower-renamed}
 
@@ -78,25 +77,3 @@ interior-root level first second least most at_0 lower lower_too = record {
     rising (suc i) zero d before within = absurd (omega arith)
     rising (suc i) (suc (suc j)) d before within = absurd (omega arith)
     rising (suc (suc i)) (suc zero) d before within = absurd (omega arith)
-
-starts-from : (place : ℕ) (child : Child) (children : List Child) → slice_get children place ≡ Some child → StartsAt child.low (drop place children)
-starts-from place child [] read = absurd (cc)
-starts-from zero child (first ∷ children) read = let same : first ≡ child = cc in ap (λ (c : Child). c.low) same
-starts-from (suc place) child (first ∷ children) read = starts-from place child children read
-
--- For callers of `fill`: the children of a node from a place on, in a new node of the same level and of the low there.
-pub interior-upper : (i : InteriorView) (place : ℕ) (child : Child) → slice_get i.children place ≡ Some child → child.low < 2 ^ 64 → IsInterior i → IsInterior (with_children (new_interior i.level child.low) (drop place i.children))
-interior-upper i place child read fits h =
-    let short : length (drop place i.children) ≤ length i.children = omega (arith, length-drop place i.children) in
-    let all = h.few in
-    record {
-      least = h.least;
-      most = h.most;
-      low_fits = fits;
-      few = omega (arith, short, all);
-      starts = starts-from place child i.children read;
-      rising = record { lows = IsNonDecreasingBy-drop (λ (c : Child). c.low) place i.children h.rising.lows };
-      lower = record { each = All-drop (λ c. c.level < i.level) place i.children h.lower.each };
-      inner = refl;
-      counters = record { vinsert_fits = lit< tt; vsplit_fits = lit< tt };
-    }

@@ -73,20 +73,12 @@ impl Head {
         self.level
     }
 
-    /// Whether the head is locked. Constant cost.
-    pub fn is_locked(&self) -> bool
-        ensures value { result ≡ self.now.version.locked }
+    /// The version word. Constant cost.
+    pub fn version(&self) -> Version
+        ensures value { result ≡ self.now.version }
         ensures sound { IsHead self.now }
     {
-        self.version.is_locked()
-    }
-
-    /// Whether the head is deleted. Constant cost.
-    pub fn is_deleted(&self) -> bool
-        ensures value { result ≡ self.now.version.deleted }
-        ensures sound { IsHead self.now }
-    {
-        self.version.deleted()
+        self.version
     }
 
     /// Names another root, which has this level. Constant cost.

@@ -1,6 +1,6 @@
 //! The interior node itself.
 
-ghost use Rattle.std.specs.Prelude.{◌≡◌, ◌==◌, ◌+◌, ◌<◌, ◌≤◌, ◌↔◌, length, drop, slice_get, slice_set, slice_index_or, position, [], Some, IsSomeAnd, IsTrue, IfOk, IfSome, true, false};
+ghost use Rattle.std.specs.Prelude.{◌≡◌, ◌==◌, ◌+◌, ◌<◌, ◌≤◌, ◌↔◌, length, slice_get, slice_set, slice_index_or, position, [], Some, IsSomeAnd, IsTrue, IfSome, true, false};
 ghost use Rattle.std.specs.Bool.{IsFalse};
 ghost use Rattle.arrayvec.specs.ArrayVec.{array_vec_len};
 ghost use Rattle.mt_types.specs.declared.limits.TheConstants.{MAX_LEVEL};
@@ -8,11 +8,8 @@ ghost use Rattle.mt_interior.specs.Interior.{new_interior, children_up_to, with_
 
 use crate::child::Child;
 use arrayvec::ArrayVec;
-use mt_types::items::Items;
 use mt_types::numbers::NodeNo;
-use mt_types::refusal::NoMemory;
 use mt_word::Version;
-use std::alloc::Global;
 use std::marker::Model;
 
 /// The most children of an interior node.
@@ -108,20 +105,12 @@ impl Interior {
         self.len() == MAX_CHILDREN
     }
 
-    /// Whether the node is locked. Constant cost.
-    pub fn is_locked(&self) -> bool
-        ensures value { result ≡ self.now.version.locked }
+    /// The version word. Constant cost.
+    pub fn version(&self) -> Version
+        ensures value { result ≡ self.now.version }
         ensures sound { IsInterior self.now }
     {
-        self.version.is_locked()
-    }
-
-    /// Whether the node is deleted. Constant cost.
-    pub fn is_deleted(&self) -> bool
-        ensures value { result ≡ self.now.version.deleted }
-        ensures sound { IsInterior self.now }
-    {
-        self.version.deleted()
+        self.version
     }
 
     /// The child at a place. Constant cost.
@@ -237,19 +226,6 @@ impl Interior {
         ensures sound { IsInterior self.new }
     {
         rename(&mut self.children, place, node, level);
-    }
-
-    /// A copy of the children from a place on. Costs one allocation and a copy of each.
-    ///
-    /// # Errors
-    ///
-    /// `NoMemory` if the allocation is refused.
-    pub fn copy_upper(&self, alloc: Global, place: usize) -> Result<Items<Child>, NoMemory>
-        requires { place ≤ length self.now.children }
-        ensures { IfOk result (λ children. children ≡ drop place self.now.children) }
-    {
-        let upper = self.children.as_slice()[place..].to_vec(alloc)?;
-        Ok(Items::from_vec(upper))
     }
 
     /// Keeps the first `count` children, at least one. Costs a write of each child that is dropped.
