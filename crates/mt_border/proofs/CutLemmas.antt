@@ -6,7 +6,7 @@ use Rattle.mt_slice.specs.Classes.{class_number}
 use Rattle.mt_border.specs.Entry.{entry_rank, content_class, IsContent}
 use Rattle.mt_border.specs.Table.{blank_slot}
 use Rattle.mt_border.specs.Order.{IsOrdered, AreEntries}
-use Rattle.mt_border.specs.Cut.{IsCut, IsBestCut, slices, distance}
+use Rattle.mt_border.specs.Cut.{IsCut, slices, distance}
 use Rattle.mt_border.specs.declared.entry.Entry.{Entry}
 use Rattle.mt_border.specs.declared.entry.Content.{Content}
 use Rattle.mt_border.specs.declared.entry.Content.TheVariants.{Short, Long, Link}
@@ -15,42 +15,8 @@ use Rattle.mt_border.specs.declared.entry.Content.TheVariants.{Short, Long, Link
 pub record NoneNearer (live : List Entry) (d : ℕ) : Type 0 where
   pub each : (i : ℕ) → IsCut live i → d ≤ distance i 8
 
-pub none_nearer_yet : (live : List Entry) → NoneNearer live 0
-none_nearer_yet live = record { each = λ i h. omega arith }
-
 pub none_nearer_than : (live : List Entry) (d e : ℕ) → d ≤ e → NoneNearer live e → NoneNearer live d
 none_nearer_than live d e small h = record { each = λ i cut. omega (arith, h.each i cut) }
-
-pub none_nearer_still : (live : List Entry) (d : ℕ) → NoneNearer live d → (IsCut live (8 - d) → ⊥) → (IsCut live (8 + d) → ⊥) → NoneNearer live (d + 1)
-none_nearer_still live d h low high = record {
-  each = λ i cut.
-      let far : d ≤ distance i 8 = h.each i cut in
-      elim (cases_eq i (8 - d)) [
-        | inl e ↦ absurd (low (rw e at cut))
-        | inr off ↦ elim (cases_eq i (8 + d)) [
-          | inl e ↦ absurd (high (rw e at cut))
-          | inr up ↦ omega (arith, far, off, up)
-        ]
-      ];
-}
-
-pub best_below : (live : List Entry) (d : ℕ) → d < 8 → NoneNearer live d → IsCut live (8 - d) → IsBestCut live (8 - d)
-best_below live d small h cut = record {
-  lawful = cut;
-  nearest = λ j other. omega (arith, h.each j other);
-  smaller = λ j other same. omega (arith, same);
-}
-
-pub best_above : (live : List Entry) (d : ℕ) → d < 8 → NoneNearer live d → (IsCut live (8 - d) → ⊥) → IsCut live (8 + d) → IsBestCut live (8 + d)
-best_above live d small h low cut = record {
-  lawful = cut;
-  nearest = λ j other. omega (arith, h.each j other);
-  smaller = λ j other same.
-      elim (cases_eq j (8 - d)) [
-        | inl e ↦ absurd (low (rw e at other))
-        | inr off ↦ omega (arith, same, off)
-      ];
-}
 
 pub class_below : (content : Content) → IsContent content → class_number (content_class content) ≤ 9
 class_below (Short bytes row) h = omega arith

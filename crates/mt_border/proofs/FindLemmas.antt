@@ -1,8 +1,8 @@
 -- A search among the live entries.
-use Rattle.std.proofs.Common.{◌≡◌, ℕ, ◌+◌, ◌<◌, ◌≤◌, List, [], ◌∷◌, ◌++◌, append_assoc, length, drop, refl, sym, ap, ◌∙◌, arith, Some, Bool, true, false, slice_get, ◌==◌, ◌*◌, nat_lt}
+use Rattle.std.proofs.Common.{◌≡◌, ℕ, ◌+◌, ◌<◌, List, [], ◌∷◌, ◌++◌, append_assoc, length, drop, refl, sym, ap, ◌∙◌, arith, Some, Bool, true, false, slice_get, ◌==◌, ◌*◌, nat_lt}
 use Rattle.std.specs.List.{prefix_len}
 use Rattle.std.proofs.lemmas.List.Sums.{prefix_len-drop_no, prefix_len-drop_yes}
-use Rattle.std.proofs.lemmas.List.{drop_more, drop_all}
+use Rattle.std.proofs.lemmas.List.{drop_more}
 use Rattle.std.proofs.lemmas.Option.{get_or_from_slice_get}
 use Rattle.mt_slice.specs.Classes.{class_number}
 use Rattle.mt_slice.specs.declared.slice_class.Class.{Class}
@@ -49,9 +49,4 @@ module _ (slice : ℕ) (class : Class) (suffix : List ℕ) (live : List Entry) (
   absent_at_place entry e p within read other =
       let miss : (entry_rank entry == rank_at slice class) ≡ false = rw e at other in
       let first : found_first slice class suffix i (drop i live) ≡ Absent i = rw (from_place live i entry within read, miss) refl in
-      sym first ∙ at_place e p
-
-  pub absent_past_all : number ≡ class_number class → i ≡ prefix_len (is_before_rank (slice * 10 + number)) live → length live ≤ i → Absent i ≡ found_in slice class suffix live
-  absent_past_all e p past =
-      let first : found_first slice class suffix i (drop i live) ≡ Absent i = rw (drop_all i live past) refl in
       sym first ∙ at_place e p

@@ -1,5 +1,5 @@
 -- What a border shows of its slots, in their order, through each change.
-use Rattle.std.proofs.Common.{◌≡◌, ◌≢◌, ℕ, zero, suc, ◌+◌, ◌<◌, ◌≤◌, List, [], ◌∷◌, ◌++◌, length, take, drop, map, set, get_or, replicate, refl, sym, ap, ◌∙◌, arith, subst, Bool}
+use Rattle.std.proofs.Common.{◌≡◌, ◌≢◌, ℕ, zero, suc, ◌<◌, ◌≤◌, List, [], ◌∷◌, ◌++◌, length, take, drop, map, set, get_or, replicate, refl, sym, ap, ◌∙◌, arith, subst, Bool}
 use Rattle.std.specs.List.{All, AllPairs, remove}
 use Rattle.std.proofs.lemmas.List.{length-map, map-append, take-map, drop-map, get_or-set_same, get_or-set_other, length-set, set-set}
 use Rattle.mt_word.specs.Slots.{Slots, places, with_first_unused_at, without_place, with_first}
@@ -99,10 +99,6 @@ module _ (live : List Entry) (unused : List Slot) (xs : List Slot) (s : Slots) (
 
   unused_count : length unused ≡ length s.unused
   unused_count = rw h.unused_is (length-picked xs s s.unused)
-
-  -- live and unused slots are fifteen
-  pub fifteen_seen : length live + length unused ≡ 15
-  fifteen_seen = omega (arith, live_count, unused_count, fifteen_together s h.table.arranged)
 
   pub unused_there : length live < 15 → 0 < length s.unused
   unused_there room = omega (arith, live_count, fifteen_together s h.table.arranged)

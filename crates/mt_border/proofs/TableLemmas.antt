@@ -1,5 +1,5 @@
 -- What the live and the unused slots hold, through each edit of the order or of one slot.
-use Rattle.std.proofs.Common.{◌≡◌, ◌≢◌, ℕ, suc, ◌+◌, ◌<◌, ◌≤◌, List, [], ◌∷◌, ◌++◌, length, take, drop, map, set, get_or, refl, sym, ap, ◌∙◌, arith, add-one, length-append, append_assoc, subst, Some, slice_get}
+use Rattle.std.proofs.Common.{◌≡◌, ◌≢◌, ℕ, suc, ◌+◌, ◌<◌, List, [], ◌∷◌, ◌++◌, length, take, drop, map, set, get_or, refl, sym, ap, ◌∙◌, arith, add-one, length-append, append_assoc, subst, Some, slice_get}
 use Rattle.std.specs.List.{AllPairs, remove}
 use Rattle.mt_border.specs.Entry.{entry_row}
 use Rattle.std.proofs.lemmas.List.{get_or-map, get_or_default, length-map, map-append, take-map, drop-map, get_or-set_same, get_or-set_other, get_or_append_left, get_or-append-add, take_at, drop_at, drop_more, take-append-drop, length-take-le}
@@ -22,19 +22,12 @@ module _ (xs : List Slot) (s : Slots) where
   pub length-picked : (ks : List ℕ) → length (picked xs ks) ≡ length ks
   length-picked ks = length-map ks (λ (k : ℕ). get_or xs k blank_slot)
 
-  -- the fifteen slots are seen
-  pub seen_slots : IsArranged s → length (lists xs s).live + length (lists xs s).unused ≡ 15
-  seen_slots h = omega (arith, fifteen_together s h, length-picked s.live, length-picked s.unused)
-
   pub room_left : IsArranged s → length (picked xs s.live) < 15 → 0 < length s.unused
   room_left h room = omega (arith, length-picked s.live, fifteen_together s h)
 
   -- a place that is seen to be live
   pub live_place : (i : ℕ) → i < length (picked xs s.live) → i < length s.live
   live_place i h = omega (arith, length-picked s.live)
-
-  pub live_place_le : (i : ℕ) → i ≤ length (picked xs s.live) → i ≤ length s.live
-  live_place_le i h = omega (arith, length-picked s.live)
 
   pub lists-shown : (i : ℕ) → let t = lists xs s in lists xs (word.with_first_unused_at s i) ≡ record { live = take i t.live ++ (take 1 t.unused ++ drop i t.live); unused = drop 1 t.unused }
   lists-shown i = simp (map-append, take-map, drop-map)

@@ -1,24 +1,20 @@
-//! A border node: fifteen slots, their order, its low and its right link, and its split.
+//! A border node: fifteen slots, their order, its low and its right link, and its changes.
 
-ghost use Rattle.std.specs.Prelude.{◌≡◌, ℕ, ◌+◌, ◌-◌, ◌*◌, ◌^◌, ◌==◌, nat_lt, ◌<◌, ◌≤◌, ◌↔◌, ◌∷◌, ◌++◌, length, take, drop, slice_get, Some, None, IsSome, IsErr, IsTrue, OnOk, OnErr, IfOk, IfErr, true, false, []};
-ghost use Rattle.std.specs.List.{list_any, prefix_len};
+ghost use Rattle.std.specs.Prelude.{◌≡◌, ◌+◌, ◌<◌, ◌≤◌, ◌↔◌, length, take, drop, slice_get, Some, IsSome, IsErr, IsTrue, OnOk, OnErr, IfOk, IfErr, true, false, []};
+ghost use Rattle.std.specs.List.{list_any};
 ghost use Rattle.std.specs.Bool.{IsFalse};
 ghost use Rattle.mt_word.specs.declared.permutation_word.TheConstants.{SLOTS};
 ghost use Rattle.mt_word.specs.declared.version_word.TheConstants.{MAX_INSERTS, MAX_SPLITS};
 ghost use Rattle.mt_word.specs.Version.{IsVersion};
-ghost use Rattle.mt_border.specs.Entry.{IsEntry, entry_rank};
+ghost use Rattle.mt_border.specs.Entry.{IsEntry};
 ghost use Rattle.mt_border.specs.Border.{new_border, with_filled, with_shown, with_hidden, with_value, with_link_at, with_entries, with_split, with_right, with_lock, with_deleted, right_for, row_at, suffix_at, fill_is_spent, filled_version, next_row};
 ghost use Rattle.mt_border.specs.Parts.{IsKeyOf, IsValueOf};
 ghost use Rattle.mt_border.specs.Slots.{slot_at};
 ghost use Rattle.mt_border.specs.Order.{IsBorder, IsLeftOf, AreBelow};
-ghost use Rattle.mt_border.specs.Find.{entries_before, found_in, found_content};
-ghost use Rattle.mt_border.specs.Cut.{IsBestCut, IsCut};
 
-use crate::entry::{Content, Entry, RightLink};
+use crate::entry::{Entry, RightLink};
 use crate::field::{KeyPart, ValuePart};
-use crate::found::Found;
 use crate::slot_table::SlotTable;
-use mt_slice::Class;
 use mt_types::copying::TryCopy;
 use mt_types::items::Items;
 use mt_types::numbers::NodeNo;
@@ -26,11 +22,7 @@ use mt_types::refusal::{NoMemory, Refusal};
 use mt_types::row::Row;
 use mt_word::{Permutation, SLOTS, Version};
 use std::alloc::Global;
-use std::cmp::Ordering;
 use std::marker::Model;
-
-// The place nearest to which a full border is cut in two.
-const MIDDLE: usize = 8;
 
 /// A border node: at most fifteen live entries of one layer, in the order of their slices and classes.
 ///
@@ -80,41 +72,6 @@ fn version_split(version: Version) -> Version
     match raised.bump_split() {
         Ok(()) => raised,
         Err(_) => unreachable!(),
-    }
-}
-
-// Whether the entry is before this slice and the class of this number.
-fn is_before(entry: &Entry, slice: u64, class: u8) -> bool
-    requires { class < 10 }
-    ensures { result ≡ nat_lt (entry_rank entry.now) (slice * 10 + class) }
-{
-    let own = entry.class().number();
-    entry.slice < slice || entry.slice == slice && own < class
-}
-
-// Whether the entry is at this slice and the class of this number.
-fn stands_at(entry: &Entry, slice: u64, class: u8) -> bool
-    requires { class < 10 }
-    ensures { result ≡ (entry_rank entry.now == slice * 10 + class) }
-{
-    let own = entry.class().number();
-    entry.slice == slice && own == class
-}
-
-// What this content, at a place, is to a key with this suffix.
-fn found_content(content: &Content, place: usize, suffix: &[u8]) -> Found
-    ensures { result ≡ found_content suffix.now place content.now }
-{
-    match content {
-        Content::Short(_, _) => Found::Row(place),
-        Content::Long(held, _) => {
-            if held.as_slice() == suffix {
-                Found::Row(place)
-            } else {
-                Found::OtherSuffix(place)
-            }
-        }
-        Content::Link(head) => Found::Link(place, *head),
     }
 }
 
@@ -186,22 +143,6 @@ impl Border {
         ensures sound { IsBorder self.now }
     {
         self.len() == SLOTS
-    }
-
-    /// Whether the border is locked. Constant cost.
-    pub fn is_locked(&self) -> bool
-        ensures value { result ≡ self.now.version.locked }
-        ensures sound { IsBorder self.now }
-    {
-        self.version.is_locked()
-    }
-
-    /// Whether the border is deleted. Constant cost.
-    pub fn is_deleted(&self) -> bool
-        ensures value { result ≡ self.now.version.deleted }
-        ensures sound { IsBorder self.now }
-    {
-        self.version.deleted()
     }
 
     /// Whether the counter of splits is at its greatest value, 2^64 - 1. Constant cost.
@@ -303,42 +244,6 @@ impl Border {
         ensures sound { IsBorder self.new }
     {
         self.version.mark_deleted();
-    }
-
-    // How many live entries come before this slice and the class of this number.
-    fn place_of(&self, slice: u64, class: u8) -> usize
-        requires { class < 10 }
-        ensures value { result ≡ prefix_len (λ entry. nat_lt (entry_rank entry) (slice * 10 + class)) self.now.live }
-        ensures within { result ≤ length self.now.live }
-    {
-        let count = self.len();
-        for place in 0..count {
-            if !is_before(self.entry(place), slice, class) {
-                return place;
-            }
-        }
-        count
-    }
-
-    /// Returns the place at which an entry of this slice and class is or would be inserted, and what is there for a
-    /// key with this suffix after the slice. The suffix counts only for the class `Long`.
-    ///
-    /// Looks at each live entry up to that place, compares at most one suffix, and takes no memory (Masstree,
-    /// EuroSys 2012, section 4.6).
-    pub fn find(&self, slice: u64, class: Class, suffix: &[u8]) -> Found
-        ensures value { result ≡ found_in slice class suffix.now self.now.live }
-        ensures within { entries_before slice class self.now.live ≤ length self.now.live }
-        ensures sound { IsBorder self.now }
-    {
-        let number = class.number();
-        let place = self.place_of(slice, number);
-        if place < self.len() {
-            let entry = self.entry(place);
-            if stands_at(entry, slice, number) {
-                return found_content(&entry.content, place, suffix);
-            }
-        }
-        Found::Absent(place)
     }
 
     /// Writes an entry into the first unused slot, in which it isn't visible. If that slot held a key, the counter of
@@ -462,35 +367,5 @@ impl Border {
         ensures sound { IsBorder self.new }
     {
         self.right = link;
-    }
-
-    // Whether the entries of a full border may be cut in two before this place.
-    fn is_cut(&self, place: usize) -> bool
-        requires full { length self.now.live ≡ SLOTS }
-        requires first { 1 ≤ place }
-        ensures { IsTrue result ↔ IsCut self.now.live place }
-    {
-        place < SLOTS && self.entry(place - 1).slice != self.entry(place).slice
-    }
-
-    /// The place before which a full border is cut in two: of the places from 1 to 14 at which the slices on both sides
-    /// differ, the nearest to 8, or the smaller of the two nearest. There is one, since a slice has ten classes.
-    ///
-    /// Looks at each entry at most twice, and takes no memory.
-    pub fn cut_place(&self) -> usize
-        requires { length self.now.live ≡ SLOTS }
-        ensures { IsBestCut self.now.live result }
-    {
-        let is_full = self.is_full();
-        prove!(is_full);
-        for distance in 0..MIDDLE {
-            if self.is_cut(MIDDLE - distance) {
-                return MIDDLE - distance;
-            }
-            if self.is_cut(MIDDLE + distance) {
-                return MIDDLE + distance;
-            }
-        }
-        unreachable!()
     }
 }

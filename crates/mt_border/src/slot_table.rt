@@ -135,6 +135,7 @@ fn blank_slots(alloc: Global) -> ArrayVec<Slot, SLOTS, Global>
     slots
 }
 
+#[tactic(auto, using(mt_word::proofs::PlacesLemmas::fifteen_together))]
 impl SlotTable {
     /// Fifteen slots that hold nothing yet. It allocates nothing.
     pub fn new(alloc: Global) -> Self

@@ -8,4 +8,4 @@ pub returns-clause-filled : goal.returns-clause-filled
 returns-clause-filled c = rw (c.fill.ensures, ← c.self.view_is) (sound_filled c.self.inside.layer c.self.inside.low c.self.inside.right c.self.inside.version c.self.inside.table c.args.entry c.first_unused.result.now _ (rw (← c.self.view_is) at c.requires) c.first_unused.ensures c.in_ok-self-inside.ensures.ok c.in_ok-self-inside.ensures.whole c.class-class.ensures.whole c.self.invariant).0
 
 pub returns-clause-sound : goal.returns-clause-sound
-returns-clause-sound c = rw c.fill.ensures (sound_filled c.self.inside.layer c.self.inside.low c.self.inside.right c.self.inside.version c.self.inside.table c.args.entry c.first_unused.result.now _ (rw (← c.self.view_is) at c.requires) c.first_unused.ensures c.in_ok-self-inside.ensures.ok c.in_ok-self-inside.ensures.whole c.class-class.ensures.whole c.self.invariant).1
+returns-clause-sound c = invariant_of-self c

@@ -1,5 +1,0 @@
-use Rattle.mt_border.proofs.TableLemmas.{room_left}
-use Rattle.mt_border.proofs.slot_table.SlotTable.fill.Goals as goal
-
-pub first_unused-slot-requires : goal.first_unused-slot-requires
-first_unused-slot-requires c = room_left c.self.inside.slots.items c.self.inside.permutation c.self.invariant.arranged (rw (← c.self.view_is) at c.requires)
