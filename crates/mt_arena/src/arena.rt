@@ -50,7 +50,7 @@ impl Arena {
     ///
     /// # Errors
     ///
-    /// `NoMemory` where an allocation is refused.
+    /// `NoMemory` if an allocation is refused.
     pub fn open(alloc: Global, first: Node) -> Result<Arena, NoMemory>
         ensures first { IfOk result (λ arena. Updates [] arena.nodes 0 (Some first)) }
         ensures retired { IfOk result (λ arena. arena.retired ≡ []) }
@@ -63,15 +63,7 @@ impl Arena {
         Ok(Arena { nodes, retired })
     }
 
-    /// How many numbers name a node, those of retired nodes too. Constant cost.
-    pub fn len(&self) -> usize
-        ensures value { result ≡ occupied self.now.nodes }
-        ensures sound { IsArena self.now }
-    {
-        self.nodes.len()
-    }
-
-    /// How many numbers name no node. Constant cost.
+    /// How many numbers name no node; those of retired nodes still do. Constant cost.
     pub fn free_numbers(&self) -> usize
         ensures value { result + occupied self.now.nodes ≡ MAX_NODES }
         ensures sound { IsArena self.now }
@@ -88,36 +80,6 @@ impl Arena {
         &self.nodes[number.0 as usize]
     }
 
-    /// The head under a number. Constant cost.
-    pub fn head(&self, number: NodeNo) -> &Head
-        requires { IsSome (head_at self.now.nodes number.0) }
-        ensures value { head_at self.now.nodes number.0 ≡ Some result.now }
-        ensures sound { IsHead result.now }
-        ensures arena { IsArena self.now }
-    {
-        self.get(number).as_head()
-    }
-
-    /// The interior node under a number. Constant cost.
-    pub fn interior(&self, number: NodeNo) -> &Interior
-        requires { IsSome (interior_at self.now.nodes number.0) }
-        ensures value { interior_at self.now.nodes number.0 ≡ Some result.now }
-        ensures sound { IsInterior result.now }
-        ensures arena { IsArena self.now }
-    {
-        self.get(number).as_interior()
-    }
-
-    /// The border under a number. Constant cost.
-    pub fn border(&self, number: NodeNo) -> &Border
-        requires { IsSome (border_at self.now.nodes number.0) }
-        ensures value { border_at self.now.nodes number.0 ≡ Some result.now }
-        ensures sound { IsBorder result.now }
-        ensures arena { IsArena self.now }
-    {
-        self.get(number).as_border()
-    }
-
     /// The head under a number, to be changed. Constant cost.
     pub fn head_mut(&mut self, number: NodeNo) -> &mut Head
         requires { IsSome (head_at self.old.nodes number.0) }
@@ -125,7 +87,11 @@ impl Arena {
         ensures value { head_at self.old.nodes number.0 ≡ Some result.now }
         ensures sound { IsHead result.now }
     {
-        self.nodes[number.0 as usize].head_mut()
+        let Node::Head(head) = &mut self.nodes[number.0 as usize] else {
+            unreachable!()
+        };
+        let _level = head.level();
+        head
     }
 
     /// The interior node under a number, to be changed. Constant cost.
@@ -135,7 +101,11 @@ impl Arena {
         ensures value { interior_at self.old.nodes number.0 ≡ Some result.now }
         ensures sound { IsInterior result.now }
     {
-        self.nodes[number.0 as usize].interior_mut()
+        let Node::Interior(interior) = &mut self.nodes[number.0 as usize] else {
+            unreachable!()
+        };
+        let _level = interior.level();
+        interior
     }
 
     /// The border under a number, to be changed. Constant cost.
@@ -145,15 +115,19 @@ impl Arena {
         ensures value { border_at self.old.nodes number.0 ≡ Some result.now }
         ensures sound { IsBorder result.now }
     {
-        self.nodes[number.0 as usize].border_mut()
+        let Node::Border(border) = &mut self.nodes[number.0 as usize] else {
+            unreachable!()
+        };
+        let _layer = border.layer();
+        border
     }
 
-    /// Puts a node under a number that named none, and gives that number. Makes room for it in the list of retired
-    /// nodes too. Constant cost, but for a move of all nodes where their number doubles.
+    /// Puts a node under a number that named none, and returns that number. Makes room for it in the list of retired
+    /// nodes too. Constant cost, but for a move of all nodes when their number doubles.
     ///
     /// # Errors
     ///
-    /// `ArenaFull` where each number names a node, `NoMemory` where an allocation is refused. Nothing is then changed.
+    /// `ArenaFull` if each number names a node, `NoMemory` if an allocation is refused. Nothing is changed then.
     pub fn spare(&mut self, node: Node) -> Result<NodeNo, Refusal>
         ensures vacant { IfOk result (λ number. node_at self.old.nodes number.0 ≡ None) }
         ensures below { IfOk result (λ number. number.0 < MAX_NODES) }

@@ -15,6 +15,4 @@ invariant_of-self c =
     (sound-retired c.self.inside.nodes.slots c.self.inside.retired.items c.args.number c.args.epoch _ (rw (← c.self.view_is) at c.requires.named) (rw (← c.self.view_is) at c.requires.not_retired) (rw (← c.self.view_is) at c.requires.no_earlier) c.self.invariant)
 
 pub returns-clause-sound : goal.returns-clause-sound
-returns-clause-sound c =
-    rw c.push_back_reserved.ensures.items
-    (sound-retired c.self.inside.nodes.slots c.self.inside.retired.items c.args.number c.args.epoch _ (rw (← c.self.view_is) at c.requires.named) (rw (← c.self.view_is) at c.requires.not_retired) (rw (← c.self.view_is) at c.requires.no_earlier) c.self.invariant).arena
+returns-clause-sound c = (invariant_of-self c).arena
