@@ -6,7 +6,7 @@ use Rattle.mt_border.specs.Border.{BorderView}
 use Rattle.mt_border.specs.Order.{IsBorder}
 use Rattle.mt_interior.specs.Head.{HeadView, IsHead}
 use Rattle.mt_interior.specs.Interior.{InteriorView, IsInterior}
-use Rattle.mt_arena.specs.Node.{node_at, head_of, interior_of, border_of, head_at, interior_at, border_at}
+use Rattle.mt_arena.specs.Node.{Nodes, with_node, node_at, head_of, interior_of, border_of, head_at, interior_at, border_at}
 use Rattle.mt_arena.specs.Arena.{ArenaView, with_node_at, with_head_changed, with_interior_changed, with_border_changed, head_changed, interior_changed, border_changed}
 use Rattle.mt_arena.specs.declared.node.Node.{Node}
 use Rattle.mt_arena.specs.declared.node.Node.TheVariants.{Head, Interior, Border}
@@ -93,24 +93,23 @@ changed-interior a number i change is = ap (λ (n : Option Node). with_nodes a n
 pub changed-border : (a : ArenaView) (number : ℕ) (b : BorderView) (change : BorderView → BorderView) → border_at a.nodes number ≡ Some b → with_border_changed a number change ≡ with_node_at a number (Border (change b))
 changed-border a number b change is = ap (λ (n : Option Node). with_nodes a number (option_map (border_changed change) n)) (node-from_border a.nodes number b is)
 
--- what is written under a number is what it then names
-now_names : (a : ArenaView) (number : ℕ) (old node : Node) → node_at a.nodes number ≡ Some old → node_at (with_node_at a number node).nodes number ≡ Some node
-now_names a number old node is = (updates-with_node a.nodes number node (rw is (some old))).changed
-  where
-    some : (n : Node) → IsSome (Some n)
-    some n = cc
+-- a number that names a node of a kind names one
+named : {T : Type 0} (of : Node → Option T) (node : Option Node) → IsSome (option_and_then of node) → IsSome node
+named of None there = there
+named of (Some node) there = refl
 
-pub sound_head : (a : ArenaView) (number : ℕ) (old new : HeadView) → head_at a.nodes number ≡ Some old → IsHead new → IsSomeAnd (head_at (with_node_at a number (Head new)).nodes number) IsHead
-sound_head a number old new is sound =
-    let now : head_at (with_node_at a number (Head new)).nodes number ≡ Some new = ap (option_and_then head_of) (now_names a number (Head old) (Head new) (node-from_head a.nodes number old is)) in
+-- what is written under a number is what it then names, and sound
+pub sound_head : (nodes : Nodes) (number : ℕ) (new : HeadView) → IsSome (head_at nodes number) → IsHead new → IsSomeAnd (head_at (with_node nodes number (Head new)) number) IsHead
+sound_head nodes number new there sound =
+    let now : head_at (with_node nodes number (Head new)) number ≡ Some new = ap (option_and_then head_of) (updates-with_node nodes number (Head new) (named head_of (node_at nodes number) there)).changed in
     rw now sound
 
-pub sound_interior : (a : ArenaView) (number : ℕ) (old new : InteriorView) → interior_at a.nodes number ≡ Some old → IsInterior new → IsSomeAnd (interior_at (with_node_at a number (Interior new)).nodes number) IsInterior
-sound_interior a number old new is sound =
-    let now : interior_at (with_node_at a number (Interior new)).nodes number ≡ Some new = ap (option_and_then interior_of) (now_names a number (Interior old) (Interior new) (node-from_interior a.nodes number old is)) in
+pub sound_interior : (nodes : Nodes) (number : ℕ) (new : InteriorView) → IsSome (interior_at nodes number) → IsInterior new → IsSomeAnd (interior_at (with_node nodes number (Interior new)) number) IsInterior
+sound_interior nodes number new there sound =
+    let now : interior_at (with_node nodes number (Interior new)) number ≡ Some new = ap (option_and_then interior_of) (updates-with_node nodes number (Interior new) (named interior_of (node_at nodes number) there)).changed in
     rw now sound
 
-pub sound_border : (a : ArenaView) (number : ℕ) (old new : BorderView) → border_at a.nodes number ≡ Some old → IsBorder new → IsSomeAnd (border_at (with_node_at a number (Border new)).nodes number) IsBorder
-sound_border a number old new is sound =
-    let now : border_at (with_node_at a number (Border new)).nodes number ≡ Some new = ap (option_and_then border_of) (now_names a number (Border old) (Border new) (node-from_border a.nodes number old is)) in
+pub sound_border : (nodes : Nodes) (number : ℕ) (new : BorderView) → IsSome (border_at nodes number) → IsBorder new → IsSomeAnd (border_at (with_node nodes number (Border new)) number) IsBorder
+sound_border nodes number new there sound =
+    let now : border_at (with_node nodes number (Border new)) number ≡ Some new = ap (option_and_then border_of) (updates-with_node nodes number (Border new) (named border_of (node_at nodes number) there)).changed in
     rw now sound

@@ -15,6 +15,7 @@ use mt_types::numbers::NodeNo;
 use mt_types::refusal::Refusal;
 use mt_types::row::Row;
 
+#[tactic(auto, using(crate::proofs::SeenLemmas::sound_border, crate::proofs::BorderMarks::lock_keeps, crate::proofs::BorderMarks::mark_keeps, crate::proofs::BorderRows::shows_next, crate::proofs::BorderRows::hides_at, crate::proofs::BorderRows::sets_at, crate::proofs::UnlinkSteps::may_take_right, crate::proofs::LayerSteps::makes_layer, crate::proofs::LayerSteps::drops_layer))]
 impl Tree {
     /// Locks a border. Constant cost.
     pub fn lock_border(&mut self, number: NodeNo)

@@ -23,7 +23,7 @@ pub fn visit_head(head: &Head) -> Visit
     ensures again { result ≡ Visit.Again → head.now.version.deleted ≡ true }
     ensures sound { IsHead head.now }
 {
-    if head.is_deleted() {
+    if head.version().deleted() {
         return Visit::Again;
     }
     Visit::To(head.root())
@@ -37,7 +37,7 @@ pub fn visit_interior(interior: &Interior, slice: u64) -> Visit
     ensures again { result ≡ Visit.Again → interior.now.version.deleted ≡ true }
     ensures sound { IsInterior interior.now }
 {
-    if interior.is_deleted() {
+    if interior.version().deleted() {
         return Visit::Again;
     }
     Visit::To(interior.child(interior.child_for(slice)).node)
@@ -66,7 +66,7 @@ pub fn arrive(border: &Border, rest: &[u8]) -> Result<Found, Visit>
     ensures again { result ≡ Err Visit.Again → border.now.version.deleted ≡ true }
     ensures sound { IsBorder border.now }
 {
-    if border.is_deleted() {
+    if border.version().deleted() {
         return Err(Visit::Again);
     }
     let (slice, _) = slice_of(rest);

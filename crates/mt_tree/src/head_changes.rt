@@ -11,6 +11,7 @@ ghost use Rattle.mt_tree.specs.HeadSteps.{IsRootOver, NamesRootAt, IsRootOverHal
 use crate::tree::Tree;
 use mt_types::numbers::NodeNo;
 
+#[tactic(auto, using(crate::proofs::SeenLemmas::sound_head, crate::proofs::HeadChanges::unlock_keeps, crate::proofs::HeadChanges::mark_keeps, crate::proofs::HeadChanges::name_root_keeps, crate::proofs::HeadChanges::name_root_over_half_keeps, crate::proofs::HeadChanges::bypass_root_keeps))]
 impl Tree {
     /// Unlocks a head. Constant cost.
     pub fn unlock_head(&mut self, number: NodeNo)

@@ -11,6 +11,7 @@ use crate::tree::Tree;
 use mt_interior::Child;
 use mt_types::numbers::NodeNo;
 
+#[tactic(auto, using(crate::proofs::SeenLemmas::sound_interior, crate::proofs::InteriorChanges::lock_keeps, crate::proofs::InteriorChanges::mark_keeps, crate::proofs::InteriorChanges::fill_keeps, crate::proofs::InteriorChanges::drop_child_keeps, crate::proofs::InteriorChanges::keep_first_keeps, crate::proofs::InteriorChanges::bypass_keeps, crate::proofs::InteriorChanges::post_border_keeps, crate::proofs::InteriorChanges::post_half_keeps))]
 impl Tree {
     /// Locks an interior. Constant cost.
     pub fn lock_interior(&mut self, number: NodeNo)

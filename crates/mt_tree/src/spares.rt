@@ -16,14 +16,14 @@ use mt_types::items::Items;
 use mt_types::numbers::NodeNo;
 use mt_types::refusal::Refusal;
 
+#[tactic(auto, using(crate::proofs::SeenLemmas::sound_border, crate::proofs::SpareLemmas::given_unknown, crate::proofs::SpareLemmas::keeps_nodes, crate::proofs::SpareLemmas::frees_first))]
 impl Tree {
-    /// Puts a node under a number that named none, and gives that number: it is a spare, which nothing else names.
-    /// Constant cost, but for a move of all nodes where their number doubles.
+    /// Puts a node under a number that named none, and returns that number: it is a spare, which nothing else names.
+    /// Constant cost, but for a move of all nodes when their number doubles.
     ///
     /// # Errors
     ///
-    /// `ArenaFull` where all 1,048,576 numbers name a node, `NoMemory` where an allocation is refused. Nothing is
-    /// then changed.
+    /// `ArenaFull` if all 1,048,576 numbers name a node, `NoMemory` if an allocation is refused. Nothing is changed then.
     pub fn occupy(&mut self, node: Node) -> Result<NodeNo, Refusal>
         ensures vacant { IfOk result (λ number. node_at self.old.nodes number.0 ≡ None) }
         ensures below { IfOk result (λ number. number.0 < MAX_NODES) }
@@ -80,19 +80,17 @@ impl Tree {
         self.arena.first_retired()
     }
 
-    /// Frees the node that was retired first, and tells its number. Constant cost.
+    /// Frees the node that was retired first, and returns its number. Constant cost.
     pub fn free_first_retired(&mut self) -> NodeNo
         requires { 0 < length self.old.retired }
         ensures first { IsSomeAnd (slice_get self.old.retired 0) (λ first. result ≡ first.node) }
         ensures value { self.new ≡ without_first_retired self.old }
         ensures frees { FreesNode self.old self.new result.0 }
     {
-        match self.arena.first_retired() {
-            Some(first) => {
-                self.arena.free_first_retired();
-                first.node
-            }
-            None => unreachable!(),
-        }
+        let Some(first) = self.arena.first_retired() else {
+            unreachable!()
+        };
+        self.arena.free_first_retired();
+        first.node
     }
 }

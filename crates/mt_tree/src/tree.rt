@@ -50,7 +50,7 @@ impl Tree {
     ///
     /// # Errors
     ///
-    /// `NoMemory` where an allocation is refused.
+    /// `NoMemory` if an allocation is refused.
     pub fn open(alloc: Global) -> Result<Tree, NoMemory>
         ensures new { IfOk result IsNewTree }
         ensures index { IfOk result (λ tree. (new : IsNewTree tree) → IsIndexAt tree 0 [] (new_chart new.root.0)) }
@@ -99,7 +99,11 @@ impl Tree {
         ensures sound { IsHead result.now }
         ensures arena { IsArena self.now }
     {
-        self.arena.head(number)
+        let Node::Head(head) = self.node(number) else {
+            unreachable!()
+        };
+        let _level = head.level();
+        head
     }
 
     /// The interior node under a number. Constant cost.
@@ -109,7 +113,11 @@ impl Tree {
         ensures sound { IsInterior result.now }
         ensures arena { IsArena self.now }
     {
-        self.arena.interior(number)
+        let Node::Interior(interior) = self.node(number) else {
+            unreachable!()
+        };
+        let _level = interior.level();
+        interior
     }
 
     /// The border under a number. Constant cost.
@@ -119,6 +127,10 @@ impl Tree {
         ensures sound { IsBorder result.now }
         ensures arena { IsArena self.now }
     {
-        self.arena.border(number)
+        let Node::Border(border) = self.node(number) else {
+            unreachable!()
+        };
+        let _layer = border.layer();
+        border
     }
 }
