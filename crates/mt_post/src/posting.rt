@@ -161,7 +161,7 @@ impl Posting {
         ensures { PostStep tree.now tree.now self.old result self.new }
     {
         let head = tree.head(node);
-        if head.is_deleted() {
+        if head.version().deleted() {
             return self.leave_out(tree, node, LeftOutCause::HeadDeleted);
         }
         let goal = self.goal();
@@ -213,11 +213,11 @@ impl Posting {
         ensures { PostStep tree.old tree.new self.old result self.new }
     {
         let interior = tree.interior(node);
-        if interior.is_deleted() {
+        if interior.version().deleted() {
             self.stage = PostStage::Walks(self.head);
             return Progressed::Waits;
         }
-        if interior.is_locked() {
+        if interior.version().is_locked() {
             self.stage = PostStage::Walks(self.head);
             return Progressed::Waits;
         }
@@ -313,7 +313,7 @@ impl Posting {
         ensures { PostStep tree.old tree.new self.old result self.new }
     {
         let head = tree.head(self.head);
-        let (deleted, there) = (head.is_deleted(), head.root());
+        let (deleted, there) = (head.version().deleted(), head.root());
         if deleted || there.0 != old.node.0 || head.level() != old.level {
             self.stage = PostStage::RootLate(root);
             return Progressed::Moved;

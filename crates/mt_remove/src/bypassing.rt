@@ -63,7 +63,7 @@ impl Tidy {
     {
         let interior = lone.interior;
         let top = tree.head(head);
-        if top.is_deleted() || top.root().0 != interior.0 {
+        if top.version().deleted() || top.root().0 != interior.0 {
             self.stage = Stage::KeepsInterior(interior);
             return Progress::Moved;
         }

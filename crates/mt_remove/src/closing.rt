@@ -50,7 +50,7 @@ impl Tidy {
         ensures { TidyStep epoch tree.old tree.new self.old result self.new }
     {
         let head = tree.head(layer.head);
-        if head.is_deleted() || head.root().0 != layer.root.0 {
+        if head.version().deleted() || head.root().0 != layer.root.0 {
             self.stage = Stage::KeepsLayer(layer);
             return Progress::Moved;
         }

@@ -75,7 +75,7 @@ impl Tidy {
         requires may { MayTidy epoch tree.old self.old }
         ensures { TidyStep epoch tree.old tree.new self.old result self.new }
     {
-        if tree.border(node).is_locked() {
+        if tree.border(node).version().is_locked() {
             return Progress::Waits;
         }
         tree.unlink(node, border);

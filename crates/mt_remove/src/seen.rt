@@ -20,7 +20,7 @@ fn free_interior(node: &Node) -> Option<&Interior>
 {
     match node {
         Node::Interior(interior) => {
-            if interior.is_deleted() || interior.is_locked() {
+            if interior.version().deleted() || interior.version().is_locked() {
                 None
             } else {
                 Some(interior)
@@ -77,7 +77,7 @@ fn free_border(node: &Node) -> Option<&Border>
 {
     match node {
         Node::Border(border) => {
-            if border.is_deleted() || border.is_locked() {
+            if border.version().deleted() || border.version().is_locked() {
                 None
             } else {
                 Some(border)

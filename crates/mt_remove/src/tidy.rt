@@ -58,7 +58,7 @@ impl Tidy {
     {
         let node = self.way.node;
         let border = tree.border(node);
-        if border.is_locked() {
+        if border.version().is_locked() {
             return nothing();
         }
         match sign_of(border, &noted) {

@@ -1,4 +1,4 @@
-//! Interior nodes by example: the upper half of a full one is copied, and it keeps the lower one.
+//! Interior nodes by example: a full one keeps its lower half.
 
 ghost use Rattle.std.specs.Prelude.{◌≡◌};
 
@@ -42,15 +42,13 @@ fn led_to(interior: &Interior, slice: u64) -> Option<u32> {
 }
 
 #[test]
-fn upper_half_is_copied(rt: HostRuntime) -> Result<(), Fail> {
+fn lower_half_is_kept(rt: HostRuntime) -> Result<(), Fail> {
     let mut root = root();
     for k in 0..14u32 {
         post(&mut root, 11 + u64::from(k), 3 + k);
     }
     assert!(rt; root.is_full());
-    let upper = root.copy_upper(rt.alloc(), KEPT_CHILDREN)?;
-    assert_eq!(rt; upper.as_slice().len(), 8);
-    assert_eq!(rt; upper.as_slice()[0], border(17, 9));
+    assert_eq!(rt; root.child(KEPT_CHILDREN), border(17, 9));
     root.keep_first(KEPT_CHILDREN);
     assert_eq!(rt; root.len(), 8);
     assert_eq!(rt; led_to(&root, 100), Some(8));

@@ -90,7 +90,7 @@ impl Write {
             };
         }
         match self.way.arrive(tree, &self.key) {
-            Ok(_) if tree.border(self.way.node).is_locked() => one_step(Progress::Waits),
+            Ok(_) if tree.border(self.way.node).version().is_locked() => one_step(Progress::Waits),
             Ok(found) => self.finish(alloc, columns, tree, log, found),
             Err(went) => one_step(self.follow(went)),
         }

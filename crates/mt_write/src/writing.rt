@@ -167,7 +167,7 @@ impl Write {
     {
         match self.way.arrive(tree, &self.key) {
             Ok(_) => {
-                if tree.border(self.way.node).is_locked() {
+                if tree.border(self.way.node).version().is_locked() {
                     return Progress::Waits;
                 }
                 tree.lock_border(self.way.node);

@@ -24,7 +24,7 @@ arrive-requires c = may_seek c.args.tree.now c.args.self.now (c.args.columns, c.
 
 pub returns-in-Ok-clause-runs : goal.returns-in-Ok-clause-runs
 returns-in-Ok-clause-runs c = subst (λ (run : WriteRun). HasRun c.args.columns (record { tree = c.args.tree.now; log = c.args.log.now; write = c.args.self.now }) run (record { tree = c.args.tree.now; log = c.args.log.now; write = c.args.self.now })) (sym c.one_step.ensures)
-    (sought c.args.columns c.args.tree.now c.args.log.now c.args.self.now c.requires.may c.requires.trimmed (c.is_seeking.ensures.0 c.if-not-is_seeking.false) c.free_numbers-before.ensures.arena c.number-trimmed.ensures.sound Waits c.args.self.now (seeks_still c.args.tree.now c.args.self.now Here c.in-Ok.ensures.ends (c.is_seeking.ensures.0 c.if-not-is_seeking.false) c.border.result.now c.border.ensures.value (sym c.is_locked.ensures.value ∙ c.if-is_locked.true)) refl)
+    (sought c.args.columns c.args.tree.now c.args.log.now c.args.self.now c.requires.may c.requires.trimmed (c.is_seeking.ensures.0 c.if-not-is_seeking.false) c.free_numbers-before.ensures.arena c.number-trimmed.ensures.sound Waits c.args.self.now (seeks_still c.args.tree.now c.args.self.now Here c.in-Ok.ensures.ends (c.is_seeking.ensures.0 c.if-not-is_seeking.false) c.border.result.now c.border.ensures.value (rw c.version.ensures.value at (sym c.is_locked.ensures ∙ c.if-is_locked.true))) refl)
 
 pub returns-in-Err-clause-runs : goal.returns-in-Err-clause-runs
 returns-in-Err-clause-runs c = subst (λ (run : WriteRun). HasRun c.args.columns (record { tree = c.args.tree.now; log = c.args.log.now; write = c.args.self.now }) run (record { tree = c.args.tree.now; log = c.args.log.now; write = c.follow.new.self })) (sym c.one_step-in-Err.ensures)
