@@ -27,7 +27,7 @@ use Rattle.mt_write.specs.Writing.{edit_request}
 use Rattle.mt_works.specs.declared.work.Work.{Work}
 use Rattle.mt_works.specs.declared.work.Work.TheVariants.{Get as GetWork, Write as WriteWork, Range as RangeWork, Tidy as TidyWork, Build as BuildWork}
 use Rattle.mt_works.specs.Building.{ScansOn, GoesOn, IsUpTo, IsInLog}
-use Rattle.mt_steps.specs.declared.listing.Listing.{Listing}
+use Rattle.mt_steps.specs.Listing.{Listing}
 use Rattle.mt_works.specs.Works.{request_of, IsTrue, IsBuiltWork, HasNext, WorkBuilds}
 use Rattle.mt_index.specs.Viewing.{ReadsFrom, ReadsOf, deltas_between}
 use Rattle.mt_index.specs.Stands.{MachineView, IsPast, Stands}

@@ -28,14 +28,16 @@ use Rattle.mt_chart.proofs.ReadingStay.{right_held, climbs_right}
 use Rattle.mt_tree.specs.Seen.{arena_seen, border_seen, right_seen, entry_seen, content_seen}
 use Rattle.mt_tree.specs.Fields.{fields_seen}
 use Rattle.mt_tree.proofs.DescentLemmas.{slice_of_place}
+use Rattle.mt_steps.specs.Reader.{bounded, by_visit, counters_of, is_flagged, looked, same_counters, settled}
 use Rattle.mt_steps.specs.declared.way.Way.{Way}
-use Rattle.mt_steps.specs.declared.finding.Counters.{Counters}
-use Rattle.mt_steps.specs.declared.finding.Finding.{Finding}
-use Rattle.mt_steps.specs.declared.finding.Finding.TheVariants.{Begins, Looked, Bounded, Reads, AtValue, Settles}
-use Rattle.mt_steps.specs.declared.finding.Reading.{Reading}
-use Rattle.mt_steps.specs.declared.finding.Reading.TheVariants.{Restarts, Repeats, GoesOn, To, Below as BelowReading, Answers}
+use Rattle.mt_steps.specs.declared.reader.Counters.{Counters}
+use Rattle.mt_steps.specs.Finding.{Finding}
+use Rattle.mt_steps.specs.declared.reader.Reader.TheVariants.{Begins, Looked, Bounded, Reads, AtValue, Settles}
+use Rattle.mt_steps.specs.Finding.{FindReading}
+use Rattle.mt_steps.specs.declared.reader.Reading.TheVariants.{Restarts, Repeats, GoesOn, To, Finds}
 use Rattle.mt_types.specs.declared.event.Request.TheVariants.{Get as GetRequest}
-use Rattle.mt_steps.specs.Finding.{counters_of, is_flagged, looked, bounded, is_before}
+use Rattle.mt_types.specs.declared.event.Answer.TheVariants.{Absent as AbsentAnswer, Found}
+use Rattle.mt_steps.specs.Finding.{is_before}
 use Rattle.mt_steps.specs.Getting.{AtBorder, HasBound, FindingIsTrue, reads_made}
 use Rattle.mt_steps.specs.Standing.{counters_seen, Still}
 use Rattle.mt_steps.proofs.StandLemmas.{looks_at, holds_on, bound, there_now, few_live, orders_now, still_so}
@@ -54,7 +56,7 @@ use Rattle.mt_chart.proofs.ReadingKeys.{stops_at_end}
 use Rattle.mt_chart.proofs.ReadingStay.{searches_stay, ages_none}
 use Rattle.mt_tree.proofs.AgeLemmas.{are_slots}
 use Rattle.mt_steps.specs.declared.finding.Sight.TheVariants.{Absent as AbsentSight}
-use Rattle.mt_steps.specs.Finding.{settles, next_key, ordered}
+use Rattle.mt_steps.specs.Finding.{settles, next_key}
 use Rattle.std.specs.Prelude.{unwrap_or}
 use Rattle.std.specs.Str.{bytes_eq}
 use Rattle.std.proofs.lemmas.Slice.Eq.{bytes_eq-Decides}
@@ -73,7 +75,6 @@ use Rattle.mt_chart.specs.Reading.{StandsBefore, StandsAfter, HasLinkKey}
 use Rattle.mt_chart.proofs.ReadingKeys.{passes_key, stops_after, stops_other, finds_row, finds_link}
 use Rattle.mt_tree.specs.Fields.{content_mark}
 use Rattle.mt_tree.proofs.DescentLemmas.{class_long}
-use Rattle.mt_steps.specs.declared.finding.Glance.{Glance}
 use Rattle.mt_steps.specs.declared.finding.Kind.TheVariants.{Row as RowKind, Link as LinkKind}
 use Rattle.mt_steps.specs.Finding.{key_found, key_read}
 use Rattle.mt_slice.specs.Place.{rest_at, slices_above}
@@ -90,8 +91,8 @@ use Rattle.mt_tree.specs.declared.visit.Visit.TheVariants.{Again as VisitAgain, 
 use Rattle.mt_steps.specs.declared.finding.Kind.{Kind}
 use Rattle.mt_steps.specs.declared.finding.Sight.{Sight}
 use Rattle.mt_steps.specs.declared.finding.Sight.TheVariants.{Row as RowSight, Link as LinkSight}
-use Rattle.mt_steps.specs.Finding.{value_read, settled, sight_told, same_counters}
-use Rattle.mt_steps.specs.Getting.{IsPlaceOf, GoesDeeper, KeyIsTrue, Fits, SightIsTrue, by_visit}
+use Rattle.mt_steps.specs.Finding.{value_read, at_order, notes_at, FindNotes}
+use Rattle.mt_steps.specs.Getting.{IsPlaceOf, GoesDeeper, KeyIsTrue, Fits, SightIsTrue}
 use Rattle.mt_steps.specs.Way.{Visits, went_by}
 use Rattle.mt_steps.proofs.WayLemmas.{layer_below}
 
@@ -143,19 +144,29 @@ pub record GoesOnTo (begun : ℕ) (key : List ℕ) (way next : Way) (w : World) 
   pub climbs : (made : ℕ) → Trail begun w.chart way.node.0 made → Trail begun w.chart next.node.0 (suc made)
 
 -- what is true after a reading
-abbrev pub LeadsTo : List ℕ → List ℕ → Way → Finding → ℕ → List Arena → ArenaView → World → Reading → Type 0
+abbrev pub LeadsTo : List ℕ → List ℕ → Way → Finding → ℕ → List Arena → ArenaView → World → FindReading → Type 0
 LeadsTo key asked way finding begun past a w Restarts = Unit {0}
 LeadsTo key asked way finding begun past a w Repeats = IsOnWay begun key way w
 LeadsTo key asked way finding begun past a w (GoesOn next) =
     FindingIsTrue key asked way next begun (arena_seen a ∷ (arena_seen a ∷ past)) a w × (reads_made finding < reads_made next)
 LeadsTo key asked way finding begun past a w (To node) = GoesOnTo begun key way (record { node = node; layer = way.layer }) w
-LeadsTo key asked way finding begun past a w (BelowReading head) = GoesOnTo begun key way (record { node = head; layer = way.layer + 1 }) w
-LeadsTo key asked way finding begun past a w (Answers answer) = IsRight past a (GetRequest key asked) None answer
+LeadsTo key asked way finding begun past a w (Finds AbsentSight) = IsRight past a (GetRequest key asked) None AbsentAnswer
+LeadsTo key asked way finding begun past a w (Finds (RowSight row)) = IsRight past a (GetRequest key asked) None (Found row)
+LeadsTo key asked way finding begun past a w (Finds (LinkSight head)) = GoesOnTo begun key way (record { node = head; layer = way.layer + 1 }) w
 
 module _ (a : ArenaView) (now : ℕ) (w : World) (world : IsWorld a now w) (begun : ℕ) (key asked : List ℕ) (way : Way) (past : List Arena) where
   -- it holds the border that it reads
   pub on_border : (counters : Counters) → AtBorder begun key way counters a w → IsOnWay begun key way w
   on_border counters at = record { layer = at.layer; held = holds_on a now w world begun (prefix_of key way) (slice_number (rest_of key way)) way.node.0 counters at.here }
+
+  -- it holds the node at which it is
+  pub on_way : (finding : Finding) → FindingIsTrue key asked way finding begun (arena_seen a ∷ past) a w → IsOnWay begun key way w
+  on_way Begins on = on
+  on_way (Looked counters) at = on_border counters at
+  on_way (Bounded counters right) (at, bound) = on_border counters at
+  on_way (Reads notes) (at, bound, within, searches) = on_border notes.glance.counters at
+  on_way (AtValue notes kind) (at, within, deep, is_true) = on_border notes.glance.counters at
+  on_way (Settles counters sight) (at, fits, is_true) = on_border counters at
 
   -- ---- the version
   module _ (b : BorderView) (named : border_at a.nodes way.node.0 ≡ Some b) (sound : IsBorder b) (on : IsOnWay begun key way w) where
@@ -229,10 +240,10 @@ module _ (a : ArenaView) (now : ℕ) (w : World) (world : IsWorld a now w) (begu
     -- the key at a place is next, if there is one
     next_leads : (finding : Finding) (right : Option RightLink) (order : Slots) (place : ℕ) → reads_made finding < 3 + place → reads_made finding < 20 → length order.live ≤ 15 → HasBound key way counters at.here.b right begun w
         → (Still counters at.here.b → Searches (shown asked) w.chart begun (arena_seen a ∷ arenas) prefix f (option_map right_seen right) order.live (place_of rest) place)
-        → LeadsTo key asked way finding begun past a w (next_key (record { counters = counters; right = right; order = order }) place)
+        → LeadsTo key asked way finding begun past a w (next_key (notes_at counters right order place))
     next_leads finding right order place less few fits bound searches = go (nat_lt place (length order.live)) refl
       where
-        go : (b : Bool) → nat_lt place (length order.live) ≡ b → LeadsTo key asked way finding begun past a w (cond b (GoesOn (Reads (record { counters = counters; right = right; order = order }) place)) (settles counters AbsentSight))
+        go : (b : Bool) → nat_lt place (length order.live) ≡ b → LeadsTo key asked way finding begun past a w (cond b (GoesOn (Reads (notes_at counters right order place))) (settles counters AbsentSight))
         go true is = ((at, bound, (ltb-true place (length order.live) is, fits), searches), less)
         go false is = settles_none finding few (λ still.
             let found = searches still in
@@ -240,7 +251,7 @@ module _ (a : ArenaView) (now : ℕ) (w : World) (world : IsWorld a now w) (begu
             (stops_at_end (shown asked) w.chart begun (arena_seen a ∷ arenas) prefix f (option_map right_seen right) order.live (place_of rest) place found (ltb-false place (length order.live) is)))
 
     -- ---- the order
-    pub leads_ordered : IsBorder at.here.b → (right : Option RightLink) → HasBound key way counters at.here.b right begun w → LeadsTo key asked way (Bounded counters right) begun past a w (ordered counters right at.here.b.order)
+    pub leads_ordered : IsBorder at.here.b → (right : Option RightLink) → HasBound key way counters at.here.b right begun w → LeadsTo key asked way (Bounded counters right) begun past a w (at_order (Bounded counters right) at.here.b.order)
     leads_ordered sound right bound = next_leads (Bounded counters right) right at.here.b.order 0 (omega arith) (omega arith) (few_live a now w world begun prefix slice way.node.0 counters at.here sound) bound (λ still. record {
       was = map f.slot at.here.b.order.live;
       order = orders_now a now w world begun prefix slice way.node.0 counters at.here (shown asked) arenas sound right bound still;
@@ -250,8 +261,8 @@ module _ (a : ArenaView) (now : ℕ) (w : World) (world : IsWorld a now w) (begu
     -- ---- the key of a slot
     module _ (bytes : AreBytes rest) (right : Option RightLink) (order : Slots) (place : ℕ) (within : place < length order.live) (fits : length order.live ≤ 15) (bound : HasBound key way counters at.here.b right begun w)
         (searches : Still counters at.here.b → Searches (shown asked) w.chart begun arenas prefix f (option_map right_seen right) order.live (place_of rest) place) where
-      abbrev glance : Glance
-      glance = record { counters = counters; right = right; order = order }
+      abbrev notes : FindNotes
+      notes = notes_at counters right order place
 
       abbrev number : ℕ
       number = slice_index order.live place
@@ -277,7 +288,7 @@ module _ (a : ArenaView) (now : ℕ) (w : World) (world : IsWorld a now w) (begu
         here_slice = at_slice ∙ sym (slice_of_place rest)
 
         -- a row of the key sought
-        row_here : (row : Row) → HoldsRow e.slice (content_seen e.content) (place_of rest) row → LeadsTo key asked way (Reads glance place) begun past a w (GoesOn (AtValue glance place RowKind))
+        row_here : (row : Row) → HoldsRow e.slice (content_seen e.content) (place_of rest) row → LeadsTo key asked way (Reads notes) begun past a w (GoesOn (AtValue notes RowKind))
         row_here row holds = (
           (at, (within, fits), tt, (λ still. finds_row (shown asked) w.chart begun (arena_seen a ∷ arenas) prefix f (option_map right_seen right) order.live (place_of rest) place number number_at_place (later_searches still) row holds)),
           omega arith,
@@ -285,8 +296,8 @@ module _ (a : ArenaView) (now : ℕ) (w : World) (world : IsWorld a now w) (begu
 
         -- the row of another
         other_here : (other : Place) (row : Row) → content_mark e.content ≡ plain → HoldsRow e.slice (content_seen e.content) other row → class (content_seen e.content) ≡ sought → other ≢ place_of rest
-            → LeadsTo key asked way (Reads glance place) begun past a w (settles counters AbsentSight)
-        other_here other row mark holds at_class differs = settles_none (Reads glance place) few (λ still.
+            → LeadsTo key asked way (Reads notes) begun past a w (settles counters AbsentSight)
+        other_here other row mark holds at_class differs = settles_none (Reads notes) few (λ still.
             let found = later_searches still in
             lacks_then (option_map right_seen right) order.live place (arena_seen a ∷ arenas) bound.passes found
             (stops_other (shown asked) w.chart begun (arena_seen a ∷ arenas) prefix f (option_map right_seen right) order.live (place_of rest) place number number_at_place found mark other row holds here_slice
@@ -296,7 +307,7 @@ module _ (a : ArenaView) (now : ℕ) (w : World) (world : IsWorld a now w) (begu
         long_rest at_class nine = class_long (length rest) (sym at_class ∙ nine)
 
         by_content : (content : Content) → e.content ≡ content → class (content_seen content) ≡ sought → (mark : Mark) → mark ≡ part_mark content → (same : Bool) → bytes_eq part.suffix.now (drop 8 rest) ≡ same
-            → LeadsTo key asked way (Reads glance place) begun past a w (key_found glance place mark same)
+            → LeadsTo key asked way (Reads notes) begun past a w (key_found notes mark same)
         by_content (Short bytes row) here at_class mark marked same is_same = go mark marked same is_same
           where
             most : bytes ≤ 8
@@ -320,7 +331,7 @@ module _ (a : ArenaView) (now : ℕ) (w : World) (world : IsWorld a now w) (begu
             holds : HoldsRow e.slice (content_seen e.content) (place_of rest) row
             holds = subst (λ (c : Content). HoldsRow e.slice (content_seen c) (place_of rest) row) (sym here) (place_of-short rest short ∙ (ap (λ (n : ℕ). last n (length rest)) (sym at_slice) ∙ ap (λ (n : ℕ). last e.slice n) (sym as_long)), refl)
 
-            go : (mark : Mark) → mark ≡ Plain → (same : Bool) → bytes_eq part.suffix.now (drop 8 rest) ≡ same → LeadsTo key asked way (Reads glance place) begun past a w (key_found glance place mark same)
+            go : (mark : Mark) → mark ≡ Plain → (same : Bool) → bytes_eq part.suffix.now (drop 8 rest) ≡ same → LeadsTo key asked way (Reads notes) begun past a w (key_found notes mark same)
             go Plain marked true is_same = row_here row holds
             go Plain marked false is_same = absurd (let equal : bytes_eq part.suffix.now (drop 8 rest) ≡ true = (bytes_eq-Decides part.suffix.now (drop 8 rest)).1 (no_suffix ∙ sym nothing) in cc)
             go Layer marked same is_same = absurd (cc)
@@ -348,7 +359,7 @@ module _ (a : ArenaView) (now : ℕ) (w : World) (world : IsWorld a now w) (begu
                 below_same : deeper e.slice (place_of suffix) ≡ deeper slice (place_of (drop 8 rest)) → place_of suffix ≡ place_of (drop 8 rest)
                 below_same is = cc
 
-            go : (mark : Mark) → mark ≡ Plain → (same : Bool) → bytes_eq part.suffix.now (drop 8 rest) ≡ same → LeadsTo key asked way (Reads glance place) begun past a w (key_found glance place mark same)
+            go : (mark : Mark) → mark ≡ Plain → (same : Bool) → bytes_eq part.suffix.now (drop 8 rest) ≡ same → LeadsTo key asked way (Reads notes) begun past a w (key_found notes mark same)
             go Plain marked true is_same =
                 row_here row (subst (λ (x : Place). HoldsRow e.slice (content_seen e.content) x row) (same_place (sym suffix_is ∙ (bytes_eq-Decides part.suffix.now (drop 8 rest)).0 is_same)) holds)
             go Plain marked false is_same = other_here its_place row (ap content_mark here) holds (ap (λ (c : Content). class (content_seen c)) here ∙ at_class)
@@ -359,7 +370,7 @@ module _ (a : ArenaView) (now : ℕ) (w : World) (world : IsWorld a now w) (begu
             long : 8 < length rest
             long = long_rest (ap (λ (c : Content). class (content_seen c)) here ∙ at_class) (ap (λ (c : Content). class (content_seen c)) here)
 
-            go : (mark : Mark) → mark ≡ Layer → LeadsTo key asked way (Reads glance place) begun past a w (key_found glance place mark same)
+            go : (mark : Mark) → mark ≡ Layer → LeadsTo key asked way (Reads notes) begun past a w (key_found notes mark same)
             go Plain marked = absurd (cc)
             go Layer marked = (
               (
@@ -372,7 +383,7 @@ module _ (a : ArenaView) (now : ℕ) (w : World) (world : IsWorld a now w) (begu
               omega arith,
             )
 
-      pub leads_key : (part : KeyPart) → IsKeyOf e part → LeadsTo key asked way (Reads glance place) begun past a w (key_read rest glance place part)
+      pub leads_key : (part : KeyPart) → IsKeyOf e part → LeadsTo key asked way (Reads notes) begun past a w (key_read rest notes part)
       leads_key part is = go (is_before part.slice own slice sought) refl
         where
           own : ℕ
@@ -414,8 +425,8 @@ module _ (a : ArenaView) (now : ℕ) (w : World) (world : IsWorld a now w) (begu
               ]
 
           at_key : (b : Bool) → is_before part.slice own slice sought ≡ false → is_before slice sought part.slice own ≡ b
-              → LeadsTo key asked way (Reads glance place) begun past a w (cond b (settles counters AbsentSight) (key_found glance place part.mark (bytes_eq part.suffix.now (drop 8 rest))))
-          at_key true no_less more = settles_none (Reads glance place) few (λ still.
+              → LeadsTo key asked way (Reads notes) begun past a w (cond b (settles counters AbsentSight) (key_found notes part.mark (bytes_eq part.suffix.now (drop 8 rest))))
+          at_key true no_less more = settles_none (Reads notes) few (λ still.
               let found = later_searches still in
               lacks_then (option_map right_seen right) order.live place (arena_seen a ∷ arenas) bound.passes found
               (stops_after (shown asked) w.chart begun (arena_seen a ∷ arenas) prefix f (option_map right_seen right) order.live (place_of rest) place number number_at_place found (after more)))
@@ -424,8 +435,8 @@ module _ (a : ArenaView) (now : ℕ) (w : World) (world : IsWorld a now w) (begu
               by_content at_slice part is e.content refl at_class part.mark is.mark (bytes_eq part.suffix.now (drop 8 rest)) refl
 
           go : (b : Bool) → is_before part.slice own slice sought ≡ b
-              → LeadsTo key asked way (Reads glance place) begun past a w (cond b (next_key glance (place + 1)) (cond (is_before slice sought part.slice own) (settles counters AbsentSight) (key_found glance place part.mark (bytes_eq part.suffix.now (drop 8 rest)))))
-          go true less = next_leads (Reads glance place) right order (place + 1) (omega arith) few fits bound (λ still.
+              → LeadsTo key asked way (Reads notes) begun past a w (cond b (next_key (notes_at counters right order (place + 1))) (cond (is_before slice sought part.slice own) (settles counters AbsentSight) (key_found notes part.mark (bytes_eq part.suffix.now (drop 8 rest)))))
+          go true less = next_leads (Reads notes) right order (place + 1) (omega arith) few fits bound (λ still.
               passes_key (shown asked) w.chart begun (arena_seen a ∷ arenas) prefix f (option_map right_seen right) order.live (place_of rest) place number number_at_place (later_searches still) (before less))
           go false no_less = at_key (is_before slice sought part.slice own) no_less refl
 
@@ -433,7 +444,7 @@ module _ (a : ArenaView) (now : ℕ) (w : World) (world : IsWorld a now w) (begu
     module _ (order : Slots) (right : Option RightLink) (place : ℕ) (kind : Kind) (fits : IsPlaceOf order place) (deep : GoesDeeper key way kind)
         (is_true : Still counters at.here.b → KeyIsTrue key asked way kind (slice_index order.live place) at.here.b begun arenas w) where
       abbrev at_value : Finding
-      at_value = AtValue (record { counters = counters; right = right; order = order }) place kind
+      at_value = AtValue (notes_at counters right order place) kind
 
       abbrev n : ℕ
       n = slice_index order.live place
@@ -487,7 +498,7 @@ module _ (a : ArenaView) (now : ℕ) (w : World) (world : IsWorld a now w) (begu
     pub leads_settled : AreBytes key → (sight : Sight) → Fits key way sight → (Still counters at.here.b → SightIsTrue key asked way sight begun arenas w) → LeadsTo key asked way (Settles counters sight) begun past a w (settled counters sight at.here.b.version)
     leads_settled bytes sight fits is_true = go at.here.b.version.deleted refl (is_flagged at.here.b.version) refl (same_counters (counters_of at.here.b.version) counters) refl
       where
-        told : (sight : Sight) → Fits key way sight → SightIsTrue key asked way sight begun arenas w → LeadsTo key asked way (Settles counters sight) begun past a w (sight_told sight)
+        told : (sight : Sight) → Fits key way sight → SightIsTrue key asked way sight begun arenas w → LeadsTo key asked way (Settles counters sight) begun past a w (Finds sight)
         told AbsentSight fits lacked = (bytes, lacked)
         told (RowSight row) fits stood = (bytes, stood)
         told (LinkSight head) long held = record {
@@ -499,7 +510,7 @@ module _ (a : ArenaView) (now : ℕ) (w : World) (world : IsWorld a now w) (begu
         }
 
         go : (d : Bool) → at.here.b.version.deleted ≡ d → (g : Bool) → is_flagged at.here.b.version ≡ g → (c : Bool) → same_counters (counters_of at.here.b.version) counters ≡ c
-            → LeadsTo key asked way (Settles counters sight) begun past a w (cond d Restarts (cond g Repeats (cond c (sight_told sight) Repeats)))
+            → LeadsTo key asked way (Settles counters sight) begun past a w (cond d Restarts (cond g Repeats (cond c (Finds sight) Repeats)))
         go true is g flags c same = tt
         go false alive true flags c same = on_border counters at
         go false alive false flags false same = on_border counters at
@@ -511,7 +522,5 @@ module _ (a : ArenaView) (now : ℕ) (w : World) (world : IsWorld a now w) (begu
   leads_inner (VisitTo next) visits on =
       let (further, move, below) = visits.goes now w begun world on in
       record { on = further; climbs = λ made trail. trail_moves (arena_seen a) world.index.tree trail move }
-  leads_inner (VisitBelow head) visits on =
-      let (further, move, below) = visits.goes now w begun world on in
-      record { on = further; climbs = λ made trail. trail_moves (arena_seen a) world.index.tree trail move }
+  leads_inner (VisitBelow head) visits on = on
   leads_inner VisitHere visits on = on

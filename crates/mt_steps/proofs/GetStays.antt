@@ -14,13 +14,13 @@ use Rattle.mt_chart.proofs.ReadingStay.{searches_stay, row_key_stays, link_key_s
 use Rattle.mt_tree.specs.Seen.{arena_seen, border_seen, right_seen}
 use Rattle.mt_tree.specs.Fields.{fields_seen, BorderAges}
 use Rattle.mt_tree.proofs.AgeLemmas.{are_slots}
-use Rattle.mt_steps.specs.declared.finding.Counters.{Counters}
+use Rattle.mt_steps.specs.declared.reader.Counters.{Counters}
 use Rattle.mt_steps.specs.declared.finding.Kind.{Kind}
 use Rattle.mt_steps.specs.declared.finding.Kind.TheVariants.{Row as RowKind, Link as LinkKind}
 use Rattle.mt_steps.specs.declared.finding.Sight.{Sight}
 use Rattle.mt_steps.specs.declared.finding.Sight.TheVariants.{Absent as AbsentSight, Row as RowSight, Link as LinkSight}
-use Rattle.mt_steps.specs.declared.finding.Finding.{Finding}
-use Rattle.mt_steps.specs.declared.finding.Finding.TheVariants.{Begins, Looked, Bounded, Reads, AtValue, Settles}
+use Rattle.mt_steps.specs.Finding.{Finding}
+use Rattle.mt_steps.specs.declared.reader.Reader.TheVariants.{Begins, Looked, Bounded, Reads, AtValue, Settles}
 use Rattle.mt_steps.specs.declared.getting.Get.{Get}
 use Rattle.mt_steps.specs.declared.way.Way.{Way}
 use Rattle.mt_steps.specs.Way.{prefix_of, rest_of}
@@ -75,15 +75,15 @@ module _ (a after : ArenaView) (now : ℕ) (w next : World) (world : IsWorld aft
   finding_stays Begins stands = record { layer = stands.layer; held = holds_kept begun way.node.0 _ _ w.chart next.chart evolves stands.held }
   finding_stays (Looked counters) at = border_stays counters at
   finding_stays (Bounded counters right) (at, bound) = (border_stays counters at, bound_stays a after now w next world age begun evolves prefix slice way.node.0 counters at.here right bound)
-  finding_stays (Reads glance place) (at, bound, within, searches) = (
-    border_stays glance.counters at,
-    bound_stays a after now w next world age begun evolves prefix slice way.node.0 glance.counters at.here glance.right bound,
+  finding_stays (Reads notes) (at, bound, within, searches) = (
+    border_stays notes.glance.counters at,
+    bound_stays a after now w next world age begun evolves prefix slice way.node.0 notes.glance.counters at.here notes.glance.right bound,
     within,
-    searches_stay (shown asked) begun way.node.0 w.chart next.chart (arena_seen after) (arena_seen a ∷ past) prefix (fields_seen at.here.b) (fields_seen (then glance.counters at)) (counters_seen glance.counters) evolves world.index.tree
-        (there_here glance.counters at) (aged_here glance.counters at).low (aged_here glance.counters at).fields (are_slots (then glance.counters at) ((aged_here glance.counters at).slots at.here.slots)) at.here.looked.come
-        (border_stays glance.counters at).here.looked.known (option_map right_seen glance.right) glance.order.live (place_of (rest_of key way)) place searches,
+    searches_stay (shown asked) begun way.node.0 w.chart next.chart (arena_seen after) (arena_seen a ∷ past) prefix (fields_seen at.here.b) (fields_seen (then notes.glance.counters at)) (counters_seen notes.glance.counters) evolves world.index.tree
+        (there_here notes.glance.counters at) (aged_here notes.glance.counters at).low (aged_here notes.glance.counters at).fields (are_slots (then notes.glance.counters at) ((aged_here notes.glance.counters at).slots at.here.slots)) at.here.looked.come
+        (border_stays notes.glance.counters at).here.looked.known (option_map right_seen notes.glance.right) notes.glance.order.live (place_of (rest_of key way)) notes.place searches,
   )
-  finding_stays (AtValue glance place kind) (at, within, deep, is_true) = (border_stays glance.counters at, within, deep, key_stays glance.counters at kind (slice_index glance.order.live place) is_true)
+  finding_stays (AtValue notes kind) (at, within, deep, is_true) = (border_stays notes.glance.counters at, within, deep, key_stays notes.glance.counters at kind (slice_index notes.glance.order.live notes.place) is_true)
   finding_stays (Settles counters sight) (at, fits, is_true) = (border_stays counters at, fits, λ still. sight_stays sight (is_true (still_here counters at still)))
 
 -- THE LAW of others' steps: what is true of a get stays true

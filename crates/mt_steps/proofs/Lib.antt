@@ -21,6 +21,7 @@ pub mod LoneFinding
 pub mod LoneGet
 pub mod LoneRange
 pub mod PartLemmas
+pub mod ReaderLemmas
 pub mod StandLemmas
 pub mod FieldLemmas
 pub mod GetSteps

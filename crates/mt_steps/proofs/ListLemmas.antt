@@ -38,15 +38,17 @@ use Rattle.mt_chart.proofs.ReadingStay.{right_held, lists_stay, ages_none}
 use Rattle.mt_tree.specs.Fields.{content_mark, fields_seen}
 use Rattle.mt_tree.specs.Seen.{arena_seen, right_seen, entry_seen, entries_seen, content_seen}
 use Rattle.mt_tree.proofs.AgeLemmas.{are_slots}
-use Rattle.mt_steps.specs.declared.finding.Counters.{Counters}
+use Rattle.mt_steps.specs.Reader.{HasNext, bounded, counters_of, is_flagged, looked, same_counters, settled}
+use Rattle.mt_steps.specs.declared.reader.Counters.{Counters}
 use Rattle.mt_steps.specs.declared.listing.KeyRead.{KeyRead}
+use Rattle.mt_steps.specs.declared.listing.SlotKey.{SlotKey}
+use Rattle.mt_steps.specs.declared.listing.Listed.{Listed}
 use Rattle.mt_steps.specs.declared.listing.KeyRead.TheVariants.{Short as ShortKey, Long as LongKey, Layer as LayerKey}
-use Rattle.mt_steps.specs.declared.listing.Notes.{Notes}
-use Rattle.mt_steps.specs.declared.listing.Listing.TheVariants.{Looked, Bounded, Reads, Settles}
-use Rattle.mt_steps.specs.declared.listing.ListReading.{ListReading}
-use Rattle.mt_steps.specs.declared.listing.ListReading.TheVariants.{Restarts, Repeats, GoesOn, To, Lists as ListsBorder}
-use Rattle.mt_steps.specs.Finding.{counters_of, is_flagged, same_counters}
-use Rattle.mt_steps.specs.Listing.{list_looked, list_bounded, list_next, list_ordered, key_read_of, is_before_link, kept_with, one_more, list_key, list_value, list_settled, HasNext, AreFew, ShowsKey, HasKey, ListsSlots, NotesAreTrue, IsReadList, ListLeads}
+use Rattle.mt_steps.specs.Listing.{ListNotes}
+use Rattle.mt_steps.specs.declared.reader.Reader.TheVariants.{Looked, Bounded, Reads, Settles}
+use Rattle.mt_steps.specs.Listing.{ListReading}
+use Rattle.mt_steps.specs.declared.reader.Reading.TheVariants.{Restarts, Repeats, GoesOn, To, Finds}
+use Rattle.mt_steps.specs.Listing.{list_next, list_at_order, value_kept, key_read_of, is_before_link, kept_with, one_more, list_key, list_value, AreFew, ShowsKey, HasKey, ListsSlots, NotesAreTrue, IsReadList, ListLeads}
 use Rattle.mt_steps.specs.Standing.{counters_seen, StandsAt, Still, IsBounded}
 use Rattle.mt_steps.specs.World.{World, IsWorld}
 use Rattle.mt_steps.proofs.StandLemmas.{looks_at, bound, there_now, few_live, orders_now, still_so}
@@ -145,7 +147,7 @@ module _ (show : Row → Row) (a : ArenaView) (now : ℕ) (w : World) (world : I
   Leads reading = ListLeads show prefix slice number begun past a w reading
 
   -- the version
-  pub leads_looked : (b : BorderView) → border_at a.nodes number ≡ Some b → IsBorder b → Holds w.chart begun number prefix slice → Leads (list_looked b.version)
+  pub leads_looked : (b : BorderView) → border_at a.nodes number ≡ Some b → IsBorder b → Holds w.chart begun number prefix slice → Leads (looked b.version)
   leads_looked b named sound held = go b.version.deleted refl (is_flagged b.version)
     where
       go : (d : Bool) → b.version.deleted ≡ d → (f : Bool) → Leads (cond d Restarts (cond f Repeats (GoesOn (Looked (counters_of b.version)))))
@@ -155,7 +157,7 @@ module _ (show : Row → Row) (a : ArenaView) (now : ℕ) (w : World) (world : I
 
   module _ (counters : Counters) (at : StandsAt begun prefix slice number counters a w) where
     -- the right link
-    pub leads_bounded : Leads (list_bounded slice counters at.b.right)
+    pub leads_bounded : Leads (bounded slice counters at.b.right)
     leads_bounded = go at.b.right refl
       where
         bound_here : (right : Option RightLink) → at.b.right ≡ right → Below slice (option_map right_seen right) → IsBounded prefix slice counters at.b right begun w
@@ -167,7 +169,7 @@ module _ (show : Row → Row) (a : ArenaView) (now : ℕ) (w : World) (world : I
             right_held w.chart begun number prefix at.b.low at.looked.known (right_seen neighbour) known slice (leb-true neighbour.low slice le)
         to_right neighbour is false le = (at, bound_here (Some neighbour) is (before_right (leb-false neighbour.low slice le)))
 
-        go : (right : Option RightLink) → at.b.right ≡ right → Leads (list_bounded slice counters right)
+        go : (right : Option RightLink) → at.b.right ≡ right → Leads (bounded slice counters right)
         go None is = (at, bound_here None is no_right)
         go (Some neighbour) is = to_right neighbour is (nat_le neighbour.low slice) refl
 
@@ -186,11 +188,11 @@ module _ (show : Row → Row) (a : ArenaView) (now : ℕ) (w : World) (world : I
     -- the key of the next place is read, if there is one
     next_leads : (right : Option RightLink) (order : Slots) (entries : List Entry) (place : ℕ) → IsBounded prefix slice counters at.b right begun w → place ≤ length order.live → length entries ≤ place → length order.live ≤ 15
         → (Still counters at.b → ListsSlots show prefix right order.live place entries at.b begun (arena_seen a ∷ arenas) w)
-        → Leads (list_next (record { glance = record { counters = counters; right = right; order = order }; entries = entries; place = place }))
+        → Leads (list_next (record { glance = record { counters = counters; right = right; order = order }; kept = entries; place = place }))
     next_leads right order entries place bounded few fewer most lists = go (nat_lt place (length order.live)) refl
       where
         go : (b : Bool) → nat_lt place (length order.live) ≡ b
-            → Leads (cond b (GoesOn (Reads (record { glance = record { counters = counters; right = right; order = order }; entries = entries; place = place }))) (GoesOn (Settles counters right entries)))
+            → Leads (cond b (GoesOn (Reads (record { glance = record { counters = counters; right = right; order = order }; kept = entries; place = place }))) (GoesOn (Settles counters (record { entries = entries; right = right }))))
         go true is = (at, bounded, ltb-true place (length order.live) is, (fewer, most), lists)
         go false is =
             let many = ltb-false place (length order.live) is in
@@ -198,7 +200,7 @@ module _ (show : Row → Row) (a : ArenaView) (now : ℕ) (w : World) (world : I
             (at, bounded, omega (arith, fewer, few, most), λ still. (order.live, subst (λ (n : ℕ). ListsSlots show prefix right order.live n entries at.b begun (arena_seen a ∷ arenas) w) all (lists still)))
 
     -- the order
-    pub leads_ordered : IsBorder at.b → (right : Option RightLink) → IsBounded prefix slice counters at.b right begun w → Leads (list_ordered counters right at.b.order)
+    pub leads_ordered : IsBorder at.b → (right : Option RightLink) → IsBounded prefix slice counters at.b right begun w → Leads (list_at_order (Bounded counters right) at.b.order)
     leads_ordered sound right bounded = next_leads right at.b.order [] 0 bounded (omega arith) (omega arith) (few_live a now w world begun prefix slice number counters at sound) (λ still. record {
       was = map f.slot at.b.order.live;
       order = orders_now a now w world begun prefix slice number counters at show arenas sound right bounded still;
@@ -210,26 +212,26 @@ module _ (show : Row → Row) (a : ArenaView) (now : ℕ) (w : World) (world : I
     })
 
     -- the version again
-    pub leads_settled : (right : Option RightLink) (entries : List Entry) → IsBounded prefix slice counters at.b right begun w → length entries ≤ 15 → (Still counters at.b → (numbers : List ℕ) × ListsSlots show prefix right numbers (length numbers) entries at.b begun arenas w)
-        → Leads (list_settled counters right entries at.b.version)
-    leads_settled right entries bounded few lists = go at.b.version.deleted refl (is_flagged at.b.version) refl (same_counters (counters_of at.b.version) counters) refl
+    pub leads_settled : (listed : Listed) → IsBounded prefix slice counters at.b listed.right begun w → length listed.entries ≤ 15 → (Still counters at.b → (numbers : List ℕ) × ListsSlots show prefix listed.right numbers (length numbers) listed.entries at.b begun arenas w)
+        → Leads (settled counters listed at.b.version)
+    leads_settled listed bounded few lists = go at.b.version.deleted refl (is_flagged at.b.version) refl (same_counters (counters_of at.b.version) counters) refl
       where
-        told : Still counters at.b → IsReadList show prefix slice begun arenas w entries right
+        told : Still counters at.b → IsReadList show prefix slice begun arenas w listed
         told quiet =
             let (numbers, read) = lists quiet in
-            let (list, ordered) = lists_noted show w.chart begun arenas prefix f (noted right) numbers (entries_seen entries)
+            let (list, ordered) = lists_noted show w.chart begun arenas prefix f (noted listed.right) numbers (entries_seen listed.entries)
             (λ next is s low. right_held w.chart begun number prefix at.b.low at.looked.known next (bounded.known next is) s low) read in
             record { low = at.b.low; from_low = at.looked.from_low; passes = bounded.passes; list = list; in_order = ordered; few = few }
 
         go : (d : Bool) → at.b.version.deleted ≡ d → (g : Bool) → is_flagged at.b.version ≡ g → (c : Bool) → same_counters (counters_of at.b.version) counters ≡ c
-            → Leads (cond d Restarts (cond g Repeats (cond c (ListsBorder entries right) Repeats)))
+            → Leads (cond d Restarts (cond g Repeats (cond c (Finds listed) Repeats)))
         go true is g flags c same = tt
         go false alive true flags c same = tt
         go false alive false flags false same = tt
         go false alive false flags true same = told (still_so counters at.b alive flags same)
 
   -- ---- slots
-  module _ (notes : Notes) (at : StandsAt begun prefix slice number notes.glance.counters a w) (bounded : IsBounded prefix slice notes.glance.counters at.b notes.glance.right begun w) (within : HasNext notes) (fews : AreFew notes)
+  module _ (notes : ListNotes) (at : StandsAt begun prefix slice number notes.glance.counters a w) (bounded : IsBounded prefix slice notes.glance.counters at.b notes.glance.right begun w) (within : HasNext notes) (fews : AreFew notes)
       (lists : NotesAreTrue show prefix notes at.b begun arenas w) where
     abbrev n : ℕ
     n = slice_index notes.glance.order.live notes.place
@@ -243,8 +245,8 @@ module _ (show : Row → Row) (a : ArenaView) (now : ℕ) (w : World) (world : I
     at_place : slice_get notes.glance.order.live notes.place ≡ Some n
     at_place = slice_get-get_or notes.glance.order.live notes.place 0 within
 
-    lists_later : Still notes.glance.counters at.b → ListsSlots show prefix notes.glance.right notes.glance.order.live notes.place notes.entries at.b begun (arena_seen a ∷ arenas) w
-    lists_later = later_lists notes.glance.counters at notes.glance.right notes.glance.order.live notes.place notes.entries lists
+    lists_later : Still notes.glance.counters at.b → ListsSlots show prefix notes.glance.right notes.glance.order.live notes.place notes.kept at.b begun (arena_seen a ∷ arenas) w
+    lists_later = later_lists notes.glance.counters at notes.glance.right notes.glance.order.live notes.place notes.kept lists
 
     -- the key of a slot
     pub leads_key : (part : KeyPart) → IsKeyOf e part → Leads (list_key notes part)
@@ -262,15 +264,18 @@ module _ (show : Row → Row) (a : ArenaView) (now : ℕ) (w : World) (world : I
 
     -- one slot more was read
     more_leads : (entry : Entry) → (Still notes.glance.counters at.b → (g.slot n).entry ≡ entry_seen entry) → Leads (one_more notes (Some entry))
-    more_leads entry is = next_leads notes.glance.counters at notes.glance.right notes.glance.order (kept_with notes.glance.right notes.entries (Some entry)) (notes.place + 1) bounded (omega (arith, within)) (kept_few notes.glance.right notes.entries entry notes.place fews.0) fews.1 (λ quiet.
+    more_leads entry is = next_leads notes.glance.counters at notes.glance.right notes.glance.order (kept_with notes.glance.right notes.kept (Some entry)) (notes.place + 1) bounded (omega (arith, within)) (kept_few notes.glance.right notes.kept entry notes.place fews.0) fews.1 (λ quiet.
         subst (λ (es : List PlainEntry). Lists show w.chart begun (arena_seen a ∷ arenas) prefix g (option_map right_seen notes.glance.right) notes.glance.order.live (notes.place + 1) es)
-        (kept_same notes.glance.right notes.entries entry (g.slot n) (is quiet))
-        (lists_more show w.chart begun (arena_seen a ∷ arenas) prefix g (option_map right_seen notes.glance.right) notes.glance.order.live notes.place n (entries_seen notes.entries) at_place (lists_later quiet)))
+        (kept_same notes.glance.right notes.kept entry (g.slot n) (is quiet))
+        (lists_more show w.chart begun (arena_seen a ∷ arenas) prefix g (option_map right_seen notes.glance.right) notes.glance.order.live notes.place n (entries_seen notes.kept) at_place (lists_later quiet)))
 
     none_leads : (Still notes.glance.counters at.b → ⊥) → Leads (one_more notes None)
-    none_leads never = next_leads notes.glance.counters at notes.glance.right notes.glance.order notes.entries (notes.place + 1) bounded (omega (arith, within)) (let few = fews.0 in omega (arith, few)) fews.1 (λ quiet. absurd (never quiet))
+    none_leads never = next_leads notes.glance.counters at notes.glance.right notes.glance.order notes.kept (notes.place + 1) bounded (omega (arith, within)) (let few = fews.0 in omega (arith, few)) fews.1 (λ quiet. absurd (never quiet))
 
-    module _ (at_slice : ℕ) (key : KeyRead) (has : Still notes.glance.counters at.b → HasKey show w.chart begun arenas prefix g n at_slice key) where
+    module _ (key : SlotKey) (has : Still notes.glance.counters at.b → HasKey show w.chart begun arenas prefix g n key) where
+      abbrev at_slice : ℕ
+      at_slice = key.slice
+
       -- what the value is, as the theory sees it
       row_mark : (content : Content) (row : _) → IsValueOf content (RowPart row) → (content_mark content ≡ plain) × (row_in (content_seen content) ≡ Some row.now)
       row_mark (Short bytes held) row is = (refl, ap Some (sym is))
@@ -285,15 +290,15 @@ module _ (show : Row → Row) (a : ArenaView) (now : ℕ) (w : World) (world : I
       entry_is : (s : ℕ) (c d : PlainContent) → s ≡ at_slice → c ≡ d → ◌≡◌ {A = PlainEntry} (record { slice = s; content = c }) (record { slice = at_slice; content = d })
       entry_is s c d slices contents = cc
 
-      row_entry : (row : Row) → (content_mark e.content ≡ plain) × (row_in (content_seen e.content) ≡ Some row) → (d : PlainContent) → (Still notes.glance.counters at.b → (c : PlainContent) → ShowsKey key c → with_row c row ≡ d) → Still notes.glance.counters at.b → (g.slot n).entry ≡ record { slice = at_slice; content = d }
+      row_entry : (row : Row) → (content_mark e.content ≡ plain) × (row_in (content_seen e.content) ≡ Some row) → (d : PlainContent) → (Still notes.glance.counters at.b → (c : PlainContent) → ShowsKey key.rest c → with_row c row ≡ d) → Still notes.glance.counters at.b → (g.slot n).entry ≡ record { slice = at_slice; content = d }
       row_entry row (marked, is_row) d shows quiet =
           let found = has quiet in
           same_row found.read (g.slot n) found.noted.same marked row is_row ∙ entry_is found.read.entry.slice (with_row found.read.entry.content row) d found.at_slice (shows quiet found.read.entry.content found.is)
 
-      pub leads_value : (part : ValuePart) → IsValueOf e.content part → Leads (list_value notes at_slice key part)
-      leads_value part is = go part is key refl
+      pub leads_value : (part : ValuePart) → IsValueOf e.content part → Leads (list_value notes key part)
+      leads_value part is = go part is key.rest refl
         where
-          go : (p : ValuePart) → IsValueOf e.content p → (k : KeyRead) → key ≡ k → Leads (list_value notes at_slice k p)
+          go : (p : ValuePart) → IsValueOf e.content p → (k : KeyRead) → key.rest ≡ k → Leads (value_kept notes at_slice k p)
           go (RowPart row) is (ShortKey bytes) same = more_leads (record { slice = at_slice; content = Short bytes row.now })
               (row_entry row.now (row_mark e.content row is) (short bytes row.now) (λ quiet c shows. let (old, here) = subst (λ (x : KeyRead). ShowsKey x c) same shows in ap (λ (x : PlainContent). with_row x row.now) here))
           go (RowPart row) is (LongKey suffix) same = more_leads (record { slice = at_slice; content = Long suffix row.now })

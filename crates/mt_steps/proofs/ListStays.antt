@@ -19,10 +19,10 @@ use Rattle.mt_chart.proofs.ReadingStay.{lists_stay}
 use Rattle.mt_tree.specs.Fields.{fields_seen, BorderAges}
 use Rattle.mt_tree.specs.Seen.{arena_seen, entries_seen, right_seen}
 use Rattle.mt_tree.proofs.AgeLemmas.{are_slots}
-use Rattle.mt_steps.specs.declared.finding.Counters.{Counters}
-use Rattle.mt_steps.specs.declared.listing.KeyRead.{KeyRead}
-use Rattle.mt_steps.specs.declared.listing.Listing.{Listing}
-use Rattle.mt_steps.specs.declared.listing.Listing.TheVariants.{Begins, Looked, Bounded, Reads, AtValue, Settles}
+use Rattle.mt_steps.specs.declared.reader.Counters.{Counters}
+use Rattle.mt_steps.specs.declared.listing.SlotKey.{SlotKey}
+use Rattle.mt_steps.specs.Listing.{Listing}
+use Rattle.mt_steps.specs.declared.reader.Reader.TheVariants.{Begins, Looked, Bounded, Reads, AtValue, Settles}
 use Rattle.mt_steps.specs.declared.ranging.Range.{Range}
 use Rattle.mt_steps.specs.Listing.{HasKey, ListsSlots, ListingIsTrue}
 use Rattle.mt_steps.specs.Ranging.{RangeIsTrue}
@@ -59,9 +59,9 @@ module _ (show : Row → Row) (a after : ArenaView) (now : ℕ) (w next : World)
     still_was : Still counters then → Still counters at.b
     still_was = still_before a after now w next world age begun evolves prefix slice number counters at
 
-    key_stays : (slot at_slice : ℕ) (key : KeyRead) → (Still counters at.b → HasKey show w.chart begun arenas prefix (fields_seen at.b) slot at_slice key)
-        → Still counters then → HasKey show next.chart begun (arena_seen after ∷ arenas) prefix (fields_seen then) slot at_slice key
-    key_stays slot at_slice key has quiet =
+    key_stays : (slot : ℕ) (key : SlotKey) → (Still counters at.b → HasKey show w.chart begun arenas prefix (fields_seen at.b) slot key)
+        → Still counters then → HasKey show next.chart begun (arena_seen after ∷ arenas) prefix (fields_seen then) slot key
+    key_stays slot key has quiet =
         let before = has (still_was quiet) in
         record {
           read = before.read;
@@ -81,21 +81,21 @@ module _ (show : Row → Row) (a after : ArenaView) (now : ℕ) (w next : World)
     bound_stays a after now w next world age begun evolves prefix slice number notes.glance.counters at notes.glance.right bounded,
     within,
     fews,
-    slots_stay notes.glance.counters at notes.glance.right notes.glance.order.live notes.place notes.entries lists,
+    slots_stay notes.glance.counters at notes.glance.right notes.glance.order.live notes.place notes.kept lists,
   )
-  listing_stays (AtValue notes at_slice key) (at, bounded, within, fews, lists, has) = (
+  listing_stays (AtValue notes key) (at, bounded, within, fews, lists, has) = (
     stays_there notes.glance.counters at,
     bound_stays a after now w next world age begun evolves prefix slice number notes.glance.counters at notes.glance.right bounded,
     within,
     fews,
-    slots_stay notes.glance.counters at notes.glance.right notes.glance.order.live notes.place notes.entries lists,
-    key_stays notes.glance.counters at (slice_index notes.glance.order.live notes.place) at_slice key has,
+    slots_stay notes.glance.counters at notes.glance.right notes.glance.order.live notes.place notes.kept lists,
+    key_stays notes.glance.counters at (slice_index notes.glance.order.live notes.place) key has,
   )
-  listing_stays (Settles counters right entries) (at, bounded, few, lists) = (
+  listing_stays (Settles counters listed) (at, bounded, few, lists) = (
     stays_there counters at,
-    bound_stays a after now w next world age begun evolves prefix slice number counters at right bounded,
+    bound_stays a after now w next world age begun evolves prefix slice number counters at listed.right bounded,
     few,
-    (λ quiet. let (numbers, read) = lists (still_was counters at quiet) in (numbers, slots_stay counters at right numbers (length numbers) entries (λ q. read) quiet)),
+    (λ quiet. let (numbers, read) = lists (still_was counters at quiet) in (numbers, slots_stay counters at listed.right numbers (length numbers) listed.entries (λ q. read) quiet)),
   )
 
 -- THE LAW of others' steps: what is true of a range stays true

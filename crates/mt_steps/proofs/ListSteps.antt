@@ -1,32 +1,28 @@
 -- The step of a range or build that reads one field: what it is lent, and where that leads.
-use Rattle.std.proofs.Common.{ℕ, ◌≡◌, ◌<◌, ◌≤◌, ◌^◌, inl, Bool, true, false, List, ◌∷◌, length, slice_get, Option, Some, None, refl, sym, ap, subst, ◌∙◌}
-use Rattle.std.specs.Prelude.{◌-◌, if◌then◌else◌, slice_index, IsSome, IsSomeAnd}
+use Rattle.std.proofs.Common.{ℕ, ◌≡◌, ◌<◌, ◌≤◌, ◌^◌, false, List, ◌∷◌, length, Option, Some, None, refl, sym, ap, subst, ◌∙◌}
+use Rattle.std.specs.Prelude.{slice_index, IsSome}
 use Rattle.std.specs.Option.{option_and_then}
 use Rattle.mt_arena.specs.Arena.{ArenaView}
 use Rattle.mt_arena.specs.Node.{node_at, border_at, border_of, interior_at, interior_of, IsNode}
 use Rattle.mt_arena.specs.Parts.{IsPart}
 use Rattle.mt_arena.specs.declared.node.Node.{Node}
 use Rattle.mt_arena.specs.declared.node.Node.TheVariants.{Head as HeadNode, Interior as InteriorNode, Border as BorderNode}
-use Rattle.mt_arena.specs.declared.part.Field.{Field}
 use Rattle.mt_arena.specs.declared.part.Field.TheVariants.{Version as VersionField, Right as RightField, Order as OrderField, Key as KeyField, Value as ValueField}
 use Rattle.mt_arena.specs.declared.part.Part.{Part}
-use Rattle.mt_arena.specs.declared.part.Part.TheVariants.{Head as HeadPart, Interior as InteriorPart}
 use Rattle.mt_border.specs.Border.{BorderView}
 use Rattle.mt_interior.specs.Head.{HeadView}
-use Rattle.mt_interior.specs.Interior.{InteriorView, children_up_to}
-use Rattle.mt_interior.specs.declared.child.Child.{Child}
-use Rattle.std.specs.Borrow.{Bor}
-use Rattle.mt_tree.specs.Descent.{visit_head, visit_interior, to_child}
+use Rattle.mt_interior.specs.Interior.{InteriorView}
+use Rattle.mt_tree.specs.Descent.{visit_head, visit_interior}
 use Rattle.mt_tree.specs.declared.visit.Visit.TheVariants.{Again as VisitAgain, To as VisitTo}
-use Rattle.mt_steps.specs.declared.listing.Listing.{Listing}
-use Rattle.mt_steps.specs.declared.listing.Listing.TheVariants.{Begins, Looked, Bounded, Reads, AtValue, Settles}
-use Rattle.mt_steps.specs.declared.listing.ListReading.{ListReading}
-use Rattle.mt_steps.specs.declared.listing.ListReading.TheVariants.{Restarts}
-use Rattle.mt_steps.specs.Listing.{list_visit, list_wants, list_reading, IsListing, ListingIsTrue, ListLeads, ListWaits, ListingWaits, MayRead}
+use Rattle.mt_steps.specs.Reader.{IsReader, MayRead, by_visit, wants}
+use Rattle.mt_steps.specs.Listing.{Listing}
+use Rattle.mt_steps.specs.declared.reader.Reader.TheVariants.{Begins, Looked, Bounded, Reads, AtValue, Settles}
+use Rattle.mt_steps.specs.Listing.{ListReading}
+use Rattle.mt_steps.specs.Listing.{list_reading, ListingIsTrue, ListLeads}
 use Rattle.mt_steps.specs.Standing.{Lends}
 use Rattle.mt_steps.specs.World.{World, IsWorld}
 use Rattle.mt_steps.proofs.ListLemmas.{leads_looked, leads_bounded, leads_ordered, leads_key, leads_value, leads_settled}
-use Rattle.mt_steps.proofs.PartLemmas.{lends_field, no_head, no_interior, version_part, right_part, order_part, key_part, value_part, head_part, interior_part}
+use Rattle.mt_steps.proofs.PartLemmas.{lends_field, version_part, right_part, order_part, key_part, value_part, head_part, interior_part}
 use Rattle.mt_steps.proofs.RangeLemmas.{slice_back}
 use Rattle.mt_types.specs.declared.row.Row.{Row}
 use Rattle.mt_chart.specs.Tree.{Arena}
@@ -40,52 +36,6 @@ use Rattle.mt_tree.specs.declared.visit.Visit.{Visit}
 use Rattle.mt_tree.specs.declared.visit.Visit.TheVariants.{Below as VisitBelow, Here as VisitHere}
 use Rattle.mt_tree.proofs.DescentLemmas.{leads_head, leads_interior}
 use Rattle.mt_tree.proofs.HeldLemmas.{held_may_visit}
-
--- ---- why it waits at a head or an interior node
-module _ (a : ArenaView) (number slice : ℕ) (listing : Listing) (may : MayRead a number slice listing) (field : Field) where
-  marked_waits : (node : Node) → node_at a.nodes number ≡ Some node → border_of node ≡ None → ListingWaits Begins node → ListWaits a number listing Restarts
-  marked_waits node named inner waits =
-      let none : border_at a.nodes number ≡ None = ap (option_and_then border_of) named ∙ inner in
-      subst (λ (x : Listing). IsSomeAnd (node_at a.nodes number) (ListingWaits x)) (sym (may.begins none))
-      (subst (λ (x : Option Node). IsSomeAnd x (ListingWaits Begins)) (sym named) waits)
-
-  pub waits_head : (head : Bor HeadView) (reading : ListReading) → reading ≡ list_visit (visit_head head.now) → IsSomeAnd (node_at a.nodes number) (λ node. IsPart node field (HeadPart head)) → ListWaits a number listing reading
-  waits_head head reading of is = subst (λ (r : ListReading). ListWaits a number listing r) (sym of) (go head.now.version.deleted refl (node_at a.nodes number) refl is)
-    where
-      go : (d : Bool) → head.now.version.deleted ≡ d → (node : Option Node) → node_at a.nodes number ≡ node → IsSomeAnd node (λ x. IsPart x field (HeadPart head)) → ListWaits a number listing (list_visit (if d then VisitAgain else VisitTo head.now.root))
-      go true marked (Some (HeadNode h)) named is = marked_waits (HeadNode h) named refl (inl (subst (λ (x : HeadView). x.version.deleted ≡ true) is marked))
-      go true marked (Some (InteriorNode i)) named is = absurd is
-      go true marked (Some (BorderNode b)) named is = absurd (no_head b field head is)
-      go true marked None named is = absurd is
-      go false marked node named is = tt
-
-  pub waits_interior : (interior : Bor InteriorView) (reading : ListReading) → reading ≡ list_visit (visit_interior slice interior.now) → (reading ≡ Restarts → interior.now.version.deleted ≡ true)
-      → IsSomeAnd (node_at a.nodes number) (λ node. IsPart node field (InteriorPart interior)) → ListWaits a number listing reading
-  waits_interior interior reading of marked is =
-      subst (λ (r : ListReading). ListWaits a number listing r) (sym of)
-      (go interior.now.version.deleted (slice_get interior.now.children (children_up_to slice interior.now.children - 1)) (λ restarts. marked (of ∙ restarts)))
-    where
-      waits : interior.now.version.deleted ≡ true → (node : Option Node) → node_at a.nodes number ≡ node → IsSomeAnd node (λ x. IsPart x field (InteriorPart interior)) → ListWaits a number listing Restarts
-      waits deleted (Some (HeadNode h)) named is = absurd is
-      waits deleted (Some (InteriorNode i)) named is = marked_waits (InteriorNode i) named refl (inl (subst (λ (x : InteriorView). x.version.deleted ≡ true) is deleted))
-      waits deleted (Some (BorderNode b)) named is = absurd (no_interior b field interior is)
-      waits deleted None named is = absurd is
-
-      go : (deleted : Bool) (child : Option Child) → (list_visit (if deleted then VisitAgain else to_child child) ≡ Restarts → interior.now.version.deleted ≡ true) → ListWaits a number listing (list_visit (if deleted then VisitAgain else to_child child))
-      go true child marked = waits (marked refl) (node_at a.nodes number) refl is
-      go false (Some child) marked = tt
-      go false None marked = waits (marked refl) (node_at a.nodes number) refl is
-
--- the interior that is lent has a child for the slice
-pub may_child : (a : ArenaView) (number slice : ℕ) (listing : Listing) → MayRead a number slice listing → (field : Field) (interior : Bor InteriorView) → IsSomeAnd (node_at a.nodes number) (λ node. IsPart node field (InteriorPart interior))
-    → interior.now.version.deleted ≡ false → (0 < length interior.now.children) × (interior.now.low ≤ slice)
-may_child a number slice listing may field interior is alive = go (node_at a.nodes number) refl is
-  where
-    go : (node : Option Node) → node_at a.nodes number ≡ node → IsSomeAnd node (λ x. IsPart x field (InteriorPart interior)) → (0 < length interior.now.children) × (interior.now.low ≤ slice)
-    go (Some (HeadNode h)) named is = absurd is
-    go (Some (InteriorNode i)) named is = may.child interior.now (ap (option_and_then interior_of) named ∙ ap Some (sym is)) alive
-    go (Some (BorderNode b)) named is = absurd (no_interior b field interior is)
-    go None named is = absurd is
 
 -- ---- where a reading leads
 module _ (show : Row → Row) (a : ArenaView) (now : ℕ) (w : World) (world : IsWorld a now w) (begun : ℕ) (prefix : List ℕ) (slice number : ℕ) (past : List Arena) (fits : slice < 2 ^ 64) (held : Holds w.chart begun number prefix slice) where
@@ -101,7 +51,7 @@ module _ (show : Row → Row) (a : ArenaView) (now : ℕ) (w : World) (world : I
   held_rest : Holds w.chart begun number prefix (slice_number rest)
   held_rest = subst (λ (s : ℕ). Holds w.chart begun number prefix s) (sym same) held
 
-  visit_leads : (visit : Visit) → VisitLeads a number rest visit → Leads (list_visit visit)
+  visit_leads : (visit : Visit) → VisitLeads a number rest visit → Leads (by_visit visit)
   visit_leads VisitAgain leads = tt
   visit_leads (VisitTo next) leads = subst (λ (s : ℕ). Holds w.chart begun next.0 prefix s) same (leads.leads now w.twins w.chart begun prefix world.index held_rest)
   visit_leads (VisitBelow head) leads = tt
@@ -114,13 +64,13 @@ module _ (show : Row → Row) (a : ArenaView) (now : ℕ) (w : World) (world : I
   at_head h named part is =
       let (own, one, view) = head_part h VersionField part is in
       subst (λ (p : Part). Leads (list_reading Begins slice p)) (sym one)
-      (subst (λ (x : HeadView). Leads (list_visit (visit_head x))) (sym view) (visit_leads (visit_head h) (leads_head a number rest h named)))
+      (subst (λ (x : HeadView). Leads (by_visit (visit_head x))) (sym view) (visit_leads (visit_head h) (leads_head a number rest h named)))
 
   at_interior : (i : InteriorView) → interior_at a.nodes number ≡ Some i → IsNode (InteriorNode i) → (part : Part) → IsPart (InteriorNode i) VersionField part → Leads (list_reading Begins slice part)
   at_interior i named sound part is =
       let (own, one, view) = interior_part i VersionField part is in
       subst (λ (p : Part). Leads (list_reading Begins slice p)) (sym one)
-      (subst (λ (x : InteriorView). Leads (list_visit (visit_interior slice x))) (sym view)
+      (subst (λ (x : InteriorView). Leads (by_visit (visit_interior slice x))) (sym view)
       (visit_leads (visit_interior slice i) (subst (λ (s : ℕ). VisitLeads a number rest (visit_interior s i)) same
       (leads_interior a number rest i named sound (subst (λ (s : ℕ). i.version.deleted ≡ false → (0 < length i.children) × (i.low ≤ s)) (sym same) (may.has_child i named))))))
 
@@ -134,7 +84,7 @@ module _ (show : Row → Row) (a : ArenaView) (now : ℕ) (w : World) (world : I
   at_node (BorderNode b) named sound part is = at_border b (ap (option_and_then border_of) named) sound part is
 
   -- WHAT IT READS LEADS where it says
-  pub list_leads : (listing : Listing) → ListingIsTrue show prefix slice number listing begun (arena_seen a ∷ past) a w → (part : Part) → Lends a number (list_wants listing) part → Leads (list_reading listing slice part)
+  pub list_leads : (listing : Listing) → ListingIsTrue show prefix slice number listing begun (arena_seen a ∷ past) a w → (part : Part) → Lends a number (wants listing) part → Leads (list_reading listing slice part)
   list_leads Begins truth part lent = at_node lent.node lent.named lent.sound part lent.is
   list_leads (Looked counters) at part lent =
       let field = lends_field a number RightField part lent at.b at.named in
@@ -147,23 +97,23 @@ module _ (show : Row → Row) (a : ArenaView) (now : ℕ) (w : World) (world : I
       let field = lends_field a number (KeyField n) part lent at.b at.named in
       let (key, one, is) = key_part at.b n part field.is in
       subst (λ (p : Part). Leads (list_reading (Reads notes) slice p)) (sym one) (leads_key show a now w world begun prefix slice number past notes at bounded within fews lists key is)
-  list_leads (AtValue notes at_slice key) (at, bounded, within, fews, lists, has) part lent =
+  list_leads (AtValue notes key) (at, bounded, within, fews, lists, has) part lent =
       let n = slice_index notes.glance.order.live notes.place in
       let field = lends_field a number (ValueField n) part lent at.b at.named in
       let (value, one, is) = value_part at.b n part field.is in
-      subst (λ (p : Part). Leads (list_reading (AtValue notes at_slice key) slice p)) (sym one) (leads_value show a now w world begun prefix slice number past notes at bounded within fews lists at_slice key has value is)
-  list_leads (Settles counters right entries) (at, bounded, few, lists) part lent =
+      subst (λ (p : Part). Leads (list_reading (AtValue notes key) slice p)) (sym one) (leads_value show a now w world begun prefix slice number past notes at bounded within fews lists key has value is)
+  list_leads (Settles counters listed) (at, bounded, few, lists) part lent =
       let field = lends_field a number VersionField part lent at.b at.named in
-      subst (λ (p : Part). Leads (list_reading (Settles counters right entries) slice p)) (sym (version_part at.b part field.is)) (leads_settled show a now w world begun prefix slice number past counters at right entries bounded few lists)
+      subst (λ (p : Part). Leads (list_reading (Settles counters listed) slice p)) (sym (version_part at.b part field.is)) (leads_settled show a now w world begun prefix slice number past counters at listed bounded few lists)
 
   -- ---- what its step asks
-  pub list_within : (listing : Listing) → ListingIsTrue show prefix slice number listing begun (arena_seen a ∷ past) a w → IsListing listing
+  pub list_within : (listing : Listing) → ListingIsTrue show prefix slice number listing begun (arena_seen a ∷ past) a w → IsReader listing
   list_within Begins truth = tt
   list_within (Looked counters) at = tt
   list_within (Bounded counters right) truth = tt
   list_within (Reads notes) (at, bounded, within, fews, lists) = within
-  list_within (AtValue notes at_slice key) (at, bounded, within, fews, lists, has) = within
-  list_within (Settles counters right entries) truth = tt
+  list_within (AtValue notes key) (at, bounded, within, fews, lists, has) = within
+  list_within (Settles counters listed) truth = tt
 
   not_none : (b : BorderView) → border_at a.nodes number ≡ Some b → border_at a.nodes number ≡ None → (listing : Listing) → listing ≡ Begins
   not_none b named none listing = absurd (let clash : ◌≡◌ {A = Option BorderView} (Some b) None = sym named ∙ none in cc)
@@ -173,8 +123,8 @@ module _ (show : Row → Row) (a : ArenaView) (now : ℕ) (w : World) (world : I
   begins_inside (Looked counters) at none = not_none at.b at.named none (Looked counters)
   begins_inside (Bounded counters right) (at, more) none = not_none at.b at.named none (Bounded counters right)
   begins_inside (Reads notes) (at, bounded, within, fews, lists) none = not_none at.b at.named none (Reads notes)
-  begins_inside (AtValue notes at_slice key) (at, bounded, within, fews, lists, has) none = not_none at.b at.named none (AtValue notes at_slice key)
-  begins_inside (Settles counters right entries) (at, bounded, few, lists) none = not_none at.b at.named none (Settles counters right entries)
+  begins_inside (AtValue notes key) (at, bounded, within, fews, lists, has) none = not_none at.b at.named none (AtValue notes key)
+  begins_inside (Settles counters listed) (at, bounded, few, lists) none = not_none at.b at.named none (Settles counters listed)
 
   pub list_may_read : (listing : Listing) → ListingIsTrue show prefix slice number listing begun (arena_seen a ∷ past) a w → MayRead a number slice listing
   list_may_read listing truth = record { begins = begins_inside listing truth; child = may.has_child }

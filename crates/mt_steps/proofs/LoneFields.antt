@@ -30,8 +30,8 @@ use Rattle.mt_tree.specs.declared.visit.Visit.TheVariants.{Again as VisitAgain, 
 use Rattle.mt_tree.proofs.AgeLemmas.{are_slots}
 use Rattle.mt_tree.proofs.DescentLemmas.{UpTo, last_up_to, tells_head}
 use Rattle.mt_tree.proofs.SeenLemmas.{among_map, seen-border, seen-interior}
-use Rattle.mt_steps.specs.Finding.{counters_of, is_flagged, same_counters}
-use Rattle.mt_steps.specs.declared.finding.Counters.{Counters}
+use Rattle.mt_steps.specs.Reader.{counters_of, is_flagged, same_counters}
+use Rattle.mt_steps.specs.declared.reader.Counters.{Counters}
 
 -- the border of the number is this one, and these are its counters
 pub record IsNow (a : ArenaView) (number : ℕ) (counters : Counters) (b : BorderView) : Type 0 where

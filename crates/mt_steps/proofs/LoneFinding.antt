@@ -34,19 +34,19 @@ use Rattle.mt_tree.specs.Descent.{visit_head, visit_interior, is_marked}
 use Rattle.mt_tree.specs.Seen.{arena_seen, entries_seen}
 use Rattle.mt_tree.specs.declared.visit.Visit.{Visit}
 use Rattle.mt_tree.specs.declared.visit.Visit.TheVariants.{Again as VisitAgain, To as VisitTo, Below as VisitBelow, Here as VisitHere}
-use Rattle.mt_steps.specs.declared.finding.Counters.{Counters}
-use Rattle.mt_steps.specs.declared.finding.Finding.{Finding}
-use Rattle.mt_steps.specs.declared.finding.Finding.TheVariants.{Begins, Looked, Bounded, Reads, AtValue, Settles}
-use Rattle.mt_steps.specs.declared.finding.Glance.{Glance}
+use Rattle.mt_steps.specs.Reader.{bounded, by_visit, counters_of, is_flagged, looked, same_counters, settled, wants}
+use Rattle.mt_steps.specs.declared.reader.Counters.{Counters}
+use Rattle.mt_steps.specs.Finding.{Finding}
+use Rattle.mt_steps.specs.declared.reader.Reader.TheVariants.{Begins, Looked, Bounded, Reads, AtValue, Settles}
 use Rattle.mt_steps.specs.declared.finding.Kind.{Kind}
 use Rattle.mt_steps.specs.declared.finding.Kind.TheVariants.{Row as RowKind, Link as LinkKind}
-use Rattle.mt_steps.specs.declared.finding.Reading.{Reading}
-use Rattle.mt_steps.specs.declared.finding.Reading.TheVariants.{Restarts, Repeats, GoesOn, To, Below, Answers}
+use Rattle.mt_steps.specs.Finding.{FindReading}
+use Rattle.mt_steps.specs.declared.reader.Reading.TheVariants.{Restarts, Repeats, GoesOn, To, Finds}
 use Rattle.mt_steps.specs.declared.finding.Sight.{Sight}
 use Rattle.mt_steps.specs.declared.finding.Sight.TheVariants.{Absent, Row as RowSight, Link as LinkSight}
 use Rattle.mt_steps.specs.declared.getting.Get.{Get}
-use Rattle.mt_steps.specs.Finding.{counters_of, is_flagged, looked, bounded, next_key, key_found, is_before, key_read, value_read, sight_told, settled, settles, same_counters}
-use Rattle.mt_steps.specs.Getting.{wants, by_visit, reading_of}
+use Rattle.mt_steps.specs.Finding.{next_key, key_found, is_before, key_read, value_read, settles, notes_at, FindNotes}
+use Rattle.mt_steps.specs.Getting.{reading_of}
 use Rattle.mt_steps.specs.Standing.{Lends}
 use Rattle.mt_steps.specs.Way.{rest_of}
 use Rattle.mt_steps.proofs.LoneFields.{IsNow, VisitMoves, head_moves, interior_moves, unflagged, counters_same, right_moves, link_moves, link_among, border_alive}
@@ -68,17 +68,18 @@ abbrev pub FindStands : ArenaView → ℕ → Finding → Type 0
 FindStands a number Begins = Unit {0}
 FindStands a number (Looked counters) = (b : BorderView) × IsNow a number counters b
 FindStands a number (Bounded counters right) = (b : BorderView) × IsNow a number counters b
-FindStands a number (Reads glance place) = (b : BorderView) × IsNow a number glance.counters b × (glance.order ≡ b.order)
-FindStands a number (AtValue glance place kind) = (b : BorderView) × IsNow a number glance.counters b × (glance.order ≡ b.order)
-    × KindFits kind (slot_at b (slice_index glance.order.live place)).entry.content
+FindStands a number (Reads notes) = (b : BorderView) × IsNow a number notes.glance.counters b × (notes.glance.order ≡ b.order)
+FindStands a number (AtValue notes kind) = (b : BorderView) × IsNow a number notes.glance.counters b × (notes.glance.order ≡ b.order)
+    × KindFits kind (slot_at b (slice_index notes.glance.order.live notes.place)).entry.content
 FindStands a number (Settles counters sight) = (b : BorderView) × IsNow a number counters b × SightFits sight b
 
 -- WHERE A READING LEADS IT: it reads on, or it moves to another node, or it answers; it doesn't wait
-abbrev pub FindGoes : ArenaView → ℕ → Reading → Type 0
+abbrev pub FindGoes : ArenaView → ℕ → FindReading → Type 0
 FindGoes a number (GoesOn next) = FindStands a number next
 FindGoes a number (To node) = Moves (arena_seen a) number node.0
-FindGoes a number (Below head) = Moves (arena_seen a) number head.0
-FindGoes a number (Answers answer) = Unit {0}
+FindGoes a number (Finds (LinkSight head)) = Moves (arena_seen a) number head.0
+FindGoes a number (Finds Absent) = Unit {0}
+FindGoes a number (Finds (RowSight row)) = Unit {0}
 FindGoes a number _ = ⊥
 
 -- ---- at a head or an interior node
@@ -109,47 +110,47 @@ module _ (a : ArenaView) (number : ℕ) (b : BorderView) (named : border_at a.no
           choose true = right_moves a number b named sound alive next is
           choose false = (b, now)
 
-  goes_next : (glance : Glance) (place : ℕ) → IsNow a number glance.counters b → glance.order ≡ b.order → FindGoes a number (next_key glance place)
-  goes_next glance place now order = go (nat_lt place (length glance.order.live))
+  goes_next : (notes : FindNotes) → IsNow a number notes.glance.counters b → notes.glance.order ≡ b.order → FindGoes a number (next_key notes)
+  goes_next notes now order = go (nat_lt notes.place (length notes.glance.order.live))
     where
-      go : (c : Bool) → FindGoes a number (if c then GoesOn (Reads glance place) else settles glance.counters Absent)
+      go : (c : Bool) → FindGoes a number (if c then GoesOn (Reads notes) else settles notes.glance.counters Absent)
       go true = (b, now, order)
       go false = (b, now, tt)
 
   goes_settled : (counters : Counters) (sight : Sight) → IsNow a number counters b → SightFits sight b → FindGoes a number (settled counters sight b.version)
   goes_settled counters sight now fits = go b.version.deleted alive (is_flagged b.version) (unflagged b sound) (same_counters (counters_of b.version) counters) (counters_same (counters_of b.version) counters now.counted)
     where
-      told : (s : Sight) → SightFits s b → FindGoes a number (sight_told s)
+      told : (s : Sight) → SightFits s b → FindGoes a number (Finds s)
       told Absent fits = tt
       told (RowSight row) fits = tt
       told (LinkSight head) (slice, there) = link_moves a number b named sound alive slice head.0 there
 
-      go : (d : Bool) → d ≡ false → (f : Bool) → f ≡ false → (s : Bool) → s ≡ true → FindGoes a number (if d then Restarts else if f then Repeats else if s then sight_told sight else Repeats)
+      go : (d : Bool) → d ≡ false → (f : Bool) → f ≡ false → (s : Bool) → s ≡ true → FindGoes a number (if d then Restarts else if f then Repeats else if s then Finds sight else Repeats)
       go true is f set s same = absurd (let clash : true ≡ false = is in cc)
       go false is true set s same = absurd (let clash : true ≡ false = set in cc)
       go false is false set false same = absurd (let clash : false ≡ true = same in cc)
       go false is false set true same = told sight fits
 
-  module _ (glance : Glance) (place : ℕ) (now : IsNow a number glance.counters b) (order : glance.order ≡ b.order) where
+  module _ (notes : FindNotes) (now : IsNow a number notes.glance.counters b) (order : notes.glance.order ≡ b.order) where
     abbrev content : Content
-    content = (slot_at b (slice_index glance.order.live place)).entry.content
+    content = (slot_at b (slice_index notes.glance.order.live notes.place)).entry.content
 
-    goes_found : (own : Content) → own ≡ content → (mark : Mark) → mark ≡ content_mark own → (same : Bool) → FindGoes a number (key_found glance place mark same)
+    goes_found : (own : Content) → own ≡ content → (mark : Mark) → mark ≡ content_mark own → (same : Bool) → FindGoes a number (key_found notes mark same)
     goes_found own is Layer of same = (b, now, order, tt)
     goes_found own is Plain of false = (b, now, tt)
     goes_found (Short bytes row) is Plain of true = (b, now, order, subst (λ (c : Content). IsSome (content_row c)) is refl)
     goes_found (Long suffix row) is Plain of true = (b, now, order, subst (λ (c : Content). IsSome (content_row c)) is refl)
     goes_found (Link head) is Plain of true = absurd (let clash : Plain ≡ Layer = of in cc)
 
-    goes_key : (rest : List ℕ) (key : KeyOf) → IsKeyOf (slot_at b (slice_index glance.order.live place)).entry key → FindGoes a number (key_read rest glance place key)
+    goes_key : (rest : List ℕ) (key : KeyOf) → IsKeyOf (slot_at b (slice_index notes.glance.order.live notes.place)).entry key → FindGoes a number (key_read rest notes key)
     goes_key rest key is = go (is_before key.slice (class_number key.class) (slice_number rest) (class_number (class_of (length rest)))) (is_before (slice_number rest) (class_number (class_of (length rest))) key.slice (class_number key.class))
       where
-        go : (before after : Bool) → FindGoes a number (if before then next_key glance (place + 1) else if after then settles glance.counters Absent else key_found glance place key.mark (bytes_eq key.suffix.now (drop 8 rest)))
-        go true after = goes_next glance (place + 1) now order
+        go : (before after : Bool) → FindGoes a number (if before then next_key (record notes { place = notes.place + 1 }) else if after then settles notes.glance.counters Absent else key_found notes key.mark (bytes_eq key.suffix.now (drop 8 rest)))
+        go true after = goes_next (record notes { place = notes.place + 1 }) now order
         go false true = (b, now, tt)
         go false false = goes_found content refl key.mark is.mark (bytes_eq key.suffix.now (drop 8 rest))
 
-    goes_value : place < length glance.order.live → (asked : List ℕ) (kind : Kind) → KindFits kind content → (value : ValueOf) → IsValueOf content value → FindGoes a number (value_read asked glance.counters kind value)
+    goes_value : notes.place < length notes.glance.order.live → (asked : List ℕ) (kind : Kind) → KindFits kind content → (value : ValueOf) → IsValueOf content value → FindGoes a number (value_read asked notes.glance.counters kind value)
     goes_value within asked RowKind fits (RowPart row) is = (b, now, tt)
     goes_value within asked LinkKind fits (RowPart row) is = (b, now, tt)
     goes_value within asked RowKind fits (LinkPart head) is = absurd (no_row content fits is)
@@ -159,9 +160,9 @@ module _ (a : ArenaView) (number : ℕ) (b : BorderView) (named : border_at a.no
         no_row (Long suffix row) some is = is
         no_row (Link own) some is = (let clash : false ≡ true = some in cc)
     goes_value within asked LinkKind fits (LinkPart head) is =
-        let at : slice_index glance.order.live place ≡ slice_index b.order.live place = ap (λ (o : Slots). slice_index o.live place) order in
-        let inside : place < length b.order.live = subst (λ (o : Slots). place < length o.live) order within in
-        (b, now, ((slot_at b (slice_index b.order.live place)).entry.slice, link_among b sound place inside head (ap (λ (k : ℕ). (slot_at b k).entry.content) (sym at) ∙ of content is)))
+        let at : slice_index notes.glance.order.live notes.place ≡ slice_index b.order.live notes.place = ap (λ (o : Slots). slice_index o.live notes.place) order in
+        let inside : notes.place < length b.order.live = subst (λ (o : Slots). notes.place < length o.live) order within in
+        (b, now, ((slot_at b (slice_index b.order.live notes.place)).entry.slice, link_among b sound notes.place inside head (ap (λ (k : ℕ). (slot_at b k).entry.content) (sym at) ∙ of content is)))
       where
         of : (own : Content) → IsValueOf own (LinkPart head) → own ≡ Link head
         of (Short bytes row) is = absurd is
@@ -172,7 +173,7 @@ module _ (a : ArenaView) (number : ℕ) (b : BorderView) (named : border_at a.no
 -- what it must know before it reads: an interior node has a child for its slice; a value is that of a live slot
 abbrev pub FindMay : ArenaView → Get → Finding → Type 0
 FindMay a get Begins = (i : InteriorView) → interior_at a.nodes get.way.node.0 ≡ Some i → i.version.deleted ≡ false → (0 < length i.children) × (i.low ≤ slice_number (rest_of get.key get.way))
-FindMay a get (AtValue glance place kind) = place < length glance.order.live
+FindMay a get (AtValue notes kind) = notes.place < length notes.glance.order.live
 FindMay a get _ = Unit {0}
 
 module _ (a : ArenaView) (get : Get) (alive : (node : Node) → node_at a.nodes get.way.node.0 ≡ Some node → is_marked node ≡ false) where
@@ -206,19 +207,19 @@ module _ (a : ArenaView) (get : Get) (alive : (node : Node) → node_at a.nodes 
   find_goes (Bounded counters right) fits (b, now) part lent =
       let field = lends_field a number OrderField part lent b now.named in
       subst (λ (p : Part). FindGoes a number (reading_of (with_finding (Bounded counters right)) p)) (sym (order_part b part field.is))
-      (goes_next a number b now.named field.sound (border_alive a number alive b now.named) (record { counters = counters; right = right; order = b.order }) 0 now refl)
-  find_goes (Reads glance place) fits (b, now, order) part lent =
-      let k = slice_index glance.order.live place in
+      (goes_next a number b now.named field.sound (border_alive a number alive b now.named) (notes_at counters right b.order 0) now refl)
+  find_goes (Reads notes) fits (b, now, order) part lent =
+      let k = slice_index notes.glance.order.live notes.place in
       let field = lends_field a number (KeyField k) part lent b now.named in
       let (key, one, is) = key_part b k part field.is in
-      subst (λ (p : Part). FindGoes a number (reading_of (with_finding (Reads glance place)) p)) (sym one)
-      (goes_key a number b now.named field.sound (border_alive a number alive b now.named) glance place now order (rest_of get.key get.way) key is)
-  find_goes (AtValue glance place kind) within (b, now, order, fits) part lent =
-      let k = slice_index glance.order.live place in
+      subst (λ (p : Part). FindGoes a number (reading_of (with_finding (Reads notes)) p)) (sym one)
+      (goes_key a number b now.named field.sound (border_alive a number alive b now.named) notes now order (rest_of get.key get.way) key is)
+  find_goes (AtValue notes kind) within (b, now, order, fits) part lent =
+      let k = slice_index notes.glance.order.live notes.place in
       let field = lends_field a number (ValueField k) part lent b now.named in
       let (value, one, is) = value_part b k part field.is in
-      subst (λ (p : Part). FindGoes a number (reading_of (with_finding (AtValue glance place kind)) p)) (sym one)
-      (goes_value a number b now.named field.sound (border_alive a number alive b now.named) glance place now order within get.columns kind fits value is)
+      subst (λ (p : Part). FindGoes a number (reading_of (with_finding (AtValue notes kind)) p)) (sym one)
+      (goes_value a number b now.named field.sound (border_alive a number alive b now.named) notes now order within get.columns kind fits value is)
   find_goes (Settles counters sight) fits (b, now, sight_fits) part lent =
       let field = lends_field a number VersionField part lent b now.named in
       subst (λ (p : Part). FindGoes a number (reading_of (with_finding (Settles counters sight)) p)) (sym (version_part b part field.is))

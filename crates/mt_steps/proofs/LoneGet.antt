@@ -7,10 +7,12 @@ use Rattle.mt_arena.specs.Arena.{ArenaView}
 use Rattle.mt_chart.specs.Tree.{Arena}
 use Rattle.mt_chart.specs.Walk.{Moves}
 use Rattle.mt_tree.specs.Seen.{arena_seen}
-use Rattle.mt_steps.specs.declared.finding.Finding.{Finding}
-use Rattle.mt_steps.specs.declared.finding.Finding.TheVariants.{Begins, Looked, Bounded, Reads, AtValue, Settles}
-use Rattle.mt_steps.specs.declared.finding.Reading.{Reading}
-use Rattle.mt_steps.specs.declared.finding.Reading.TheVariants.{Restarts, Repeats, GoesOn, To, Below, Answers}
+use Rattle.mt_steps.specs.declared.finding.Sight.TheVariants.{Absent as AbsentSight, Row as RowSight, Link as LinkSight}
+use Rattle.mt_types.specs.declared.event.Answer.TheVariants.{Absent as AbsentAnswer, Found}
+use Rattle.mt_steps.specs.Finding.{Finding}
+use Rattle.mt_steps.specs.declared.reader.Reader.TheVariants.{Begins, Looked, Bounded, Reads, AtValue, Settles}
+use Rattle.mt_steps.specs.Finding.{FindReading}
+use Rattle.mt_steps.specs.declared.reader.Reading.TheVariants.{Restarts, Repeats, GoesOn, To, Finds}
 use Rattle.mt_steps.specs.declared.getting.Get.{Get}
 use Rattle.mt_steps.specs.declared.way.Way.{Way}
 use Rattle.mt_steps.specs.declared.progress.Progress.{Progress}
@@ -18,7 +20,7 @@ use Rattle.mt_steps.specs.declared.progress.Progress.TheVariants.{Moved, Waits, 
 use Rattle.mt_steps.specs.World.{World, IsWorld, IsTaken}
 use Rattle.mt_steps.specs.Way.{prefix_of, IsOnWay}
 use Rattle.mt_steps.specs.Getting.{FindingIsTrue, GetIsTrue, GetFollows, get_after, progress_of, reading_of, reads_made}
-use Rattle.mt_steps.proofs.FieldLemmas.{LeadsTo, on_border}
+use Rattle.mt_steps.proofs.FieldLemmas.{LeadsTo, on_way}
 use Rattle.mt_steps.proofs.GetLemmas.{may_go}
 use Rattle.mt_steps.proofs.GetSteps.{leads, reads_few}
 use Rattle.mt_steps.proofs.LoneFinding.{FindStands, FindGoes, FindMay, find_goes}
@@ -44,21 +46,12 @@ module _ (a : ArenaView) (now begun moves : ℕ) (past : List Arena) (w : World)
   abbrev IsTrue : Finding → Type 0
   IsTrue finding = FindingIsTrue get.key get.columns get.way finding begun (arena_seen a ∷ past) a w
 
-  -- it holds the node at which it is
-  on_way : (finding : Finding) → IsTrue finding → IsOnWay begun get.key get.way w
-  on_way Begins on = on
-  on_way (Looked counters) at = on_border a now w world begun get.key get.columns get.way past counters at
-  on_way (Bounded counters right) (at, bound) = on_border a now w world begun get.key get.columns get.way past counters at
-  on_way (Reads glance place) (at, bound, within, searches) = on_border a now w world begun get.key get.columns get.way past glance.counters at
-  on_way (AtValue glance place kind) (at, within, deep, is_true) = on_border a now w world begun get.key get.columns get.way past glance.counters at
-  on_way (Settles counters sight) (at, fits, is_true) = on_border a now w world begun get.key get.columns get.way past counters at
-
   may : (finding : Finding) → IsTrue finding → FindMay a get finding
   may Begins on = (may_go a get.key get.way now begun w world on).may.has_child
   may (Looked counters) at = tt
   may (Bounded counters right) truth = tt
-  may (Reads glance place) truth = tt
-  may (AtValue glance place kind) (at, (within, fits), deep, is_true) = within
+  may (Reads notes) truth = tt
+  may (AtValue notes kind) (at, (within, fits), deep, is_true) = within
   may (Settles counters sight) truth = tt
 
   goes : (p : Progress) → (follows : GetFollows a get p new) → FindGoes a get.way.node.0 (reading_of get follows.part)
@@ -73,13 +66,14 @@ module _ (a : ArenaView) (now begun moves : ℕ) (past : List Arena) (w : World)
     | inr done ↦ go (reading_of get follows.part) (goes Waits follows) done.0
   ]
     where
-      go : (reading : Reading) → FindGoes a get.way.node.0 reading → Waits ≡ progress_of reading → ⊥
+      go : (reading : FindReading) → FindGoes a get.way.node.0 reading → Waits ≡ progress_of reading → ⊥
       go Restarts never is = never
       go Repeats never is = never
       go (GoesOn finding) noted is = (let clash : Waits ≡ Moved = is in cc)
       go (To node) move is = (let clash : Waits ≡ Moved = is in cc)
-      go (Below head) move is = (let clash : Waits ≡ Moved = is in cc)
-      go (Answers answer) right is = (let clash : Waits ≡ Answered answer = is in cc)
+      go (Finds (LinkSight head)) move is = (let clash : Waits ≡ Moved = is in cc)
+      go (Finds AbsentSight) right is = (let clash : Waits ≡ Answered AbsentAnswer = is in cc)
+      go (Finds (RowSight row)) right is = (let clash : Waits ≡ Answered (Found row) = is in cc)
 
   -- and with each of its moves what is left of it falls
   module _ (bytes : AreBytes get.key) (fits : length get.key ≤ MAX_KEY_BYTES) where
@@ -88,7 +82,7 @@ module _ (a : ArenaView) (now begun moves : ℕ) (past : List Arena) (w : World)
 
     on_there : (next : Way) → IsOnWay begun get.key next w → Moves (arena_seen a) get.way.node.0 next.node.0 → Nearer (record get { way = next; finding = Begins })
     on_there next on move =
-        let (there, falls) = move_nearer a now begun w get.key get.way next world bytes fits (on_way get.finding truth.0) stands.there on move in
+        let (there, falls) = move_nearer a now begun w get.key get.way next world bytes fits (on_way a now w world begun get.key get.columns get.way past get.finding truth.0) stands.there on move in
         (record { there = there; noted = tt }, node_falls (way_left a get.way.layer get.way.node.0) (way_left a next.layer next.node.0) 0 (reads_made get.finding) falls)
 
     pub lone_get_nearer : GetFollows a get Moved new → Nearer new
@@ -98,7 +92,7 @@ module _ (a : ArenaView) (now begun moves : ℕ) (past : List Arena) (w : World)
           (go (reading_of get follows.part) (goes Moved follows) (leads a now w world begun get.key get.columns get.way past bytes get.finding truth.0 follows.part follows.lent) done.0)
     ]
       where
-        go : (reading : Reading) → FindGoes a get.way.node.0 reading → LeadsTo get.key get.columns get.way get.finding begun past a w reading → Moved ≡ progress_of reading → Nearer (get_after get reading)
+        go : (reading : FindReading) → FindGoes a get.way.node.0 reading → LeadsTo get.key get.columns get.way get.finding begun past a w reading → Moved ≡ progress_of reading → Nearer (get_after get reading)
         go Restarts never led is = absurd never
         go Repeats never led is = absurd never
         go (GoesOn finding) noted led is = (
@@ -107,5 +101,6 @@ module _ (a : ArenaView) (now begun moves : ℕ) (past : List Arena) (w : World)
               (reads_few finding get.key get.columns get.way begun (arena_seen a ∷ (arena_seen a ∷ past)) a w led.0),
         )
         go (To node) move led is = on_there (record { node = node; layer = get.way.layer }) led.on move
-        go (Below head) move led is = on_there (record { node = head; layer = get.way.layer + 1 }) led.on move
-        go (Answers answer) right led is = absurd (let clash : Moved ≡ Answered answer = is in cc)
+        go (Finds (LinkSight head)) move led is = on_there (record { node = head; layer = get.way.layer + 1 }) led.on move
+        go (Finds AbsentSight) right led is = absurd (let clash : Moved ≡ Answered AbsentAnswer = is in cc)
+        go (Finds (RowSight row)) right led is = absurd (let clash : Moved ≡ Answered (Found row) = is in cc)

@@ -38,16 +38,19 @@ use Rattle.mt_tree.specs.Descent.{visit_head, visit_interior, is_marked}
 use Rattle.mt_tree.specs.Seen.{arena_seen, entry_seen, entries_seen, right_seen}
 use Rattle.mt_tree.specs.declared.visit.Visit.{Visit}
 use Rattle.mt_tree.specs.declared.visit.Visit.TheVariants.{Again as VisitAgain, To as VisitTo, Below as VisitBelow, Here as VisitHere}
-use Rattle.mt_steps.specs.declared.finding.Counters.{Counters}
+use Rattle.mt_steps.specs.Reader.{MayRead, HasNext, bounded, by_visit, counters_of, is_flagged, looked, same_counters, settled, wants}
+use Rattle.mt_steps.specs.declared.reader.Counters.{Counters}
 use Rattle.mt_steps.specs.declared.listing.KeyRead.{KeyRead}
+use Rattle.mt_steps.specs.declared.listing.SlotKey.{SlotKey}
+use Rattle.mt_steps.specs.declared.listing.Listed.{Listed}
+use Rattle.mt_scan.specs.Listed.{list_of}
 use Rattle.mt_steps.specs.declared.listing.KeyRead.TheVariants.{Short as ShortKey, Long as LongKey, Layer as LayerKey}
-use Rattle.mt_steps.specs.declared.listing.Listing.{Listing}
-use Rattle.mt_steps.specs.declared.listing.Listing.TheVariants.{Begins, Looked, Bounded, Reads, AtValue, Settles}
-use Rattle.mt_steps.specs.declared.listing.ListReading.{ListReading}
-use Rattle.mt_steps.specs.declared.listing.ListReading.TheVariants.{Restarts, Repeats, GoesOn, To, Lists}
-use Rattle.mt_steps.specs.declared.listing.Notes.{Notes}
-use Rattle.mt_steps.specs.Finding.{counters_of, is_flagged, same_counters}
-use Rattle.mt_steps.specs.Listing.{list_looked, list_bounded, list_next, key_read_of, entry_for, is_before_link, kept_with, one_more, list_key, list_value, list_settled, list_visit, list_wants, list_reading, HasNext, AreFew, MayRead}
+use Rattle.mt_steps.specs.Listing.{Listing}
+use Rattle.mt_steps.specs.declared.reader.Reader.TheVariants.{Begins, Looked, Bounded, Reads, AtValue, Settles}
+use Rattle.mt_steps.specs.Listing.{ListReading}
+use Rattle.mt_steps.specs.declared.reader.Reading.TheVariants.{Restarts, Repeats, GoesOn, To, Finds}
+use Rattle.mt_steps.specs.Listing.{ListNotes}
+use Rattle.mt_steps.specs.Listing.{list_next, key_read_of, entry_for, is_before_link, kept_with, one_more, list_key, value_kept, list_reading, AreFew}
 use Rattle.mt_steps.specs.Standing.{Lends}
 use Rattle.mt_steps.proofs.LoneFields.{IsNow, VisitMoves, head_moves, interior_moves, unflagged, counters_same, right_moves, right_seen_moves, link_moves, link_among, border_alive}
 use Rattle.mt_steps.proofs.PartLemmas.{lends_field, version_part, right_part, order_part, key_part, value_part, head_part, interior_part}
@@ -71,8 +74,8 @@ pub record NotedNow (a : ArenaView) (number : ℕ) (counters : Counters) (right 
   pub links : LinksOf entries b
 
 -- the same of what it has noted of slots, and of the order
-abbrev pub SlotsNow : ArenaView → ℕ → Notes → Type 0
-SlotsNow a number notes = (n : NotedNow a number notes.glance.counters notes.glance.right notes.entries) × (notes.glance.order ≡ n.b.order)
+abbrev pub SlotsNow : ArenaView → ℕ → ListNotes → Type 0
+SlotsNow a number notes = (n : NotedNow a number notes.glance.counters notes.glance.right notes.kept) × (notes.glance.order ≡ n.b.order)
 
 -- WHAT IT HAS NOTED of the border of the number is what the border has
 abbrev pub ListStands : ArenaView → ℕ → Listing → Type 0
@@ -80,10 +83,10 @@ ListStands a number Begins = Unit {0}
 ListStands a number (Looked counters) = (b : BorderView) × IsNow a number counters b
 ListStands a number (Bounded counters right) = NotedNow a number counters right []
 ListStands a number (Reads notes) = SlotsNow a number notes
-ListStands a number (AtValue notes slice key) = (s : SlotsNow a number notes)
-    × (slice ≡ (slot_at s.0.b (slice_index notes.glance.order.live notes.place)).entry.slice)
-    × KeyFits key (slot_at s.0.b (slice_index notes.glance.order.live notes.place)).entry.content
-ListStands a number (Settles counters right entries) = NotedNow a number counters right entries
+ListStands a number (AtValue notes key) = (s : SlotsNow a number notes)
+    × (key.slice ≡ (slot_at s.0.b (slice_index notes.glance.order.live notes.place)).entry.slice)
+    × KeyFits key.rest (slot_at s.0.b (slice_index notes.glance.order.live notes.place)).entry.content
+ListStands a number (Settles counters listed) = NotedNow a number counters listed.right listed.entries
 
 -- how many fields it has still to read there, at most
 abbrev pub list_left : Listing → ℕ
@@ -91,32 +94,32 @@ list_left Begins = 40
 list_left (Looked counters) = 39
 list_left (Bounded counters right) = 38
 list_left (Reads notes) = 37 - 2 * notes.place
-list_left (AtValue notes slice key) = 36 - 2 * notes.place
-list_left (Settles counters right entries) = 1
+list_left (AtValue notes key) = 36 - 2 * notes.place
+list_left (Settles counters listed) = 1
 
 pub list_left_most : (listing : Listing) → list_left listing ≤ 40
 list_left_most Begins = omega arith
 list_left_most (Looked counters) = omega arith
 list_left_most (Bounded counters right) = omega arith
 list_left_most (Reads notes) = omega arith
-list_left_most (AtValue notes slice key) = omega arith
-list_left_most (Settles counters right entries) = omega arith
+list_left_most (AtValue notes key) = omega arith
+list_left_most (Settles counters listed) = omega arith
 
 -- WHERE A READING LEADS IT: nearer to the end of the border, or by a move to another node; it doesn't wait
 abbrev pub ListGoes : ArenaView → ℕ → Listing → ListReading → Type 0
 ListGoes a number listing (GoesOn next) = (list_left next < list_left listing) × ListStands a number next
 ListGoes a number listing (To node) = Moves (arena_seen a) number node.0
-ListGoes a number listing (Lists entries right) = (next : ℕ) → LeadsOn (record { entries = entries; right = right }) next → Moves (arena_seen a) number next
+ListGoes a number listing (Finds listed) = (next : ℕ) → LeadsOn (list_of listed.entries listed.right) next → Moves (arena_seen a) number next
 ListGoes a number listing _ = ⊥
 
 -- the slots that it reads are at most fifteen
 abbrev pub PlaceFits : Listing → Type 0
 PlaceFits (Reads notes) = HasNext notes × AreFew notes
-PlaceFits (AtValue notes slice key) = HasNext notes × AreFew notes
+PlaceFits (AtValue notes key) = HasNext notes × AreFew notes
 PlaceFits _ = Unit {0}
 
 -- ---- at a head or an interior node
-visit_goes : (a : ArenaView) (number : ℕ) (listing : Listing) (visit : Visit) → VisitMoves a number visit → ListGoes a number listing (list_visit visit)
+visit_goes : (a : ArenaView) (number : ℕ) (listing : Listing) (visit : Visit) → VisitMoves a number visit → ListGoes a number listing (by_visit visit)
 visit_goes a number listing (VisitTo next) moves = moves
 visit_goes a number listing VisitAgain moves = moves
 visit_goes a number listing (VisitBelow head) moves = moves
@@ -144,7 +147,7 @@ row_links entries b right slice LayerKey row links = links
 
 -- ---- at a border that is not marked deleted
 module _ (a : ArenaView) (number : ℕ) (b : BorderView) (named : border_at a.nodes number ≡ Some b) (sound : IsBorder b) (alive : b.version.deleted ≡ false) where
-  goes_looked : ListGoes a number Begins (list_looked b.version)
+  goes_looked : ListGoes a number Begins (looked b.version)
   goes_looked = go b.version.deleted alive (is_flagged b.version) (unflagged b sound)
     where
       go : (d : Bool) → d ≡ false → (f : Bool) → f ≡ false → ListGoes a number Begins (if d then Restarts else if f then Repeats else GoesOn (Looked (counters_of b.version)))
@@ -152,13 +155,13 @@ module _ (a : ArenaView) (number : ℕ) (b : BorderView) (named : border_at a.no
       go false is true set = absurd (let clash : true ≡ false = set in cc)
       go false is false set = (omega arith, (b, record { named = named; counted = refl }))
 
-  goes_bounded : (slice : ℕ) (counters : Counters) → IsNow a number counters b → ListGoes a number (Looked counters) (list_bounded slice counters b.right)
+  goes_bounded : (slice : ℕ) (counters : Counters) → IsNow a number counters b → ListGoes a number (Looked counters) (bounded slice counters b.right)
   goes_bounded slice counters now = go b.right refl
     where
       noted : (right : Option RightLink) → b.right ≡ right → NotedNow a number counters right []
       noted right is = record { b = b; now = now; right_is = sym is; links = λ at next i. elim i [ ] }
 
-      go : (right : Option RightLink) → b.right ≡ right → ListGoes a number (Looked counters) (list_bounded slice counters right)
+      go : (right : Option RightLink) → b.right ≡ right → ListGoes a number (Looked counters) (bounded slice counters right)
       go None is = (omega arith, noted None is)
       go (Some next) is = choose (nat_le next.low slice)
         where
@@ -166,23 +169,23 @@ module _ (a : ArenaView) (number : ℕ) (b : BorderView) (named : border_at a.no
           choose true = right_moves a number b named sound alive next is
           choose false = (omega arith, noted (Some next) is)
 
-  goes_next : (listing : Listing) (notes : Notes) → (n : NotedNow a number notes.glance.counters notes.glance.right notes.entries) → notes.glance.order ≡ n.b.order → 37 - 2 * notes.place < list_left listing → 1 < list_left listing
+  goes_next : (listing : Listing) (notes : ListNotes) → (n : NotedNow a number notes.glance.counters notes.glance.right notes.kept) → notes.glance.order ≡ n.b.order → 37 - 2 * notes.place < list_left listing → 1 < list_left listing
       → ListGoes a number listing (list_next notes)
   goes_next listing notes n order less some = go (nat_lt notes.place (length notes.glance.order.live))
     where
-      go : (c : Bool) → ListGoes a number listing (if c then GoesOn (Reads notes) else GoesOn (Settles notes.glance.counters notes.glance.right notes.entries))
+      go : (c : Bool) → ListGoes a number listing (if c then GoesOn (Reads notes) else GoesOn (Settles notes.glance.counters (record { entries = notes.kept; right = notes.glance.right })))
       go true = (less, (n, order))
       go false = (some, n)
 
-  goes_settled : (counters : Counters) (right : Option RightLink) (entries : List Entry) → counters_of b.version ≡ counters → right ≡ b.right → LinksOf entries b
-      → ListGoes a number (Settles counters right entries) (list_settled counters right entries b.version)
-  goes_settled counters right entries counted right_is links = go b.version.deleted alive (is_flagged b.version) (unflagged b sound) (same_counters (counters_of b.version) counters) (counters_same (counters_of b.version) counters counted)
+  goes_settled : (counters : Counters) (listed : Listed) → counters_of b.version ≡ counters → listed.right ≡ b.right → LinksOf listed.entries b
+      → ListGoes a number (Settles counters listed) (settled counters listed b.version)
+  goes_settled counters listed counted right_is links = go b.version.deleted alive (is_flagged b.version) (unflagged b sound) (same_counters (counters_of b.version) counters) (counters_same (counters_of b.version) counters counted)
     where
-      leads : (next : ℕ) → LeadsOn (record { entries = entries; right = right }) next → Moves (arena_seen a) number next
+      leads : (next : ℕ) → LeadsOn (list_of listed.entries listed.right) next → Moves (arena_seen a) number next
       leads next (inl (there, is, same)) = right_seen_moves a number b named sound alive there next (ap (option_map right_seen) (sym right_is) ∙ is) same
       leads next (inr (slice, there)) = link_moves a number b named sound alive slice next (links slice next there)
 
-      go : (d : Bool) → d ≡ false → (f : Bool) → f ≡ false → (s : Bool) → s ≡ true → ListGoes a number (Settles counters right entries) (if d then Restarts else if f then Repeats else if s then Lists entries right else Repeats)
+      go : (d : Bool) → d ≡ false → (f : Bool) → f ≡ false → (s : Bool) → s ≡ true → ListGoes a number (Settles counters listed) (if d then Restarts else if f then Repeats else if s then Finds listed else Repeats)
       go true is f set s same = absurd (let clash : true ≡ false = is in cc)
       go false is true set s same = absurd (let clash : true ≡ false = set in cc)
       go false is false set false same = absurd (let clash : false ≡ true = same in cc)
@@ -196,7 +199,7 @@ key_fits (Long own row) (Len n) suffix = refl
 key_fits (Long own row) LongClass suffix = refl
 key_fits (Link head) class suffix = tt
 
-module _ (a : ArenaView) (number : ℕ) (notes : Notes) (s : SlotsNow a number notes) (within : HasNext notes) (few : AreFew notes) where
+module _ (a : ArenaView) (number : ℕ) (notes : ListNotes) (s : SlotsNow a number notes) (within : HasNext notes) (few : AreFew notes) where
   abbrev b : BorderView
   b = s.0.b
 
@@ -212,10 +215,13 @@ module _ (a : ArenaView) (number : ℕ) (notes : Notes) (s : SlotsNow a number n
     (s, is.slice, subst (λ (m : Mark). KeyFits (key_read_of m key.class key.suffix.now) entry.content) (sym is.mark) (key_fits entry.content key.class key.suffix.now)),
   )
 
-  module _ (sound : IsBorder b) (alive : b.version.deleted ≡ false) (slice : ℕ) (slice_is : slice ≡ entry.slice) where
-    goes_more : (key : KeyRead) (kept : Option Entry) → LinksOf (kept_with notes.glance.right notes.entries kept) b → ListGoes a number (AtValue notes slice key) (one_more notes kept)
-    goes_more key kept links =
-        goes_next a number b s.0.now.named sound alive (AtValue notes slice key) (record { glance = notes.glance; entries = kept_with notes.glance.right notes.entries kept; place = notes.place + 1 })
+  module _ (sound : IsBorder b) (alive : b.version.deleted ≡ false) (own : SlotKey) (slice_is : own.slice ≡ entry.slice) where
+    abbrev slice : ℕ
+    slice = own.slice
+
+    goes_more : (kept : Option Entry) → LinksOf (kept_with notes.glance.right notes.kept kept) b → ListGoes a number (AtValue notes own) (one_more notes kept)
+    goes_more kept links =
+        goes_next a number b s.0.now.named sound alive (AtValue notes own) (record { glance = notes.glance; kept = kept_with notes.glance.right notes.kept kept; place = notes.place + 1 })
         (record { b = b; now = s.0.now; right_is = s.0.right_is; links = links }) s.1 (omega (arith, within, few.1)) (omega (arith, within, few.1))
 
     own_link : (head : NodeNo) → entry.content ≡ Link head → Among (record { slice = entry.slice; content = link head.0 }) (entries_seen b.live)
@@ -225,16 +231,16 @@ module _ (a : ArenaView) (number : ℕ) (notes : Notes) (s : SlotsNow a number n
         subst (λ (k : ℕ). Among (record { slice = (slot_at b k).entry.slice; content = link head.0 }) (entries_seen b.live)) (sym at)
         (link_among b sound notes.place inside head (ap (λ (k : ℕ). (slot_at b k).entry.content) (sym at) ∙ is))
 
-    link_links : (head : NodeNo) → entry.content ≡ Link head → LinksOf (kept_with notes.glance.right notes.entries (Some (record { slice = slice; content = Link head }))) b
-    link_links head is = links_more notes.entries (record { slice = slice; content = Link head }) b notes.glance.right s.0.links (λ at next same.
+    link_links : (head : NodeNo) → entry.content ≡ Link head → LinksOf (kept_with notes.glance.right notes.kept (Some (record { slice = slice; content = Link head }))) b
+    link_links head is = links_more notes.kept (record { slice = slice; content = Link head }) b notes.glance.right s.0.links (λ at next same.
         let one : at ≡ slice = ap (λ (e : PlainEntry). e.slice) same in
         let two : next ≡ head.0 = (let both : ◌≡◌ {A = PlainContent} (link next) (link head.0) = ap (λ (e : PlainEntry). e.content) same in cc) in
         subst (λ (m : ℕ). Among (record { slice = at; content = link m }) (entries_seen b.live)) (sym two)
         (subst (λ (m : ℕ). Among (record { slice = m; content = link head.0 }) (entries_seen b.live)) (sym (one ∙ slice_is)) (own_link head is)))
 
-    goes_value : (key : KeyRead) → KeyFits key entry.content → (value : ValueOf) → IsValueOf entry.content value → ListGoes a number (AtValue notes slice key) (list_value notes slice key value)
-    goes_value key fits (RowPart row) is = goes_more key (entry_for slice key row.now) (row_links notes.entries b notes.glance.right slice key row.now s.0.links)
-    goes_value LayerKey fits (LinkPart head) is = goes_more LayerKey (Some (record { slice = slice; content = Link head })) (link_links head (of entry.content is))
+    goes_value : (key : KeyRead) → KeyFits key entry.content → (value : ValueOf) → IsValueOf entry.content value → ListGoes a number (AtValue notes own) (value_kept notes slice key value)
+    goes_value key fits (RowPart row) is = goes_more (entry_for slice key row.now) (row_links notes.kept b notes.glance.right slice key row.now s.0.links)
+    goes_value LayerKey fits (LinkPart head) is = goes_more (Some (record { slice = slice; content = Link head })) (link_links head (of entry.content is))
       where
         of : (content : Content) → IsValueOf content (LinkPart head) → content ≡ Link head
         of (Short bytes row) is = absurd is
@@ -255,15 +261,15 @@ module _ (a : ArenaView) (number : ℕ) (notes : Notes) (s : SlotsNow a number n
 
 -- ---- any reading
 module _ (a : ArenaView) (number slice : ℕ) (alive : (node : Node) → node_at a.nodes number ≡ Some node → is_marked node ≡ false) where
-  at_node : MayRead a number slice Begins → (node : Node) → node_at a.nodes number ≡ Some node → IsNode node → (part : Part) → IsPart node VersionField part → ListGoes a number Begins (list_reading Begins slice part)
+  at_node : MayRead {N = List Entry} {K = SlotKey} {F = Listed} a number slice Begins → (node : Node) → node_at a.nodes number ≡ Some node → IsNode node → (part : Part) → IsPart node VersionField part → ListGoes a number Begins (list_reading Begins slice part)
   at_node may (HeadNode h) named sound part is =
       let (own, one, view) = head_part h VersionField part is in
       subst (λ (p : Part). ListGoes a number Begins (list_reading Begins slice p)) (sym one)
-      (subst (λ (x : HeadView). ListGoes a number Begins (list_visit (visit_head x))) (sym view) (visit_goes a number Begins (visit_head h) (head_moves a number h named sound (alive (HeadNode h) named))))
+      (subst (λ (x : HeadView). ListGoes a number Begins (by_visit (visit_head x))) (sym view) (visit_goes a number Begins (visit_head h) (head_moves a number h named sound (alive (HeadNode h) named))))
   at_node may (InteriorNode i) named sound part is =
       let (own, one, view) = interior_part i VersionField part is in
       subst (λ (p : Part). ListGoes a number Begins (list_reading Begins slice p)) (sym one)
-      (subst (λ (x : InteriorView). ListGoes a number Begins (list_visit (visit_interior slice x))) (sym view)
+      (subst (λ (x : InteriorView). ListGoes a number Begins (by_visit (visit_interior slice x))) (sym view)
       (visit_goes a number Begins (visit_interior slice i)
       (interior_moves a number slice i named sound (alive (InteriorNode i) named) (may.child i (ap (option_and_then interior_of) named) (alive (InteriorNode i) named)))))
   at_node may (BorderNode b) named sound part is =
@@ -271,7 +277,7 @@ module _ (a : ArenaView) (number slice : ℕ) (alive : (node : Node) → node_at
       (goes_looked a number b (ap (option_and_then border_of) named) sound (alive (BorderNode b) named))
 
   -- WHAT IT READS brings it nearer to its end, and it doesn't wait
-  pub list_goes : (listing : Listing) → MayRead a number slice listing → PlaceFits listing → ListStands a number listing → (part : Part) → Lends a number (list_wants listing) part → ListGoes a number listing (list_reading listing slice part)
+  pub list_goes : (listing : Listing) → MayRead a number slice listing → PlaceFits listing → ListStands a number listing → (part : Part) → Lends a number (wants listing) part → ListGoes a number listing (list_reading listing slice part)
   list_goes Begins may fits stands part lent = at_node may lent.node lent.named lent.sound part lent.is
   list_goes (Looked counters) may fits (b, now) part lent =
       let field = lends_field a number RightField part lent b now.named in
@@ -281,19 +287,19 @@ module _ (a : ArenaView) (number slice : ℕ) (alive : (node : Node) → node_at
       let field = lends_field a number OrderField part lent n.b n.now.named in
       subst (λ (p : Part). ListGoes a number (Bounded counters right) (list_reading (Bounded counters right) slice p)) (sym (order_part n.b part field.is))
       (goes_next a number n.b n.now.named field.sound (border_alive a number alive n.b n.now.named) (Bounded counters right)
-      (record { glance = record { counters = counters; right = right; order = n.b.order }; entries = []; place = 0 }) n refl (omega arith) (omega arith))
+      (record { glance = record { counters = counters; right = right; order = n.b.order }; kept = []; place = 0 }) n refl (omega arith) (omega arith))
   list_goes (Reads notes) may (within, few) s part lent =
       let k = slice_index notes.glance.order.live notes.place in
       let field = lends_field a number (KeyField k) part lent s.0.b s.0.now.named in
       let (key, one, is) = key_part s.0.b k part field.is in
       subst (λ (p : Part). ListGoes a number (Reads notes) (list_reading (Reads notes) slice p)) (sym one) (goes_key a number notes s within few key is)
-  list_goes (AtValue notes at key) may (within, few) (s, slice_is, fits) part lent =
+  list_goes (AtValue notes own) may (within, few) (s, slice_is, fits) part lent =
       let k = slice_index notes.glance.order.live notes.place in
       let field = lends_field a number (ValueField k) part lent s.0.b s.0.now.named in
       let (value, one, is) = value_part s.0.b k part field.is in
-      subst (λ (p : Part). ListGoes a number (AtValue notes at key) (list_reading (AtValue notes at key) slice p)) (sym one)
-      (goes_value a number notes s within few field.sound (border_alive a number alive s.0.b s.0.now.named) at slice_is key fits value is)
-  list_goes (Settles counters right entries) may fits n part lent =
+      subst (λ (p : Part). ListGoes a number (AtValue notes own) (list_reading (AtValue notes own) slice p)) (sym one)
+      (goes_value a number notes s within few field.sound (border_alive a number alive s.0.b s.0.now.named) own slice_is own.rest fits value is)
+  list_goes (Settles counters listed) may fits n part lent =
       let field = lends_field a number VersionField part lent n.b n.now.named in
-      subst (λ (p : Part). ListGoes a number (Settles counters right entries) (list_reading (Settles counters right entries) slice p)) (sym (version_part n.b part field.is))
-      (goes_settled a number n.b n.now.named field.sound (border_alive a number alive n.b n.now.named) counters right entries n.now.counted n.right_is n.links)
+      subst (λ (p : Part). ListGoes a number (Settles counters listed) (list_reading (Settles counters listed) slice p)) (sym (version_part n.b part field.is))
+      (goes_settled a number n.b n.now.named field.sound (border_alive a number alive n.b n.now.named) counters listed n.now.counted n.right_is n.links)

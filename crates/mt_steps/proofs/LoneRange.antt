@@ -20,26 +20,25 @@ use Rattle.mt_scan.specs.declared.scan.ScanMove.TheVariants.{Done, To, Top}
 use Rattle.mt_scan.specs.Listed.{list_of}
 use Rattle.mt_scan.specs.Scan.{ScanView}
 use Rattle.mt_scan.proofs.LeadLemmas.{visit_leads}
+use Rattle.mt_steps.specs.Reader.{wants}
 use Rattle.mt_steps.specs.declared.progress.Progress.{Progress}
 use Rattle.mt_steps.specs.declared.progress.Progress.TheVariants.{Moved, Waits, Answered, Refused}
 use Rattle.mt_steps.specs.declared.ranging.Range.{Range}
 use Rattle.mt_steps.specs.World.{World, IsWorld, IsTaken}
 use Rattle.mt_steps.specs.Standing.{Lends}
 use Rattle.mt_steps.specs.Way.{start}
-use Rattle.mt_steps.specs.Listing.{list_wants, list_reading, ListingIsTrue, ListLeads, IsReadList}
+use Rattle.mt_steps.specs.Listing.{list_reading, ListingIsTrue, ListLeads, IsReadList}
 use Rattle.mt_steps.specs.Ranging.{RangeIsTrue, SeeksOn, ScansOn, ScanGoes, ScanEnds, RangeScans, RangeDoes, RangeReads, unread}
 use Rattle.mt_types.specs.Rows.{shown}
 use Rattle.mt_types.specs.declared.row.Row.{Row}
 use Rattle.mt_types.specs.declared.numbers.NodeNo.{NodeNo}
 use Rattle.mt_types.specs.declared.event.Answer.TheVariants.{Rows as RowsAnswer}
 use Rattle.mt_types.specs.declared.refusal.Refusal.TheVariants.{NoMemory}
-use Rattle.mt_border.specs.declared.entry.Entry.{Entry}
-use Rattle.mt_border.specs.declared.entry.RightLink.{RightLink}
 use Rattle.mt_arena.specs.declared.part.Part.{Part}
-use Rattle.mt_steps.specs.declared.listing.Listing.{Listing}
-use Rattle.mt_steps.specs.declared.listing.Listing.TheVariants.{Begins, Looked, Bounded as BoundedListing, Reads, AtValue, Settles}
-use Rattle.mt_steps.specs.declared.listing.ListReading.{ListReading}
-use Rattle.mt_steps.specs.declared.listing.ListReading.TheVariants.{Restarts, Repeats, GoesOn, To as ReadTo, Lists}
+use Rattle.mt_steps.specs.Listing.{Listing}
+use Rattle.mt_steps.specs.declared.reader.Reader.TheVariants.{Begins, Looked, Bounded as BoundedListing, Reads, AtValue, Settles}
+use Rattle.mt_steps.specs.Listing.{ListReading}
+use Rattle.mt_steps.specs.declared.reader.Reading.TheVariants.{Restarts, Repeats, GoesOn, To as ReadTo, Finds}
 use Rattle.mt_steps.proofs.FrameLemmas.{chart_bounded}
 use Rattle.mt_steps.proofs.LoneLemmas.{untaken_alive}
 use Rattle.mt_steps.proofs.LoneListing.{ListStands, ListGoes, PlaceFits, list_left, list_goes}
@@ -47,6 +46,7 @@ use Rattle.mt_steps.proofs.ListSteps.{list_may_read}
 use Rattle.mt_steps.proofs.RangeLemmas.{scans_on, scans_top}
 use Rattle.mt_steps.proofs.RangeSteps.{range_leads}
 use Rattle.mt_steps.proofs.LoneWay.{layer_height, way_left, height_told, still_there}
+use Rattle.mt_steps.specs.declared.listing.Listed.{Listed}
 
 -- ---- the layers of a tree are fewer than its nodes
 module _ (arena : Arena) (chart : Chart) (tree : IsTree arena chart) where
@@ -274,13 +274,13 @@ place_fits show prefix slice number Begins begun arenas a w truth = tt
 place_fits show prefix slice number (Looked counters) begun arenas a w truth = tt
 place_fits show prefix slice number (BoundedListing counters right) begun arenas a w truth = tt
 place_fits show prefix slice number (Reads notes) begun arenas a w (at, bounded, within, few, lists) = (within, few)
-place_fits show prefix slice number (AtValue notes own key) begun arenas a w (at, bounded, within, few, lists, has) = (within, few)
-place_fits show prefix slice number (Settles counters right entries) begun arenas a w truth = tt
+place_fits show prefix slice number (AtValue notes key) begun arenas a w (at, bounded, within, few, lists, has) = (within, few)
+place_fits show prefix slice number (Settles counters listed) begun arenas a w truth = tt
 
 -- what a scan alone reads brings it nearer to its end, and it doesn't wait
 pub scan_reads : (show : Row → Row) (a : ArenaView) (now : ℕ) (w : World) → IsWorld a now w → (begun : ℕ) (prefix : List ℕ) (slice number : ℕ) (past : List Arena) → slice < 2 ^ 64 → Holds w.chart begun number prefix slice
     → ((other : ℕ) → IsTaken a w other → ⊥) → ScanStands w.chart number prefix → (listing : Listing) → ListingIsTrue show prefix slice number listing begun (arena_seen a ∷ past) a w → ListStands a number listing
-    → (part : Part) → Lends a number (list_wants listing) part → ListGoes a number listing (list_reading listing slice part)
+    → (part : Part) → Lends a number (wants listing) part → ListGoes a number listing (list_reading listing slice part)
 scan_reads show a now w world begun prefix slice number past fits held free stands listing truth noted part lent =
     list_goes a number slice (untaken_alive a now w world number (free number) (is_on w.chart number prefix stands)) listing
     (list_may_read show a now w world begun prefix slice number past fits held listing truth) (place_fits show prefix slice number listing begun (arena_seen a ∷ past) a w truth) noted part lent
@@ -315,8 +315,8 @@ module _ (a : ArenaView) (now begun moves : ℕ) (past : List Arena) (w : World)
       go Repeats never done = never
       go (GoesOn next) near (is, then) = (let clash : Waits ≡ Moved = is in cc)
       go (ReadTo node) move (is, then) = (let clash : Waits ≡ Moved = is in cc)
-      go (Lists entries right) leads (inl refused) = (let clash : Waits ≡ Refused NoMemory = refused in cc)
-      go (Lists entries right) leads (inr s) = ends s.scan s.visited s.ends
+      go (Finds listed) leads (inl refused) = (let clash : Waits ≡ Refused NoMemory = refused in cc)
+      go (Finds listed) leads (inr s) = ends s.scan s.visited s.ends
 
   -- and with each of its moves what is left of it falls
   module _ (next : World) (same : (number : ℕ) → next.chart number ≡ w.chart number) (then made : ℕ) (since : List Arena) where
@@ -337,13 +337,13 @@ module _ (a : ArenaView) (now begun moves : ℕ) (past : List Arena) (w : World)
       | inr done ↦ go (list_reading range.listing (first_slice range.scan.at) reads.part) (goes Moved reads) (range_leads a range reads.fits reads.part reads.lent now begun moves past w world truth) done
     ]
       where
-        lists : (entries : List Entry) (right : Option RightLink) → IsReadList (shown range.columns) range.scan.prefix (first_slice range.scan.at) begun (arena_seen a ∷ past) w entries right
-            → ((other : ℕ) → LeadsOn (list_of entries right) other → Moves (arena_seen a) range.node.0 other) → (s : RangeScans (unread range) (list_of entries right) Moved new) → (visited : ScanMove) → s.visited ≡ visited → ScanEnds (unread range) s.scan visited Moved new → Nearer new
-        lists entries right read leads s Done is (ended, bytes) = absurd (let clash : Moved ≡ Answered (RowsAnswer s.scan.taken) = ended in cc)
-        lists entries right read leads s (To there) is (moved, then_is) =
-            at _ then_is (on_there there s.scan (inr (scans_on a range.node.0 (list_of entries right) (cursor_in range.scan) (cursor_in s.scan) s.visited read.passes leads (visit_leads range.scan (list_of entries right) s.visited s.scan s.visits) s.onward s.within reads.lent.arena there is)))
-        lists entries right read leads s Top is (moved, then_is) =
-            at _ then_is (on_there start.node s.scan (inr (scans_top a range.node.0 (list_of entries right) (cursor_in range.scan) (cursor_in s.scan) s.visited read.passes leads (visit_leads range.scan (list_of entries right) s.visited s.scan s.visits) s.onward s.within reads.lent.arena is)))
+        lists : (listed : Listed) → IsReadList (shown range.columns) range.scan.prefix (first_slice range.scan.at) begun (arena_seen a ∷ past) w listed
+            → ((other : ℕ) → LeadsOn (list_of listed.entries listed.right) other → Moves (arena_seen a) range.node.0 other) → (s : RangeScans (unread range) (list_of listed.entries listed.right) Moved new) → (visited : ScanMove) → s.visited ≡ visited → ScanEnds (unread range) s.scan visited Moved new → Nearer new
+        lists listed read leads s Done is (ended, bytes) = absurd (let clash : Moved ≡ Answered (RowsAnswer s.scan.taken) = ended in cc)
+        lists listed read leads s (To there) is (moved, then_is) =
+            at _ then_is (on_there there s.scan (inr (scans_on a range.node.0 (list_of listed.entries listed.right) (cursor_in range.scan) (cursor_in s.scan) s.visited read.passes leads (visit_leads range.scan (list_of listed.entries listed.right) s.visited s.scan s.visits) s.onward s.within reads.lent.arena there is)))
+        lists listed read leads s Top is (moved, then_is) =
+            at _ then_is (on_there start.node s.scan (inr (scans_top a range.node.0 (list_of listed.entries listed.right) (cursor_in range.scan) (cursor_in s.scan) s.visited read.passes leads (visit_leads range.scan (list_of listed.entries listed.right) s.visited s.scan s.visits) s.onward s.within reads.lent.arena is)))
 
         go : (reading : ListReading) → ListGoes a range.node.0 range.listing reading → ListLeads (shown range.columns) range.scan.prefix (first_slice range.scan.at) range.node.0 begun past a w reading → RangeDoes (unread range) reading Moved new → Nearer new
         go Restarts never leads done = absurd never
@@ -353,8 +353,8 @@ module _ (a : ArenaView) (now begun moves : ℕ) (past : List Arena) (w : World)
           field_falls (scan_left a range.node.0 (cursor_in range.scan)) (list_left listing) (list_left range.listing) less,
         ))
         go (ReadTo node) move leads (moved, is) = at (record (unread range) { node = node }) is (on_there node range.scan (inl (record { fits = reads.fits; moves = move }, refl)))
-        go (Lists entries right) moves_on leads (inl refused) = absurd (let clash : Moved ≡ Refused NoMemory = refused in cc)
-        go (Lists entries right) moves_on leads (inr s) = lists entries right leads moves_on s s.visited refl s.ends
+        go (Finds listed) moves_on leads (inl refused) = absurd (let clash : Moved ≡ Refused NoMemory = refused in cc)
+        go (Finds listed) moves_on leads (inr s) = lists listed leads moves_on s s.visited refl s.ends
 
 -- it begins at a node that is on
 pub range_begins : (a : ArenaView) (now : ℕ) (w : World) → IsWorld a now w → ScanStands w.chart 0 []

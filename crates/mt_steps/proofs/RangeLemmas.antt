@@ -48,8 +48,8 @@ use Rattle.mt_scan.specs.Listed.{ListView, list_right}
 use Rattle.mt_scan.specs.Scan.{ScanView, HoldsKey, HoldsKeys, outcome_of}
 use Rattle.mt_scan.specs.declared.scan.ScanMove.{ScanMove}
 use Rattle.mt_scan.specs.declared.scan.ScanMove.TheVariants.{Done, To as VisitedTo, Top}
-use Rattle.mt_steps.specs.declared.listing.Listing.{Listing}
-use Rattle.mt_steps.specs.declared.listing.Listing.TheVariants.{Begins as ListingBegins}
+use Rattle.mt_steps.specs.Listing.{Listing}
+use Rattle.mt_steps.specs.declared.reader.Reader.TheVariants.{Begins as ListingBegins}
 use Rattle.mt_steps.specs.Listing.{ListingIsTrue}
 use Rattle.mt_steps.specs.declared.ranging.Range.{Range}
 use Rattle.mt_steps.specs.declared.ranging.Sought.{Sought}

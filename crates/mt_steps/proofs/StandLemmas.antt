@@ -29,8 +29,8 @@ use Rattle.mt_tree.specs.Fields.{fields_seen, BorderAges}
 use Rattle.mt_tree.proofs.AgeLemmas.{are_slots}
 use Rattle.mt_tree.proofs.IntervalLemmas.{entries_in_order}
 use Rattle.mt_tree.proofs.SeenLemmas.{seen-border, border-seen}
-use Rattle.mt_steps.specs.declared.finding.Counters.{Counters}
-use Rattle.mt_steps.specs.Finding.{counters_of, is_flagged, same_counters}
+use Rattle.mt_steps.specs.Reader.{counters_of, is_flagged, same_counters}
+use Rattle.mt_steps.specs.declared.reader.Counters.{Counters}
 use Rattle.mt_steps.specs.Standing.{counters_seen, StandsAt, Still, IsBounded}
 use Rattle.mt_steps.specs.World.{World, IsWorld, BordersAge}
 

@@ -4,10 +4,8 @@ use Rattle.mt_types.specs.declared.refusal.Refusal.TheVariants.{NoMemory}
 use Rattle.mt_arena.specs.Node.{node_at, border_at}
 use Rattle.mt_arena.specs.Arena.{ArenaView}
 use Rattle.mt_tree.specs.Descent.{is_marked}
-use Rattle.mt_steps.specs.declared.finding.Finding.{Finding}
-use Rattle.mt_steps.specs.declared.finding.Finding.TheVariants.{AtValue}
-use Rattle.mt_steps.specs.declared.listing.Listing.{Listing}
-use Rattle.mt_steps.specs.declared.listing.Listing.TheVariants.{Reads as ReadsKey, AtValue as ReadsValue}
+use Rattle.mt_steps.specs.declared.reader.Reader.{Reader}
+use Rattle.mt_steps.specs.declared.reader.Reader.TheVariants.{Reads, AtValue}
 use Rattle.mt_steps.specs.declared.progress.Progress.{Progress}
 use Rattle.mt_steps.specs.declared.progress.Progress.TheVariants.{Refused}
 
@@ -27,13 +25,13 @@ ReadFails a number _ = Unit {0}
 
 -- Among the fields of a border, a get takes memory for a value alone: for the row that it answers. The version, the right
 -- link, the order and the keys take none.
-abbrev pub TakesMemory : Finding → Type 0
-TakesMemory (AtValue glance place kind) = Unit {0}
+abbrev pub TakesMemory : {N K F : Type 0} → Reader N K F → Type 0
+TakesMemory (AtValue notes key) = Unit {0}
 TakesMemory _ = ⊥
 
 -- A range or build takes memory for a key and for a value, since it keeps what it reads of a slot. The version, the right
 -- link and the order take none.
-abbrev pub KeepsSlot : Listing → Type 0
-KeepsSlot (ReadsKey notes) = Unit {0}
-KeepsSlot (ReadsValue notes slice key) = Unit {0}
+abbrev pub KeepsSlot : {N K F : Type 0} → Reader N K F → Type 0
+KeepsSlot (Reads notes) = Unit {0}
+KeepsSlot (AtValue notes key) = Unit {0}
 KeepsSlot _ = ⊥

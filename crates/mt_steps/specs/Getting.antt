@@ -1,7 +1,8 @@
 -- What is true of a get, and what its steps do.
-use Rattle.std.specs.Prelude.{ℕ, ◌≡◌, ◌≢◌, ◌≤◌, ◌<◌, ◌+◌, ◌*◌, ◌⊎◌, List, ◌∷◌, length, slice_index, Option, None, IsSomeAnd, true}
+use Rattle.std.specs.Prelude.{ℕ, ◌≡◌, ◌≤◌, ◌<◌, ◌+◌, ◌*◌, ◌⊎◌, List, ◌∷◌, length, slice_index, Option, IsSomeAnd}
 use Rattle.std.specs.Option.{option_map}
 use Rattle.mt_types.specs.Rows.{shown}
+use Rattle.mt_types.specs.declared.event.Answer.TheVariants.{Absent as AbsentAnswer, Found}
 use Rattle.mt_types.specs.declared.event.Request.{Request}
 use Rattle.mt_types.specs.declared.event.Request.TheVariants.{Get as GetRequest}
 use Rattle.mt_types.specs.declared.refusal.Refusal.TheVariants.{NoMemory}
@@ -9,17 +10,11 @@ use Rattle.mt_promise.specs.declared.limits.TheConstants.{MAX_READS}
 use Rattle.mt_slice.specs.Place.{place_of, slice_number}
 use Rattle.mt_word.specs.Slots.{Slots}
 use Rattle.mt_word.specs.declared.permutation_word.TheConstants.{SLOTS}
-use Rattle.mt_border.specs.Entry.{entry_row}
-use Rattle.mt_border.specs.Slots.{slot_at}
 use Rattle.mt_border.specs.Border.{BorderView}
 use Rattle.mt_border.specs.declared.entry.RightLink.{RightLink}
 use Rattle.mt_arena.specs.Arena.{ArenaView}
-use Rattle.mt_arena.specs.Node.{node_at, border_of}
-use Rattle.mt_arena.specs.declared.node.Node.{Node}
-use Rattle.mt_arena.specs.declared.part.Field.{Field}
-use Rattle.mt_arena.specs.declared.part.Field.TheVariants.{Version as VersionField, Right as RightField, Order as OrderField, Key as KeyField, Value as ValueField}
+use Rattle.mt_arena.specs.Node.{node_at}
 use Rattle.mt_arena.specs.declared.part.Part.{Part}
-use Rattle.mt_arena.specs.declared.part.Part.TheVariants.{Head as HeadPart, Interior as InteriorPart, Version as VersionPart, Right as RightPart, Order as OrderPart, Key as KeyPart, Value as ValuePart}
 use Rattle.mt_chart.specs.Tree.{Arena}
 use Rattle.mt_chart.specs.Chart.{Holds}
 use Rattle.mt_chart.specs.Walk.{Trail}
@@ -27,23 +22,19 @@ use Rattle.mt_chart.specs.ScanRun.{Stood, Lacked}
 use Rattle.mt_chart.specs.Reading.{Searches, HasRowKey, HasLinkKey}
 use Rattle.mt_tree.specs.Seen.{arena_seen, right_seen}
 use Rattle.mt_tree.specs.Fields.{fields_seen}
-use Rattle.mt_tree.specs.Descent.{visit_head, visit_interior, is_marked}
-use Rattle.mt_tree.specs.declared.visit.Visit.{Visit}
-use Rattle.mt_tree.specs.declared.visit.Visit.TheVariants.{Again as VisitAgain, To as VisitTo, Below as VisitBelow, Here as VisitHere}
 use Rattle.mt_steps.specs.declared.way.Way.{Way}
-use Rattle.mt_steps.specs.declared.finding.Counters.{Counters}
+use Rattle.mt_steps.specs.declared.reader.Counters.{Counters}
 use Rattle.mt_steps.specs.declared.finding.Kind.{Kind}
 use Rattle.mt_steps.specs.declared.finding.Kind.TheVariants.{Row as RowKind, Link as LinkKind}
 use Rattle.mt_steps.specs.declared.finding.Sight.{Sight}
 use Rattle.mt_steps.specs.declared.finding.Sight.TheVariants.{Absent as AbsentSight, Row as RowSight, Link as LinkSight}
-use Rattle.mt_steps.specs.declared.finding.Finding.{Finding}
-use Rattle.mt_steps.specs.declared.finding.Finding.TheVariants.{Begins, Looked, Bounded, Reads, AtValue, Settles}
-use Rattle.mt_steps.specs.declared.finding.Reading.{Reading}
-use Rattle.mt_steps.specs.declared.finding.Reading.TheVariants.{Restarts, Repeats, GoesOn, To, Below, Answers}
+use Rattle.mt_steps.specs.declared.reader.Reader.TheVariants.{Begins, Looked, Bounded, Reads, AtValue, Settles}
+use Rattle.mt_steps.specs.declared.reader.Reading.TheVariants.{Restarts, Repeats, GoesOn, To, Finds}
 use Rattle.mt_steps.specs.declared.getting.Get.{Get}
 use Rattle.mt_steps.specs.declared.progress.Progress.{Progress}
 use Rattle.mt_steps.specs.declared.progress.Progress.TheVariants.{Moved, Waits, Answered, Refused}
-use Rattle.mt_steps.specs.Finding.{counters_of, is_flagged, at_version, at_right, at_order, at_key, at_value}
+use Rattle.mt_steps.specs.Reader.{wants}
+use Rattle.mt_steps.specs.Finding.{Finding, FindReading, find_reading, FindingWaits}
 use Rattle.mt_steps.specs.Causes.{TakesMemory}
 use Rattle.mt_steps.specs.World.{World}
 use Rattle.mt_steps.specs.Standing.{Lends, StandsAt, Still, IsBounded}
@@ -53,53 +44,27 @@ abbrev pub get_request : Get → Request
 get_request get = GetRequest get.key get.columns
 
 -- ---- what it does
--- the field of a border that it reads next
-abbrev pub wants : Finding → Field
-wants Begins = VersionField
-wants (Looked counters) = RightField
-wants (Bounded counters right) = OrderField
-wants (Reads glance place) = KeyField (slice_index glance.order.live place)
-wants (AtValue glance place kind) = ValueField (slice_index glance.order.live place)
-wants (Settles counters sight) = VersionField
-
--- a key or a value that it reads is that of one of the live slots
-abbrev pub IsReading : Finding → Type 0
-IsReading (Reads glance place) = place < length glance.order.live
-IsReading (AtValue glance place kind) = place < length glance.order.live
-IsReading _ = Unit {0}
-
--- what a visit of a head or an interior node leads to
-abbrev pub by_visit : Visit → Reading
-by_visit VisitAgain = Restarts
-by_visit (VisitTo next) = To next
-by_visit (VisitBelow head) = Below head
-by_visit VisitHere = Repeats
-
 -- WHAT IT DOES, by what it is lent of the node at which it is, and by nothing else
-abbrev pub reading_of : Get → Part → Reading
-reading_of get (HeadPart part) = by_visit (visit_head part.now)
-reading_of get (InteriorPart part) = by_visit (visit_interior (slice_number (rest_of get.key get.way)) part.now)
-reading_of get (VersionPart version) = at_version get.finding version
-reading_of get (RightPart right) = at_right get.finding right (slice_number (rest_of get.key get.way))
-reading_of get (OrderPart order) = at_order get.finding order
-reading_of get (KeyPart part) = at_key get.finding part (rest_of get.key get.way)
-reading_of get (ValuePart part) = at_value get.finding part get.columns
+abbrev pub reading_of : Get → Part → FindReading
+reading_of get part = find_reading get.finding (rest_of get.key get.way) get.columns part
 
-abbrev pub progress_of : Reading → Progress
+abbrev pub progress_of : FindReading → Progress
 progress_of Restarts = Waits
 progress_of Repeats = Waits
 progress_of (GoesOn finding) = Moved
 progress_of (To node) = Moved
-progress_of (Below head) = Moved
-progress_of (Answers answer) = Answered answer
+progress_of (Finds AbsentSight) = Answered AbsentAnswer
+progress_of (Finds (RowSight row)) = Answered (Found row)
+progress_of (Finds (LinkSight head)) = Moved
 
-abbrev pub get_after : Get → Reading → Get
+abbrev pub get_after : Get → FindReading → Get
 get_after get Restarts = record get { way = start; finding = Begins }
 get_after get Repeats = record get { finding = Begins }
 get_after get (GoesOn finding) = record get { finding = finding }
 get_after get (To node) = record get { way = record { node = node; layer = get.way.layer }; finding = Begins }
-get_after get (Below head) = record get { way = record { node = head; layer = get.way.layer + 1 }; finding = Begins }
-get_after get (Answers answer) = record get { finding = Begins }
+get_after get (Finds AbsentSight) = record get { finding = Begins }
+get_after get (Finds (RowSight row)) = record get { finding = Begins }
+get_after get (Finds (LinkSight head)) = record get { way = record { node = head; layer = get.way.layer + 1 }; finding = Begins }
 
 -- ---- what is true of it
 -- it is at a border of its key's way, and has read the border's version, with these counters
@@ -147,14 +112,16 @@ FindingIsTrue key asked way Begins begun arenas a w = IsOnWay begun key way w
 FindingIsTrue key asked way (Looked counters) begun arenas a w = AtBorder begun key way counters a w
 FindingIsTrue key asked way (Bounded counters right) begun arenas a w = (at : AtBorder begun key way counters a w)
     × HasBound key way counters at.here.b right begun w
-FindingIsTrue key asked way (Reads glance place) begun arenas a w = (at : AtBorder begun key way glance.counters a w)
-    × HasBound key way glance.counters at.here.b glance.right begun w × IsPlaceOf glance.order place
-    × (Still glance.counters at.here.b → Searches (shown asked) w.chart begun arenas (prefix_of key way) (fields_seen at.here.b)
-    (option_map right_seen glance.right) glance.order.live (place_of (rest_of key way)) place)
-FindingIsTrue key asked way (AtValue glance place kind) begun arenas a w =
-    (at : AtBorder begun key way glance.counters a w) × IsPlaceOf glance.order place × GoesDeeper key way kind
-    × (Still glance.counters at.here.b
-    → KeyIsTrue key asked way kind (slice_index glance.order.live place) at.here.b begun arenas w)
+FindingIsTrue key asked way (Reads notes) begun arenas a w =
+    (at : AtBorder begun key way notes.glance.counters a w)
+    × HasBound key way notes.glance.counters at.here.b notes.glance.right begun w
+    × IsPlaceOf notes.glance.order notes.place × (Still notes.glance.counters at.here.b
+    → Searches (shown asked) w.chart begun arenas (prefix_of key way) (fields_seen at.here.b)
+    (option_map right_seen notes.glance.right) notes.glance.order.live (place_of (rest_of key way)) notes.place)
+FindingIsTrue key asked way (AtValue notes kind) begun arenas a w =
+    (at : AtBorder begun key way notes.glance.counters a w) × IsPlaceOf notes.glance.order notes.place
+    × GoesDeeper key way kind × (Still notes.glance.counters at.here.b
+    → KeyIsTrue key asked way kind (slice_index notes.glance.order.live notes.place) at.here.b begun arenas w)
 FindingIsTrue key asked way (Settles counters sight) begun arenas a w = (at : AtBorder begun key way counters a w)
     × Fits key way sight × (Still counters at.here.b → SightIsTrue key asked way sight begun arenas w)
 
@@ -163,8 +130,8 @@ abbrev pub reads_made : Finding → ℕ
 reads_made Begins = 0
 reads_made (Looked counters) = 1
 reads_made (Bounded counters right) = 2
-reads_made (Reads glance place) = 3 + place
-reads_made (AtValue glance place kind) = 4 + place
+reads_made (Reads notes) = 3 + notes.place
+reads_made (AtValue notes kind) = 4 + notes.place
 reads_made (Settles counters sight) = 20
 
 -- the run of moves that it is in: through `came` nodes, with few moves at each
@@ -179,18 +146,8 @@ GetIsTrue get begun moves past a w =
     × MovesOn begun moves get.way get.finding w
 
 -- ---- why it waits
--- the border of the number is marked deleted, has a flag set, or has other counters than were noted; or the slot of a key
--- that was a row's holds a link
-abbrev pub ReadingWaits : Finding → Node → Type 0
-ReadingWaits Begins node = (is_marked node ≡ true) ⊎ IsSomeAnd (border_of node) (λ b. is_flagged b.version ≡ true)
-ReadingWaits (Settles counters sight) node = (is_marked node ≡ true)
-    ⊎ IsSomeAnd (border_of node) (λ b. (is_flagged b.version ≡ true) ⊎ (counters_of b.version ≢ counters))
-ReadingWaits (AtValue glance place RowKind) node = IsSomeAnd (border_of node)
-    (λ b. entry_row (slot_at b (slice_index glance.order.live place)).entry ≡ None)
-ReadingWaits _ node = ⊥
-
 abbrev pub GetWaits : ArenaView → Get → Progress → Type 0
-GetWaits a get Waits = IsSomeAnd (node_at a.nodes get.way.node.0) (ReadingWaits get.finding)
+GetWaits a get Waits = IsSomeAnd (node_at a.nodes get.way.node.0) (FindingWaits get.finding)
 GetWaits a get _ = Unit {0}
 
 -- A STEP READS ONE FIELD of one border, or visits one head or interior: it is lent that, and does what follows from it;

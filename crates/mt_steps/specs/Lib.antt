@@ -2,11 +2,12 @@
 pub mod World
 pub mod Step
 pub mod Way
-pub mod Finding
 pub mod Standing
+pub mod Reader
+pub mod Causes
+pub mod Finding
 pub mod Getting
 pub mod Listing
 pub mod Ranging
-pub mod Causes
 pub mod Collecting
 pub mod Lone

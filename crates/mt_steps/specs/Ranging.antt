@@ -28,16 +28,16 @@ use Rattle.mt_scan.specs.Listed.{ListView, list_of}
 use Rattle.mt_scan.specs.Scan.{ScanView, HoldsKeys, VisitsList}
 use Rattle.mt_steps.specs.declared.progress.Progress.{Progress}
 use Rattle.mt_steps.specs.declared.progress.Progress.TheVariants.{Moved, Waits, Answered, Refused}
-use Rattle.mt_steps.specs.declared.listing.Listing.TheVariants.{Begins}
-use Rattle.mt_steps.specs.declared.listing.ListReading.{ListReading}
-use Rattle.mt_steps.specs.declared.listing.ListReading.TheVariants.{Restarts, Repeats, GoesOn, To as ReadTo, Lists}
+use Rattle.mt_steps.specs.declared.reader.Reader.TheVariants.{Begins}
+use Rattle.mt_steps.specs.declared.reader.Reading.TheVariants.{Restarts, Repeats, GoesOn, To as ReadTo, Finds}
 use Rattle.mt_steps.specs.declared.ranging.Range.{Range}
 use Rattle.mt_steps.specs.declared.ranging.Sought.{Sought}
 use Rattle.mt_steps.specs.declared.ranging.Sought.TheVariants.{Again, To, Here}
 use Rattle.mt_steps.specs.Causes.{KeepsSlot}
 use Rattle.mt_steps.specs.Way.{start, Names}
 use Rattle.mt_steps.specs.Standing.{Lends}
-use Rattle.mt_steps.specs.Listing.{list_wants, list_reading, WaitsForField, ListingIsTrue}
+use Rattle.mt_steps.specs.Reader.{wants}
+use Rattle.mt_steps.specs.Listing.{ListReading, list_reading, WaitsForField, ListingIsTrue}
 use Rattle.mt_steps.specs.World.{World, AreOfKeys}
 
 abbrev pub range_request : Range → Request
@@ -136,12 +136,12 @@ RangeDoes range Restarts p new = (p ≡ Waits) × (new ≡ record range { scan =
 RangeDoes range Repeats p new = (p ≡ Waits) × (new ≡ range)
 RangeDoes range (GoesOn next) p new = (p ≡ Moved) × (new ≡ record range { listing = next })
 RangeDoes range (ReadTo node) p new = (p ≡ Moved) × (new ≡ record range { node = node })
-RangeDoes range (Lists entries right) p new = (p ≡ Refused NoMemory)
-    ⊎ RangeScans range (list_of entries right) p new
+RangeDoes range (Finds listed) p new = (p ≡ Refused NoMemory)
+    ⊎ RangeScans range (list_of listed.entries listed.right) p new
 
 -- the rows of what it has read are those of keys
 abbrev pub ListHasKeys : List ℕ → ListReading → Type 0
-ListHasKeys prefix (Lists entries right) = HoldsKeys prefix entries
+ListHasKeys prefix (Finds listed) = HoldsKeys prefix listed.entries
 ListHasKeys prefix _ = Unit {0}
 
 -- it has read nothing of the node at which it is
@@ -153,7 +153,7 @@ unread range = record range { listing = Begins }
 pub record RangeReads (a : ArenaView) (range : Range) (p : Progress) (new : Range) : Type 0 where
   pub part : Part
   pub fits : first_slice range.scan.at < 2 ^ 64
-  pub lent : Lends a range.node.0 (list_wants range.listing) part
+  pub lent : Lends a range.node.0 (wants range.listing) part
   pub does : ((p ≡ Refused NoMemory) × KeepsSlot range.listing)
       ⊎ RangeDoes (unread range) (list_reading range.listing (first_slice range.scan.at) part) p new
 

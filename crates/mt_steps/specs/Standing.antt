@@ -13,7 +13,7 @@ use Rattle.mt_chart.specs.Noted.{Counters as NotedCounters, IsQuiet}
 use Rattle.mt_chart.specs.Reading.{HasLooked, HasRight}
 use Rattle.mt_tree.specs.Seen.{right_seen}
 use Rattle.mt_tree.specs.Fields.{fields_seen, HasSlots}
-use Rattle.mt_steps.specs.declared.finding.Counters.{Counters}
+use Rattle.mt_steps.specs.declared.reader.Counters.{Counters}
 use Rattle.mt_steps.specs.World.{World}
 
 -- A PART OF A NODE IS LENT: the arena is sound, the number names a sound node in it, and this is what its field holds

@@ -8,4 +8,5 @@ pub mod getting;
 pub mod listing;
 pub mod progress;
 pub mod ranging;
+pub mod reader;
 pub mod way;

@@ -16,14 +16,13 @@ ghost use Rattle.mt_steps.specs.Step.{StepLaw, MayStep, nothing};
 ghost use Rattle.mt_steps.specs.Causes.{IsMarkedAt, ReadFails};
 ghost use Rattle.mt_steps.specs.Ranging.{range_request, RangeIsTrue, RangeScans, RangeDoes, ListHasKeys, RangeReads, RangeWaits, IsHeldFor, IsHeldNode, Seeks};
 
-use crate::listing::{ListReading, Listing};
+use crate::listing::{ListReading, Listed, Listing, read};
 use crate::progress::Progress;
+use crate::reader::{Reader, Reading};
 use mt_arena::Node;
-use mt_border::{Entry, RightLink};
 use mt_scan::{Scan, ScanMove};
 use mt_tree::{TOP, Tree, Visit, visit_node};
 use mt_types::event::Answer;
-use mt_types::items::Items;
 use mt_types::key::Key;
 use mt_types::numbers::NodeNo;
 use mt_types::refusal::Refusal;
@@ -83,17 +82,13 @@ pub fn seek(tree: &Tree, number: NodeNo, slice: u64) -> Sought
 
 impl Range {
     // Its scan visits what it has read of a border.
-    fn scan_list(
-        &mut self,
-        alloc: Global,
-        entries: Items<Entry>,
-        right: Option<RightLink>,
-    ) -> Progress
-        requires { HoldsKeys self.old.scan.prefix entries }
+    fn scan_list(&mut self, alloc: Global, listed: Listed) -> Progress
+        requires { HoldsKeys self.old.scan.prefix listed.entries }
         ensures request { range_request self.new ≡ range_request self.old }
         ensures scans { (result ≡ Refused NoMemoryRefusal)
-            ⊎ RangeScans self.old (list_of entries right) result self.new }
+            ⊎ RangeScans self.old (list_of listed.entries listed.right) result self.new }
     {
+        let Listed { entries, right } = listed;
         match self.scan.visit(alloc, entries.as_slice(), right) {
             Ok(ScanMove::To(next)) => {
                 self.node = next;
@@ -115,21 +110,21 @@ impl Range {
         ensures does { RangeDoes self.old reading result self.new }
     {
         match reading {
-            ListReading::Restarts => {
+            Reading::Restarts => {
                 self.scan.restart();
                 self.node = TOP;
                 Progress::Waits
             }
-            ListReading::Repeats => Progress::Waits,
-            ListReading::GoesOn(listing) => {
+            Reading::Repeats => Progress::Waits,
+            Reading::GoesOn(listing) => {
                 self.listing = listing;
                 Progress::Moved
             }
-            ListReading::To(next) => {
+            Reading::To(next) => {
                 self.node = next;
                 Progress::Moved
             }
-            ListReading::Lists(entries, right) => self.scan_list(alloc, entries, right),
+            Reading::Finds(listed) => self.scan_list(alloc, listed),
         }
     }
 
@@ -146,8 +141,8 @@ impl Range {
         ensures gets_on { RangeReads tree.now self.old result self.new }
     {
         let slice = self.scan.slice();
-        let listing = mem::replace(&mut self.listing, Listing::Begins);
-        match listing.read(alloc, tree, self.node, slice) {
+        let listing = mem::replace(&mut self.listing, Reader::Begins);
+        match read(alloc, listing, tree, self.node, slice) {
             Ok(reading) => self.follow(alloc, reading),
             Err(_) => Progress::Refused(Refusal::NoMemory),
         }

@@ -20,22 +20,24 @@ use Rattle.mt_scan.specs.declared.scan.ScanMove.{ScanMove}
 use Rattle.mt_scan.specs.declared.scan.ScanMove.TheVariants.{Done, To as VisitedTo, Top}
 use Rattle.mt_build.specs.Build.{BuildView, build_cursor, ComesTo, VisitsOn}
 use Rattle.mt_build.proofs.ReadLemmas.{restarts_keep, ways_keep}
-use Rattle.mt_steps.specs.declared.listing.Listing.{Listing}
-use Rattle.mt_steps.specs.declared.listing.Listing.TheVariants.{Begins}
-use Rattle.mt_steps.specs.declared.listing.ListReading.{ListReading}
-use Rattle.mt_steps.specs.declared.listing.ListReading.TheVariants.{Restarts, Repeats, GoesOn as ReadsOn, To, Lists}
+use Rattle.mt_steps.specs.Reader.{MayRead, IsReader, wants}
+use Rattle.mt_steps.specs.Listing.{Listing}
+use Rattle.mt_steps.specs.declared.reader.Reader.TheVariants.{Begins}
+use Rattle.mt_steps.specs.Listing.{ListReading}
+use Rattle.mt_steps.specs.declared.reader.Reading.TheVariants.{Restarts, Repeats, GoesOn as ReadsOn, To, Finds}
 use Rattle.mt_steps.specs.declared.progress.Progress.{Progress}
 use Rattle.mt_steps.specs.declared.progress.Progress.TheVariants.{Moved, Waits}
 use Rattle.mt_steps.specs.World.{World, IsWorld}
 use Rattle.mt_steps.specs.Step.{MayStep, nothing}
 use Rattle.mt_steps.specs.Standing.{Lends}
-use Rattle.mt_steps.specs.Listing.{list_wants, list_reading, IsListing, MayRead, ReadsField, ListLeads}
+use Rattle.mt_steps.specs.Listing.{list_reading, ListReads, ListLeads}
 use Rattle.mt_steps.proofs.ListSteps.{list_leads, list_within, list_may_read, list_node}
 use Rattle.mt_steps.proofs.RangeSteps.{read_keys}
 use Rattle.mt_steps.proofs.RangeLemmas.{keys_again}
 use Rattle.mt_works.specs.declared.building.Building.{Building}
 use Rattle.mt_works.specs.Building.{BuildingIsTrue, BuildingLaw, ScanIsTrue, ScansOn, KeepsView, GoesOn, BuildsOn, BuildLists, ListEnds, BuildDoes, BuildReads, MayScan, unread, resumed}
 use Rattle.mt_works.proofs.BuildingLemmas.{later, unread_true, as_truth, build_moves, build_waits, build_fails, scans_on, has_scanned}
+use Rattle.mt_steps.specs.declared.listing.Listed.{Listed}
 
 module _ (a : ArenaView) (log : LogView) (old : Building) (scanning : old.upto ≡ None) (fits : first_slice old.build.at < 2 ^ 64) where
   abbrev slice : ℕ
@@ -45,13 +47,13 @@ module _ (a : ArenaView) (log : LogView) (old : Building) (scanning : old.upto �
   abbrev LeadsAt : ListReading → Type 0
   LeadsAt reading = (now begun : ℕ) (past : List Arena) (w : World) → IsWorld a now w → ScanIsTrue old.build old.node.0 old.listing begun past a w → ListLeads (shown []) old.build.prefix slice old.node.0 begun past a w reading
 
-  pub build_leads : (part : Part) → Lends a old.node.0 (list_wants old.listing) part → LeadsAt (list_reading old.listing slice part)
+  pub build_leads : (part : Part) → Lends a old.node.0 (wants old.listing) part → LeadsAt (list_reading old.listing slice part)
   build_leads part lent now begun past w world truth = list_leads (shown []) a now w world begun old.build.prefix slice old.node.0 past fits truth.scans.held old.listing truth.reads part lent
 
   -- the visit of what it has read
-  list_comes : (entries : List Entry) (right : Option RightLink) → LeadsAt (Lists entries right) → (visited : ScanMove) (view : BuildView) → VisitsOn old.build (list_of entries right) visited view
+  list_comes : (listed : Listed) → LeadsAt (Finds listed) → (visited : ScanMove) (view : BuildView) → VisitsOn old.build (list_of listed.entries listed.right) visited view
       → (now begun : ℕ) (past : List Arena) (w : World) → IsWorld a now w → ScanIsTrue old.build old.node.0 old.listing begun past a w → ComesTo w.chart begun (arena_seen a ∷ past) visited view
-  list_comes entries right leads visited view visits now begun past w world truth =
+  list_comes listed leads visited view visits now begun past w world truth =
       let read = leads now begun past w world truth in
       visits.comes w.chart begun old.node.0 read.low (arena_seen a ∷ past) (holds_top (arena_seen a) w.chart world.index.tree begun) read.list read.in_order read.from_low read.passes truth.scans
 
@@ -73,11 +75,11 @@ module _ (a : ArenaView) (log : LogView) (old : Building) (scanning : old.upto �
   own begun moves past w truth = as_truth a old scanning begun moves past w truth
 
   -- ---- what its law is
-  lists : (p : Progress) (new : Building) (entries : List Entry) (right : Option RightLink) → LeadsAt (Lists entries right) → p ≡ Moved → BuildLists log (unread old) (list_of entries right) new → Law p new
-  lists p new entries right leads progress s = go s.visited refl s.ends
+  lists : (p : Progress) (new : Building) (listed : Listed) → LeadsAt (Finds listed) → p ≡ Moved → BuildLists log (unread old) (list_of listed.entries listed.right) new → Law p new
+  lists p new listed leads progress s = go s.visited refl s.ends
     where
       coming : (now begun moves : ℕ) (past : List Arena) (w : World) → IsWorld a now w → BuildingIsTrue old begun moves past a w → ComesTo w.chart begun (arena_seen a ∷ past) s.visited s.view
-      coming now begun moves past w world truth = list_comes entries right leads s.visited s.view s.visits now begun past w world (own begun moves past w truth)
+      coming now begun moves past w world truth = list_comes listed leads s.visited s.view s.visits now begun past w world (own begun moves past w truth)
 
       go : (visited : ScanMove) → s.visited ≡ visited → ListEnds log (unread old) s.view visited new → Law p new
       go (VisitedTo next) is then = at p Moved new _ progress then (build_moves a log old (record { build = s.view; node = next; upto = old.upto; listing = Begins })
@@ -102,8 +104,8 @@ module _ (a : ArenaView) (log : LogView) (old : Building) (scanning : old.upto �
       (λ now begun moves more past w world truth.
       let truth = own begun moves past w truth in
       scanning_true old.build node Begins begun past w (unread_true a w begun node.0 past old.build truth.keys (ways_keep w.chart begun old.node.0 node.0 (arena_seen a ∷ past) old.build (leads now begun past w world truth) truth.scans))))
-  does p new (Lists entries right) leads (inl refused) = subst (λ (x : Progress). Law x new) (sym refused) (build_fails a log old new)
-  does p new (Lists entries right) leads (inr (progress, s)) = lists p new entries right leads progress s
+  does p new (Finds listed) leads (inl refused) = subst (λ (x : Progress). Law x new) (sym refused) (build_fails a log old new)
+  does p new (Finds listed) leads (inr (progress, s)) = lists p new listed leads progress s
 
   pub build_reads : (p : Progress) (new : Building) → BuildReads a log old p new → Law p new
   build_reads p new reads = elim reads.does [
@@ -115,22 +117,22 @@ module _ (a : ArenaView) (log : LogView) (old : Building) (scanning : old.upto �
   keeps : (new : Building) → new.upto ≡ old.upto → KeepsView old.build.state new.build.state → Says new
   keeps new same kept = subst (λ (u : Option ℕ). GoesOn a log old.upto old.build old.node.0 old.listing u new.build) (sym same) (scans_on a log old scanning new.build kept)
 
-  says_lists : (new : Building) (entries : List Entry) (right : Option RightLink) → LeadsAt (Lists entries right) → BuildLists log (unread old) (list_of entries right) new → Says new
-  says_lists new entries right leads s = go s.visited refl s.ends
+  says_lists : (new : Building) (listed : Listed) → LeadsAt (Finds listed) → BuildLists log (unread old) (list_of listed.entries listed.right) new → Says new
+  says_lists new listed leads s = go s.visited refl s.ends
     where
       go : (visited : ScanMove) → s.visited ≡ visited → ListEnds log (unread old) s.view visited new → Says new
       go (VisitedTo next) is then = subst Says (sym then) (keeps (record { build = s.view; node = next; upto = old.upto; listing = Begins }) refl s.keeps)
       go Top is then = subst Says (sym then) (keeps (record { build = s.view; node = record { 0 = 0 }; upto = old.upto; listing = Begins }) refl s.keeps)
       go Done is then = subst Says (sym then) (has_scanned a log old scanning (newest log) s.view refl s.keeps
-          (λ now begun past w world truth. subst (λ (v : ScanMove). ComesTo w.chart begun (arena_seen a ∷ past) v s.view) is (list_comes entries right leads s.visited s.view s.visits now begun past w world truth)))
+          (λ now begun past w world truth. subst (λ (v : ScanMove). ComesTo w.chart begun (arena_seen a ∷ past) v s.view) is (list_comes listed leads s.visited s.view s.visits now begun past w world truth)))
 
   says : (p : Progress) (new : Building) (reading : ListReading) → LeadsAt reading → BuildDoes log (unread old) reading p new → BuildsOn a log old p new
   says p new Restarts leads (progress, is) = subst (λ (x : Progress). BuildsOn a log old x new) (sym progress) (subst Says (sym is) (keeps (record { build = resumed old.build; node = record { 0 = 0 }; upto = old.upto; listing = Begins }) refl refl))
   says p new Repeats leads (progress, is) = subst (λ (x : Progress). BuildsOn a log old x new) (sym progress) (subst Says (sym is) (keeps (unread old) refl refl))
   says p new (ReadsOn next) leads (progress, is) = subst (λ (x : Progress). BuildsOn a log old x new) (sym progress) (subst Says (sym is) (keeps (record old { listing = next }) refl refl))
   says p new (To node) leads (progress, is) = subst (λ (x : Progress). BuildsOn a log old x new) (sym progress) (subst Says (sym is) (keeps (record { build = old.build; node = node; upto = old.upto; listing = Begins }) refl refl))
-  says p new (Lists entries right) leads (inl refused) = subst (λ (x : Progress). BuildsOn a log old x new) (sym refused) tt
-  says p new (Lists entries right) leads (inr (progress, s)) = subst (λ (x : Progress). BuildsOn a log old x new) (sym progress) (says_lists new entries right leads s)
+  says p new (Finds listed) leads (inl refused) = subst (λ (x : Progress). BuildsOn a log old x new) (sym refused) tt
+  says p new (Finds listed) leads (inr (progress, s)) = subst (λ (x : Progress). BuildsOn a log old x new) (sym progress) (says_lists new listed leads s)
 
   pub build_says : (p : Progress) (new : Building) → BuildReads a log old p new → BuildsOn a log old p new
   build_says p new reads = elim reads.does [
@@ -150,16 +152,16 @@ module _ (a : ArenaView) (log : LogView) (old : Building) (scanning : old.upto �
     pub asks_node : IsSome (node_at a.nodes old.node.0)
     asks_node = list_node (shown []) a may.now may.w may.world may.begun old.build.prefix (first_slice old.build.at) old.node.0 may.past own_fits truth.scans.held
 
-    pub asks_listing : IsListing listing
-    asks_listing = subst IsListing (sym is_listing) (list_within (shown []) a may.now may.w may.world may.begun old.build.prefix (first_slice old.build.at) old.node.0 may.past own_fits truth.scans.held old.listing truth.reads)
+    pub asks_listing : IsReader listing
+    asks_listing = subst IsReader (sym is_listing) (list_within (shown []) a may.now may.w may.world may.begun old.build.prefix (first_slice old.build.at) old.node.0 may.past own_fits truth.scans.held old.listing truth.reads)
 
     pub asks_may : MayRead a old.node.0 slice listing
     asks_may = subst (λ (s : ℕ). MayRead a old.node.0 s listing) (sym is_slice) (subst (λ (l : Listing). MayRead a old.node.0 (first_slice old.build.at) l) (sym is_listing)
         (list_may_read (shown []) a may.now may.w may.world may.begun old.build.prefix (first_slice old.build.at) old.node.0 may.past own_fits truth.scans.held old.listing truth.reads))
 
-  module _ (result : Result ListReading NoMemoryError) (reads : ReadsField a old.node.0 slice listing result) where
-    own_reads : ReadsField a old.node.0 (first_slice old.build.at) old.listing result
-    own_reads = subst (λ (s : ℕ). ReadsField a old.node.0 s old.listing result) is_slice (subst (λ (l : Listing). ReadsField a old.node.0 slice l result) is_listing reads)
+  module _ (result : Result ListReading NoMemoryError) (reads : ListReads a old.node.0 slice listing result) where
+    own_reads : ListReads a old.node.0 (first_slice old.build.at) old.listing result
+    own_reads = subst (λ (s : ℕ). ListReads a old.node.0 s old.listing result) is_slice (subst (λ (l : Listing). ListReads a old.node.0 slice l result) is_listing reads)
 
     same_reading : (reading : ListReading) → result ≡ Ok reading → reading ≡ list_reading old.listing (first_slice old.build.at) own_reads.part
     same_reading reading is = subst (λ (r : Result ListReading NoMemoryError). IfOk r (λ x. x ≡ list_reading old.listing (first_slice old.build.at) own_reads.part)) is own_reads.does
@@ -174,7 +176,7 @@ module _ (a : ArenaView) (log : LogView) (old : Building) (scanning : old.upto �
         go Repeats leads = tt
         go (ReadsOn next) leads = tt
         go (To node) leads = tt
-        go (Lists entries right) leads = (read_keys (shown []) old.build.prefix (first_slice old.build.at) may.begun (arena_seen a ∷ may.past) may.w entries right (truth may).keys leads, leads.few)
+        go (Finds listed) leads = (read_keys (shown []) old.build.prefix (first_slice old.build.at) may.begun (arena_seen a ∷ may.past) may.w listed (truth may).keys leads, leads.few)
 
     pub reads_does : (reading : ListReading) → result ≡ Ok reading → (dest : Listing) → dest ≡ Begins → (p : Progress) (new : Building) → BuildDoes log (record old { listing = dest }) reading p new → BuildReads a log old p new
     reads_does reading is dest begins p new done =

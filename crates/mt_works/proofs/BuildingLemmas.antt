@@ -10,7 +10,7 @@ use Rattle.mt_build.specs.Build.{BuildView, IsScanning}
 use Rattle.mt_build.proofs.ReadLemmas.{others_keep}
 use Rattle.mt_steps.specs.declared.progress.Progress.{Progress}
 use Rattle.mt_steps.specs.declared.progress.Progress.TheVariants.{Moved, Waits, Refused}
-use Rattle.mt_steps.specs.declared.listing.Listing.TheVariants.{Begins}
+use Rattle.mt_steps.specs.declared.reader.Reader.TheVariants.{Begins}
 use Rattle.mt_steps.specs.World.{World, IsWorld, AreOfKeys}
 use Rattle.mt_steps.proofs.FrameLemmas.{goes_same, quiet_same}
 use Rattle.mt_steps.proofs.RangeLemmas.{keys_again}

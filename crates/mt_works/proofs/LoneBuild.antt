@@ -20,10 +20,10 @@ use Rattle.mt_build.specs.Build.{BuildView, build_cursor}
 use Rattle.mt_view.specs.State.{StateView}
 use Rattle.mt_steps.specs.declared.progress.Progress.{Progress}
 use Rattle.mt_steps.specs.declared.progress.Progress.TheVariants.{Moved, Waits, Refused}
-use Rattle.mt_steps.specs.declared.listing.Listing.{Listing}
-use Rattle.mt_steps.specs.declared.listing.Listing.TheVariants.{Begins}
-use Rattle.mt_steps.specs.declared.listing.ListReading.{ListReading}
-use Rattle.mt_steps.specs.declared.listing.ListReading.TheVariants.{Restarts, Repeats, GoesOn as ReadsOn, To as ReadTo, Lists}
+use Rattle.mt_steps.specs.Listing.{Listing}
+use Rattle.mt_steps.specs.declared.reader.Reader.TheVariants.{Begins}
+use Rattle.mt_steps.specs.Listing.{ListReading}
+use Rattle.mt_steps.specs.declared.reader.Reading.TheVariants.{Restarts, Repeats, GoesOn as ReadsOn, To as ReadTo, Finds}
 use Rattle.mt_steps.specs.World.{World, IsWorld, IsTaken}
 use Rattle.mt_steps.specs.Way.{start}
 use Rattle.mt_steps.specs.Listing.{list_reading, ListLeads, IsReadList}
@@ -34,6 +34,7 @@ use Rattle.mt_steps.proofs.RangeLemmas.{scans_on, scans_top}
 use Rattle.mt_works.specs.declared.building.Building.{Building}
 use Rattle.mt_works.specs.Building.{ScansOn, ScanIsTrue, BuildingIsTrue, BuildReads, BuildDoes, BuildLists, BuildFollows, FollowsBy, BuildWaits, WaitsBy, ListEnds, unread}
 use Rattle.mt_works.proofs.BuildSteps.{build_leads}
+use Rattle.mt_steps.specs.declared.listing.Listed.{Listed}
 
 -- while it scans, its node is on, in the layer of its scan, and it has noted what the border there has
 abbrev pub StandsBy : Option ℕ → ArenaView → World → ℕ → BuildView → Listing → Type 0
@@ -75,8 +76,8 @@ module _ (a : ArenaView) (log : LogView) (now begun moves : ℕ) (past : List Ar
       go Repeats never done = never
       go (ReadsOn next) near (is, then) = (let clash : Waits ≡ Moved = is in cc)
       go (ReadTo node) move (is, then) = (let clash : Waits ≡ Moved = is in cc)
-      go (Lists entries right) leads (inl refused) = (let clash : Waits ≡ Refused NoMemory = refused in cc)
-      go (Lists entries right) leads (inr (is, s)) = (let clash : Waits ≡ Moved = is in cc)
+      go (Finds listed) leads (inl refused) = (let clash : Waits ≡ Refused NoMemory = refused in cc)
+      go (Finds listed) leads (inr (is, s)) = (let clash : Waits ≡ Moved = is in cc)
 
   -- and what is left of it falls
   module _ (next : World) (same : (number : ℕ) → next.chart number ≡ w.chart number) (then : ℕ) (since : List Arena) where
@@ -109,15 +110,15 @@ module _ (a : ArenaView) (log : LogView) (now begun moves : ℕ) (past : List Ar
       | inr done ↦ go (list_reading old.listing (first_slice old.build.at) reads.part) (goes Moved reads) (build_leads a log old scanning reads.fits reads.part reads.lent now begun past w world truth) done
     ]
       where
-        lists : (entries : List Entry) (right : Option RightLink) → IsReadList (shown []) old.build.prefix (first_slice old.build.at) begun (arena_seen a ∷ past) w entries right
-            → ((other : ℕ) → LeadsOn (list_of entries right) other → Moves (arena_seen a) old.node.0 other) → (s : BuildLists log (unread old) (list_of entries right) new) → (visited : ScanMove) → s.visited ≡ visited → ListEnds log (unread old) s.view visited new → Nearer new
-        lists entries right read leads s (To there) is then_is =
+        lists : (listed : Listed) → IsReadList (shown []) old.build.prefix (first_slice old.build.at) begun (arena_seen a ∷ past) w listed
+            → ((other : ℕ) → LeadsOn (list_of listed.entries listed.right) other → Moves (arena_seen a) old.node.0 other) → (s : BuildLists log (unread old) (list_of listed.entries listed.right) new) → (visited : ScanMove) → s.visited ≡ visited → ListEnds log (unread old) s.view visited new → Nearer new
+        lists listed read leads s (To there) is then_is =
             at new (record { build = s.view; node = there; upto = old.upto; listing = Begins }) then_is (as_scanning s.view there Begins (on_there there s.view (ap (λ (v : StateView). v.at) s.keeps)
-            (inr (scans_on a old.node.0 (list_of entries right) (build_cursor old.build) (build_cursor s.view) s.visited read.passes leads s.leads s.onward s.within reads.lent.arena there is))))
-        lists entries right read leads s Top is then_is =
+            (inr (scans_on a old.node.0 (list_of listed.entries listed.right) (build_cursor old.build) (build_cursor s.view) s.visited read.passes leads s.leads s.onward s.within reads.lent.arena there is))))
+        lists listed read leads s Top is then_is =
             at new (record { build = s.view; node = start.node; upto = old.upto; listing = Begins }) then_is (as_scanning s.view start.node Begins (on_there start.node s.view (ap (λ (v : StateView). v.at) s.keeps)
-            (inr (scans_top a old.node.0 (list_of entries right) (build_cursor old.build) (build_cursor s.view) s.visited read.passes leads s.leads s.onward s.within reads.lent.arena is))))
-        lists entries right read leads s Done is then_is =
+            (inr (scans_top a old.node.0 (list_of listed.entries listed.right) (build_cursor old.build) (build_cursor s.view) s.visited read.passes leads s.leads s.onward s.within reads.lent.arena is))))
+        lists listed read leads s Done is then_is =
             at new (record { build = s.view; node = old.node; upto = Some (newest log); listing = Begins }) then_is (λ true_then.
             let kept : s.view.state.at ≡ old.build.state.at = ap (λ (v : StateView). v.at) s.keeps in
             (tt, less (record { build = s.view; node = old.node; upto = Some (newest log); listing = Begins }) (omega (arith, kept))))
@@ -132,8 +133,8 @@ module _ (a : ArenaView) (log : LogView) (now begun moves : ℕ) (past : List Ar
             )))
         go (ReadTo node) move leads (moved, is) =
             at new (record { build = old.build; node = node; upto = old.upto; listing = Begins }) is (as_scanning old.build node Begins (on_there node old.build refl (inl (record { fits = reads.fits; moves = move }, refl))))
-        go (Lists entries right) moves_on leads (inl refused) = absurd (let clash : Moved ≡ Refused NoMemory = refused in cc)
-        go (Lists entries right) moves_on leads (inr (moved, s)) = lists entries right leads moves_on s s.visited refl s.ends
+        go (Finds listed) moves_on leads (inl refused) = absurd (let clash : Moved ≡ Refused NoMemory = refused in cc)
+        go (Finds listed) moves_on leads (inr (moved, s)) = lists listed leads moves_on s s.visited refl s.ends
 
 -- ---- a step
 module _ (a : ArenaView) (log : LogView) (now begun moves : ℕ) (past : List Arena) (w : World) (old new : Building) (world : IsWorld a now w) (truth : BuildingIsTrue old begun moves past a w) (stands : build_stands a w old)

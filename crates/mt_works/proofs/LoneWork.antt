@@ -16,8 +16,8 @@ use Rattle.mt_write.specs.declared.writing.Write.{Write as WriteView}
 use Rattle.mt_write.specs.declared.writing.Edit.{Edit}
 use Rattle.mt_write.specs.declared.writing.Edit.TheVariants.{Put, Remove}
 use Rattle.mt_write.specs.Writing.{write_request, edit_request}
-use Rattle.mt_steps.specs.declared.finding.Finding.{Finding}
-use Rattle.mt_steps.specs.declared.listing.Listing.{Listing}
+use Rattle.mt_steps.specs.Finding.{Finding}
+use Rattle.mt_steps.specs.Listing.{Listing}
 use Rattle.mt_steps.specs.Getting.{reads_made}
 use Rattle.mt_steps.proofs.GetSteps.{reads_few}
 use Rattle.mt_steps.proofs.LoneFinding.{FindStands}

@@ -1,6 +1,6 @@
 -- What is true of a call that begins.
 use Rattle.std.proofs.Common.{ℕ, ◌≡◌, None, List, [], ◌∷◌, refl, sym, subst, arith}
-use Rattle.mt_steps.specs.declared.finding.Finding.TheVariants.{Begins}
+use Rattle.mt_steps.specs.declared.reader.Reader.TheVariants.{Begins}
 use Rattle.mt_tree.specs.Seen.{arena_seen}
 use Rattle.mt_works.specs.declared.work.Work.TheVariants.{Get as GetWork, Range as RangeWork, Tidy as TidyWork, Build as BuildWork}
 use Rattle.mt_chart.specs.Tree.{Arena}
@@ -13,7 +13,6 @@ use Rattle.mt_chart.proofs.Ranges.{range_begins}
 use Rattle.mt_scan.specs.Scan.{ScanView}
 use Rattle.mt_steps.specs.Step.{nothing}
 use Rattle.mt_steps.specs.World.{World, IsWorld, AreOfKeys}
-use Rattle.mt_steps.specs.declared.listing.Listing.TheVariants.{Begins as ListBegins}
 use Rattle.mt_steps.proofs.ListStays.{keys_later}
 use Rattle.mt_arena.specs.Arena.{ArenaView}
 use Rattle.mt_remove.specs.declared.tidy.Tidy.{Tidy}
@@ -37,8 +36,8 @@ keys_now : (a : ArenaView) (now : ℕ) (w : World) → IsWorld a now w → AreOf
 keys_now a now w world = keys_later a now w world [] (λ arena i. elim i [ ])
 
 pub new_range : (C number : ℕ) (start columns : List ℕ) (limit : ℕ) (scan : ScanView) → IsKey start → scan ≡ record { prefix = []; at = place_of start; taken = []; limit = limit; asked = columns }
-    → IsNew C number (RangeWork (record { start = start; limit = limit; columns = columns; scan = scan; node = record { 0 = 0 }; listing = ListBegins }))
-new_range C number start columns limit scan key is = subst (λ (s : ScanView). IsNew C number (RangeWork (record { start = start; limit = limit; columns = columns; scan = s; node = record { 0 = 0 }; listing = ListBegins }))) (sym is) (record {
+    → IsNew C number (RangeWork (record { start = start; limit = limit; columns = columns; scan = scan; node = record { 0 = 0 }; listing = Begins }))
+new_range C number start columns limit scan key is = subst (λ (s : ScanView). IsNew C number (RangeWork (record { start = start; limit = limit; columns = columns; scan = s; node = record { 0 = 0 }; listing = Begins }))) (sym is) (record {
   has = refl;
   key = key;
   at_start = (refl, refl, refl);
@@ -54,7 +53,7 @@ new_range C number start columns limit scan key is = subst (λ (s : ScanView). I
 })
 
 pub new_build : (C number : ℕ) (build : BuildView) → ((chart : Chart) (begun : ℕ) (arena : Arena) → IsTree arena chart → IsScanning chart begun (arena ∷ []) 0 build) → build.prefix ≡ [] → build.state.at ≡ number → build.state.columns ≡ C
-    → IsNew C number (BuildWork (record { build = build; node = record { 0 = 0 }; upto = None; listing = ListBegins }))
+    → IsNew C number (BuildWork (record { build = build; node = record { 0 = 0 }; upto = None; listing = Begins }))
 new_build C number build scans prefix at columns = record {
   has = refl;
   key = tt;

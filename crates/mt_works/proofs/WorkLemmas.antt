@@ -14,7 +14,7 @@ use Rattle.mt_build.proofs.ReadLemmas.{others_keep}
 use Rattle.mt_steps.specs.declared.getting.Get.{Get}
 use Rattle.mt_steps.proofs.GetStays.{get_stays}
 use Rattle.mt_steps.proofs.ListStays.{keys_later, listing_stays, range_stays}
-use Rattle.mt_steps.specs.declared.listing.Listing.{Listing}
+use Rattle.mt_steps.specs.Listing.{Listing}
 use Rattle.mt_steps.specs.declared.ranging.Range.{Range}
 use Rattle.mt_steps.specs.declared.progress.Progress.{Progress}
 use Rattle.mt_steps.specs.declared.progress.Progress.TheVariants.{Refused}

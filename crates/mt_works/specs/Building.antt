@@ -19,15 +19,16 @@ use Rattle.mt_scan.specs.Scan.{HoldsKeys}
 use Rattle.mt_scan.specs.declared.scan.ScanMove.{ScanMove}
 use Rattle.mt_scan.specs.declared.scan.ScanMove.TheVariants.{Done as VisitDone, To as VisitTo, Top as VisitTop}
 use Rattle.mt_build.specs.Build.{BuildView, build_cursor, IsScanning, HasScanned, VisitsOn}
+use Rattle.mt_steps.specs.Reader.{wants}
 use Rattle.mt_steps.specs.declared.progress.Progress.{Progress}
 use Rattle.mt_steps.specs.declared.progress.Progress.TheVariants.{Moved, Waits, Refused}
-use Rattle.mt_steps.specs.declared.listing.Listing.{Listing}
-use Rattle.mt_steps.specs.declared.listing.Listing.TheVariants.{Begins}
-use Rattle.mt_steps.specs.declared.listing.ListReading.{ListReading}
-use Rattle.mt_steps.specs.declared.listing.ListReading.TheVariants.{Restarts, Repeats, GoesOn as ReadsOn, To as ReadTo, Lists}
+use Rattle.mt_steps.specs.Listing.{Listing}
+use Rattle.mt_steps.specs.declared.reader.Reader.TheVariants.{Begins}
+use Rattle.mt_steps.specs.Listing.{ListReading}
+use Rattle.mt_steps.specs.declared.reader.Reading.TheVariants.{Restarts, Repeats, GoesOn as ReadsOn, To as ReadTo, Finds}
 use Rattle.mt_steps.specs.World.{World, IsWorld, AreOfKeys}
 use Rattle.mt_steps.specs.Standing.{Lends}
-use Rattle.mt_steps.specs.Listing.{list_wants, list_reading, ListingIsTrue, WaitsForField}
+use Rattle.mt_steps.specs.Listing.{list_reading, ListingIsTrue, WaitsForField}
 use Rattle.mt_steps.specs.Way.{start}
 use Rattle.mt_steps.specs.Causes.{ReadFails, KeepsSlot}
 use Rattle.mt_steps.specs.Step.{StepLaw, nothing}
@@ -120,12 +121,12 @@ BuildDoes log old Restarts p new = (p ≡ Waits) × (new ≡ record old { build 
 BuildDoes log old Repeats p new = (p ≡ Waits) × (new ≡ old)
 BuildDoes log old (ReadsOn next) p new = (p ≡ Moved) × (new ≡ record old { listing = next })
 BuildDoes log old (ReadTo node) p new = (p ≡ Moved) × (new ≡ record old { node = node })
-BuildDoes log old (Lists entries right) p new = (p ≡ Refused NoMemory)
-    ⊎ ((p ≡ Moved) × BuildLists log old (list_of entries right) new)
+BuildDoes log old (Finds listed) p new = (p ≡ Refused NoMemory)
+    ⊎ ((p ≡ Moved) × BuildLists log old (list_of listed.entries listed.right) new)
 
 -- what a scan may visit of a reading: few entries, whose rows are those of keys
 abbrev pub MayScan : List ℕ → ListReading → Type 0
-MayScan prefix (Lists entries right) = HoldsKeys prefix entries × (length entries ≤ SLOTS)
+MayScan prefix (Finds listed) = HoldsKeys prefix listed.entries × (length listed.entries ≤ SLOTS)
 MayScan prefix _ = Unit {0}
 
 -- it has read nothing of the node at which it is
@@ -137,7 +138,7 @@ unread building = record building { listing = Begins }
 pub record BuildReads (a : ArenaView) (log : LogView) (old : Building) (p : Progress) (new : Building) : Type 0 where
   pub part : Part
   pub fits : first_slice old.build.at < 2 ^ 64
-  pub lent : Lends a old.node.0 (list_wants old.listing) part
+  pub lent : Lends a old.node.0 (wants old.listing) part
   pub does : ((p ≡ Refused NoMemory) × KeepsSlot old.listing)
       ⊎ BuildDoes log (unread old) (list_reading old.listing (first_slice old.build.at) part) p new
 

@@ -19,8 +19,7 @@ use Rattle.mt_remove.specs.declared.stage.Stage.TheVariants.{Seeks as TidySeeks}
 use Rattle.mt_remove.specs.Follows.{not_noted}
 use Rattle.mt_remove.specs.Tidy.{tidy_request, tidy_held, TidyTruth}
 use Rattle.mt_works.specs.Building.{building_request, BuildingIsTrue, IsInLog, IsBuilt, BuildsOn}
-use Rattle.mt_steps.specs.declared.finding.Finding.TheVariants.{Begins}
-use Rattle.mt_steps.specs.declared.listing.Listing.TheVariants.{Begins as ListBegins}
+use Rattle.mt_steps.specs.declared.reader.Reader.TheVariants.{Begins}
 use Rattle.mt_works.specs.declared.work.Work.{Work}
 use Rattle.mt_works.specs.declared.work.Work.TheVariants.{Get, Write, Range, Tidy, Build}
 
@@ -97,10 +96,10 @@ AsksForKey (BuildRequest spec) = Unit {0}
 abbrev pub IsAtStart : Work → Type 0
 IsAtStart (Get get) = (get.way ≡ start) × (get.finding ≡ Begins)
 IsAtStart (Write write) = (write.way ≡ start) × (write.stage ≡ WriteSeeks) × (write.head ≡ start.node)
-IsAtStart (Range range) = (range.node ≡ start.node) × (range.scan.prefix ≡ []) × (range.listing ≡ ListBegins)
+IsAtStart (Range range) = (range.node ≡ start.node) × (range.scan.prefix ≡ []) × (range.listing ≡ Begins)
 IsAtStart (Tidy tidy) = (tidy.way ≡ start) × (tidy.stage ≡ TidySeeks not_noted)
 IsAtStart (Build building) = (building.node ≡ start.node) × (building.build.prefix ≡ [])
-    × (building.listing ≡ ListBegins)
+    × (building.listing ≡ Begins)
 
 -- a call that begins has nothing, and its record is true
 pub record IsNew (C number : ℕ) (work : Work) : Type 0 where

@@ -13,14 +13,13 @@ ghost use Rattle.mt_steps.specs.Step.{MayStep, nothing};
 ghost use Rattle.mt_steps.specs.Causes.{ReadFails};
 ghost use Rattle.mt_works.specs.Building.{building_request, BuildingIsTrue, BuildingLaw, IsBuilt, IsInLog, BuildsOn, BuildFollows, BuildLists, BuildDoes, MayScan, BuildReads, BuildTakes, BuildWaits, BuildFails, OnlyForMemory};
 
-use mt_border::{Entry, RightLink};
 use mt_build::build::Build;
 use mt_commit::log::Log;
 use mt_scan::ScanMove;
-use mt_steps::listing::{ListReading, Listing};
+use mt_steps::listing::{ListReading, Listed, Listing, read};
 use mt_steps::progress::Progress;
+use mt_steps::reader::{Reader, Reading};
 use mt_tree::{TOP, Tree};
-use mt_types::items::Items;
 use mt_types::numbers::NodeNo;
 use mt_types::refusal::Refusal;
 use std::alloc::Global;
@@ -68,19 +67,14 @@ impl Building {
     }
 
     // Its scan visits what it has read of a border.
-    fn scan_list(
-        &mut self,
-        alloc: Global,
-        entries: Items<Entry>,
-        right: Option<RightLink>,
-        log: &Log,
-    ) -> Progress
-        requires keys { HoldsKeys self.old.build.prefix entries }
-        requires few { length entries ≤ SLOTS }
+    fn scan_list(&mut self, alloc: Global, listed: Listed, log: &Log) -> Progress
+        requires keys { HoldsKeys self.old.build.prefix listed.entries }
+        requires few { length listed.entries ≤ SLOTS }
         ensures request { building_request self.new ≡ building_request self.old }
         ensures lists { (result ≡ Refused NoMemoryRefusal) ⊎ ((result ≡ Moved)
-            × BuildLists log.now self.old (list_of entries right) self.new) }
+            × BuildLists log.now self.old (list_of listed.entries listed.right) self.new) }
     {
+        let Listed { entries, right } = listed;
         match self.build.visit(alloc, entries.as_slice(), right) {
             Ok(ScanMove::To(next)) => {
                 self.node = next;
@@ -105,21 +99,21 @@ impl Building {
         ensures does { BuildDoes log.now self.old reading result self.new }
     {
         match reading {
-            ListReading::Restarts => {
+            Reading::Restarts => {
                 self.build.restart();
                 self.node = TOP;
                 Progress::Waits
             }
-            ListReading::Repeats => Progress::Waits,
-            ListReading::GoesOn(listing) => {
+            Reading::Repeats => Progress::Waits,
+            Reading::GoesOn(listing) => {
                 self.listing = listing;
                 Progress::Moved
             }
-            ListReading::To(next) => {
+            Reading::To(next) => {
                 self.node = next;
                 Progress::Moved
             }
-            ListReading::Lists(entries, right) => self.scan_list(alloc, entries, right, log),
+            Reading::Finds(listed) => self.scan_list(alloc, listed, log),
         }
     }
 
@@ -135,8 +129,8 @@ impl Building {
         ensures fails { ReadFails tree.now self.old.node.0 result }
     {
         let slice = self.build.slice();
-        let listing = mem::replace(&mut self.listing, Listing::Begins);
-        match listing.read(alloc, tree, self.node, slice) {
+        let listing = mem::replace(&mut self.listing, Reader::Begins);
+        match read(alloc, listing, tree, self.node, slice) {
             Ok(reading) => self.follow(alloc, reading, log),
             Err(_) => Progress::Refused(Refusal::NoMemory),
         }

@@ -16,11 +16,10 @@ use mt_build::build::Build;
 use mt_commit::log::Log;
 use mt_remove::tidy::Tidy;
 use mt_scan::Scan;
-use mt_steps::finding::Finding;
 use mt_steps::getting::Get;
-use mt_steps::listing::Listing;
 use mt_steps::progress::Progress;
 use mt_steps::ranging::Range;
+use mt_steps::reader::Reader;
 use mt_steps::way::{START, rest_of};
 use mt_tree::{TOP, Tree};
 use mt_types::copying::TryCopy;
@@ -150,7 +149,7 @@ fn new_range(
         columns,
         scan,
         node: TOP,
-        listing: Listing::Begins,
+        listing: Reader::Begins,
     })
 }
 
@@ -171,7 +170,7 @@ fn new_building(
         build,
         node: TOP,
         upto: None,
-        listing: Listing::Begins,
+        listing: Reader::Begins,
     })
 }
 
@@ -218,7 +217,7 @@ pub fn work_of(alloc: Global, columns: u8, number: u64, request: Request) -> Res
             key: key_of(key)?,
             columns,
             way: START,
-            finding: Finding::Begins,
+            finding: Reader::Begins,
         })),
         Request::Range {
             start,

@@ -1,0 +1,88 @@
+-- What a reader is lent of a node, and why it waits at a head or an interior node.
+use Rattle.std.proofs.Common.{ℕ, ◌≡◌, ◌<◌, ◌≤◌, Bool, true, false, if◌then◌else◌, length, slice_get, Option, Some, None, refl, sym, ap, subst, ◌∙◌}
+use Rattle.std.specs.Prelude.{◌-◌, IsSomeAnd}
+use Rattle.std.specs.Borrow.{Bor}
+use Rattle.std.specs.Option.{option_and_then}
+use Rattle.mt_interior.specs.Head.{HeadView}
+use Rattle.mt_interior.specs.Interior.{InteriorView, children_up_to}
+use Rattle.mt_interior.specs.declared.child.Child.{Child}
+use Rattle.mt_arena.specs.Arena.{ArenaView, IsArena}
+use Rattle.mt_arena.specs.Node.{node_at, border_at, border_of, interior_of, IsNode}
+use Rattle.mt_arena.specs.Parts.{IsPart}
+use Rattle.mt_arena.specs.declared.node.Node.{Node}
+use Rattle.mt_arena.specs.declared.node.Node.TheVariants.{Head as HeadNode, Interior as InteriorNode, Border as BorderNode}
+use Rattle.mt_arena.specs.declared.part.Field.{Field}
+use Rattle.mt_arena.specs.declared.part.Part.{Part}
+use Rattle.mt_arena.specs.declared.part.Part.TheVariants.{Head as HeadPart, Interior as InteriorPart}
+use Rattle.mt_tree.specs.Descent.{visit_head, visit_interior, to_child, is_marked}
+use Rattle.mt_tree.specs.declared.visit.Visit.TheVariants.{Again as VisitAgain, To as VisitTo}
+use Rattle.mt_steps.specs.declared.reader.Reader.{Reader}
+use Rattle.mt_steps.specs.declared.reader.Reader.TheVariants.{Begins}
+use Rattle.mt_steps.specs.declared.reader.Reading.{Reading}
+use Rattle.mt_steps.specs.declared.reader.Reading.TheVariants.{Restarts, Repeats, GoesOn, To, Finds}
+use Rattle.mt_steps.specs.Reader.{by_visit, IsOn, ReadWaits, MayRead}
+use Rattle.mt_steps.specs.Standing.{Lends}
+use Rattle.mt_steps.proofs.PartLemmas.{no_head, no_interior}
+
+module _ {N K F : Type 0} (a : ArenaView) (number slice : ℕ) (reader : Reader N K F) (may : MayRead a number slice reader) (field : Field) where
+  -- the interior that is lent has a child for the slice
+  pub may_child : (interior : Bor InteriorView) → IsSomeAnd (node_at a.nodes number) (λ node. IsPart node field (InteriorPart interior))
+      → interior.now.version.deleted ≡ false → (0 < length interior.now.children) × (interior.now.low ≤ slice)
+  may_child interior is alive = go (node_at a.nodes number) refl is
+    where
+      go : (node : Option Node) → node_at a.nodes number ≡ node → IsSomeAnd node (λ x. IsPart x field (InteriorPart interior)) → (0 < length interior.now.children) × (interior.now.low ≤ slice)
+      go (Some (HeadNode h)) named is = absurd is
+      go (Some (InteriorNode i)) named is = may.child interior.now (ap (option_and_then interior_of) named ∙ ap Some (sym is)) alive
+      go (Some (BorderNode b)) named is = absurd (no_interior b field interior is)
+      go None named is = absurd is
+
+  -- it waits at a node that is marked deleted
+  module _ (Waits : Reader N K F → Node → Type 0) (marks : (node : Node) → is_marked node ≡ true → Waits Begins node) where
+    marked_waits : (node : Node) → node_at a.nodes number ≡ Some node → border_of node ≡ None → is_marked node ≡ true → IsSomeAnd (node_at a.nodes number) (Waits reader)
+    marked_waits node named inner marked =
+        let none : border_at a.nodes number ≡ None = ap (option_and_then border_of) named ∙ inner in
+        subst (λ (x : Reader N K F). IsSomeAnd (node_at a.nodes number) (Waits x)) (sym (may.begins none))
+        (subst (λ (x : Option Node). IsSomeAnd x (Waits Begins)) (sym named) (marks node marked))
+
+    pub waits_head : (head : Bor HeadView) (reading : Reading N K F) → reading ≡ by_visit (visit_head head.now) → IsSomeAnd (node_at a.nodes number) (λ node. IsPart node field (HeadPart head)) → ReadWaits (Waits reader) a number reading
+    waits_head head reading of is = subst (λ (r : Reading N K F). ReadWaits (Waits reader) a number r) (sym of) (go head.now.version.deleted refl (node_at a.nodes number) refl is)
+      where
+        go : (d : Bool) → head.now.version.deleted ≡ d → (node : Option Node) → node_at a.nodes number ≡ node → IsSomeAnd node (λ x. IsPart x field (HeadPart head)) → ReadWaits {N = N} {K = K} {F = F} (Waits reader) a number (by_visit (if d then VisitAgain else VisitTo head.now.root))
+        go true marked (Some (HeadNode h)) named is = marked_waits (HeadNode h) named refl (subst (λ (x : HeadView). x.version.deleted ≡ true) is marked)
+        go true marked (Some (InteriorNode i)) named is = absurd is
+        go true marked (Some (BorderNode b)) named is = absurd (no_head b field head is)
+        go true marked None named is = absurd is
+        go false marked node named is = tt
+
+    pub waits_interior : (interior : Bor InteriorView) (reading : Reading N K F) → reading ≡ by_visit (visit_interior slice interior.now) → (reading ≡ Restarts → interior.now.version.deleted ≡ true)
+        → IsSomeAnd (node_at a.nodes number) (λ node. IsPart node field (InteriorPart interior)) → ReadWaits (Waits reader) a number reading
+    waits_interior interior reading of marked is =
+        subst (λ (r : Reading N K F). ReadWaits (Waits reader) a number r) (sym of)
+        (go interior.now.version.deleted (slice_get interior.now.children (children_up_to slice interior.now.children - 1)) (λ restarts. marked (of ∙ restarts)))
+      where
+        waits : interior.now.version.deleted ≡ true → (node : Option Node) → node_at a.nodes number ≡ node → IsSomeAnd node (λ x. IsPart x field (InteriorPart interior)) → IsSomeAnd (node_at a.nodes number) (Waits reader)
+        waits deleted (Some (HeadNode h)) named is = absurd is
+        waits deleted (Some (InteriorNode i)) named is = marked_waits (InteriorNode i) named refl (subst (λ (x : InteriorView). x.version.deleted ≡ true) is deleted)
+        waits deleted (Some (BorderNode b)) named is = absurd (no_interior b field interior is)
+        waits deleted None named is = absurd is
+
+        go : (deleted : Bool) (child : Option Child) → (◌≡◌ {A = Reading N K F} (by_visit (if deleted then VisitAgain else to_child child)) Restarts → interior.now.version.deleted ≡ true) → ReadWaits {N = N} {K = K} {F = F} (Waits reader) a number (by_visit (if deleted then VisitAgain else to_child child))
+        go true child marked = waits (marked refl) (node_at a.nodes number) refl is
+        go false (Some child) marked = tt
+        go false None marked = waits (marked refl) (node_at a.nodes number) refl is
+
+-- what the tree lends
+pub lent_of : (a : ArenaView) (number : ℕ) (field : Field) (part : Part) → IsSomeAnd (node_at a.nodes number) (λ node. IsPart node field part) → IsSomeAnd (node_at a.nodes number) IsNode → IsArena a → Lends a number field part
+lent_of a number field part is sound arena = go (node_at a.nodes number) refl is sound
+  where
+    go : (node : Option Node) → node_at a.nodes number ≡ node → IsSomeAnd node (λ x. IsPart x field part) → IsSomeAnd node IsNode → Lends a number field part
+    go (Some node) named is sound = record { node = node; named = named; sound = sound; is = is; arena = arena }
+    go None named is sound = absurd is
+
+-- a call that reads on does not wait
+pub on_waits : {N K F : Type 0} (Waits : Node → Type 0) (a : ArenaView) (number : ℕ) (reading : Reading N K F) → IsOn reading → ReadWaits Waits a number reading
+on_waits Waits a number (GoesOn reader) on = tt
+on_waits Waits a number Restarts on = absurd on
+on_waits Waits a number Repeats on = absurd on
+on_waits Waits a number (To node) on = absurd on
+on_waits Waits a number (Finds found) on = absurd on
