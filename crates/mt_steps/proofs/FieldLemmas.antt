@@ -2,7 +2,7 @@
 use Rattle.std.proofs.Common.{ℕ, suc, ◌≡◌, ◌≢◌, ◌<◌, ◌≤◌, ◌+◌, ◌⊎◌, inl, inr, Bool, true, false, cond, ◌||◌, ◌&&◌, ◌==◌, List, [], ◌∷◌, length, map, drop, slice_get, Option, Some, None, refl, sym, ap, subst, ◌∙◌, add-one, arith}
 use Rattle.std.specs.Prelude.{slice_index, nat_lt, nat_le}
 use Rattle.std.specs.Option.{option_map}
-use Rattle.std.proofs.lemmas.Bool.{lt-ltb, le-ltb, ltb-true, ltb-false, leb-true, leb-false, le-leb, eq-eqb, or_right, cases_lt, cases_Bool, cond-true, cond-false}
+use Rattle.std.proofs.lemmas.Bool.{lt-ltb, le-ltb, ltb-true, ltb-false, leb-true, le-leb, eq-eqb, or_right, cases_lt, cases_Bool, cond-true, cond-false}
 use Rattle.std.proofs.lemmas.List.{drop_all}
 use Rattle.std.proofs.lemmas.Bool.Decides.{eqb_tells}
 use Rattle.mt_types.specs.Rows.{shown}
@@ -21,14 +21,14 @@ use Rattle.mt_border.specs.Order.{IsBorder}
 use Rattle.mt_border.specs.declared.entry.RightLink.{RightLink}
 use Rattle.mt_arena.specs.Arena.{ArenaView}
 use Rattle.mt_arena.specs.Node.{border_at}
-use Rattle.mt_chart.specs.Tree.{Arena, Right, Below, no_right, before_right}
+use Rattle.mt_chart.specs.Tree.{Arena, Right, Below}
 use Rattle.mt_chart.specs.Chart.{class, Holds}
 use Rattle.mt_chart.specs.Walk.{Trail}
 use Rattle.mt_chart.proofs.ReadingStay.{right_held, climbs_right}
 use Rattle.mt_tree.specs.Seen.{arena_seen, border_seen, right_seen, entry_seen, content_seen}
 use Rattle.mt_tree.specs.Fields.{fields_seen}
 use Rattle.mt_tree.proofs.DescentLemmas.{slice_of_place}
-use Rattle.mt_steps.specs.Reader.{bounded, by_visit, counters_of, is_flagged, looked, same_counters, settled}
+use Rattle.mt_steps.specs.Reader.{bounded, by_visit, counters_of, looked, settled}
 use Rattle.mt_steps.specs.declared.way.Way.{Way}
 use Rattle.mt_steps.specs.declared.reader.Counters.{Counters}
 use Rattle.mt_steps.specs.Finding.{Finding}
@@ -95,6 +95,7 @@ use Rattle.mt_steps.specs.Finding.{value_read, at_order, notes_at, FindNotes}
 use Rattle.mt_steps.specs.Getting.{IsPlaceOf, GoesDeeper, KeyIsTrue, Fits, SightIsTrue}
 use Rattle.mt_steps.specs.Way.{Visits, went_by}
 use Rattle.mt_steps.proofs.WayLemmas.{layer_below}
+use Rattle.mt_steps.proofs.ReaderLemmas.{looked_by, bounded_by, settled_by}
 
 -- ---- ranks
 class_seen : (content : Content) → class (content_seen content) ≡ class_number (content_class content)
@@ -174,12 +175,7 @@ module _ (a : ArenaView) (now : ℕ) (w : World) (world : IsWorld a now w) (begu
     at_looked alive = record { layer = on.layer; here = looks_at a now w world begun (prefix_of key way) (slice_number (rest_of key way)) way.node.0 b named sound on.held alive }
 
     pub leads_looked : LeadsTo key asked way Begins begun past a w (looked b.version)
-    leads_looked = go b.version.deleted refl (is_flagged b.version)
-      where
-        go : (d : Bool) → b.version.deleted ≡ d → (f : Bool) → LeadsTo key asked way Begins begun past a w (cond d Restarts (cond f Repeats (GoesOn (Looked (counters_of b.version)))))
-        go true is f = tt
-        go false alive true = on
-        go false alive false = (at_looked alive, omega arith)
+    leads_looked = looked_by (λ (r : FindReading). LeadsTo key asked way Begins begun past a w r) b.version (λ is. tt) (λ set. on) (λ alive. (at_looked alive, omega arith))
 
   module _ (counters : Counters) (at : AtBorder begun key way counters a w) where
     abbrev slice : ℕ
@@ -187,23 +183,14 @@ module _ (a : ArenaView) (now : ℕ) (w : World) (world : IsWorld a now w) (begu
 
     -- ---- the right link
     pub leads_bounded : LeadsTo key asked way (Looked counters) begun past a w (bounded slice counters at.here.b.right)
-    leads_bounded = go at.here.b.right refl
-      where
-        bound_here : (right : Option RightLink) → at.here.b.right ≡ right → Below slice (option_map right_seen right) → HasBound key way counters at.here.b right begun w
-        bound_here right is below = bound a now w world begun (prefix_of key way) slice way.node.0 counters at.here right is below
-
-        to_right : (neighbour : RightLink) → at.here.b.right ≡ Some neighbour → (b : Bool) → nat_le neighbour.low slice ≡ b → LeadsTo key asked way (Looked counters) begun past a w (cond b (To neighbour.node) (GoesOn (Bounded counters (Some neighbour))))
-        to_right neighbour is true le =
-            let (above, known) = at.here.looked.right (right_seen neighbour) (ap (option_map right_seen) is) in
-            record {
-              on = record { layer = record { within = at.layer.within; under = at.layer.under }; held = right_held w.chart begun way.node.0 (prefix_of key way) at.here.b.low at.here.looked.known (right_seen neighbour) known slice (leb-true neighbour.low slice le) };
-              climbs = λ made trail. climbs_right w.chart begun way.node.0 (prefix_of key way) at.here.b.low at.here.looked.known (right_seen neighbour) known above made trail;
-            }
-        to_right neighbour is false le = ((at, bound_here (Some neighbour) is (before_right (leb-false neighbour.low slice le))), omega arith)
-
-        go : (right : Option RightLink) → at.here.b.right ≡ right → LeadsTo key asked way (Looked counters) begun past a w (bounded slice counters right)
-        go None is = ((at, bound_here None is no_right), omega arith)
-        go (Some neighbour) is = to_right neighbour is (nat_le neighbour.low slice) refl
+    leads_bounded = bounded_by (λ (r : FindReading). LeadsTo key asked way (Looked counters) begun past a w r) slice counters at.here.b.right
+        (λ neighbour is least.
+        let (above, known) = at.here.looked.right (right_seen neighbour) (ap (option_map right_seen) is) in
+        record {
+          on = record { layer = record { within = at.layer.within; under = at.layer.under }; held = right_held w.chart begun way.node.0 (prefix_of key way) at.here.b.low at.here.looked.known (right_seen neighbour) known slice least };
+          climbs = λ made trail. climbs_right w.chart begun way.node.0 (prefix_of key way) at.here.b.low at.here.looked.known (right_seen neighbour) known above made trail;
+        })
+        (λ below. ((at, bound a now w world begun (prefix_of key way) slice way.node.0 counters at.here at.here.b.right refl below), omega arith))
 
     -- ---- what it has read of slots, one moment later: it changes nothing
     abbrev arenas : List Arena
@@ -496,7 +483,8 @@ module _ (a : ArenaView) (now : ℕ) (w : World) (world : IsWorld a now w) (begu
 
     -- ---- the version again
     pub leads_settled : AreBytes key → (sight : Sight) → Fits key way sight → (Still counters at.here.b → SightIsTrue key asked way sight begun arenas w) → LeadsTo key asked way (Settles counters sight) begun past a w (settled counters sight at.here.b.version)
-    leads_settled bytes sight fits is_true = go at.here.b.version.deleted refl (is_flagged at.here.b.version) refl (same_counters (counters_of at.here.b.version) counters) refl
+    leads_settled bytes sight fits is_true = settled_by (λ (r : FindReading). LeadsTo key asked way (Settles counters sight) begun past a w r) counters sight at.here.b.version
+        (λ is. tt) (λ set. on_border counters at) (λ other. on_border counters at) (λ alive flags same. told sight fits (is_true (still_so counters at.here.b alive flags same)))
       where
         told : (sight : Sight) → Fits key way sight → SightIsTrue key asked way sight begun arenas w → LeadsTo key asked way (Settles counters sight) begun past a w (Finds sight)
         told AbsentSight fits lacked = (bytes, lacked)
@@ -508,13 +496,6 @@ module _ (a : ArenaView) (now : ℕ) (w : World) (world : IsWorld a now w) (begu
           };
           climbs = λ made trail. climbs_below w.chart begun way.node.0 prefix at.here.b.low at.here.looked.known at.here.fits head.0 slice (held 0) made trail;
         }
-
-        go : (d : Bool) → at.here.b.version.deleted ≡ d → (g : Bool) → is_flagged at.here.b.version ≡ g → (c : Bool) → same_counters (counters_of at.here.b.version) counters ≡ c
-            → LeadsTo key asked way (Settles counters sight) begun past a w (cond d Restarts (cond g Repeats (cond c (Finds sight) Repeats)))
-        go true is g flags c same = tt
-        go false alive true flags c same = on_border counters at
-        go false alive false flags false same = on_border counters at
-        go false alive false flags true same = told sight fits (is_true (still_so counters at.here.b alive flags same))
 
   -- ---- a head or an interior node, whole
   pub leads_inner : (visit : Visit) → Visits a key way (went_by way visit) → IsOnWay begun key way w → LeadsTo key asked way Begins begun past a w (by_visit visit)

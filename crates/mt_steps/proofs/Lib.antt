@@ -11,6 +11,8 @@ pub mod RetireLemmas
 pub mod CollectLemmas
 pub mod CollectingLemmas
 pub mod GetLemmas
+pub mod PartLemmas
+pub mod ReaderLemmas
 pub mod RangeLemmas
 pub mod LoneLemmas
 pub mod LoneWay
@@ -20,8 +22,6 @@ pub mod LoneListing
 pub mod LoneFinding
 pub mod LoneGet
 pub mod LoneRange
-pub mod PartLemmas
-pub mod ReaderLemmas
 pub mod StandLemmas
 pub mod FieldLemmas
 pub mod GetSteps

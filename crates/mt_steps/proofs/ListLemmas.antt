@@ -1,8 +1,8 @@
 -- A range or build that reads a field of a border: what it knows then, and where that leads.
 use Rattle.std.proofs.Common.{ℕ, ◌≡◌, ◌≤◌, ◌+◌, Bool, true, false, cond, List, [], ◌∷◌, ◌++◌, length, map, slice_get, Option, Some, None, refl, sym, ap, subst, ◌∙◌, arith}
-use Rattle.std.specs.Prelude.{slice_index, nat_lt, nat_le, unwrap_or}
+use Rattle.std.specs.Prelude.{slice_index, nat_lt, unwrap_or}
 use Rattle.std.specs.Option.{option_map}
-use Rattle.std.proofs.lemmas.Bool.{leb-true, leb-false, ltb-true, ltb-false}
+use Rattle.std.proofs.lemmas.Bool.{ltb-true, ltb-false}
 use Rattle.std.proofs.lemmas.List.{length-append}
 use Rattle.std.proofs.lemmas.Option.{slice_get-get_or}
 use Rattle.mt_types.specs.declared.row.Row.{Row}
@@ -27,7 +27,7 @@ use Rattle.mt_border.specs.declared.field.ValuePart.{ValuePart}
 use Rattle.mt_border.specs.declared.field.ValuePart.TheVariants.{Row as RowPart, Link as LinkPart}
 use Rattle.mt_arena.specs.Arena.{ArenaView}
 use Rattle.mt_arena.specs.Node.{border_at}
-use Rattle.mt_chart.specs.Tree.{PlainContent, short, long, link, PlainEntry, Right, Arena, Below, no_right, before_right, HoldsRow}
+use Rattle.mt_chart.specs.Tree.{PlainContent, short, long, link, PlainEntry, Right, Arena, HoldsRow}
 use Rattle.mt_chart.specs.Chart.{Holds}
 use Rattle.mt_chart.specs.Noted.{plain, SlotSeen, FieldsSeen, IsSameKey}
 use Rattle.mt_chart.specs.Reading.{row_in, is_below, kept_of, Lists}
@@ -38,20 +38,21 @@ use Rattle.mt_chart.proofs.ReadingStay.{right_held, lists_stay, ages_none}
 use Rattle.mt_tree.specs.Fields.{content_mark, fields_seen}
 use Rattle.mt_tree.specs.Seen.{arena_seen, right_seen, entry_seen, entries_seen, content_seen}
 use Rattle.mt_tree.proofs.AgeLemmas.{are_slots}
-use Rattle.mt_steps.specs.Reader.{HasNext, bounded, counters_of, is_flagged, looked, same_counters, settled}
+use Rattle.mt_steps.specs.Reader.{HasNext, bounded, looked, settled}
 use Rattle.mt_steps.specs.declared.reader.Counters.{Counters}
 use Rattle.mt_steps.specs.declared.listing.KeyRead.{KeyRead}
 use Rattle.mt_steps.specs.declared.listing.SlotKey.{SlotKey}
 use Rattle.mt_steps.specs.declared.listing.Listed.{Listed}
 use Rattle.mt_steps.specs.declared.listing.KeyRead.TheVariants.{Short as ShortKey, Long as LongKey, Layer as LayerKey}
 use Rattle.mt_steps.specs.Listing.{ListNotes}
-use Rattle.mt_steps.specs.declared.reader.Reader.TheVariants.{Looked, Bounded, Reads, Settles}
+use Rattle.mt_steps.specs.declared.reader.Reader.TheVariants.{Bounded, Reads, Settles}
 use Rattle.mt_steps.specs.Listing.{ListReading}
-use Rattle.mt_steps.specs.declared.reader.Reading.TheVariants.{Restarts, Repeats, GoesOn, To, Finds}
+use Rattle.mt_steps.specs.declared.reader.Reading.TheVariants.{GoesOn}
 use Rattle.mt_steps.specs.Listing.{list_next, list_at_order, value_kept, key_read_of, is_before_link, kept_with, one_more, list_key, list_value, AreFew, ShowsKey, HasKey, ListsSlots, NotesAreTrue, IsReadList, ListLeads}
 use Rattle.mt_steps.specs.Standing.{counters_seen, StandsAt, Still, IsBounded}
 use Rattle.mt_steps.specs.World.{World, IsWorld}
 use Rattle.mt_steps.proofs.StandLemmas.{looks_at, bound, there_now, few_live, orders_now, still_so}
+use Rattle.mt_steps.proofs.ReaderLemmas.{looked_by, bounded_by, settled_by}
 
 -- ---- an entry that was read key and value apart
 -- if a slot has a row under a key that was read, the entry is that of the key and the row
@@ -148,30 +149,16 @@ module _ (show : Row → Row) (a : ArenaView) (now : ℕ) (w : World) (world : I
 
   -- the version
   pub leads_looked : (b : BorderView) → border_at a.nodes number ≡ Some b → IsBorder b → Holds w.chart begun number prefix slice → Leads (looked b.version)
-  leads_looked b named sound held = go b.version.deleted refl (is_flagged b.version)
-    where
-      go : (d : Bool) → b.version.deleted ≡ d → (f : Bool) → Leads (cond d Restarts (cond f Repeats (GoesOn (Looked (counters_of b.version)))))
-      go true is f = tt
-      go false alive true = tt
-      go false alive false = looks_at a now w world begun prefix slice number b named sound held alive
+  leads_looked b named sound held = looked_by (λ (r : ListReading). Leads r) b.version (λ is. tt) (λ set. tt) (λ alive. looks_at a now w world begun prefix slice number b named sound held alive)
 
   module _ (counters : Counters) (at : StandsAt begun prefix slice number counters a w) where
     -- the right link
     pub leads_bounded : Leads (bounded slice counters at.b.right)
-    leads_bounded = go at.b.right refl
-      where
-        bound_here : (right : Option RightLink) → at.b.right ≡ right → Below slice (option_map right_seen right) → IsBounded prefix slice counters at.b right begun w
-        bound_here = bound a now w world begun prefix slice number counters at
-
-        to_right : (neighbour : RightLink) → at.b.right ≡ Some neighbour → (b : Bool) → nat_le neighbour.low slice ≡ b → Leads (cond b (To neighbour.node) (GoesOn (Bounded counters (Some neighbour))))
-        to_right neighbour is true le =
-            let (above, known) = at.looked.right (right_seen neighbour) (ap (option_map right_seen) is) in
-            right_held w.chart begun number prefix at.b.low at.looked.known (right_seen neighbour) known slice (leb-true neighbour.low slice le)
-        to_right neighbour is false le = (at, bound_here (Some neighbour) is (before_right (leb-false neighbour.low slice le)))
-
-        go : (right : Option RightLink) → at.b.right ≡ right → Leads (bounded slice counters right)
-        go None is = (at, bound_here None is no_right)
-        go (Some neighbour) is = to_right neighbour is (nat_le neighbour.low slice) refl
+    leads_bounded = bounded_by (λ (r : ListReading). Leads r) slice counters at.b.right
+        (λ neighbour is least.
+        let (above, known) = at.looked.right (right_seen neighbour) (ap (option_map right_seen) is) in
+        right_held w.chart begun number prefix at.b.low at.looked.known (right_seen neighbour) known slice least)
+        (λ below. (at, bound a now w world begun prefix slice number counters at at.b.right refl below))
 
     abbrev f : FieldsSeen
     f = fields_seen at.b
@@ -214,7 +201,7 @@ module _ (show : Row → Row) (a : ArenaView) (now : ℕ) (w : World) (world : I
     -- the version again
     pub leads_settled : (listed : Listed) → IsBounded prefix slice counters at.b listed.right begun w → length listed.entries ≤ 15 → (Still counters at.b → (numbers : List ℕ) × ListsSlots show prefix listed.right numbers (length numbers) listed.entries at.b begun arenas w)
         → Leads (settled counters listed at.b.version)
-    leads_settled listed bounded few lists = go at.b.version.deleted refl (is_flagged at.b.version) refl (same_counters (counters_of at.b.version) counters) refl
+    leads_settled listed bounded few lists = settled_by (λ (r : ListReading). Leads r) counters listed at.b.version (λ is. tt) (λ set. tt) (λ other. tt) (λ alive flags same. told (still_so counters at.b alive flags same))
       where
         told : Still counters at.b → IsReadList show prefix slice begun arenas w listed
         told quiet =
@@ -222,13 +209,6 @@ module _ (show : Row → Row) (a : ArenaView) (now : ℕ) (w : World) (world : I
             let (list, ordered) = lists_noted show w.chart begun arenas prefix f (noted listed.right) numbers (entries_seen listed.entries)
             (λ next is s low. right_held w.chart begun number prefix at.b.low at.looked.known next (bounded.known next is) s low) read in
             record { low = at.b.low; from_low = at.looked.from_low; passes = bounded.passes; list = list; in_order = ordered; few = few }
-
-        go : (d : Bool) → at.b.version.deleted ≡ d → (g : Bool) → is_flagged at.b.version ≡ g → (c : Bool) → same_counters (counters_of at.b.version) counters ≡ c
-            → Leads (cond d Restarts (cond g Repeats (cond c (Finds listed) Repeats)))
-        go true is g flags c same = tt
-        go false alive true flags c same = tt
-        go false alive false flags false same = tt
-        go false alive false flags true same = told (still_so counters at.b alive flags same)
 
   -- ---- slots
   module _ (notes : ListNotes) (at : StandsAt begun prefix slice number notes.glance.counters a w) (bounded : IsBounded prefix slice notes.glance.counters at.b notes.glance.right begun w) (within : HasNext notes) (fews : AreFew notes)

@@ -67,6 +67,9 @@ interior_moves a number slice i named sound alive (some, low) = go i.version.del
     go false is (Some child) there = let same : child ≡ up.child = cc in subst (λ (x : Child). Moves (arena_seen a) number x.node.0) (sym same) move
 
 -- ---- a border that nobody changes
+pub never : {x : Bool} {P : Type 0} → x ≡ false → x ≡ true → P
+never off on = absurd (let clash : false ≡ true = sym off ∙ on in cc)
+
 -- it has no flag
 pub unflagged : (b : BorderView) → IsBorder b → is_flagged b.version ≡ false
 unflagged b sound = λ i. sound.unflagged.0 i || sound.unflagged.1 i

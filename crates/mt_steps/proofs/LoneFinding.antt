@@ -1,6 +1,6 @@
 -- A get alone: what it has noted of a border is what the border has, and it doesn't wait.
-use Rattle.std.proofs.Common.{ℕ, ◌≡◌, ◌<◌, ◌≤◌, ◌+◌, List, length, drop, Option, Some, None, Bool, true, false, if◌then◌else◌, refl, sym, ap, subst, ◌∙◌}
-use Rattle.std.specs.Prelude.{nat_lt, nat_le, slice_index, IsSome}
+use Rattle.std.proofs.Common.{ℕ, ◌≡◌, ◌<◌, ◌≤◌, ◌+◌, List, length, drop, Some, Bool, true, false, if◌then◌else◌, refl, sym, ap, subst, ◌∙◌}
+use Rattle.std.specs.Prelude.{nat_lt, slice_index, IsSome}
 use Rattle.std.specs.Option.{option_and_then}
 use Rattle.std.specs.Str.{bytes_eq}
 use Rattle.mt_slice.specs.Place.{slice_number}
@@ -13,7 +13,6 @@ use Rattle.mt_border.specs.Parts.{content_mark, IsKeyOf, IsValueOf}
 use Rattle.mt_border.specs.Slots.{slot_at}
 use Rattle.mt_border.specs.declared.entry.Content.{Content}
 use Rattle.mt_border.specs.declared.entry.Content.TheVariants.{Short, Long, Link}
-use Rattle.mt_border.specs.declared.entry.RightLink.{RightLink}
 use Rattle.mt_border.specs.declared.field.Mark.{Mark}
 use Rattle.mt_border.specs.declared.field.Mark.TheVariants.{Plain, Layer}
 use Rattle.mt_border.specs.declared.field.KeyPart.{KeyPart as KeyOf}
@@ -34,14 +33,14 @@ use Rattle.mt_tree.specs.Descent.{visit_head, visit_interior, is_marked}
 use Rattle.mt_tree.specs.Seen.{arena_seen, entries_seen}
 use Rattle.mt_tree.specs.declared.visit.Visit.{Visit}
 use Rattle.mt_tree.specs.declared.visit.Visit.TheVariants.{Again as VisitAgain, To as VisitTo, Below as VisitBelow, Here as VisitHere}
-use Rattle.mt_steps.specs.Reader.{bounded, by_visit, counters_of, is_flagged, looked, same_counters, settled, wants}
+use Rattle.mt_steps.specs.Reader.{bounded, by_visit, counters_of, looked, settled, wants}
 use Rattle.mt_steps.specs.declared.reader.Counters.{Counters}
 use Rattle.mt_steps.specs.Finding.{Finding}
 use Rattle.mt_steps.specs.declared.reader.Reader.TheVariants.{Begins, Looked, Bounded, Reads, AtValue, Settles}
 use Rattle.mt_steps.specs.declared.finding.Kind.{Kind}
 use Rattle.mt_steps.specs.declared.finding.Kind.TheVariants.{Row as RowKind, Link as LinkKind}
 use Rattle.mt_steps.specs.Finding.{FindReading}
-use Rattle.mt_steps.specs.declared.reader.Reading.TheVariants.{Restarts, Repeats, GoesOn, To, Finds}
+use Rattle.mt_steps.specs.declared.reader.Reading.TheVariants.{GoesOn, To, Finds}
 use Rattle.mt_steps.specs.declared.finding.Sight.{Sight}
 use Rattle.mt_steps.specs.declared.finding.Sight.TheVariants.{Absent, Row as RowSight, Link as LinkSight}
 use Rattle.mt_steps.specs.declared.getting.Get.{Get}
@@ -49,8 +48,9 @@ use Rattle.mt_steps.specs.Finding.{next_key, key_found, is_before, key_read, val
 use Rattle.mt_steps.specs.Getting.{reading_of}
 use Rattle.mt_steps.specs.Standing.{Lends}
 use Rattle.mt_steps.specs.Way.{rest_of}
-use Rattle.mt_steps.proofs.LoneFields.{IsNow, VisitMoves, head_moves, interior_moves, unflagged, counters_same, right_moves, link_moves, link_among, border_alive}
+use Rattle.mt_steps.proofs.LoneFields.{never, IsNow, VisitMoves, head_moves, interior_moves, unflagged, counters_same, right_moves, link_moves, link_among, border_alive}
 use Rattle.mt_steps.proofs.PartLemmas.{lends_field, version_part, right_part, order_part, key_part, value_part, head_part, interior_part}
+use Rattle.mt_steps.proofs.ReaderLemmas.{looked_by, bounded_by, settled_by}
 
 -- ---- what it has noted
 -- a key that was read as a row's is that of a slot with a row
@@ -92,23 +92,10 @@ visit_goes a number VisitHere moves = moves
 -- ---- at a border that is not marked deleted
 module _ (a : ArenaView) (number : ℕ) (b : BorderView) (named : border_at a.nodes number ≡ Some b) (sound : IsBorder b) (alive : b.version.deleted ≡ false) where
   goes_looked : FindGoes a number (looked b.version)
-  goes_looked = go b.version.deleted alive (is_flagged b.version) (unflagged b sound)
-    where
-      go : (d : Bool) → d ≡ false → (f : Bool) → f ≡ false → FindGoes a number (if d then Restarts else if f then Repeats else GoesOn (Looked (counters_of b.version)))
-      go true is f set = absurd (let clash : true ≡ false = is in cc)
-      go false is true set = absurd (let clash : true ≡ false = set in cc)
-      go false is false set = (b, record { named = named; counted = refl })
+  goes_looked = looked_by (FindGoes a number) b.version (λ is. never alive is) (λ set. never (unflagged b sound) set) (λ on. (b, record { named = named; counted = refl }))
 
   goes_bounded : (slice : ℕ) (counters : Counters) → IsNow a number counters b → FindGoes a number (bounded slice counters b.right)
-  goes_bounded slice counters now = go b.right refl
-    where
-      go : (right : Option RightLink) → b.right ≡ right → FindGoes a number (bounded slice counters right)
-      go None is = (b, now)
-      go (Some next) is = choose (nat_le next.low slice)
-        where
-          choose : (c : Bool) → FindGoes a number (if c then To next.node else GoesOn (Bounded counters (Some next)))
-          choose true = right_moves a number b named sound alive next is
-          choose false = (b, now)
+  goes_bounded slice counters now = bounded_by (FindGoes a number) slice counters b.right (λ next is least. right_moves a number b named sound alive next is) (λ below. (b, now))
 
   goes_next : (notes : FindNotes) → IsNow a number notes.glance.counters b → notes.glance.order ≡ b.order → FindGoes a number (next_key notes)
   goes_next notes now order = go (nat_lt notes.place (length notes.glance.order.live))
@@ -118,18 +105,13 @@ module _ (a : ArenaView) (number : ℕ) (b : BorderView) (named : border_at a.no
       go false = (b, now, tt)
 
   goes_settled : (counters : Counters) (sight : Sight) → IsNow a number counters b → SightFits sight b → FindGoes a number (settled counters sight b.version)
-  goes_settled counters sight now fits = go b.version.deleted alive (is_flagged b.version) (unflagged b sound) (same_counters (counters_of b.version) counters) (counters_same (counters_of b.version) counters now.counted)
+  goes_settled counters sight now fits = settled_by (FindGoes a number) counters sight b.version (λ is. never alive is) (λ set. never (unflagged b sound) set)
+      (λ other. never other (counters_same (counters_of b.version) counters now.counted)) (λ is set same. told sight fits)
     where
       told : (s : Sight) → SightFits s b → FindGoes a number (Finds s)
       told Absent fits = tt
       told (RowSight row) fits = tt
       told (LinkSight head) (slice, there) = link_moves a number b named sound alive slice head.0 there
-
-      go : (d : Bool) → d ≡ false → (f : Bool) → f ≡ false → (s : Bool) → s ≡ true → FindGoes a number (if d then Restarts else if f then Repeats else if s then Finds sight else Repeats)
-      go true is f set s same = absurd (let clash : true ≡ false = is in cc)
-      go false is true set s same = absurd (let clash : true ≡ false = set in cc)
-      go false is false set false same = absurd (let clash : false ≡ true = same in cc)
-      go false is false set true same = told sight fits
 
   module _ (notes : FindNotes) (now : IsNow a number notes.glance.counters b) (order : notes.glance.order ≡ b.order) where
     abbrev content : Content

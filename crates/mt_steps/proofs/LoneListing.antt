@@ -1,7 +1,7 @@
 -- A range or build alone: what it has noted of a border is what the border has, and each field that it reads brings it
 -- nearer to the end of the border.
-use Rattle.std.proofs.Common.{ℕ, ◌≡◌, ◌<◌, ◌≤◌, ◌+◌, ◌-◌, ◌*◌, ◌⊎◌, inl, inr, List, [], ◌∷◌, ◌++◌, length, Option, Some, None, Bool, true, false, if◌then◌else◌, refl, sym, ap, subst, ◌∙◌, arith}
-use Rattle.std.specs.Prelude.{nat_lt, nat_le, slice_index, IsSome}
+use Rattle.std.proofs.Common.{ℕ, ◌≡◌, ◌<◌, ◌≤◌, ◌+◌, ◌-◌, ◌*◌, ◌⊎◌, inl, inr, List, [], ◌∷◌, ◌++◌, length, Option, Some, Bool, true, false, if◌then◌else◌, refl, sym, ap, subst, ◌∙◌, arith}
+use Rattle.std.specs.Prelude.{nat_lt, slice_index, IsSome}
 use Rattle.std.specs.Option.{option_map, option_and_then}
 use Rattle.mt_types.specs.declared.row.Row.{Row}
 use Rattle.mt_types.specs.declared.numbers.NodeNo.{NodeNo}
@@ -38,7 +38,7 @@ use Rattle.mt_tree.specs.Descent.{visit_head, visit_interior, is_marked}
 use Rattle.mt_tree.specs.Seen.{arena_seen, entry_seen, entries_seen, right_seen}
 use Rattle.mt_tree.specs.declared.visit.Visit.{Visit}
 use Rattle.mt_tree.specs.declared.visit.Visit.TheVariants.{Again as VisitAgain, To as VisitTo, Below as VisitBelow, Here as VisitHere}
-use Rattle.mt_steps.specs.Reader.{MayRead, HasNext, bounded, by_visit, counters_of, is_flagged, looked, same_counters, settled, wants}
+use Rattle.mt_steps.specs.Reader.{MayRead, HasNext, bounded, by_visit, counters_of, looked, settled, wants}
 use Rattle.mt_steps.specs.declared.reader.Counters.{Counters}
 use Rattle.mt_steps.specs.declared.listing.KeyRead.{KeyRead}
 use Rattle.mt_steps.specs.declared.listing.SlotKey.{SlotKey}
@@ -48,12 +48,13 @@ use Rattle.mt_steps.specs.declared.listing.KeyRead.TheVariants.{Short as ShortKe
 use Rattle.mt_steps.specs.Listing.{Listing}
 use Rattle.mt_steps.specs.declared.reader.Reader.TheVariants.{Begins, Looked, Bounded, Reads, AtValue, Settles}
 use Rattle.mt_steps.specs.Listing.{ListReading}
-use Rattle.mt_steps.specs.declared.reader.Reading.TheVariants.{Restarts, Repeats, GoesOn, To, Finds}
+use Rattle.mt_steps.specs.declared.reader.Reading.TheVariants.{GoesOn, To, Finds}
 use Rattle.mt_steps.specs.Listing.{ListNotes}
 use Rattle.mt_steps.specs.Listing.{list_next, key_read_of, entry_for, is_before_link, kept_with, one_more, list_key, value_kept, list_reading, AreFew}
 use Rattle.mt_steps.specs.Standing.{Lends}
-use Rattle.mt_steps.proofs.LoneFields.{IsNow, VisitMoves, head_moves, interior_moves, unflagged, counters_same, right_moves, right_seen_moves, link_moves, link_among, border_alive}
+use Rattle.mt_steps.proofs.LoneFields.{never, IsNow, VisitMoves, head_moves, interior_moves, unflagged, counters_same, right_moves, right_seen_moves, link_moves, link_among, border_alive}
 use Rattle.mt_steps.proofs.PartLemmas.{lends_field, version_part, right_part, order_part, key_part, value_part, head_part, interior_part}
+use Rattle.mt_steps.proofs.ReaderLemmas.{looked_by, bounded_by, settled_by}
 
 -- ---- what it has noted
 -- the links among these entries are the border's
@@ -148,26 +149,11 @@ row_links entries b right slice LayerKey row links = links
 -- ---- at a border that is not marked deleted
 module _ (a : ArenaView) (number : ℕ) (b : BorderView) (named : border_at a.nodes number ≡ Some b) (sound : IsBorder b) (alive : b.version.deleted ≡ false) where
   goes_looked : ListGoes a number Begins (looked b.version)
-  goes_looked = go b.version.deleted alive (is_flagged b.version) (unflagged b sound)
-    where
-      go : (d : Bool) → d ≡ false → (f : Bool) → f ≡ false → ListGoes a number Begins (if d then Restarts else if f then Repeats else GoesOn (Looked (counters_of b.version)))
-      go true is f set = absurd (let clash : true ≡ false = is in cc)
-      go false is true set = absurd (let clash : true ≡ false = set in cc)
-      go false is false set = (omega arith, (b, record { named = named; counted = refl }))
+  goes_looked = looked_by (ListGoes a number Begins) b.version (λ is. never alive is) (λ set. never (unflagged b sound) set) (λ on. (omega arith, (b, record { named = named; counted = refl })))
 
   goes_bounded : (slice : ℕ) (counters : Counters) → IsNow a number counters b → ListGoes a number (Looked counters) (bounded slice counters b.right)
-  goes_bounded slice counters now = go b.right refl
-    where
-      noted : (right : Option RightLink) → b.right ≡ right → NotedNow a number counters right []
-      noted right is = record { b = b; now = now; right_is = sym is; links = λ at next i. elim i [ ] }
-
-      go : (right : Option RightLink) → b.right ≡ right → ListGoes a number (Looked counters) (bounded slice counters right)
-      go None is = (omega arith, noted None is)
-      go (Some next) is = choose (nat_le next.low slice)
-        where
-          choose : (c : Bool) → ListGoes a number (Looked counters) (if c then To next.node else GoesOn (Bounded counters (Some next)))
-          choose true = right_moves a number b named sound alive next is
-          choose false = (omega arith, noted (Some next) is)
+  goes_bounded slice counters now = bounded_by (ListGoes a number (Looked counters)) slice counters b.right (λ next is least. right_moves a number b named sound alive next is)
+      (λ below. (omega arith, record { b = b; now = now; right_is = refl; links = λ at next i. elim i [ ] }))
 
   goes_next : (listing : Listing) (notes : ListNotes) → (n : NotedNow a number notes.glance.counters notes.glance.right notes.kept) → notes.glance.order ≡ n.b.order → 37 - 2 * notes.place < list_left listing → 1 < list_left listing
       → ListGoes a number listing (list_next notes)
@@ -179,17 +165,12 @@ module _ (a : ArenaView) (number : ℕ) (b : BorderView) (named : border_at a.no
 
   goes_settled : (counters : Counters) (listed : Listed) → counters_of b.version ≡ counters → listed.right ≡ b.right → LinksOf listed.entries b
       → ListGoes a number (Settles counters listed) (settled counters listed b.version)
-  goes_settled counters listed counted right_is links = go b.version.deleted alive (is_flagged b.version) (unflagged b sound) (same_counters (counters_of b.version) counters) (counters_same (counters_of b.version) counters counted)
+  goes_settled counters listed counted right_is links = settled_by (ListGoes a number (Settles counters listed)) counters listed b.version (λ is. never alive is) (λ set. never (unflagged b sound) set)
+      (λ other. never other (counters_same (counters_of b.version) counters counted)) (λ is set same. leads)
     where
       leads : (next : ℕ) → LeadsOn (list_of listed.entries listed.right) next → Moves (arena_seen a) number next
       leads next (inl (there, is, same)) = right_seen_moves a number b named sound alive there next (ap (option_map right_seen) (sym right_is) ∙ is) same
       leads next (inr (slice, there)) = link_moves a number b named sound alive slice next (links slice next there)
-
-      go : (d : Bool) → d ≡ false → (f : Bool) → f ≡ false → (s : Bool) → s ≡ true → ListGoes a number (Settles counters listed) (if d then Restarts else if f then Repeats else if s then Finds listed else Repeats)
-      go true is f set s same = absurd (let clash : true ≡ false = is in cc)
-      go false is true set s same = absurd (let clash : true ≡ false = set in cc)
-      go false is false set false same = absurd (let clash : false ≡ true = same in cc)
-      go false is false set true same = leads
 
 -- ---- the key and the value of a slot
 key_fits : (content : Content) (class : Class) (suffix : List ℕ) → KeyFits (key_read_of (content_mark content) class suffix) content

@@ -23,6 +23,16 @@ use Rattle.mt_steps.specs.declared.reader.Reading.TheVariants.{Restarts, Repeats
 use Rattle.mt_steps.specs.Reader.{by_visit, IsOn, ReadWaits, MayRead}
 use Rattle.mt_steps.specs.Standing.{Lends}
 use Rattle.mt_steps.proofs.PartLemmas.{no_head, no_interior}
+use Rattle.std.specs.Prelude.{nat_le}
+use Rattle.std.specs.Option.{option_map}
+use Rattle.std.proofs.lemmas.Bool.{leb-true, leb-false}
+use Rattle.mt_word.specs.Version.{VersionView}
+use Rattle.mt_border.specs.declared.entry.RightLink.{RightLink}
+use Rattle.mt_chart.specs.Tree.{Below, no_right, before_right}
+use Rattle.mt_tree.specs.Seen.{right_seen}
+use Rattle.mt_steps.specs.declared.reader.Counters.{Counters}
+use Rattle.mt_steps.specs.declared.reader.Reader.TheVariants.{Looked, Bounded}
+use Rattle.mt_steps.specs.Reader.{counters_of, is_flagged, same_counters, looked, bounded, settled}
 
 module _ {N K F : Type 0} (a : ArenaView) (number slice : ℕ) (reader : Reader N K F) (may : MayRead a number slice reader) (field : Field) where
   -- the interior that is lent has a child for the slice
@@ -86,3 +96,31 @@ on_waits Waits a number Restarts on = absurd on
 on_waits Waits a number Repeats on = absurd on
 on_waits Waits a number (To node) on = absurd on
 on_waits Waits a number (Finds found) on = absurd on
+
+-- ---- where a reading leads, by what is so of each that it may be
+module _ {N K F : Type 0} (P : Reading N K F → Type 0) where
+  pub looked_by : (version : VersionView) → (version.deleted ≡ true → P Restarts) → (is_flagged version ≡ true → P Repeats) → (version.deleted ≡ false → P (GoesOn (Looked (counters_of version)))) → P (looked version)
+  looked_by version gone flagged on = go version.deleted refl (is_flagged version) refl
+    where
+      go : (d : Bool) → version.deleted ≡ d → (f : Bool) → is_flagged version ≡ f → P (if d then Restarts else if f then Repeats else GoesOn (Looked (counters_of version)))
+      go true is f set = gone is
+      go false is true set = flagged set
+      go false is false set = on is
+
+  pub bounded_by : (slice : ℕ) (counters : Counters) (right : Option RightLink) → ((next : RightLink) → right ≡ Some next → next.low ≤ slice → P (To next.node)) → (Below slice (option_map right_seen right) → P (GoesOn (Bounded counters right))) → P (bounded slice counters right)
+  bounded_by slice counters None to on = on no_right
+  bounded_by slice counters (Some next) to on = go (nat_le next.low slice) refl
+    where
+      go : (b : Bool) → nat_le next.low slice ≡ b → P (if b then To next.node else GoesOn (Bounded counters (Some next)))
+      go true le = to next refl (leb-true next.low slice le)
+      go false le = on (before_right (leb-false next.low slice le))
+
+  pub settled_by : (counters : Counters) (found : F) (version : VersionView) → (version.deleted ≡ true → P Restarts) → (is_flagged version ≡ true → P Repeats) → (same_counters (counters_of version) counters ≡ false → P Repeats)
+      → (version.deleted ≡ false → is_flagged version ≡ false → same_counters (counters_of version) counters ≡ true → P (Finds found)) → P (settled counters found version)
+  settled_by counters found version gone flagged changed still = go version.deleted refl (is_flagged version) refl (same_counters (counters_of version) counters) refl
+    where
+      go : (d : Bool) → version.deleted ≡ d → (f : Bool) → is_flagged version ≡ f → (s : Bool) → same_counters (counters_of version) counters ≡ s → P (if d then Restarts else if f then Repeats else if s then Finds found else Repeats)
+      go true is f set s same = gone is
+      go false is true set s same = flagged set
+      go false is false set false same = changed same
+      go false is false set true same = still is set same
