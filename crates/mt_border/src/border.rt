@@ -314,8 +314,7 @@ impl Border {
         self.table.set_link(place, head);
     }
 
-    /// Copies of the live entries from this place on, which share their bytes. Costs an allocation for the list, and
-    /// at most one for each entry.
+    /// Copies of the live entries from this place on, which share their bytes. Costs one allocation.
     ///
     /// # Errors
     ///

@@ -6,7 +6,6 @@ ghost use Rattle.mt_slice.specs.Classes.{place_at};
 ghost use Rattle.std.specs.Option.{option_copied};
 ghost use Rattle.mt_border.specs.Entry.{entry_class, entry_of_row, entry_row, IsEntry};
 
-use bytes::Bytes;
 use mt_slice::{Class, Length, SLICE_BYTES, slice_of};
 use mt_types::copying::TryCopy;
 use mt_types::numbers::NodeNo;
@@ -14,11 +13,12 @@ use mt_types::refusal::NoMemory;
 use mt_types::row::Row;
 use std::alloc::Global;
 use std::marker::Model;
+use std::sync::ArcSlice;
 
-/// What follows the slice of a key that is longer than its slice: at least one byte.
+/// What follows the slice of a key that is longer than its slice: at least one byte. Copies share the bytes.
 #[derive(Debug, Drop)]
 pub struct Suffix {
-    bytes: Bytes,
+    block: ArcSlice<u8, Global>,
 }
 
 impl Model for Suffix {
@@ -27,30 +27,34 @@ impl Model for Suffix {
 
     ghost Value = { List ℕ };
 
-    ghost view = { λ s. s.bytes };
+    ghost view = { λ s. s.block.items.value.items };
 
-    ghost invariant = { λ s. (0 < length s.bytes) × AreBytes s.bytes };
+    ghost invariant = { λ s. (0 < length s.block.items.value.items) × AreBytes s.block.items.value.items };
 }
 
 // The bytes, each of which is below 256.
-fn each_byte(bytes: &Bytes) -> &[u8]
+fn each_byte(bytes: &[u8]) -> &[u8]
     ensures value { result.now ≡ bytes.now }
     ensures bytes { AreBytes bytes.now }
 {
     // Of a variable the proof knows that its items are bytes.
-    let read = bytes.as_slice();
+    let read = bytes;
     read
 }
 
 impl Suffix {
-    /// The suffix of these bytes, of which there is at least one. Constant cost.
-    pub fn new(bytes: Bytes) -> Suffix
-        requires { 0 < length bytes }
-        ensures value { result ≡ bytes }
-        ensures bytes { AreBytes result }
+    /// Returns the suffix of these bytes, of which there is at least one. Copies them, with two allocations.
+    ///
+    /// # Errors
+    ///
+    /// `NoMemory` if an allocation is refused.
+    pub fn copied(alloc: Global, bytes: &[u8]) -> Result<Suffix, NoMemory>
+        requires { 0 < length bytes.now }
+        ensures value { IfOk result (λ suffix. suffix ≡ bytes.now) }
+        ensures bytes { IfOk result AreBytes }
     {
-        let _read = each_byte(&bytes);
-        Suffix { bytes }
+        let block = ArcSlice::from_vec(each_byte(bytes).to_vec(alloc)?)?;
+        Ok(Suffix { block })
     }
 
     /// The bytes, to be read. Constant cost.
@@ -59,17 +63,7 @@ impl Suffix {
         ensures some { 0 < length self.now }
         ensures bytes { AreBytes self.now }
     {
-        self.bytes.as_slice()
-    }
-
-    /// The bytes of this suffix. Constant cost.
-    pub fn into_bytes(self) -> Bytes
-        ensures value { result ≡ self }
-        ensures some { 0 < length self }
-        ensures bytes { AreBytes self }
-    {
-        let Suffix { bytes } = self;
-        bytes
+        self.block.as_slice()
     }
 }
 
@@ -103,22 +97,23 @@ pub struct RightLink {
 impl Entry {
     /// The entry of a key in a layer, from its rest there and its row.
     ///
-    /// Takes no memory if the rest has at most eight bytes. Otherwise it shares the bytes after the eighth.
+    /// Takes no memory if the rest has at most eight bytes. Otherwise it copies the bytes after the eighth, with two
+    /// allocations.
     ///
     /// # Errors
     ///
-    /// `NoMemory` if the bytes cannot be shared.
-    pub fn of_row(rest: Bytes, row: Row) -> Result<Entry, NoMemory>
-        ensures value { IfOk result (λ entry. entry ≡ entry_of_row rest row) }
-        ensures place { IfOk result (λ entry. place_of rest ≡ place_at entry.slice (entry_class entry)
-            (place_of (drop 8 rest))) }
+    /// `NoMemory` if an allocation is refused.
+    pub fn of_row(alloc: Global, rest: &[u8], row: Row) -> Result<Entry, NoMemory>
+        ensures value { IfOk result (λ entry. entry ≡ entry_of_row rest.now row) }
+        ensures place { IfOk result (λ entry. place_of rest.now ≡ place_at entry.slice (entry_class entry)
+            (place_of (drop 8 rest.now))) }
         ensures whole { IfOk result IsEntry }
-        ensures short { length rest ≤ 8 → IsOk result }
+        ensures short { length rest.now ≤ 8 → IsOk result }
     {
-        let (slice, class) = slice_of(rest.as_slice());
+        let (slice, class) = slice_of(rest);
         let content = match class {
             Class::Len(bytes) => Content::Short(bytes, row),
-            Class::Long => Content::Long(Suffix::new(rest.slice(SLICE_BYTES..)?), row),
+            Class::Long => Content::Long(Suffix::copied(alloc, &rest[SLICE_BYTES..])?, row),
         };
         Ok(Entry { slice, content })
     }
@@ -155,16 +150,16 @@ impl Entry {
 }
 
 impl TryCopy for Suffix {
-    /// Shares the bytes: costs no copy of them.
-    fn copy(&self, alloc: Global) -> Result<Suffix, NoMemory> {
+    /// Shares the bytes. Allocates nothing.
+    fn copy(&self, _alloc: Global) -> Result<Suffix, NoMemory> {
         Ok(Suffix {
-            bytes: self.bytes.copy(alloc)?,
+            block: self.block.clone()?,
         })
     }
 }
 
 impl TryCopy for Content {
-    /// Shares the bytes of the suffix and of the row's columns. Costs at most one allocation.
+    /// Shares the bytes of the suffix and of the row's columns. Allocates nothing.
     fn copy(&self, alloc: Global) -> Result<Content, NoMemory> {
         match self {
             Content::Short(bytes, row) => Ok(Content::Short(*bytes, row.copy(alloc)?)),
@@ -175,7 +170,7 @@ impl TryCopy for Content {
 }
 
 impl TryCopy for Entry {
-    /// Shares the bytes of the suffix and of the row's columns. Costs at most one allocation.
+    /// Shares the bytes of the suffix and of the row's columns. Allocates nothing.
     fn copy(&self, alloc: Global) -> Result<Entry, NoMemory> {
         Ok(Entry {
             slice: self.slice,

@@ -9,7 +9,6 @@ ghost use Rattle.mt_steps.specs.Reader.{HasNext, IsReader, WantsOrder, WantsKey,
 ghost use Rattle.mt_steps.specs.Listing.{list_next, key_read_of, entry_for, is_before_link, kept_with, one_more, list_value, list_at_order, list_at_key, list_at_value, ListReads, ListingWaits};
 
 use crate::reader::{Notes, Reader, Reading, at_head, at_interior};
-use bytes::Bytes;
 use mt_arena::Part;
 use mt_border::{Content, Entry, KeyPart, Mark, RightLink, Suffix, ValuePart};
 use mt_slice::{Class, Length};
@@ -99,10 +98,7 @@ fn key_read(alloc: Global, part: &KeyPart<'_>) -> Result<KeyRead, NoMemory>
         Mark::Layer => Ok(KeyRead::Layer),
         Mark::Plain => match part.class {
             Class::Len(length) => Ok(KeyRead::Short(length)),
-            Class::Long => {
-                let bytes = part.suffix.to_vec(alloc)?;
-                Ok(KeyRead::Long(Suffix::new(Bytes::from_vec(bytes)?)))
-            }
+            Class::Long => Ok(KeyRead::Long(Suffix::copied(alloc, part.suffix)?)),
         },
     }
 }
