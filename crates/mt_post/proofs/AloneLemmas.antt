@@ -26,7 +26,7 @@ use Rattle.mt_post.specs.declared.split.Split.{Split}
 use Rattle.mt_post.specs.declared.posting.PostStage.{PostStage}
 use Rattle.mt_post.specs.declared.posting.PostStage.TheVariants.{Walks, RootWanted, RootSpared, RootFilled, RootLate, HalfWanted, HalfSpared, HalfLeftOut, LetGo, HalfPosted, HalfCut}
 use Rattle.mt_post.specs.Posting.{owned, stage_owns, split_owns, goal, IsAbove, IsToPost, IsWalking, AreWaiting, PostStageIsTrue, PostingIsTrue}
-use Rattle.mt_post.specs.Causes.{IsHeldBack, PostStageWaits, PostWaits}
+use Rattle.mt_post.specs.Causes.{IsHeldBack, PostStageWaits}
 use Rattle.mt_post.specs.Follows.{GoesTo, FollowsHead, FollowsInterior, LeadsOn, StageFollows, MarksNone, mark_of, PostStep}
 use Rattle.mt_post.specs.Ending.{steps_left}
 use Rattle.mt_post.specs.Alone.{HasGone, IsUnmarked, WalksUnmarked, RunsAlone, LoneStep, UnlockedAreUnmarked, WalksOn, PostingsRunAlone, Run, no_step, one_more, LonePostingsEnd}
@@ -110,28 +110,6 @@ module _ (a : ArenaView) (posting : Posting) (w : World) (now begun : ℕ) (pref
     at_interior i named (inr (stops, inr (full, inl (below, goes)))) = goes_there after posting then (HalfWanted node) goes tt
     at_interior i named (inr (stops, inr (full, inr (most, (split, some, is))))) = subst (λ (s : PostStage). WalksUnmarked after s) (sym is) tt
 
--- A LONE POSTING NEVER WAITS if all that is taken is its own, no node that is on and not locked is marked deleted, and
--- the node at which it walks is on
-pub lone_posting_never_waits : (a : ArenaView) (posting : Posting) (w : World) (now begun : ℕ) → IsWorld a now w → PostingIsTrue begun posting a w → ((number : ℕ) → IsTaken a w number → Among number (owned posting))
-    → UnlockedAreUnmarked a w → ((node : NodeNo) → posting.stage ≡ Walks node → IsOn w.chart node.0) → PostWaits a posting Waits → ⊥
-lone_posting_never_waits a posting w now begun world (prefix, t) taken marks stands waits = go posting.stage refl t.stage taken waits
-  where
-    go : (stage : PostStage) → posting.stage ≡ stage → PostStageIsTrue begun prefix posting.half posting.low posting.waiting stage a w → ((number : ℕ) → IsTaken a w number → Among number (stage_owns posting.half.0 posting.waiting stage)) → PostStageWaits a stage Waits → ⊥
-    go (Walks node) is truth own held = from_some (interior_at a.nodes node.0) (λ i. (i.version.deleted ≡ true) ⊎ (i.version.locked ≡ true)) ⊥ (λ i named why.
-        let free : i.version.locked ≡ true → ⊥ = not_locked a posting w now begun prefix node world t.border t.waiting truth own i named in
-        let unmarked = marks node.0 (stands node is) (λ locked. free (subst (λ o. IsLocked o) (node-from_interior a.nodes node.0 i named) locked)) in
-        never_waits a posting w now begun prefix node world t.border t.waiting truth own unmarked held) held
-    go (RootWanted old) is truth own held = held
-    go (RootSpared old root) is truth own held = held
-    go (RootFilled old root) is truth own held = held
-    go (RootLate root) is truth own held = held
-    go (HalfWanted interior) is truth own held = held
-    go (HalfSpared interior half) is truth own held = held
-    go (HalfLeftOut left why) is truth own held = held
-    go (LetGo interior why) is truth own held = held
-    go (HalfPosted posted) is truth own held = held
-    go (HalfCut half) is truth own held = held
-
 -- ---- a step of a posting that runs alone
 module _ (a after : ArenaView) (posting then : Posting) (w : World) (now begun : ℕ) (before : begun ≤ now) (lone : RunsAlone now begun posting a w) where
   -- it runs on alone
@@ -174,16 +152,7 @@ module _ (a after : ArenaView) (posting then : Posting) (w : World) (now begun :
   pub waits_marked : (stage : PostStage) → PostStageIsTrue begun lone.true.0 posting.half posting.low posting.waiting stage a w → ((number : ℕ) → IsTaken a w number → Among number (stage_owns posting.half.0 posting.waiting stage))
       → PostStageWaits a stage Waits → WalksUnmarked a stage → ⊥
   waits_marked (Walks node) truth own held unmarked = never_waits a posting w now begun lone.true.0 node lone.world lone.true.1.border lone.true.1.waiting truth own unmarked held
-  waits_marked (RootWanted old) truth own held unmarked = held
-  waits_marked (RootSpared old root) truth own held unmarked = held
-  waits_marked (RootFilled old root) truth own held unmarked = held
-  waits_marked (RootLate root) truth own held unmarked = held
-  waits_marked (HalfWanted interior) truth own held unmarked = held
-  waits_marked (HalfSpared interior half) truth own held unmarked = held
-  waits_marked (HalfLeftOut left why) truth own held unmarked = held
-  waits_marked (LetGo interior why) truth own held unmarked = held
-  waits_marked (HalfPosted posted) truth own held unmarked = held
-  waits_marked (HalfCut half) truth own held unmarked = held
+  waits_marked _ truth own held unmarked = held
 
 -- WHAT EACH STEP OF A LONE POSTING COMES TO
 pub lone_step : (a after : ArenaView) (posting : Posting) (p : Progressed) (then : Posting) → PostStep a after posting p then → LoneStep a after posting p then
@@ -290,16 +259,7 @@ module _ (now begun : ℕ) (a : ArenaView) (posting : Posting) (w : World) (worl
 
   walk_unmarked : (stage : PostStage) → WalksOn w stage → WalksUnmarked a stage
   walk_unmarked (Walks node) is_on = on_is_unmarked node.0 is_on
-  walk_unmarked (RootWanted old) is_on = tt
-  walk_unmarked (RootSpared old root) is_on = tt
-  walk_unmarked (RootFilled old root) is_on = tt
-  walk_unmarked (RootLate root) is_on = tt
-  walk_unmarked (HalfWanted interior) is_on = tt
-  walk_unmarked (HalfSpared interior half) is_on = tt
-  walk_unmarked (HalfLeftOut left why) is_on = tt
-  walk_unmarked (LetGo interior why) is_on = tt
-  walk_unmarked (HalfPosted posted) is_on = tt
-  walk_unmarked (HalfCut half) is_on = tt
+  walk_unmarked _ is_on = tt
 
 pub postings_run_alone : PostingsRunAlone
 postings_run_alone now begun a posting w world truth taken marks head_on = (

@@ -27,11 +27,11 @@ use Rattle.mt_post.specs.declared.posting.Posting.{Posting}
 use Rattle.mt_post.specs.declared.posting.Progressed.TheVariants.{Moved}
 use Rattle.mt_post.specs.declared.split.Split.{Split}
 use Rattle.mt_post.specs.declared.posting.PostStage.TheVariants.{HalfPosted, HalfCut}
-use Rattle.mt_post.specs.Posting.{goal_level, split_owns, AreWaiting, IsToPost, IsHeadOf, IsPostedHalf, PostingIsTrue, MayPost}
+use Rattle.mt_post.specs.Posting.{goal_level, split_owns, AreWaiting, IsToPost, IsHeadOf, IsPostedHalf, PostingIsTrue}
 use Rattle.mt_post.specs.Follows.{PostStep}
 use Rattle.mt_steps.proofs.AgingLemmas.{age_beside}
 use Rattle.mt_steps.proofs.NodeLemmas.{goes_with, heads_beside, interior_now, interior_others, interior_no_head, interior_no_border, interior_alive, interior_taken, not_both, known_some}
-use Rattle.mt_post.proofs.WalkLemmas.{at_stage, true_at}
+use Rattle.mt_post.proofs.WalkLemmas.{at_stage}
 use Rattle.mt_post.proofs.KeptLemmas.{all_stay, owns_below}
 use Rattle.mt_post.proofs.NumberLemmas.{interior_leaves_twice}
 
@@ -254,15 +254,3 @@ module _ (a : ArenaView) (posting : Posting) (split : Split) (is : posting.stage
     heads = (interior_leaves_twice a between after i cut_one unlock cut_is unlocked (λ i. refl) (λ i. refl)).heads;
     marks = (interior_leaves_twice a between after i cut_one unlock cut_is unlocked (λ i. refl) (λ i. refl)).marks;
   })
-
-  -- what the calls ask
-  pub may_cut : (may : MayPost a posting) → IsSomeAnd (interior_at a.nodes i) (λ x. KEPT_CHILDREN ≤ length x.children)
-  may_cut may =
-      let (above, p) = true_at may.begun a may.w posting (HalfPosted split) is may.true in
-      subst (λ (o : Option InteriorView). IsSomeAnd o (λ x. KEPT_CHILDREN ≤ length x.children)) (sym p.named) (let full = p.full in omega (arith, full))
-
-  pub may_unlock_cut : (may : MayPost a posting) (between : ArenaView) → between ≡ middle → IsSomeAnd (interior_at between.nodes i) (λ x. x.version.locked ≡ true)
-  may_unlock_cut may between cut_is =
-      let (above, p) = true_at may.begun a may.w posting (HalfPosted split) is may.true in
-      let there : interior_at between.nodes i ≡ Some (cut_one p.interior) = ap (λ (v : ArenaView). interior_at v.nodes i) cut_is ∙ interior_now a i p.interior cut_one p.named in
-      subst (λ (o : Option InteriorView). IsSomeAnd o (λ x. x.version.locked ≡ true)) (sym there) p.locked

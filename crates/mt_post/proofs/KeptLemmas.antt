@@ -171,11 +171,6 @@ module _ (a : ArenaView) (w : World) (prefix : List ℕ) where
   goal_below [] truth = omega arith
   goal_below (split ∷ waiting) (less, h, more) = subst (λ (l : ℕ). l + 1 ≤ MAX_LEVEL) (sym h.level) h.splits.below_top
 
--- the border is owned
-pub half_among : (half : ℕ) (waiting : List Split) → Among half (split_owns half waiting)
-half_among half [] = first
-half_among half (split ∷ waiting) = later (later (half_among half waiting))
-
 -- the level of what is to be named
 pub goal_has_level : (half : NodeNo) (low : ℕ) (waiting : List Split) → (goal half low waiting).level ≡ goal_level waiting
 goal_has_level half low [] = refl

@@ -3,6 +3,7 @@ pub mod WalkLemmas
 pub mod KeptLemmas
 pub mod RootLemmas
 pub mod HalfLemmas
+pub mod LetGoLemmas
 pub mod TwinLemmas
 pub mod CutLemmas
 pub mod NameLemmas

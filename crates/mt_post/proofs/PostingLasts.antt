@@ -49,30 +49,16 @@ module _ (a after : ArenaView) (w next : World) (begun : ℕ) (evolves : Evolves
       let both : ◌≡◌ {A = Option Spot} (Some (spot held.role prefix held.low known.standing)) (Some (spot top layer least standing)) = sym known.place ∙ at in
       let is_top : held.role ≡ top = cc in
       walks prefix held.low held.standing (held.place ∙ ap (λ (r : Role). Some (spot r prefix held.low held.standing)) is_top)
-  walks_stay prefix head half low waiting (RootWanted old) truth walks = tt
-  walks_stay prefix head half low waiting (RootSpared old root) truth walks = tt
-  walks_stay prefix head half low waiting (RootFilled old root) truth walks = tt
-  walks_stay prefix head half low waiting (RootLate root) truth walks = tt
-  walks_stay prefix head half low waiting (HalfWanted interior) truth walks = tt
-  walks_stay prefix head half low waiting (HalfSpared interior spare) truth walks = tt
-  walks_stay prefix head half low waiting (HalfLeftOut left why) truth walks = tt
-  walks_stay prefix head half low waiting (LetGo interior why) truth walks = tt
-  walks_stay prefix head half low waiting (HalfPosted posted) truth walks = tt
-  walks_stay prefix head half low waiting (HalfCut posted) truth walks = tt
+  walks_stay prefix head half low waiting _ truth walks = tt
 
   -- the splits that wait, and the border, are owned at each stage
   among_stage : (half : ℕ) (waiting : List Split) (stage : PostStage) (number : ℕ) → Among number (split_owns half waiting) → Among number (stage_owns half waiting stage)
   among_stage half waiting (Walks node) number i = i
   among_stage half waiting (RootWanted old) number i = i
-  among_stage half waiting (RootSpared old root) number i = later i
-  among_stage half waiting (RootFilled old root) number i = later i
-  among_stage half waiting (RootLate root) number i = later i
-  among_stage half waiting (HalfWanted interior) number i = later i
   among_stage half waiting (HalfSpared interior spare) number i = later (later i)
   among_stage half waiting (HalfLeftOut left why) number i = later (later i)
-  among_stage half waiting (LetGo interior why) number i = later i
   among_stage half waiting (HalfPosted posted) number i = later (later i)
-  among_stage half waiting (HalfCut posted) number i = later i
+  among_stage half waiting _ number i = later i
 
   -- the law of others' steps: if they don't change what a posting owns, what is true of it stays true
   pub posting_stays : (posting : Posting) → ((number : ℕ) → Among number (owned posting) → IsSame a after w next number) → PostingIsTrue begun posting a w → PostingIsTrue begun posting after next

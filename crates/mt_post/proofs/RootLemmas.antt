@@ -1,15 +1,13 @@
 -- The steps of a posting that makes a new root: a number is spared and filled, and the head names it, or it is given back.
 use Rattle.std.proofs.Common.{ℕ, ◌≡◌, ◌≢◌, ◌≤◌, ◌<◌, ◌+◌, ◌⊎◌, inl, inr, List, [], ◌∷◌, slice_get, Option, Some, None, IsSome, true, false, refl, sym, ap, subst, ◌∙◌, arith}
-use Rattle.std.specs.Prelude.{IsSomeAnd, All}
+use Rattle.std.specs.Prelude.{IsSomeAnd}
 use Rattle.std.specs.Option.{option_and_then}
-use Rattle.std.proofs.lemmas.List.Elements.{All-nil, All-cons}
-use Rattle.std.proofs.lemmas.List.Sorted.{IsNonDecreasingBy-push, IsNonDecreasingBy-short}
 use Rattle.mt_types.specs.declared.limits.TheConstants.{MAX_LEVEL}
 use Rattle.mt_post.specs.declared.split.Split.{Split}
 use Rattle.mt_post.proofs.KeptLemmas.{all_stay, same_beside, apart_from, apart_head, owns_below, owns_beside, goal_below, goal_has_level}
 use Rattle.mt_types.specs.declared.numbers.NodeNo.{NodeNo}
 use Rattle.mt_interior.specs.Head.{HeadView, with_root}
-use Rattle.mt_interior.specs.Interior.{InteriorView, IsInterior, with_children, with_lock}
+use Rattle.mt_interior.specs.Interior.{InteriorView, with_children, with_lock}
 use Rattle.mt_interior.specs.declared.child.Child.{Child}
 use Rattle.mt_arena.specs.Node.{node_at, head_at, head_of, interior_at, interior_of, border_of, Updates, border_at}
 use Rattle.mt_arena.specs.Arena.{ArenaView, with_head_changed, with_interior_changed, without_node}
@@ -46,19 +44,11 @@ use Rattle.mt_post.proofs.WalkLemmas.{at_stage, true_at, from_head, goes_on}
 use Rattle.mt_post.specs.Follows.{OccupiesOne, GivesOneBack, SameHeads, MarksNone}
 use Rattle.mt_post.proofs.NumberLemmas.{interior_leaves_twice, head_leaves_by, occupied_heads, occupied_marks, given_back}
 
--- a node's number says which it is
-pub same_node : (one other : NodeNo) → one.0 ≡ other.0 → one ≡ other
-same_node one other e = ap (λ (m : ℕ). record { 0 = m }) e
-
 -- what names nothing is not taken
 pub vacant_free : (a : ArenaView) (w : World) (number : ℕ) → node_at a.nodes number ≡ None → IsTaken a w number → ⊥
 vacant_free a w number none (inl locked) = subst (λ (x : Option Node). IsLocked x) none locked
 vacant_free a w number none (inr (inl spare)) = (let clash : false ≡ true = subst (λ (x : Option Node). IsSome x) none spare.0 in cc)
 vacant_free a w number none (inr (inr m)) = subst (λ (o : Option HeadView). IsSomeAnd o (λ h. h.version.deleted ≡ true)) (ap (option_and_then head_of) none) m.marked
-
--- what the chart doesn't know is not retired
-pub not_retired : (a : ArenaView) (w : World) (now number : ℕ) → IsWorld a now w → w.chart number ≡ None → All (λ retired. retired.node.0 ≢ number) a.retired
-not_retired a w now number world unknown = unknown_kept a now w.chart number unknown world.retired
 
 -- what a step leaves that gives a spare back
 pub gives_number : (now : ℕ) (a : ArenaView) (w : World) (n : ℕ) (owns : List ℕ) (Then : World → Type 0) → IsWorld a now w → IsSome (node_at a.nodes n) → border_at a.nodes n ≡ None → w.chart n ≡ None
@@ -119,20 +109,6 @@ module _ (a : ArenaView) (posting : Posting) (old : Root) (is : posting.stage �
   })
 
 -- ---- it is filled
--- a new root over two children is sound
-children_sound : (old : Root) (wanted : Child) → old.level < wanted.level + 1 → wanted.level + 1 ≤ MAX_LEVEL → IsInterior (with_children (new_root wanted) (root_children old wanted))
-children_sound old wanted less most = record {
-  least = omega arith;
-  most = most;
-  low_fits = omega arith;
-  few = omega arith;
-  starts = refl;
-  rising = record { lows = IsNonDecreasingBy-push (λ (c : Child). c.low) (record { low = 0; node = old.node; level = old.level } ∷ []) wanted (IsNonDecreasingBy-short (λ (c : Child). c.low) (record { low = 0; node = old.node; level = old.level } ∷ []) (omega arith)) (λ d some. omega arith) };
-  lower = record { each = All-cons (λ (c : Child). c.level < wanted.level + 1) (record { low = 0; node = old.node; level = old.level }) (wanted ∷ []) less (All-cons (λ (c : Child). c.level < wanted.level + 1) wanted [] (omega arith) (All-nil (λ (c : Child). c.level < wanted.level + 1))) };
-  inner = refl;
-  counters = record { vinsert_fits = omega arith; vsplit_fits = omega arith };
-}
-
 module _ (a : ArenaView) (posting : Posting) (old : Root) (root : NodeNo) (is : posting.stage ≡ RootSpared old root) (wanted : Child) (is_goal : wanted ≡ goal posting.half posting.low posting.waiting) where
   abbrev children : List Child
   children = root_children old wanted
@@ -146,22 +122,6 @@ module _ (a : ArenaView) (posting : Posting) (old : Root) (root : NodeNo) (is : 
   -- the spare, for what is wanted
   spare_wanted : (w : World) → IsSpareInterior a w root.0 (new_root (goal posting.half posting.low posting.waiting)) → IsSpareInterior a w root.0 (new_root wanted)
   spare_wanted w s = subst (λ (c : Child). IsSpareInterior a w root.0 (new_root c)) (sym is_goal) s
-
-  -- what the calls ask
-  pub may_fill : (may : MayPost a posting) → IsSomeAnd (interior_at a.nodes root.0) (λ i. i.children ≡ []) × IsSomeAnd (interior_at a.nodes root.0) (λ i. IsInterior (with_children i children))
-  may_fill may =
-      let (less, spare) = true_at may.begun a may.w posting (RootSpared old root) is may.true in
-      let there = spare_wanted may.w spare in (
-        subst (λ (o : Option InteriorView). IsSomeAnd o (λ i. i.children ≡ [])) (sym there.named) refl,
-        subst (λ (o : Option InteriorView). IsSomeAnd o (λ i. IsInterior (with_children i children))) (sym there.named)
-            (children_sound old wanted (subst (λ (c : Child). old.level < c.level + 1) (sym is_goal) less) (subst (λ (c : Child). c.level + 1 ≤ MAX_LEVEL) (sym is_goal) (goal_fits a may.w may.true.0 posting.half posting.low posting.waiting may.true.1.waiting))),
-      )
-
-  pub may_unlock : (may : MayPost a posting) (between : ArenaView) → between ≡ with_interior_changed a root.0 fill → IsSomeAnd (interior_at between.nodes root.0) (λ i. i.version.locked ≡ true)
-  may_unlock may between value =
-      let (less, spare) = true_at may.begun a may.w posting (RootSpared old root) is may.true in
-      let there : interior_at between.nodes root.0 ≡ Some (fill (new_root wanted)) = ap (λ (x : ArenaView). interior_at x.nodes root.0) value ∙ interior_now a root.0 (new_root wanted) fill (spare_wanted may.w spare).named in
-      subst (λ (o : Option InteriorView). IsSomeAnd o (λ i. i.version.locked ≡ true)) (sym there) refl
 
   pub fills : (between after : ArenaView) → between ≡ with_interior_changed a root.0 fill → KeepsTree a between → after ≡ with_interior_changed between root.0 unlock
       → IsSomeAnd (interior_at between.nodes root.0) (λ i. KeepsWhere between after (λ chart. IsNotGone chart root.0 ⊎ (i.version.deleted ≡ true)))
@@ -371,14 +331,6 @@ module _ (a : ArenaView) (posting : Posting) (old : Root) (root : NodeNo) (is : 
 module _ (a : ArenaView) (posting : Posting) (root : NodeNo) (is : posting.stage ≡ RootLate root) where
   is_named : (w : World) (i : InteriorView) → IsSpareInterior a w root.0 i → IsSome (node_at a.nodes root.0)
   is_named w i spare = subst (λ (x : Option Node). IsSome x) (sym (node-from_interior a.nodes root.0 i spare.named)) refl
-
-  -- what the call asks
-  pub may_give : (may : MayPost a posting) → IsSome (node_at a.nodes root.0) × All (λ retired. retired.node.0 ≢ root.0) a.retired
-  may_give may =
-      let (i, above, spare) = true_at may.begun a may.w posting (RootLate root) is may.true in (
-        is_named may.w i spare,
-        not_retired a may.w may.now root.0 may.world spare.unknown,
-      )
 
   given : (may : MayPost a posting) (after : ArenaView) → after ≡ without_node a root.0 → GivesOneBack a after × SameHeads a after × MarksNone a after
   given may after value =

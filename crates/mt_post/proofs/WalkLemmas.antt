@@ -48,7 +48,7 @@ use Rattle.mt_steps.proofs.AliveLemmas.{alive_node, alive_there, alive_placed}
 use Rattle.mt_steps.proofs.AgingLemmas.{age_beside}
 use Rattle.mt_steps.proofs.NodeLemmas.{at_chart, goes_at, heads_beside, interior_others, interior_no_head, interior_no_border, interior_alive, interior_border, interior_taken, interior_is_taken, not_both, known_some, heads_were, root_place}
 use Rattle.mt_types.specs.declared.limits.TheConstants.{MAX_LEVEL}
-use Rattle.mt_post.specs.declared.posting.PostStage.TheVariants.{RootSpared, RootFilled, RootLate, HalfWanted, HalfSpared, LetGo, HalfPosted, HalfCut}
+use Rattle.mt_post.specs.declared.posting.PostStage.TheVariants.{RootFilled}
 use Rattle.mt_post.specs.Posting.{WalksFrom}
 use Rattle.mt_post.specs.Follows.{NumbersGo, HeadsGo, MarksNone}
 use Rattle.mt_post.proofs.NumberLemmas.{interior_leaves_by}
@@ -123,16 +123,7 @@ module _ (a : ArenaView) (posting : Posting) where
 
   same_heads : (stage : PostStage) → HeadsGo a stage a
   same_heads (RootFilled old root) = tt
-  same_heads (Walks node) = λ number. refl
-  same_heads (RootWanted old) = λ number. refl
-  same_heads (RootSpared old root) = λ number. refl
-  same_heads (RootLate root) = λ number. refl
-  same_heads (HalfWanted interior) = λ number. refl
-  same_heads (HalfSpared interior half) = λ number. refl
-  same_heads (HalfLeftOut left why) = λ number. refl
-  same_heads (LetGo interior why) = λ number. refl
-  same_heads (HalfPosted posted) = λ number. refl
-  same_heads (HalfCut half) = λ number. refl
+  same_heads _ = λ number. refl
 
   -- the border is left out
   pub left_out : (end : PostEnd) (stage : PostStage) (left : List Split) → stage_owns posting.half.0 [] stage ≡ posting.half.0 ∷ [] → posting.waiting ≡ [] → posting.stage ≡ stage → PostStageWaits a stage (Ended end) → PostStageEnds a a posting stage (Ended end)

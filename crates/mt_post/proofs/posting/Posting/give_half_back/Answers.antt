@@ -1,4 +1,4 @@
-use Rattle.mt_post.proofs.HalfLemmas.{gives_half_back}
+use Rattle.mt_post.proofs.LetGoLemmas.{gives_half_back}
 use Rattle.mt_post.proofs.posting.Posting.give_half_back.Goals as goal
 
 pub returns : goal.returns

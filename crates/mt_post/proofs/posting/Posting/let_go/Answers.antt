@@ -1,7 +1,7 @@
 use Rattle.std.proofs.Common.{inl}
 use Rattle.mt_post.specs.Follows.{PostStep}
 use Rattle.mt_post.proofs.WalkLemmas.{left_out_so}
-use Rattle.mt_post.proofs.HalfLemmas.{lets_go, lets_next, may_unlock_at}
+use Rattle.mt_post.proofs.LetGoLemmas.{lets_go, lets_next, may_unlock_at}
 use Rattle.mt_post.proofs.posting.Posting.let_go.Goals as goal
 
 pub unlock_interior-requires : goal.unlock_interior-requires

@@ -1,5 +1,5 @@
 use Rattle.std.proofs.Common.{inr}
-use Rattle.mt_post.proofs.HalfLemmas.{goes_again, may_unlock_at}
+use Rattle.mt_post.proofs.LetGoLemmas.{goes_again, may_unlock_at}
 use Rattle.mt_post.proofs.posting.Posting.unlock_half.Goals as goal
 
 pub unlock_interior-requires : goal.unlock_interior-requires
