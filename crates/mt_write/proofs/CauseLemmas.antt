@@ -6,7 +6,7 @@ use Rattle.mt_write.specs.declared.writing.Halves.{Halves}
 use Rattle.mt_write.specs.declared.writing.Edit.{Edit}
 use Rattle.mt_steps.specs.declared.progress.Progress.TheVariants.{Refused}
 use Rattle.mt_write.specs.declared.writing.Stage.{Stage}
-use Rattle.mt_write.specs.declared.writing.Stage.TheVariants.{Seeks, Locked, Spared, HalfFilled, Halved, Posts, LayerSpared, LayerFilled, LayerReady, Layered, Filled, Made, Taken, Stored, Failed}
+use Rattle.mt_write.specs.declared.writing.Stage.TheVariants.{Failed}
 use Rattle.std.specs.Prelude.{ℕ, List, IsSomeAnd}
 use Rattle.mt_commit.specs.Log.{LogView}
 use Rattle.mt_border.specs.Border.{BorderView}
@@ -26,20 +26,7 @@ use Rattle.mt_steps.proofs.SplitLemmas.{eqb-ne}
 -- a stage that isn't failed fails for nothing
 not_failed : (split : Option Halves) (stage : Stage) → IsNotFailed stage → FailsBy None split stage
 not_failed split (Failed refusal halves) never = absurd never
-not_failed split Seeks h = tt
-not_failed split Locked h = tt
-not_failed split (Spared half cut entries) h = tt
-not_failed split (HalfFilled half cut) h = tt
-not_failed split (Halved halves) h = tt
-not_failed split (Posts posting ending) h = tt
-not_failed split (LayerSpared layer entries) h = tt
-not_failed split (LayerFilled layer) h = tt
-not_failed split (LayerReady layer) h = tt
-not_failed split (Layered head) h = tt
-not_failed split (Filled place key logged halves) h = tt
-not_failed split (Made place key columns logged) h = tt
-not_failed split (Taken place key before) h = tt
-not_failed split (Stored commit halves) h = tt
+not_failed split _ h = tt
 
 pub ready_ok : (fault : Option Refusal) (made : Result Stage Refusal) (stage : Stage) (split : Option Halves) → ReadyFor fault made → made ≡ Ok stage → FailsBy fault split stage
 ready_ok None made stage split ready is = not_failed split stage (subst (λ (r : Result Stage Refusal). MatchResult r IsNotFailed (λ refusal. refusal ≡ NoMemory)) is ready)
@@ -70,17 +57,4 @@ room_ready a log b place made room ready = subst (λ (t : Bool). ReadyFor (if t 
 -- ---- a call is refused for what it had failed for
 pub stage_refused : (a : ArenaView) (log : LogView) (key : List ℕ) (edit : Edit) (way : Way) (stage : Stage) (refusal : Refusal) (new : Stage) → StageFails a log key edit way stage (Refused refusal) new → stage ≡ Failed refusal None
 stage_refused a log key edit way (Failed refused split) refusal new (same, none) = ap (λ (r : Refusal). Failed r split) (sym same) ∙ ap (Failed refusal) none
-stage_refused a log key edit way Seeks refusal new (never, h) = absurd never
-stage_refused a log key edit way Locked refusal new (never, h) = absurd never
-stage_refused a log key edit way (Spared half cut entries) refusal new (never, h) = absurd never
-stage_refused a log key edit way (HalfFilled half cut) refusal new (never, h) = absurd never
-stage_refused a log key edit way (Halved split) refusal new (never, h) = absurd never
-stage_refused a log key edit way (Posts posting ending) refusal new (never, h) = absurd never
-stage_refused a log key edit way (LayerSpared layer entries) refusal new (never, h) = absurd never
-stage_refused a log key edit way (LayerFilled layer) refusal new (never, h) = absurd never
-stage_refused a log key edit way (LayerReady layer) refusal new (never, h) = absurd never
-stage_refused a log key edit way (Layered head) refusal new (never, h) = absurd never
-stage_refused a log key edit way (Filled place stored logged split) refusal new (never, h) = absurd never
-stage_refused a log key edit way (Made place stored columns logged) refusal new (never, h) = absurd never
-stage_refused a log key edit way (Taken place stored before) refusal new (never, h) = absurd never
-stage_refused a log key edit way (Stored commit split) refusal new (never, h) = absurd never
+stage_refused a log key edit way _ refusal new (never, h) = absurd never

@@ -43,10 +43,6 @@ module _ (a : ArenaView) (key : List ℕ) (way : Way) (found : Found) (f : Finds
   pub stands_there : IsSomeAnd (border_at a.nodes way.node.0) (λ b. IsFoundAt (rest_of key way) b.live found)
   stands_there = subst (λ (o : Option BorderView). IsSomeAnd o (λ b. IsFoundAt (rest_of key way) b.live found)) (sym f.named) f.stands
 
-  -- it is there
-  pub found_there : (at : Found) → found ≡ at → IsSomeAnd (border_at a.nodes way.node.0) (λ b. found_for (rest_of key way) b.live ≡ at)
-  found_there at is = subst (λ (o : Option BorderView). IsSomeAnd o (λ b. found_for (rest_of key way) b.live ≡ at)) (sym f.named) (sym f.is ∙ is)
-
   -- and still, after a change of the border that keeps its entries
   pub finds_changed : (change : BorderView → BorderView) → ((b : BorderView) → (change b).live ≡ b.live) → Finds (with_border_changed a way.node.0 change) key way found
   finds_changed change same = record {

@@ -1,5 +1,5 @@
 -- What a run does at the border of its key, step by step: the lock, what is made ready, the commit, and the unlock.
-use Rattle.std.proofs.Common.{ℕ, ◌≡◌, ◌+◌, [], ◌∷◌, Option, Some, None, true, false, refl, sym, subst}
+use Rattle.std.proofs.Common.{ℕ, ◌≡◌, ◌+◌, [], ◌∷◌, Some, None, true, false, refl, sym, subst}
 use Rattle.std.specs.Prelude.{IsSomeAnd}
 use Rattle.std.proofs.lemmas.List.Elements.{All-nil, All-push}
 use Rattle.mt_types.specs.declared.event.Answer.{Answer}
@@ -19,13 +19,15 @@ use Rattle.mt_write.specs.declared.writing.Stage.{Stage}
 use Rattle.mt_write.specs.declared.writing.Stage.TheVariants.{Seeks, Locked, Stored}
 use Rattle.mt_write.specs.Writing.{MayStage, written_answer}
 use Rattle.mt_write.specs.Follows.{FindsNone, TreeStep, WriteStep}
-use Rattle.mt_write.specs.Runs.{Advances, CommitsAt, HasRun, IsTrimmed, MayRun, RunStep, WriteState, commits_in}
+use Rattle.mt_write.specs.Runs.{Advances, CommitsAt, HasRun, IsTrimmed, MayRun, RunStep, WriteState, commits_in, state}
 use Rattle.mt_write.proofs.PostLemmas.{is_locked_border}
 use Rattle.mt_write.proofs.RunLemmas.{ends_run, left_trimmed, may_again, may_step, one_step, run_step, runs_further, runs_none, stays_trimmed, twice_trimmed}
-use Rattle.mt_write.proofs.StageSteps.{at_step, ends_stored, may_be, seek_ends}
+use Rattle.mt_write.proofs.StageSteps.{at_step, may_be, seek_ends}
+use Rattle.mt_write.proofs.LaterSteps.{ends_stored}
 
-abbrev pub state : ArenaView → LogView → Write → WriteState
-state a log write = record { tree = a; log = log; write = write }
+-- a step from what is still the same
+pub as_it_was : (C : ℕ) (a same after : ArenaView) (log kept left : LogView) (write : Write) (stage : Stage) (p : Progress) (then : Write) → (same ≡ a) × (kept ≡ log) → WriteStep C same after kept left write stage p then → WriteStep C a after log left write stage p then
+as_it_was C a same after log kept left write stage p then (tree, logs) step = subst (λ (x : ArenaView). WriteStep C x after log left write stage p then) tree (subst (λ (l : LogView). WriteStep C same after l left write stage p then) logs step)
 
 -- ---- a step on its way
 module _ (C : ℕ) (a : ArenaView) (log : LogView) (write : Write) (may : MayRun C (state a log write)) (is_trimmed : IsTrimmed log) (idle : write.stage ≡ Seeks) (arena : IsArena a) (sound : IsLog log) (p : Progress) (then : Write) (step : TreeStep a a write Seeks p then) (none : commits_in p ≡ 0) where
@@ -42,12 +44,6 @@ module _ (C : ℕ) (a : ArenaView) (log : LogView) (write : Write) (may : MayRun
 module _ (C : ℕ) (a : ArenaView) (log : LogView) (write : Write) (may : MayRun C (state a log (record write { stage = Locked }))) where
   abbrev pub at_lock : Write
   at_lock = record write { stage = Locked }
-
-  pub may_locked : MayStage C a log write Locked
-  may_locked = may_be C a log at_lock write.stage Locked refl (may_step C (state a log at_lock) may)
-
-  pub locked_there : IsSomeAnd (border_at a.nodes write.way.node.0) (λ x. x.version.locked ≡ true)
-  locked_there = let (x, at) = may.true.0 in subst (λ (o : Option BorderView). IsSomeAnd o (λ y. y.version.locked ≡ true)) (sym at.named) at.locked
 
   module _ (is_trimmed : IsTrimmed log) (arena : IsArena a) where
     -- ---- there is no row to remove

@@ -38,7 +38,7 @@ use Rattle.mt_write.proofs.AbsentLemmas.{none_has, absent_part, absent_last}
 use Rattle.mt_steps.proofs.BorderLemmas.{now_named, others_named}
 use Rattle.mt_steps.proofs.SplitLemmas.{goes_filled, goes_linked, with_spot, spot_changes}
 use Rattle.mt_write.proofs.WorkLemmas.{locked_at_stays}
-use Rattle.mt_write.proofs.WriteLemmas.{no_get}
+use Rattle.mt_write.proofs.WriteLemmas.{quiet_step}
 
 -- ---- before the steps
 pub half_may_fill : (key : List ℕ) (edit : Edit) (way : Way) (b : BorderView) (cut : ℕ) (c : IsCutAt key way b cut) → MayFill (empty_half b c.middle) (drop cut b.live) b.right
@@ -73,20 +73,15 @@ module _ (C : ℕ) (a : ArenaView) (log : LogView) (key : List ℕ) (edit : Edit
         let new : ArenaView = with_border_changed a half.0 change in
         let made : change (empty_half b c.middle) ≡ upper_half b cut c.middle = ap (λ (es : List Entry). with_entries (empty_half b c.middle) es b.right) copied in
         let keeps_new : KeepsUnknown a new half.0 = subst (λ (x : ArenaView). KeepsUnknown a x half.0) is keeps in
-        subst (λ (x : ArenaView). Stepped C now moves past a x log log w (edit_request key edit) (stage_held n (Spared half cut entries)) Moved (stage_held n (HalfFilled half cut)) (λ m next. StageIsTrue C key edit way (HalfFilled half cut) begun x next)) (sym is) (record {
-          goes = goes_filled now a w half.0 (empty_half b c.middle) change (half.0 ∷ n ∷ []) _ s.named keeps_new first s.unknown (λ i. refl) world (
-            b,
-            locked_at_stays a new w w key way b (record { node = others_named a half.0 (empty_half b c.middle) change s.named n (differ b (empty_half b c.middle) w at s); spot = refl; twins = λ one other here. ((λ h. h), (λ h. h)); closing = λ i. i; retired = ((λ h. h), (λ h. h)) }) at,
-            c,
-            record { named = now_named a half.0 (empty_half b c.middle) change s.named ∙ ap Some made; unknown = s.unknown; locked = refl; free = s.free },
-            p,
-          );
-          does = (record { content = (keeps_new.keeps now w.twins w.chart world.index s.unknown).content; trimmed = refl; deltas = refl }, refl);
-          reserved = refl;
-          bounds = refl;
-          blocked = inl refl;
-          may = λ get. absurd (no_get key edit get);
-        });
+        subst (λ (x : ArenaView). Stepped C now moves past a x log log w (edit_request key edit) (stage_held n (Spared half cut entries)) Moved (stage_held n (HalfFilled half cut)) (λ m next. StageIsTrue C key edit way (HalfFilled half cut) begun x next)) (sym is) (quiet_step key edit
+        (goes_filled now a w half.0 (empty_half b c.middle) change (half.0 ∷ n ∷ []) _ s.named keeps_new first s.unknown (λ i. refl) world (
+          b,
+          locked_at_stays a new w w key way b (record { node = others_named a half.0 (empty_half b c.middle) change s.named n (differ b (empty_half b c.middle) w at s); spot = refl; twins = λ one other here. ((λ h. h), (λ h. h)); closing = λ i. i; retired = ((λ h. h), (λ h. h)) }) at,
+          c,
+          record { named = now_named a half.0 (empty_half b c.middle) change s.named ∙ ap Some made; unknown = s.unknown; locked = refl; free = s.free },
+          p,
+        ))
+        ((keeps_new.keeps now w.twins w.chart world.index s.unknown).content) refl refl (inl refl));
   }
 
   -- ---- the half is linked
@@ -204,14 +199,9 @@ module _ (C : ℕ) (a : ArenaView) (log : LogView) (key : List ℕ) (edit : Edit
           (λ next. StageIsTrue C key edit goal (Halved halves) begun (with_border_changed a n (link c.middle.slice)) next) at.named s.named
           (subst (λ (x : ArenaView). LinksHalfAt a x n half.0) is links) (record { low = b.low; posted = at.stands.stands.posted; place = at.stands.stands.place })
           s.unknown (later first) first at.locked at.locked refl at.free (ages_split b cut (record { low = c.middle.slice; node = half })) world (then begun w b at c s p) in
-          subst (λ (x : ArenaView). Stepped C now moves past a x log log w (edit_request key edit) (stage_held n (HalfFilled half cut)) Moved (stage_held goal.node.0 (Halved halves)) (λ m next. StageIsTrue C key edit goal (Halved halves) begun x next)) (sym is) (record {
-            goes = goes;
-            does = (record { content = content; trimmed = refl; deltas = refl }, refl);
-            reserved = refl;
-            bounds = refl;
-            blocked = inl refl;
-            may = λ get. absurd (no_get key edit get);
-          });
+          subst (λ (x : ArenaView). Stepped C now moves past a x log log w (edit_request key edit) (stage_held n (HalfFilled half cut)) Moved (stage_held goal.node.0 (Halved halves)) (λ m next. StageIsTrue C key edit goal (Halved halves) begun x next)) (sym is) (quiet_step key edit
+          goes
+          content refl refl (inl refl));
     }
 
   -- the low of the half, as it was read

@@ -3,11 +3,14 @@ pub mod AbsentLemmas
 pub mod SpareLemmas
 pub mod EntryLemmas
 pub mod WriteLemmas
+pub mod ReadyLemmas
+pub mod CommitLemmas
 pub mod HalfLemmas
 pub mod PostLemmas
 pub mod LinkLemmas
 pub mod NewLayerLemmas
 pub mod StageSteps
+pub mod LaterSteps
 pub mod VersionLemmas
 pub mod FindLemmas
 pub mod WorkLemmas

@@ -1,5 +1,5 @@
 -- What follows from the link to a new layer: the layer's head is on.
-use Rattle.std.proofs.Common.{ℕ, ◌≡◌, List, ◌∷◌, slice_get, Some, true, inl, refl, sym, ap, subst, ◌∙◌}
+use Rattle.std.proofs.Common.{ℕ, ◌≡◌, List, ◌∷◌, slice_get, Some, true, inl, refl, sym, subst}
 use Rattle.mt_types.specs.declared.numbers.NodeNo.{NodeNo}
 use Rattle.mt_border.specs.Entry.{with_link}
 use Rattle.mt_border.specs.Table.{changed_at}
@@ -7,19 +7,15 @@ use Rattle.mt_border.specs.declared.entry.Entry.{Entry}
 use Rattle.mt_border.specs.declared.entry.Content.TheVariants.{Link}
 use Rattle.mt_arena.specs.Arena.{ArenaView}
 use Rattle.mt_chart.specs.Tree.{Among}
-use Rattle.mt_chart.specs.Chart.{Standing, on, top, spot, OnHead}
+use Rattle.mt_chart.specs.Chart.{top, OnHead}
 use Rattle.mt_chart.specs.Walk.{IsOn}
 use Rattle.mt_chart.proofs.Entries.{among_insert}
 use Rattle.mt_tree.specs.Seen.{border_seen, entry_seen}
 use Rattle.mt_tree.proofs.SeenLemmas.{among_map}
 use Rattle.mt_tree.proofs.BorderEntries.{focus}
 use Rattle.mt_tree.proofs.BorderMarks.{stands_seen}
-use Rattle.mt_steps.specs.declared.way.Way.{Way}
 use Rattle.mt_steps.specs.World.{World, IsWorld}
-use Rattle.mt_steps.specs.Way.{prefix_of}
-use Rattle.mt_write.specs.declared.writing.Edit.{Edit}
-use Rattle.mt_write.specs.declared.writing.Stage.TheVariants.{Layered}
-use Rattle.mt_write.specs.Writing.{StageIsTrue, HasLink, way_below}
+use Rattle.mt_write.specs.Writing.{HasLink}
 
 -- the entry at a place is among the entries once it is made a link
 pub linked_among : (live : List Entry) (place : ℕ) (entry : Entry) (head : NodeNo) → slice_get live place ≡ Some entry → Among (record { slice = entry.slice; content = Link head }) (changed_at place (with_link head) live)
@@ -37,12 +33,3 @@ module _ (prefix : List ℕ) (a : ArenaView) (now : ℕ) (w : World) (number : �
 
   pub linked_head_is_on : IsOn w.chart head.0
   linked_head_is_on = record { role = top; prefix = has.slice ∷ prefix; low = 0; posted = true; place = linked_head_stands }
-
--- ---- a put has linked a new layer
--- until it unlocks the border, the layer's head is on
-pub layered_head_stands : (C begun now : ℕ) (a : ArenaView) (w : World) (key : List ℕ) (edit : Edit) (way : Way) (head : NodeNo) → IsWorld a now w → StageIsTrue C key edit way (Layered head) begun a w → OnHead w.chart head.0 (prefix_of key (way_below way head))
-layered_head_stands C begun now a w key edit way head world truth =
-    let here : OnHead w.chart head.0 (truth.0.slice ∷ prefix_of key way) = linked_head_stands (prefix_of key way) a now w way.node.0 head world truth.0 in
-    let known : w.chart head.0 ≡ Some (spot top (prefix_of key (way_below way head)) 0 truth.2.standing) = truth.2.place in
-    let same : truth.2.standing ≡ on true = cc in
-    known ∙ ap (λ (s : Standing). Some (spot top (prefix_of key (way_below way head)) 0 s)) same

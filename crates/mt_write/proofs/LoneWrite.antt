@@ -1,5 +1,5 @@
 -- A put or remove that runs alone: it waits nowhere, and with each step that gets on what is left of it falls.
-use Rattle.std.proofs.Common.{ℕ, ◌≡◌, ◌<◌, ◌≤◌, ◌+◌, ◌*◌, ◌-◌, ◌⊎◌, inl, inr, List, [], ◌∷◌, length, Option, Some, None, true, refl, sym, ap, subst, ◌∙◌, arith}
+use Rattle.std.proofs.Common.{ℕ, ◌≡◌, ◌<◌, ◌≤◌, ◌+◌, ◌*◌, ◌-◌, inl, inr, List, [], ◌∷◌, length, Option, Some, None, true, refl, sym, ap, subst, ◌∙◌, arith}
 use Rattle.std.specs.Prelude.{◌^◌, IsSomeAnd}
 use Rattle.std.specs.Option.{option_and_then}
 use Rattle.std.proofs.Math.Nat.{mul-le-mul_left}
@@ -8,12 +8,11 @@ use Rattle.mt_types.specs.declared.numbers.NodeNo.{NodeNo}
 use Rattle.mt_types.specs.declared.event.Request.{Request}
 use Rattle.mt_types.specs.declared.event.Request.TheVariants.{Put as PutRequest, PutIf as PutIfRequest, Remove as RemoveRequest}
 use Rattle.mt_slice.specs.Place.{AreBytes}
-use Rattle.mt_commit.specs.Log.{LogView}
 use Rattle.mt_arena.specs.Node.{node_at, border_of}
 use Rattle.mt_arena.specs.Arena.{ArenaView}
 use Rattle.mt_arena.specs.declared.node.Node.{Node}
 use Rattle.mt_arena.specs.declared.node.Node.TheVariants.{Head, Interior, Border}
-use Rattle.mt_chart.specs.Tree.{Arena, PlainNode, HeadNode, BorderNode, head as head_node, border as border_node, Among, first, later}
+use Rattle.mt_chart.specs.Tree.{PlainNode, HeadNode, BorderNode, head as head_node, border as border_node, Among, first, later}
 use Rattle.mt_chart.specs.Chart.{Standing, Role, top, at_level, Spot, spot, on}
 use Rattle.mt_chart.specs.Walk.{all_heights, IsOn}
 use Rattle.mt_tree.specs.Seen.{arena_seen, border_seen}
@@ -21,8 +20,7 @@ use Rattle.mt_tree.proofs.SeenLemmas.{seen-border}
 use Rattle.mt_steps.specs.declared.progress.Progress.{Progress}
 use Rattle.mt_steps.specs.declared.progress.Progress.TheVariants.{Moved, Waits, Committed, Answered, Refused}
 use Rattle.mt_steps.specs.declared.way.Way.{Way}
-use Rattle.mt_steps.specs.World.{World, IsWorld, IsTaken, IsLocked, NotAmong, Goes}
-use Rattle.mt_steps.specs.Step.{Stepped}
+use Rattle.mt_steps.specs.World.{World, IsWorld, IsTaken, IsLocked, NotAmong}
 use Rattle.mt_steps.specs.Way.{prefix_of, IsOnWay}
 use Rattle.mt_steps.proofs.LoneWay.{layer_height, height_in, way_left, layers_above, on_height, IsOnThere, stands_in, way_moves, not_marked, starts_on}
 use Rattle.mt_post.specs.declared.posting.Posting.{Posting}
@@ -37,8 +35,9 @@ use Rattle.mt_write.specs.declared.writing.Ending.{Ending}
 use Rattle.mt_write.specs.declared.writing.Ending.TheVariants.{Stored as EndStored, Failed as EndFailed}
 use Rattle.mt_write.specs.declared.writing.Stage.{Stage}
 use Rattle.mt_write.specs.declared.writing.Stage.TheVariants.{Seeks, Locked, Spared, HalfFilled, Halved, Posts, LayerSpared, LayerFilled, LayerReady, Layered, Filled, Made, Taken, Stored, Failed}
-use Rattle.mt_write.specs.Writing.{edit_request, write_request, StageIsTrue, WriteIsTrue, stage_held, write_held, way_below, ending_stage}
+use Rattle.mt_write.specs.Writing.{edit_request, StageIsTrue, stage_held, write_held, way_below, ending_stage}
 use Rattle.mt_write.specs.Causes.{StageWaits, WriteWaits, IsPosting}
+use Rattle.mt_write.specs.Runs.{Advances}
 use Rattle.mt_write.proofs.LinkLemmas.{linked_head_is_on}
 use Rattle.mt_write.specs.Follows.{IsMadeReady, IsReadyIn, IsReady, PostsOn, StaysAt, halves_of, StageFollows, Follows, WriteFollows}
 
@@ -179,12 +178,6 @@ seeks_waits_not a now w key way world there only (inl marked) = not_marked a now
 seeks_waits_not a now w key way world there only (inr locked) = not_none way.node.0 (only way.node.0 (inl (locked_node (node_at a.nodes way.node.0) locked)))
 
 -- ---- each step that gets on leaves less
--- it moves or commits
-abbrev pub GetsOn : Progress → Type 0
-GetsOn Moved = Unit {0}
-GetsOn (Committed number) = Unit {0}
-GetsOn _ = ⊥
-
 -- what is true of its posting after a step: when a write that was to end begins to post, and while it posts
 abbrev pub PostingGoesOn : (ArenaView → World → Posting → Type 0) → (ArenaView → Posting → ℕ) → ℕ → ArenaView → ArenaView → World → Stage → Stage → Type 0
 PostingGoesOn post_stands posting_left most a after w (Stored commit split) (Posts posting ending) = post_stands after w posting × (posting_left after posting ≤ most)
@@ -204,7 +197,7 @@ pub record IsLoneWrite (post_stands : ArenaView → World → Posting → Type 0
 -- and its step that gets on, to the next world
 pub record IsLoneStep (post_stands : ArenaView → World → Posting → Type 0) (posting_left : ArenaView → Posting → ℕ) (most C now begun : ℕ) (a after : ArenaView) (w next : World) (write : Write) (p : Progress) (new : Write) : Type 0 where
   pub follows : WriteFollows a write p new
-  pub gets_on : GetsOn p
+  pub gets_on : Advances p
   pub same_key : new.key ≡ write.key
   pub world : IsWorld after now next
   pub spots : (number : ℕ) → NotAmong number (write_held write).owns → NotAmong number (write_held new).owns → next.chart number ≡ w.chart number
@@ -334,7 +327,7 @@ module _ (post_stands : ArenaView → World → Posting → Type 0) (posting_lef
     -- if it moves or commits
     got_on : (stage new : Stage) (p : Progress) → StageIsTrue C key edit way stage begun a w
         → stage_stands post_stands a w key way stage → KeepsSpots w next (stage_held way.node.0 stage).owns (stage_held goal.node.0 new).owns
-        → PostingGoesOn post_stands posting_left most a after next stage new → GetsOn p → Follows a key way stage p goal new → Nearer a after next key way stage goal new
+        → PostingGoesOn post_stands posting_left most a after next stage new → Advances p → Follows a key way stage p goal new → Nearer a after next key way stage goal new
     got_on stage new Moved truth stands spots goes gets follows = moved stage new truth stands spots goes follows
     got_on stage new (Committed number) truth stands spots goes gets (ready, at) = stays_at a after next key way goal stage new (Stored number (halves_of stage)) at (committed a after next key way number stage ready)
     got_on stage new Waits truth stands spots goes gets follows = absurd gets
@@ -384,58 +377,3 @@ has_key key RemoveEdit = refl
 
 pub request_key : (one other : List ℕ) (edit then : Edit) → edit_request one edit ≡ edit_request other then → one ≡ other
 request_key one other edit then e = sym (has_key one edit) ∙ ap key_asked e ∙ has_key other then
-
--- the law of a step determines the next world
-pub lone_step : (post_stands : ArenaView → World → Posting → Type 0) (posting_left : ArenaView → Posting → ℕ) (most C now begun moves : ℕ) (past : List Arena) (a after : ArenaView) (log left : LogView) (w : World) (write new : Write) (p : Progress)
-    → WriteFollows a write p new → GetsOn p → write_request new ≡ write_request write
-    → (s : Stepped C now moves past a after log left w (write_request write) (write_held write) p (write_held new) (λ m next. WriteIsTrue C new begun m (arena_seen a ∷ past) after next))
-    → KeepsSpots w s.goes.next (write_held write).owns (write_held new).owns → PostingGoesOn post_stands posting_left most a after s.goes.next write.stage new.stage
-    → IsLoneStep post_stands posting_left most C now begun a after w s.goes.next write p new
-lone_step post_stands posting_left most C now begun moves past a after log left w write new Moved follows gets request s spots posts = record {
-  follows = follows;
-  gets_on = tt;
-  same_key = request_key new.key write.key new.edit write.edit request;
-  world = s.goes.world;
-  spots = spots;
-  true = s.goes.true.0;
-  posts = posts;
-}
-lone_step post_stands posting_left most C now begun moves past a after log left w write new (Committed number) follows gets request s spots posts = record {
-  follows = follows;
-  gets_on = tt;
-  same_key = request_key new.key write.key new.edit write.edit request;
-  world = s.goes.world;
-  spots = spots;
-  true = s.goes.true.0;
-  posts = posts;
-}
-lone_step post_stands posting_left most C now begun moves past a after log left w write new Waits follows gets request s spots posts = absurd gets
-lone_step post_stands posting_left most C now begun moves past a after log left w write new (Answered answer) follows gets request s spots posts = absurd gets
-lone_step post_stands posting_left most C now begun moves past a after log left w write new (Refused refusal) follows gets request s spots posts = absurd gets
-
--- what is then taken is its own too
-own_still : (a after : ArenaView) (w next : World) (owned owns : List ℕ) → OnlyOwn a w owned
-    → ((number : ℕ) → IsTaken after next number → Among number owns ⊎ (IsTaken a w number × NotAmong number owned)) → OnlyOwn after next owns
-own_still a after w next owned owns only takes number taken = elim (takes number taken) [
-  | inl own ↦ own
-  | inr other ↦ absurd (other.1 (only number other.0))
-]
-
--- so it runs alone after the step
-pub stays_lone : (post_stands : ArenaView → World → Posting → Type 0) (posting_left : ArenaView → Posting → ℕ) (most C now begun : ℕ) (a after : ArenaView) (w next : World) (write new : Write) (p : Progress)
-    → IsLoneWrite post_stands C now begun a w write → IsLoneStep post_stands posting_left most C now begun a after w next write p new → write_stands post_stands after next new
-    → ((number : ℕ) → IsTaken after next number → Among number (write_held new).owns ⊎ (IsTaken a w number × NotAmong number (write_held write).owns))
-    → IsLoneWrite post_stands C now begun after next new
-stays_lone post_stands posting_left most C now begun a after w next write new p lone step stands takes = record {
-  world = step.world;
-  true = step.true;
-  stands = stands;
-  bytes = subst AreBytes (sym step.same_key) lone.bytes;
-  fits = subst (λ (k : List ℕ). length k ≤ MAX_KEY_BYTES) (sym step.same_key) lone.fits;
-  only_own = own_still a after w next (write_held write).owns (write_held new).owns lone.only_own takes;
-}
-
--- and once it has ended nothing is taken
-pub lone_write_ends : (post_stands : ArenaView → World → Posting → Type 0) (C now begun : ℕ) (a after : ArenaView) (w : World) (write : Write) (Then : World → Type 0)
-    → IsLoneWrite post_stands C now begun a w write → (goes : Goes now a after w (write_held write).owns [] Then) → (number : ℕ) → IsTaken after goes.next number → ⊥
-lone_write_ends post_stands C now begun a after w write Then lone goes number taken = not_none number (own_still a after w goes.next (write_held write).owns [] lone.only_own goes.takes number taken)

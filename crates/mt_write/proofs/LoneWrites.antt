@@ -48,7 +48,8 @@ use Rattle.mt_write.specs.Writing.{StageIsTrue, HasLocked, stage_held, write_hel
 use Rattle.mt_write.specs.Causes.{WriteWaits}
 use Rattle.mt_write.specs.Follows.{Follows, WriteFollows, HeadGoes, HeadFollows, IsNewPosting, PostingSteps, PostsGo, PostsFollow}
 use Rattle.mt_write.proofs.LinkLemmas.{linked_head_stands}
-use Rattle.mt_write.proofs.LoneWrite.{OnlyOwn, KeepsSpots, GetsOn, PostingGoesOn, stage_stands, write_stands, write_left, head_place, write_begins, lone_write_waits_not, lone_write_nearer, IsLoneWrite, IsLoneStep}
+use Rattle.mt_write.specs.Runs.{Advances}
+use Rattle.mt_write.proofs.LoneWrite.{OnlyOwn, KeepsSpots, PostingGoesOn, stage_stands, write_stands, write_left, head_place, write_begins, lone_write_waits_not, lone_write_nearer, IsLoneWrite, IsLoneStep}
 
 -- ---- a head that the chart knows is never the write's own
 -- the number names no head, or the chart doesn't know it
@@ -203,7 +204,7 @@ module _ (C now begun : ℕ) (a after : ArenaView) (w next : World) (key : List 
       ]
 
   -- the head of the layer where it then is is on
-  head_follows : (p : Progress) (head then : NodeNo) → HeadIsOn w.chart head.0 → stage_stands post_stands a w key way stage → GetsOn p → HeadGoes head way stage p goal then → Follows a key way stage p goal new → HeadIsOn next.chart then.0
+  head_follows : (p : Progress) (head then : NodeNo) → HeadIsOn w.chart head.0 → stage_stands post_stands a w key way stage → Advances p → HeadGoes head way stage p goal then → Follows a key way stage p goal new → HeadIsOn next.chart then.0
   head_follows p head then h stands gets goes follows = go stage p truth stands gets goes follows
     where
       same : then ≡ head → HeadIsOn next.chart then.0
@@ -226,26 +227,14 @@ module _ (C now begun : ℕ) (a after : ArenaView) (w next : World) (key : List 
       below_on below truth is = subst (λ (n : NodeNo). HeadIsOn next.chart n.0) (sym is)
           (head_kept below.0 (record { prefix = truth.0.slice ∷ prefix_of key way; low = 0; posted = true; place = linked_head_stands (prefix_of key way) a now w way.node.0 below world truth.0 }))
 
-      go : (stage : Stage) (p : Progress) → StageIsTrue C key edit way stage begun a w → stage_stands post_stands a w key way stage → GetsOn p → HeadGoes head way stage p goal then → Follows a key way stage p goal new → HeadIsOn next.chart then.0
+      go : (stage : Stage) (p : Progress) → StageIsTrue C key edit way stage begun a w → stage_stands post_stands a w key way stage → Advances p → HeadGoes head way stage p goal then → Follows a key way stage p goal new → HeadIsOn next.chart then.0
       go Seeks Moved truth stands gets goes follows = moved truth stands goes follows
       go Seeks (Committed number) truth stands gets goes follows = absurd follows.0
       go Seeks Waits truth stands gets goes follows = absurd gets
       go Seeks (Answered answer) truth stands gets goes follows = absurd gets
       go Seeks (Refused refusal) truth stands gets goes follows = absurd gets
-      go Locked p truth stands gets goes follows = same goes
-      go (Spared half cut entries) p truth stands gets goes follows = same goes
-      go (HalfFilled half cut) p truth stands gets goes follows = same goes
-      go (Halved split) p truth stands gets goes follows = same goes
-      go (LayerSpared layer entries) p truth stands gets goes follows = same goes
-      go (LayerFilled layer) p truth stands gets goes follows = same goes
-      go (LayerReady layer) p truth stands gets goes follows = same goes
       go (Layered below) p truth stands gets goes follows = below_on below truth goes
-      go (Filled place stored logged split) p truth stands gets goes follows = same goes
-      go (Made place stored columns logged) p truth stands gets goes follows = same goes
-      go (Taken place stored before) p truth stands gets goes follows = same goes
-      go (Posts posting ending) p truth stands gets goes follows = same goes
-      go (Stored commit split) p truth stands gets goes follows = same goes
-      go (Failed refusal split) p truth stands gets goes follows = same goes
+      go _ p truth stands gets goes follows = same goes
 
 -- what is true of its posting after the step
 module _ (now begun : ℕ) (a after : ArenaView) (w next : World) (key : List ℕ) (way goal : Way) (head : NodeNo) (world : IsWorld a now w) (then_world : IsWorld after now next) (before : begun ≤ now)
@@ -255,7 +244,7 @@ module _ (now begun : ℕ) (a after : ArenaView) (w next : World) (key : List �
   begins_posting half posting ending truth only new = posting_begins after now begun next posting then_world truth.0 only head half head_on new
 
   posts_go : (stage new : Stage) (p : Progress) → StageIsTrue C key edit way stage begun a w → stage_stands post_stands a w key way stage → OnlyOwn a w (stage_held way.node.0 stage).owns
-      → StageIsTrue C key new_edit goal new begun after next → OnlyOwn after next (stage_held goal.node.0 new).owns → GetsOn p → Follows a key way stage p goal new → PostsGo a after head stage p new
+      → StageIsTrue C key new_edit goal new begun after next → OnlyOwn after next (stage_held goal.node.0 new).owns → Advances p → Follows a key way stage p goal new → PostsGo a after head stage p new
       → PostingGoesOn post_stands steps_left most_steps a after next stage new
   posts_go (Stored commit (Some split)) (Posts posting ending) p truth stands only new_truth new_only gets follows posts = begins_posting split.half posting ending new_truth new_only posts
   posts_go (Failed refusal (Some split)) (Posts posting ending) p truth stands only new_truth new_only gets follows posts = begins_posting split.half posting ending new_truth new_only posts
@@ -296,7 +285,7 @@ waits_not C now begun a w write world before truth stands bytes fits only waits 
 -- WITH EACH STEP THAT GETS ON less is left, and it runs on alone
 pub nearer : (C now begun : ℕ) (a after : ArenaView) (w next : World) (write new : Write) (p : Progress) → IsWorld a now w → begun ≤ now → StageIsTrue C write.key write.edit write.way write.stage begun a w → lone_stands a w write
     → AreBytes write.key → length write.key ≤ MAX_KEY_BYTES → OnlyOwn a w (write_held write).owns → IsArena a → IsArena after
-    → WriteFollows a write p new → HeadFollows write p new → PostsFollow a after write p new → GetsOn p → IsWorld after now next
+    → WriteFollows a write p new → HeadFollows write p new → PostsFollow a after write p new → Advances p → IsWorld after now next
     → KeepsSpots w next (write_held write).owns (write_held new).owns → Evolves 0 w.chart next.chart → StageIsTrue C new.key new.edit new.way new.stage begun after next
     → OnlyOwn after next (write_held new).owns → new.key ≡ write.key
     → lone_stands after next new × (lone_left after new < lone_left a write)

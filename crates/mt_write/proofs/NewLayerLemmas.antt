@@ -48,7 +48,8 @@ use Rattle.mt_write.specs.Writing.{edit_request, stage_held, layer_owned, StageI
 use Rattle.mt_write.proofs.LinkLemmas.{linked_among}
 use Rattle.mt_write.proofs.WorkLemmas.{locked_at_stays}
 use Rattle.mt_write.proofs.EntryLemmas.{row_of_content, entry_place_is}
-use Rattle.mt_write.proofs.WriteLemmas.{no_get, ends}
+use Rattle.mt_write.proofs.WriteLemmas.{quiet_step}
+use Rattle.mt_write.proofs.CommitLemmas.{ends}
 
 -- ---- a border of one entry
 one_ordered : (entry : Entry) (i j : ℕ) → i < j → j < 1 → ⊥
@@ -102,27 +103,22 @@ module _ (C : ℕ) (a : ArenaView) (log : LogView) (key : List ℕ) (edit : Edit
         let made : change old ≡ lone_root f.number entry = ap (λ (es : List Entry). with_entries old es None) f.moved in
         let two : layer.root.0 ≢ layer.head.0 = head_apart a layer.head.0 layer.root.0 _ old f.has.head f.has.is_root in
         let keeps_new : KeepsUnknown a new layer.root.0 = subst (λ (x : ArenaView). KeepsUnknown a x layer.root.0) is keeps in
-        subst (λ (x : ArenaView). Stepped C now moves past a x log log w (edit_request key edit) (stage_held n (LayerSpared layer entries)) Moved (stage_held n (LayerFilled layer)) (λ m next. StageIsTrue C key edit way (LayerFilled layer) begun x next)) (sym is) (record {
-          goes = goes_filled now a w layer.root.0 old change (layer_owned n layer) _ f.has.is_root keeps_new (later first) f.has.root_unknown (λ i. absurd (unlocked_root a w.closing w.chart layer.root.0 old f.has.is_root refl world.heads i)) world (
-            b,
-            locked_at_stays a new w w key way b (record { node = others_named a layer.root.0 old change f.has.is_root n (apart_spare b w layer.root.0 at f.has.root_unknown); spot = refl; twins = λ one other here. ((λ h. h), (λ h. h)); closing = λ i. i; retired = ((λ h. h), (λ h. h)) }) at,
-            record {
-              number = f.number;
-              at = f.at;
-              has = record {
-                head = ap (option_and_then head_of) (others_named a layer.root.0 old change f.has.is_root layer.head.0 (λ e. two (sym e))) ∙ f.has.head;
-                is_root = now_named a layer.root.0 old change f.has.is_root ∙ ap Some made;
-                head_unknown = f.has.head_unknown;
-                root_unknown = f.has.root_unknown;
-              };
-            },
-          );
-          does = (record { content = (keeps_new.keeps now w.twins w.chart world.index f.has.root_unknown).content; trimmed = refl; deltas = refl }, refl);
-          reserved = refl;
-          bounds = refl;
-          blocked = inl refl;
-          may = λ get. absurd (no_get key edit get);
-        });
+        subst (λ (x : ArenaView). Stepped C now moves past a x log log w (edit_request key edit) (stage_held n (LayerSpared layer entries)) Moved (stage_held n (LayerFilled layer)) (λ m next. StageIsTrue C key edit way (LayerFilled layer) begun x next)) (sym is) (quiet_step key edit
+        (goes_filled now a w layer.root.0 old change (layer_owned n layer) _ f.has.is_root keeps_new (later first) f.has.root_unknown (λ i. absurd (unlocked_root a w.closing w.chart layer.root.0 old f.has.is_root refl world.heads i)) world (
+          b,
+          locked_at_stays a new w w key way b (record { node = others_named a layer.root.0 old change f.has.is_root n (apart_spare b w layer.root.0 at f.has.root_unknown); spot = refl; twins = λ one other here. ((λ h. h), (λ h. h)); closing = λ i. i; retired = ((λ h. h), (λ h. h)) }) at,
+          record {
+            number = f.number;
+            at = f.at;
+            has = record {
+              head = ap (option_and_then head_of) (others_named a layer.root.0 old change f.has.is_root layer.head.0 (λ e. two (sym e))) ∙ f.has.head;
+              is_root = now_named a layer.root.0 old change f.has.is_root ∙ ap Some made;
+              head_unknown = f.has.head_unknown;
+              root_unknown = f.has.root_unknown;
+            };
+          },
+        ))
+        ((keeps_new.keeps now w.twins w.chart world.index f.has.root_unknown).content) refl refl (inl refl));
   }
 
   -- the head is unlocked
@@ -140,27 +136,22 @@ module _ (C : ℕ) (a : ArenaView) (log : LogView) (key : List ℕ) (edit : Edit
         let root : BorderView = lone_root f.number (moved_entry key way b layer.place f.at) in
         let two : layer.root.0 ≢ layer.head.0 = head_apart a layer.head.0 layer.root.0 _ root f.has.head f.has.is_root in
         let keeps_new : KeepsTree a new = subst (λ (x : ArenaView). KeepsTree a x) is keeps in
-        subst (λ (x : ArenaView). Stepped C now moves past a x log log w (edit_request key edit) (stage_held n (LayerFilled layer)) Moved (stage_held n (LayerReady layer)) (λ m next. StageIsTrue C key edit way (LayerReady layer) begun x next)) (sym is) (record {
-          goes = goes_spare_changed now a new w layer.head.0 (Head (new_head layer.root 0 false)) (layer_owned n layer) _ updates refl keeps_new f.has.head_unknown (no_border a w.closing w.chart layer.head.0 (ap (option_and_then border_of) (node-from_head a.nodes layer.head.0 _ f.has.head)) world.heads) first world (
-            b,
-            locked_at_stays a new w w key way b (record { node = updates.others n (apart_spare b w layer.head.0 at f.has.head_unknown); spot = refl; twins = λ one other here. ((λ h. h), (λ h. h)); closing = λ i. i; retired = ((λ h. h), (λ h. h)) }) at,
-            record {
-              number = f.number;
-              at = f.at;
-              has = record {
-                head = ap (option_and_then head_of) updates.changed;
-                is_root = ap (option_and_then border_of) (updates.others layer.root.0 two) ∙ f.has.is_root;
-                head_unknown = f.has.head_unknown;
-                root_unknown = f.has.root_unknown;
-              };
-            },
-          );
-          does = (record { content = (keeps_new.keeps now w.twins w.chart world.index).content; trimmed = refl; deltas = refl }, refl);
-          reserved = refl;
-          bounds = refl;
-          blocked = inl refl;
-          may = λ get. absurd (no_get key edit get);
-        });
+        subst (λ (x : ArenaView). Stepped C now moves past a x log log w (edit_request key edit) (stage_held n (LayerFilled layer)) Moved (stage_held n (LayerReady layer)) (λ m next. StageIsTrue C key edit way (LayerReady layer) begun x next)) (sym is) (quiet_step key edit
+        (goes_spare_changed now a new w layer.head.0 (Head (new_head layer.root 0 false)) (layer_owned n layer) _ updates refl keeps_new f.has.head_unknown (no_border a w.closing w.chart layer.head.0 (ap (option_and_then border_of) (node-from_head a.nodes layer.head.0 _ f.has.head)) world.heads) first world (
+          b,
+          locked_at_stays a new w w key way b (record { node = updates.others n (apart_spare b w layer.head.0 at f.has.head_unknown); spot = refl; twins = λ one other here. ((λ h. h), (λ h. h)); closing = λ i. i; retired = ((λ h. h), (λ h. h)) }) at,
+          record {
+            number = f.number;
+            at = f.at;
+            has = record {
+              head = ap (option_and_then head_of) updates.changed;
+              is_root = ap (option_and_then border_of) (updates.others layer.root.0 two) ∙ f.has.is_root;
+              head_unknown = f.has.head_unknown;
+              root_unknown = f.has.root_unknown;
+            };
+          },
+        ))
+        ((keeps_new.keeps now w.twins w.chart world.index).content) refl refl (inl refl));
   }
 
   -- the link is made
@@ -195,14 +186,9 @@ module _ (C : ℕ) (a : ArenaView) (log : LogView) (key : List ℕ) (edit : Edit
           },
           subst (λ (m : ℕ). IsHeadOf next begun layer.head.0 (slices_above m key)) (sym (add-one way.layer)) (record { standing = on true; place = placed; since = λ epoch gone_is. absurd (let clash : on true ≡ gone epoch = gone_is in cc) }),
         ) in
-        subst (λ (x : ArenaView). Stepped C now moves past a x log log w (edit_request key edit) (stage_held n (LayerReady layer)) Moved (stage_held n (Layered layer.head)) (λ m next. StageIsTrue C key edit way (Layered layer.head) begun x next)) (sym is) (record {
-          goes = goes;
-          does = (record { content = content; trimmed = refl; deltas = refl }, refl);
-          reserved = refl;
-          bounds = refl;
-          blocked = inl refl;
-          may = λ get. absurd (no_get key edit get);
-        });
+        subst (λ (x : ArenaView). Stepped C now moves past a x log log w (edit_request key edit) (stage_held n (LayerReady layer)) Moved (stage_held n (Layered layer.head)) (λ m next. StageIsTrue C key edit way (Layered layer.head) begun x next)) (sym is) (quiet_step key edit
+        goes
+        content refl refl (inl refl));
   }
 
 -- the border is unlocked, and the call continues in the layer, whose head it knows
@@ -211,7 +197,7 @@ pub goes_below : (C : ℕ) (a : ArenaView) (log : LogView) (key : List ℕ) (edi
 goes_below C a log key edit way old_head head after is keeps = record {
   steps = λ now begun moves past w world before truth.
       let (goes, quiet) = ends C a log key edit way (λ next. HeadedStage C key edit (way_below way head) head Seeks begun after next) now w after is keeps world truth.0.0.border (truth.0.1, truth.0.2) in
-      record { goes = goes; does = (quiet, refl); reserved = refl; bounds = refl; blocked = inl refl; may = λ get. absurd (no_get key edit get) };
+      quiet_step key edit goes quiet.content refl refl (inl refl);
 }
 
 -- ---- what the calls of a step ask for

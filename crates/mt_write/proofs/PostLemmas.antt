@@ -39,7 +39,7 @@ use Rattle.mt_tree.proofs.AgeLemmas.{ages_lock}
 use Rattle.mt_steps.proofs.WayLemmas.{starts_at_head}
 use Rattle.mt_steps.proofs.FrameLemmas.{goes_same, quiet_same}
 use Rattle.mt_write.specs.declared.writing.Stage.TheVariants.{Seeks}
-use Rattle.mt_write.proofs.WriteLemmas.{no_get, seek_again, otherwise_tells, split_otherwise}
+use Rattle.mt_write.proofs.WriteLemmas.{seek_again, otherwise_tells, split_otherwise, quiet_step}
 
 -- ---- what is true of a call after a step, with more that lasts
 goes_more : (now : ℕ) (a after : ArenaView) (w : World) (owned owns : List ℕ) (Then More : World → Type 0) → (g : Goes now a after w owned owns Then) → (((begun : ℕ) → begun ≤ now → Evolves begun w.chart g.next.chart) → Then g.next → More g.next) → Goes now a after w owned owns More
@@ -100,20 +100,15 @@ module _ (C : ℕ) (a : ArenaView) (key : List ℕ) (edit : Edit) (way : Way) (h
   moves_on went visits next new_head is either = record {
     steps = λ now begun moves past w world before truth.
         let (way_on, move, deeper) = subst (λ (t : Went). GoesTo a begun key way w t) is (visits.goes now w begun world truth.0) in
-        record {
-          goes = goes_same now a w _ [] [] refl world (
-            way_on,
-            elim either [
-              | inl stays ↦ subst (λ (h : NodeNo). IsHeadOf w begun h.0 (prefix_of key next)) (sym stays.1) (subst (λ (l : ℕ). IsHeadOf w begun head.0 (slices_above l key)) (sym stays.0) truth.1)
-              | inr goes ↦ subst (λ (h : NodeNo). IsHeadOf w begun h.0 (prefix_of key next)) (sym goes.1) (elim deeper [ inl same ↦ absurd (goes.0 same) | inr known ↦ known.1 ])
-            ],
-          );
-          does = (quiet_same a log, refl);
-          reserved = refl;
-          bounds = refl;
-          blocked = inl refl;
-          may = λ get. absurd (no_get key edit get);
-        };
+        quiet_step key edit
+        (goes_same now a w _ [] [] refl world (
+          way_on,
+          elim either [
+            | inl stays ↦ subst (λ (h : NodeNo). IsHeadOf w begun h.0 (prefix_of key next)) (sym stays.1) (subst (λ (l : ℕ). IsHeadOf w begun head.0 (slices_above l key)) (sym stays.0) truth.1)
+            | inr goes ↦ subst (λ (h : NodeNo). IsHeadOf w begun h.0 (prefix_of key next)) (sym goes.1) (elim deeper [ inl same ↦ absurd (goes.0 same) | inr known ↦ known.1 ])
+          ],
+        ))
+        (quiet_same a log).content refl refl (inl refl);
   }
 
 -- ---- the left half is unlocked
@@ -179,12 +174,12 @@ module _ (C : ℕ) (a : ArenaView) (log : LogView) (key : List ℕ) (edit : Edit
     unlocks_left (EndStored commit) = record {
       steps = λ now begun moves past w world before truth.
           let (goes, quiet) = goes_on now begun w (EndStored commit) world before truth.0 tt truth.1 in
-          record { goes = goes; does = (quiet, refl); reserved = refl; bounds = refl; blocked = inl refl; may = λ get. absurd (no_get key edit get) };
+          quiet_step key edit goes quiet.content refl refl (inl refl);
     }
     unlocks_left (EndFailed refusal) = record {
       steps = λ now begun moves past w world before truth.
           let (goes, quiet) = goes_on now begun w (EndFailed refusal) world before truth.0.0 (record { may = truth.0.1; otherwise = split_otherwise a w key way refusal split truth.0.2 }) truth.1 in
-          record { goes = goes; does = (quiet, refl); reserved = refl; bounds = refl; blocked = inl refl; may = λ get. absurd (no_get key edit get) };
+          quiet_step key edit goes quiet.content refl refl (inl refl);
     }
 
 -- both halves are locked
@@ -196,9 +191,6 @@ pub is_locked_border : (a : ArenaView) (w : World) (number : ℕ) → IsLockedBo
 is_locked_border a w number k = subst (λ (o : Option BorderView). IsSomeAnd o (λ b. b.version.locked ≡ true)) (sym k.named) k.locked
 
 -- ---- a step of the posting
-abbrev pub posting_step : ℕ → ArenaView → ArenaView → LogView → List ℕ → Edit → Way → NodeNo → Posting → Ending → Stage → Type 0
-posting_step C a after log key edit way head posting ending stage = StepLaw C a after log log (edit_request key edit) (stage_held way.node.0 (Posts posting ending)) Moved (stage_held way.node.0 stage) (λ begun moves past x w. HeadedStage C key edit way head (Posts posting ending) begun x w) (λ begun moves past x w. HeadedStage C key edit way head stage begun x w)
-
 module _ (C : ℕ) (a after : ArenaView) (log : LogView) (key : List ℕ) (edit : Edit) (way : Way) (head : NodeNo) (posting then : Posting) (ending : Ending) (same : then ≡ record posting { waiting = then.waiting; stage = then.stage }) where
   abbrev PostingStep : Progress → Stage → Type 0
   PostingStep p stage = StepLaw C a after log log (edit_request key edit) (stage_held way.node.0 (Posts posting ending)) p (stage_held way.node.0 stage) (λ begun moves past x w. HeadedStage C key edit way head (Posts posting ending) begun x w) (λ begun moves past x w. HeadedStage C key edit way head stage begun x w)
@@ -210,14 +202,9 @@ module _ (C : ℕ) (a after : ArenaView) (log : LogView) (key : List ℕ) (edit 
   posts_on law = record {
     steps = λ now begun moves past w world before truth.
         let (goes, content) = law.steps now begun w world before truth.0.0 in
-        record {
-          goes = goes_more now a after w _ _ _ (λ x. HeadedStage C key edit way head (Posts then ending) begun after x) goes (λ evolves t. ((t, ap (λ (q : Posting). q.half) same ∙ truth.0.1, truth.0.2), known_on begun w goes.next (evolves begun before) truth.1));
-          does = (record { content = content; trimmed = refl; deltas = refl }, refl);
-          reserved = refl;
-          bounds = refl;
-          blocked = inl refl;
-          may = λ get. absurd (no_get key edit get);
-        };
+        quiet_step key edit
+        (goes_more now a after w _ _ _ (λ x. HeadedStage C key edit way head (Posts then ending) begun after x) goes (λ evolves t. ((t, ap (λ (q : Posting). q.half) same ∙ truth.0.1, truth.0.2), known_on begun w goes.next (evolves begun before) truth.1)))
+        content refl refl (inl refl);
   }
 
   pub posts_again : PostLaw a after posting Again then → PostingStep Waits (Posts then ending)
@@ -258,10 +245,10 @@ module _ (C : ℕ) (a after : ArenaView) (log : LogView) (key : List ℕ) (edit 
       go (EndStored commit) is = record {
         steps = λ now begun moves past w world before truth.
             let (goes, quiet) = ends_posting end now begun w (λ x. HeadedStage C key edit way head (Stored commit None) begun after x) world before law truth.0.0 truth.0.1 (λ next evolves has. (has, known_on begun w next evolves truth.1)) in
-            record { goes = goes; does = (quiet, refl); reserved = refl; bounds = refl; blocked = inl refl; may = λ get. absurd (no_get key edit get) };
+            quiet_step key edit goes quiet.content refl refl (inl refl);
       }
       go (EndFailed refusal) is = record {
         steps = λ now begun moves past w world before truth.
             let (goes, quiet) = ends_posting end now begun w (λ x. HeadedStage C key edit way head (Failed refusal None) begun after x) world before law truth.0.0 truth.0.1 (λ next evolves has. ((has, truth.0.2.may, otherwise_tells after next key way refusal None truth.0.2.otherwise), known_on begun w next evolves truth.1)) in
-            record { goes = goes; does = (quiet, refl); reserved = refl; bounds = refl; blocked = inl refl; may = λ get. absurd (no_get key edit get) };
+            quiet_step key edit goes quiet.content refl refl (inl refl);
       }

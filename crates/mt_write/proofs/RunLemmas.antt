@@ -42,11 +42,8 @@ same_trimmed log left held deltas same is =
 
 -- ---- a step
 quiet_unless : (C : ℕ) (past : List Arena) (a after : ArenaView) (log left : LogView) (request : Request) (held then : Held) (p : Progress) → Does C past a after log left request held.committed p then.committed → commits_in p ≡ 0 → IsQuiet a after log left
-quiet_unless C past a after log left request held then Moved does none = does.0
-quiet_unless C past a after log left request held then Waits does none = does.0
 quiet_unless C past a after log left request held then (Committed number) does none = absurd (let clash : ◌≡◌ {A = ℕ} 1 0 = none in cc)
-quiet_unless C past a after log left request held then (Answered answer) does none = does.0
-quiet_unless C past a after log left request held then (Refused refusal) does none = does.0
+quiet_unless C past a after log left request held then _ does none = does.0
 
 then_true : (p : Progress) → Advances p → (moves : ℕ) (True : ℕ → World → Type 0) (w : World) → ThenTrue p moves True w → (m : ℕ) × True m w
 then_true Moved on moves True w then = (moves + 1, then)

@@ -1,60 +1,56 @@
 -- What a step does, whole, of a write that is at a stage: for each stage.
-use Rattle.std.proofs.Common.{ℕ, zero, suc, ◌≡◌, ◌≢◌, ◌≤◌, ◌<◌, ◌+◌, ◌⊎◌, inl, inr, List, [], ◌∷◌, length, slice_get, arith, Option, Some, None, IsSome, true, false, refl, sym, ap, subst}
+use Rattle.std.proofs.Common.{ℕ, zero, suc, ◌≡◌, ◌≢◌, ◌≤◌, ◌<◌, ◌+◌, ◌⊎◌, inl, inr, List, [], ◌∷◌, length, slice_get, arith, Option, Some, None, IsSome, true, false, refl, sym, subst}
 use Rattle.std.specs.Prelude.{IsSomeAnd}
 use Rattle.mt_types.specs.declared.numbers.NodeNo.{NodeNo}
 use Rattle.mt_types.specs.declared.row.Row.{Row}
 use Rattle.mt_types.specs.declared.refusal.Refusal.{Refusal}
-use Rattle.mt_types.specs.declared.event.Answer.{Answer}
 use Rattle.mt_types.specs.declared.event.Answer.TheVariants.{Absent as AbsentAnswer}
 use Rattle.mt_commit.specs.Log.{LogView, newest, with_delta}
 use Rattle.mt_border.specs.Cut.{IsBestCut}
-use Rattle.mt_border.specs.Border.{BorderView, row_at, with_entries, with_hidden, with_link_at, with_lock, with_shown, with_split, with_value}
+use Rattle.mt_border.specs.Border.{BorderView, row_at, with_hidden, with_lock, with_shown, with_value}
 use Rattle.mt_border.specs.Entry.{entry_row}
 use Rattle.mt_border.specs.declared.entry.Entry.{Entry}
 use Rattle.mt_border.specs.declared.found.Found.TheVariants.{Row as RowFound}
-use Rattle.mt_interior.specs.Head.{with_lock as with_head_lock}
 use Rattle.mt_arena.specs.Node.{head_at, border_at}
-use Rattle.mt_arena.specs.Arena.{ArenaView, with_border_changed, with_head_changed}
+use Rattle.mt_arena.specs.Arena.{ArenaView, with_border_changed}
 use Rattle.mt_tree.specs.Spares.{MayFill}
-use Rattle.mt_tree.specs.Keeping.{KeepsTree, KeepsUnknown}
+use Rattle.mt_tree.specs.Keeping.{KeepsTree}
 use Rattle.mt_tree.specs.Descent.{found_for, row_found}
 use Rattle.mt_slice.specs.Place.{AreBytes}
 use Rattle.mt_border.specs.Order.{IsBorder}
 use Rattle.std.specs.Option.{IfSome, option_or}
-use Rattle.mt_tree.specs.BorderSteps.{HasLayerFor, HasRowAt, HidesRowAt, IsUpperHalf, LinksHalfAt, MakesLayerAt, MayShowAt, SetsRowAt, ShowsNext}
+use Rattle.mt_tree.specs.BorderSteps.{HasLayerFor, HasRowAt, HidesRowAt, IsUpperHalf, MayShowAt, SetsRowAt, ShowsNext}
 use Rattle.mt_tree.proofs.RowLemmas.{stands_at}
 use Rattle.mt_steps.specs.declared.way.Way.{Way}
 use Rattle.mt_steps.specs.declared.way.Went.{Went}
 use Rattle.mt_steps.specs.declared.way.Went.TheVariants.{Again, To, Here}
 use Rattle.mt_steps.specs.declared.progress.Progress.{Progress}
-use Rattle.mt_steps.specs.declared.progress.Progress.TheVariants.{Moved, Waits, Committed, Answered, Refused}
+use Rattle.mt_steps.specs.declared.progress.Progress.TheVariants.{Moved, Waits, Committed, Answered}
 use Rattle.mt_steps.specs.Causes.{IsMarkedAt, IsLockedAlready}
 use Rattle.mt_steps.specs.Way.{start, rest_of, prefix_of, MayGo, Visits}
 use Rattle.mt_steps.specs.Step.{MayStep, StepLaw}
 use Rattle.mt_steps.proofs.FoundLemmas.{some_and, some_at}
 use Rattle.mt_steps.proofs.GetLemmas.{may_go}
 use Rattle.mt_post.specs.declared.posting.Posting.{Posting}
-use Rattle.mt_post.specs.declared.posting.PostEnd.{PostEnd}
-use Rattle.mt_post.specs.declared.posting.Progressed.{Progressed}
-use Rattle.mt_post.specs.declared.posting.Progressed.TheVariants.{Moved as PostMoved, Waits as PostAgain, Ended}
-use Rattle.mt_post.specs.Posting.{MayPost, NewPostingIsTrue, PostLaw}
-use Rattle.mt_post.specs.Causes.{PostWaits}
+use Rattle.mt_post.specs.Posting.{MayPost}
 use Rattle.mt_write.specs.declared.writing.Write.{Write}
 use Rattle.mt_write.specs.declared.writing.Edit.{Edit}
 use Rattle.mt_write.specs.declared.writing.Edit.TheVariants.{Put as PutEdit, Remove as RemoveEdit}
 use Rattle.mt_write.specs.declared.writing.Halves.{Halves}
 use Rattle.mt_write.specs.declared.writing.Layer.{Layer}
 use Rattle.mt_write.specs.declared.writing.Ending.{Ending}
-use Rattle.mt_write.specs.declared.writing.Ending.TheVariants.{Stored as EndStored, Failed as EndFailed}
 use Rattle.mt_write.specs.declared.writing.Stage.{Stage}
-use Rattle.mt_write.specs.declared.writing.Stage.TheVariants.{Seeks, Locked, Spared, HalfFilled, Halved, Posts, LayerSpared, LayerFilled, LayerReady, Layered, Filled, Made, Taken, Stored, Failed}
-use Rattle.mt_write.specs.Writing.{edit_request, write_held, stage_held, written_answer, ending_stage, StageIsTrue, WriteIsTrue, MayStage, IsHalfOf, SomeSets, Prepares, PreparesRemove, put_delta, remove_delta, way_below}
-use Rattle.mt_write.specs.Causes.{StageWaits, StageFails, IsNotFailed, EndsWith, FailsBy, RemoveFailsBy, edit_fault, version_fault, put_fault, remove_fault, fill_fault}
-use Rattle.mt_write.specs.Follows.{WriteStep, TreeStep, MayBeAt, FindsNone, Follows, HeadGoes, PostsGo, PostingSteps, IsNewPosting, IsMadeReady, IsReadyIn}
-use Rattle.mt_write.proofs.WriteLemmas.{seek_waits, seek_locks, has_border_here, readies, differs, takes, lacks, half_readies, shows, writes, hides, answers, refuses, may_at}
-use Rattle.mt_write.proofs.HalfLemmas.{spared_fill, fills_half, filled_link, links, half_prefix}
-use Rattle.mt_write.proofs.NewLayerLemmas.{spared_root, fills_root, filled_head, unlocks_head, ready_link, links_layer, layered_locked, goes_below}
-use Rattle.mt_write.proofs.PostLemmas.{headed, headed_end, restarts, moves_on, unlocks_left, halves_locked, is_locked_border, posts_on, posts_again, posts_end}
+use Rattle.mt_write.specs.declared.writing.Stage.TheVariants.{Seeks, Locked, Spared, HalfFilled, Posts, LayerSpared, LayerFilled, LayerReady, Layered, Filled, Made, Taken, Stored, Failed}
+use Rattle.mt_write.specs.Writing.{edit_request, write_held, stage_held, ending_stage, StageIsTrue, WriteIsTrue, MayStage}
+use Rattle.mt_write.specs.Ready.{Prepares, PreparesRemove, put_delta, remove_delta}
+use Rattle.mt_write.specs.Causes.{StageWaits, StageFails, FailsBy, RemoveFailsBy, edit_fault, version_fault, put_fault, remove_fault}
+use Rattle.mt_write.specs.Follows.{WriteStep, TreeStep, MayBeAt, FindsNone, Follows, HeadGoes, PostsGo, IsMadeReady}
+use Rattle.mt_write.proofs.WriteLemmas.{seek_waits, seek_locks, may_at}
+use Rattle.mt_write.proofs.ReadyLemmas.{readies}
+use Rattle.mt_write.proofs.CommitLemmas.{differs, takes, lacks, shows, writes, hides}
+use Rattle.mt_write.proofs.HalfLemmas.{spared_fill, filled_link}
+use Rattle.mt_write.proofs.NewLayerLemmas.{spared_root, filled_head, ready_link, layered_locked}
+use Rattle.mt_write.proofs.PostLemmas.{headed, headed_end, restarts, moves_on, halves_locked, is_locked_border}
 
 -- ---- at the stage of a write, what was proved of a stage that was taken out of it
 pub at_step : (C : ℕ) (a after : ArenaView) (log left : LogView) (write : Write) (idle stage : Stage) (p : Progress) (then : Write) → write.stage ≡ stage → WriteStep C a after log left (record write { stage = idle }) stage p then → WriteStep C a after log left write write.stage p then
@@ -164,9 +160,6 @@ module _ (a : ArenaView) (write : Write) where
 pub may_seek : (a : ArenaView) (write : Write) → MayBeAt a write Seeks → MayGo a write.key write.way
 may_seek a write (C, log, may) = may_go a write.key write.way may.now may.begun may.w may.world may.true.0
 
-pub border_here : (a : ArenaView) (write : Write) (went : Went) → Visits a write.key write.way went → went ≡ Here → MayBeAt a write Seeks → IsSome (border_at a.nodes write.way.node.0)
-border_here a write went visits is (C, log, may) = has_border_here a write.key write.way went visits may.now may.begun may.w may.world may.true.0 is
-
 module _ (a : ArenaView) (write : Write) (went : Went) (visits : Visits a write.key write.way went) (idle : write.stage ≡ Seeks) where
   pub seeks_again : IsMarkedAt a write.way.node.0 → TreeStep a a write Seeks Waits (record write { way = start; head = record { 0 = 0 } })
   seeks_again marked = λ C log. subst (λ (s : Stage). WriteStep C a a log log write Seeks Waits (record { key = write.key; edit = write.edit; way = start; head = record { 0 = 0 }; stage = s })) (sym idle) (record {
@@ -225,34 +218,13 @@ put_ready C a after log left key sets way (LayerSpared layer entries) f = tt
 put_ready C a after log left key sets way (Filled place stored logged split) f = f.0
 put_ready C a after log left key sets way (Made place stored columns logged) f = tt
 put_ready C a after log left key sets way (Failed refusal split) f = f.0
-put_ready C a after log left key sets way Seeks f = absurd f
-put_ready C a after log left key sets way Locked f = absurd f
-put_ready C a after log left key sets way (HalfFilled half cut) f = absurd f
-put_ready C a after log left key sets way (Halved split) f = absurd f
-put_ready C a after log left key sets way (Posts posting ending) f = absurd f
-put_ready C a after log left key sets way (LayerFilled layer) f = absurd f
-put_ready C a after log left key sets way (LayerReady layer) f = absurd f
-put_ready C a after log left key sets way (Layered head) f = absurd f
-put_ready C a after log left key sets way (Taken place stored before) f = absurd f
-put_ready C a after log left key sets way (Stored number split) f = absurd f
+put_ready C a after log left key sets way _ f = absurd f
 
 -- what a remove makes ready
 remove_ready : (a : ArenaView) (log left : LogView) (key : List ℕ) (way : Way) (stage : Stage) → PreparesRemove key way a log (Some stage) left → IsMadeReady a way stage
 remove_ready a log left key way (Taken place stored before) f = tt
 remove_ready a log left key way (Failed refusal split) f = f.0
-remove_ready a log left key way Seeks f = absurd f
-remove_ready a log left key way Locked f = absurd f
-remove_ready a log left key way (Spared half cut entries) f = absurd f
-remove_ready a log left key way (HalfFilled half cut) f = absurd f
-remove_ready a log left key way (Halved split) f = absurd f
-remove_ready a log left key way (Posts posting ending) f = absurd f
-remove_ready a log left key way (LayerSpared layer entries) f = absurd f
-remove_ready a log left key way (LayerFilled layer) f = absurd f
-remove_ready a log left key way (LayerReady layer) f = absurd f
-remove_ready a log left key way (Layered head) f = absurd f
-remove_ready a log left key way (Filled place stored logged split) f = absurd f
-remove_ready a log left key way (Made place stored columns logged) f = absurd f
-remove_ready a log left key way (Stored number split) f = absurd f
+remove_ready a log left key way _ f = absurd f
 
 module _ (C : ℕ) (a after : ArenaView) (log left : LogView) (write : Write) where
   -- what is found at its border for its key
@@ -357,168 +329,3 @@ module _ (C : ℕ) (a : ArenaView) (log : LogView) (write : Write) where
       leads C a a log log write Locked Moved (Failed refusal None) write.way refl (differs C a log write.key write.edit write.way sets only refusal is bytes fault) tt
       (tt, faults_at C a a log log write sets only (Some refusal) (Failed refusal None) fault fails is)
       (refl, refl) refl tt
-
--- ---- a split
-one_or_none : {x : Halves} → ◌≡◌ {A = Option Halves} (Some x) None → ⊥
-one_or_none e = cc
-
--- what is made ready in a half
-half_ready : (C : ℕ) (a after : ArenaView) (log left : LogView) (key : List ℕ) (sets : List (ℕ × List ℕ)) (way : Way) (split : Halves) (stage : Stage) → Prepares C key sets way a log (Some split) stage after left → IsReadyIn split stage
-half_ready C a after log left key sets way split (Filled place stored logged halves) f = f.0
-half_ready C a after log left key sets way split (Failed refusal halves) f = f.0
-half_ready C a after log left key sets way split (Spared half cut entries) f = absurd (one_or_none f.0)
-half_ready C a after log left key sets way split (LayerSpared layer entries) f = absurd (one_or_none f.0)
-half_ready C a after log left key sets way split (Made place stored columns logged) f = absurd (one_or_none f.0)
-half_ready C a after log left key sets way split Seeks f = absurd f
-half_ready C a after log left key sets way split Locked f = absurd f
-half_ready C a after log left key sets way split (HalfFilled half cut) f = absurd f
-half_ready C a after log left key sets way split (Halved halves) f = absurd f
-half_ready C a after log left key sets way split (Posts posting ending) f = absurd f
-half_ready C a after log left key sets way split (LayerFilled layer) f = absurd f
-half_ready C a after log left key sets way split (LayerReady layer) f = absurd f
-half_ready C a after log left key sets way split (Layered head) f = absurd f
-half_ready C a after log left key sets way split (Taken place stored before) f = absurd f
-half_ready C a after log left key sets way split (Stored number halves) f = absurd f
-
-edit_ready : (C : ℕ) (a after : ArenaView) (log left : LogView) (key : List ℕ) (edit : Edit) (way : Way) (split : Halves) (stage : Stage) → SomeSets edit (λ sets. Prepares C key sets way a log (Some split) stage after left) → IsReadyIn split stage
-edit_ready C a after log left key (PutEdit sets only) way split stage ready = half_ready C a after log left key sets way split stage ready
-edit_ready C a after log left key RemoveEdit way split stage ready = absurd ready
-
-pub readies_half : (C : ℕ) (a after : ArenaView) (log left : LogView) (write : Write) (split : Halves) (stage : Stage) → SomeSets write.edit (λ sets. Prepares C write.key sets write.way a log (Some split) stage after left)
-    → IsSomeAnd (border_at a.nodes write.way.node.0) (λ b. FailsBy (fill_fault log b) (Some split) stage) → WriteStep C a after log left write (Halved split) Moved (record write { stage = stage })
-readies_half C a after log left write split stage ready fault =
-    leads C a after log left write (Halved split) Moved stage write.way refl (half_readies C a log write.key write.edit write.way split stage after left ready) tt (tt, fault)
-    (edit_ready C a after log left write.key write.edit write.way split stage ready, refl) refl tt
-
-same_layer : (a : ArenaView) (key : List ℕ) (way goal : Way) (half : NodeNo) → IsSomeAnd (border_at a.nodes half.0) (λ upper. IsHalfOf key way half upper.low goal) → goal.layer ≡ way.layer
-same_layer a key way goal half either =
-    let (r, read, one) = some_and _ (border_at a.nodes half.0) either in
-    elim one [ inl left ↦ ap (λ (w : Way). w.layer) left.1 | inr right ↦ ap (λ (w : Way). w.layer) right.1 ]
-
-module _ (a after : ArenaView) (write : Write) where
-  pub fills_spared : (half : NodeNo) (cut : ℕ) (entries : List Entry) → IsSomeAnd (border_at a.nodes write.way.node.0) (λ b. after ≡ with_border_changed a half.0 (λ spare. with_entries spare entries b.right)) → KeepsUnknown a after half.0
-      → TreeStep a after write (Spared half cut entries) Moved (record write { stage = HalfFilled half cut })
-  fills_spared half cut entries filled keeps = λ C log.
-      leads C a after log log write (Spared half cut entries) Moved (HalfFilled half cut) write.way refl (fills_half C a log write.key write.edit write.way half cut entries after filled keeps) tt (tt, tt) (refl, refl) refl tt
-
-  pub links_half : (half : NodeNo) (cut : ℕ) (goal : Way) → IsSomeAnd (border_at a.nodes half.0) (λ upper. after ≡ with_border_changed a write.way.node.0 (λ b. with_split b cut (record { low = upper.low; node = half }))) → LinksHalfAt a after write.way.node.0 half.0
-      → IsSomeAnd (border_at a.nodes half.0) (λ upper. IsHalfOf write.key write.way half upper.low goal) → TreeStep a after write (HalfFilled half cut) Moved (record write { way = goal; stage = Halved (record { left = write.way.node; half = half }) })
-  links_half half cut goal linked keeps either = λ C log.
-      leads C a after log log write (HalfFilled half cut) Moved (Halved (record { left = write.way.node; half = half })) goal (half_prefix a write.key write.way goal half either)
-      (links C a log write.key write.edit write.way half cut goal after linked keeps either) tt (tt, tt) (refl, same_layer a write.key write.way goal half either) refl tt
-
-  -- ---- a new layer
-  pub fills_layer : (layer : Layer) (entries : List Entry) → after ≡ with_border_changed a layer.root.0 (λ b. with_entries b entries None) → KeepsUnknown a after layer.root.0 → TreeStep a after write (LayerSpared layer entries) Moved (record write { stage = LayerFilled layer })
-  fills_layer layer entries filled keeps = λ C log.
-      leads C a after log log write (LayerSpared layer entries) Moved (LayerFilled layer) write.way refl (fills_root C a log write.key write.edit write.way layer entries after filled keeps) tt (tt, tt) (refl, refl) refl tt
-
-  pub unlocks_layer : (layer : Layer) → after ≡ with_head_changed a layer.head.0 (λ head. with_head_lock head false) → KeepsTree a after → TreeStep a after write (LayerFilled layer) Moved (record write { stage = LayerReady layer })
-  unlocks_layer layer unlocked keeps = λ C log.
-      leads C a after log log write (LayerFilled layer) Moved (LayerReady layer) write.way refl (unlocks_head C a log write.key write.edit write.way layer after unlocked keeps) tt (tt, tt) (refl, refl) refl tt
-
-  pub links_below : (layer : Layer) → after ≡ with_border_changed a write.way.node.0 (λ b. with_link_at b layer.place layer.head) → MakesLayerAt a after write.way.node.0 layer.place layer.head.0 → TreeStep a after write (LayerReady layer) Moved (record write { stage = Layered layer.head })
-  links_below layer linked makes = λ C log.
-      leads C a after log log write (LayerReady layer) Moved (Layered layer.head) write.way refl (links_layer C a log write.key write.edit write.way layer after linked makes) tt (tt, tt) (refl, refl) refl tt
-
-  module _ (keeps : KeepsTree a after) where
-    pub enters_layer : (head : NodeNo) → after ≡ with_border_changed a write.way.node.0 (λ b. with_lock b false) → TreeStep a after write (Layered head) Moved (record write { way = way_below write.way head; head = head; stage = Seeks })
-    enters_layer head unlocked = λ C log. record {
-      request = refl;
-      law = goes_below C a log write.key write.edit write.way write.head head after unlocked keeps;
-      waits = tt;
-      fails = (tt, tt);
-      follows = (refl, refl);
-      head = refl;
-      posts = tt;
-    }
-
-    -- ---- the end
-    pub ends_stored : (commit : ℕ) (split : Option Halves) (answer : Answer) → split ≡ None → write.stage ≡ Seeks → answer ≡ written_answer write.edit commit → after ≡ with_border_changed a write.way.node.0 (λ b. with_lock b false) → TreeStep a after write (Stored commit split) (Answered answer) write
-    ends_stored commit split answer none idle answer_is unlocked = λ C log. subst (λ (s : Option Halves). WriteStep C a after log log write (Stored commit s) (Answered answer) write) (sym none)
-        (closes C a after log log write (Stored commit None) (Answered answer) (answers C a log write.key write.edit write.way commit answer answer_is (write_held write) (WriteIsTrue C write) after unlocked keeps) tt
-        (tt, subst (λ (s : Stage). IsNotFailed s) (sym idle) tt) refl refl tt)
-
-    pub ends_failed : (refusal : Refusal) (split : Option Halves) → split ≡ None → after ≡ with_border_changed a write.way.node.0 (λ b. with_lock b false) → TreeStep a after write (Failed refusal split) (Refused refusal) write
-    ends_failed refusal split none unlocked = λ C log. subst (λ (s : Option Halves). WriteStep C a after log log write (Failed refusal s) (Refused refusal) write) (sym none)
-        (closes C a after log log write (Failed refusal None) (Refused refusal) (refuses C a log write.key write.edit write.way refusal (write_held write) (WriteIsTrue C write) after unlocked keeps) tt (refl, refl) refl refl tt)
-
-    -- the left half is unlocked, and the posting of the other begins
-    pub begins_posting : (split : Halves) (posting : Posting) → IsNewPosting write.head split.half posting → NewPostingIsTrue posting → (b : BorderView) → border_at a.nodes split.half.0 ≡ Some b → posting.low ≡ b.low → after ≡ with_border_changed a split.left.0 (λ b. with_lock b false)
-        → (ending : Ending) → TreeStep a after write (ending_stage ending (Some split)) Moved (record write { way = record { node = split.half; layer = write.way.layer }; stage = Posts posting ending })
-    begins_posting split posting new begins b named low unlocked (EndStored commit) = λ C log. record {
-      request = refl;
-      law = unlocks_left C a log write.key write.edit write.way split after unlocked keeps write.head posting new.same_head new.same_half b named low begins (EndStored commit);
-      waits = tt;
-      fails = (tt, tt);
-      follows = (refl, λ e. one_or_none e);
-      head = refl;
-      posts = new;
-    }
-    begins_posting split posting new begins b named low unlocked (EndFailed refusal) = λ C log. record {
-      request = refl;
-      law = unlocks_left C a log write.key write.edit write.way split after unlocked keeps write.head posting new.same_head new.same_half b named low begins (EndFailed refusal);
-      waits = tt;
-      fails = (tt, refl);
-      follows = (refl, λ e. one_or_none e);
-      head = refl;
-      posts = new;
-    }
-
-  -- the same stage, if the halves are known
-  pub of_halves : (stage : Option Halves → Stage) (split : Option Halves) (halves : Halves) (p : Progress) (then : Write) → split ≡ Some halves → TreeStep a after write (stage (Some halves)) p then → TreeStep a after write (stage split) p then
-  of_halves stage split halves p then is steps = subst (λ (s : Option Halves). TreeStep a after write (stage s) p then) (sym is) steps
-
-  -- ---- a step of its posting
-  module _ (posting then : Posting) (p : Progressed) (law : PostLaw a after posting p then) (steps : PostingSteps a after posting p then) where
-    pub posting_moves : (ending : Ending) → p ≡ PostMoved → TreeStep a after write (Posts posting ending) Moved (record write { stage = Posts then ending })
-    posting_moves ending is = λ C log. record {
-      request = refl;
-      law = posts_on C a after log write.key write.edit write.way write.head posting then ending steps.same (subst (λ (q : Progressed). PostLaw a after posting q then) is law);
-      waits = tt;
-      fails = (tt, goes_on ending);
-      follows = ((refl, (subst (λ (q : Progressed). PostingSteps a after posting q then) is steps).gets_on), refl);
-      head = refl;
-      posts = subst (λ (q : Progressed). PostingSteps a after posting q then) is steps;
-    }
-      where
-        goes_on : (ending : Ending) → EndsWith ending (Posts then ending)
-        goes_on (EndStored commit) = tt
-        goes_on (EndFailed refusal) = tt
-
-    pub posting_waits : (ending : Ending) → p ≡ PostAgain → PostWaits a posting p → TreeStep a after write (Posts posting ending) Waits (record write { stage = Posts then ending })
-    posting_waits ending is waits = λ C log. record {
-      request = refl;
-      law = posts_again C a after log write.key write.edit write.way write.head posting then ending steps.same (subst (λ (q : Progressed). PostLaw a after posting q then) is law);
-      waits = subst (λ (q : Progressed). PostWaits a posting q) is waits;
-      fails = (tt, goes_on ending);
-      follows = (refl, refl);
-      head = refl;
-      posts = subst (λ (q : Progressed). PostingSteps a after posting q then) is steps;
-    }
-      where
-        goes_on : (ending : Ending) → EndsWith ending (Posts then ending)
-        goes_on (EndStored commit) = tt
-        goes_on (EndFailed refusal) = tt
-
-    posting_done : (end : PostEnd) → p ≡ Ended end → (ending : Ending) → TreeStep a after write (Posts posting ending) Moved (record write { stage = ending_stage ending None })
-    posting_done end is (EndStored commit) = λ C log. record {
-      request = refl;
-      law = posts_end C a after log write.key write.edit write.way write.head posting then (EndStored commit) steps.same end (subst (λ (q : Progressed). PostLaw a after posting q then) is law);
-      waits = tt;
-      fails = (tt, tt);
-      follows = (refl, refl);
-      head = refl;
-      posts = (then, end, subst (λ (q : Progressed). PostingSteps a after posting q then) is steps);
-    }
-    posting_done end is (EndFailed refusal) = λ C log. record {
-      request = refl;
-      law = posts_end C a after log write.key write.edit write.way write.head posting then (EndFailed refusal) steps.same end (subst (λ (q : Progressed). PostLaw a after posting q then) is law);
-      waits = tt;
-      fails = (tt, refl);
-      follows = (refl, refl);
-      head = refl;
-      posts = (then, end, subst (λ (q : Progressed). PostingSteps a after posting q then) is steps);
-    }
-
-    pub posting_ends : (end : PostEnd) (ending : Ending) (stage : Stage) → p ≡ Ended end → stage ≡ ending_stage ending None → TreeStep a after write (Posts posting ending) Moved (record write { stage = stage })
-    posting_ends end ending stage is stage_is = subst (λ (s : Stage). TreeStep a after write (Posts posting ending) Moved (record write { stage = s })) (sym stage_is) (posting_done end is ending)

@@ -29,13 +29,14 @@ use Rattle.mt_write.specs.declared.writing.Write.{Write}
 use Rattle.mt_write.specs.declared.writing.Edit.TheVariants.{Put as PutEdit, Remove as RemoveEdit}
 use Rattle.mt_write.specs.declared.writing.Stage.{Stage}
 use Rattle.mt_write.specs.declared.writing.Stage.TheVariants.{Failed, Filled, Locked, Made, Stored, Taken}
-use Rattle.mt_write.specs.Writing.{Fills, FillsNew, Prepares, new_entry, put_delta, remove_delta, with_room}
+use Rattle.mt_write.specs.Writing.{new_entry}
+use Rattle.mt_write.specs.Ready.{Fills, FillsNew, Prepares, put_delta, remove_delta, with_room}
 use Rattle.mt_write.specs.Causes.{FailsBy, IsNotFailed, ReadyFor, RemoveFailsBy, fill_fault, put_fault, remove_fault, version_fault}
 use Rattle.mt_write.specs.Follows.{WriteStep}
-use Rattle.mt_write.specs.Runs.{CommitsAt, IsTrimmed, MayRun}
+use Rattle.mt_write.specs.Runs.{CommitsAt, MayAct}
 use Rattle.mt_write.proofs.CauseLemmas.{ready_err, ready_ok, room_ready}
 use Rattle.mt_write.proofs.FindLemmas.{faults_told, found_is, found_stands}
-use Rattle.mt_write.proofs.FinishLemmas.{may_commit, state}
+use Rattle.mt_write.proofs.FinishLemmas.{may_commit}
 use Rattle.mt_write.proofs.StageSteps.{hides_row, may_show, readies_put, readies_remove, row_there, shows_row, writes_row}
 
 -- ---- why what was to be made was not made
@@ -89,8 +90,12 @@ module _ (C : ℕ) (a between after : ArenaView) (log left last : LogView) (writ
       }
 
 -- there is room for the delta
-has_room : (log left : LogView) → left ≡ with_room log → 1 ≤ left.reserved
+pub has_room : (log left : LogView) → left ≡ with_room log → 1 ≤ left.reserved
 has_room log left reserved = subst (λ (l : LogView). 1 ≤ l.reserved) (sym reserved) (omega arith)
+
+some_for : (place : ℕ) (o : Option BorderView) → IsSomeAnd o (λ x. (version : ℕ) → MayShowAt x place version) → (version : ℕ) → IsSomeAnd o (λ x. MayShowAt x place version)
+some_for place (Some x) may version = may version
+some_for place None may version = may
 
 -- ---- a put
 module _ (C : ℕ) (a : ArenaView) (log left : LogView) (write : Write) (sets : List (ℕ × List ℕ)) (only : Option ℕ) (is : write.edit ≡ PutEdit sets only) (found : Found) (f : Finds a write.key write.way found)
@@ -123,13 +128,16 @@ module _ (C : ℕ) (a : ArenaView) (log left : LogView) (write : Write) (sets : 
         (refl, record { b = b; named = named; made = record { bytes = bytes; fits = fits; sound = sound; stored_is = refl; there = there (RowFound place) row; made = ready.0; copied = refl }; same = refl; reserved = ready.1 })
         (made_ready (List (List ℕ)) (reserve_fault log) made (Made place write.key made made) tt fault)
 
-    pub passes_over : (after : ArenaView) (last : LogView) (number : ℕ) → number ≡ newest left + 1 → after ≡ with_border_changed a write.way.node.0 (λ x. with_value x place (record { version = newest left + 1; columns = made }))
-        → SetsRowAt a after write.way.node.0 place (record { version = newest left + 1; columns = made }) → ((delta : Delta) → last ≡ trimmed (with_delta left delta)) → newest last ≡ newest left + 1 → IsLog left → IsArena a → CommitsAt C a after log last write number
-    passes_over after last number next written sets_row passed newest_is sound_left arena =
+    pub passes_over : (after : ArenaView) (last : LogView) (number : ℕ) → number ≡ newest last → after ≡ with_border_changed a write.way.node.0 (λ x. with_value x place (record { version = number; columns = made }))
+        → SetsRowAt a after write.way.node.0 place (record { version = number; columns = made }) → ((delta : Delta) → last ≡ trimmed (with_delta left delta)) → newest last ≡ newest left + 1 → IsLog left → IsArena a → CommitsAt C a after log last write number
+    passes_over after last number is_last written sets_row passed newest_is sound_left arena =
+        let next : number ≡ newest left + 1 = is_last ∙ newest_is in
         let delta : Delta = put_delta (newest left + 1) write.key (row_at place b.live) made in
         let room = has_room log left ready.1 in
         passes C a a after log left last write (Made place write.key made made) number delta readies_over
-        (writes_row C a after left (with_delta left delta) write place write.key made made number next written sets_row
+        (writes_row C a after left (with_delta left delta) write place write.key made made number next
+        (subst (λ (n : ℕ). after ≡ with_border_changed a write.way.node.0 (λ x. with_value x place (record { version = n; columns = made }))) next written)
+        (subst (λ (n : ℕ). SetsRowAt a after write.way.node.0 place (record { version = n; columns = made })) next sets_row)
         (subst (λ (o : Option BorderView). IsSomeAnd o (λ x. with_delta left delta ≡ with_delta left (put_delta (newest left + 1) write.key (row_at place x.live) made))) (sym named) refl) room)
         refl room (passed delta) newest_is sound_left arena
 
@@ -164,16 +172,18 @@ module _ (C : ℕ) (a : ArenaView) (log left : LogView) (write : Write) (sets : 
     readies_new : WriteStep C a between log left write Locked Moved (record write { stage = filled })
     readies_new = readies (AbsentFound place) none between filled (refl, fills_there) (room_ready a log b place (Ok filled) room (made_ready T (fill_fault log b) done filled tt fault))
 
-    pub may_show_new : MayRun C (state a log (record write { stage = Locked })) → IsTrimmed log → IsArena a → IsSomeAnd (border_at between.nodes write.way.node.0) (λ x. (version : ℕ) → MayShowAt x place version)
-    may_show_new may is_trimmed arena = may_show between write left place write.key (columns_after C sets None) None (C, may_commit C a log write may is_trimmed arena between left filled readies_new)
+    pub may_show_new : MayAct C a log write found → (version : ℕ) → IsSomeAnd (border_at between.nodes write.way.node.0) (λ x. MayShowAt x place version)
+    may_show_new may version = some_for place (border_at between.nodes write.way.node.0) (may_show between write left place write.key (columns_after C sets None) None (C, may_commit C a log write may.may may.trimmed may.arena between left filled readies_new)) version
 
-    pub passes_new : (after : ArenaView) (last : LogView) (number : ℕ) → number ≡ newest left + 1 → after ≡ with_border_changed between write.way.node.0 (λ x. with_shown x place (newest left + 1))
-        → ShowsNext between after write.way.node.0 (newest left + 1) → ((delta : Delta) → last ≡ trimmed (with_delta left delta)) → newest last ≡ newest left + 1 → IsLog left → IsArena between → CommitsAt C a after log last write number
-    passes_new after last number next shown shows passed newest_is sound_left arena =
+    pub passes_new : (after : ArenaView) (last : LogView) (number : ℕ) → number ≡ newest last → after ≡ with_border_changed between write.way.node.0 (λ x. with_shown x place number)
+        → ShowsNext between after write.way.node.0 number → ((delta : Delta) → last ≡ trimmed (with_delta left delta)) → newest last ≡ newest left + 1 → IsLog left → IsArena between → CommitsAt C a after log last write number
+    passes_new after last number is_last shown shows passed newest_is sound_left arena =
+        let next : number ≡ newest left + 1 = is_last ∙ newest_is in
         let delta : Delta = put_delta (newest left + 1) write.key None (columns_after C sets None) in
         let room = has_room log left reserved in
         passes C a between after log left last write filled number delta readies_new
-        (shows_row C between after left (with_delta left delta) write place write.key (columns_after C sets None) None number next shown shows refl room)
+        (shows_row C between after left (with_delta left delta) write place write.key (columns_after C sets None) None number next
+        (subst (λ (n : ℕ). after ≡ with_border_changed between write.way.node.0 (λ x. with_shown x place n)) next shown) (subst (λ (n : ℕ). ShowsNext between after write.way.node.0 n) next shows) refl room)
         refl room (passed delta) newest_is sound_left arena
 
 -- ---- a remove
@@ -206,9 +216,10 @@ module _ (C : ℕ) (a : ArenaView) (log left : LogView) (write : Write) (is : wr
         (by_log (Taken place write.key before) (ready_ok (reserve_fault log) (Ok (Taken place write.key before)) (Taken place write.key before) None (made_ready T (reserve_fault log) done (Taken place write.key before) tt fault) refl))
         (Taken place write.key before) refl
 
-    pub passes_found : (after : ArenaView) (last : LogView) (number : ℕ) → number ≡ newest left + 1 → after ≡ with_border_changed a write.way.node.0 (λ x. with_hidden x place) → HidesRowAt a after write.way.node.0 place
+    pub passes_found : (after : ArenaView) (last : LogView) (number : ℕ) → number ≡ newest last → after ≡ with_border_changed a write.way.node.0 (λ x. with_hidden x place) → HidesRowAt a after write.way.node.0 place
         → ((delta : Delta) → last ≡ trimmed (with_delta left delta)) → newest last ≡ newest left + 1 → IsLog left → IsArena a → CommitsAt C a after log last write number
-    passes_found after last number next hidden hides passed newest_is sound_left arena =
+    passes_found after last number is_last hidden hides passed newest_is sound_left arena =
+        let next : number ≡ newest left + 1 = is_last ∙ newest_is in
         let (before, copied) = row_is (row_at place b.live) has_row in
         let delta : Delta = remove_delta (newest left + 1) write.key before in
         let room = has_room log left reserved in

@@ -1,5 +1,6 @@
 -- What the contracts of puts and removes cite.
 pub mod Writing
+pub mod Ready
 pub mod Causes
 pub mod Follows
 pub mod Runs

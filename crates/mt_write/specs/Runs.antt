@@ -1,5 +1,7 @@
 -- Runs of a put or remove: its steps one after the other, after each of which the log is trimmed.
-use Rattle.std.specs.Prelude.{ℕ, ◌≡◌, ◌≤◌, ◌+◌, ◌-◌, min, List, [], ◌∷◌, length, sum_by, All, None}
+use Rattle.std.specs.Prelude.{ℕ, ◌≡◌, ◌≤◌, ◌+◌, ◌-◌, min, List, [], ◌∷◌, length, sum_by, All, Option, Some, None, Result, Ok, Err}
+use Rattle.mt_types.specs.declared.refusal.Refusal.{Refusal}
+use Rattle.mt_border.specs.declared.found.Found.{Found}
 use Rattle.mt_commit.specs.Log.{LogView, IsLog, newest, slowest, trimmed}
 use Rattle.mt_arena.specs.Arena.{ArenaView, IsArena}
 use Rattle.mt_chart.specs.Tree.{Arena}
@@ -7,12 +9,13 @@ use Rattle.mt_steps.specs.declared.progress.Progress.{Progress}
 use Rattle.mt_steps.specs.declared.progress.Progress.TheVariants.{Moved, Committed}
 use Rattle.mt_steps.specs.World.{World, IsWorld}
 use Rattle.mt_steps.specs.Step.{bounds}
+use Rattle.mt_steps.specs.Way.{Finds}
 use Rattle.mt_write.specs.declared.running.WriteRun.{WriteRun}
 use Rattle.mt_write.specs.declared.finishing.AtBorder.{AtBorder}
 use Rattle.mt_write.specs.declared.finishing.AtBorder.TheVariants.{Absent, Commits, Ready}
 use Rattle.mt_write.specs.declared.writing.Write.{Write}
 use Rattle.mt_write.specs.declared.writing.Stage.{Stage}
-use Rattle.mt_write.specs.declared.writing.Stage.TheVariants.{Locked, Stored}
+use Rattle.mt_write.specs.declared.writing.Stage.TheVariants.{Locked, Stored, Failed}
 use Rattle.mt_write.specs.Writing.{WriteIsTrue, write_held}
 use Rattle.mt_write.specs.Follows.{FindsNone, WriteStep}
 
@@ -25,6 +28,9 @@ pub record WriteState : Type 0 where
   pub tree : ArenaView
   pub log : LogView
   pub write : Write
+
+abbrev pub state : ArenaView → LogView → Write → WriteState
+state a log write = record { tree = a; log = log; write = write }
 
 -- what a run asks: there is a world in which the call's record is true, the call began in no later epoch than the present
 -- one, and the log has the room that the call has reserved
@@ -75,6 +81,14 @@ pub record HasRun (C : ℕ) (s : WriteState) (run : WriteRun) (t : WriteState) :
   pub many : run.steps ≡ length steps + 1
   pub commits : run.commits ≡ sum_by commits_in steps + commits_in run.last
 
+-- what a write asks at the border that it has locked, where it has found this
+pub record MayAct (C : ℕ) (a : ArenaView) (log : LogView) (write : Write) (found : Found) : Type 0 where
+  pub may : MayRun C (state a log (record write { stage = Locked }))
+  pub trimmed : IsTrimmed log
+  pub arena : IsArena a
+  pub sound : IsLog log
+  pub finds : Finds a write.key write.way found
+
 -- AT ITS BORDER, which it has locked, a write makes a stage ready and commits: two steps, and the log is trimmed
 pub record CommitsAt (C : ℕ) (a after : ArenaView) (log left : LogView) (write : Write) (commit : ℕ) : Type 0 where
   pub between : ArenaView
@@ -89,6 +103,13 @@ pub record CommitsAt (C : ℕ) (a after : ArenaView) (log left : LogView) (write
   pub sound : IsLog appended
   pub trims : left ≡ trimmed appended
   pub newest_stays : newest left ≡ newest appended
+
+-- without a delta it has made the commit of a number there, or none, or has failed
+abbrev pub CommitsUnread : ℕ → ArenaView → ArenaView → LogView → LogView → Write → Result (Option ℕ) Refusal → Type 0
+CommitsUnread C a after log left write (Ok None) = (after ≡ a) × (left ≡ log)
+CommitsUnread C a after log left write (Ok (Some commit)) = CommitsAt C a after log left write commit
+CommitsUnread C a after log left write (Err refusal) = WriteStep C a after log left write Locked Moved
+    (record write { stage = Failed refusal None })
 
 -- so much it has done there: it has found no row to remove, or committed, or made another stage ready
 abbrev pub ComesTo : ℕ → ArenaView → ArenaView → LogView → LogView → Write → AtBorder → Type 0

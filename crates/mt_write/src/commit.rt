@@ -1,13 +1,13 @@
 //! The commits of a write: a row is shown, written over another, or hidden, and its delta is logged, in one step.
 
 ghost use Rattle.std.specs.Prelude.{◌≡◌, ℕ, ◌<◌, ◌+◌, IsSomeAnd, None};
-ghost use Rattle.mt_types.specs.declared.row.Delta.{Delta as DeltaView};
-ghost use Rattle.mt_commit.specs.Log.{newest, trimmed, with_delta, IsLog, IsUnread};
+ghost use Rattle.mt_commit.specs.Log.{newest, with_delta};
 ghost use Rattle.mt_border.specs.Border.{row_at, with_hidden, with_shown, with_value};
 ghost use Rattle.mt_arena.specs.Node.{border_at};
 ghost use Rattle.mt_arena.specs.Arena.{with_border_changed};
 ghost use Rattle.mt_tree.specs.BorderSteps.{MayShowAt, ShowsNext, HasRowAt, HidesRowAt, SetsRowAt};
-ghost use Rattle.mt_write.specs.Writing.{put_delta, remove_delta, MayStage};
+ghost use Rattle.mt_write.specs.Writing.{MayStage};
+ghost use Rattle.mt_write.specs.Ready.{put_delta, remove_delta};
 ghost use Rattle.mt_write.specs.Follows.{WriteStep};
 
 use crate::writing::{Halves, Stage, Write};
@@ -45,24 +45,6 @@ pub fn show(
             columns: logged,
         }),
     });
-    commit
-}
-
-// The commit of a row that is in the first unused slot, if no delta would stay in the log.
-pub fn show_unread(tree: &mut Tree, log: &mut Log, number: NodeNo, place: usize) -> u64
-    requires shows { IsSomeAnd (border_at tree.old.nodes number.0) (λ b. (version : ℕ) → MayShowAt b place version) }
-    requires room { 0 < log.old.reserved }
-    requires unread { IsUnread log.old }
-    ensures number { result ≡ newest log.old + 1 }
-    ensures shown { tree.new ≡ with_border_changed tree.old number.0 (λ b. with_shown b place (newest log.old + 1)) }
-    ensures shows { ShowsNext tree.old tree.new number.0 (newest log.old + 1) }
-    ensures passed { (delta : DeltaView) → log.new ≡ trimmed (with_delta log.old delta) }
-    ensures next { newest log.new ≡ newest log.old + 1 }
-    ensures sound { IsLog log.old × IsLog log.new }
-{
-    let commit = log.number() + 1;
-    tree.show(number, place, commit);
-    log.pass();
     commit
 }
 
@@ -104,36 +86,6 @@ pub fn overwrite(
     commit
 }
 
-// The commit of a row that is written over another, if no delta would stay in the log.
-pub fn overwrite_unread(
-    tree: &mut Tree,
-    log: &mut Log,
-    number: NodeNo,
-    place: usize,
-    columns: Columns,
-) -> u64
-    requires row { IsSomeAnd (border_at tree.old.nodes number.0) (λ b. HasRowAt b place) }
-    requires room { 0 < log.old.reserved }
-    requires unread { IsUnread log.old }
-    ensures number { result ≡ newest log.old + 1 }
-    ensures written { tree.new ≡ with_border_changed tree.old number.0
-        (λ b. with_value b place (record { version = newest log.old + 1; columns = columns })) }
-    ensures sets { SetsRowAt tree.old tree.new number.0 place
-        (record { version = newest log.old + 1; columns = columns }) }
-    ensures passed { (delta : DeltaView) → log.new ≡ trimmed (with_delta log.old delta) }
-    ensures next { newest log.new ≡ newest log.old + 1 }
-    ensures sound { IsLog log.old × IsLog log.new }
-{
-    let commit = log.number() + 1;
-    let row = Row {
-        version: commit,
-        columns,
-    };
-    drop(tree.set_value(number, place, row));
-    log.pass();
-    commit
-}
-
 // The commit of a remove: the row is hidden, and its delta is logged.
 pub fn hide(
     tree: &mut Tree,
@@ -158,24 +110,6 @@ pub fn hide(
         before: Some(before),
         after: None,
     });
-    commit
-}
-
-// The commit of a remove, if no delta would stay in the log.
-pub fn hide_unread(tree: &mut Tree, log: &mut Log, number: NodeNo, place: usize) -> u64
-    requires row { IsSomeAnd (border_at tree.old.nodes number.0) (λ b. HasRowAt b place) }
-    requires room { 0 < log.old.reserved }
-    requires unread { IsUnread log.old }
-    ensures number { result ≡ newest log.old + 1 }
-    ensures hidden { tree.new ≡ with_border_changed tree.old number.0 (λ b. with_hidden b place) }
-    ensures hides { HidesRowAt tree.old tree.new number.0 place }
-    ensures passed { (delta : DeltaView) → log.new ≡ trimmed (with_delta log.old delta) }
-    ensures next { newest log.new ≡ newest log.old + 1 }
-    ensures sound { IsLog log.old × IsLog log.new }
-{
-    let commit = log.number() + 1;
-    tree.hide_row(number, place);
-    log.pass();
     commit
 }
 

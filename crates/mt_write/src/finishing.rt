@@ -10,7 +10,7 @@ ghost use Rattle.mt_steps.specs.Way.{Finds, Visits};
 ghost use Rattle.mt_steps.specs.declared.way.Went.{Went};
 ghost use Rattle.mt_write.specs.Writing.{MayStage};
 ghost use Rattle.mt_write.specs.Follows.{WriteStep};
-ghost use Rattle.mt_write.specs.Runs.{Advances, ComesTo, HasRun, IsTrimmed, MayRun};
+ghost use Rattle.mt_write.specs.Runs.{Advances, ComesTo, HasRun, IsTrimmed, MayAct, MayRun, state};
 
 use crate::commit::{hide, overwrite, show};
 use crate::ending::written;
@@ -70,20 +70,13 @@ impl Write {
         log: &mut Log,
         found: Found,
     ) -> AtBorder
-        requires may { MayRun columns (record {
-          tree = tree.old;
-          log = log.old;
-          write = record self.now { stage = Stage.Locked };
-        }) }
-        requires trimmed { IsTrimmed log.old }
-        requires finds { Finds tree.old self.now.key self.now.way found }
+        requires { MayAct columns tree.old log.old self.now found }
         ensures { ComesTo columns tree.old tree.new log.old log.new self.now result }
     {
-        let _before = tree.free_numbers();
         match self.commit_unread(alloc, columns, tree, log, found) {
-            Some(Ok(commit)) => return AtBorder::Commits(commit),
-            Some(Err(refusal)) => return AtBorder::Ready(Stage::Failed(refusal, None)),
-            None => {}
+            Ok(Some(commit)) => return AtBorder::Commits(commit),
+            Ok(None) => {}
+            Err(refusal) => return AtBorder::Ready(Stage::Failed(refusal, None)),
         }
         let Some(stage) = self.ready(alloc, columns, tree, log, found) else {
             return AtBorder::Absent;
@@ -127,17 +120,16 @@ impl Write {
         log: &mut Log,
         found: Found,
     ) -> WriteRun
-        requires may { MayRun columns (record { tree = tree.old; log = log.old; write = self.old }) }
+        requires may { MayRun columns (state tree.old log.old self.old) }
         requires trimmed { IsTrimmed log.old }
         requires idle { self.old.stage ≡ Stage.Seeks }
         requires here { Visits tree.old self.old.key self.old.way Went.Here }
         requires finds { Finds tree.old self.old.key self.old.way found }
         requires unlocked { IsSomeAnd (border_at tree.old.nodes self.old.way.node.0) (λ b. b.version.locked ≡ false) }
-        ensures runs { HasRun columns (record { tree = tree.old; log = log.old; write = self.old }) result
-            (record { tree = tree.new; log = log.new; write = self.new }) }
+        ensures runs { HasRun columns (state tree.old log.old self.old) result (state tree.new log.new self.new) }
         ensures some { 0 < result.steps }
         ensures most { result.steps ≤ 4 }
-        ensures next { Advances result.last → MayRun columns (record { tree = tree.new; log = log.new; write = self.new }) }
+        ensures next { Advances result.last → MayRun columns (state tree.new log.new self.new) }
         ensures trimmed { IsTrimmed log.new }
     {
         let _before = tree.free_numbers();

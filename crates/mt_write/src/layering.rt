@@ -12,7 +12,8 @@ ghost use Rattle.mt_tree.specs.Descent.{HasOtherSuffix};
 ghost use Rattle.mt_steps.specs.Way.{rest_of};
 ghost use Rattle.mt_steps.specs.Step.{MayFail};
 ghost use Rattle.mt_write.specs.Causes.{layer_fault, ReadyFor};
-ghost use Rattle.mt_write.specs.Writing.{Prepares, IsBack, HoldsLong, MovesLong};
+ghost use Rattle.mt_write.specs.Writing.{HoldsLong, MovesLong};
+ghost use Rattle.mt_write.specs.Ready.{Prepares, IsBack};
 ghost use Rattle.mt_write.specs.Follows.{TreeStep, MayBeAt};
 
 use crate::ready::NewRow;

@@ -15,7 +15,7 @@ ghost use Rattle.mt_tree.specs.Descent.{IsFoundAt, IsLast, found_for, row_found}
 ghost use Rattle.mt_steps.specs.Way.{Finds, rest_of};
 ghost use Rattle.mt_steps.specs.Step.{MayFail, columns_after};
 ghost use Rattle.mt_write.specs.Causes.{version_fault, fill_fault, put_fault, remove_fault, ReadyFor, FailsBy, RemoveFailsBy};
-ghost use Rattle.mt_write.specs.Writing.{with_room, FillsNew, Prepares, PreparesRemove, IsBack};
+ghost use Rattle.mt_write.specs.Ready.{with_room, FillsNew, Prepares, PreparesRemove, IsBack};
 
 use crate::columns::made_columns;
 use crate::layering::spare_layer;

@@ -2,7 +2,7 @@
 
 ghost use Rattle.std.specs.Prelude.{◌≡◌, ◌≤◌, ◌<◌, ◌↔◌, max, IsTrue};
 ghost use Rattle.mt_commit.specs.Log.{trimmed};
-ghost use Rattle.mt_write.specs.Runs.{Advances, HasRun, IsTrimmed, MayRun, commits_in};
+ghost use Rattle.mt_write.specs.Runs.{Advances, HasRun, IsTrimmed, MayRun, commits_in, state};
 
 use crate::writing::Write;
 use mt_commit::log::Log;
@@ -67,13 +67,12 @@ impl Write {
         log: &mut Log,
         most: u64,
     ) -> WriteRun
-        requires may { MayRun columns (record { tree = tree.old; log = log.old; write = self.old }) }
+        requires may { MayRun columns (state tree.old log.old self.old) }
         requires trimmed { IsTrimmed log.old }
-        ensures runs { HasRun columns (record { tree = tree.old; log = log.old; write = self.old }) result
-            (record { tree = tree.new; log = log.new; write = self.new }) }
+        ensures runs { HasRun columns (state tree.old log.old self.old) result (state tree.new log.new self.new) }
         ensures some { 0 < result.steps }
         ensures most { result.steps ≤ max 1 most }
-        ensures next { Advances result.last → MayRun columns (record { tree = tree.new; log = log.new; write = self.new }) }
+        ensures next { Advances result.last → MayRun columns (state tree.new log.new self.new) }
         ensures trimmed { IsTrimmed log.new }
     {
         let _before = tree.free_numbers();
@@ -108,10 +107,9 @@ impl Write {
         log: &mut Log,
         most: u64,
     ) -> WriteRun
-        requires may { MayRun columns (record { tree = tree.old; log = log.old; write = self.old }) }
+        requires may { MayRun columns (state tree.old log.old self.old) }
         requires trimmed { IsTrimmed log.old }
-        ensures runs { HasRun columns (record { tree = tree.old; log = log.old; write = self.old }) result
-            (record { tree = tree.new; log = log.new; write = self.new }) }
+        ensures runs { HasRun columns (state tree.old log.old self.old) result (state tree.new log.new self.new) }
         ensures most { result.steps ≤ max 1 most }
         ensures ends { result.steps < most → Advances result.last → ⊥ }
     {

@@ -14,7 +14,8 @@ ghost use Rattle.mt_tree.specs.BorderSteps.{IsUpperHalf, LinksHalfAt};
 ghost use Rattle.mt_steps.specs.Way.{rest_of};
 ghost use Rattle.mt_steps.specs.Step.{MayFail};
 ghost use Rattle.mt_write.specs.Causes.{fill_fault, split_fault, ReadyFor, FailsBy};
-ghost use Rattle.mt_write.specs.Writing.{Prepares, IsBack, IsAbsent, IsHalf, PutsNew, SomeSets, IsHalfOf, MayStage};
+ghost use Rattle.mt_write.specs.Writing.{IsAbsent, IsHalf, PutsNew, IsHalfOf, MayStage};
+ghost use Rattle.mt_write.specs.Ready.{Prepares, IsBack, SomeSets};
 ghost use Rattle.mt_write.specs.Follows.{WriteStep, TreeStep, MayBeAt};
 
 use crate::ready::{NewRow, fill};

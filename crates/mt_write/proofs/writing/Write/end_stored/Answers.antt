@@ -1,5 +1,6 @@
 use Rattle.mt_write.specs.declared.writing.Stage.TheVariants.{Stored}
-use Rattle.mt_write.proofs.StageSteps.{ends_stored, with_halves, of_halves}
+use Rattle.mt_write.proofs.LaterSteps.{ends_stored, of_halves}
+use Rattle.mt_write.proofs.StageSteps.{with_halves}
 use Rattle.mt_write.proofs.writing.Write.end_stored.Goals as goal
 
 pub returns-in_default : goal.returns-in_default

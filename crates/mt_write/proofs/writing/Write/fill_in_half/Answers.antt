@@ -1,4 +1,5 @@
-use Rattle.mt_write.proofs.StageSteps.{turned, readies_half}
+use Rattle.mt_write.proofs.StageSteps.{turned}
+use Rattle.mt_write.proofs.LaterSteps.{readies_half}
 use Rattle.mt_write.proofs.writing.Write.fill_in_half.Goals as goal
 
 pub returns : goal.returns

@@ -1,4 +1,5 @@
-use Rattle.mt_write.proofs.StageSteps.{turned_tree, may_fill_root, fills_layer}
+use Rattle.mt_write.proofs.StageSteps.{turned_tree, may_fill_root}
+use Rattle.mt_write.proofs.LaterSteps.{fills_layer}
 use Rattle.mt_write.proofs.writing.Write.fill_root.Goals as goal
 
 pub fill_border-requires : goal.fill_border-requires

@@ -1,4 +1,5 @@
-use Rattle.mt_write.proofs.StageSteps.{turned_tree, may_fill_half, fills_spared}
+use Rattle.mt_write.proofs.StageSteps.{turned_tree, may_fill_half}
+use Rattle.mt_write.proofs.LaterSteps.{fills_spared}
 use Rattle.mt_write.proofs.writing.Write.fill_spared.Goals as goal
 
 pub fill_spare-requires : goal.fill_spare-requires

@@ -1,4 +1,5 @@
-use Rattle.mt_write.proofs.StageSteps.{turned_tree, border_locked, enters_layer}
+use Rattle.mt_write.proofs.StageSteps.{turned_tree, border_locked}
+use Rattle.mt_write.proofs.LaterSteps.{enters_layer}
 use Rattle.mt_write.proofs.writing.Write.go_below.Goals as goal
 
 pub unlock_border-requires : goal.unlock_border-requires

@@ -1,4 +1,5 @@
-use Rattle.mt_write.proofs.StageSteps.{turned_tree, may_link_half, links_half}
+use Rattle.mt_write.proofs.StageSteps.{turned_tree, may_link_half}
+use Rattle.mt_write.proofs.LaterSteps.{links_half}
 use Rattle.mt_write.proofs.writing.Write.link.Goals as goal
 
 pub link_halves-self-requires-clause-upper : goal.link_halves-self-requires-clause-upper

@@ -1,4 +1,5 @@
-use Rattle.mt_write.proofs.StageSteps.{turned_tree, may_link_layer, links_below}
+use Rattle.mt_write.proofs.StageSteps.{turned_tree, may_link_layer}
+use Rattle.mt_write.proofs.LaterSteps.{links_below}
 use Rattle.mt_write.proofs.writing.Write.link_layer.Goals as goal
 
 pub make_link-requires : goal.make_link-requires

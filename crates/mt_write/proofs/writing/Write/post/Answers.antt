@@ -1,4 +1,5 @@
-use Rattle.mt_write.proofs.StageSteps.{turned_tree, may_post, posting_moves, posting_waits, posting_ends}
+use Rattle.mt_write.proofs.StageSteps.{turned_tree, may_post}
+use Rattle.mt_write.proofs.LaterSteps.{posting_moves, posting_waits, posting_ends}
 use Rattle.mt_write.proofs.writing.Write.post.Goals as goal
 
 pub step-requires : goal.step-requires

@@ -1,4 +1,5 @@
-use Rattle.mt_write.proofs.StageSteps.{turned_tree, head_locked, unlocks_layer}
+use Rattle.mt_write.proofs.StageSteps.{turned_tree, head_locked}
+use Rattle.mt_write.proofs.LaterSteps.{unlocks_layer}
 use Rattle.mt_write.proofs.writing.Write.unlock_head.Goals as goal
 
 pub unlock_head-requires : goal.unlock_head-requires

@@ -1,5 +1,6 @@
 use Rattle.std.proofs.Common.{◌∙◌}
-use Rattle.mt_write.proofs.StageSteps.{turned_tree, left_locked, begins_posting}
+use Rattle.mt_write.proofs.StageSteps.{turned_tree, left_locked}
+use Rattle.mt_write.proofs.LaterSteps.{begins_posting}
 use Rattle.mt_write.proofs.writing.Write.unlock_left.Goals as goal
 
 pub unlock_border-requires : goal.unlock_border-requires

@@ -1,0 +1,221 @@
+-- What a put makes ready at its border, or at the half to which its key belongs.
+use Rattle.std.proofs.Common.{ℕ, ◌≡◌, ◌≢◌, ◌≤◌, ◌<◌, inl, inr, List, [], ◌∷◌, length, drop, Option, Some, None, false, refl, sym, ap, subst, ◌∙◌, arith}
+use Rattle.std.specs.Option.{option_map}
+use Rattle.mt_types.specs.declared.row.Row.{Row}
+use Rattle.mt_types.specs.declared.event.Request.TheVariants.{Put as PutRequest}
+use Rattle.mt_types.specs.declared.refusal.Refusal.{Refusal}
+use Rattle.mt_slice.specs.Place.{slice_number}
+use Rattle.mt_slice.specs.Classes.{class_of}
+use Rattle.mt_slice.specs.declared.slice_class.Class.{Class}
+use Rattle.mt_commit.specs.Log.{LogView}
+use Rattle.mt_word.specs.declared.permutation_word.TheConstants.{SLOTS}
+use Rattle.mt_border.specs.Border.{BorderView, with_filled, first_held, row_at}
+use Rattle.mt_border.specs.Entry.{entry_class}
+use Rattle.mt_border.specs.Find.{found_in}
+use Rattle.mt_border.specs.Order.{IsBorder}
+use Rattle.mt_border.specs.declared.found.Found.{Found}
+use Rattle.mt_border.specs.declared.found.Found.TheVariants.{Absent}
+use Rattle.mt_border.proofs.BorderLemmas.{filled_deleted}
+use Rattle.mt_border.proofs.ShowLemmas.{IsBeforeRight, IsBetween, between_from_absent, filled_shown, filled_row, row_of_row}
+use Rattle.std.specs.Option.{option_and_then}
+use Rattle.mt_arena.specs.Node.{border_at, border_of}
+use Rattle.mt_arena.specs.declared.node.Node.TheVariants.{Border}
+use Rattle.mt_steps.proofs.SplitLemmas.{goes_occupied, vacant_root}
+use Rattle.mt_steps.proofs.LayerLemmas.{goes_given_back}
+use Rattle.mt_write.proofs.SpareLemmas.{vacant_border, has_locked_back, spares_go}
+use Rattle.mt_write.proofs.WorkLemmas.{locked_at_stays}
+use Rattle.mt_arena.specs.Arena.{ArenaView}
+use Rattle.mt_chart.specs.Tree.{Arena, Below}
+use Rattle.mt_chart.specs.Steps.{SameContent}
+use Rattle.mt_tree.specs.Seen.{arena_seen, right_seen}
+use Rattle.mt_tree.specs.Keeping.{IsIndexAt}
+use Rattle.mt_tree.specs.Descent.{found_for, row_found}
+use Rattle.mt_tree.proofs.DescentLemmas.{slice_of_place}
+use Rattle.mt_steps.specs.declared.way.Way.{Way}
+use Rattle.mt_write.specs.declared.writing.Edit.{Edit}
+use Rattle.mt_write.specs.declared.writing.Edit.TheVariants.{Put as PutEdit, Remove as RemoveEdit}
+use Rattle.mt_write.specs.declared.writing.Stage.{Stage}
+use Rattle.mt_write.specs.declared.writing.Stage.TheVariants.{Locked, Spared, Halved, LayerSpared, Filled, Made, Failed}
+use Rattle.mt_write.specs.declared.writing.Halves.{Halves}
+use Rattle.mt_steps.specs.declared.progress.Progress.TheVariants.{Moved}
+use Rattle.mt_steps.specs.World.{World, IsWorld, RowsAreOfKeys}
+use Rattle.mt_steps.specs.Way.{rest_of, prefix_of}
+use Rattle.mt_steps.specs.Step.{Stepped, StepLaw, bounds, MayFail}
+use Rattle.mt_write.specs.Causes.{version_fault}
+use Rattle.mt_write.specs.Writing.{put_request, edit_request, stage_held, IsLockedAt, HasLocked, empty_half, owned, IsFilled, IsMade, StageIsTrue, new_entry}
+use Rattle.mt_write.specs.Ready.{SomeSets, IsBack, Fills, Prepares}
+use Rattle.mt_steps.proofs.FrameLemmas.{goes_same, quiet_same, retired_same}
+use Rattle.mt_write.proofs.EntryLemmas.{filled_locked, class_of_content, left_of_right, next_slot}
+use Rattle.mt_tree.proofs.AgeLemmas.{ages_filled}
+use Rattle.mt_steps.proofs.BorderLemmas.{keys_same, goes_border, locked_may, mine_free}
+use Rattle.mt_write.proofs.WriteLemmas.{alone, as_put, fails_at, has_changed, locked_at-changed, no_get, none_agrees, otherwise_tells, own_agrees, put_otherwise, quiet_step}
+
+-- ---- ready
+module _ (C : ℕ) (a : ArenaView) (log : LogView) (key : List ℕ) (sets : List (ℕ × List ℕ)) (only : Option ℕ) (way : Way) where
+  abbrev ReadyLaw : ArenaView → LogView → Stage → Type 0
+  ReadyLaw after left stage = StepLaw C a after log left (put_request key sets only) (stage_held way.node.0 Locked) Moved (stage_held way.node.0 stage) (λ begun moves past x w. StageIsTrue C key (PutEdit sets only) way Locked begun x w) (λ begun moves past x w. StageIsTrue C key (PutEdit sets only) way stage begun x w)
+
+  filled_is : (b : BorderView) (place : ℕ) (stored : List ℕ) (logged : List (List ℕ)) (after : ArenaView) (left : LogView) → (f : Fills C key sets way a log place stored logged after left) → f.b ≡ b
+      → b.version.deleted ≡ false → b.low ≤ slice_number (rest_of key way) → IsBeforeRight (slice_number (rest_of key way)) b.right
+      → IsFilled C key sets way (with_filled b (new_entry key way logged)) place stored logged
+  filled_is b place stored logged after left f same alive low right =
+      let entry = new_entry key way logged in
+      let rest = rest_of key way in
+      let row : Row = record { version = 0; columns = logged } in
+      let sound : IsBorder b = subst IsBorder same f.sound in
+      let whole : IsBorder (with_filled b entry) = subst (λ (x : BorderView). IsBorder (with_filled x entry)) same f.whole in
+      let room : length b.live < SLOTS = subst (λ (x : BorderView). length x.live < SLOTS) same f.room in
+      let absent : found_for rest b.live ≡ Absent place = subst (λ (x : BorderView). found_for rest x.live ≡ Absent place) same f.absent in
+      let class : entry_class entry ≡ class_of (length rest) = class_of_content (class_of (length rest)) (drop 8 rest) row in
+      let between : IsBetween _ place b.live = between_from_absent (slice_number rest) (class_of (length rest)) (drop 8 rest) b.live place sound.ordered absent in
+      let slots = sound.slots in
+      let next = next_slot b.unused entry (omega (arith, slots, room)) in
+      record {
+        bytes = f.bytes;
+        fits = f.fits;
+        sound = whole;
+        stored_is = f.stored_is;
+        absent = absent;
+        columns = f.columns;
+        shows = λ version. record {
+          room = room;
+          within = between.within;
+          row = filled_row b entry room (row_of_row (class_of (length rest)) (drop 8 rest) row) sound;
+          sound = filled_shown b entry (drop 8 rest) place version room alive (subst (λ (c : Class). found_in (slice_number rest) c (drop 8 rest) b.live ≡ Absent place) (sym class) absent) low right sound whole;
+        };
+        slot = next.slot;
+        slots = next.more;
+        unused = next.is;
+        entry = next.holds;
+        fresh = next.fresh;
+      }
+
+  ready_fill : version_fault only None ≡ None → (split : Option Halves) (place : ℕ) (stored : List ℕ) (logged : List (List ℕ)) (after : ArenaView) (left : LogView) → Fills C key sets way a log place stored logged after left → (now begun moves : ℕ) (past : List Arena) (w : World) → IsWorld a now w → (b : BorderView) → IsLockedAt a key way b w → HasLocked (prefix_of key way) a w way.node.0 split
+      → Stepped C now moves past a after log left w (put_request key sets only) (record { owns = owned way.node.0 split; reserves = 0; committed = None; blocked = None }) Moved (stage_held way.node.0 (Filled place stored logged split)) (λ m next. StageIsTrue C key (PutEdit sets only) way (Filled place stored logged split) begun after next)
+  ready_fill agrees split place stored logged after left f now begun moves past w world b at has =
+      let same : f.b ≡ b = (let both : ◌≡◌ {A = Option BorderView} (Some f.b) (Some b) = sym f.named ∙ at.named in cc) in
+      let entry = new_entry key way logged in
+      let fill : BorderView → BorderView = λ (x : BorderView). with_filled x entry in
+      let slices = slice_of_place (rest_of key way) in
+      let low : b.low ≤ slice_number (rest_of key way) = subst (λ (s : ℕ). b.low ≤ s) slices at.stands.from_low in
+      let right = left_of_right (slice_number (rest_of key way)) b.right (subst (λ (s : ℕ). Below s (option_map right_seen b.right)) slices at.stands.to_right) in
+      let kept = f.keeps.keeps now w.twins w.chart world.index in
+      subst (λ (x : ArenaView). Stepped C now moves past a x log left w (put_request key sets only) (record { owns = owned way.node.0 split; reserves = 0; committed = None; blocked = None }) Moved (stage_held way.node.0 (Filled place stored logged split)) (λ m next. StageIsTrue C key (PutEdit sets only) way (Filled place stored logged split) begun x next)) (sym f.filled)
+      (record {
+        goes = goes_border a way.node.0 b fill at.named now w (owned way.node.0 split) (owned way.node.0 split) _ world
+            (λ known. (ages_filled b (subst IsBorder same f.sound) (subst (λ (x : BorderView). length x.live < SLOTS) same f.room) entry, inr refl))
+            (subst (λ (x : ArenaView). IsIndexAt x now w.twins w.chart) f.filled kept.index)
+            (subst (λ (x : ArenaView). RowsAreOfKeys x) f.filled (keys_same a after kept.content world.keys))
+            (mine_free a way.node.0 w (owned way.node.0 split) has.own) (λ other i. inl i) (λ other ne i. i) (λ locked. has.own) (locked_may a way.node.0 b fill at.named now w world at.locked at.free (inr (filled_deleted (first_held b.unused) b.version ∙ at.alive))) (
+              fill b,
+              locked_at-changed a key way b w fill at.named at.layer at.stands at.last refl refl refl (filled_deleted (first_held b.unused) b.version ∙ at.alive) (filled_locked (first_held b.unused) b.version ∙ at.locked) at.free,
+              record { sets = sets; only = only; is_put = refl; agrees = agrees },
+              filled_is b place stored logged after left f same at.alive low right,
+              has_changed (prefix_of key way) a way.node.0 b fill at.named w split (filled_locked (first_held b.unused) b.version ∙ at.locked) (filled_deleted (first_held b.unused) b.version ∙ at.alive) refl has,
+            );
+        does = (record { content = subst (λ (x : ArenaView). SameContent (arena_seen a) (arena_seen x)) f.filled kept.content; trimmed = ap (λ (l : LogView). l.held_after) f.reserved; deltas = ap (λ (l : LogView). l.deltas) f.reserved }, refl);
+        reserved = let more = ap (λ (l : LogView). l.reserved) f.reserved in omega (arith, more);
+        bounds = ap bounds f.reserved;
+        blocked = inl refl;
+        may = λ get. absurd (no_get key (PutEdit sets only) get);
+      })
+
+  abbrev FailStep : ArenaView → LogView → Option Halves → Refusal → ℕ → ℕ → ℕ → List Arena → World → Type 0
+  FailStep after left split refusal now begun moves past w =
+      Stepped C now moves past a after log left w (put_request key sets only) (record { owns = owned way.node.0 split; reserves = 0; committed = None; blocked = None }) Moved (stage_held way.node.0 (Failed refusal split)) (λ m next. StageIsTrue C key (PutEdit sets only) way (Failed refusal split) begun after next)
+
+  ready_fail : (split : Option Halves) (refusal : Refusal) (after : ArenaView) (left : LogView) → MayFail log (PutRequest key sets) refusal × IsBack a after × (left ≡ log) → (now begun moves : ℕ) (past : List Arena) (w : World) → IsWorld a now w → HasLocked (prefix_of key way) a w way.node.0 split → FailStep after left split refusal now begun moves past w
+  ready_fail split refusal after left (may, back, same_log) now begun moves past w world has = subst (λ (l : LogView). FailStep after l split refusal now begun moves past w) (sym same_log) (elim back [
+    | inl same ↦ subst (λ (x : ArenaView). FailStep x log split refusal now begun moves past w) (sym same) (quiet_step key (PutEdit sets only)
+        (goes_same now a w _ (owned way.node.0 split) (owned way.node.0 split) refl world (has, as_put key sets only refusal may.0, otherwise_tells a w key way refusal split (put_otherwise key sets refusal may.0)))
+        (quiet_same a log).content refl refl (fails_at log refusal may.1))
+    | inr gave ↦ (let o = gave.occupied in
+        let (goes, content) = goes_given_back now a gave.between after w gave.number gave.node (owned way.node.0 split) (λ next. StageIsTrue C key (PutEdit sets only) way (Failed refusal split) begun after next) o.vacant o.updates o.retired o.unknown o.keeps gave.back gave.retired gave.keeps world
+        (has_locked_back (prefix_of key way) a gave.between after w way.node.0 split gave.number gave.node o.vacant o.updates gave.back has, as_put key sets only refusal may.0, otherwise_tells after w key way refusal split (put_otherwise key sets refusal may.0)) in quiet_step key (PutEdit sets only)
+        goes
+        content refl refl (fails_at log refusal may.1))
+  ])
+
+  -- the row at the border is of the version that is asked for
+  abbrev Agrees : Type 0
+  Agrees = (b : BorderView) → border_at a.nodes way.node.0 ≡ Some b → version_fault only (row_found b.live (found_for (rest_of key way) b.live)) ≡ None
+
+  ready : Agrees → (stage : Stage) (after : ArenaView) (left : LogView) → Prepares C key sets way a log None stage after left → ReadyLaw after left stage
+  ready agrees (Filled place stored logged split) after left (none, f) = subst (λ (s : Option Halves). ReadyLaw after left (Filled place stored logged s)) (sym none) (record {
+    steps = λ now begun moves past w world before truth. let (b, at) = truth in ready_fill (subst (λ (o : Found). version_fault only (row_found f.b.live o) ≡ None) f.absent (agrees f.b f.named)) None place stored logged after left f now begun moves past w world b at (alone a key way b w at);
+  })
+  ready agrees (Spared half cut entries) after left (none, f, same_log) = record {
+    steps = λ now begun moves past w world before truth.
+        let (b, was) = truth in
+        let same : f.b ≡ b = (let both : ◌≡◌ {A = Option BorderView} (Some f.b) (Some b) = sym f.named ∙ was.named in cc) in
+        let at : IsLockedAt a key way f.b w = subst (λ (x : BorderView). IsLockedAt a key way x w) (sym same) was in
+        let differ : way.node.0 ≢ half.0 = λ e. vacant_border a half.0 f.b f.occupied.vacant (ap (λ (m : ℕ). border_at a.nodes m) (sym e) ∙ at.named) in
+        let now_is : border_at after.nodes half.0 ≡ Some (empty_half f.b f.cut_at.middle) = ap (option_and_then border_of) f.occupied.updates.changed in
+        subst (λ (l : LogView). Stepped C now moves past a after log l w (put_request key sets only) (stage_held way.node.0 Locked) Moved (stage_held way.node.0 (Spared half cut entries)) (λ m next. StageIsTrue C key (PutEdit sets only) way (Spared half cut entries) begun after next)) (sym same_log)
+        (quiet_step key (PutEdit sets only)
+        (goes_occupied now a after w half.0 (Border (empty_half f.b f.cut_at.middle)) (way.node.0 ∷ []) _ f.occupied.vacant f.occupied.updates f.occupied.retired f.occupied.unknown f.occupied.keeps world (
+          f.b,
+          locked_at_stays a after w w key way f.b (record { node = f.occupied.updates.others way.node.0 differ; spot = refl; twins = λ one other here. ((λ h. h), (λ h. h)); closing = λ i. i; retired = retired_same a.retired after.retired way.node.0 f.occupied.retired }) at,
+          f.cut_at,
+          record { named = now_is; unknown = f.occupied.unknown.unknown now w.twins w.chart world.index; locked = refl; free = vacant_root a w half.0 f.occupied.vacant world.heads },
+          f.copied,
+          record { sets = sets; only = only; is_put = refl; agrees = none_agrees only f.b.live (found_for (rest_of key way) f.b.live) f.cut_at.absent (agrees f.b f.named) },
+        ))
+        ((f.occupied.keeps.keeps now w.twins w.chart world.index).content) refl refl (inl refl));
+  }
+  ready agrees (LayerSpared layer entries) after left (none, f, same_log) = record {
+    steps = λ now begun moves past w world before truth.
+        let (b, was) = truth in
+        let same : f.b ≡ b = (let both : ◌≡◌ {A = Option BorderView} (Some f.b) (Some b) = sym f.named ∙ was.named in cc) in
+        let at : IsLockedAt a key way f.b w = subst (λ (x : BorderView). IsLockedAt a key way x w) (sym same) was in
+        let (goes, content) = spares_go now begun a after w key way layer entries f world at in
+        subst (λ (l : LogView). Stepped C now moves past a after log l w (put_request key sets only) (stage_held way.node.0 Locked) Moved (stage_held way.node.0 (LayerSpared layer entries)) (λ m next. StageIsTrue C key (PutEdit sets only) way (LayerSpared layer entries) begun after next)) (sym same_log) (quiet_step key (PutEdit sets only)
+        goes
+        content refl refl (inl refl));
+  }
+  ready agrees (Made place stored columns logged) after left (none, f) = record {
+    steps = λ now begun moves past w world before truth.
+        let (b, at) = truth in
+        let same : f.b ≡ b = (let both : ◌≡◌ {A = Option BorderView} (Some f.b) (Some b) = sym f.named ∙ at.named in cc) in
+        subst (λ (x : ArenaView). Stepped C now moves past a x log left w (put_request key sets only) (stage_held way.node.0 Locked) Moved (stage_held way.node.0 (Made place stored columns logged)) (λ m next. StageIsTrue C key (PutEdit sets only) way (Made place stored columns logged) begun x next)) (sym f.same)
+        (record {
+          goes = goes_same now a w _ (way.node.0 ∷ []) (way.node.0 ∷ []) refl world (b, at, record { sets = sets; only = only; is_put = refl; agrees = subst (λ (x : BorderView). version_fault only (row_at place x.live) ≡ None) same (subst (λ (o : Found). version_fault only (row_found f.b.live o) ≡ None) f.made.there (agrees f.b f.named)) }, subst (λ (x : BorderView). IsMade C key sets way x place stored columns logged) same f.made);
+          does = (record { content = λ k row. ((λ h. h), (λ h. h)); trimmed = ap (λ (l : LogView). l.held_after) f.reserved; deltas = ap (λ (l : LogView). l.deltas) f.reserved }, refl);
+          reserved = let more = ap (λ (l : LogView). l.reserved) f.reserved in omega (arith, more);
+          bounds = ap bounds f.reserved;
+          blocked = inl refl;
+          may = λ get. absurd (no_get key (PutEdit sets only) get);
+        });
+  }
+  ready agrees (Failed refusal split) after left (none, may, same, same_log) = subst (λ (s : Option Halves). ReadyLaw after left (Failed refusal s)) (sym none) (record {
+    steps = λ now begun moves past w world before truth. let (b, at) = truth in ready_fail None refusal after left (may, same, same_log) now begun moves past w world (alone a key way b w at);
+  })
+  ready agrees _ after left f = absurd f
+
+  pub readies : (stage : Stage) (edit : Edit) (after : ArenaView) (left : LogView) → edit ≡ PutEdit sets only → Agrees → Prepares C key sets way a log None stage after left
+      → StepLaw C a after log left (edit_request key edit) (stage_held way.node.0 Locked) Moved (stage_held way.node.0 stage) (λ begun moves past x w. StageIsTrue C key edit way Locked begun x w) (λ begun moves past x w. StageIsTrue C key edit way stage begun x w)
+  readies stage edit after left is_put agrees p =
+      subst (λ (e : Edit). StepLaw C a after log left (edit_request key e) (stage_held way.node.0 Locked) Moved (stage_held way.node.0 stage) (λ begun moves past x w. StageIsTrue C key e way Locked begun x w) (λ begun moves past x w. StageIsTrue C key e way stage begun x w)) (sym is_put)
+      (ready agrees stage after left p)
+
+-- ---- ready in a half
+pub one_or_none : {x : Halves} → ◌≡◌ {A = Option Halves} (Some x) None → ⊥
+one_or_none e = cc
+
+half_ready : (C : ℕ) (a : ArenaView) (log : LogView) (key : List ℕ) (sets : List (ℕ × List ℕ)) (only : Option ℕ) (way : Way) (split : Halves) (stage : Stage) (after : ArenaView) (left : LogView) → Prepares C key sets way a log (Some split) stage after left
+    → StepLaw C a after log left (put_request key sets only) (stage_held way.node.0 (Halved split)) Moved (stage_held way.node.0 stage) (λ begun moves past x w. StageIsTrue C key (PutEdit sets only) way (Halved split) begun x w) (λ begun moves past x w. StageIsTrue C key (PutEdit sets only) way stage begun x w)
+half_ready C a log key sets only way split (Filled place stored logged halves) after left (is, f) = subst (λ (s : Option Halves). StepLaw C a after log left (put_request key sets only) (stage_held way.node.0 (Halved split)) Moved (stage_held way.node.0 (Filled place stored logged s)) (λ begun moves past x w. StageIsTrue C key (PutEdit sets only) way (Halved split) begun x w) (λ begun moves past x w. StageIsTrue C key (PutEdit sets only) way (Filled place stored logged s) begun x w)) (sym is) (record {
+  steps = λ now begun moves past w world before truth. let (b, at, h, has, p) = truth in ready_fill C a log key sets only way (own_agrees sets only p) (Some split) place stored logged after left f now begun moves past w world b at has;
+})
+half_ready C a log key sets only way split (Failed refusal halves) after left (is, may, same, same_log) = subst (λ (s : Option Halves). StepLaw C a after log left (put_request key sets only) (stage_held way.node.0 (Halved split)) Moved (stage_held way.node.0 (Failed refusal s)) (λ begun moves past x w. StageIsTrue C key (PutEdit sets only) way (Halved split) begun x w) (λ begun moves past x w. StageIsTrue C key (PutEdit sets only) way (Failed refusal s) begun x w)) (sym is) (record {
+  steps = λ now begun moves past w world before truth. let (b, at, h, has, p) = truth in ready_fail C a log key sets only way (Some split) refusal after left (may, same, same_log) now begun moves past w world has;
+})
+half_ready C a log key sets only way split (Spared half cut entries) after left (is, f, same_log) = absurd (one_or_none is)
+half_ready C a log key sets only way split (LayerSpared layer entries) after left (is, f, same_log) = absurd (one_or_none is)
+half_ready C a log key sets only way split (Made place stored columns logged) after left (is, f) = absurd (one_or_none is)
+half_ready C a log key sets only way split _ after left f = absurd f
+
+pub half_readies : (C : ℕ) (a : ArenaView) (log : LogView) (key : List ℕ) (edit : Edit) (way : Way) (split : Halves) (stage : Stage) (after : ArenaView) (left : LogView) → SomeSets edit (λ sets. Prepares C key sets way a log (Some split) stage after left)
+    → StepLaw C a after log left (edit_request key edit) (stage_held way.node.0 (Halved split)) Moved (stage_held way.node.0 stage) (λ begun moves past x w. StageIsTrue C key edit way (Halved split) begun x w) (λ begun moves past x w. StageIsTrue C key edit way stage begun x w)
+half_readies C a log key (PutEdit sets only) way split stage after left p = half_ready C a log key sets only way split stage after left p
+half_readies C a log key RemoveEdit way split stage after left p = absurd p
