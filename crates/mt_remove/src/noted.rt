@@ -64,10 +64,7 @@ pub const NOTHING: Noted = Noted {
 fn is_first(interior: &Interior, node: NodeNo) -> bool
     ensures { result ≡ is_first node interior.now.children }
 {
-    match interior.place_of(node) {
-        Some(place) => place == 0,
-        None => false,
-    }
+    matches!(interior.place_of(node), Some(0))
 }
 
 impl Noted {

@@ -19,14 +19,8 @@ fn free_interior(node: &Node) -> Option<&Interior>
     ensures none { IfNone result (free_interior node.now ≡ None) }
 {
     match node {
-        Node::Interior(interior) => {
-            if interior.version().deleted() || interior.version().is_locked() {
-                None
-            } else {
-                Some(interior)
-            }
-        }
-        Node::Head(_) | Node::Border(_) => None,
+        Node::Interior(own) if !own.version().deleted() && !own.version().is_locked() => Some(own),
+        Node::Head(_) | Node::Interior(_) | Node::Border(_) => None,
     }
 }
 
@@ -50,10 +44,7 @@ pub fn place_in(tree: &Tree, number: NodeNo, child: NodeNo) -> Option<usize>
     ensures named { IfSome result
         (λ place. IsSomeAnd (child_at tree.now.nodes number.0 place) (λ there. there.node ≡ child)) }
 {
-    match free_interior(tree.node(number)) {
-        Some(interior) => interior.place_of(child),
-        None => None,
-    }
+    free_interior(tree.node(number))?.place_of(child)
 }
 
 /// Returns the same as `place_in`, but `None` if that is the first place.
@@ -64,10 +55,8 @@ pub fn later_place(tree: &Tree, number: NodeNo, child: NodeNo) -> Option<usize>
         (λ place. IsSomeAnd (child_at tree.now.nodes number.0 place) (λ there. there.node ≡ child)) }
     ensures later { IfSome result (λ place. 0 < place) }
 {
-    match place_in(tree, number, child) {
-        Some(place) => { if place == 0 { None } else { Some(place) } }
-        None => None,
-    }
+    let place = place_in(tree, number, child)?;
+    (place > 0).then_some(place)
 }
 
 // The border that a node is, if it is neither marked deleted nor locked.
@@ -76,14 +65,8 @@ fn free_border(node: &Node) -> Option<&Border>
     ensures none { IfNone result (free_border node.now ≡ None) }
 {
     match node {
-        Node::Border(border) => {
-            if border.version().deleted() || border.version().is_locked() {
-                None
-            } else {
-                Some(border)
-            }
-        }
-        Node::Head(_) | Node::Interior(_) => None,
+        Node::Border(own) if !own.version().deleted() && !own.version().is_locked() => Some(own),
+        Node::Head(_) | Node::Interior(_) | Node::Border(_) => None,
     }
 }
 
@@ -95,9 +78,7 @@ pub fn link_place(tree: &Tree, number: NodeNo, rest: &[u8], head: NodeNo) -> Opt
     ensures stands { IfSome result (λ place. IsSomeAnd (border_at tree.now.nodes number.0) (λ b.
         slice_get b.live place ≡ Some (record { slice = slice_number rest.now; content = Link head }))) }
 {
-    if free_border(tree.node(number)).is_none() {
-        return None;
-    }
+    free_border(tree.node(number))?;
     match tree.find(number, rest) {
         Found::Link(place, top) => { if top.0 == head.0 { Some(place) } else { None } }
         Found::Absent(_) | Found::Row(_) | Found::OtherSuffix(_) => None,

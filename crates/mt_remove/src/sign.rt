@@ -24,20 +24,10 @@ pub enum Sign {
 fn layer_sign(border: &Border, noted: &Noted) -> Sign
     ensures { result ≡ layer_sign border.now noted.now.came noted.now.above }
 {
-    let Some(above) = noted.above else {
-        return Sign::Nothing;
-    };
-    match noted.came {
-        Came::Head => {
-            if border.len() != 0 || border.low() != 0 {
-                return Sign::Nothing;
-            }
-            match border.right() {
-                Some(_) => Sign::Nothing,
-                None => Sign::EmptyLayer(above),
-            }
-        }
-        Came::Child { .. } | Came::Left => Sign::Nothing,
+    match (noted.above, noted.came, border.right()) {
+        (Some(above), Came::Head, None) if border.len() == 0 && border.low() == 0 =>
+            Sign::EmptyLayer(above),
+        _ => Sign::Nothing,
     }
 }
 
@@ -60,13 +50,7 @@ pub fn sign_of(border: &Border, noted: &Noted) -> Sign
         Came::Child {
             parent,
             first: false,
-        } => {
-            if border.len() == 0 && border.low() != 0 {
-                Sign::EmptyBorder(parent)
-            } else {
-                otherwise
-            }
-        }
+        } if border.len() == 0 && border.low() != 0 => Sign::EmptyBorder(parent),
         Came::Child { .. } | Came::Head | Came::Left => otherwise,
     }
 }
