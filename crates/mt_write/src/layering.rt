@@ -38,7 +38,7 @@ fn moved(alloc: Global, border: &Border, place: usize) -> Result<Items<Entry>, N
     let Content::Long(suffix, row) = &border.entry(place).content else {
         unreachable!();
     };
-    let entry = Entry::of_row(suffix.copy(alloc)?.into_bytes(), row.copy(alloc)?)?;
+    let entry = Entry::of_row(alloc, suffix.as_slice(), row.copy(alloc)?)?;
     let mut entries = Vec::with_capacity(alloc, 1)?;
     entries.push(entry)?;
     Ok(Items::from_vec(entries))

@@ -23,7 +23,6 @@ use crate::splitting::spare;
 use crate::writing::{Halves, Stage};
 use mt_border::{Border, Entry, Found};
 use mt_commit::log::Log;
-use mt_slice::SLICE_BYTES;
 use mt_steps::getting::row_at;
 use mt_steps::way::{Way, rest_of};
 use mt_tree::Tree;
@@ -64,13 +63,11 @@ fn new_entry(alloc: Global, key: &Key, layer: usize, columns: Columns) -> Result
     ensures { IfOk result (λ entry. entry
         ≡ entry_of_row (rest_at layer key.now) (record { version = 0; columns = columns })) }
 {
-    let bytes = key.copy(alloc)?.into_bytes();
-    let rest = bytes.slice(SLICE_BYTES * layer..)?;
     let row = Row {
         version: 0,
         columns,
     };
-    Ok(Entry::of_row(rest, row)?)
+    Entry::of_row(alloc, rest_of(key, layer), row)
 }
 
 // Reserves room in the log for a new row, if its slot's counter of insertions isn't spent.
