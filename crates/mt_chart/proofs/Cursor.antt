@@ -1,8 +1,7 @@
 -- The number of a scan's cursor grows when the scan leaves a border by its right link, and when it leaves a layer.
 use Rattle.std.proofs.Common.{ℕ, zero, suc, ◌≡◌, ◌<◌, ◌≤◌, ◌+◌, ◌*◌, List, [], ◌∷◌, ◌++◌, length, refl, sym, arith, append_assoc}
 use Rattle.std.proofs.Math.Nat.{mul-le-mul_right}
-use Rattle.mt_slice.specs.Place.{Place, deeper, under}
-use Rattle.mt_chart.specs.CursorNumber.{base_power, digits_number, AreDigits, digit_base, place_digits, digits_above}
+use Rattle.mt_chart.specs.CursorNumber.{base_power, digits_number, AreDigits, digit_base, digits_above}
 
 -- the first part decides if the second is less than the base
 pub less_than_more : (d e x y z : ℕ) → d < e → x < y → d * y + x < e * y + z
@@ -34,10 +33,6 @@ pub grows_longer : (base i : ℕ) (cs es : List ℕ) → digits_number base i (c
 grows_longer base zero cs es = omega arith
 grows_longer base (suc i) [] es = omega arith
 grows_longer base (suc i) (c ∷ cs) es = let h : digits_number base i (cs ++ []) ≤ digits_number base i (cs ++ es) = grows_longer base i cs es in omega (arith, h)
-
-pub digits_under : (p : List ℕ) (x : Place) → place_digits (under p x) ≡ digits_above p (place_digits x)
-digits_under [] x = refl
-digits_under (s ∷ p) x = digits_under p (deeper s x)
 
 above_parts : (p ds : List ℕ) → digits_above p ds ≡ digits_above p [] ++ ds
 above_parts [] ds = refl

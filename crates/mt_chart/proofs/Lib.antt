@@ -21,7 +21,6 @@ pub mod Ownership
 pub mod Naming
 pub mod Entries
 pub mod ChartChanges
-pub mod Show
 pub mod RootStepsOwned
 pub mod NoLonger
 pub mod Walk
@@ -40,7 +39,6 @@ pub mod ListNoted
 pub mod ReadingLemmas
 pub mod ReadingKeys
 pub mod ReadingStay
-pub mod Cursors
 pub mod KeyAnswers
 pub mod BorderLaws
 pub mod InteriorLaws

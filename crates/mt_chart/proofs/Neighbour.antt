@@ -1,20 +1,9 @@
 -- The end of the second descent for a dropped border: if a border's interval holds the slice before the dropped one's
 -- low, its right link names the dropped one, so the descent finds the border that it looks for.
-use Rattle.std.proofs.Math.Nat.{mul-le-mul_left}
-use Rattle.std.proofs.Common.{ℕ, List, suc, ◌≡◌, ◌<◌, ◌≤◌, ◌+◌, ◌*◌, ◌⊎◌, inl, inr, Some, Option, sym, arith}
+use Rattle.std.proofs.Common.{ℕ, List, suc, ◌≡◌, ◌<◌, ◌≤◌, ◌⊎◌, inl, inr, Some, Option, sym, arith}
 use Rattle.mt_chart.specs.Tree.{BorderNode, Right, border, Arena, Below, no_right, before_right}
 use Rattle.mt_chart.specs.Chart.{Chart, OnBorder, IsTree}
 use native.Mathlib.Decide.{dec_le}
-
--- two rows of weights: what is left of a cursor or the like decides over what is left below it
-pub weighs : (w c d x y : ℕ) → c < d → x < w → w * c + x < w * d + y
-weighs w c d x y h k = go (mul w c d h)
-  where
-    mul : (w c d : ℕ) → c < d → w * c + w ≤ w * d
-    mul w c d h = grind (arith, mul-le-mul_left w h)
-
-    go : w * c + w ≤ w * d → w * c + x < w * d + y
-    go m = omega (arith, m)
 
 module _ (arena : Arena) (chart : Chart) (tree : IsTree arena chart) where
   below_both : (s : ℕ) (l : ℕ) (r : Option Right) → Below s r → l ≤ s → Below l r

@@ -1,13 +1,12 @@
 -- Ownership through the steps that publish: a new layer, the new half of an interior, a new root, a bypassed root; and
 -- through the steps by which nobody becomes an owner.
-use Rattle.std.proofs.Common.{ℕ, suc, ◌≡◌, ◌≢◌, ◌⊎◌, inl, inr, List, [], ◌∷◌, ◌++◌, Option, Some, None, Bool, true, false, refl, sym, ap, ◌∙◌, subst, arith}
-use Rattle.mt_chart.specs.Tree.{HeadNode, PlainChild, InteriorNode, head, interior, Arena, Among, first, later}
+use Rattle.std.proofs.Common.{ℕ, suc, ◌≡◌, ◌≢◌, ◌⊎◌, inl, inr, List, Option, Some, None, Bool, true, false, refl, sym, ap, ◌∙◌, subst, arith}
+use Rattle.mt_chart.specs.Tree.{HeadNode, PlainChild, InteriorNode, head, interior, Arena, Among}
 use Rattle.mt_chart.specs.Chart.{on, gone, Role, top, at_level, Spot, spot, Chart, OnHead, IsTree, Changes, Owns, by_head, by_interior, Owned, NoChildTwice}
 use Rattle.mt_chart.proofs.Basics.{same_number}
 use Rattle.mt_chart.proofs.Reach.{children_on, on_child}
 use Rattle.mt_chart.proofs.Owners.{owned_less, owned_adopt, interior_owns, head_owns, owner_moves}
 use Rattle.mt_chart.proofs.InteriorSteps.{owner_place}
-use Rattle.mt_chart.proofs.Entries.{among_append}
 
 -- what is owned stands where the chart says, and may be named
 pub owned_place : (arena : Arena) (chart : Chart) → IsTree arena chart → (j c : ℕ) → Owns arena chart j c → (k : ℕ) × (p : List ℕ) × (l : ℕ) × (chart c ≡ Some (spot (at_level k) p l (on true)))
@@ -108,9 +107,3 @@ owned_go arena chart more some twins w c f q l e charted keep = record {
     go : (j k : ℕ) → j ≢ c → k ≢ c → (j ≡ k) ⊎ some j k → (j ≡ k) ⊎ twins j k
     go j k n n' (inl i) = inl i
     go j k n n' (inr t) = inr (keep j k n n' t)
-
--- the two parts of a list of children share no number: after the cut the halves of a split need be no twins
-pub parts_share_none : (xs ys : List PlainChild) → NoChildTwice (xs ++ ys) → (d e : PlainChild) → Among d xs → Among e ys → e.number ≢ d.number
-parts_share_none [] ys o d e i j = elim i [ ]
-parts_share_none (x ∷ xs) ys o d e first j = o.0 e ((among_append e xs ys).1 (inr j))
-parts_share_none (x ∷ xs) ys o d e (later i) j = parts_share_none xs ys o.1 d e i j

@@ -17,9 +17,6 @@ end_left_out free (f ∷ fs) w = go f w.0
     go : (g : Frame) → g ≡ waits → posting_measure free (gives_back ∷ fs) ≤ rank g + ranks fs
     go g e = rw e (omega arith)
 
-tail_waits : (f : Frame) (fs : List Frame) → AllWait fs → AllWait fs
-tail_waits f fs w = w
-
 pub posting_falls : (n m : ℕ) (f : Frame) (fs gs : List Frame) → AllWait fs → Posts n (f ∷ fs) m gs → posting_measure m gs < posting_measure n (f ∷ fs)
 posting_falls n m f fs gs w (goes_down h) = omega arith
 posting_falls n m f fs gs w (needs_root h) = omega arith

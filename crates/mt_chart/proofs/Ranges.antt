@@ -210,26 +210,6 @@ range_visits show arena chart tree begun stood throughout stands_now throughout_
     noted_visits show chart begun stood throughout (holds_top arena chart tree begun) start limit p n at taken range b
     (border_is_noted show arena chart tree begun stood throughout stands_now throughout_now p n b o) ord lo hi out h
 
--- of a range with an end: once the cursor is at or after it, all before it is done
-pub scan_stops : {V : Type 0} (stood : Place → V → Type 0) (throughout : Place → Type 0) (start : Place) (limit : ℕ) (cursor : Place) (taken : List (Pair V)) →
-    Scanned stood throughout start limit cursor taken → (end : Place) → AtMost end cursor → (key : Place) → AtMost start key → Precedes key end → throughout key → Listed key taken
-scan_stops stood throughout start limit cursor taken s end g key f h t = s.covered key f (inl (then_most key end cursor h g)) t
-
--- a scan without a limit takes a new one before each visit
-pub range_roomier : {V : Type 0} (chart : Chart) (begun : ℕ) (stood : Place → V → Type 0) (throughout : Place → Type 0) (start : Place) (limit more : ℕ) (p : List ℕ) (n : ℕ) (at : Place) (taken : List (Pair V)) →
-    length taken ≤ more → OpenRange chart begun stood throughout start limit p n at taken → OpenRange chart begun stood throughout start more p n at taken
-range_roomier chart begun stood throughout start limit more p n at taken le r = record {
-  held = r.held;
-  scanned = record {
-    onward = r.scanned.onward;
-    rises = r.scanned.rises;
-    from_start = r.scanned.from_start;
-    few = le;
-    shown = r.scanned.shown;
-    covered = r.scanned.covered;
-  };
-}
-
 -- there is a node where the scan is
 pub range_node : (arena : Arena) (chart : Chart) → IsTree arena chart → (begun n s : ℕ) (p : List ℕ) → Holds chart begun n p s → (x : PlainNode) × (arena n ≡ Some x)
 range_node arena chart tree begun n s p k = go k.role k.standing k.place

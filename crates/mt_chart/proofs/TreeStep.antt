@@ -1,13 +1,9 @@
 -- A change of one head or interior, `i`, by which one node, `c`, may come to stand otherwise: linked by a posting,
 -- dropped, bypassed. The borders stay as they are.
-use Rattle.std.proofs.Common.{ℕ, suc, ◌≡◌, ◌≢◌, ◌<◌, ◌⊎◌, ◌↔◌, inl, inr, List, [], ◌∷◌, Some, None, Bool, true, sym, ap, ◌∙◌, subst}
-use Rattle.mt_slice.specs.Place.{Place}
-use Rattle.mt_types.specs.declared.row.Row.{Row}
-use Rattle.mt_chart.specs.Tree.{HeadNode, BorderNode, PlainChild, InteriorNode, PlainNode, head, interior, Arena, Among, Has}
-use Rattle.mt_chart.specs.Chart.{Standing, on, gone, Role, top, at_level, Spot, spot, Chart, OnHead, OnBorder, MayName, IsChild, AreChildren, Hung, HeadAt, InteriorAt, IsTree, Stored, Later, Changes, Evolves}
+use Rattle.std.proofs.Common.{ℕ, suc, ◌≡◌, ◌≢◌, ◌⊎◌, inl, inr, List, [], ◌∷◌, Some, None, Bool, true, sym, ap, ◌∙◌, subst}
+use Rattle.mt_chart.specs.Tree.{HeadNode, BorderNode, PlainChild, InteriorNode, PlainNode, head, interior, Arena, Among}
+use Rattle.mt_chart.specs.Chart.{Standing, on, gone, Role, top, at_level, Spot, spot, Chart, OnHead, OnBorder, MayName, IsChild, AreChildren, Hung, HeadAt, InteriorAt, IsTree, Changes}
 use Rattle.mt_chart.proofs.Basics.{same_number}
-use Rattle.mt_chart.proofs.HeldNodes.{later_same}
-use Rattle.mt_chart.proofs.Reach.{stored, has}
 
 module _ (arena new : Arena) (chart more : Chart) (tree : IsTree arena chart) (i : ℕ) (node_i : PlainNode) (change : Changes arena new i (Some node_i))
     (c k : ℕ) (p : List ℕ) (l : ℕ) (t : Standing) (charted : Changes chart more c (Some (spot (at_level k) p l t)))
@@ -168,22 +164,3 @@ module _ (arena new : Arena) (chart more : Chart) (tree : IsTree arena chart) (i
           (d.low ≡ 0) ⊎ ((j : ℕ) × (f : BorderNode) × OnBorder new more j q f × (f.right ≡ Some (record { low = d.low; number = m })))
       left m q d (inl z) = inl z
       left m q d (inr (j, f, y, e)) = inr (j, f, to_new j q f y, e)
-
-  pub step_content : (key : Place) (row : Row) → Has new key row ↔ Has arena key row
-  step_content key row = (λ h. has arena chart tree key row (back (stored new more step_tree key row h)), λ h. has new more step_tree key row (there (stored arena chart tree key row h)))
-    where
-      back : Stored new more key row → Stored arena chart key row
-      back s = record { prefix = s.prefix; number = s.number; node = s.node; entry = s.entry; place = s.place; on_border = to_old s.number s.prefix s.node s.on_border; live = s.live; holds = s.holds; is_key = s.is_key }
-
-      there : Stored arena chart key row → Stored new more key row
-      there s = record { prefix = s.prefix; number = s.number; node = s.node; entry = s.entry; place = s.place; on_border = to_new s.number s.prefix s.node s.on_border; live = s.live; holds = s.holds; is_key = s.is_key }
-
-  pub step_evolves : (begun : ℕ) → ((u : Standing) → chart c ≡ Some (spot (at_level k) p l u) → Later begun u t) → Evolves begun chart more
-  step_evolves begun later m x q v st g = go (step_place m x q v st g) place_same
-    where
-      go : ((m ≡ c) × (x ≡ at_level k) × (more m ≡ Some (spot x q v t))) ⊎ ((m ≢ c) × (more m ≡ Some (spot x q v st))) → (chart c ≡ None) ⊎ ((u : Standing) × (chart c ≡ Some (spot (at_level k) p l u))) →
-          ((w : Standing) × (more m ≡ Some (spot x q v w)) × Later begun st w) ⊎ ((e : ℕ) × (st ≡ gone e) × (e < begun))
-      go (inl (e, f, w)) (inl n) = absurd (let z : chart m ≡ chart c = ap chart e in cc)
-      go (inl (e, f, w)) (inr (u, n)) = let z : chart m ≡ chart c = ap chart e in let s : spot x q v st ≡ spot (at_level k) p l u = cc in let s4 : u ≡ st = cc in
-          inl (t, w, subst (λ (d : Standing). Later begun d t) s4 (later u n))
-      go (inr (e, w)) _ = inl (st, w, later_same begun st)

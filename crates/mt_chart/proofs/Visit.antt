@@ -8,7 +8,7 @@ use Rattle.mt_chart.specs.Chart.{Chart, class}
 use Rattle.mt_chart.specs.NotedList.{IsNotedList}
 use Rattle.mt_chart.specs.Scan.{AtMost, Pair, Rising, UpTo, Listed, AnswersRange, Scanned, Passed, Visiting}
 use Rattle.mt_slice.proofs.PlaceOrder.{never, precedes_again, under_precedes}
-use Rattle.mt_chart.proofs.PlaceOrder.{either, then_most, most_again, not_both, under_most, under_back, outside, least, slices_rise, after_layer}
+use Rattle.mt_chart.proofs.PlaceOrder.{either, most_again, not_both, under_most, under_back, outside, least, slices_rise, after_layer}
 use Rattle.mt_chart.proofs.Entries.{Before, InOrder, among_append}
 use Rattle.mt_chart.proofs.Keys.{holds_slice}
 use Rattle.mt_chart.proofs.Reach.{below_less}
@@ -348,10 +348,3 @@ module _ {V : Type 0} (stood : Place → V → Type 0) (throughout : Place → T
       go : (key : Place) → AtMost start key → Precedes key (under u (last s 10)) ⊎ UpTo key taken → throughout key → Listed key taken
       go key f (inl g) t = sides key f g t (outside (s ∷ u) key)
       go key f (inr w) t = v.scanned.covered key f (inr w) t
-
-  -- if the range has an end, all before it is done once nothing that is yet to be visited is before it
-  pub visit_stops : (done : List PlainEntry) (e : PlainEntry) (todo : List PlainEntry) (taken : List (Pair V)) → Visiting stood throughout start limit p b at done (e ∷ todo) taken →
-      (z : Place) → first_slice z ≡ e.slice → first_class z ≡ class e.content → From z e → (end : Place) → AtMost end (under p z) →
-      (key : Place) → AtMost start key → Precedes key end → throughout key → Listed key taken
-  visit_stops done e todo taken v z s c h end g key f k t =
-      seen_before done (e ∷ todo) taken v z (ahead_from done e todo taken v z s c h) (below_entry done e todo taken v z s) key f (then_most key end (under p z) k g) t

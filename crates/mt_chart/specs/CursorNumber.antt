@@ -1,7 +1,6 @@
 -- The number of a scan's cursor: its digits, one for each layer. By it a scan that runs alone ends.
 use Rattle.std.specs.Prelude.{ℕ, zero, suc, ◌<◌, ◌+◌, ◌*◌, List, [], ◌∷◌}
 use Rattle.mt_types.specs.declared.limits.TheConstants.{MAX_LAYER}
-use Rattle.mt_slice.specs.Place.{Place, last, deeper}
 
 -- the base to the power
 abbrev pub base_power : ℕ → ℕ → ℕ
@@ -23,11 +22,6 @@ AreDigits base (digit ∷ digits) = (digit < base) × AreDigits base digits
 -- slices so far.
 abbrev pub digit_base : ℕ
 digit_base = 36893488147419103232
-
--- the digits of a cursor at a place, of its slices alone: none of them is one more
-abbrev pub place_digits : Place → List ℕ
-place_digits (last slice bytes) = (2 * slice) ∷ []
-place_digits (deeper slice rest) = (2 * slice) ∷ place_digits rest
 
 -- the digits of a cursor in the layer of a prefix, the nearest slice first
 abbrev pub digits_above : List ℕ → List ℕ → List ℕ

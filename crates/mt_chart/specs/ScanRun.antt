@@ -1,6 +1,6 @@
 -- Scans among other calls: the moments of a call as a list of arenas, newest first, and what steps a scan is made of.
-use Rattle.std.specs.Prelude.{ℕ, ◌≡◌, ◌≢◌, ◌<◌, ◌≤◌, ◌⊎◌, List, [], ◌∷◌, Some, false}
-use Rattle.mt_slice.specs.Place.{Place, last, deeper, under, Precedes, first_slice}
+use Rattle.std.specs.Prelude.{ℕ, ◌≡◌, ◌<◌, ◌≤◌, ◌⊎◌, List, [], ◌∷◌, Some, false}
+use Rattle.mt_slice.specs.Place.{Place, deeper, under, first_slice}
 use Rattle.mt_types.specs.declared.row.Row.{Row}
 use Rattle.mt_chart.specs.Tree.{link, PlainEntry, Right, HeadNode, BorderNode, PlainChild, InteriorNode, head, border, interior, Arena, Among, Below, Has}
 use Rattle.mt_chart.specs.Chart.{Chart, class, IsTree, Evolves}
@@ -68,22 +68,6 @@ pub data Scans {V : Type 0} (show : Row → V) (begun : ℕ) (start : Place) (li
       BorderVisit show limit prefix at node.right node.entries taken (goes to_prefix to_number to more) →
       Scans show begun start limit chart arena past to_prefix to_number to more
 
--- the place ends after at most eight bytes of its last slice, as that of each key does
-abbrev pub Short : Place → Type 0
-Short (last slice bytes) = bytes ≤ 8
-Short (deeper slice rest) = Short rest
-
--- a cursor in the words of keys: at or after a key; or after all keys that begin with the prefix of a layer
-pub data Cursor : Type 0 where
-  at_key : Place → Cursor
-  after_prefix : ℕ → List ℕ → Cursor
-
--- The key passes the cursor. The key that is the prefix ends after eight bytes of the slice.
-abbrev pub Passes : Cursor → Place → Type 0
-Passes (at_key start) key = AtMost start key
-Passes (after_prefix slice above) key = Precedes (under above (last slice 8)) key
-    × ((rest : Place) → key ≡ under (slice ∷ above) rest → ⊥)
-
 -- at no moment did the key have another row than this
 abbrev pub Steady : List Arena → Place → Row → Type 0
 Steady [] key row = Unit {0}
@@ -93,8 +77,3 @@ Steady (arena ∷ past) key row = ((other : Row) → Has arena key other → oth
 abbrev pub Never : List Arena → Place → Type 0
 Never [] key = Unit {0}
 Never (arena ∷ past) key = ((row : Row) → Has arena key row → ⊥) × Never past key
-
--- no key of a deeper layer is empty, as of each key
-abbrev pub Proper : Place → Type 0
-Proper (last slice bytes) = Unit {0}
-Proper (deeper slice rest) = (rest ≢ last 0 0) × Proper rest
