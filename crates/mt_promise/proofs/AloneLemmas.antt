@@ -137,10 +137,7 @@ module _ (C : ℕ) (request : Request) (number : CallNo) (before h : History) (s
   may_make (Put key sets) n none may = (may.0 ∙ ap (λ (l : List Change). length l + 1) none.1, tt)
   may_make (PutIf key sets version) n none may = (may.0 ∙ ap (λ (l : List Change). length l + 1) none.1, subst (λ (l : List Change). version_of (get (after C l) key) ≡ version) none.1 may.2)
   may_make (Remove key) n none may = (may.0 ∙ ap (λ (l : List Change). length l + 1) none.1, subst (λ (l : List Change). IsSome (get (after C l) key)) none.1 may.2)
-  may_make (Get key asked) n none may = absurd may
-  may_make (Range start limit asked) n none may = absurd may
-  may_make (Tidy key) n none may = absurd may
-  may_make (Build spec) n none may = absurd may
+  may_make _ n none may = absurd may
 
   not_twice : (n k : ℕ) → call.committed ≡ Some k → call.committed ≡ None → ⊥
   not_twice n k some none = let clash : ◌≡◌ {A = Option ℕ} (Some k) None = sym some ∙ none in cc
@@ -149,10 +146,7 @@ module _ (C : ℕ) (request : Request) (number : CallNo) (before h : History) (s
   none_before (Put key sets) n may = may.1
   none_before (PutIf key sets version) n may = may.1
   none_before (Remove key) n may = may.1
-  none_before (Get key asked) n may = absurd may
-  none_before (Range start limit asked) n may = absurd may
-  none_before (Tidy key) n may = absurd may
-  none_before (Build spec) n may = absurd may
+  none_before _ n may = absurd may
 
   -- by its commit
   commits_so : (x : Happening) → x.event ≡ Step number → (n : ℕ) → x.outcome ≡ Commit n → MayStep C h call (Commit n) x.opens → IsSince C request number before (x ∷ h)

@@ -91,40 +91,30 @@ call_before m (Begin pass request) (Call number) opens n y e =
       | inl old ↦ inl (y, old, same_call y)
       | inr new ↦ inr (record { pass = pass; request = request; number = number; event = refl; outcome = refl; is = new.0; named = new.1 })
     ]
-call_before m (Begin pass request) _ opens n y e = inl (y, e, same_call y)
 call_before m (Step call) o opens n y e = inl (call_before_call_step m call.0 (call_of call.0 m.calls) refl o opens n y e)
 call_before m (Apply view) (Applied number) opens n y e = inl (y, e, same_call y)
-call_before m (Apply view) _ opens n y e = inl (y, e, same_call y)
 call_before m (ViewDrop view) Dropped opens n y e = inl (y, e, same_call y)
-call_before m (ViewDrop view) _ opens n y e = inl (y, e, same_call y)
 call_before m Advance (Epoch number) opens n y e = inl (y, e, same_call y)
-call_before m Advance _ opens n y e = inl (y, e, same_call y)
 call_before m (ViewRead view floor start limit) o opens n y e = inl (y, e, same_call y)
 call_before m Collect o opens n y e = inl (y, e, same_call y)
+call_before m _ _ opens n y e = inl (y, e, same_call y)
 
 -- as many calls have begun after a step as before
 begun_by_step : (m : Moment) (r : Option OpenCall) (o : Outcome) (opens : ℕ) → (after_call_step m r o opens).begun ≡ m.begun
 begun_by_step m None o opens = refl
 begun_by_step m (Some call) Moved opens = refl
-begun_by_step m (Some call) Again opens = refl
-begun_by_step m (Some call) (Commit number) opens = refl
-begun_by_step m (Some call) (Done reply) opens = refl
-begun_by_step m (Some call) (Refused refusal) opens = refl
 begun_by_step m (Some call) _ opens = refl
 
 -- calls that have begun stay so
 pub begun_rises : (m : Moment) (e : Event) (o : Outcome) (opens : ℕ) → m.begun ≤ (after_event m e o opens).begun
 begun_rises m (Begin pass request) (Call number) opens = omega arith
-begun_rises m (Begin pass request) _ opens = omega arith
 begun_rises m (Step call) o opens = let e = begun_by_step m (call_of call.0 m.calls) o opens in omega arith
 begun_rises m (Apply view) (Applied number) opens = omega arith
-begun_rises m (Apply view) _ opens = omega arith
 begun_rises m (ViewDrop view) Dropped opens = omega arith
-begun_rises m (ViewDrop view) _ opens = omega arith
 begun_rises m Advance (Epoch number) opens = omega arith
-begun_rises m Advance _ opens = omega arith
 begun_rises m (ViewRead view floor start limit) o opens = omega arith
 begun_rises m Collect o opens = omega arith
+begun_rises m _ _ opens = omega arith
 
 call_number : (m : Moment) (r : Option Refusal) (number : CallNo) → MayBegin m r (Call number) → number.0 ≡ m.begun + 1
 call_number m (Some refusal) number may = cc

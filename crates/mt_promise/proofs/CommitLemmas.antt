@@ -11,7 +11,7 @@ use Rattle.mt_types.specs.declared.event.Outcome.TheVariants.{Call, Moved, Again
 use Rattle.mt_types.specs.declared.event.Request.{Request}
 use Rattle.mt_types.specs.declared.event.Request.TheVariants.{Put, PutIf, Remove}
 use Rattle.mt_types.specs.declared.event.Answer.{Answer}
-use Rattle.mt_types.specs.declared.event.Answer.TheVariants.{Absent, Found, Stored, Removed, Rows as RowsAnswer, Tidied, Built}
+use Rattle.mt_types.specs.declared.event.Answer.TheVariants.{Stored, Removed}
 use Rattle.mt_types.specs.declared.event.Reply.{Reply}
 use Rattle.mt_promise.specs.History.{History, Happening, happening, Moment, OpenCall, moment, call_of, new_call, replace_call, without_call, after_event, after_step, after_call_step, change_of}
 use Rattle.mt_promise.specs.Legal.{Legal, MayHappen, MayStep, MayStepAt}
@@ -26,24 +26,17 @@ use Rattle.mt_promise.proofs.OnceLemmas.{places, commit_next, replaced_number, c
 commits_by_step : (m : Moment) (r : Option OpenCall) (o : Outcome) (note : ℕ) → length m.commits ≤ length (after_call_step m r o note).commits
 commits_by_step m None o note = omega arith
 commits_by_step m (Some call) (Commit number) note = let long = length-append m.commits (change_of call.request) in omega (arith, long)
-commits_by_step m (Some call) Moved note = omega arith
-commits_by_step m (Some call) Again note = omega arith
-commits_by_step m (Some call) (Done reply) note = omega arith
-commits_by_step m (Some call) (Refused refusal) note = omega arith
 commits_by_step m (Some call) _ note = omega arith
 
 commits_rise : (m : Moment) (e : Event) (o : Outcome) (note : ℕ) → length m.commits ≤ length (after_event m e o note).commits
 commits_rise m (Begin pass request) (Call number) note = omega arith
-commits_rise m (Begin pass request) _ note = omega arith
 commits_rise m (Step call) o note = commits_by_step m (call_of call.0 m.calls) o note
 commits_rise m (Apply view) (Applied number) note = omega arith
-commits_rise m (Apply view) _ note = omega arith
 commits_rise m (ViewDrop view) Dropped note = omega arith
-commits_rise m (ViewDrop view) _ note = omega arith
 commits_rise m Advance (Epoch number) note = omega arith
-commits_rise m Advance _ note = omega arith
 commits_rise m (ViewRead view floor start limit) o note = omega arith
 commits_rise m Collect o note = omega arith
+commits_rise m _ _ note = omega arith
 
 commits_since : (mid h : History) → length (moment h).commits ≤ length (moment (mid ++ h)).commits
 commits_since [] h = omega arith
@@ -205,13 +198,9 @@ has_committed : (C : ℕ) (past : History) (call : OpenCall) (request : Request)
 has_committed C past call (Put key sets) (Stored made) number note is right = right ∙ is
 has_committed C past call (PutIf key sets version) (Stored made) number note is right = right ∙ is
 has_committed C past call (Remove key) (Removed made) number note is right = right ∙ is
-has_committed C past call request Absent number note is right = let clash : ◌≡◌ {A = Option ℕ} None (Some number) = is in cc
-has_committed C past call request (Found row) number note is right = let clash : ◌≡◌ {A = Option ℕ} None (Some number) = is in cc
-has_committed C past call request (RowsAnswer pairs) number note is right = let clash : ◌≡◌ {A = Option ℕ} None (Some number) = is in cc
-has_committed C past call request (Tidied rule) number note is right = let clash : ◌≡◌ {A = Option ℕ} None (Some number) = is in cc
-has_committed C past call request (Built view) number note is right = let clash : ◌≡◌ {A = Option ℕ} None (Some number) = is in cc
 has_committed C past call _ (Stored made) number note is right = absurd right
 has_committed C past call _ (Removed made) number note is right = absurd right
+has_committed C past call request _ number note is right = let clash : ◌≡◌ {A = Option ℕ} None (Some number) = is in cc
 
 pub finished_made : (C : ℕ) (h : History) (request : Request) (reply : Reply) (before past : History) (number : ℕ) → Legal C h
     → (f : IsFinished h request reply before past) → commit_named reply.answer ≡ Some number → IsMadeBy h f.number.0 number

@@ -2,7 +2,7 @@
 use Rattle.std.proofs.Common.{◌≡◌, ◌≤◌, ◌+◌, ℕ, suc, List, [], ◌∷◌, ◌++◌, length, ◌∙◌, ap, refl, arith, inl, inr}
 use Rattle.mt_types.specs.declared.row.Change.{Change}
 use Rattle.mt_types.specs.Rows.{Rows, after, after_from, after_change}
-use Rattle.mt_promise.specs.History.{History, Happening, Moment, moment, Sometime, Throughout, GoesOn}
+use Rattle.mt_promise.specs.History.{History, Moment, moment, Sometime, Throughout, GoesOn}
 use Rattle.mt_types.specs.declared.event.Event.{Event}
 use Rattle.mt_types.specs.declared.event.Outcome.{Outcome}
 
@@ -20,18 +20,10 @@ after-append C cs c =
     let e : 0 + length cs + 1 ≡ length cs + 1 = omega arith in
     after_from-append C 0 _ cs c ∙ ap (λ k. after_change C k c (after C cs)) e
 
--- a moment of a history is one of each longer history
-pub Sometime-later : (began : ℕ) (P : Moment → Type 0) (x : Happening) (h : History) → Sometime began P h → Sometime began P (x ∷ h)
-Sometime-later began P x h s = inr s
-
 -- what is so now is so at some moment
 pub Sometime-here : (began : ℕ) (P : Moment → Type 0) (h : History) → began ≤ length h → P (moment h) → Sometime began P h
 Sometime-here began P [] b p = (b, p)
 Sometime-here began P (x ∷ h) b p = inl (b, p)
-
--- also afterwards
-pub Sometime-now : (began : ℕ) (P : Moment → Type 0) (x : Happening) (h : History) → began ≤ length h → P (moment h) → Sometime began P (x ∷ h)
-Sometime-now began P x h b p = inr (Sometime-here began P h b p)
 
 -- what is so throughout is so now
 pub Throughout-here : (began : ℕ) (P : Moment → Type 0) (h : History) → began ≤ length h → Throughout began P h → P (moment h)

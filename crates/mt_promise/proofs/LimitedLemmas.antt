@@ -33,9 +33,9 @@ use Rattle.mt_types.specs.Numbers.{greatest_number}
 use Rattle.mt_types.specs.declared.numbers.CallNo.{CallNo}
 use Rattle.mt_types.specs.declared.event.Reply.{Reply}
 use Rattle.mt_types.specs.declared.event.Request.{Request}
-use Rattle.mt_types.specs.declared.event.Request.TheVariants.{Get, Put, PutIf, Remove, Range, Tidy, Build}
+use Rattle.mt_types.specs.declared.event.Request.TheVariants.{Get, Put, PutIf, Remove, Range}
 use Rattle.mt_types.specs.declared.event.Answer.{Answer}
-use Rattle.mt_types.specs.declared.event.Answer.TheVariants.{Absent, Found, Stored, Removed, Rows as RowsAnswer, Tidied, Built}
+use Rattle.mt_types.specs.declared.event.Answer.TheVariants.{Found, Rows as RowsAnswer}
 use Rattle.mt_types.specs.declared.event.Event.{Event}
 use Rattle.mt_types.specs.declared.event.Event.TheVariants.{Begin, Step, Apply, ViewRead, ViewDrop, Advance, Collect}
 use Rattle.mt_types.specs.declared.event.Outcome.{Outcome}
@@ -292,10 +292,7 @@ commit_limited C past call (PutIf key sets version) number opens may asks were =
     let short = neither_of (columns_fault C (map (λ set. set.0) sets)) _ limits.1 in
     added ChangeIsLimited (moment past).commits (PutChange key sets) were (key_fits key limits.0, none_long sets (not_refused _ _ short.1))
 commit_limited C past call (Remove key) number opens may asks were = added ChangeIsLimited (moment past).commits (Drop key) were tt
-commit_limited C past call (Get key asked) number opens may asks were = absurd may
-commit_limited C past call (Range start limit asked) number opens may asks were = absurd may
-commit_limited C past call (Tidy key) number opens may asks were = absurd may
-commit_limited C past call (Build spec) number opens may asks were = absurd may
+commit_limited C past call _ number opens may asks were = absurd may
 
 step_limited : (C : ℕ) (past : History) (call : OpenCall) (o : Outcome) (opens : ℕ) → MayStep C past call o opens → request_fault C call.request ≡ None
     → AreLimited (moment past).commits → AreLimited (after_step (moment past) call o opens).commits
@@ -313,16 +310,13 @@ call_step_limited C past k (Some call) at o opens may was = step_limited C past 
 
 event_limited : (C : ℕ) (past : History) (e : Event) (o : Outcome) (opens : ℕ) → MayHappen C past e o opens → IsLimited C (moment past) → AreLimited (after_event (moment past) e o opens).commits
 event_limited C past (Begin pass request) (Call number) opens may was = was.changes
-event_limited C past (Begin pass request) _ opens may was = was.changes
 event_limited C past (Step call) o opens may was = call_step_limited C past call.0 (call_of call.0 (moment past).calls) refl o opens may was
 event_limited C past (Apply view) (Applied number) opens may was = was.changes
-event_limited C past (Apply view) _ opens may was = was.changes
 event_limited C past (ViewDrop view) Dropped opens may was = was.changes
-event_limited C past (ViewDrop view) _ opens may was = was.changes
 event_limited C past Advance (Epoch number) opens may was = was.changes
-event_limited C past Advance _ opens may was = was.changes
 event_limited C past (ViewRead view floor start limit) o opens may was = was.changes
 event_limited C past Collect o opens may was = was.changes
+event_limited C past _ _ opens may was = was.changes
 
 limited_at : (C : ℕ) (h : History) → Legal C h → IsLimited C (moment h)
 limited_at C [] legal = record { calls = λ n call at. absurd (let clash : ◌≡◌ {A = Option OpenCall} None (Some call) = at in cc); changes = tt }
@@ -357,13 +351,9 @@ answer_limited C past legal few call (Range start limit asked) (RowsAnswer pairs
       each_of (λ pair. Sometime call.began (Shows C pair.0 asked pair.1) past) PairIsLimited (λ pair some. shown_then C call.began past legal few pair.0 asked pair.1 named.0 some) pairs
           (recursion_from_All (λ pair. Sometime call.began (Shows C pair.0 asked pair.1) past) pairs right.stood),
     )
-answer_limited C past legal few call request Absent opens asks right = tt
-answer_limited C past legal few call request (Stored number) opens asks right = tt
-answer_limited C past legal few call request (Removed number) opens asks right = tt
-answer_limited C past legal few call request (Tidied rule) opens asks right = tt
-answer_limited C past legal few call request (Built view) opens asks right = tt
 answer_limited C past legal few call _ (Found row) opens asks right = absurd right
 answer_limited C past legal few call _ (RowsAnswer pairs) opens asks right = absurd right
+answer_limited C past legal few call request _ opens asks right = tt
 
 -- what is shown of the rows now
 shown_now : (C : ℕ) (past : History) → Legal C past → C ≤ MAX_COLUMNS → (key asked : List ℕ) (answer : Row) → columns_fault C asked ≡ None → ShowsRow (rows C (moment past)) asked key answer → PairIsLimited (key, answer)
@@ -384,13 +374,9 @@ plain_answers_are_limited C past (Range start limit asked) (RowsAnswer pairs) fe
       each_of (λ pair. ShowsRow (rows C (moment past)) asked pair.0 pair.1) PairIsLimited (λ pair shown. shown_now C past legal few pair.0 asked pair.1 named.0 shown) pairs
           (recursion_from_All (λ pair. ShowsRow (rows C (moment past)) asked pair.0 pair.1) pairs range.stood),
     )
-plain_answers_are_limited C past request Absent few legal asks plain = tt
-plain_answers_are_limited C past request (Stored number) few legal asks plain = tt
-plain_answers_are_limited C past request (Removed number) few legal asks plain = tt
-plain_answers_are_limited C past request (Tidied rule) few legal asks plain = tt
-plain_answers_are_limited C past request (Built view) few legal asks plain = tt
 plain_answers_are_limited C past _ (Found row) few legal asks plain = absurd plain
 plain_answers_are_limited C past _ (RowsAnswer pairs) few legal asks plain = absurd plain
+plain_answers_are_limited C past request _ few legal asks plain = tt
 
 -- ---- pages
 none_below : (x : List ℕ) (es : List (List ℕ × Row)) → T (below_all key_cmp x es) → find key_cmp x es ≡ None

@@ -244,10 +244,7 @@ pub commit_next : (C : ℕ) (past : History) (call : OpenCall) (request : Reques
 commit_next C past call (Put key sets) number note may = (may.0, (PutChange key sets, refl))
 commit_next C past call (PutIf key sets version) number note may = (may.0, (PutChange key sets, refl))
 commit_next C past call (Remove key) number note may = (may.0, (Drop key, refl))
-commit_next C past call (Get key asked) number note may = absurd may
-commit_next C past call (Range start limit asked) number note may = absurd may
-commit_next C past call (Tidy key) number note may = absurd may
-commit_next C past call (Build spec) number note may = absurd may
+commit_next C past call _ number note may = absurd may
 
 none_added : (commits : List Change) → commits ≡ commits ++ []
 none_added [] = refl
@@ -313,16 +310,13 @@ know_after C past (Begin pass request) (Call number) note may all = λ k y e.
       | inl old ↦ all k y old
       | inr new ↦ subst (λ (z : OpenCall). Knows (moment past).commits z) (sym new.0) (omega arith, λ n none. (let clash : ◌≡◌ {A = Option ℕ} None (Some n) = none in cc))
     ]
-know_after C past (Begin pass request) _ note may all = all
 know_after C past (Step call) o note may all = know_after_call C past call.0 (call_of call.0 (moment past).calls) refl o note may all
 know_after C past (Apply view) (Applied number) note may all = all
-know_after C past (Apply view) _ note may all = all
 know_after C past (ViewDrop view) Dropped note may all = all
-know_after C past (ViewDrop view) _ note may all = all
 know_after C past Advance (Epoch number) note may all = all
-know_after C past Advance _ note may all = all
 know_after C past (ViewRead view floor start limit) o note may all = all
 know_after C past Collect o note may all = all
+know_after C past _ _ note may all = all
 
 all_know : (C : ℕ) (h : History) → Legal C h → AllKnow (moment h)
 all_know C [] legal = λ n call e. let clash : ◌≡◌ {A = Option OpenCall} None (Some call) = e in cc
@@ -368,24 +362,17 @@ have_made C h request reply before past legal f =
 built_by_step : (m : Moment) (r : Option OpenCall) (o : Outcome) (note : ℕ) → m.built ≤ (after_call_step m r o note).built
 built_by_step m None o note = omega arith
 built_by_step m (Some call) (Done reply) note = omega arith
-built_by_step m (Some call) Moved note = omega arith
-built_by_step m (Some call) Again note = omega arith
-built_by_step m (Some call) (Commit number) note = omega arith
-built_by_step m (Some call) (Refused refusal) note = omega arith
 built_by_step m (Some call) _ note = omega arith
 
 built_rises : (m : Moment) (e : Event) (o : Outcome) (note : ℕ) → m.built ≤ (after_event m e o note).built
 built_rises m (Begin pass request) (Call number) note = omega arith
-built_rises m (Begin pass request) _ note = omega arith
 built_rises m (Step call) o note = built_by_step m (call_of call.0 m.calls) o note
 built_rises m (Apply view) (Applied number) note = omega arith
-built_rises m (Apply view) _ note = omega arith
 built_rises m (ViewDrop view) Dropped note = omega arith
-built_rises m (ViewDrop view) _ note = omega arith
 built_rises m Advance (Epoch number) note = omega arith
-built_rises m Advance _ note = omega arith
 built_rises m (ViewRead view floor start limit) o note = omega arith
 built_rises m Collect o note = omega arith
+built_rises m _ _ note = omega arith
 
 built_since : (mid h : History) → (moment h).built ≤ (moment (mid ++ h)).built
 built_since [] h = omega arith
@@ -397,18 +384,13 @@ built_since (x ∷ mid) h =
 next_view : (C : ℕ) (past : History) (call : OpenCall) (request : Request) (answer : Answer) (view : ViewNo) (note : ℕ) → answer ≡ Built view → RightAnswer C past call request answer note
     → (view.0 ≡ (moment past).built + 1) × (length (view_built request answer note) ≡ 1)
 next_view C past call (Build spec) (Built number) view note e right = let same : number ≡ view = cc in (sym (ap (λ (v : ViewNo). v.0) same) ∙ right.0, refl)
-next_view C past call (Get key asked) (Built number) view note e right = absurd right
-next_view C past call (Put key sets) (Built number) view note e right = absurd right
-next_view C past call (PutIf key sets version) (Built number) view note e right = absurd right
-next_view C past call (Remove key) (Built number) view note e right = absurd right
-next_view C past call (Range start limit asked) (Built number) view note e right = absurd right
-next_view C past call (Tidy key) (Built number) view note e right = absurd right
 next_view C past call request Absent view note e right = let clash : Absent ≡ Built view = e in cc
 next_view C past call request (Found row) view note e right = let clash : Found row ≡ Built view = e in cc
 next_view C past call request (Stored n) view note e right = let clash : Stored n ≡ Built view = e in cc
 next_view C past call request (Removed n) view note e right = let clash : Removed n ≡ Built view = e in cc
 next_view C past call request (RowsAnswer pairs) view note e right = let clash : RowsAnswer pairs ≡ Built view = e in cc
 next_view C past call request (Tidied rule) view note e right = let clash : Tidied rule ≡ Built view = e in cc
+next_view C past call _ (Built number) view note e right = absurd right
 
 built_then : (C : ℕ) (past : History) (number : CallNo) (reply : Reply) (note : ℕ) (view : ViewNo) → reply.answer ≡ Built view → Legal C (happening (Step number) (Done reply) note ∷ past)
     → (view.0 ≡ (moment past).built + 1) × ((moment (happening (Step number) (Done reply) note ∷ past)).built ≡ view.0)

@@ -13,13 +13,13 @@ use Rattle.mt_promise.specs.Legal.{Legal, MayHappen, MayApply, MayStepAt, IsOrLa
 use Rattle.mt_types.specs.declared.numbers.ViewNo.{ViewNo}
 use Rattle.mt_types.specs.declared.view.ViewSpec.{ViewSpec}
 use Rattle.mt_types.specs.declared.event.Event.{Event}
-use Rattle.mt_types.specs.declared.event.Event.TheVariants.{Begin, Step, Apply, ViewRead, ViewDrop, Advance, Collect}
+use Rattle.mt_types.specs.declared.event.Event.TheVariants.{Begin, Step, Apply, ViewDrop, Advance}
 use Rattle.mt_types.specs.declared.event.Outcome.{Outcome}
-use Rattle.mt_types.specs.declared.event.Outcome.TheVariants.{Call, Moved, Again, Commit, Done, Applied, Current, Dropped, Epoch, Refused}
+use Rattle.mt_types.specs.declared.event.Outcome.TheVariants.{Call, Commit, Done, Applied, Current, Dropped, Epoch}
 use Rattle.mt_types.specs.declared.event.Request.{Request}
 use Rattle.mt_types.specs.declared.event.Request.TheVariants.{Get, Put, PutIf, Remove, Range, Tidy, Build}
 use Rattle.mt_types.specs.declared.event.Answer.{Answer}
-use Rattle.mt_types.specs.declared.event.Answer.TheVariants.{Absent, Found, Stored, Removed, Rows as RowsAnswer, Tidied, Built}
+use Rattle.mt_types.specs.declared.event.Answer.TheVariants.{Absent, Built}
 
 -- the numbers of views rise, above low and up to high
 abbrev pub Rising : ℕ → List StandingView → ℕ → Type 0
@@ -125,27 +125,19 @@ built_next : (C : ℕ) (past : History) (call : OpenCall) (request : Request) (a
 built_next C past call (Build spec) (Built k) note right number e =
     let same : k ≡ number = cc in ap (λ (w : ViewNo). w.0) (sym same) ∙ right.0
 built_next C past call request Absent note right number e = cc
-built_next C past call request (Found row) note right number e = cc
-built_next C past call request (Stored n) note right number e = cc
-built_next C past call request (Removed n) note right number e = cc
-built_next C past call request (RowsAnswer pairs) note right number e = cc
-built_next C past call request (Tidied rule) note right number e = cc
 built_next C past call (Get key columns) (Built k) note right number e = absurd right
 built_next C past call (Put key sets) (Built k) note right number e = absurd right
 built_next C past call (PutIf key sets version) (Built k) note right number e = absurd right
 built_next C past call (Remove key) (Built k) note right number e = absurd right
 built_next C past call (Range start limit columns) (Built k) note right number e = absurd right
 built_next C past call (Tidy key) (Built k) note right number e = absurd right
+built_next C past call request _ note right number e = cc
 
 rising_after_step : (C : ℕ) (past : History) (r : Option OpenCall) (o : Outcome) (note : ℕ) → MayStepAt C past r o note
     → Rising 0 (moment past).views (moment past).built → Rising 0 (after_call_step (moment past) r o note).views (after_call_step (moment past) r o note).built
 rising_after_step C past None o note may r = r
 rising_after_step C past (Some call) (Done reply) note may r =
     rising_after_build (moment past) call.request reply.answer note r (built_next C past call call.request reply.answer note may.answer)
-rising_after_step C past (Some call) Moved note may r = r
-rising_after_step C past (Some call) Again note may r = r
-rising_after_step C past (Some call) (Commit number) note may r = r
-rising_after_step C past (Some call) (Refused refusal) note may r = r
 rising_after_step C past (Some call) _ note may r = r
 
 rising_move : (r : Option StandingView) (views : List StandingView) (high : ℕ) → Rising 0 views high → Rising 0 (move_view r views) high
@@ -158,16 +150,11 @@ rising_move (Some moved) views high h = rising_map (λ (w : StandingView). if w.
 rising_after : (C : ℕ) (past : History) (e : Event) (o : Outcome) (note : ℕ) → MayHappen C past e o note
     → Rising 0 (moment past).views (moment past).built → Rising 0 (after_event (moment past) e o note).views (after_event (moment past) e o note).built
 rising_after C past (Begin pass request) (Call number) note may r = r
-rising_after C past (Begin pass request) o note may r = r
 rising_after C past (Step call) o note may r = rising_after_step C past (call_of call.0 (moment past).calls) o note may r
 rising_after C past (Apply view) (Applied number) note may r = rising_move (meant_view view.0 (moment past).views) (moment past).views (moment past).built r
-rising_after C past (Apply view) o note may r = r
 rising_after C past (ViewDrop view) Dropped note may r = rising_filter 0 (moment past).built (λ (v : StandingView). not (v.number == view.0)) (moment past).views r
-rising_after C past (ViewDrop view) o note may r = r
 rising_after C past Advance (Epoch number) note may r = r
-rising_after C past Advance o note may r = r
-rising_after C past (ViewRead view floor start limit) o note may r = r
-rising_after C past Collect o note may r = r
+rising_after C past _ o note may r = r
 
 -- the numbers of the views of a legal history rise, up to the number of views that were built
 pub views_rise : (C : ℕ) (h : History) → Legal C h → Rising 0 (moment h).views (moment h).built
@@ -177,25 +164,16 @@ views_rise C (x ∷ h) legal = rising_after C h x.event x.outcome x.opens legal.
 commits_by_step : (m : Moment) (r : Option OpenCall) (o : Outcome) (note : ℕ) → length m.commits ≤ length (after_call_step m r o note).commits
 commits_by_step m None o note = omega arith
 commits_by_step m (Some call) (Commit number) note = omega (arith, length-append m.commits (change_of call.request))
-commits_by_step m (Some call) Moved note = omega arith
-commits_by_step m (Some call) Again note = omega arith
-commits_by_step m (Some call) (Done reply) note = omega arith
-commits_by_step m (Some call) (Refused refusal) note = omega arith
 commits_by_step m (Some call) _ note = omega arith
 
 -- what was committed stays so
 commits_rise : (m : Moment) (e : Event) (o : Outcome) (note : ℕ) → length m.commits ≤ length (after_event m e o note).commits
 commits_rise m (Begin pass request) (Call number) note = omega arith
-commits_rise m (Begin pass request) o note = omega arith
 commits_rise m (Step call) o note = commits_by_step m (call_of call.0 m.calls) o note
 commits_rise m (Apply view) (Applied number) note = omega arith
-commits_rise m (Apply view) o note = omega arith
 commits_rise m (ViewDrop view) Dropped note = omega arith
-commits_rise m (ViewDrop view) o note = omega arith
 commits_rise m Advance (Epoch number) note = omega arith
-commits_rise m Advance o note = omega arith
-commits_rise m (ViewRead view floor start limit) o note = omega arith
-commits_rise m Collect o note = omega arith
+commits_rise m _ o note = omega arith
 
 -- a view that an Apply advances was behind
 was_behind : (m : Moment) (k : ℕ) (v : StandingView) (number : ℕ) → MayApply m k (Some v) (Applied number) → v.at < length m.commits
