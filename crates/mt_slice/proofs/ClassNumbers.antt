@@ -1,5 +1,5 @@
 -- The classes of a slice and their numbers.
-use Rattle.std.proofs.Common.{ℕ, ◌≡◌, ◌<◌, ◌≤◌, ◌⊎◌, inl, inr, true, false, leb, refl, sym, ap, subst, ◌∙◌, arith}
+use Rattle.std.proofs.Common.{ℕ, ◌≡◌, ◌<◌, ◌⊎◌, inl, inr, true, false, leb, refl, sym, ap, subst, ◌∙◌, arith}
 use Rattle.std.proofs.lemmas.Bool.{leb-true, leb-false, cond-true, cond-false, cases_Bool}
 use Rattle.mt_slice.specs.Classes.{IsClass, class_number, class_of}
 use Rattle.mt_slice.specs.declared.slice_class.Class.{Class}
@@ -22,13 +22,6 @@ class_of-Long n e = go (cases_Bool (leb n 8))
     go : (leb n 8 ≡ true) ⊎ (leb n 8 ≡ false) → 8 < n
     go (inl h) = absurd (let f : Len n ≡ Long = sym (cond-true (leb n 8) (Len n) Long h) ∙ e in cc)
     go (inr h) = leb-false n 8 h
-
-pub class_of-Len : (n k : ℕ) → class_of n ≡ Len k → (n ≡ k) × (n ≤ 8)
-class_of-Len n k e = go (cases_Bool (leb n 8))
-  where
-    go : (leb n 8 ≡ true) ⊎ (leb n 8 ≡ false) → (n ≡ k) × (n ≤ 8)
-    go (inl h) = (let f : Len n ≡ Len k = sym (cond-true (leb n 8) (Len n) Long h) ∙ e in cc, leb-true n 8 h)
-    go (inr h) = absurd (let f : Long ≡ Len k = sym (cond-false (leb n 8) (Len n) Long h) ∙ e in cc)
 
 pub IsClass-class_of : (n : ℕ) → IsClass (class_of n)
 IsClass-class_of n = go (cases_Bool (leb n 8))

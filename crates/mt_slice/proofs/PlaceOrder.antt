@@ -155,11 +155,3 @@ place_cmp_total = record {
 pub under_precedes : (p : List ℕ) (x y : Place) → Precedes x y → Precedes (under p x) (under p y)
 under_precedes [] x y h = h
 under_precedes (s ∷ p) x y h = under_precedes p (deeper s x) (deeper s y) (inr (refl, h))
-
-pub place_cmp-under : (p : List ℕ) (x y : Place) → place_cmp (under p x) (under p y) ≡ place_cmp x y
-place_cmp-under p x y = go (three x y)
-  where
-    go : Precedes x y ⊎ ((x ≡ y) ⊎ Precedes y x) → place_cmp (under p x) (under p y) ≡ place_cmp x y
-    go (inl h) = place_cmp-less (under p x) (under p y) (under_precedes p x y h) ∙ sym (place_cmp-less x y h)
-    go (inr (inl e)) = (place_cmp-Equal (under p x) (under p y)).1 (ap (under p) e) ∙ sym ((place_cmp-Equal x y).1 e)
-    go (inr (inr h)) = place_cmp-greater (under p x) (under p y) (under_precedes p y x h) ∙ sym (place_cmp-greater x y h)

@@ -1,10 +1,8 @@
 -- The number of a slice: how it follows from the bytes.
 use Rattle.std.proofs.Common.{ℕ, zero, suc, ◌≡◌, ◌<◌, ◌≤◌, ◌+◌, ◌-◌, ◌*◌, ◌^◌, List, [], ◌∷◌, ◌++◌, length, take, drop, replicate, get_or, refl, sym, ap, ◌∙◌, arith}
 use Rattle.std.proofs.lemmas.List.{take-replicate, drop-replicate, take-append-le, length-take-le, length-append}
-use Rattle.std.proofs.lemmas.List.Elements.{All-nil, All-cons, All-head, All-tail}
 use Rattle.std.proofs.lemmas.Nat.{row_fits}
 use Rattle.std.proofs.Math.Nat.{pow-suc}
-use Rattle.std.specs.Prelude.{All}
 use Rattle.std.specs.Int.{w64, from_be_bytes}
 use Rattle.std.specs.Slice.Scan.{big_endian}
 use Rattle.mt_slice.specs.Place.{AreBytes, slice_number}
@@ -49,27 +47,12 @@ worth_of_eight xs =
     + get_or xs 4 0 * 16777216 + get_or xs 5 0 * 65536 + get_or xs 6 0 * 256 + get_or xs 7 0
 
 pub from_first_eight : (xs : List ℕ) → 8 ≤ length xs → worth_of_eight xs ≡ big_endian 0 (take 8 (xs ++ replicate 8 0))
-from_first_eight [] h = absurd (omega arith)
-from_first_eight (a ∷ []) h = absurd (omega arith)
-from_first_eight (a ∷ (b ∷ [])) h = absurd (omega arith)
-from_first_eight (a ∷ (b ∷ (c ∷ []))) h = absurd (omega arith)
-from_first_eight (a ∷ (b ∷ (c ∷ (d ∷ [])))) h = absurd (omega arith)
-from_first_eight (a ∷ (b ∷ (c ∷ (d ∷ (e ∷ []))))) h = absurd (omega arith)
-from_first_eight (a ∷ (b ∷ (c ∷ (d ∷ (e ∷ (f ∷ [])))))) h = absurd (omega arith)
-from_first_eight (a ∷ (b ∷ (c ∷ (d ∷ (e ∷ (f ∷ (g ∷ []))))))) h = absurd (omega arith)
 from_first_eight (a ∷ (b ∷ (c ∷ (d ∷ (e ∷ (f ∷ (g ∷ (i ∷ xs)))))))) h = omega arith
+from_first_eight _ h = absurd (omega arith)
 
 pub from_be_bytes-big_endian : (xs : List ℕ) → length xs ≡ 8 → from_be_bytes w64 xs ≡ big_endian 0 xs
-from_be_bytes-big_endian [] h = absurd (omega arith)
-from_be_bytes-big_endian (a ∷ []) h = absurd (omega arith)
-from_be_bytes-big_endian (a ∷ (b ∷ [])) h = absurd (omega arith)
-from_be_bytes-big_endian (a ∷ (b ∷ (c ∷ []))) h = absurd (omega arith)
-from_be_bytes-big_endian (a ∷ (b ∷ (c ∷ (d ∷ [])))) h = absurd (omega arith)
-from_be_bytes-big_endian (a ∷ (b ∷ (c ∷ (d ∷ (e ∷ []))))) h = absurd (omega arith)
-from_be_bytes-big_endian (a ∷ (b ∷ (c ∷ (d ∷ (e ∷ (f ∷ [])))))) h = absurd (omega arith)
-from_be_bytes-big_endian (a ∷ (b ∷ (c ∷ (d ∷ (e ∷ (f ∷ (g ∷ []))))))) h = absurd (omega arith)
 from_be_bytes-big_endian (a ∷ (b ∷ (c ∷ (d ∷ (e ∷ (f ∷ (g ∷ (i ∷ [])))))))) h = omega arith
-from_be_bytes-big_endian (a ∷ (b ∷ (c ∷ (d ∷ (e ∷ (f ∷ (g ∷ (i ∷ (j ∷ xs))))))))) h = absurd (omega arith)
+from_be_bytes-big_endian _ h = absurd (omega arith)
 
 -- the bytes that a slice is the number of
 abbrev pub first_eight : List ℕ → List ℕ
@@ -143,11 +126,3 @@ slice_number-long xs h = ap (big_endian 0) (first_eight-long xs h)
 pub are_bytes_from_reads : (xs : List ℕ) → ((i : ℕ) → get_or xs i 0 < 256) → AreBytes xs
 are_bytes_from_reads [] h = tt
 are_bytes_from_reads (x ∷ xs) h = (h 0, are_bytes_from_reads xs (λ i. h (suc i)))
-
-pub are_bytes_from_all : (xs : List ℕ) → All (λ byte. byte < 256) xs → AreBytes xs
-are_bytes_from_all [] h = tt
-are_bytes_from_all (x ∷ xs) h = (All-head (λ byte. byte < 256) x xs h, are_bytes_from_all xs (All-tail (λ byte. byte < 256) x xs h))
-
-pub all_from_are_bytes : (xs : List ℕ) → AreBytes xs → All (λ byte. byte < 256) xs
-all_from_are_bytes [] b = All-nil (λ byte. byte < 256)
-all_from_are_bytes (x ∷ xs) b = All-cons (λ byte. byte < 256) x xs b.0 (all_from_are_bytes xs b.1)
