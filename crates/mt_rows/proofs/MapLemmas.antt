@@ -2,7 +2,7 @@
 use Rattle.std.proofs.Common.{◌≡◌, ℕ, Bool, true, false, cond, ◌&&◌, List, [], ◌∷◌, filter, length, Some, None, refl, ap, sym, ◌∙◌, subst}
 use Rattle.std.specs.Prelude.{T}
 use Rattle.std.specs.declared.cmp.Ordering.{Ordering}
-use Rattle.std.specs.declared.cmp.Ordering.TheVariants.{Less, Equal, Greater}
+use Rattle.std.specs.declared.cmp.Ordering.TheVariants.{Less}
 use Rattle.std.specs.declared.ops.Bound.TheVariants.{Included, Unbounded}
 use Rattle.std.specs.Ordering.{is_le, is_ge, is_lt, eq_by_cmp, ordering_reverse}
 use Rattle.std.specs.Cmp.{IsTotalOrder, eq_by_cmp_equiv}
@@ -87,8 +87,7 @@ seen-remove m n k om on u =
 
 turned : (r : Ordering) → (is_le r && true) ≡ is_ge (ordering_reverse r)
 turned Less = refl
-turned Equal = refl
-turned Greater = refl
+turned _ = refl
 
 from_start : (start k : List ℕ) → (is_le (key_cmp start k) && true) ≡ is_ge (key_cmp k start)
 from_start start k = turned (key_cmp start k) ∙ ap is_ge (sym (key_order.antisymm k start))
