@@ -1,6 +1,6 @@
 -- A layer has one head, and its root has the greatest level.
 use Rattle.std.proofs.Common.{ℕ, zero, suc, ◌≡◌, ◌≢◌, ◌<◌, ◌≤◌, ◌+◌, ◌⊎◌, inl, inr, List, [], ◌∷◌, Option, Some, None, Bool, true, false, refl, sym, ap, ◌∙◌, subst, arith}
-use Rattle.mt_chart.specs.Tree.{link, PlainEntry, HeadNode, BorderNode, InteriorNode, PlainNode, head, border, interior, Arena, Among}
+use Rattle.mt_chart.specs.Tree.{link, PlainEntry, HeadNode, BorderNode, InteriorNode, PlainNode, head, interior, Arena, Among}
 use Rattle.mt_chart.specs.Chart.{on, at_level, spot, Chart, OnHead, IsTree, by_head, by_interior, HasOwner, Named}
 use Rattle.mt_chart.specs.TreeLaws.{EndsBy, RootsAreHighest, RootOfASplitIsIt}
 use native.Mathlib.Decide.{dec_lt}
@@ -24,10 +24,8 @@ one_head arena chart tree h j (s ∷ p) g g' =
 
 -- a bound on all levels
 level_at : Option PlainNode → ℕ
-level_at None = 0
-level_at (Some (head x)) = 0
-level_at (Some (border x)) = 0
 level_at (Some (interior x)) = x.level
+level_at _ = 0
 
 all_levels : Arena → ℕ → ℕ
 all_levels arena zero = 0
