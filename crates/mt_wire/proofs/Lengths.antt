@@ -9,7 +9,7 @@ use Rattle.mt_types.specs.declared.limits.TheConstants.{MAX_COLUMN_BYTES}
 use Rattle.mt_wire.specs.declared.response.Response.{Response}
 use Rattle.mt_wire.specs.declared.response.Response.TheVariants.{Refused, Done, View, Dropped}
 use Rattle.mt_wire.specs.declared.response.End.{End}
-use Rattle.mt_wire.specs.declared.response.End.TheVariants.{Absent, Found, Committed, Rows, Tidied, Built}
+use Rattle.mt_wire.specs.declared.response.End.TheVariants.{Found, Rows}
 use Rattle.mt_wire.specs.Spelling.{key_spelling, short_spelling, sum_spelling, row_spelling, pair_spelling, pairs_spelling, response_spelling}
 use Rattle.mt_wire.specs.Fits.{ShortFits, RowLengths, EndLengthsOf, ResponseLengths}
 use Rattle.mt_types.specs.Limited.{ColumnIsLimited, RowIsLimited, PairIsLimited, PairsAreLimited}
@@ -64,19 +64,14 @@ sums_most sums = spelled_most (λ (sum : ℕ). Unit {0}) sum_spelling 16 (λ sum
     any (x ∷ xs) = (tt, any xs)
 
 response_most : (response : Response) → ResponseIsLimited response → length (response_spelling response) ≤ 2075276
-response_most (Refused refusal) h = omega arith
-response_most (Done start stop Absent) h = omega arith
 response_most (Done start stop (Found row)) h = let most = row_most row h in omega (arith, most)
-response_most (Done start stop (Committed number)) h = omega arith
 response_most (Done start stop (Rows pairs)) h = let most = pairs_most pairs h in omega (arith, most)
-response_most (Done start stop (Tidied rule)) h = omega arith
-response_most (Done start stop (Built view)) h = omega arith
 response_most (View page) h =
     let rows = pairs_most page.rows h.1 in
     let sums = sums_most page.sums in
     let both = length-append (flat_map sum_spelling page.sums) (pairs_spelling page.rows) in
     omega (arith, h.0, rows, sums, both)
-response_most Dropped h = omega arith
+response_most _ h = omega arith
 
 -- ---- and their lengths fit their fields
 
@@ -87,12 +82,9 @@ pairs_lengths : (pairs : List (List ℕ × Row)) → AllByRecursion PairIsLimite
 pairs_lengths pairs = each_of PairIsLimited (λ pair. RowLengths pair.1) (λ pair limited. row_lengths pair.1 limited.1) pairs
 
 end_lengths : (end : End) → EndIsLimited end → EndLengthsOf end
-end_lengths Absent h = tt
 end_lengths (Found row) h = row_lengths row h
-end_lengths (Committed number) h = tt
 end_lengths (Rows pairs) h = (omega (arith, h.0), pairs_lengths pairs h.1)
-end_lengths (Tidied rule) h = tt
-end_lengths (Built view) h = tt
+end_lengths _ h = tt
 
 response_lengths : (response : Response) → ResponseIsLimited response → ResponseLengths response
 response_lengths (Refused refusal) h = tt

@@ -3,7 +3,6 @@ use Rattle.std.proofs.Common.{◌≡◌, ◌≢◌, ℕ, ◌+◌, ◌^◌, ◌<�
 use Rattle.std.specs.Prelude.{IfOk, IfErr, IfSome, IfNone, IsSome, IsSomeAnd, MatchResult}
 use Rattle.std.specs.Global.{Vec}
 use Rattle.std.specs.Int.{w32, to_be_bytes}
-use Rattle.std.proofs.lemmas.Nat.{from_be_bytes-to_be_bytes_4}
 use Rattle.std.proofs.lemmas.Option.{some_pair_parts}
 use Rattle.std.proofs.lemmas.List.{take_at, drop_at, length-append, length-drop, get_or-drop, get_or_append_left, take-append-le, take-append-drop}
 use Rattle.std.proofs.lemmas.List.Concat.{flat_map-cons}
@@ -38,10 +37,6 @@ queries_read_one_way = read_one_way query_exact
 
 pub responses_read_one_way : ResponsesReadOneWay
 responses_read_one_way = read_one_way response_exact
-
--- what follows the four bytes of a frame's length
-behind : (body rest : List ℕ) → drop 4 ((to_be_bytes w32 (length body) ++ body) ++ rest) ≡ body ++ rest
-behind body rest = refl
 
 frames_read_one_way : {A : Type 0} {F : A → Type 0} {spell : A → List ℕ} {item : Reader A} → IsExact A F spell item → (most : ℕ) → most < 2 ^ 32
     → ReadOneWay (λ frame. Holds F frame.messages × (length (body_of spell frame) ≤ most)) (frame_of spell)
@@ -110,12 +105,6 @@ only_next (Err faults.BadVersion) old new whole begun fault frame rest fits e = 
 only_next (Err faults.BadBody) old new whole begun fault frame rest fits e = absurd (no_fault frame rest fits faults.BadBody (subst (λ (bytes : List ℕ). FaultStands faults.BadBody bytes) e (fault (λ k. cc)).0))
 
 -- ---- replies
-
-pub reply_is_one_frame : (frame : Frame Response) → RepliesFit frame → IsOneFrame MAX_REPLY_BODY (reply_frame frame)
-reply_is_one_frame frame fits =
-    let told : announced (reply_frame frame) ≡ length (body_of response_spelling frame) = from_be_bytes-to_be_bytes_4 (length (body_of response_spelling frame)) (omega (arith, fits.1)) in
-    record { header = omega arith; fits = rw told (omega arith, fits.1); whole = rw told (omega arith) }
-
 pub found_replies : (bytes : List ℕ) (r : Result (Frame Response) WireFault) → IsBytes bytes → IsOneFrame MAX_REPLY_BODY bytes → Reads (λ frame. frame) r (body_at (kind_at response_rest) (drop 4 bytes))
     → IfOk r (λ frame. RepliesFit frame × (bytes ≡ reply_frame frame))
 found_replies bytes (Err fault) are is h = tt
@@ -128,9 +117,7 @@ reads_again : (r read : Result (Frame Response) WireFault) (frame : Frame Respon
     → MatchResult r (λ found. found ≡ frame) (λ fault. fault ≡ faults.NoMemory)
 reads_again (Ok found) read frame h e = same_done found frame (sym h ∙ e)
 reads_again (Err faults.NoMemory) read frame h e = refl
-reads_again (Err faults.BadLength) read frame h e = absurd cc
-reads_again (Err faults.BadVersion) read frame h e = absurd cc
-reads_again (Err faults.BadBody) read frame h e = absurd cc
+reads_again _ read frame h e = absurd cc
 
 pub only_replies : (bytes : List ℕ) (r : Result (Frame Response) WireFault) → Reads (λ frame. frame) r (body_at (kind_at response_rest) (drop 4 bytes))
     → (frame : Frame Response) → RepliesFit frame → bytes ≡ reply_frame frame → MatchResult r (λ found. found ≡ frame) (λ fault. fault ≡ faults.NoMemory)
