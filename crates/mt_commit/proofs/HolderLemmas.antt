@@ -273,11 +273,6 @@ pub written_again_kept : (m n : Tree) (number old : ℕ) → AllHeld m.entries �
 written_again_kept m n number old held found w =
     (w.4, subst AllHeld (sym w.0) (AllHeld-set (is_number number) m.entries old held (found_held (is_number number) m.entries old held (sym found))))
 
-pub written_again : (m n : Tree) (number old : ℕ) (holders : List ℕ) → each_held m.entries ≡ holders → Some old ≡ tree.get nat_cmp m number
-    → tree.WritesThrough nat_cmp (nat_cmp number) m old n → each_held n.entries ≡ holders
-written_again m n number old holders is found w =
-    ap each_held (w.0 ∙ set_value-same (is_number number) m.entries old (sym found)) ∙ is
-
 pub written_more : (m n : Tree) (number old : ℕ) (holders : List ℕ) → each_held m.entries ≡ holders → tree.IsOrdered nat_cmp m → AllHeld m.entries
     → Some old ≡ tree.get nat_cmp m number → tree.WritesThrough nat_cmp (nat_cmp number) m (old + 1) n → each_held n.entries ≡ with_holder number holders
 written_more m n number old holders is order held found w =
