@@ -13,21 +13,7 @@ use Rattle.mt_types.specs.TidyNumbers.{tidy_number, tidy_of}
 pub refusal_back : (r : Refusal) → refusal_of (refusal_number r) (unwrap_or (refusal_detail r) 0) ≡ Some r
 unfolding refusal_of
 refusal_back NoMemory = refl
-refusal_back KeyTooLong = refl
-refusal_back BadColumn = refl
-refusal_back ColumnTooLong = refl
-refusal_back BadLimit = refl
-refusal_back ArenaFull = refl
-refusal_back (FeedFull held_from) = refl
-refusal_back TooManyCalls = refl
-refusal_back NoSuchCall = refl
-refusal_back TooManyViews = refl
-refusal_back NoSuchView = refl
-refusal_back (Behind at) = refl
-refusal_back BadRange = refl
-refusal_back Spent = refl
-refusal_back WrongPass = refl
-refusal_back (OtherVersion found) = refl
+refusal_back _ = refl
 
 some_same : {A : Type 0} (x y : A) → Some x ≡ Some y → x ≡ y
 some_same x y e = cc
@@ -74,10 +60,7 @@ refusal_has (suc (suc (suc (suc (suc (suc (suc (suc (suc (suc (suc (suc (suc (su
 pub tidy_back : (rule : TidyRule) → tidy_of (tidy_number rule) ≡ Some rule
 unfolding tidy_of
 tidy_back Nothing = refl
-tidy_back EmptyBorder = refl
-tidy_back LoneChild = refl
-tidy_back LoneRootChild = refl
-tidy_back EmptyLayer = refl
+tidy_back _ = refl
 
 -- a rule of this number has it
 pub tidy_has : (n : ℕ) (rule : TidyRule) → tidy_of n ≡ Some rule → tidy_number rule ≡ n

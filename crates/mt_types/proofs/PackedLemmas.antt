@@ -1,8 +1,7 @@
 -- Packed columns are read back as they were.
 use Rattle.std.proofs.Common.{◌≡◌, ℕ, suc, ◌+◌, ◌<◌, ◌≤◌, true, false, List, [], ◌∷◌, ◌++◌, map, length, take, drop, get_or, refl, ap, sym, ◌∙◌, inl, inr, subst, arith}
 use Rattle.std.specs.Prelude.{nat_eq, ◌==◌}
-use Rattle.std.specs.List.{flat_map, AllByRecursion}
-use Rattle.std.proofs.lemmas.List.Concat.{flat_map-cons}
+use Rattle.std.specs.List.{AllByRecursion}
 use Rattle.std.specs.Cmp.Lexicographic.{pointwise, pointwise_decides, bytes_decides}
 use Rattle.std.proofs.lemmas.Bool.{cases_Bool, false≢true}
 use Rattle.std.proofs.Math.Numerals.{add-one}
@@ -103,13 +102,6 @@ parts_end parts i items total h so_far =
 pub chosen_some : (asked : List ℕ) (columns : List (List ℕ)) → false ≡ (length asked == 0) → chosen asked columns ≡ map (λ k. get_or columns k []) asked
 chosen_some [] columns h = absurd (false≢true h)
 chosen_some (k ∷ ks) columns h = refl
-
--- columns are packed as the wire spells them: a count, and the pieces
-pub pieces_spelled : (columns : List (List ℕ)) → pieces columns ≡ flat_map (λ column. length column ∷ column) columns
-pieces_spelled [] = refl
-pieces_spelled (column ∷ columns) =
-    ap (λ l. length column ∷ (column ++ l)) (pieces_spelled columns)
-    ∙ sym (flat_map-cons (λ (bytes : List ℕ). length bytes ∷ bytes) column columns)
 
 -- what an iterator has of columns that are still to come
 pub pieces_are : (columns : List (List ℕ)) (left : ℕ) (rest : List ℕ) → left ≡ length columns → rest ≡ pieces columns → cut left rest ≡ columns
