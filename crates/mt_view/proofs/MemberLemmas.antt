@@ -3,13 +3,12 @@ use Rattle.std.proofs.Common.{◌≡◌, ℕ, suc, ◌+◌, ◌*◌, ◌^◌, �
 use Rattle.std.proofs.Math.Nat.{pow-suc, pow-le-pow_right}
 use Rattle.std.specs.Ordering.{nat_cmp, partial_ordering_then, ordering_then}
 use Rattle.std.specs.declared.cmp.Ordering.{Ordering}
-use Rattle.std.specs.declared.cmp.Ordering.TheVariants.{Less, Equal, Greater}
+use Rattle.std.specs.declared.cmp.Ordering.TheVariants.{Less}
 use Rattle.std.specs.Cmp.Lexicographic.{slice_cmp, slice_partial_cmp}
 
 then-Some : (first rest : Ordering) → partial_ordering_then (Some first) (Some rest) ≡ Some (ordering_then first rest)
 then-Some Less rest = refl
-then-Some Equal rest = refl
-then-Some Greater rest = refl
+then-Some _ rest = refl
 
 -- bytes are always comparable
 pub partial-total : (xs ys : List ℕ) → slice_partial_cmp (λ x y. Some (nat_cmp x y)) xs ys ≡ Some (slice_cmp nat_cmp xs ys)
