@@ -13,7 +13,7 @@ use Rattle.mt_types.specs.declared.event.Event.TheVariants.{Begin, Step, Apply, 
 use Rattle.mt_types.specs.declared.event.Outcome.{Outcome}
 use Rattle.mt_types.specs.declared.event.Outcome.TheVariants.{Call as Called, Moved, Again, Commit, Done, Applied, View, Dropped, Epoch, Refused}
 use Rattle.mt_types.specs.declared.event.Request.{Request}
-use Rattle.mt_types.specs.declared.event.Request.TheVariants.{Get, Put, PutIf, Remove, Range, Tidy, Build}
+use Rattle.mt_types.specs.declared.event.Request.TheVariants.{Put, PutIf, Remove, Build}
 use Rattle.mt_types.specs.declared.event.Answer.{Answer}
 use Rattle.mt_types.specs.declared.event.Answer.TheVariants.{Stored, Removed}
 use Rattle.mt_types.specs.declared.numbers.ViewNo.{ViewNo}
@@ -54,10 +54,7 @@ committed_over : (C : ℕ) (past : History) (call : OpenCall) (request : Request
 committed_over C past call (Put key sets) number note may = (PutChange key sets, refl, tt)
 committed_over C past call (PutIf key sets version) number note may = (PutChange key sets, refl, tt)
 committed_over C past call (Remove key) number note may = (DropChange key, refl, may.2)
-committed_over C past call (Get key asked) number note may = absurd may
-committed_over C past call (Range start limit asked) number note may = absurd may
-committed_over C past call (Tidy key) number note may = absurd may
-committed_over C past call (Build spec) number note may = absurd may
+committed_over C past call _ number note may = absurd may
 
 adds_by_step : (C : ℕ) (past : History) (r : Option OpenCall) (o : Outcome) (note : ℕ) → MayStepAt C past r o note → AddsOver C (moment past).commits (after_call_step (moment past) r o note).commits
 adds_by_step C past None o note may = inl refl
@@ -72,16 +69,13 @@ adds_by_step C past (Some call) _ note may = absurd may
 
 adds_by_event : (C : ℕ) (past : History) (e : Event) (o : Outcome) (note : ℕ) → MayHappen C past e o note → AddsOver C (moment past).commits (after_event (moment past) e o note).commits
 adds_by_event C past (Begin pass request) (Called number) note may = inl refl
-adds_by_event C past (Begin pass request) _ note may = inl refl
 adds_by_event C past (Step call) o note may = adds_by_step C past (call_of call.0 (moment past).calls) o note may
 adds_by_event C past (Apply view) (Applied number) note may = inl refl
-adds_by_event C past (Apply view) _ note may = inl refl
 adds_by_event C past (ViewDrop view) Dropped note may = inl refl
-adds_by_event C past (ViewDrop view) _ note may = inl refl
 adds_by_event C past Advance (Epoch number) note may = inl refl
-adds_by_event C past Advance _ note may = inl refl
 adds_by_event C past (ViewRead view floor start limit) o note may = inl refl
 adds_by_event C past Collect o note may = inl refl
+adds_by_event C past _ _ note may = inl refl
 
 -- a place of a list and one more
 in_front : (cs : List Change) (c : Change) (i : ℕ) (change : Change) → slice_get (cs ++ c ∷ []) i ≡ Some change

@@ -1,8 +1,7 @@
 -- Receipts judged one after the other: marks of what they claim, and the first that breaks a rule.
-use Rattle.std.proofs.Common.{◌≡◌, ◌≢◌, ◌≤◌, ◌<◌, ℕ, zero, suc, ◌+◌, ◌-◌, Bool, true, false, List, [], ◌∷◌, ◌++◌, take, length, get_or, set, replicate, Some, None, refl, ap, sym, ◌∙◌, subst, arith, inl, inr, ◌⊎◌, get_or-set_same, get_or-set_other}
+use Rattle.std.proofs.Common.{◌≡◌, ◌≢◌, ◌≤◌, ◌<◌, ℕ, zero, suc, ◌+◌, ◌-◌, Bool, true, false, List, [], ◌∷◌, ◌++◌, take, length, get_or, set, Some, None, refl, ap, sym, ◌∙◌, subst, arith, inl, inr, ◌⊎◌, get_or-set_same, get_or-set_other}
 use Rattle.std.specs.Prelude.{slice_get, Result, Ok, Err, All, OnOk, IfErr}
 use Rattle.std.proofs.Math.ListN.{length-set}
-use Rattle.std.proofs.lemmas.Bool.{false≢true}
 use Rattle.std.proofs.lemmas.Bool.Decides.{eqb_tells}
 use Rattle.std.proofs.lemmas.Option.{slice_get_within, slice_get-get_or}
 use Rattle.mt_types.specs.declared.row.Delta.{Delta}
@@ -117,18 +116,6 @@ first_broken C deltas receipts i r rule right at small =
       smallest = subst (λ (p : ℕ). IsSmallest (ReceiptBreaks C deltas (take p receipts) r) rule) (sym place) small;
       first = subst (λ (p : ℕ). AreClean (ReceiptBreaks C deltas) receipts p) (sym place) (right_clean C deltas receipts i right);
     }
-
--- nothing is marked where nothing was claimed
-pub none_marked : (count : ℕ) → AreClaims [] (replicate count false)
-none_marked count number low high = (
-  λ t. absurd (false≢true (sym (none_at count (number - 1)) ∙ t)),
-  λ c. cc (c.2),
-)
-  where
-    none_at : (n k : ℕ) → get_or (replicate n false) k false ≡ false
-    none_at zero k = refl
-    none_at (suc n) zero = refl
-    none_at (suc n) (suc k) = none_at n k
 
 -- what a run through all receipts says
 pub all_sound : (C : ℕ) (deltas : List Delta) (receipts : List Receipt) (r : Result (Unit {0}) Fault) → OnOk r (AreRight C deltas receipts (length receipts)) → OnOk r (All (IsSound C deltas) receipts)

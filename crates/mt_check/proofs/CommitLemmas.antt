@@ -11,7 +11,7 @@ use Rattle.mt_types.specs.declared.event.Event.TheVariants.{Begin, Step, Apply, 
 use Rattle.mt_types.specs.declared.event.Outcome.{Outcome}
 use Rattle.mt_types.specs.declared.event.Outcome.TheVariants.{Call, Moved, Again, Commit, Done, Applied, Dropped, Epoch, Refused}
 use Rattle.mt_types.specs.declared.event.Request.{Request}
-use Rattle.mt_types.specs.declared.event.Request.TheVariants.{Get, Put, PutIf, Remove, Range, Tidy, Build}
+use Rattle.mt_types.specs.declared.event.Request.TheVariants.{Put, PutIf, Remove}
 use Rattle.mt_promise.specs.History.{History, Moment, OpenCall, moment, call_of, replace_call, new_call, after_event, after_call_step, change_of}
 use Rattle.mt_promise.specs.Legal.{Legal, MayHappen, MayStepAt, MayCommit}
 use Rattle.mt_promise.proofs.NumberedLemmas.{found_before_filter, found_before_map, found_before_append}
@@ -30,24 +30,15 @@ same_commits cs = ([], none_more cs)
 commits_by_step : (m : Moment) (r : Option OpenCall) (o : Outcome) (note : ℕ) → GoesOnFrom (after_call_step m r o note).commits m.commits
 commits_by_step m None o note = same_commits m.commits
 commits_by_step m (Some call) (Commit number) note = (change_of call.request, refl)
-commits_by_step m (Some call) Moved note = same_commits m.commits
-commits_by_step m (Some call) Again note = same_commits m.commits
-commits_by_step m (Some call) (Done reply) note = same_commits m.commits
-commits_by_step m (Some call) (Refused refusal) note = same_commits m.commits
 commits_by_step m (Some call) _ note = same_commits m.commits
 
 commits_go_on : (m : Moment) (e : Event) (o : Outcome) (note : ℕ) → GoesOnFrom (after_event m e o note).commits m.commits
 commits_go_on m (Begin pass request) (Call number) note = same_commits m.commits
-commits_go_on m (Begin pass request) o note = same_commits m.commits
 commits_go_on m (Step call) o note = commits_by_step m (call_of call.0 m.calls) o note
 commits_go_on m (Apply view) (Applied number) note = same_commits m.commits
-commits_go_on m (Apply view) o note = same_commits m.commits
 commits_go_on m (ViewDrop view) Dropped note = same_commits m.commits
-commits_go_on m (ViewDrop view) o note = same_commits m.commits
 commits_go_on m Advance (Epoch number) note = same_commits m.commits
-commits_go_on m Advance o note = same_commits m.commits
-commits_go_on m (ViewRead view floor start limit) o note = same_commits m.commits
-commits_go_on m Collect o note = same_commits m.commits
+commits_go_on m _ o note = same_commits m.commits
 
 -- the commits of a history continue those of each past of it
 pub commits_since : (newer past : History) → GoesOnFrom (moment (newer ++ past)).commits (moment past).commits
@@ -178,10 +169,7 @@ made_now C past call (PutIf key sets version) number from may began =
     made_next C (moment past).commits from (PutIf key sets version) (PutChange key sets) number refl may.0 began
     (λ before. ap (λ (ds : List Change). version_of (get (after C ds) key)) before ∙ may.2)
 made_now C past call (Remove key) number from may began = made_next C (moment past).commits from (Remove key) (DropChange key) number refl may.0 began (λ before. tt)
-made_now C past call (Get k c) number from may began = absurd may
-made_now C past call (Range s l c) number from may began = absurd may
-made_now C past call (Tidy k) number from may began = absurd may
-made_now C past call (Build s) number from may began = absurd may
+made_now C past call _ number from may began = absurd may
 
 kept_by_step : (C : ℕ) (past : History) (k : ℕ) (r : Option OpenCall) → call_of k (moment past).calls ≡ r → (o : Outcome) (note : ℕ) → MayStepAt C past r o note → AllKept C (moment past)
     → AllKept C (after_call_step (moment past) r o note)
@@ -222,16 +210,13 @@ kept_by_event C past (Begin pass request) (Call number) note may kept n y e =
       | inl old ↦ kept n y old
       | inr new ↦ subst (λ (z : OpenCall). CallKept C (moment past).commits z) (sym new.0) (record { began = omega arith; made = λ i f. cc })
     ]
-kept_by_event C past (Begin pass request) _ note may kept n y e = kept n y e
 kept_by_event C past (Step call) o note may kept n y e = kept_by_step C past call.0 (call_of call.0 (moment past).calls) refl o note may kept n y e
 kept_by_event C past (Apply view) (Applied number) note may kept n y e = kept n y e
-kept_by_event C past (Apply view) _ note may kept n y e = kept n y e
 kept_by_event C past (ViewDrop view) Dropped note may kept n y e = kept n y e
-kept_by_event C past (ViewDrop view) _ note may kept n y e = kept n y e
 kept_by_event C past Advance (Epoch number) note may kept n y e = kept n y e
-kept_by_event C past Advance _ note may kept n y e = kept n y e
 kept_by_event C past (ViewRead view floor start limit) o note may kept n y e = kept n y e
 kept_by_event C past Collect o note may kept n y e = kept n y e
+kept_by_event C past _ _ note may kept n y e = kept n y e
 
 -- each open call of a legal history
 pub calls_kept : (C : ℕ) (h : History) → Legal C h → AllKept C (moment h)

@@ -12,7 +12,7 @@ use Rattle.mt_commit.specs.Log.{Numbered}
 use Rattle.mt_check.specs.declared.versions.Version.{Version}
 use Rattle.mt_check.specs.declared.versions.Versions.{Versions}
 use Rattle.mt_check.specs.declared.fault.Rule.{Rule}
-use Rattle.mt_check.specs.declared.fault.Rule.TheVariants.{Memory, DeltaNumber, DeltaRows, Span, GetAnswer, WriteAnswer, ClaimedOnce, RangeAnswer, ViewPage}
+use Rattle.mt_check.specs.declared.fault.Rule.TheVariants.{DeltaNumber, DeltaRows}
 use Rattle.mt_check.specs.Receipts.{rows_at, FitsRow, IsSoundLog}
 use Rattle.mt_check.specs.Faults.{BreaksThere, DeltaBreaks, IsSmallest, AreClean, IsFirstFault}
 use Rattle.mt_check.specs.Versions.{version_of, versions_of, versions_in, last_row, AreVersions, AreSound}
@@ -83,13 +83,7 @@ sound_clean deltas count sound i d DeltaNumber below at broken =
     let size : length (take i deltas) ≡ i = omega (arith, length-take i deltas) in
     broken ((sound i d below at).0 ∙ ap (λ (n : ℕ). n + 1) (sym size))
 sound_clean deltas count sound i d DeltaRows below at broken = broken (sound i d below at).1
-sound_clean deltas count sound i d Memory below at broken = broken
-sound_clean deltas count sound i d Span below at broken = broken
-sound_clean deltas count sound i d GetAnswer below at broken = broken
-sound_clean deltas count sound i d WriteAnswer below at broken = broken
-sound_clean deltas count sound i d ClaimedOnce below at broken = broken
-sound_clean deltas count sound i d RangeAnswer below at broken = broken
-sound_clean deltas count sound i d ViewPage below at broken = broken
+sound_clean deltas count sound i d _ below at broken = broken
 
 -- the first delta that isn't sound
 pub first_unsound : (deltas : List Delta) (i : ℕ) (d : Delta) (rule : Rule) → AreSound deltas i → slice_get deltas i ≡ Some d

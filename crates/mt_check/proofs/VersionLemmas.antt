@@ -74,13 +74,6 @@ found_at key deltas number h =
     ∙ sym (standing_take key 0 number None deltas h)
     ∙ ap (λ (n : ℕ). standing n None (versions_of key deltas)) zero_more
 
--- after a number that all versions are above, they are what follows
-later_all : (number low : ℕ) (versions : List Version) → number ≤ low → Rising low versions → later number versions ≡ versions
-later_all number low [] h r = refl
-later_all number low (v ∷ versions) h r =
-    let after : nat_le v.number number ≡ false = search (arith, r.0, h) in
-    rw after (ap (λ (vs : List Version). v ∷ vs) (later_all number v.number versions (omega (arith, r.0, h)) r.1))
-
 or_left : (a b : Bool) → a ≡ true → a || b ≡ true
 or_left a b e = rw e
 

@@ -132,9 +132,6 @@ or_second : (a b : Bool) → b ≡ true → a || b ≡ true
 or_second true b e = refl
 or_second false b e = e
 
-itself_up_to : (k q : List ℕ) → k ≡ q → is_le (key_cmp k q) ≡ true
-itself_up_to k q e = ap is_le (ap (key_cmp k) (sym e) ∙ tied_itself key_order k)
-
 -- what is good walks well
 pub good_walks : {V : Type 0} (lacks : V → Bool) (shows : V → Row → Bool) (full : Bool) (es : List (List ℕ × V)) (pairs : List (List ℕ × Row)) → Sorted es
     → Good lacks shows full es pairs → walks lacks shows full es pairs ≡ true

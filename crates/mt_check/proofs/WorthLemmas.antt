@@ -180,11 +180,7 @@ sound_answer C h before past call from to note s (Range start limit asked) (Rows
 }
 sound_answer C h before past call from to note s (Tidy key) answer gives d right = absurd gives
 sound_answer C h before past call from to note s (Build spec) answer gives d right = absurd gives
-sound_answer C h before past call from to note s (Get key asked) _ gives d right = absurd right
-sound_answer C h before past call from to note s (Put key sets) _ gives d right = absurd right
-sound_answer C h before past call from to note s (PutIf key sets version) _ gives d right = absurd right
-sound_answer C h before past call from to note s (Remove key) _ gives d right = absurd right
-sound_answer C h before past call from to note s (Range start limit asked) _ gives d right = absurd right
+sound_answer C h before past call from to note s _ _ gives d right = absurd right
 
 pub replies_are_sound : RepliesAreSound
 replies_are_sound C h legal request reply before past f gives =
