@@ -66,9 +66,6 @@ is_named : (found : Option BorderView) (b : BorderView) → found ≡ Some b →
 is_named found b named = subst (λ (o : Option BorderView). IsSome o) (sym named) refl
 
 module _ (walk : WalkView) (s : IsWalk walk) where
-  abbrev prefix : List ℕ
-  prefix = prefix_of walk.path
-
   within : (places : ℕ) → cursor_of places (walk_cursor walk) < all_cursors places
   within = coarse_within (prefix_of walk.path) walk.here.slice walk.after s.narrow s.fits
 

@@ -14,7 +14,7 @@ use Rattle.mt_arena.specs.Arena.{ArenaView}
 use Rattle.mt_arena.specs.declared.node.Node.{Node}
 use Rattle.mt_arena.specs.declared.node.Node.TheVariants.{Head, Interior, Border}
 use Rattle.mt_chart.specs.Tree.{Arena, PlainEntry, PlainContent, Right, link, BorderNode, Among, first, Below, no_right, before_right, Has, HoldsRow}
-use Rattle.mt_chart.specs.Chart.{class, OnBorder, IsTree}
+use Rattle.mt_chart.specs.Chart.{class, OnBorder}
 use Rattle.mt_chart.specs.NotedList.{IsNotedList}
 use Rattle.mt_chart.specs.Scan.{AtMost, Pair, Scanned, Passed, Visiting}
 use Rattle.mt_chart.proofs.Entries.{Before, among_append, among_cases}
@@ -98,12 +98,6 @@ ahead_of_least low e most = (rows, λ head is. links (sizes low e.slice))
     links (inr (inr more)) = absurd (omega (arith, most, more))
 
 module _ (a : ArenaView) (lone : IsLoneTree a) where
-  abbrev arena : Arena
-  arena = arena_seen a
-
-  abbrev tree : IsTree (arena_seen a) lone.w.chart
-  tree = lone.world.index.tree
-
   abbrev Stood : Place → Row → Type 0
   Stood key row = Has (arena_seen a) key row
 

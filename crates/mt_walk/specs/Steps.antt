@@ -104,7 +104,7 @@ pub record GoesOn (begun walk : WalkView) : Type 0 where
   pub on : StandsOn begun walk
   pub same : stands_at walk ≡ stands_at begun
 
--- it goes on to an entry with a row, and past it; or no pair is to come, and it stays
+-- it continues to an entry with a row, and past it; or no pair is to come, and it stays
 abbrev pub FindsEntry : WalkView → Option (Bor Entry × Bor Row) → WalkView → Type 0
 FindsEntry walk None new = StandsOn walk new × GivesRow walk None new
 FindsEntry walk (Some found) new = (before : WalkView) × GoesOn walk before × PassesEntry before found.0.now found.1.now new
