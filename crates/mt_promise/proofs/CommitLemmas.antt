@@ -20,7 +20,8 @@ use Rattle.mt_promise.specs.Headline.{IsFinished}
 use Rattle.mt_promise.specs.Finished.{commit_named, CommitsAreNamedOnce}
 use Rattle.mt_promise.proofs.NumberedLemmas.{found, found_before_filter, found_before_map, found_before_append}
 use Rattle.mt_promise.proofs.FinishedLemmas.{legal_before, done_call}
-use Rattle.mt_promise.proofs.OnceLemmas.{places, commit_next, replaced_number, calls_finish_once}
+use Rattle.mt_promise.proofs.OnceLemmas.{places, calls_finish_once}
+use Rattle.mt_promise.proofs.OwnChange.{commit_next, replaced_number}
 
 -- ---- commits are counted on
 commits_by_step : (m : Moment) (r : Option OpenCall) (o : Outcome) (note : ℕ) → length m.commits ≤ length (after_call_step m r o note).commits

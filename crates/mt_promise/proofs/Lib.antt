@@ -1,5 +1,6 @@
 pub mod AloneLemmas
 pub mod CallLemmas
+pub mod CommitLemmas
 pub mod ExampleLemmas
 pub mod FinishedLemmas
 pub mod GetLemmas
@@ -8,10 +9,11 @@ pub mod KeepLemmas
 pub mod LimitedLemmas
 pub mod NumberedLemmas
 pub mod OnceLemmas
-pub mod CommitLemmas
+pub mod OwnChange
 pub mod PageExamples
 pub mod PageLemmas
 pub mod RangeLemmas
 pub mod RefusalLemmas
+pub mod RowLimits
 pub mod StandLemmas
 pub mod ViewLemmas

@@ -1,5 +1,6 @@
 use Rattle.mt_promise.proofs.finished.finished_calls_are_their_own.Goals as goal
-use Rattle.mt_promise.proofs.OnceLemmas.{carries, have_made, calls_finish_once, views_are_built_once}
+use Rattle.mt_promise.proofs.OnceLemmas.{carries, calls_finish_once, views_are_built_once}
+use Rattle.mt_promise.proofs.OwnChange.{have_made}
 use Rattle.mt_promise.proofs.CommitLemmas.{commits_are_named_once}
 
 pub returns-clause-carries : goal.returns-clause-carries
