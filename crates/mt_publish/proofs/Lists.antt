@@ -1,7 +1,6 @@
 -- Beginnings of one list.
 use Rattle.std.proofs.Common.{◌≡◌, ◌≤◌, ◌<◌, nat_le, Bool, true, false, MatchBool, List, [], ◌∷◌, length, refl, sym, arith}
 use Rattle.std.proofs.lemmas.Bool.Decides.{nat_tests}
-use Rattle.std.proofs.lemmas.List.{append-nil}
 use mathlib.Core.List.{IsPrefix}
 use Rattle.mt_types.specs.declared.row.Delta.{Delta}
 use Rattle.mt_publish.specs.Marks.{StartsWith}
@@ -38,7 +37,3 @@ covers list start whole p q false is =
 pub covered : (list start whole : List Delta) → IsPrefix list whole → IsPrefix start whole
     → MatchBool (nat_le (length start) (length list)) (StartsWith list start) (StartsWith start list × (length list < length start))
 covered list start whole p q = covers list start whole p q (nat_le (length start) (length list)) refl
-
--- a list begins with itself
-pub starts_itself : (list : List Delta) → StartsWith list list
-starts_itself list = ([], sym (append-nil list))
