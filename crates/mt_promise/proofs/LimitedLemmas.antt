@@ -1,6 +1,7 @@
 -- How large the answers of a legal history are.
-use Rattle.std.proofs.Common.{◌≡◌, ◌≤◌, ◌+◌, ◌&&◌, ℕ, zero, suc, true, false, T, cond, List, ◌∷◌, ◌++◌, map, length, Option, Some, None, ◌∙◌, ap, sym, subst, refl, inl, inr, arith, []}
-use Rattle.std.specs.Prelude.{nat_lt, MatchBool, take, filter}
+use Rattle.std.proofs.lemmas.Bool.{leb-true}
+use Rattle.std.proofs.Common.{◌≡◌, ◌≤◌, ◌+◌, ◌&&◌, ℕ, zero, suc, true, false, T, cond, List, ◌∷◌, ◌++◌, map, length, Option, Some, None, ◌∙◌, ap, sym, subst, refl, inl, inr, arith, [], not}
+use Rattle.std.specs.Prelude.{nat_lt, MatchBool, take, filter, nat_le}
 use Rattle.std.specs.List.{AllByRecursion}
 use Rattle.std.specs.Option.{option_or}
 use Rattle.std.specs.declared.cmp.Ordering.{Ordering}
@@ -14,7 +15,7 @@ use Rattle.std.proofs.lemmas.List.Elements.{recursion_from_All}
 use Rattle.mt_types.specs.Keys.{key_cmp}
 use Rattle.mt_types.specs.Rows.{Rows, after, shown}
 use Rattle.mt_types.specs.Views.{afresh, belongs, column_sums}
-use Rattle.mt_types.specs.Limits.{refused_if, key_fault, columns_fault, sets_fault, limit_fault, request_fault, page_fault}
+use Rattle.mt_types.specs.Limits.{refused_if, key_fault, columns_fault, sets_fault, limit_fault, request_fault, page_fault, open_fault, is_within}
 use Rattle.mt_types.specs.Limited.{RowIsLimited, PairIsLimited, PageIsLimited, AnswerIsLimited, OutcomeIsLimited}
 use Rattle.mt_types.specs.declared.limits.TheConstants.{MAX_COLUMNS}
 use Rattle.mt_types.specs.declared.row.Row.{Row}
@@ -22,7 +23,7 @@ use Rattle.mt_types.specs.declared.row.Change.{Change}
 use Rattle.mt_types.specs.declared.row.Change.TheVariants.{Put as PutChange, Drop}
 use Rattle.mt_types.specs.declared.view.Page.{Page}
 use Rattle.mt_types.specs.declared.refusal.Refusal.{Refusal}
-use Rattle.mt_types.specs.declared.refusal.Refusal.TheVariants.{NoSuchView, Behind, Spent}
+use Rattle.mt_types.specs.declared.refusal.Refusal.TheVariants.{NoSuchView, Behind, Spent, BadColumn}
 use Rattle.mt_types.specs.Numbers.{greatest_number}
 use Rattle.mt_types.specs.declared.numbers.CallNo.{CallNo}
 use Rattle.mt_types.specs.declared.event.Reply.{Reply}
@@ -43,7 +44,14 @@ use Rattle.mt_promise.proofs.HistoryLemmas.{Sometime-end}
 use Rattle.mt_promise.proofs.CallLemmas.{call_before}
 use Rattle.mt_promise.proofs.FinishedLemmas.{done_call}
 use Rattle.mt_promise.proofs.PageLemmas.{IsPageOf, asked_page}
-use Rattle.mt_promise.proofs.RowLimits.{and_first, and_second, not_refused, neither_of, key_fits, none_long, limit_fits, shown_limited, AreKept, key_order, key_apart, ChangeIsLimited, rows_kept, added, taken, taken_few, filtered, each_of}
+use Rattle.mt_promise.proofs.RowLimits.{and_first, and_second, not_refused, neither_of, key_fits, none_long, limit_fits, shown_limited, AreKept, key_order, key_apart, ChangeIsLimited, rows_kept, added, taken, taken_few, filtered, each_of, and_true, not_not}
+
+-- an index that may be opened has few columns
+pub opened_few : (C feed keep : ℕ) → open_fault C feed keep ≡ None → C ≤ MAX_COLUMNS
+opened_few C feed keep e =
+    let columns = neither_of (refused_if (not (is_within 1 MAX_COLUMNS C)) BadColumn) _ e in
+    let within = and_true (nat_le 1 C) (nat_le C MAX_COLUMNS) (not_not _ (not_refused _ _ columns.0)) in
+    leb-true C MAX_COLUMNS within.1
 
 -- ---- the history: each open call asked within the limits, and so did those that have committed
 record IsLimited (C : ℕ) (m : Moment) : Type 0 where

@@ -16,14 +16,13 @@ use Rattle.std.proofs.lemmas.List.{length-map, length-replicate}
 use Rattle.std.proofs.lemmas.Map.Steps.{length-le_from_distinct_below}
 use Rattle.mt_types.specs.Keys.{key_cmp}
 use Rattle.mt_types.specs.Rows.{Rows, new_bytes, new_columns, columns_before, after, after_from, after_change, shown}
-use Rattle.mt_types.specs.Limits.{refused_if, key_fault, columns_fault, misnames, limit_fault, open_fault, is_within}
+use Rattle.mt_types.specs.Limits.{refused_if, key_fault, columns_fault, misnames, limit_fault}
 use Rattle.mt_types.specs.Limited.{ColumnIsLimited, RowIsLimited}
 use Rattle.mt_types.specs.declared.limits.TheConstants.{MAX_KEY_BYTES, MAX_COLUMNS, MAX_COLUMN_BYTES, MAX_RANGE}
 use Rattle.mt_types.specs.declared.row.Row.{Row}
 use Rattle.mt_types.specs.declared.row.Change.{Change}
 use Rattle.mt_types.specs.declared.row.Change.TheVariants.{Put as PutChange, Drop}
 use Rattle.mt_types.specs.declared.refusal.Refusal.{Refusal}
-use Rattle.mt_types.specs.declared.refusal.Refusal.TheVariants.{BadColumn}
 
 -- ---- tests that pass
 or_neither : (a b : Bool) → (a || b) ≡ false → (a ≡ false) × (b ≡ false)
@@ -38,7 +37,7 @@ pub and_second : (a b : Bool) → T (a && b) → T b
 and_second true b h = h
 and_second false b h = absurd h
 
-and_true : (a b : Bool) → (a && b) ≡ true → (a ≡ true) × (b ≡ true)
+pub and_true : (a b : Bool) → (a && b) ≡ true → (a ≡ true) × (b ≡ true)
 and_true true b e = (refl, e)
 and_true false b e = absurd (cc)
 
@@ -46,7 +45,7 @@ pub not_refused : (b : Bool) (refusal : Refusal) → refused_if b refusal ≡ No
 not_refused true refusal e = absurd (cc)
 not_refused false refusal e = refl
 
-not_not : (b : Bool) → not b ≡ false → b ≡ true
+pub not_not : (b : Bool) → not b ≡ false → b ≡ true
 not_not true e = refl
 not_not false e = absurd (cc)
 
@@ -67,13 +66,6 @@ pub limit_fits : (limit : ℕ) → limit_fault limit ≡ None → limit ≤ MAX_
 limit_fits limit e =
     let within = and_true (nat_le 1 limit) (nat_le limit MAX_RANGE) (not_not _ (not_refused _ _ e)) in
     leb-true limit MAX_RANGE within.1
-
--- an index that may be opened has few columns
-pub opened_few : (C feed keep : ℕ) → open_fault C feed keep ≡ None → C ≤ MAX_COLUMNS
-opened_few C feed keep e =
-    let columns = neither_of (refused_if (not (is_within 1 MAX_COLUMNS C)) BadColumn) _ e in
-    let within = and_true (nat_le 1 C) (nat_le C MAX_COLUMNS) (not_not _ (not_refused _ _ columns.0)) in
-    leb-true C MAX_COLUMNS within.1
 
 -- ---- columns that are named once each, and are there, are few
 others_apart : (column : ℕ) (columns : List ℕ) → list_any (λ other. other == column) columns ≡ false → AllByRecursion (λ other. eqb column other ≡ false) columns
